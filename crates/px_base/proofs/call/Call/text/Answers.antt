@@ -1,0 +1,13 @@
+use Rattle.std.proofs.Common.{◌≡◌, subst, sym}
+use Rattle.px_base.specs.CallSign.{CallSign, CallText, call_text}
+use Rattle.px_base.proofs.Calls.{call_text_is, text_written}
+use Rattle.px_base.proofs.call.Call.text.Goals as goal
+
+-- A valid call's text is a text of it.
+pub returns-clause-call : goal.returns-clause-call
+returns-clause-call c =
+    let call : CallSign = record { chars = c.self.inside.chars; ssid = c.self.inside.ssid } in
+    let e : c.push_ssid.new.text.bytes ≡ call_text call =
+    text_written call _ _ c.push_base.ensures.base c.push_ssid.ensures.zero c.push_ssid.ensures.other in
+    let h : CallText call c.push_ssid.new.text.bytes = subst (CallText call) (sym e) (call_text_is call c.self.invariant) in
+    subst (λ (s : CallSign). CallText s c.push_ssid.new.text.bytes) c.self.view_is h

@@ -1,0 +1,43 @@
+-- The answers of an air's polls.
+use Rattle.std.specs.Prelude.{◌≡◌, ℕ, ◌≤◌, List, [], ◌∷◌, ◌++◌, length, take, Option, Some, IfSome, Result, Ok, Err, ⊤}
+use Rattle.px_base.specs.declared.air.Polled.{Polled}
+use Rattle.px_base.specs.declared.air.Polled.TheVariants as polled
+use Rattle.px_base.specs.declared.air.Turn.{Turn}
+use Rattle.px_base.specs.declared.air.Turn.TheVariants as turn
+use Rattle.px_base.specs.declared.air.AirDown.{AirDown}
+
+-- from 1 to 512 octets were heard, where any were
+abbrev pub IsPolled : Polled → Type 0
+IsPolled (polled.Bytes count) = (1 ≤ count) × (count ≤ 512)
+IsPolled polled.Quiet = ⊤
+IsPolled polled.End = ⊤
+
+-- the answer with its octets, which are the first of the room
+abbrev pub turn_of : Result Polled AirDown → List ℕ → Turn
+turn_of (Ok (polled.Bytes count)) room = turn.Bytes (take count room)
+turn_of (Ok polled.Quiet) room = turn.Quiet
+turn_of (Ok polled.End) room = turn.End
+turn_of (Err down) room = turn.Fail
+
+-- Where what is heard now is told, what was heard before was told too, and this turn is all that came since.
+abbrev pub Hears : Option (List Turn) → Option (List Turn) → Turn → Type 0
+Hears before now next = IfSome now (λ turns. (earlier : List Turn) × (before ≡ Some earlier) × (turns ≡ earlier ++ next ∷ []))
+
+-- the octets of a turn
+abbrev pub octets_of_turn : Turn → List ℕ
+octets_of_turn (turn.Bytes octets) = octets
+octets_of_turn turn.Quiet = []
+octets_of_turn turn.Fail = []
+octets_of_turn turn.End = []
+
+-- the octets that were heard in these turns, in order
+abbrev pub octets_heard : List Turn → List ℕ
+octets_heard [] = []
+octets_heard (next ∷ turns) = octets_of_turn next ++ octets_heard turns
+
+-- from 1 to 512 octets, where the turn brings any
+abbrev pub IsTurn : Turn → Type 0
+IsTurn (turn.Bytes octets) = (1 ≤ length octets) × (length octets ≤ 512)
+IsTurn turn.Quiet = ⊤
+IsTurn turn.Fail = ⊤
+IsTurn turn.End = ⊤

@@ -1,0 +1,131 @@
+//! The standard streams as an air and as an output. They tell nothing of their content; they count their faults.
+
+ghost use Rattle.std.specs.Prelude.{◌≡◌, None, IfOk, OnOk};
+ghost use Rattle.std.specs.Io.KnownBytes.{Appends};
+ghost use Rattle.px_base.specs.Outside.{HasCause};
+ghost use Rattle.px_base.specs.Polling.{IsPolled, turn_of};
+ghost use Rattle.px_base.specs.Streams.{HearsFrom, counted_after};
+
+use crate::air::{Air, AirDown, Polled};
+use crate::out::{Out, OutDown};
+use std::io::{Read, Write};
+use std::marker::Model;
+
+/// An air over a reader and a writer, as standard input and standard output. It is never quiet, and is closed
+/// where the reader ends.
+#[derive(Drop)]
+pub struct StdAir<R, W> {
+    input: R,
+    output: W,
+    read_faults: u64,
+    write_faults: u64,
+}
+
+impl<R, W> Model for StdAir<R, W> {
+    ghost use Rattle.px_base.specs.Streams.{AirStreams};
+
+    ghost Value = { AirStreams R W };
+
+    ghost view = { λ a. record { input = a.input; output = a.output; read_faults = a.read_faults; write_faults = a.write_faults } };
+}
+
+impl<R: Read, W: Write> StdAir<R, W> {
+    /// An air that hears what `input` gives, and says to `output`.
+    pub fn new(input: R, output: W) -> StdAir<R, W>
+        ensures { result ≡ record { input = input; output = output; read_faults = 0; write_faults = 0 } }
+    {
+        StdAir {
+            input,
+            output,
+            read_faults: 0,
+            write_faults: 0,
+        }
+    }
+}
+
+impl<R: Read, W: Write> Air for StdAir<R, W> {
+    ghost heard = { λ _. None };
+
+    ghost said = { λ _. None };
+
+    ghost read_faults = { λ a. a.read_faults };
+
+    ghost write_faults = { λ a. a.write_faults };
+
+    /// Hears the next octets of the reader. It fails where reading does, and then takes none.
+    fn poll(&mut self, room: &mut [u8; 512]) -> Result<Polled, AirDown>
+        ensures count { IfOk result IsPolled }
+        ensures read_faults { HasCause self.old.read_faults self.new.read_faults result }
+        ensures write_faults { self.new.write_faults ≡ self.old.write_faults }
+        ensures hears { HearsFrom (R.remaining self.old.input) (R.remaining self.new.input) (turn_of result room.new) }
+        ensures counted { self.new.read_faults ≡ counted_after result self.old.read_faults }
+        ensures output { self.new.output ≡ self.old.output }
+    {
+        match self.input.read(room) {
+            Ok(0) => Ok(Polled::End),
+            Ok(count) => Ok(Polled::Bytes(count)),
+            Err(_) => {
+                self.read_faults = self.read_faults.saturating_add(1);
+                Err(AirDown)
+            }
+        }
+    }
+
+    /// Writes all of these octets, and flushes the writer. It fails where either does.
+    fn put(&mut self, bytes: &[u8]) -> Result<(), AirDown>
+        ensures write_faults { HasCause self.old.write_faults self.new.write_faults result }
+        ensures read_faults { self.new.read_faults ≡ self.old.read_faults }
+        ensures says { OnOk result (Appends (W.contents self.old.output) (W.contents self.new.output) bytes.now) }
+        ensures counted { self.new.write_faults ≡ counted_after result self.old.write_faults }
+        ensures input { self.new.input ≡ self.old.input }
+    {
+        if self.output.write_all(bytes).is_err() || self.output.flush().is_err() {
+            self.write_faults = self.write_faults.saturating_add(1);
+            return Err(AirDown);
+        }
+        Ok(())
+    }
+}
+
+/// An output over a writer, as standard output or standard error.
+#[derive(Drop)]
+pub struct StdOut<W> {
+    output: W,
+    faults: u64,
+}
+
+impl<W> Model for StdOut<W> {
+    ghost use Rattle.px_base.specs.Streams.{OutStream};
+
+    ghost Value = { OutStream W };
+
+    ghost view = { λ a. record { output = a.output; faults = a.faults } };
+}
+
+impl<W: Write> StdOut<W> {
+    /// An output that shows on `output`.
+    pub fn new(output: W) -> StdOut<W>
+        ensures { result ≡ record { output = output; faults = 0 } }
+    {
+        StdOut { output, faults: 0 }
+    }
+}
+
+impl<W: Write> Out for StdOut<W> {
+    ghost shown = { λ _. None };
+
+    ghost faults = { λ a. a.faults };
+
+    /// Writes all of these octets, and flushes the writer. It fails where either does.
+    fn put(&mut self, bytes: &[u8]) -> Result<(), OutDown>
+        ensures faults { HasCause self.old.faults self.new.faults result }
+        ensures shows { OnOk result (Appends (W.contents self.old.output) (W.contents self.new.output) bytes.now) }
+        ensures counted { self.new.faults ≡ counted_after result self.old.faults }
+    {
+        if self.output.write_all(bytes).is_err() || self.output.flush().is_err() {
+            self.faults = self.faults.saturating_add(1);
+            return Err(OutDown);
+        }
+        Ok(())
+    }
+}

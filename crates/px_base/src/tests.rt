@@ -1,0 +1,210 @@
+//! Tests of what no clause says: worked rows, texts, and each form once.
+
+use crate::{
+    Air, AirDown, BadCall, Call, FileBytes, MemoryAir, MemoryOut, Out, OutDown, OutOfMemory,
+    Polled, StdAir, StdOut, Turn, le16, le32,
+};
+use std::io;
+use std::io::{Read, Write};
+use std::test::Fail;
+
+#[test]
+fn calls(rt: HostRuntime) -> Result<(), Fail> {
+    // the text, the characters and the SSID read from it, and the text written of these
+    let read = [
+        ("PACSAT-12", b"PACSAT", 12, "PACSAT-12"),
+        ("A-15", b"A     ", 15, "A-15"),
+        ("KA9XYZ", b"KA9XYZ", 0, "KA9XYZ"),
+        ("9-0", b"9     ", 0, "9"),
+        ("W1AW-9", b"W1AW  ", 9, "W1AW-9"),
+        ("Z0-10", b"Z0    ", 10, "Z0-10"),
+    ];
+    for (text, chars, ssid, written) in read {
+        let call = Call::read(text)?;
+        assert_eq!(rt; call.chars, *chars, "{text}");
+        assert_eq!(rt; call.ssid, ssid, "{text}");
+        assert_eq!(rt; format!(in rt.alloc(); "{call}")?.as_str(), written);
+    }
+    // the text, and the length of its longest prefix that begins some call
+    let refused = [
+        ("", 0),
+        ("nocall", 0),
+        ("-1", 0),
+        ("A 1", 1),
+        ("A--1", 2),
+        ("A-99", 3),
+        ("KA9-", 4),
+        ("A-150", 4),
+        ("KA9-01", 5),
+        ("KA9-1A", 5),
+        ("ABCDEFG", 6),
+        ("KA9XYZ-16", 8),
+    ];
+    for (text, at) in refused {
+        assert_eq!(rt; Call::read(text), Err(BadCall { at }), "{text}");
+    }
+    Ok(())
+}
+
+#[test]
+fn texts_of_errors(rt: HostRuntime) -> Result<(), Fail> {
+    let texts = [
+        (format!(in rt.alloc(); "{}", OutOfMemory)?, "out of memory"),
+        (format!(in rt.alloc(); "{}", AirDown)?, "the air is down"),
+        (format!(in rt.alloc(); "{}", OutDown)?, "the output is down"),
+        (
+            format!(in rt.alloc(); "{}", BadCall { at: 8 })?,
+            "the text is no call: only its first 8 octets begin one",
+        ),
+    ];
+    for (text, wanted) in &texts {
+        assert_eq!(rt; text.as_str(), *wanted);
+    }
+    Ok(())
+}
+
+#[test]
+fn numbers(rt: HostRuntime) {
+    let octets = [0x34, 0x12, 0xff, 0x78, 0x56, 0x34, 0x92];
+    assert_eq!(rt; le16(&octets, 0), 0x1234);
+    assert_eq!(rt; le16(&octets, 2), 0x78ff);
+    assert_eq!(rt; le32(&octets, 3), 0x9234_5678);
+}
+
+#[test]
+fn octets_of_a_file(rt: HostRuntime) -> Result<(), Fail> {
+    let mut file = FileBytes::new(rt.alloc());
+    assert!(rt; file.is_empty());
+    file.append(b"one")?;
+    file.append(b" two")?;
+    assert_eq!(rt; file.len(), 7);
+    let copy = FileBytes::copy_of(rt.alloc(), file.as_slice())?;
+    assert_eq!(rt;
+        FileBytes::from_vec(copy.into_vec()).as_slice(),
+        b"one two".as_slice()
+    );
+    Ok(())
+}
+
+#[test]
+fn air_in_memory(rt: HostRuntime) -> Result<(), Fail> {
+    let turns = vec![in rt.alloc();
+        Turn::Bytes(FileBytes::copy_of(rt.alloc(), b"AB")?),
+        Turn::Quiet,
+        Turn::Fail,
+        Turn::Bytes(FileBytes::copy_of(rt.alloc(), b"C")?),
+    ]?;
+    let mut air = MemoryAir::new(rt.alloc(), turns, &[2, 6])?;
+    let mut room = [0; 512];
+    let before = [
+        Ok(Polled::Bytes(2)),
+        Err(AirDown),
+        Ok(Polled::Quiet),
+        Err(AirDown),
+    ];
+    for wanted in before {
+        assert_eq!(rt; air.poll(&mut room), wanted);
+    }
+    assert_eq!(rt; &room[..2], b"AB".as_slice());
+    assert_eq!(rt; air.put(b"xy"), Ok(()));
+    assert_eq!(rt; air.put(b"z"), Err(AirDown));
+    for wanted in [Polled::Bytes(1), Polled::End, Polled::End] {
+        assert_eq!(rt; air.poll(&mut room), Ok(wanted));
+    }
+    assert_eq!(rt; &room[..2], b"CB".as_slice());
+    assert_eq!(rt; air.put(b"!"), Ok(()));
+    assert_eq!(rt; air.said(), b"xy!".as_slice());
+    assert_eq!(rt; air.heard().len(), 7);
+    assert!(rt; !air.starved());
+    Ok(())
+}
+
+#[test]
+fn output_in_memory(rt: HostRuntime) -> Result<(), Fail> {
+    let mut out = MemoryOut::new(rt.alloc(), &[2])?;
+    assert_eq!(rt; out.put(b"one"), Ok(()));
+    assert_eq!(rt; out.put(b"two"), Err(OutDown));
+    assert_eq!(rt; out.put(b"three"), Ok(()));
+    assert_eq!(rt; out.shown(), b"onethree".as_slice());
+    assert!(rt; !out.starved());
+    Ok(())
+}
+
+/// A stream whose call of this number fails.
+#[derive(Drop)]
+struct Failing<T> {
+    inner: T,
+    calls: u8,
+    failing: u8,
+}
+
+impl<T> Failing<T> {
+    fn new(inner: T, failing: u8) -> Failing<T> {
+        Failing {
+            inner,
+            calls: 0,
+            failing,
+        }
+    }
+
+    fn count(&mut self) -> io::Result<()> {
+        self.calls = self.calls.saturating_add(1);
+        if self.calls == self.failing {
+            return Err(io::Error::from(io::ErrorKind::BrokenPipe));
+        }
+        Ok(())
+    }
+}
+
+impl<T: Read> Read for Failing<T> {
+    fn read(&mut self, buf: &mut [u8]) -> io::Result<usize> {
+        self.count()?;
+        self.inner.read(buf)
+    }
+}
+
+impl<T: Write> Write for Failing<T> {
+    fn write(&mut self, buf: &[u8]) -> io::Result<usize> {
+        self.count()?;
+        self.inner.write(buf)
+    }
+
+    fn flush(&mut self) -> io::Result<()> {
+        self.count()
+    }
+}
+
+#[test]
+fn air_over_streams(rt: HostRuntime) -> Result<(), Fail> {
+    let long = [7; 600];
+    let mut input = Failing::new(long.as_slice(), 2);
+    // each saying writes once and flushes once, and the second fails to write
+    let mut output = Failing::new(Vec::new(rt.alloc()), 3);
+    let mut air = StdAir::new(&mut input, &mut output);
+    let mut room = [0; 512];
+    let answers = [
+        Ok(Polled::Bytes(512)),
+        Err(AirDown),
+        Ok(Polled::Bytes(88)),
+        Ok(Polled::End),
+    ];
+    for wanted in answers {
+        assert_eq!(rt; air.poll(&mut room), wanted);
+    }
+    assert_eq!(rt; room, [7; 512]);
+    assert_eq!(rt; air.put(b"one"), Ok(()));
+    assert_eq!(rt; air.put(b"two"), Err(AirDown));
+    assert_eq!(rt; output.inner.as_slice(), b"one".as_slice());
+    Ok(())
+}
+
+#[test]
+fn output_over_a_stream(rt: HostRuntime) -> Result<(), Fail> {
+    let mut output = Failing::new(Vec::new(rt.alloc()), 4);
+    let mut out = StdOut::new(&mut output);
+    assert_eq!(rt; out.put(b"one"), Ok(()));
+    assert_eq!(rt; out.put(b"two"), Err(OutDown), "the flush fails");
+    assert_eq!(rt; out.put(b"three"), Ok(()));
+    assert_eq!(rt; output.inner.as_slice(), b"onetwothree".as_slice());
+    Ok(())
+}
