@@ -1,0 +1,4 @@
+pub mod Splitting
+pub mod Escapes
+pub mod Steps
+pub mod LawProofs

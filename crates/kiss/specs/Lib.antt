@@ -1,0 +1,4 @@
+pub mod KissText
+pub mod Hearing
+pub mod Laws
+pub mod ReaderMemory
