@@ -1,0 +1,4 @@
+pub mod InformationLemmas
+pub mod ReaderLemmas
+pub mod StreamLemmas
+pub mod TextLemmas

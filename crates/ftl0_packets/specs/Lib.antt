@@ -1,0 +1,7 @@
+pub mod Filling
+pub mod Layout
+pub mod Laws
+pub mod Pieces
+pub mod Reading
+pub mod Stream
+pub mod Values

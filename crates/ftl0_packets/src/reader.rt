@@ -1,0 +1,140 @@
+//! Packets from octets that come in any pieces.
+
+ghost use Rattle.std.specs.Prelude.{◌≡◌, ◌+◌, ◌-◌, min, ◌≤◌, ◌<◌, ◌↔◌, ℕ, List, [], ◌∷◌, ◌++◌, length, take, drop, IfErr, IsErr, IsTrue};
+ghost use Rattle.ftl0_packets.specs.Layout.{Item, PacketText};
+ghost use Rattle.ftl0_packets.specs.Reading.{is_malformed, malformed_in, is_whole as is_whole_text, packets_of, read_item, rest_of, text_len as octets_of_text, under_way};
+ghost use Rattle.ftl0_packets.specs.Filling.{IsFilling};
+ghost use Rattle.ftl0_packets.specs.Stream.{IsPartial};
+ghost use Rattle.ftl0_packets.specs.Values.{item_of};
+
+use crate::text::{HEADER_LEN, is_whole, read_text, text_len};
+use crate::{Malformed, Packet};
+use arrayvec::ArrayVec;
+use std::marker::Model;
+
+/// Whether a packet is whole now.
+#[derive(Clone, Copy, Debug, PartialEq, Eq)]
+pub enum PacketFed {
+    /// All octets were taken, and no packet is whole.
+    More,
+    /// A packet is whole.
+    Whole,
+}
+
+/// A reader of packets. Contracts see it as the octets of the packet under way, or of the whole packet that the last
+/// octets ended.
+#[derive(Debug, Drop)]
+pub struct PacketReader {
+    /// A whole packet, or a part from its front.
+    text: ArrayVec<u8, 2049>,
+}
+
+impl Model for PacketReader {
+    ghost use Rattle.std.specs.Prelude.{List, ℕ};
+    ghost use Rattle.ftl0_packets.specs.Filling.{IsFilling};
+
+    ghost Value = { List ℕ };
+
+    ghost view = { λ a. a.text.items };
+
+    ghost invariant = { λ a. IsFilling a.text.items };
+}
+
+impl PacketReader {
+    /// A reader before the first packet. Takes no memory.
+    pub fn new() -> PacketReader
+        ensures octets { result ≡ [] }
+        ensures none { packets_of (under_way result) ≡ [] }
+        ensures left { rest_of (under_way result) ≡ [] }
+    {
+        PacketReader {
+            text: ArrayVec::new(),
+        }
+    }
+
+    /// Takes octets up to the end of the packet under way, and says how many, and whether the packet is whole now. The
+    /// octets after it are left for the next call, which begins the next packet. Takes no memory.
+    pub fn feed(&mut self, bytes: &[u8]) -> (usize, PacketFed)
+        // What it takes is put to the packet under way.
+        ensures taken { result.0 ≤ length bytes.now }
+        ensures octets { self.new ≡ under_way self.old ++ take result.0 bytes.now }
+        ensures progress { 0 < length bytes.now → 0 < result.0 }
+
+        // No octet of the next packet is taken: with fewer octets no packet is whole.
+        ensures no_more { (n : ℕ) → n < result.0 → IsPartial (under_way self.old ++ take n bytes.now) }
+
+        // The answer says whether that is a packet's whole text, or less.
+        ensures whole { (result.1 ≡ PacketFed.Whole) ↔ ((item : Item) × PacketText item self.new) }
+        ensures partial { (result.1 ≡ PacketFed.More) ↔ IsPartial self.new }
+        ensures readable { (result.1 ≡ PacketFed.Whole) ↔ IsTrue (is_whole_text self.new) }
+        ensures all { result.1 ≡ PacketFed.More → result.0 ≡ length bytes.now }
+
+        // Whatever comes later, the packets of the stream are this one, if it is whole, and those of what is left.
+        ensures found { result.1 ≡ PacketFed.Whole → (later : List ℕ) →
+            packets_of (under_way self.old ++ (bytes.now ++ later))
+            ≡ read_item self.new ∷ packets_of (under_way self.new ++ (drop result.0 bytes.now ++ later)) }
+        ensures waits { result.1 ≡ PacketFed.More → (later : List ℕ) →
+            packets_of (under_way self.old ++ (bytes.now ++ later))
+            ≡ packets_of (under_way self.new ++ (drop result.0 bytes.now ++ later)) }
+        ensures rest { (later : List ℕ) →
+            rest_of (under_way self.old ++ (bytes.now ++ later))
+            ≡ rest_of (under_way self.new ++ (drop result.0 bytes.now ++ later)) }
+        ensures none { packets_of (under_way self.new) ≡ [] }
+        ensures left { rest_of (under_way self.new) ≡ under_way self.new }
+    {
+        let taken = take_octets(&mut self.text, bytes);
+        let fed = if is_whole(self.text.as_slice()) {
+            PacketFed::Whole
+        } else {
+            PacketFed::More
+        };
+        (taken, fed)
+    }
+
+    /// The packet that is whole since the last `feed`, or `Malformed` exactly where its type isn't read, or its length
+    /// isn't one that its type has. Takes no memory.
+    pub fn packet(&self) -> Result<Packet<'_>, Malformed>
+        requires { IsTrue (is_whole_text self.now) }
+        ensures text { PacketText (item_of result) self.now }
+        ensures item { item_of result ≡ read_item self.now }
+        ensures malformed { IsErr result ↔ IsTrue (is_malformed self.now) }
+        ensures fault { IfErr result (λ fault. fault ≡ malformed_in self.now) }
+    {
+        read_text(self.text.as_slice())
+    }
+}
+
+/// Puts octets to the packet under way up to its end, and says how many.
+fn take_octets(text: &mut ArrayVec<u8, 2049>, bytes: &[u8]) -> usize
+    requires { IsFilling text.old.items }
+    ensures taken { result ≤ length bytes.now }
+    ensures octets { text.new.items ≡ under_way text.old.items ++ take result bytes.now }
+    ensures progress { 0 < length bytes.now → 0 < result }
+    ensures filling { IsFilling text.new.items }
+    ensures all { length text.new.items < octets_of_text text.new.items → result ≡ length bytes.now }
+{
+    leave_whole(text);
+    let of_header = fill_to(text, HEADER_LEN, bytes);
+    let len = text_len(text.as_slice());
+    of_header + fill_to(text, len, &bytes[of_header..])
+}
+
+/// Lets the packet go, if it is whole.
+fn leave_whole(text: &mut ArrayVec<u8, 2049>)
+    ensures { text.new.items ≡ under_way text.old.items }
+{
+    if is_whole(text.as_slice()) {
+        text.clear();
+    }
+}
+
+/// Puts octets at the end until there are `len`, or no more octets, and says how many.
+fn fill_to(text: &mut ArrayVec<u8, 2049>, len: usize, bytes: &[u8]) -> usize
+    requires { len ≤ 2049 }
+    ensures taken { result ≡ min (len - length text.old.items) (length bytes.now) }
+    ensures octets { text.new.items ≡ text.old.items ++ take result bytes.now }
+{
+    let taken = len.saturating_sub(text.len()).min(bytes.len());
+    text.try_extend_from_slice(&bytes[..taken]).unwrap();
+    taken
+}
