@@ -1,0 +1,196 @@
+-- Octets that become held, one block after another.
+use Rattle.std.proofs.Common.{◌≡◌, ℕ, suc, zero, ◌+◌, ◌-◌, ◌≤◌, ◌<◌, Bool, ◌&&◌, List, [], ◌∷◌, ◌++◌, length, map, take, drop, refl, ap, sym, ◌∙◌, subst, arith, Option, Some, inl, inr, ◌*◌, ◌/◌, nat_le, length-append, length-drop, append_assoc}
+use Rattle.std.specs.Prelude.{IsTrue}
+use Rattle.std.proofs.lemmas.Bool.Decides.{nat_tests, eqb_tells}
+use Rattle.std.proofs.lemmas.List.{length-take-le, append-nil}
+use Rattle.std.proofs.Math.Seq.{take-add, take-append-add, drop-append-add}
+use Rattle.file_store.specs.Command.{Command, grow, has_room, passes, is_allowed, grown, changed, with_holding, after, after_all, AreAllowed, DoesAll, grows, whole_grows, rest_of, last_grow}
+use Rattle.file_store.specs.Kept.{KeepsOthers}
+use Rattle.file_store.specs.Store.{Entry, Holding, partial, complete, Store, octets_at, entry_of}
+use Rattle.file_store.specs.Upload.{Upload, Holds, HoldsAll, came, octets_come, appended}
+use Rattle.file_store.proofs.EntriesLemmas.{find-map-changed, find-map-changed_other}
+use Rattle.file_store.proofs.AfterLemmas.{Holds-kept}
+
+-- ---- two changes are one
+
+pub grown-none : (h : Holding) → grown [] h ≡ h
+grown-none (partial held) = ap partial (append-nil held)
+grown-none (complete octets moment) = refl
+
+pub grown-twice : (a b : List ℕ) (h : Holding) → grown b (grown a h) ≡ grown (a ++ b) h
+grown-twice a b (partial held) = ap partial (append_assoc held a b)
+grown-twice a b (complete octets moment) = refl
+
+pub changed-none : (number : ℕ) (e : Entry) → changed number (grown []) e ≡ e
+changed-none number e =
+    elim (eqb_tells e.number number) [
+      | inl w ↦ rw w.0 (ap (λ (h : Holding). record e { holding = h }) (grown-none e.holding))
+      | inr w ↦ rw w.0 refl
+    ]
+
+pub changed-twice : (number : ℕ) (a b : List ℕ) (e : Entry) → changed number (grown b) (changed number (grown a) e) ≡ changed number (grown (a ++ b)) e
+changed-twice number a b e =
+    elim (eqb_tells e.number number) [
+      | inl w ↦ rw (w.0, w.0) (ap (λ (h : Holding). record e { holding = h }) (grown-twice a b e.holding))
+      | inr w ↦ rw (w.0, w.0) refl
+    ]
+
+pub map-changed-none : (number : ℕ) (entries : List Entry) → map (changed number (grown [])) entries ≡ entries
+map-changed-none number [] = refl
+map-changed-none number (x ∷ xs) =
+    ap (λ (y : Entry). y ∷ map (changed number (grown [])) xs) (changed-none number x) ∙ ap (λ (ys : List Entry). x ∷ ys) (map-changed-none number xs)
+
+pub map-changed-twice : (number : ℕ) (a b : List ℕ) (entries : List Entry)
+    → map (changed number (grown b)) (map (changed number (grown a)) entries) ≡ map (changed number (grown (a ++ b))) entries
+map-changed-twice number a b [] = refl
+map-changed-twice number a b (x ∷ xs) =
+    ap (λ (y : Entry). y ∷ map (changed number (grown b)) (map (changed number (grown a)) xs)) (changed-twice number a b x)
+    ∙ ap (λ (ys : List Entry). changed number (grown (a ++ b)) x ∷ ys) (map-changed-twice number a b xs)
+
+pub with_holding-none : (store : Store) (number : ℕ) → with_holding store number (grown []) ≡ store
+with_holding-none store number = ap (λ (es : List Entry). record store { entries = es }) (map-changed-none number store.entries)
+
+pub with_holding-twice : (store : Store) (number : ℕ) (a b : List ℕ)
+    → with_holding (with_holding store number (grown a)) number (grown b) ≡ with_holding store number (grown (a ++ b))
+with_holding-twice store number a b = ap (λ (es : List Entry). record store { entries = es }) (map-changed-twice number a b store.entries)
+
+-- ---- the store after grows
+
+pub grows-after : (number n : ℕ) (octets : List ℕ) (store : Store) → after_all store (grows number n octets) ≡ with_holding store number (grown (take (512 * n) octets))
+grows-after number zero octets store = sym (with_holding-none store number)
+grows-after number (suc n) octets store =
+    let step : 512 + 512 * n ≡ 512 * suc n = omega arith in
+    grows-after number n (drop 512 octets) (with_holding store number (grown (take 512 octets)))
+    ∙ (with_holding-twice store number (take 512 octets) (take (512 * n) (drop 512 octets))
+    ∙ ap (λ (os : List ℕ). with_holding store number (grown os)) (sym (take-add 512 (512 * n) octets) ∙ ap (λ (k : ℕ). take k octets) step))
+
+pub last_grow-after : (number : ℕ) (rest : List ℕ) (store : Store) → after_all store (last_grow number rest) ≡ with_holding store number (grown rest)
+last_grow-after number [] store = sym (with_holding-none store number)
+last_grow-after number (octet ∷ octets) store = refl
+
+pub after_all-append : (a b : List Command) (store : Store) → after_all store (a ++ b) ≡ after_all (after_all store a) b
+after_all-append [] b store = refl
+after_all-append (command ∷ commands) b store = after_all-append commands b (after store command)
+
+-- ---- the condition of each holds
+
+pub AreAllowed-append : (a b : List Command) (store : Store) → AreAllowed store a → AreAllowed (after_all store a) b → AreAllowed store (a ++ b)
+AreAllowed-append [] b store ok then = then
+AreAllowed-append (command ∷ commands) b store ok then = (ok.0, AreAllowed-append commands b (after store command) ok.1 then)
+
+pub both-true : (a b : Bool) → IsTrue a → IsTrue b → IsTrue (a && b)
+both-true a b p q = rw (p, q) refl
+
+pub partial-room : (held : List ℕ) (l n : ℕ) → length held + n ≤ l → IsTrue (has_room (partial held) l n)
+partial-room held l n le = grind (arith, nat_tests)
+
+pub entry-has_room : (store : Store) (number : ℕ) (e : Entry) (held : List ℕ) (n : ℕ) → entry_of store number ≡ Some e → e.holding ≡ partial held → length held + n ≤ e.length
+    → IsTrue (passes (λ e. has_room e.holding e.length n) (entry_of store number))
+entry-has_room store number e held n found is le =
+    subst (λ (o : Option Entry). IsTrue (passes (λ e. has_room e.holding e.length n) o)) (sym found)
+    (subst (λ (h : Holding). IsTrue (has_room h e.length n)) (sym is) (partial-room held e.length n le))
+
+pub grow-is_allowed : (store : Store) (number : ℕ) (octets : List ℕ) (e : Entry) (held : List ℕ) → entry_of store number ≡ Some e → e.holding ≡ partial held
+    → 1 ≤ length octets → length octets ≤ 512 → length held + length octets ≤ e.length → IsTrue (is_allowed store (grow number octets))
+grow-is_allowed store number octets e held found is some most le =
+    let first : IsTrue (nat_le 1 (length octets)) = grind (arith, nat_tests) in
+    let second : IsTrue (nat_le (length octets) 512) = grind (arith, nat_tests) in
+    both-true (nat_le 1 (length octets) && nat_le (length octets) 512) _ (both-true (nat_le 1 (length octets)) (nat_le (length octets) 512) first second)
+    (entry-has_room store number e held (length octets) found is le)
+
+pub grows-allowed : (number n : ℕ) (octets : List ℕ) (store : Store) (e : Entry) (held : List ℕ) → entry_of store number ≡ Some e → e.holding ≡ partial held
+    → length held + 512 * n ≤ e.length → 512 * n ≤ length octets → AreAllowed store (grows number n octets)
+grows-allowed number zero octets store e held found is fits some = tt
+grows-allowed number (suc n) octets store e held found is fits some =
+    let step : 512 + 512 * n ≡ 512 * suc n = omega arith in
+    let block : length (take 512 octets) ≡ 512 = length-take-le 512 octets (omega arith) in (
+      grow-is_allowed store number (take 512 octets) e held found is (omega arith) (omega arith) (omega arith),
+      grows-allowed number n (drop 512 octets) (with_holding store number (grown (take 512 octets))) (record e { holding = grown (take 512 octets) e.holding }) (held ++ take 512 octets)
+          (find-map-changed number (grown (take 512 octets)) store.entries e found) (ap (grown (take 512 octets)) is) (simp length-append (omega arith)) (simp length-drop (omega arith)),
+    )
+
+pub last_grow-allowed : (number : ℕ) (rest : List ℕ) (store : Store) (e : Entry) (held : List ℕ) → entry_of store number ≡ Some e → e.holding ≡ partial held
+    → length rest < 512 → length held + length rest ≤ e.length → AreAllowed store (last_grow number rest)
+last_grow-allowed number [] store e held found is few fits = tt
+last_grow-allowed number (octet ∷ octets) store e held found is few fits =
+    (grow-is_allowed store number (octet ∷ octets) e held found is (omega arith) (omega arith) fits, tt)
+
+-- ---- uploads
+
+pub change-KeepsOthers : (store : Store) (number : ℕ) (change : Holding → Holding) → KeepsOthers store (with_holding store number change) number
+change-KeepsOthers store number change other ne h =
+    Holds-kept store (with_holding store number change) other (λ e found. find-map-changed_other number other.number change store.entries ne ∙ found) h
+
+-- where further octets were put at the end of those held
+pub Holds-grown : (store : Store) (up : Upload) (octets : List ℕ) (rest : List ℕ) → Holds store up
+    → Holds (with_holding store up.number (grown octets)) (record up { held = up.held + length octets; rest = rest })
+Holds-grown store up octets rest h =
+    record {
+      begun = h.begun;
+      held = h.held ++ octets;
+      entry = find-map-changed up.number (grown octets) store.entries _ h.entry;
+      count = length-append h.held octets ∙ ap (λ (n : ℕ). n + length octets) h.count;
+    }
+
+-- the octets that came before, and as many further ones as make whole blocks
+pub whole-octets : (rest bytes now : List ℕ) (n : ℕ) → length rest ≤ n → now ≡ take (n - length rest) bytes → rest ++ now ≡ take n (rest ++ bytes)
+whole-octets rest bytes now n le is =
+    let e : length rest + (n - length rest) ≡ n = omega arith in
+    ap (λ (xs : List ℕ). rest ++ xs) is ∙ (sym (take-append-add rest bytes (n - length rest)) ∙ ap (λ (k : ℕ). take k (rest ++ bytes)) e)
+
+-- the octets that are left
+pub left-octets : (rest bytes later : List ℕ) (n : ℕ) → length rest ≤ n → later ≡ drop (n - length rest) bytes → later ≡ drop n (rest ++ bytes)
+left-octets rest bytes later n le is =
+    let e : length rest + (n - length rest) ≡ n = omega arith in
+    is ∙ (sym (drop-append-add rest bytes (n - length rest)) ∙ ap (λ (k : ℕ). drop k (rest ++ bytes)) e)
+
+-- where the last octets became held
+pub rest-DoesAll : (store now : Store) (up : Upload) → Holds store up → came up ≡ up.length → length up.rest < 512 → now ≡ with_holding store up.number (grown up.rest)
+    → DoesAll store now (last_grow up.number up.rest)
+rest-DoesAll store now up h all few new =
+    (last_grow-allowed up.number up.rest store _ h.held h.entry refl few (omega (arith, h.count, all)), new ∙ sym (last_grow-after up.number up.rest store))
+
+pub octets_come-is : (store : Store) (up : Upload) (h : Holds store up) → octets_come store up ≡ h.held ++ up.rest
+octets_come-is store up h = ap (λ (o : Option Entry). octets_at o ++ up.rest) h.entry
+
+pub rest-HoldsAll : (store now : Store) (up : Upload) → Holds store up → came up ≡ up.length → now ≡ with_holding store up.number (grown up.rest)
+    → HoldsAll now up (octets_come store up)
+rest-HoldsAll store now up h all new =
+    subst (λ (s : Store). HoldsAll s up (octets_come store up)) (sym new)
+    (subst (λ (os : List ℕ). HoldsAll (with_holding store up.number (grown up.rest)) up os) (sym (octets_come-is store up h))
+    (record {
+      begun = h.begun;
+      entry = find-map-changed up.number (grown up.rest) store.entries _ h.entry;
+      count = length-append h.held up.rest ∙ (ap (λ (n : ℕ). n + length up.rest) h.count ∙ all);
+    }))
+
+-- ---- octets that come
+
+-- the store after the whole blocks of what came
+pub append-after : (store now : Store) (up : Upload) (bytes first second : List ℕ) (n : ℕ) → n ≡ length (up.rest ++ bytes) / 512 → length up.rest ≤ 512 * n
+    → first ≡ up.rest → second ≡ take (512 * n - length up.rest) bytes → now ≡ with_holding store up.number (grown (first ++ second))
+    → now ≡ with_holding store up.number (grown (take (512 * (length (up.rest ++ bytes) / 512)) (up.rest ++ bytes)))
+append-after store now up bytes first second n blocks le front back new =
+    new ∙ ap (λ (os : List ℕ). with_holding store up.number (grown os))
+    (ap (λ (os : List ℕ). os ++ second) front ∙ (whole-octets up.rest bytes second (512 * n) le back ∙ ap (λ (k : ℕ). take (512 * k) (up.rest ++ bytes)) blocks))
+
+pub append-allowed : (store : Store) (up : Upload) (bytes : List ℕ) → Holds store up → came up + length bytes ≤ up.length → AreAllowed store (whole_grows up.number (up.rest ++ bytes))
+append-allowed store up bytes h fits =
+    let sum : length (up.rest ++ bytes) ≡ length up.rest + length bytes = length-append up.rest bytes in
+    grows-allowed up.number (length (up.rest ++ bytes) / 512) (up.rest ++ bytes) store _ h.held h.entry refl (omega (arith, h.count)) (omega arith)
+
+pub append-Holds : (store now : Store) (up : Upload) (bytes : List ℕ) → Holds store up
+    → now ≡ with_holding store up.number (grown (take (512 * (length (up.rest ++ bytes) / 512)) (up.rest ++ bytes))) → Holds now (appended up bytes)
+append-Holds store now up bytes h new =
+    let blocks : ℕ = length (up.rest ++ bytes) / 512 in
+    let octets : List ℕ = take (512 * blocks) (up.rest ++ bytes) in
+    let count : length octets ≡ 512 * blocks = length-take-le (512 * blocks) (up.rest ++ bytes) (omega arith) in
+    subst (λ (s : Store). Holds s (appended up bytes)) (sym new)
+    (subst (λ (n : ℕ). Holds (with_holding store up.number (grown octets)) (record up { held = up.held + n; rest = rest_of (up.rest ++ bytes) })) count
+    (Holds-grown store up octets (rest_of (up.rest ++ bytes)) h))
+
+pub append-upload : (up moved : Upload) (bytes later : List ℕ) (n : ℕ) → n ≡ length (up.rest ++ bytes) / 512 → length up.rest ≤ 512 * n
+    → later ≡ drop (512 * n - length up.rest) bytes → moved ≡ record up { held = up.held + 512 * n; rest = later } → moved ≡ appended up bytes
+append-upload up moved bytes later n blocks le back is =
+    is ∙ (ap (λ (os : List ℕ). record up { held = up.held + 512 * n; rest = os }) (left-octets up.rest bytes later (512 * n) le back)
+    ∙ ap (λ (k : ℕ). record up { held = up.held + 512 * k; rest = drop (512 * k) (up.rest ++ bytes) }) blocks)

@@ -1,0 +1,5 @@
+pub mod AfterLemmas
+pub mod EntriesLemmas
+pub mod GrowLemmas
+pub mod SealLemmas
+pub mod LawLemmas

@@ -1,0 +1,56 @@
+-- An upload that is under way: what its holder knows of the entry, and the octets that came but aren't held yet.
+use Rattle.std.specs.Prelude.{◌≡◌, ℕ, ◌+◌, ◌*◌, ◌/◌, ◌<◌, ◌≤◌, List, [], ◌∷◌, ◌++◌, length, Some}
+use Rattle.px_base.specs.CallSign.{CallSign}
+use Rattle.file_store.specs.Command.{Command, seal, drop_entry, rest_of, last_grow}
+use Rattle.file_store.specs.Store.{partial, Store, entry_of, octets_at, LONGEST_FILE}
+
+pub record Upload : Type 0 where
+  pub number : ℕ
+  pub caller : CallSign
+  pub length : ℕ
+  pub held : ℕ
+  pub rest : List ℕ
+
+-- fewer than 512 octets aren't held yet, and no more came than the file has
+pub record IsUpload (up : Upload) : Type 0 where
+  pub rest : length up.rest < 512
+  pub came : up.held + length up.rest ≤ up.length
+  pub file : up.length ≤ LONGEST_FILE
+
+-- the store's entry is the upload's, under way, and holds as many octets as the upload says
+pub record Holds (store : Store) (up : Upload) : Type 0 where
+  pub begun : ℕ
+  pub held : List ℕ
+  pub entry : entry_of store up.number ≡ Some (record { number = up.number; caller = up.caller; length = up.length; begun = begun; holding = partial held })
+  pub count : length held ≡ up.held
+
+-- the upload of a file that was just begun
+abbrev pub begun_upload : ℕ → CallSign → ℕ → Upload
+begun_upload number caller file_length = record { number = number; caller = caller; length = file_length; held = 0; rest = [] }
+
+-- how many octets came of the file
+abbrev pub came : Upload → ℕ
+came up = up.held + length up.rest
+
+-- the upload after further octets came: each whole 512 is held, and the rest isn't yet
+abbrev pub appended : Upload → List ℕ → Upload
+appended up octets =
+    record up { held = up.held + 512 * (length (up.rest ++ octets) / 512); rest = rest_of (up.rest ++ octets) }
+
+-- the octets that came of the file: those held, then those that aren't yet
+abbrev pub octets_come : Store → Upload → List ℕ
+octets_come store up = octets_at (entry_of store up.number) ++ up.rest
+
+-- the commands that complete the upload's file: the rest becomes held, and the file is sealed
+abbrev pub sealing : Upload → ℕ → List Command
+sealing up moment = last_grow up.number up.rest ++ seal up.number moment ∷ []
+
+-- the commands that drop the upload's file: the rest becomes held, and the file is given up
+abbrev pub dropping : Upload → List Command
+dropping up = last_grow up.number up.rest ++ drop_entry up.number ∷ []
+
+-- the store's entry is the upload's, under way, and holds these octets, as many as the file has
+pub record HoldsAll (store : Store) (up : Upload) (octets : List ℕ) : Type 0 where
+  pub begun : ℕ
+  pub entry : entry_of store up.number ≡ Some (record { number = up.number; caller = up.caller; length = up.length; begun = begun; holding = partial octets })
+  pub count : length octets ≡ up.length

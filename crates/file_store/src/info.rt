@@ -1,0 +1,20 @@
+//! What a store tells of an entry.
+
+use px_base::Call;
+
+/// What a store tells of an entry.
+#[derive(Clone, Copy, Debug)]
+pub struct Info {
+    /// The number of the file, 1 to 4,294,967,294.
+    pub number: u32,
+    /// Whose file it is.
+    pub caller: Call,
+    /// The length of the file in octets.
+    pub length: u32,
+    /// How many octets are held: all of them where the file is complete.
+    pub held: u32,
+    /// Whether the file is complete.
+    pub complete: bool,
+    /// The moment in which the file was begun, in seconds since 1 January 1970.
+    pub begun: u32,
+}

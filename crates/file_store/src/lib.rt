@@ -1,0 +1,24 @@
+//! The store of files: entries under way and complete, over a plain list in memory.
+//!
+//! The store is a list of entries, and each call does some of the commands of `specs/Command.antt` to it.
+//! There is no disk yet: where one comes, each of the calls `begin`, `append` and `seal` takes it as its
+//! first parameter after `self`, and answers `Disk` and `Failed` too.
+#![tactic(auto)]
+
+mod entries;
+mod file_store;
+mod header;
+mod info;
+pub mod laws;
+mod open_upload;
+mod receipt;
+mod refusals;
+mod stored_file;
+#[cfg(test)]
+mod tests;
+
+pub use file_store::{FileStore, Limits};
+pub use info::Info;
+pub use open_upload::OpenUpload;
+pub use receipt::Receipt;
+pub use refusals::{AppendRefusal, BeginRefusal, SealRefusal};

@@ -1,0 +1,126 @@
+//! What no clause says: the texts of the refusals, and that the calls succeed.
+
+ghost use Rattle.std.specs.Prelude.{◌≡◌};
+
+use super::*;
+use px_base::Call;
+use std::process::Abort;
+use std::test::Fail;
+
+/// A file of 73 octets: the eleven mandatory items of a file header, and no body (PFH 1990).
+const FILE: [u8; 73] = [
+    0xAA, 0x55, 0x01, 0x00, 0x04, 0x00, 0x00, 0x00, 0x00, 0x02, 0x00, 0x08, 0x20, 0x20, 0x20, 0x20,
+    0x20, 0x20, 0x20, 0x20, 0x03, 0x00, 0x03, 0x20, 0x20, 0x20, 0x04, 0x00, 0x04, 0x49, 0x00, 0x00,
+    0x00, 0x05, 0x00, 0x04, 0x00, 0x00, 0x00, 0x00, 0x06, 0x00, 0x04, 0x00, 0x00, 0x00, 0x00, 0x07,
+    0x00, 0x01, 0x00, 0x08, 0x00, 0x01, 0x00, 0x09, 0x00, 0x02, 0x00, 0x00, 0x0A, 0x00, 0x02, 0x56,
+    0x03, 0x0B, 0x00, 0x02, 0x49, 0x00, 0x00, 0x00, 0x00,
+];
+
+fn caller() -> Call {
+    Call {
+        chars: [b'N', b'O', b'C', b'A', b'L', b'L'],
+        ssid: 0,
+    }
+}
+
+fn appended(rt: &impl Abort, answer: Result<OpenUpload, AppendRefusal>) -> OpenUpload
+    ensures { answer ≡ Ok result }
+{
+    match answer {
+        Ok(up) => up,
+        Err(AppendRefusal::TooMuch(_up)) => panic!(rt; "too much"),
+        Err(AppendRefusal::OutOfMemory(_up)) => panic!(rt; "out of memory"),
+    }
+}
+
+#[test]
+fn texts_of_refusals(rt: HostRuntime) -> Result<(), Fail> {
+    let texts = [
+        (
+            BeginRefusal::TooLong,
+            "the file is longer than 4194304 octets",
+        ),
+        (BeginRefusal::TooMany, "the store has 1024 entries"),
+        (BeginRefusal::NumbersGone, "no number is left"),
+        (
+            BeginRefusal::NoRoom { blocks: 9, free: 8 },
+            "the file takes 9 blocks, and 8 are free",
+        ),
+        (BeginRefusal::OutOfMemory, "out of memory"),
+    ];
+    for (refusal, text) in texts {
+        assert_eq!(rt; format!(in rt.alloc(); "{refusal}")?.as_str(), text);
+    }
+    Ok(())
+}
+
+#[test]
+fn seals_a_file(rt: HostRuntime) -> Result<(), Fail> {
+    let mut store = FileStore::plain(rt.alloc(), Limits { blocks: 8 });
+    let up = store.begin(caller(), 73, 5)?;
+    assert_eq!(rt;
+        (up.number(), up.caller().ssid, up.length(), up.held()),
+        (1, 0, 73, 0)
+    );
+    let up = appended(&rt, store.append(up, &FILE));
+    assert_eq!(rt; up.held(), 0);
+    match store.seal(up, 6) {
+        Ok(receipt) => {
+            assert_eq!(rt; receipt.number(), 1);
+            assert_eq!(rt; receipt.spend(), 1);
+        }
+        Err(_refusal) => panic!(rt; "not sealed"),
+    }
+    let info = store.info(1).expect(&rt, "no entry");
+    assert_eq!(rt; (info.number, info.caller.ssid, info.length), (1, 0, 73));
+    assert_eq!(rt; (info.held, info.complete, info.begun), (73, true, 5));
+    Ok(())
+}
+
+#[test]
+fn holds_whole_blocks(rt: HostRuntime) -> Result<(), Fail> {
+    let mut store = FileStore::plain(rt.alloc(), Limits { blocks: 8 });
+    let mut octets = [0u8; 1_100];
+    octets[0] = 0xAA;
+    octets[1] = 0x55;
+    let up = store.begin(caller(), 1_100, 5)?;
+    let up = appended(&rt, store.append(up, &octets[..700]));
+    assert_eq!(rt; up.held(), 512);
+    let info = store.info(1).expect(&rt, "no entry");
+    assert_eq!(rt;
+        (info.length, info.held, info.complete),
+        (1_100, 512, false)
+    );
+    let up = appended(&rt, store.append(up, &octets[700..]));
+    assert_eq!(rt; up.held(), 1_024);
+    match store.seal(up, 6) {
+        Ok(receipt) => assert_eq!(rt; receipt.spend(), 1),
+        Err(_refusal) => panic!(rt; "not sealed"),
+    }
+    let info = store.info(1).expect(&rt, "no entry");
+    assert_eq!(rt;
+        (info.length, info.held, info.complete),
+        (1_100, 1_100, true)
+    );
+    Ok(())
+}
+
+#[test]
+fn refuses_and_drops(rt: HostRuntime) -> Result<(), Fail> {
+    let mut store = FileStore::plain(rt.alloc(), Limits { blocks: 8 });
+    let up = store.begin(caller(), 0, 5)?;
+    match store.seal(up, 6) {
+        Err(SealRefusal::Header { code }) => assert_eq!(rt; code, 7),
+        _ => panic!(rt; "no fault of the header"),
+    }
+    assert!(rt; store.info(1).is_none());
+    let up = store.begin(caller(), 4_096, 5)?;
+    assert_eq!(rt; up.number(), 2);
+    store.park(up);
+    assert_eq!(rt; store.info(2).expect(&rt, "no entry").held, 0);
+    match store.begin(caller(), 1, 5) {
+        Err(refusal) => assert_eq!(rt; refusal, BeginRefusal::NoRoom { blocks: 1, free: 0 }),
+        Ok(_up) => panic!(rt; "begun without room"),
+    }
+    Ok(())
+}
