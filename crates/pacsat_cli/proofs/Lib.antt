@@ -1,0 +1,11 @@
+pub mod Digits
+pub mod Forms
+pub mod Hearing
+pub mod Invariants
+pub mod Listening
+pub mod NodeLemmas
+pub mod Outcome
+pub mod Ran
+pub mod Rows
+pub mod Six
+pub mod Turns

@@ -1,0 +1,9 @@
+pub mod Asked
+pub mod Laws
+pub mod Node
+pub mod Run
+pub mod Session
+pub mod Status
+pub mod Stops
+pub mod Taking
+pub mod Words

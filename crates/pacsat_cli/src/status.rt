@@ -1,0 +1,55 @@
+//! How a run of the program ended.
+
+ghost use Rattle.std.specs.Prelude.{◌≡◌};
+ghost use Rattle.pacsat_cli.specs.Status.{number_of, line_of};
+
+/// How a run of the program ended. The statuses of commands that aren't built yet come with them.
+#[derive(Clone, Copy, Debug, PartialEq, Eq)]
+pub enum Status {
+    /// The command did what it says; a node read the end of the air.
+    Done,
+    /// The words aren't in the command set.
+    Usage,
+    /// Hearing failed: the air's count of read faults rose.
+    AirRead,
+    /// Saying failed: the air's count of write faults rose.
+    AirWrite,
+    /// There was no memory.
+    OutOfMemory,
+    /// As many polls were made as may be, and none was the end of the air.
+    Spent,
+    /// A word or a packet came that isn't built yet.
+    NotBuilt,
+}
+
+impl Status {
+    /// The number that the process ends with.
+    pub fn number(&self) -> u8
+        ensures { result ≡ number_of self.now }
+    {
+        match self {
+            Status::Done => 0,
+            Status::Usage => 2,
+            Status::AirRead => 3,
+            Status::AirWrite => 4,
+            Status::OutOfMemory => 9,
+            Status::Spent => 10,
+            Status::NotBuilt => 18,
+        }
+    }
+
+    /// The line that says so, with its line feed; none where all is done.
+    pub(crate) fn line(&self) -> &'static str
+        ensures { result.now ≡ line_of self.now }
+    {
+        match self {
+            Status::Done => "",
+            Status::Usage => "usage\n",
+            Status::AirRead => "air read\n",
+            Status::AirWrite => "air write\n",
+            Status::OutOfMemory => "out of memory\n",
+            Status::Spent => "spent\n",
+            Status::NotBuilt => "not built\n",
+        }
+    }
+}

@@ -1,0 +1,28 @@
+//! Each status as it is shown: its line on the output, and its number.
+
+use super::*;
+use px_base::MemoryOut;
+use std::process::Abort;
+use std::test::Fail;
+
+const STATUSES: [(Status, u8, &str); 7] = [
+    (Status::Done, 0, ""),
+    (Status::Usage, 2, "usage\n"),
+    (Status::AirRead, 3, "air read\n"),
+    (Status::AirWrite, 4, "air write\n"),
+    (Status::OutOfMemory, 9, "out of memory\n"),
+    (Status::Spent, 10, "spent\n"),
+    (Status::NotBuilt, 18, "not built\n"),
+];
+
+#[test]
+fn statuses_are_shown(rt: HostRuntime) -> Result<(), Fail> {
+    for (status, number, line) in STATUSES.iter() {
+        let mut out = MemoryOut::new(rt.alloc(), &[])?;
+        let ended = end_with(*status, &mut out);
+        assert!(rt; ended == *status, "{line}");
+        assert_eq!(rt; ended.number(), *number);
+        assert_eq!(rt; out.shown(), line.as_bytes());
+    }
+    Ok(())
+}
