@@ -1,0 +1,35 @@
+//! The program `pacsat`: makes the real objects, hands them to the top call, and ends with its number.
+#![tactic(auto)]
+
+use pacsat_cli::{Status, Words, end_with, run};
+use px_base::{StdAir, StdOut};
+use std::env;
+use std::io::ErrorKind;
+use std::process::ExitCode;
+
+fn main(rt: HostRuntime) -> ExitCode {
+    let mut air = StdAir::new(rt.stdin(), rt.stdout());
+    let status = match words(&rt) {
+        Ok(words) if words.get(1) == Some("-") => {
+            run(rt.alloc(), &words, &mut air, &mut StdOut::new(rt.stderr()))
+        }
+        Ok(words) => run(rt.alloc(), &words, &mut air, &mut StdOut::new(rt.stdout())),
+        Err(status) => end_with(status, &mut StdOut::new(rt.stderr())),
+    };
+    ExitCode::from(status.number())
+}
+
+/// The words after the program's name. Words that aren't UTF-8 are no command.
+fn words(rt: &HostRuntime) -> Result<Words, Status> {
+    let mut words = Words::new(rt.alloc());
+    let args = env::args(rt).map_err(|refused| match refused.kind() {
+        ErrorKind::OutOfMemory => Status::OutOfMemory,
+        _ => Status::Usage,
+    })?;
+    for word in args.skip(1) {
+        words
+            .add(word.as_str())
+            .map_err(|_refused| Status::OutOfMemory)?;
+    }
+    Ok(words)
+}

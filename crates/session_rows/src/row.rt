@@ -1,0 +1,51 @@
+//! One row: what is run, and what it says.
+
+use crate::turns::turns_of;
+use anyhow::{Context, Result, ensure};
+use pacsat_cli::{Words, run};
+use px_base::{MemoryAir, MemoryOut};
+use std::alloc::Global;
+
+/// Plays a row, and gives the octets said in hexadecimal, the status's number, and the line that was shown.
+pub fn play(alloc: Global, row: &str) -> Result<String> {
+    let (words, rest) = row.split_once(';').context("no words")?;
+    let (failing, rest) = rest.split_once(';').context("no failing calls")?;
+    let (poll, heard) = rest.split_once(';').context("no size of a poll")?;
+    let words = read_words(alloc, words)?;
+    let failing = read_numbers(alloc, failing)?;
+    let poll = poll.parse::<usize>()?;
+    ensure!(poll >= 1 && poll <= 512, "a poll of {poll} octets");
+    let heard = hex::decode(alloc, heard)?;
+    let turns = turns_of(alloc, heard.as_slice(), poll)?;
+    let mut air = MemoryAir::new(alloc, turns, failing.as_slice())?;
+    let mut out = MemoryOut::new(alloc, &[])?;
+    let status = run(alloc, &words, &mut air, &mut out);
+    let said = hex::encode(alloc, air.said())?;
+    let shown = shown_text(alloc, out.shown())?;
+    let number = status.number();
+    Ok(format!(in alloc; "{said};{number};{shown}")?)
+}
+
+/// The words of a row, parted by blanks.
+fn read_words(alloc: Global, text: &str) -> Result<Words> {
+    let mut words = Words::new(alloc);
+    for word in text.split_whitespace() {
+        words.add(word)?;
+    }
+    Ok(words)
+}
+
+/// Numbers parted by blanks.
+fn read_numbers(alloc: Global, text: &str) -> Result<Vec<u64>> {
+    let mut numbers = Vec::new(alloc);
+    for word in text.split_whitespace() {
+        numbers.push(word.parse::<u64>()?)?;
+    }
+    Ok(numbers)
+}
+
+/// The text that was shown, without its line feed.
+fn shown_text(alloc: Global, shown: &[u8]) -> Result<String> {
+    let text = std::str::from_utf8(shown)?;
+    Ok(String::from_str(alloc, text.trim_end())?)
+}
