@@ -1,10 +1,15 @@
 -- Turns with one more.
-use Rattle.std.proofs.Common.{List, [], ◌∷◌, ◌++◌}
+use Rattle.std.proofs.Common.{◌≡◌, List, [], ◌∷◌, ◌++◌}
 use Rattle.std.specs.List.{AllByRecursion}
 use Rattle.px_base.specs.declared.air.Turn.{Turn}
-use Rattle.px_base.specs.Polling.{IsTurn}
+use Rattle.px_base.specs.Polling.{IsTurn, octets_heard, octets_of_turn}
+use Rattle.pacsat_cli.proofs.Listening.{octets_heard-append}
 
 -- each of the turns and of one more is a turn that a poll can bring
 pub turns_push : (turns : List Turn) (next : Turn) → AllByRecursion IsTurn turns → IsTurn next → AllByRecursion IsTurn (turns ++ next ∷ [])
 turns_push [] next h k = (k, tt)
 turns_push (t ∷ turns) next h k = (h.0, turns_push turns next h.1 k)
+
+-- and the octets heard are those of the turns and of the one more
+pub octets_push : (turns : List Turn) (next : Turn) → octets_heard (turns ++ next ∷ []) ≡ octets_heard turns ++ octets_of_turn next
+octets_push = octets_heard-append
