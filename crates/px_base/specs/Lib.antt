@@ -1,6 +1,9 @@
 pub mod CallSign
 pub mod Forms
+pub mod Moments
 pub mod Numbers
 pub mod Outside
 pub mod Polling
+pub mod ShelfForms
+pub mod Shelves
 pub mod Streams

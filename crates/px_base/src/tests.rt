@@ -1,12 +1,15 @@
 //! Tests of what no clause says: worked rows, texts, and each form once.
 
+use crate::folder_shelf::read_whole;
 use crate::{
-    Air, AirDown, BadCall, Call, FileBytes, MemoryAir, MemoryOut, Out, OutDown, OutOfMemory,
-    Polled, StdAir, StdOut, Turn, le16, le32,
+    Air, AirDown, BadCall, Call, Clock, FileBytes, FolderShelf, MemoryAir, MemoryClock, MemoryOut,
+    MemoryShelf, Out, OutDown, OutOfMemory, Polled, Shelf, ShelfDown, ShelfRefusal, StdAir, StdOut,
+    SystemClock, Turn, le16, le32,
 };
-use std::io;
-use std::io::{Read, Write};
+use std::io::{ErrorKind, Read, Write};
 use std::test::Fail;
+use std::time::Duration;
+use std::{fs, io, rt as runtime};
 
 #[test]
 fn calls(rt: HostRuntime) -> Result<(), Fail> {
@@ -52,6 +55,26 @@ fn texts_of_errors(rt: HostRuntime) -> Result<(), Fail> {
         (format!(in rt.alloc(); "{}", OutOfMemory)?, "out of memory"),
         (format!(in rt.alloc(); "{}", AirDown)?, "the air is down"),
         (format!(in rt.alloc(); "{}", OutDown)?, "the output is down"),
+        (
+            format!(in rt.alloc(); "{}", ShelfDown)?,
+            "the shelf is down",
+        ),
+        (
+            format!(in rt.alloc(); "{}", ShelfRefusal::NoSuch)?,
+            "the shelf has no such name",
+        ),
+        (
+            format!(in rt.alloc(); "{}", ShelfRefusal::TooLong)?,
+            "the content is longer than asked for",
+        ),
+        (
+            format!(in rt.alloc(); "{}", ShelfRefusal::Fault)?,
+            "the shelf is down",
+        ),
+        (
+            format!(in rt.alloc(); "{}", ShelfRefusal::OutOfMemory)?,
+            "out of memory",
+        ),
         (
             format!(in rt.alloc(); "{}", BadCall { at: 8 })?,
             "the text is no call: only its first 8 octets begin one",
@@ -207,4 +230,130 @@ fn output_over_a_stream(rt: HostRuntime) -> Result<(), Fail> {
     assert_eq!(rt; out.put(b"three"), Ok(()));
     assert_eq!(rt; output.inner.as_slice(), b"onetwothree".as_slice());
     Ok(())
+}
+
+/// The octets of what was loaded.
+fn octets_of(loaded: &Result<FileBytes, ShelfRefusal>) -> Result<&[u8], ShelfRefusal> {
+    match loaded {
+        Ok(content) => Ok(content.as_slice()),
+        Err(refusal) => Err(*refusal),
+    }
+}
+
+#[test]
+fn shelf_in_memory(rt: HostRuntime) -> Result<(), Fail> {
+    let mut shelf = MemoryShelf::new(rt.alloc(), &[3, 7])?;
+    // the name, its content, and whether that is kept
+    let kept = [
+        ("b", b"two".as_slice(), Ok(())),
+        ("a", b"one".as_slice(), Ok(())),
+        ("a", b"lost".as_slice(), Err(ShelfDown)),
+        ("b", b"three".as_slice(), Ok(())),
+        ("", b"".as_slice(), Ok(())),
+    ];
+    for (name, content, wanted) in kept {
+        assert_eq!(rt; shelf.keep(name, content), wanted, "{name}");
+    }
+    // the name, the most octets, and what is loaded
+    let loaded = [
+        ("a", 3, Ok(b"one".as_slice())),
+        ("a", 3, Err(ShelfRefusal::Fault)),
+        ("b", 5, Ok(b"three".as_slice())),
+        ("b", 4, Err(ShelfRefusal::TooLong)),
+        ("", 0, Ok(b"".as_slice())),
+        ("c", 100, Err(ShelfRefusal::NoSuch)),
+    ];
+    for (name, most, wanted) in loaded {
+        let content = shelf.load(rt.alloc(), name, most);
+        assert_eq!(rt; octets_of(&content), wanted, "{name}");
+    }
+    assert!(rt; shelf.content("a").is_some());
+    assert!(rt; shelf.content("c").is_none());
+    assert!(rt; !shelf.starved());
+    Ok(())
+}
+
+#[test]
+fn clock_in_memory(rt: HostRuntime) -> Result<(), Fail> {
+    let mut clock = MemoryClock::new(rt.alloc(), &[5, 3, u32::MAX])?;
+    for wanted in [5, 3, u32::MAX, u32::MAX, u32::MAX] {
+        assert_eq!(rt; clock.now(), wanted);
+    }
+    assert_eq!(rt; clock.calls(), 5);
+    Ok(())
+}
+
+#[test]
+fn shelf_over_a_folder(rt: HostRuntime) -> Result<(), Fail> {
+    let mut shelf = FolderShelf::new(&rt);
+    let name = "px_base.shelf.test";
+    assert_eq!(rt; shelf.keep(name, b"longer"), Ok(()));
+    assert_eq!(rt; shelf.keep(name, b"long"), Ok(()));
+    // the name, the most octets, and what is loaded; the folder itself can be opened, and not read
+    let loaded = [
+        (name, 4, Ok(b"long".as_slice())),
+        (name, 3, Err(ShelfRefusal::TooLong)),
+        (name, usize::MAX, Ok(b"long".as_slice())),
+        ("px_base.no.such.test", 4, Err(ShelfRefusal::NoSuch)),
+        (".", 4, Err(ShelfRefusal::Fault)),
+    ];
+    for (name, most, wanted) in loaded {
+        let content = shelf.load(rt.alloc(), name, most);
+        assert_eq!(rt; octets_of(&content), wanted, "{name}");
+    }
+    assert_eq!(rt; shelf.keep(".", b"no file"), Err(ShelfDown));
+    fs::remove_file(&rt, name)?;
+    Ok(())
+}
+
+/// A reader that fails at once, for this reason.
+#[derive(Drop)]
+struct Refusing(ErrorKind);
+
+impl Read for Refusing {
+    fn read(&mut self, _buf: &mut [u8]) -> io::Result<usize> {
+        Err(io::Error::from(self.0))
+    }
+}
+
+#[test]
+fn whole_readers(rt: HostRuntime) {
+    let endless = read_whole(io::repeat(7), rt.alloc(), 600);
+    assert_eq!(rt; octets_of(&endless), Err(ShelfRefusal::TooLong));
+    let cut = read_whole(Failing::new([7; 600].as_slice(), 2), rt.alloc(), 600);
+    assert_eq!(rt; octets_of(&cut), Err(ShelfRefusal::Fault));
+    let gone = read_whole(Refusing(ErrorKind::NotFound), rt.alloc(), 600);
+    assert_eq!(rt; octets_of(&gone), Err(ShelfRefusal::Fault));
+    let wanting = read_whole(Refusing(ErrorKind::OutOfMemory), rt.alloc(), 600);
+    assert_eq!(rt; octets_of(&wanting), Err(ShelfRefusal::OutOfMemory));
+}
+
+/// A clock that stands still, or can't be read.
+#[derive(Drop)]
+struct Standing(Option<Duration>);
+
+impl runtime::Clock for Standing {
+    fn monotonic(&self) -> io::Result<Duration> {
+        self.since_1970()
+    }
+
+    fn since_1970(&self) -> io::Result<Duration> {
+        self.0.ok_or(io::Error::from(ErrorKind::InvalidData))
+    }
+}
+
+#[test]
+fn clock_of_the_system(rt: HostRuntime) {
+    // 1 January 2024
+    assert!(rt; SystemClock::new(&rt).now() > 1_704_067_200);
+    let moments = [
+        (Some(Duration::new(0, 999_999_999)), 0),
+        (Some(Duration::new(1, 0)), 1),
+        (Some(Duration::from_secs(4_294_967_295)), 4_294_967_295),
+        (Some(Duration::from_secs(4_294_967_296)), 4_294_967_295),
+        (None, 0),
+    ];
+    for (since, wanted) in moments {
+        assert_eq!(rt; SystemClock::new(Standing(since)).now(), wanted);
+    }
 }
