@@ -163,7 +163,7 @@ pub record IsCompleted (c : Control) (rest : List ℕ) : Type 0 where
   pub fits : FitsKind kind
   pub text : pid_octets kind ++ information kind ≡ rest ++ more
 
-no_octets : IsOctets []
+pub no_octets : IsOctets []
 no_octets i = omega arith
 
 one_octet : (n : ℕ) → n < 256 → IsOctets (n ∷ [])
@@ -177,7 +177,8 @@ bare : (k : KindValue) (rest : List ℕ) → FitsKind k → pid_octets k ≡ [] 
 bare k [] fits p i h = record { kind = k; more = []; control = refl; fits = fits; text = ap (λ (x : List ℕ). x ++ information k) p ∙ i }
 bare k (x ∷ rest) fits p i h = absurd (omega arith)
 
-fits_bare : (k : KindValue) → FitsControl (control_of k) → pid_octets k ≡ [] → information k ≡ [] → least_information (control_of k) ≤ 0 → FitsKind k
+-- a kind without PID and information fits
+pub fits_bare : (k : KindValue) → FitsControl (control_of k) → pid_octets k ≡ [] → information k ≡ [] → least_information (control_of k) ≤ 0 → FitsKind k
 fits_bare k h p i l =
     let none : length (information k) ≡ 0 = ap length i in
     record {

@@ -1,7 +1,9 @@
+pub mod ControlCases
 pub mod CharacterLemmas
 pub mod EntryLemmas
 pub mod FaultLaw
 pub mod FaultLemmas
+pub mod FrameCases
 pub mod FrameLemmas
 pub mod KindLemmas
 pub mod ReadLemmas

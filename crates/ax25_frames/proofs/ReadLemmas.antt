@@ -29,7 +29,8 @@ unended_within octets n h =
 pub call_is : (x : List ℕ) → characters_begun x ≡ 6 → 6 ≤ length x → IsCall (record { chars = map (λ o. o / 2) (take 6 x); ssid = slice_index x 6 / 2 % 16 })
 call_is x six l = (begun_whole x (slice_index x 6 / 2 % 16) (omega arith) six l).is_call
 
-bit_mod : (o : ℕ) → bit (o % 2 == 1) ≡ o % 2
+-- bit 0 of a number
+pub bit_mod : (o : ℕ) → bit (o % 2 == 1) ≡ o % 2
 bit_mod o =
     elim (cases_lt (o % 2) 1) [
       | inl low ↦ let e : (o % 2 == 1) ≡ false = ne_eqb _ _ (λ e. omega arith) in ap bit e ∙ omega arith

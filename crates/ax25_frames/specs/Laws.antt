@@ -1,6 +1,7 @@
 -- Laws of frames and their octets.
-use Rattle.std.specs.Prelude.{◌≡◌, List, ℕ}
+use Rattle.std.specs.Prelude.{◌≡◌, ◌⊎◌, List, ℕ}
 use Rattle.ax25_frames.specs.declared.frame.FrameFault.{FrameFault}
+use Rattle.ax25_frames.specs.Kinds.{IsOctets}
 use Rattle.ax25_frames.specs.FrameText.{FrameValue, IsFrame, FrameText, canonical}
 use Rattle.ax25_frames.specs.Faults.{FaultAt}
 
@@ -19,3 +20,8 @@ IsNoFrame = (fault : FrameFault) (octets : List ℕ) (frame : FrameValue) → Fa
 -- octets have one fault at most
 abbrev pub IsOneFault : Type 0
 IsOneFault = (one other : FrameFault) (octets : List ℕ) → FaultAt one octets → FaultAt other octets → one ≡ other
+
+-- octets are those of some frame, or have a fault
+abbrev pub IsFrameOrFault : Type 0
+IsFrameOrFault =
+    (octets : List ℕ) → IsOctets octets → ((frame : FrameValue) × FrameText frame octets) ⊎ ((fault : FrameFault) × FaultAt fault octets)

@@ -1,6 +1,6 @@
 //! Laws of frames and their octets, each the contract of a function that does nothing.
 
-ghost use Rattle.ax25_frames.specs.Laws.{IsCanonical, IsNoFrame, IsOneFault, IsOneFrame};
+ghost use Rattle.ax25_frames.specs.Laws.{IsCanonical, IsFrameOrFault, IsNoFrame, IsOneFault, IsOneFrame};
 
 /// No octets are those of two frames, so what was read is the frame that was sent.
 pub fn one_frame()
@@ -20,4 +20,9 @@ pub fn no_frame_at_a_fault()
 /// Octets have one fault at most.
 pub fn one_fault()
     ensures { IsOneFault }
+{}
+
+/// Some frame has the octets, or they have a fault.
+pub fn frame_or_fault()
+    ensures { IsFrameOrFault }
 {}
