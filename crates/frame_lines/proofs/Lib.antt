@@ -1,0 +1,4 @@
+pub mod EachText
+pub mod KissOctets
+pub mod Lines
+pub mod Showing
