@@ -1,0 +1,259 @@
+-- Each question that the command set asks of the words has an answer.
+use Rattle.std.proofs.Common.{◌≡◌, ◌==◌, ◌<◌, ◌≤◌, ◌⊎◌, ℕ, zero, suc, true, false, List, [], ◌∷◌, length, take, drop, Option, None, Some, refl, sym, ap, ◌∙◌, subst, arith, inl, inr, codes, true≢false, append_assoc, lit<}
+use Rattle.std.specs.Prelude.{Contains}
+use Rattle.std.specs.List.{AllByRecursion, after_first, before_first, list_all}
+use Rattle.std.specs.Str.{bytes_eq}
+use Rattle.std.proofs.lemmas.Bool.{cases_Bool, cases_lt}
+use Rattle.px_base.specs.CallSign.{CallSign, CallText, SsidText, base_length, padded, ssid_digits}
+use Rattle.px_base.proofs.Calls.{call_is, cut_of}
+use Rattle.clap.specs.Lexer.{has_byte}
+use Rattle.command_words.specs.Grammar.{values_of}
+use Rattle.command_words.specs.Lines.{IsTaken, is_option_name}
+use Rattle.command_words.specs.Numbers.{IsDigit, NumberText, number_after}
+use Rattle.command_words.specs.Words.{GivesNumber, IsAir, IsHostPort, SessionText, session_options}
+use Rattle.command_words.proofs.Bytes.{after_first-append, before_first-append, before_first-lacks, has_byte-append, split_at_byte}
+use Rattle.command_words.proofs.HostPorts.{all_lack, lack_all}
+use Rattle.command_words.proofs.Uses.{Text, Uses, has, text_eq, text_same, values}
+use Rattle.command_words.proofs.Machine.{is_name-from, run}
+use Rattle.command_words.proofs.Rules.{other_name}
+use Rattle.command_words.proofs.Readings.{all_good, list-one, place_fresh, run-reading, run-single, taken-run, uses_in, values_option, values_place}
+use Rattle.command_words.proofs.Meanings.{gives_one, one_reading, text_taken}
+
+abbrev pub Decided : Type 0 → Type 0
+Decided P = P ⊎ (P → ⊥)
+
+-- ---- numbers
+
+digit_decided : (c : ℕ) → Decided (IsDigit c)
+digit_decided c = elim (cases_lt c 48) [
+  | inl below ↦ inr (λ digit. omega (arith, digit.0))
+  | inr least ↦ elim (cases_lt 57 c) [
+    | inl above ↦ inr (λ digit. omega (arith, digit.1))
+    | inr most ↦ inl (least, most)
+  ]
+]
+
+digits_decided : (text : Text) → Decided (AllByRecursion IsDigit text)
+digits_decided [] = inl tt
+digits_decided (c ∷ text) = elim (digit_decided c) [
+  | inr none ↦ inr (λ all. none all.0)
+  | inl digit ↦ elim (digits_decided text) [
+    | inl all ↦ inl (digit, all)
+    | inr none ↦ inr (λ all. none all.1)
+  ]
+]
+
+number_decided : (low high : ℕ) (text : Text) → Decided ((number : ℕ) × NumberText low high text number)
+number_decided low high text = elim (digits_decided text) [
+  | inr none ↦ inr (λ (number, is). none is.digits)
+  | inl digits ↦ elim (cases_lt (length text) 1) [
+    | inl empty ↦ inr (λ (number, is). let some = is.some in omega arith)
+    | inr some ↦ elim (cases_lt 20 (length text)) [
+      | inl long ↦ inr (λ (number, is). let few = is.few in omega arith)
+      | inr few ↦ elim (cases_lt (number_after 0 text) low) [
+        | inl below ↦ inr (λ (number, is). let least = is.least in let value = is.value in omega arith)
+        | inr least ↦ elim (cases_lt high (number_after 0 text)) [
+          | inl above ↦ inr (λ (number, is). let most = is.most in let value = is.value in omega arith)
+          | inr most ↦ inl (number_after 0 text, record { some = some; few = few; digits = digits; value = refl; least = least; most = most })
+        ]
+      ]
+    ]
+  ]
+]
+
+gives_decided : (low high : ℕ) (texts : List Text) → Decided ((number : Option ℕ) × GivesNumber low high texts number)
+gives_decided low high [] = inl (None, refl)
+gives_decided low high (text ∷ []) = elim (number_decided low high text) [
+  | inl (number, is) ↦ inl (Some number, (text, refl, is))
+  | inr none ↦ inr (λ (number, gives). none (of_one number gives))
+]
+  where
+    of_one : (number : Option ℕ) → GivesNumber low high (text ∷ []) number → (n : ℕ) × NumberText low high text n
+    of_one None e = absurd cc
+    of_one (Some n) (other, e, is) = let same : other ≡ text = cc in (n, subst (λ (t : Text). NumberText low high t n) same is)
+gives_decided low high (text ∷ other ∷ texts) = inr (λ (number, gives). let one = gives_one low high (text ∷ other ∷ texts) number gives in omega arith)
+
+-- ---- calls
+
+ssid_from : (text : Text) (n : ℕ) → n ≤ 16 → Decided ((ssid : ℕ) × (ssid < n) × (text ≡ 45 ∷ ssid_digits ssid))
+ssid_from text zero most = inr (λ (ssid, below, e). omega arith)
+ssid_from text (suc n) most = elim (cases_Bool (bytes_eq text (45 ∷ ssid_digits n))) [
+  | inl same ↦ inl (n, omega arith, text_same text (45 ∷ ssid_digits n) same)
+  | inr other ↦ elim (ssid_from text n (omega arith)) [
+    | inl (ssid, below, e) ↦ inl (ssid, omega arith, e)
+    | inr none ↦ inr (λ (ssid, below, e). elim (cases_lt ssid n) [
+      | inl lower ↦ none (ssid, lower, e)
+      | inr last ↦
+          let is : ssid ≡ n = omega arith in
+          true≢false (sym (text_eq text (45 ∷ ssid_digits n) (e ∙ ap (λ (k : ℕ). 45 ∷ ssid_digits k) is)) ∙ other)
+    ])
+  ]
+]
+
+ssid_decided : (text : Text) → Decided ((ssid : ℕ) × SsidText ssid text)
+ssid_decided [] = inl (0, (omega arith, inr (refl, refl)))
+ssid_decided (x ∷ text) = elim (ssid_from (x ∷ text) 16 (omega arith)) [
+  | inl (ssid, below, e) ↦ inl (ssid, (omega arith, inl e))
+  | inr none ↦ inr (λ (ssid, (most, cases)). elim cases [
+    | inl e ↦ none (ssid, omega arith, e)
+    | inr e ↦ let empty = e.1 in absurd cc
+  ])
+]
+
+pub call_decided : (text : Text) → Decided ((caller : CallSign) × CallText caller text)
+call_decided text = elim (cases_lt 0 (base_length text)) [
+  | inr none ↦ inr (λ (caller, is). let some = (cut_of caller text is).some in omega arith)
+  | inl some ↦ elim (ssid_decided (drop (base_length text) text)) [
+    | inr none ↦ inr (λ (caller, is). none (caller.ssid, (cut_of caller text is).ssid))
+    | inl (ssid, is) ↦
+        let caller : CallSign = record { chars = padded (take (base_length text) text); ssid = ssid } in
+        inl (caller, call_is caller text (record { some = some; spelled = refl; ssid = is }))
+  ]
+]
+
+-- ---- the word AIR
+
+host_port_decided : (air : Text) → Decided (IsHostPort air)
+host_port_decided air = elim (cases_Bool (has_byte 58 air)) [
+  | inr none ↦ inr (λ is.
+      let written = is.written ∙ append_assoc is.host (58 ∷ []) is.port in
+      true≢false (sym (ap (has_byte 58) written ∙ has_byte-append 58 is.host is.port) ∙ none))
+  | inl colon ↦
+      let host = before_first (λ c. c == 58) air in
+      let port = after_first (λ c. c == 58) air in
+      elim (number_decided 1 65535 port) [
+        | inr none ↦ inr (λ is.
+            let written = is.written ∙ append_assoc is.host (58 ∷ []) is.port in
+            let same : port ≡ is.port = ap (after_first (λ c. c == 58)) written ∙ after_first-append 58 is.host is.port (all_lack is.host is.plain) in
+            none (is.number, subst (λ (t : Text). NumberText 1 65535 t is.number) (sym same) is.in_range))
+        | inl (number, in_range) ↦ elim (cases_lt (length host) 1) [
+          | inl empty ↦ inr (λ is.
+              let written = is.written ∙ append_assoc is.host (58 ∷ []) is.port in
+              let same : host ≡ is.host = ap (before_first (λ c. c == 58)) written ∙ before_first-append 58 is.host is.port (all_lack is.host is.plain) in
+              let some = is.some in
+              omega (arith, ap length same))
+          | inr some ↦ inl (record {
+            host = host;
+            port = port;
+            number = number;
+            written = split_at_byte 58 air colon ∙ sym (append_assoc host (58 ∷ []) port);
+            some = some;
+            plain = lack_all host (before_first-lacks 58 air);
+            in_range = in_range;
+          })
+        ]
+      ]
+]
+
+-- an air is standard input and output, or a host and port, and not both
+pub air_decided : (air : Text) → (air ≡ codes "-") ⊎ (IsHostPort air ⊎ (IsAir air → ⊥))
+air_decided air = elim (cases_Bool (bytes_eq air (codes "-"))) [
+  | inl same ↦ inl (text_same air (codes "-") same)
+  | inr other ↦ elim (host_port_decided air) [
+    | inl is ↦ inr (inl is)
+    | inr none ↦ inr (inr (λ is. elim is [
+      | inl same ↦ true≢false (sym (text_eq air (codes "-") same) ∙ other)
+      | inr host_port ↦ none host_port
+    ]))
+  ]
+]
+
+-- ---- the words after COMMAND
+
+pub taken_decided : (names : List Text) (id : Text) → list_all (is_option_name id) names ≡ true → (words : List Text) → Decided (IsTaken names words)
+taken_decided names id apart words = decide (run names id words None (Some [])) refl
+  where
+    fresh : Rattle.command_words.proofs.Machine.is_name names id ≡ false
+    fresh = place_fresh id names apart
+
+    taken_of : (all : Uses) → run names id words None (Some []) ≡ Some all → has id all ≡ true → IsTaken names words
+    taken_of all read placed =
+        let (reading, uses_are) = run-reading names id fresh words all read in
+        let (text, one) = list-one id all placed (run-single names id fresh words all id read) in
+        record {
+          reading = reading;
+          text = text;
+          place = sym (values_place names id fresh reading) ∙ ap (values id) uses_are ∙ one;
+          single = λ name known.
+              let other = other_name names id name fresh (is_name-from names name known) in
+              subst (λ (texts : List Text). length texts ≤ 1)
+              (sym (ap (values name) uses_are) ∙ values_option names id fresh reading name other)
+              (run-single names id fresh words all name read);
+        }
+
+    decide : (read : Option Uses) → run names id words None (Some []) ≡ read → Decided (IsTaken names words)
+    decide None e = inr (λ taken.
+        let (read, placed) = taken-run names id fresh words (all_good id names apart) taken in
+        let none : None ≡ Some (uses_in names id fresh taken.reading) = sym e ∙ read in
+        absurd cc)
+    decide (Some all) e = elim (cases_Bool (has id all)) [
+      | inl placed ↦ inl (taken_of all e placed)
+      | inr none ↦ inr (λ taken.
+          let (read, placed) = taken-run names id fresh words (all_good id names apart) taken in
+          let some : Some all ≡ Some (uses_in names id fresh taken.reading) = sym e ∙ read in
+          let same : all ≡ uses_in names id fresh taken.reading = cc in
+          true≢false (sym placed ∙ ap (has id) (sym same) ∙ none))
+    ]
+
+-- the words after `session` give a call and numbers
+abbrev pub GivesText : List Text → Type 0
+GivesText others = (caller : CallSign) × (moment : Option ℕ) × (blocks : Option ℕ) × (polls : Option ℕ) × SessionText others caller moment blocks polls
+
+module _ (others : List Text) (taken : IsTaken session_options others) where
+  -- another reading of them has the same place and values
+  same_call : (caller : CallSign) (moment blocks polls : Option ℕ) → SessionText others caller moment blocks polls → CallText caller taken.text
+  unfolding text_taken
+  same_call caller moment blocks polls text =
+      let (places, options) = one_reading session_options (codes "caller") refl others (text_taken text) taken in
+      let same : text.call_text ∷ [] ≡ taken.text ∷ [] = sym text.place ∙ places ∙ taken.place in
+      let call_is : text.call_text ≡ taken.text = cc in
+      subst (λ (t : Text). CallText caller t) call_is text.call
+
+  same_values : (caller : CallSign) (moment blocks polls : Option ℕ) (text : SessionText others caller moment blocks polls) (name : Text) → Contains session_options name
+      → values_of text.reading name ≡ values_of taken.reading name
+  unfolding text_taken
+  same_values caller moment blocks polls text name known = (one_reading session_options (codes "caller") refl others (text_taken text) taken).1 name known
+
+  text_from_taken : Decided (GivesText others)
+  text_from_taken = elim (call_decided taken.text) [
+    | inr none ↦ inr (λ (caller, moment, blocks, polls, text). none (caller, same_call caller moment blocks polls text))
+    | inl (caller, call) ↦ elim (gives_decided 0 4294967295 (values_of taken.reading (codes "moment"))) [
+      | inr none ↦ inr (λ (caller, moment, blocks, polls, text). none (
+        moment,
+        subst (λ (ts : List Text). GivesNumber 0 4294967295 ts moment) (same_values caller moment blocks polls text (codes "moment") (0, lit< tt, refl)) text.moment_given,
+      ))
+      | inl (moment, moment_given) ↦ elim (gives_decided 1 65536 (values_of taken.reading (codes "blocks"))) [
+        | inr none ↦ inr (λ (caller, moment, blocks, polls, text). none (
+          blocks,
+          subst (λ (ts : List Text). GivesNumber 1 65536 ts blocks) (same_values caller moment blocks polls text (codes "blocks") (1, lit< tt, refl)) text.blocks_given,
+        ))
+        | inl (blocks, blocks_given) ↦ elim (gives_decided 1 18446744073709551615 (values_of taken.reading (codes "polls"))) [
+          | inr none ↦ inr (λ (caller, moment, blocks, polls, text). none (
+            polls,
+            subst (λ (ts : List Text). GivesNumber 1 18446744073709551615 ts polls) (same_values caller moment blocks polls text (codes "polls") (2, lit< tt, refl)) text.polls_given,
+          ))
+          | inl (polls, polls_given) ↦ inl (
+            caller,
+            moment,
+            blocks,
+            polls,
+            record {
+              reading = taken.reading;
+              call_text = taken.text;
+              place = taken.place;
+              call = call;
+              moment_given = moment_given;
+              blocks_given = blocks_given;
+              polls_given = polls_given;
+            },
+          )
+        ]
+      ]
+    ]
+  ]
+
+pub text_decided : (others : List Text) → Decided (GivesText others)
+text_decided others = elim (taken_decided session_options (codes "caller") refl others) [
+  | inl taken ↦ text_from_taken others taken
+  | inr none ↦ inr (λ (caller, moment, blocks, polls, text). none (text_taken text))
+]

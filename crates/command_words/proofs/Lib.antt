@@ -1,0 +1,15 @@
+pub mod Bytes
+pub mod ClapLine
+pub mod ClapSteps
+pub mod ClapWalk
+pub mod Decided
+pub mod Digits
+pub mod HostPorts
+pub mod LineLemmas
+pub mod Machine
+pub mod Meanings
+pub mod OneMeaning
+pub mod Readings
+pub mod Rules
+pub mod Uses
+pub mod WordKinds

@@ -1,0 +1,32 @@
+-- Each list of words has one meaning.
+use Rattle.std.specs.Prelude.{◌≡◌, ℕ, ◌⊎◌, List, Option}
+use Rattle.px_base.specs.CallSign.{CallSign}
+use Rattle.command_words.specs.Words.{IsFrames, IsSession, IsUnbuilt, IsUsage}
+
+-- the words ask for a session that is built
+abbrev pub AsksSession : List (List ℕ) → Type 0
+AsksSession words = (caller : CallSign) × (moment : Option ℕ) × IsSession words caller moment
+
+-- the words ask for the frames of a name
+abbrev pub AsksFrames : List (List ℕ) → Type 0
+AsksFrames words = (name : List ℕ) × IsFrames words name
+
+-- Each list of words isn't in the command set, or asks for what isn't built yet, for a session or for frames.
+abbrev pub HasMeaning : Type 0
+HasMeaning = (words : List (List ℕ)) → IsUsage words ⊎ (IsUnbuilt words ⊎ (AsksSession words ⊎ AsksFrames words))
+
+-- It does only one of these,
+pub record OnlyOne (words : List (List ℕ)) : Type 0 where
+  pub usage_unbuilt : IsUsage words → IsUnbuilt words → ⊥
+  pub usage_session : IsUsage words → AsksSession words → ⊥
+  pub usage_frames : IsUsage words → AsksFrames words → ⊥
+  pub unbuilt_session : IsUnbuilt words → AsksSession words → ⊥
+  pub unbuilt_frames : IsUnbuilt words → AsksFrames words → ⊥
+  pub session_frames : AsksSession words → AsksFrames words → ⊥
+
+-- and for one caller, moment and name.
+pub record Determined (words : List (List ℕ)) : Type 0 where
+  pub session :
+      (caller other : CallSign) (moment later : Option ℕ) → IsSession words caller moment → IsSession words other later
+      → (caller ≡ other) × (moment ≡ later)
+  pub frames : (name other : List ℕ) → IsFrames words name → IsFrames words other → name ≡ other

@@ -1,0 +1,21 @@
+-- Numbers among the words.
+use Rattle.std.specs.Prelude.{◌≡◌, ℕ, ◌+◌, ◌-◌, ◌*◌, ◌≤◌, List, [], ◌∷◌, length}
+use Rattle.std.specs.List.{AllByRecursion}
+
+-- a decimal digit
+abbrev pub IsDigit : ℕ → Type 0
+IsDigit c = (48 ≤ c) × (c ≤ 57)
+
+-- the number that digits write, after those of a number before them
+abbrev pub number_after : ℕ → List ℕ → ℕ
+number_after before [] = before
+number_after before (digit ∷ digits) = number_after (10 * before + (digit - 48)) digits
+
+-- One to twenty decimal digits, of which the first may be zeros, write this number, which is in its range.
+pub record NumberText (low high : ℕ) (text : List ℕ) (number : ℕ) : Type 0 where
+  pub some : 1 ≤ length text
+  pub few : length text ≤ 20
+  pub digits : AllByRecursion IsDigit text
+  pub value : number ≡ number_after 0 text
+  pub least : low ≤ number
+  pub most : number ≤ high

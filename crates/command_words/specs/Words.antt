@@ -1,0 +1,111 @@
+-- The command set: what each list of words asks for.
+use Rattle.std.specs.Prelude.{◌≡◌, ◌≢◌, ℕ, ◌≤◌, ◌⊎◌, List, [], ◌∷◌, ◌++◌, length, Option, None, Some, IsSome, Contains, codes}
+use Rattle.std.specs.List.{AllByRecursion}
+use Rattle.px_base.specs.CallSign.{CallSign, CallText}
+use Rattle.command_words.specs.Grammar.{Reading, places_of, values_of}
+use Rattle.command_words.specs.Numbers.{NumberText}
+
+-- the commands that aren't built yet
+abbrev pub unbuilt_commands : List (List ℕ)
+unbuilt_commands =
+    codes "serve" ∷ codes "send" ∷ codes "fetch" ∷ codes "list" ∷ codes "pfh-check" ∷ codes "pfh-show" ∷ codes "pfh-make"
+    ∷ codes "rehearse" ∷ []
+
+-- Host and port: text without a colon, a colon, and the number of a port.
+pub record IsHostPort (air : List ℕ) : Type 0 where
+  pub host : List ℕ
+  pub port : List ℕ
+  pub number : ℕ
+  pub written : air ≡ host ++ codes ":" ++ port
+  pub some : 1 ≤ length host
+  pub plain : AllByRecursion (λ c. c ≢ 58) host
+  pub in_range : NumberText 1 65535 port number
+
+-- standard input and output, or a host and port
+abbrev pub IsAir : List ℕ → Type 0
+IsAir air = (air ≡ codes "-") ⊎ IsHostPort air
+
+-- the options of `session`
+abbrev pub session_options : List (List ℕ)
+session_options = codes "moment" ∷ codes "blocks" ∷ codes "polls" ∷ []
+
+-- no value is given, or one that writes this number of the range
+abbrev pub GivesNumber : ℕ → ℕ → List (List ℕ) → Option ℕ → Type 0
+GivesNumber low high values None = values ≡ []
+GivesNumber low high values (Some number) = (text : List ℕ) × (values ≡ text ∷ []) × NumberText low high text number
+
+-- The words after `session` are CALLER and at most one value for each option, in any order.
+pub record SessionText (others : List (List ℕ)) (caller : CallSign) (moment blocks polls : Option ℕ) : Type 0 where
+  pub reading : Reading session_options others
+  pub call_text : List ℕ
+  pub place : places_of reading ≡ call_text ∷ []
+  pub call : CallText caller call_text
+  pub moment_given : GivesNumber 0 4294967295 (values_of reading (codes "moment")) moment
+  pub blocks_given : GivesNumber 1 65536 (values_of reading (codes "blocks")) blocks
+  pub polls_given : GivesNumber 1 18446744073709551615 (values_of reading (codes "polls")) polls
+
+-- The words are `DISK AIR session` and such words.
+pub record SessionWords (words : List (List ℕ)) (disk air : List ℕ) (caller : CallSign) (moment blocks polls : Option ℕ) : Type 0 where
+  pub others : List (List ℕ)
+  pub written : words ≡ disk ∷ air ∷ codes "session" ∷ others
+  pub air_form : IsAir air
+  pub text : SessionText others caller moment blocks polls
+
+-- The words are `DISK AIR frames NAME`.
+pub record IsFrames (words : List (List ℕ)) (name : List ℕ) : Type 0 where
+  pub disk : List ℕ
+  pub air : List ℕ
+  pub others : List (List ℕ)
+  pub written : words ≡ disk ∷ air ∷ codes "frames" ∷ others
+  pub air_form : (air ≡ codes "none") ⊎ IsAir air
+  pub reading : Reading [] others
+  pub place : places_of reading ≡ name ∷ []
+
+-- The words ask for the session of this caller, over standard input and output and with a store in memory.
+abbrev pub IsSession : List (List ℕ) → CallSign → Option ℕ → Type 0
+IsSession words caller moment = SessionWords words (codes "none") (codes "-") caller moment None None
+
+-- the words name a command that isn't built yet, with whatever other words
+pub record IsOther (words : List (List ℕ)) : Type 0 where
+  pub disk : List ℕ
+  pub air : List ℕ
+  pub command : List ℕ
+  pub others : List (List ℕ)
+  pub written : words ≡ disk ∷ air ∷ command ∷ others
+  pub unbuilt : Contains unbuilt_commands command
+
+-- the words are a session's in the command set
+pub record IsSomeSession (words : List (List ℕ)) : Type 0 where
+  pub disk : List ℕ
+  pub air : List ℕ
+  pub caller : CallSign
+  pub moment : Option ℕ
+  pub blocks : Option ℕ
+  pub polls : Option ℕ
+  pub session : SessionWords words disk air caller moment blocks polls
+
+-- the session has a disk, an air that is a host and port, a number of blocks or of polls: none of these is built yet
+abbrev pub IsBeyond : {words : List (List ℕ)} → IsSomeSession words → Type 0
+IsBeyond session = (session.disk ≢ codes "none") ⊎ (IsHostPort session.air ⊎ (IsSome session.blocks ⊎ IsSome session.polls))
+
+-- the words are such a session's
+abbrev pub BeyondSession : List (List ℕ) → Type 0
+BeyondSession words = (session : IsSomeSession words) × IsBeyond session
+
+-- The words are in the command set. As long as a command isn't built, all of its words are taken to be.
+abbrev pub InSet : List (List ℕ) → Type 0
+InSet words = IsOther words ⊎ (IsSomeSession words ⊎ ((name : List ℕ) × IsFrames words name))
+
+-- the words aren't in the command set
+abbrev pub IsUsage : List (List ℕ) → Type 0
+IsUsage words = InSet words → ⊥
+
+-- the words are in the command set, and ask for what isn't built yet
+abbrev pub IsUnbuilt : List (List ℕ) → Type 0
+IsUnbuilt words = IsOther words ⊎ BeyondSession words
+
+-- the words name a command that is built
+abbrev pub NamesBuilt : List (List ℕ) → Type 0
+NamesBuilt words =
+    (disk air : List ℕ) × (others : List (List ℕ))
+    × ((words ≡ disk ∷ air ∷ codes "session" ∷ others) ⊎ (words ≡ disk ∷ air ∷ codes "frames" ∷ others))

@@ -1,0 +1,12 @@
+//! Laws of the definitions, each the contract of a function that does nothing.
+
+ghost use Rattle.std.specs.Prelude.{ℕ, List};
+ghost use Rattle.command_words.specs.Laws.{Determined, HasMeaning, OnlyOne};
+
+/// Each list of words has exactly one meaning: it isn't in the command set, it asks for what isn't built yet, for one
+/// session, or for the frames of one name.
+pub fn one_meaning()
+    ensures some { HasMeaning }
+    ensures only_one { (words : List (List ℕ)) → OnlyOne words }
+    ensures determined { (words : List (List ℕ)) → Determined words }
+{}

@@ -1,0 +1,17 @@
+//! The program's words, `DISK AIR COMMAND` and the words after it: the first three are read by place, and the others with
+//! `clap`.
+//!
+//! `specs/Words.antt` is the command set, as far as it is built, `specs/Grammar.antt` the grammar of the words after
+//! COMMAND, and `specs/Numbers.antt` that of numbers.
+#![tactic(auto)]
+
+mod air;
+pub mod laws;
+mod line;
+mod number;
+mod request;
+
+pub use request::{Refusal, Request, SessionRequest, read};
+
+#[cfg(test)]
+mod tests;

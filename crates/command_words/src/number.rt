@@ -1,0 +1,46 @@
+//! Numbers among the words.
+
+ghost use Rattle.std.specs.Prelude.{◌≡◌, ℕ, ◌+◌, ◌-◌, ◌*◌, ◌<◌, ◌≤◌, ◌^◌, IfNone, IfSome, SomeIff};
+ghost use Rattle.std.specs.List.{AllByRecursion};
+ghost use Rattle.command_words.specs.Numbers.{IsDigit, NumberText, number_after as digits_after};
+
+/// The number of this range that one to twenty decimal digits write.
+pub(crate) fn read_number(low: u64, high: u64, text: &str) -> Option<u64>
+    ensures some { IfSome result (λ number. NumberText low high text.now number) }
+    ensures none { IfNone result ((number : ℕ) → NumberText low high text.now number → ⊥) }
+{
+    if text.is_empty() || text.len() > 20 {
+        return None;
+    }
+    let number = number_after(0, text.as_bytes())?;
+    if number < low || high < number {
+        return None;
+    }
+    Some(number)
+}
+
+/// The number that these digits write after those of a number before them, where it is below 2^64.
+fn number_after(before: u64, digits: &[u8]) -> Option<u64>
+    ensures some { IfSome result (λ number. AllByRecursion IsDigit digits.now × (number ≡ digits_after before digits.now)) }
+    ensures none { IfNone result (AllByRecursion IsDigit digits.now → 2 ^ 64 ≤ digits_after before digits.now) }
+{
+    let mut number = before;
+    for digit in digits {
+        if !digit.is_ascii_digit() {
+            return None;
+        }
+        let Some(more) = with_digit(number, *digit) else {
+            return None;
+        };
+        number = more;
+    }
+    Some(number)
+}
+
+/// The number with one more decimal digit, where it is below 2^64.
+fn with_digit(number: u64, digit: u8) -> Option<u64>
+    requires { IsDigit digit }
+    ensures { SomeIff result (10 * number + (digit - 48) < 2 ^ 64) (10 * number + (digit - 48)) }
+{
+    number.checked_mul(10)?.checked_add(u64::from(digit - b'0'))
+}

@@ -1,0 +1,202 @@
+//! What the words ask for.
+
+ghost use Rattle.std.specs.Prelude.{◌≡◌, ◌<◌, ◌^◌, ◌∷◌, ℕ, List, Option, IfNone, IfOk, IfSome, IsErrOf, codes, drop, map, option_copied, option_to_list, string_bytes};
+ghost use Rattle.std.specs.List.{list_any};
+ghost use Rattle.std.specs.Str.{bytes_eq};
+ghost use Rattle.px_base.specs.CallSign.{CallSign};
+ghost use Rattle.command_words.specs.Asked.{AsksFor};
+ghost use Rattle.command_words.specs.Words.{BeyondSession, GivesNumber, IsFrames, IsSomeSession, IsUnbuilt, IsUsage, NamesBuilt, SessionText, unbuilt_commands};
+
+use crate::air::{AirWord, read_air};
+use crate::line;
+use crate::number::read_number;
+use px_base::Call;
+use std::alloc::Global;
+use thiserror::Error;
+
+/// The last moment that can be told, in seconds since 1 January 1970.
+const LAST_MOMENT: u64 = 4_294_967_295;
+
+/// How many blocks of 512 octets a store may have at most.
+const MOST_BLOCKS: u64 = 65_536;
+
+/// The session that the words ask for, over standard input and output, with a store in memory.
+#[derive(Clone, Copy, Debug, PartialEq, Eq)]
+pub struct SessionRequest {
+    /// Whose session it is.
+    pub caller: Call,
+    /// Its moment, in seconds since 1 January 1970, where the words give one.
+    pub moment: Option<u32>,
+}
+
+/// What the words ask for.
+#[derive(Clone, Copy, Debug, PartialEq, Eq)]
+pub enum Request<'a> {
+    /// A session.
+    Session(SessionRequest),
+    /// The frames in a file of the shelf.
+    Frames {
+        /// The file's name.
+        name: &'a str,
+    },
+}
+
+/// Why the words ask for nothing.
+#[derive(Clone, Copy, Debug, PartialEq, Eq, Error)]
+pub enum Refusal {
+    /// They aren't in the command set.
+    #[error("the words are not in the command set")]
+    Usage,
+    /// They are in the command set, and ask for what isn't built yet.
+    #[error("the words ask for what is not built yet")]
+    NotBuilt,
+    /// There was no memory to read them.
+    #[error("out of memory")]
+    OutOfMemory,
+}
+
+/// What the words after `session` give.
+#[derive(Clone, Copy)]
+struct SessionAsked {
+    caller: Call,
+    moment: Option<u64>,
+    block_count: Option<u64>,
+    poll_count: Option<u64>,
+}
+
+/// Reads the program's words, `DISK AIR COMMAND` and those after it: what they ask for, or the refusal. They aren't in
+/// the command set exactly where the answer is `Usage`, and ask for what isn't built yet exactly where it is `NotBuilt`,
+/// but for want of memory (`OutOfMemory`); [`laws::one_meaning`](crate::laws::one_meaning) turns the clauses round.
+/// Takes memory where COMMAND is `session` or `frames`.
+pub fn read(alloc: Global, words: &[String]) -> Result<Request<'_>, Refusal>
+    ensures asks { IfOk result (AsksFor (map string_bytes words.now)) }
+    ensures usage { IsErrOf result Refusal.Usage → IsUsage (map string_bytes words.now) }
+    ensures unbuilt { IsErrOf result Refusal.NotBuilt → IsUnbuilt (map string_bytes words.now) }
+    ensures memory { IsErrOf result Refusal.OutOfMemory → NamesBuilt (map string_bytes words.now) }
+{
+    let [disk, air, command, ..] = words else {
+        return Err(Refusal::Usage);
+    };
+    let line = &words[2..];
+    if command.as_str() == "session" {
+        return session_request(alloc, disk.as_str(), air.as_str(), line);
+    }
+    if command.as_str() == "frames" {
+        return frames_request(alloc, air.as_str(), line);
+    }
+    if is_unbuilt(command.as_str()) {
+        return Err(Refusal::NotBuilt);
+    }
+    Err(Refusal::Usage)
+}
+
+/// Whether this is one of the commands that aren't built yet.
+fn is_unbuilt(word: &str) -> bool
+    ensures { result ≡ list_any (bytes_eq word.now) unbuilt_commands }
+{
+    word == "serve"
+        || word == "send"
+        || word == "fetch"
+        || word == "list"
+        || word == "pfh-check"
+        || word == "pfh-show"
+        || word == "pfh-make"
+        || word == "rehearse"
+}
+
+/// Reads the words of a session: DISK, AIR and the line from `session` on.
+fn session_request<'a>(
+    alloc: Global,
+    disk: &str,
+    air: &str,
+    line: &'a [String],
+) -> Result<Request<'a>, Refusal>
+    ensures asks { IfOk result (AsksFor (disk.now ∷ air.now ∷ codes "session" ∷ drop 1 (map string_bytes line.now))) }
+    ensures usage { IsErrOf result Refusal.Usage →
+        IsSomeSession (disk.now ∷ air.now ∷ codes "session" ∷ drop 1 (map string_bytes line.now)) → ⊥ }
+    ensures unbuilt { IsErrOf result Refusal.NotBuilt →
+        BeyondSession (disk.now ∷ air.now ∷ codes "session" ∷ drop 1 (map string_bytes line.now)) }
+{
+    let Some(air) = read_air(air) else {
+        return Err(Refusal::Usage);
+    };
+    if air == AirWord::Nothing {
+        return Err(Refusal::Usage);
+    }
+    let asked = read_texts(alloc, line)?;
+    if disk != "none"
+        || air == AirWord::HostPort
+        || asked.block_count.is_some()
+        || asked.poll_count.is_some()
+    {
+        return Err(Refusal::NotBuilt);
+    }
+    Ok(Request::Session(SessionRequest {
+        caller: asked.caller,
+        moment: seconds(asked.moment),
+    }))
+}
+
+/// Reads the line from `session` on. Takes memory.
+fn read_texts(alloc: Global, line: &[String]) -> Result<SessionAsked, Refusal>
+    ensures text { IfOk result (λ asked. SessionText (drop 1 (map string_bytes line.now)) asked.caller asked.moment
+        asked.block_count asked.poll_count) }
+    ensures usage { IsErrOf result Refusal.Usage → (caller : CallSign) (moment blocks polls : Option ℕ) →
+        SessionText (drop 1 (map string_bytes line.now)) caller moment blocks polls → ⊥ }
+    ensures built { IsErrOf result Refusal.NotBuilt → ⊥ }
+{
+    let texts = line::read_session(alloc, line)?;
+    let Ok(caller) = Call::read(texts.caller) else {
+        return Err(Refusal::Usage);
+    };
+    let Some(moment) = optional_number(0, LAST_MOMENT, texts.moment) else {
+        return Err(Refusal::Usage);
+    };
+    let Some(block_count) = optional_number(1, MOST_BLOCKS, texts.blocks) else {
+        return Err(Refusal::Usage);
+    };
+    let Some(poll_count) = optional_number(1, u64::MAX, texts.polls) else {
+        return Err(Refusal::Usage);
+    };
+    Ok(SessionAsked {
+        caller,
+        moment,
+        block_count,
+        poll_count,
+    })
+}
+
+/// The number of this range that an option's value writes, where it is given; or nothing where a value writes none.
+fn optional_number(low: u64, high: u64, value: Option<&str>) -> Option<Option<u64>>
+    ensures some { IfSome result (λ number. GivesNumber low high (option_to_list (option_copied value.entry)) number) }
+    ensures none { IfNone result ((number : Option ℕ) →
+        GivesNumber low high (option_to_list (option_copied value.entry)) number → ⊥) }
+{
+    match value {
+        Some(text) => read_number(low, high, text).map(Some),
+        None => Some(None),
+    }
+}
+
+/// A moment in its own type.
+fn seconds(moment: Option<u64>) -> Option<u32>
+    requires { IfSome moment (λ seconds. seconds < 2 ^ 32) }
+    ensures { result ≡ moment }
+{
+    moment.map(|seconds| seconds as u32)
+}
+
+/// Reads the words of `frames`: AIR and the line from `frames` on.
+fn frames_request<'a>(alloc: Global, air: &str, line: &'a [String]) -> Result<Request<'a>, Refusal>
+    ensures asks { IfOk result (λ request. (disk : List ℕ) →
+        AsksFor (disk ∷ air.now ∷ codes "frames" ∷ drop 1 (map string_bytes line.now)) request) }
+    ensures usage { IsErrOf result Refusal.Usage → (disk name : List ℕ) →
+        IsFrames (disk ∷ air.now ∷ codes "frames" ∷ drop 1 (map string_bytes line.now)) name → ⊥ }
+    ensures built { IsErrOf result Refusal.NotBuilt → ⊥ }
+{
+    if read_air(air).is_none() {
+        return Err(Refusal::Usage);
+    }
+    let name = line::read_frames(alloc, line)?;
+    Ok(Request::Frames { name })
+}
