@@ -2,21 +2,28 @@
 #![tactic(auto)]
 
 use pacsat_cli::{Status, Words, end_with, run};
-use px_base::{StdAir, StdOut};
+use px_base::{FolderShelf, Out, StdAir, StdOut, SystemClock};
 use std::env;
 use std::io::ErrorKind;
 use std::process::ExitCode;
 
 fn main(rt: HostRuntime) -> ExitCode {
-    let mut air = StdAir::new(rt.stdin(), rt.stdout());
     let status = match words(&rt) {
         Ok(words) if words.get(1) == Some("-") => {
-            run(rt.alloc(), &words, &mut air, &mut StdOut::new(rt.stderr()))
+            play(&rt, &words, &mut StdOut::new(rt.stderr()))
         }
-        Ok(words) => run(rt.alloc(), &words, &mut air, &mut StdOut::new(rt.stdout())),
+        Ok(words) => play(&rt, &words, &mut StdOut::new(rt.stdout())),
         Err(status) => end_with(status, &mut StdOut::new(rt.stderr())),
     };
     ExitCode::from(status.number())
+}
+
+/// Does what the words ask for, over standard input and output, the working folder, this output and the system's clock.
+fn play<O: Out>(rt: &HostRuntime, words: &Words, out: &mut O) -> Status {
+    let mut air = StdAir::new(rt.stdin(), rt.stdout());
+    let mut shelf = FolderShelf::new(rt);
+    let mut clock = SystemClock::new(rt);
+    run(rt.alloc(), words, &mut air, &mut shelf, out, &mut clock)
 }
 
 /// The words after the program's name. Words that aren't UTF-8 are no command.

@@ -1,5 +1,5 @@
-pub mod Digits
-pub mod Forms
+pub mod EventLemmas
+pub mod FramesEnds
 pub mod Hearing
 pub mod Invariants
 pub mod Listening

@@ -1,145 +1,162 @@
 -- How the turns of a node make a session that ran.
-use Rattle.std.proofs.Common.{◌≡◌, ℕ, suc, ◌≤◌, List, [], ◌∷◌, ◌++◌, length, refl, ap, sym, subst, ◌∙◌, append_assoc, arith, inl, inr}
-use Rattle.std.specs.Prelude.{IsTrue, Option, Result, Ok, Err}
+use Rattle.std.proofs.Common.{◌≡◌, ℕ, ◌≤◌, max, List, [], ◌∷◌, ◌++◌, length, refl, ap, sym, subst, ◌∙◌, append_assoc, arith, inl, inr, Bool, true, false}
+use Rattle.std.specs.Prelude.{Option, Result, Ok, Err}
 use Rattle.px_base.specs.CallSign.{CallSign}
 use Rattle.px_base.specs.declared.air.Turn.{Turn}
-use Rattle.px_base.specs.Polling.{octets_heard, octets_of_turn}
-use Rattle.ftl0_packets.specs.Layout.{Item, IsOctets, packet_text}
+use Rattle.ftl0_packets.specs.Layout.{packet_text}
 use Rattle.ftl0_packets.specs.Laws.{IsReadAsStream}
 use Rattle.ftl0_packets.specs.Reading.{packets_of, rest_of}
+use Rattle.ftl0_packets.specs.Stream.{IsPartial}
 use Rattle.file_store.specs.Store.{Store, empty_store}
 use Rattle.pacsat_cli.specs.declared.node.NodeStop.{NodeStop}
 use Rattle.pacsat_cli.specs.declared.node.NodeStop.TheVariants as stop
 use Rattle.pacsat_cli.specs.declared.node.Served.{Served}
-use Rattle.pacsat_cli.specs.declared.status.Status.TheVariants.{AirWrite, OutOfMemory}
-use Rattle.pacsat_cli.specs.Node.{HearsAll, IsFront, IsPromptStop, Listened, Point, SaidAll, stops_from, text_from}
+use Rattle.pacsat_cli.specs.declared.status.Status.{Status}
+use Rattle.pacsat_cli.specs.declared.status.Status.TheVariants.{AirRead, AirWrite, Done, NotBuilt, OutOfMemory, Spent}
+use Rattle.pacsat_cli.specs.Events.{Brings, Event, at_moment}
+use Rattle.pacsat_cli.specs.Node.{HearsAll, IsFront, Listened, Point, StopsIn, TurnsRan, events_at, with_turn}
 use Rattle.pacsat_cli.specs.Run.{Ends, IsPrompt, SessionRan, is_stopped, session_stops, session_text}
-use Rattle.pacsat_cli.specs.Session.{State, command, greeting}
+use Rattle.pacsat_cli.specs.Session.{State, command, greeting, replies_to, texts}
 use Rattle.pacsat_cli.specs.Stops.{status_of}
-use Rattle.pacsat_cli.proofs.Listening.{octets_at, octets_heard-append}
-
--- what is said to octets is the text of the session for their packets, after the greeting
-pub text_from-session : (caller : CallSign) (moment blocks : ℕ) (octets : List ℕ) → packet_text (greeting moment) ++ text_from caller moment (empty_store blocks) command octets ≡ session_text caller moment blocks (packets_of octets)
-unfolding text_from
-text_from-session caller moment blocks octets = refl
-
-pub stops_from-session : (caller : CallSign) (moment blocks : ℕ) (octets : List ℕ) → stops_from caller moment (empty_store blocks) command octets ≡ session_stops caller moment blocks (packets_of octets)
-unfolding stops_from
-stops_from-session caller moment blocks octets = refl
+use Rattle.pacsat_cli.proofs.EventLemmas.{brings-more, brings-stream, brings-turn, stream-partial}
+use Rattle.pacsat_cli.proofs.NodeLemmas.{at_moment-append, runs-all, runs-built, runs-said, runs-stops}
 
 -- the point where a session starts
 abbrev pub start_of : ℕ → Point
-start_of blocks = record { store = empty_store blocks; state = command; reader = []; piece = [] }
+start_of blocks = record { store = empty_store blocks; state = command; octets = [] }
 
--- all was said, with the greeting before it
-pub said-session : (caller : CallSign) (moment blocks : ℕ) (octets text : List ℕ) → SaidAll caller moment (start_of blocks) octets text → packet_text (greeting moment) ++ text ≡ session_text caller moment blocks (packets_of octets)
-said-session caller moment blocks octets text h =
-    ap (λ t. packet_text (greeting moment) ++ t) h.said ∙ text_from-session caller moment blocks octets
+-- no octets are less than a whole packet
+pub nothing-partial : IsReadAsStream → IsPartial []
+unfolding rest_of
+nothing-partial law = stream-partial [] (packets_of []) (rest_of []) (law [] (λ i. omega arith))
 
--- a front of it was said, with the greeting before it
-pub front-session : (caller : CallSign) (moment blocks : ℕ) (octets text : List ℕ) → IsFront text (text_from caller moment (empty_store blocks) command octets) → IsFront (packet_text (greeting moment) ++ text) (session_text caller moment blocks (packets_of octets))
-front-session caller moment blocks octets text h =
-    (h.0, sym (text_from-session caller moment blocks octets) ∙ ap (λ t. packet_text (greeting moment) ++ t) h.1 ∙ sym (append_assoc (packet_text (greeting moment)) text h.0))
+module _ (none : IsPartial []) (caller : CallSign) (first : ℕ) (later : List ℕ) (blocks polls : ℕ) (turns : List Turn) (text : List ℕ) (one_each : length (first ∷ later) ≡ max 1 (length turns)) (few : length turns ≤ polls) where
+  -- all that the turns brought was taken, and each row was built
+  all_ran : (status : Status) (now : Point) (ran : TurnsRan caller (first ∷ later) (start_of blocks) now turns text) → (is_stopped status ≡ true → ⊥) → (status ≡ OutOfMemory → ⊥) → ((unbuilt : Bool) (all : List ℕ) → unbuilt ≡ false → packet_text (greeting first) ++ text ≡ all → Ends status polls turns unbuilt (packet_text (greeting first) ++ text) all) → SessionRan caller (first ∷ later) blocks polls turns (packet_text (greeting first) ++ text) status
+  all_ran status now ran not_stopped not_memory ends =
+      record {
+        one_each = one_each;
+        events = ran.events;
+        rest = now.octets;
+        brings = ran.brings;
+        stream = brings-stream [] turns (first ∷ later) ran.events now.octets none ran.brings;
+        bound = few;
+        ends =
+            ends (session_stops caller blocks ran.events) (session_text caller (first ∷ later) blocks ran.events)
+            (runs-built caller (empty_store blocks) command ran.events text now.store now.state ran.runs)
+            (ap (λ t. packet_text (greeting first) ++ t) (runs-all caller (empty_store blocks) command ran.events text now.store now.state ran.runs));
+        prompt = λ stopped. absurd (not_stopped stopped);
+        whole = λ memory. absurd (not_memory memory);
+      }
 
--- the turns ended so
-pub ends_from : (caller : CallSign) (moment blocks polls : ℕ) (turns : List Turn) (text : List ℕ) (result : Result Served NodeStop) → Listened caller moment polls (start_of blocks) turns text result → Ends (status_of result) polls turns (session_stops caller moment blocks (packets_of (octets_heard turns))) (packet_text (greeting moment) ++ text) (session_text caller moment blocks (packets_of (octets_heard turns)))
-ends_from caller moment blocks polls turns text (Ok served) h =
-    ((h.0, h.1, h.2), sym (stops_from-session caller moment blocks (octets_heard turns)) ∙ h.3.stops, said-session caller moment blocks (octets_heard turns) text h.3)
-ends_from caller moment blocks polls turns text (Err (stop.NotBuilt kind)) h =
-    (h.1, sym (stops_from-session caller moment blocks (octets_heard turns)) ∙ h.3, ap (λ t. packet_text (greeting moment) ++ t) h.2 ∙ text_from-session caller moment blocks (octets_heard turns))
-ends_from caller moment blocks polls turns text (Err stop.AirRead) h =
-    ((h.0, h.1, h.2), sym (stops_from-session caller moment blocks (octets_heard turns)) ∙ h.3.stops, said-session caller moment blocks (octets_heard turns) text h.3)
-ends_from caller moment blocks polls turns text (Err stop.AirWrite) h = (h.1, front-session caller moment blocks (octets_heard turns) text h.2)
-ends_from caller moment blocks polls turns text (Err stop.Spent) h =
-    (h.0, h.1, sym (stops_from-session caller moment blocks (octets_heard turns)) ∙ h.2.stops, said-session caller moment blocks (octets_heard turns) text h.2)
-ends_from caller moment blocks polls turns text (Err stop.OutOfMemory) h = h.1
+  module _ (why : NodeStop) (h : StopsIn caller (first ∷ later) (start_of blocks) turns text why) where
+    -- what the turns brought, the last one included
+    stopped_brings : Brings [] turns (first ∷ later) (h.ran.events ++ events_at h.moment (with_turn h.between h.last)) h.rest
+    stopped_brings =
+        let at_turns : List Turn → Type 0 = λ ts. Brings [] ts (first ∷ later) (h.ran.events ++ events_at h.moment (with_turn h.between h.last)) h.rest in
+        let at_moments : List ℕ → Type 0 = λ ms. Brings [] (h.earlier ++ h.last ∷ []) ms (h.ran.events ++ events_at h.moment (with_turn h.between h.last)) h.rest in
+        subst at_turns (sym h.all_turns)
+        (subst at_moments (sym h.all_moments)
+        (brings-turn [] h.earlier h.before h.ran.events h.between.octets h.last h.moment (packets_of (with_turn h.between h.last).octets) h.rest h.as_many h.ran.brings h.stream))
 
--- where there was no memory, all was said to the first packets, with the greeting before it
-whole_of : (caller : CallSign) (moment blocks polls : ℕ) (turns : List Turn) (text : List ℕ) (result : Result Served NodeStop) → Listened caller moment polls (start_of blocks) turns text result → status_of result ≡ OutOfMemory → (done : List Item) × (more : List Item) × (packets_of (octets_heard turns) ≡ done ++ more) × (packet_text (greeting moment) ++ text ≡ session_text caller moment blocks done)
-whole_of caller moment blocks polls turns text (Ok served) h e = absurd (cc)
-whole_of caller moment blocks polls turns text (Err (stop.NotBuilt kind)) h e = absurd (cc)
-whole_of caller moment blocks polls turns text (Err stop.AirRead) h e = absurd (cc)
-whole_of caller moment blocks polls turns text (Err stop.AirWrite) h e = absurd (cc)
-whole_of caller moment blocks polls turns text (Err stop.Spent) h e = absurd (cc)
-whole_of caller moment blocks polls turns text (Err stop.OutOfMemory) h e =
-    (h.2.0, h.2.1, h.2.2, ap (λ t. packet_text (greeting moment) ++ t) h.2.3)
+    -- what is said to these and to any others after those before the last turn
+    said_after : (more : List Event) → session_text caller (first ∷ later) blocks (h.ran.events ++ more) ≡ (packet_text (greeting first) ++ h.front) ++ texts (replies_to caller h.between.store h.between.state more)
+    said_after more =
+        ap (λ t. packet_text (greeting first) ++ t) (runs-said caller (empty_store blocks) command h.ran.events h.front h.between.store h.between.state more h.ran.runs)
+        ∙ sym (append_assoc (packet_text (greeting first)) h.front (texts (replies_to caller h.between.store h.between.state more)))
 
--- the front of octets is octets
-octets_front : (xs ys : List ℕ) → IsOctets (xs ++ ys) → IsOctets xs
-octets_front [] ys h = λ i. omega arith
-octets_front (x ∷ xs) ys h = λ i. octets_at x xs (h 0) (octets_front xs ys (λ j. h (suc j))) i
+    -- what was said, with the greeting before it
+    all_said : packet_text (greeting first) ++ text ≡ (packet_text (greeting first) ++ h.front) ++ h.more
+    all_said = ap (λ t. packet_text (greeting first) ++ t) h.said ∙ sym (append_assoc (packet_text (greeting first)) h.front h.more)
 
--- nothing was heard after what stopped the turns, with the greeting before it
-prompt_from : IsReadAsStream → (caller : CallSign) (moment blocks : ℕ) (turns : List Turn) (text : List ℕ) → IsOctets (octets_heard turns) → IsPromptStop caller moment (start_of blocks) turns text → IsPrompt caller moment blocks turns (packet_text (greeting moment) ++ text)
-prompt_from law caller moment blocks turns text octets h =
-    let is_octets : List ℕ → Type 0 = λ o. IsOctets o in
-    let both : octets_heard turns ≡ octets_heard h.0 ++ octets_of_turn h.1 = ap octets_heard h.3 ∙ octets_heard-append h.0 h.1 in
-    let earlier : IsOctets (octets_heard h.0) = octets_front (octets_heard h.0) (octets_of_turn h.1) (subst is_octets both octets) in
-    inr (
-      h.0,
-      h.1,
-      packets_of (octets_heard h.0),
-      rest_of (octets_heard h.0),
-      h.3,
-      law (octets_heard h.0) earlier,
-      sym (stops_from-session caller moment blocks (octets_heard h.0)) ∙ h.4.stops,
-      (
-        h.5.0,
-        ap (λ t. packet_text (greeting moment) ++ t) h.5.1 ∙ sym (append_assoc (packet_text (greeting moment)) h.2 h.5.0)
-            ∙ ap (λ t. t ++ h.5.0) (said-session caller moment blocks (octets_heard h.0) h.2 h.4),
-      ),
-    )
+    -- nothing was heard after the turn in which the session stopped
+    stopped_prompt : IsPrompt caller (first ∷ later) blocks turns (packet_text (greeting first) ++ text)
+    stopped_prompt =
+        let at_moments : List ℕ → Type 0 = λ ms. Brings [] h.earlier ms h.ran.events h.between.octets in
+        let all = runs-all caller (empty_store blocks) command h.ran.events h.front h.between.store h.between.state h.ran.runs in
+        inr (
+          h.earlier,
+          h.last,
+          h.ran.events,
+          h.between.octets,
+          h.all_turns,
+          subst at_moments (sym h.all_moments) (brings-more [] h.earlier h.before (h.moment ∷ []) h.ran.events h.between.octets h.ran.brings),
+          runs-built caller (empty_store blocks) command h.ran.events h.front h.between.store h.between.state h.ran.runs,
+          (h.more, all_said ∙ ap (λ t. (packet_text (greeting first) ++ t) ++ h.more) all),
+        )
 
--- the same, by how the turns ended
-prompt_of : IsReadAsStream → (caller : CallSign) (moment blocks polls : ℕ) (turns : List Turn) (text : List ℕ) (result : Result Served NodeStop) → IsOctets (octets_heard turns) → Listened caller moment polls (start_of blocks) turns text result → IsTrue (is_stopped (status_of result)) → IsPrompt caller moment blocks turns (packet_text (greeting moment) ++ text)
-prompt_of law caller moment blocks polls turns text (Ok served) octets h stopped = absurd (cc)
-prompt_of law caller moment blocks polls turns text (Err (stop.NotBuilt kind)) octets h stopped = prompt_from law caller moment blocks turns text octets h.0
-prompt_of law caller moment blocks polls turns text (Err stop.AirRead) octets h stopped = absurd (cc)
-prompt_of law caller moment blocks polls turns text (Err stop.AirWrite) octets h stopped = prompt_from law caller moment blocks turns text octets h.0
-prompt_of law caller moment blocks polls turns text (Err stop.Spent) octets h stopped = absurd (cc)
-prompt_of law caller moment blocks polls turns text (Err stop.OutOfMemory) octets h stopped = prompt_from law caller moment blocks turns text octets h.0
+    -- the session ran so, and stopped with this status
+    stopped_ran : (status : Status) → Ends status polls turns (session_stops caller blocks (h.ran.events ++ events_at h.moment (with_turn h.between h.last))) (packet_text (greeting first) ++ text) (session_text caller (first ∷ later) blocks (h.ran.events ++ events_at h.moment (with_turn h.between h.last))) → (status ≡ OutOfMemory → (done : List Event) × (more : List Event) × (h.ran.events ++ events_at h.moment (with_turn h.between h.last) ≡ done ++ more) × (packet_text (greeting first) ++ text ≡ session_text caller (first ∷ later) blocks done)) → SessionRan caller (first ∷ later) blocks polls turns (packet_text (greeting first) ++ text) status
+    stopped_ran status ends whole =
+        record {
+          one_each = one_each;
+          events = h.ran.events ++ events_at h.moment (with_turn h.between h.last);
+          rest = h.rest;
+          brings = stopped_brings;
+          stream = brings-stream [] turns (first ∷ later) (h.ran.events ++ events_at h.moment (with_turn h.between h.last)) h.rest none stopped_brings;
+          bound = few;
+          ends = ends;
+          prompt = λ _. stopped_prompt;
+          whole = whole;
+        }
 
--- the session ran so
-pub ran_from : IsReadAsStream → (caller : CallSign) (moment blocks polls : ℕ) (turns : List Turn) (text : List ℕ) (result : Result Served NodeStop) → IsOctets (octets_heard turns) → length turns ≤ polls → Listened caller moment polls (start_of blocks) turns text result → SessionRan caller moment blocks polls turns (packet_text (greeting moment) ++ text) (status_of result)
-ran_from law caller moment blocks polls turns text result octets few h =
-    record {
-      packets = packets_of (octets_heard turns);
-      rest = rest_of (octets_heard turns);
-      stream = law (octets_heard turns) octets;
-      bound = few;
-      ends = ends_from caller moment blocks polls turns text result h;
-      prompt = prompt_of law caller moment blocks polls turns text result octets h;
-      whole = whole_of caller moment blocks polls turns text result h;
-    }
+  -- the session ran so
+  pub ran_from : (now : Point) (result : Result Served NodeStop) → Listened caller polls (start_of blocks) now turns (first ∷ later) text result → SessionRan caller (first ∷ later) blocks polls turns (packet_text (greeting first) ++ text) (status_of result)
+  ran_from now (Ok served) h = all_ran Done now h.1 (λ e. cc) (λ e. cc) (λ unbuilt all built said. (h.0, built, said))
+  ran_from now (Err stop.AirRead) h = all_ran AirRead now h.1 (λ e. cc) (λ e. cc) (λ unbuilt all built said. (h.0, built, said))
+  ran_from now (Err stop.Spent) h = all_ran Spent now h.2 (λ e. cc) (λ e. cc) (λ unbuilt all built said. (h.0, h.1, built, said))
+  ran_from now (Err (stop.NotBuilt kind)) h =
+      let last = events_at h.moment (with_turn h.between h.last) in
+      stopped_ran (stop.NotBuilt kind) h NotBuilt (
+        h.all_open,
+        runs-stops caller (empty_store blocks) command h.ran.events h.front h.between.store h.between.state last h.ran.runs ∙ h.stops.1,
+        all_said (stop.NotBuilt kind) h ∙ ap (λ t. (packet_text (greeting first) ++ h.front) ++ t) h.stops.0 ∙ sym (said_after (stop.NotBuilt kind) h last),
+      )
+      (λ memory. absurd (cc))
+  ran_from now (Err stop.AirWrite) h =
+      let last = events_at h.moment (with_turn h.between h.last) in
+      stopped_ran stop.AirWrite h AirWrite (
+        h.all_open,
+        (
+          h.stops.0,
+          said_after stop.AirWrite h last ∙ ap (λ t. (packet_text (greeting first) ++ h.front) ++ t) h.stops.1
+              ∙ sym (append_assoc (packet_text (greeting first) ++ h.front) h.more h.stops.0) ∙ ap (λ t. t ++ h.stops.0) (sym (all_said stop.AirWrite h)),
+        ),
+      )
+      (λ memory. absurd (cc))
+  ran_from now (Err stop.OutOfMemory) h =
+      stopped_ran stop.OutOfMemory h OutOfMemory h.all_open
+      (λ _. (
+        h.ran.events ++ at_moment h.moment h.stops.0,
+        at_moment h.moment h.stops.1,
+        ap (λ items. h.ran.events ++ at_moment h.moment items) h.stops.2 ∙ ap (λ events. h.ran.events ++ events) (at_moment-append h.moment h.stops.0 h.stops.1)
+            ∙ sym (append_assoc h.ran.events (at_moment h.moment h.stops.0) (at_moment h.moment h.stops.1)),
+        all_said stop.OutOfMemory h ∙ ap (λ t. (packet_text (greeting first) ++ h.front) ++ t) h.stops.3 ∙ sym (said_after stop.OutOfMemory h (at_moment h.moment h.stops.0)),
+      ))
 
 -- saying the greeting failed
-pub ran_greeting : IsReadAsStream → (caller : CallSign) (moment blocks polls : ℕ) (text : List ℕ) → IsFront text (packet_text (greeting moment)) → SessionRan caller moment blocks polls [] text AirWrite
-ran_greeting law caller moment blocks polls text front =
+pub ran_greeting : IsPartial [] → (caller : CallSign) (first blocks polls : ℕ) (text : List ℕ) → IsFront text (packet_text (greeting first)) → SessionRan caller (first ∷ []) blocks polls [] text AirWrite
+ran_greeting none caller first blocks polls text front =
     record {
-      packets = packets_of [];
-      rest = rest_of [];
-      stream = law [] (λ i. omega arith);
+      one_each = refl;
+      events = [];
+      rest = [];
+      brings = (refl, refl);
+      stream = (refl, none);
       bound = omega arith;
-      ends = (
-        tt,
-        (
-          front.0 ++ text_from caller moment (empty_store blocks) command [],
-          sym (text_from-session caller moment blocks []) ∙ ap (λ t. t ++ text_from caller moment (empty_store blocks) command []) front.1
-              ∙ append_assoc text front.0 (text_from caller moment (empty_store blocks) command []),
-        ),
-      );
+      ends = (tt, (front.0 ++ [], ap (λ t. t ++ []) front.1 ∙ append_assoc text front.0 []));
       prompt = λ _. inl refl;
       whole = λ e. absurd (cc);
     }
 
 -- the same turns from a point that is the start
-pub listened-at : (caller other : CallSign) (moment polls blocks : ℕ) (store : Store) (state : State) (turns : List Turn) (text : List ℕ) (result : Result Served NodeStop) → other ≡ caller → store ≡ empty_store blocks → state ≡ command → Listened other moment polls (record { store = store; state = state; reader = []; piece = [] }) turns text result → Listened caller moment polls (start_of blocks) turns text result
-listened-at caller other moment polls blocks store state turns text result same_caller same_store same_state h =
-    let at_caller : CallSign → Type 0 = λ call. Listened call moment polls (record { store = store; state = state; reader = []; piece = [] }) turns text result in
-    let at_store : Store → Type 0 = λ s. Listened caller moment polls (record { store = s; state = state; reader = []; piece = [] }) turns text result in
-    let at_state : State → Type 0 = λ s. Listened caller moment polls (record { store = empty_store blocks; state = s; reader = []; piece = [] }) turns text result in
+pub listened-at : (caller other : CallSign) (polls blocks : ℕ) (store : Store) (state : State) (now : Point) (turns : List Turn) (moments text : List ℕ) (result : Result Served NodeStop) → other ≡ caller → store ≡ empty_store blocks → state ≡ command → Listened other polls (record { store = store; state = state; octets = [] }) now turns moments text result → Listened caller polls (start_of blocks) now turns moments text result
+listened-at caller other polls blocks store state now turns moments text result same_caller same_store same_state h =
+    let at_caller : CallSign → Type 0 = λ call. Listened call polls (record { store = store; state = state; octets = [] }) now turns moments text result in
+    let at_store : Store → Type 0 = λ s. Listened caller polls (record { store = s; state = state; octets = [] }) now turns moments text result in
+    let at_state : State → Type 0 = λ s. Listened caller polls (record { store = empty_store blocks; state = s; octets = [] }) now turns moments text result in
     subst at_state same_state (subst at_store same_store (subst at_caller same_caller h))
 
--- where nothing was heard before the turns, all that was heard are these
+-- where nothing was heard before the turns, all that were heard are these
 pub hears-after : (before mid now : Option (List Turn)) (turns : List Turn) → mid ≡ before → HearsAll mid now turns → HearsAll before now turns
 hears-after before mid now turns same h = let P : Option (List Turn) → Type 0 = λ x. HearsAll x now turns in subst P same h

@@ -14,7 +14,7 @@ use Rattle.ftl0_packets.specs.declared.packet.Packet.TheVariants as packet
 use Rattle.file_store.specs.Answers.{Tells}
 use Rattle.file_store.specs.declared.refusals.BeginRefusal.{BeginRefusal}
 use Rattle.file_store.specs.declared.refusals.BeginRefusal.TheVariants as refusal
-use Rattle.file_store.specs.Command.{can_begin, rest_of, whole_grows}
+use Rattle.file_store.specs.Command.{AreAllowed, begin, can_begin, rest_of, whole_grows}
 use Rattle.file_store.specs.Header.{fault_of}
 use Rattle.file_store.specs.Store.{Store, entry_of, octets_at}
 use Rattle.file_store.specs.Upload.{Holds, Upload}
@@ -27,6 +27,10 @@ use Rattle.pacsat_cli.specs.declared.session.SessionStop.TheVariants as stop
 pub row-begin : (caller : CallSign) (moment : ℕ) (store : Store) (len : ℕ) → can_begin store len ≡ true → session_row caller moment store command (Ok (upload_cmd 0 len)) ≡ Some (begin_row caller moment store len)
 unfolding session_row
 row-begin caller moment store len can = rw can refl
+
+-- whose command is allowed
+pub begin-allowed : (caller : CallSign) (moment : ℕ) (store : Store) (len : ℕ) → can_begin store len ≡ true → AreAllowed store (begin store.next caller len moment ∷ [])
+begin-allowed caller moment store len can = (rw (eq-eqb store.next store.next refl, can) refl, tt)
 
 -- and one that may not
 pub row-begin_not : (caller : CallSign) (moment : ℕ) (store : Store) (len : ℕ) → can_begin store len ≡ false → session_row caller moment store command (Ok (upload_cmd 0 len)) ≡ None
@@ -165,7 +169,7 @@ row-none caller moment store aborting (Err malformed) h = refl
 -- The answer to a packet whose row is error 1 or none.
 pub answers-error : (caller : CallSign) (moment : ℕ) (store : Store) (state : State) (item : Item) (kind : ℕ) (replies : List ℕ) (result : Result ⊤ SessionStop) → session_row caller moment store state item ≡ error_row state item → kind ≡ kind_of_item item → Refuses kind replies result → Answers caller moment store state item store state replies result
 answers-error caller moment store state item kind replies (Ok done) other same refused =
-    (record { state = state; commands = []; replies = ul_error_resp 1 ∷ [] }, other ∙ error-upload state item (ap is_upload_kind (sym same) ∙ refused.0), (refl, refl, refused.1))
+    (record { state = state; commands = []; replies = ul_error_resp 1 ∷ [] }, other ∙ error-upload state item (ap is_upload_kind (sym same) ∙ refused.0), ((tt, refl), refl, refused.1))
 answers-error caller moment store state item kind replies (Err (stop.NotBuilt k)) other same refused =
     (other ∙ error-other state item (ap is_upload_kind (sym same) ∙ refused.0), refused.1 ∙ same, (refl, refl, refused.2))
 answers-error caller moment store state item kind replies (Err stop.OutOfMemory) other same refused = absurd refused

@@ -1,5 +1,5 @@
 -- What one turn brings.
-use Rattle.std.proofs.Common.{◌≡◌, ℕ, List, [], ◌∷◌, sym, subst, take}
+use Rattle.std.proofs.Common.{◌≡◌, ℕ, List, [], ◌∷◌, ◌++◌, ap, append-nil, sym, subst, take}
 use Rattle.std.specs.Prelude.{Option, Ok, Err}
 use Rattle.px_base.specs.CallSign.{CallSign}
 use Rattle.px_base.specs.declared.air.Polled.{Polled}
@@ -7,15 +7,19 @@ use Rattle.px_base.specs.declared.air.Polled.TheVariants as polled
 use Rattle.px_base.specs.declared.air.Turn.{Turn}
 use Rattle.px_base.specs.declared.air.Turn.TheVariants as turn
 use Rattle.px_base.specs.Outside.{Gains}
-use Rattle.px_base.specs.Polling.{Hears, octets_of_turn, turn_of}
+use Rattle.px_base.specs.Polling.{Hears, turn_of}
 use Rattle.ftl0_packets.specs.Layout.{IsOctets}
+use Rattle.ftl0_packets.specs.Reading.{packets_of, rest_of}
+use Rattle.file_store.specs.Store.{Store}
 use Rattle.pacsat_cli.specs.declared.node.NodeStop.{NodeStop}
 use Rattle.pacsat_cli.specs.declared.node.NodeStop.TheVariants as stop
-use Rattle.pacsat_cli.proofs.NodeLemmas.{gains_none}
-use Rattle.pacsat_cli.specs.Node.{HearsAll, IsOpen, Point, Stops, TurnRuns, with_piece}
+use Rattle.pacsat_cli.specs.declared.session.Session.{Session}
+use Rattle.pacsat_cli.specs.Taking.{state_of}
+use Rattle.pacsat_cli.proofs.NodeLemmas.{gains_none, goes_on-waits}
+use Rattle.pacsat_cli.specs.Node.{GoesOn, HearsAll, IsOpen, Point, Stops, TurnRuns, point_of}
 
 -- a stop in a turn that left the air open
-pub turn_stops : (caller : CallSign) (moment : ℕ) (old new : Point) (next : Turn) (text : List ℕ) (why : NodeStop) → IsOpen next → Stops caller moment (with_piece old (octets_of_turn next)) text why → TurnRuns caller moment old new next text (Err why)
+pub turn_stops : (caller : CallSign) (moment : ℕ) (old new : Point) (next : Turn) (text : List ℕ) (why : NodeStop) → IsOpen next → Stops caller moment old text why → TurnRuns caller moment old new next text (Err why)
 turn_stops caller moment old new next text (stop.NotBuilt kind) is_open stops = (is_open, stops)
 turn_stops caller moment old new next text stop.AirWrite is_open stops = (is_open, stops)
 turn_stops caller moment old new next text stop.OutOfMemory is_open stops = (is_open, stops)
@@ -39,9 +43,14 @@ turn_heard said heard a m n answer count room piece R is h same_said same_piece 
       ran.2,
     )
 
--- a poll that brought nothing
-pub turn_quiet : {A : Type 0} (said : A → Option (List ℕ)) (heard : A → Option (List Turn)) (a m : A) (answer : Polled) (room : List ℕ) → answer ≡ polled.Quiet → Hears (heard a) (heard m) (turn_of (Ok answer) room) → said m ≡ said a → HearsAll (heard a) (heard m) (turn.Quiet ∷ []) × Gains (said a) (said m) []
-turn_quiet said heard a m answer room is h same_said =
-    let at_answer : Polled → Type 0 = λ p. Hears (heard a) (heard m) (turn_of (Ok p) room) in
+-- a poll that brought nothing, as its answer says
+pub turn_silent : {A : Type 0} (said : A → Option (List ℕ)) (heard : A → Option (List Turn)) (a m : A) (answer next : Turn) → answer ≡ next → Hears (heard a) (heard m) answer → said m ≡ said a → HearsAll (heard a) (heard m) (next ∷ []) × Gains (said a) (said m) []
+turn_silent said heard a m answer next is h same_said =
+    let at_answer : Turn → Type 0 = λ t. Hears (heard a) (heard m) t in
     let at_said : Option (List ℕ) → Type 0 = λ s. Gains (said a) s [] in
     (subst at_answer is h, subst at_said (sym same_said) (gains_none (said a)))
+
+-- without octets the session goes on as it was
+pub goes_on-silent : (caller : CallSign) (moment : ℕ) (store : Store) (session : Session) (octets : List ℕ) → GoesOn caller moment (point_of store session (octets ++ [])) (point_of store session octets) []
+goes_on-silent caller moment store session octets =
+    goes_on-waits caller moment store (state_of session.phase) (octets ++ []) octets (ap packets_of (append-nil octets)) (ap rest_of (append-nil octets))

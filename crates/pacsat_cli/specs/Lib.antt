@@ -1,9 +1,11 @@
 pub mod Asked
+pub mod Events
+pub mod Frames
 pub mod Laws
 pub mod Node
+pub mod Played
 pub mod Run
 pub mod Session
 pub mod Status
 pub mod Stops
 pub mod Taking
-pub mod Words

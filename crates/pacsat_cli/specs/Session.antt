@@ -1,10 +1,11 @@
--- The session of one caller (FTL0 1990, uploading): its states, its table row by row, and a run of it over packets.
+-- The session of one caller (FTL0 1990, uploading): its states, its table row by row, and a run of it over events.
 use Rattle.std.specs.Prelude.{ℕ, ◌+◌, ◌==◌, List, [], ◌∷◌, ◌++◌, length, flat_map, Bool, true, false, ◌&&◌, ◌||◌, if◌then◌else◌, Option, None, Some, Ok, Err}
 use Rattle.px_base.specs.CallSign.{CallSign}
 use Rattle.ftl0_packets.specs.Layout.{Item, PacketValue, data_part, data_end, kind_of, login_resp, packet_text, ul_ack_resp, ul_error_resp, ul_go_resp, ul_nak_resp, upload_cmd}
 use Rattle.file_store.specs.Command.{Command, begin, drop_entry, seal, after_all, can_begin, has_room, last_grow, passes, rest_of, whole_grows}
 use Rattle.file_store.specs.Header.{fault_of}
 use Rattle.file_store.specs.Store.{Entry, Store, entry_of, octets_at, octets_of}
+use Rattle.pacsat_cli.specs.Events.{Event}
 
 -- A session waits for a command; or receives the file of this number, of which these octets aren't held yet; or waits
 -- for the end of a file that it refused.
@@ -88,19 +89,19 @@ abbrev pub on_row : {X : Type 0} → Option Row → X → (Row → X) → X
 on_row None otherwise given = otherwise
 on_row (Some row) otherwise given = given row
 
--- The replies to these packets in order, up to the first one whose row isn't built.
-abbrev pub replies_to : CallSign → ℕ → Store → State → List Item → List PacketValue
-replies_to caller moment store state [] = []
-replies_to caller moment store state (item ∷ items) =
-    on_row (session_row caller moment store state item) []
-    (λ row. row.replies ++ replies_to caller moment (after_all store row.commands) row.state items)
+-- The replies to these events in order, up to the first one whose row isn't built.
+abbrev pub replies_to : CallSign → Store → State → List Event → List PacketValue
+replies_to caller store state [] = []
+replies_to caller store state (event ∷ events) =
+    on_row (session_row caller event.moment store state event.packet) []
+    (λ row. row.replies ++ replies_to caller (after_all store row.commands) row.state events)
 
--- whether one of these packets meets a row that isn't built
-abbrev pub meets_unbuilt : CallSign → ℕ → Store → State → List Item → Bool
-meets_unbuilt caller moment store state [] = false
-meets_unbuilt caller moment store state (item ∷ items) =
-    on_row (session_row caller moment store state item) true
-    (λ row. meets_unbuilt caller moment (after_all store row.commands) row.state items)
+-- whether one of these events meets a row that isn't built
+abbrev pub meets_unbuilt : CallSign → Store → State → List Event → Bool
+meets_unbuilt caller store state [] = false
+meets_unbuilt caller store state (event ∷ events) =
+    on_row (session_row caller event.moment store state event.packet) true
+    (λ row. meets_unbuilt caller (after_all store row.commands) row.state events)
 
 -- The reply to the connection (FTL0 1990, LOGIN_RESP): the moment; version 0, and file headers in use.
 abbrev pub greeting : ℕ → PacketValue

@@ -2,7 +2,7 @@
 use Rattle.std.specs.Prelude.{◌≡◌, ℕ, List, [], ◌∷◌, true, false, None, Some, Result, Ok, Err, ⊤}
 use Rattle.px_base.specs.CallSign.{CallSign}
 use Rattle.ftl0_packets.specs.Layout.{Item, ul_error_resp}
-use Rattle.file_store.specs.Command.{after_all}
+use Rattle.file_store.specs.Command.{DoesAll}
 use Rattle.file_store.specs.declared.refusals.BeginRefusal.{BeginRefusal}
 use Rattle.file_store.specs.declared.refusals.BeginRefusal.TheVariants as refusal
 use Rattle.file_store.specs.Store.{Store}
@@ -29,10 +29,10 @@ PhaseIsHeld store caller phase.Aborting = ⊤
 abbrev pub IsHeld : Store → Session → Type 0
 IsHeld store session = PhaseIsHeld store session.caller session.phase
 
--- what the row gives is the store, the state and the replies now
+-- what the row gives is the store, the state and the replies now; the condition of each of its commands held in its turn
 abbrev pub Gives : Store → Row → Store → State → List ℕ → Type 0
 Gives before row now next replies =
-    (now ≡ after_all before row.commands) × (next ≡ row.state) × (replies ≡ texts row.replies)
+    DoesAll before now row.commands × (next ≡ row.state) × (replies ≡ texts row.replies)
 
 -- nothing changed and nothing is replied
 abbrev pub GivesNothing : Store → State → Store → State → List ℕ → Type 0

@@ -1,9 +1,9 @@
 //! The program's one top call, `run`, and what it is made of: the words, the session of one caller, and its loop.
 #![tactic(auto)]
 
+mod frames;
 pub mod laws;
 mod node;
-mod request;
 mod session;
 mod status;
 mod top_call;

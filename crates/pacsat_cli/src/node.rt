@@ -1,13 +1,13 @@
 //! A node's loop over one session: octets in from the air, replies out to it.
 
-ghost use Rattle.std.specs.Prelude.{◌≡◌, ℕ, List, [], ◌∷◌, ◌++◌, ◌≤◌, ◌<◌, length, drop, IsTrue, IfOk, OnOk, OnErr, IsErrOf, MatchResult};
+ghost use Rattle.std.specs.Prelude.{◌≡◌, ℕ, List, [], ◌∷◌, ◌++◌, ◌≤◌, ◌<◌, length, drop, max, IsSome, IsTrue, IfOk, OnOk, OnErr, IsErrOf, MatchResult};
 ghost use Rattle.px_base.specs.declared.air.Turn.{Turn};
 ghost use Rattle.px_base.specs.Outside.{Gains, GainsPrefix, HasCause, Rose};
-ghost use Rattle.px_base.specs.Polling.{octets_heard, octets_of_turn};
+ghost use Rattle.px_base.specs.Polling.{octets_of_turn};
 ghost use Rattle.ftl0_packets.specs.Layout.{IsOctets};
-ghost use Rattle.ftl0_packets.specs.Reading.{is_whole, packets_of, read_item, under_way};
+ghost use Rattle.ftl0_packets.specs.Reading.{is_whole, packets_of, read_item, rest_of, under_way};
 ghost use Rattle.pacsat_cli.specs.Node.{AnswerSaid, GoesOn, HearsAll, Listened, Stops, TurnRuns, point_of};
-ghost use Rattle.pacsat_cli.specs.Run.{SessionRan};
+ghost use Rattle.pacsat_cli.specs.Run.{MomentsOf, SessionRan};
 ghost use Rattle.pacsat_cli.specs.Stops.{status_of};
 ghost use Rattle.pacsat_cli.specs.Taking.{IsHeld, state_of};
 
@@ -15,7 +15,7 @@ use crate::session::{Replies, Session, SessionStop};
 use file_store::{FileStore, Limits};
 use ftl0_packets::laws::stream_law;
 use ftl0_packets::{PacketFed, PacketReader};
-use px_base::{Air, AirDown, Call, Polled, ROOM};
+use px_base::{Air, AirDown, Call, Clock, Polled, ROOM};
 use std::alloc::Global;
 
 /// A node read the end of the air.
@@ -53,20 +53,24 @@ pub(crate) enum AirState {
 }
 
 /// One session over FTL0 octets without a link: LOGIN_RESP first, then the replies to each packet, up to the end of the
-/// air or `polls` polls. Its store is a fresh one in memory; places for a disk and a clock stand before and after `air`.
-/// Takes memory.
-pub(crate) fn session<A: Air>(
+/// air or `polls` polls. Each turn has the moment that is given, or takes one of the clock before its poll; the first
+/// turn's is taken before LOGIN_RESP, which has it. The store is a fresh one in memory; a place for a disk stands before
+/// `air`. Takes memory.
+pub(crate) fn session<A: Air, C: Clock>(
     alloc: Global,
     air: &mut A,
+    clock: &mut C,
     caller: Call,
-    moment: u32,
+    moment: Option<u32>,
     limits: Limits,
     polls: u64,
 ) -> Result<Served, NodeStop>
     requires some { 1 ≤ limits.blocks }
     requires most { limits.blocks ≤ 65536 }
-    ensures ran { (turns : List Turn) × (text : List ℕ) × HearsAll (A.heard air.old) (A.heard air.new) turns
-        × Gains (A.said air.old) (A.said air.new) text × SessionRan caller moment limits.blocks polls turns text (status_of result) }
+    ensures ran { (turns : List Turn) × (moments : List ℕ) × (text : List ℕ) × HearsAll (A.heard air.old) (A.heard air.new) turns
+        × MomentsOf moment (C.given clock.old) (C.given clock.new) moments
+        × Gains (A.said air.old) (A.said air.new) text × SessionRan caller moments limits.blocks polls turns text (status_of result) }
+    ensures clock { IsSome moment → clock.new ≡ clock.old }
     ensures air_read { IsErrOf result NodeStop.AirRead → Rose (A.read_faults air.old) (A.read_faults air.new) }
     ensures air_write { IsErrOf result NodeStop.AirWrite → Rose (A.write_faults air.old) (A.write_faults air.new) }
 {
@@ -74,10 +78,11 @@ pub(crate) fn session<A: Air>(
     stream_law();
     let mut store = FileStore::plain(alloc, limits);
     let mut replies = Replies::new();
-    let mut session = Session::new(caller, moment, &mut replies);
+    let first = moment_of(moment, clock);
+    let mut session = Session::new(caller, first, &mut replies);
     match air.put(replies.as_slice()) {
         Ok(()) => {
-            let ended = listen(air, &mut session, moment, &mut store, polls);
+            let ended = listen(air, clock, &mut session, first, moment, &mut store, polls);
             session.end(&mut store);
             ended
         }
@@ -88,26 +93,56 @@ pub(crate) fn session<A: Air>(
     }
 }
 
-/// Takes turns up to the end of the air.
-fn listen<A: Air>(
+/// The moment of a turn: the one that is given, or the clock's.
+fn moment_of<C: Clock>(given: Option<u32>, clock: &mut C) -> u32
+    ensures moment { MomentsOf given (C.given clock.old) (C.given clock.new) (result ∷ []) }
+    ensures clock { IsSome given → clock.new ≡ clock.old }
+{
+    match given {
+        Some(moment) => moment,
+        None => clock.now(),
+    }
+}
+
+/// The moment of this turn, counted from 0: the first one's was taken already.
+fn moment_of_turn<C: Clock>(turn: u64, first: u32, given: Option<u32>, clock: &mut C) -> u32
+    ensures first { turn ≡ 0 → (result ≡ first) × (clock.new ≡ clock.old) }
+    ensures later { 0 < turn → MomentsOf given (C.given clock.old) (C.given clock.new) (result ∷ []) }
+    ensures clock { IsSome given → clock.new ≡ clock.old }
+{
+    if turn == 0 {
+        return first;
+    }
+    moment_of(given, clock)
+}
+
+/// Takes turns up to the end of the air. The first turn's moment was taken already.
+fn listen<A: Air, C: Clock>(
     air: &mut A,
+    clock: &mut C,
     session: &mut Session,
-    moment: u32,
+    first: u32,
+    given: Option<u32>,
     store: &mut FileStore,
     polls: u64,
 ) -> Result<Served, NodeStop>
     requires { IsHeld store.old session.old }
     ensures held { IsHeld store.new session.new }
-    ensures listened { (turns : List Turn) × (text : List ℕ) × HearsAll (A.heard air.old) (A.heard air.new) turns
-        × Gains (A.said air.old) (A.said air.new) text × IsOctets (octets_heard turns) × (length turns ≤ polls)
-        × Listened session.old.caller moment polls (point_of store.old session.old [] []) turns text result }
+    ensures listened { (turns : List Turn) × (later : List ℕ) × (text : List ℕ) × (rest : List ℕ) × HearsAll (A.heard air.old) (A.heard air.new) turns
+        × MomentsOf given (C.given clock.old) (C.given clock.new) later × Gains (A.said air.old) (A.said air.new) text
+        × (length (first ∷ later) ≡ max 1 (length turns)) × (length turns ≤ polls)
+        × Listened session.old.caller polls (point_of store.old session.old []) (point_of store.new session.new rest) turns (first ∷ later) text result }
+    ensures clock { IsSome given → clock.new ≡ clock.old }
     ensures no_fewer_reads { A.read_faults air.old ≤ A.read_faults air.new }
     ensures no_fewer_writes { A.write_faults air.old ≤ A.write_faults air.new }
     ensures air_read { IsErrOf result NodeStop.AirRead → Rose (A.read_faults air.old) (A.read_faults air.new) }
     ensures air_write { IsErrOf result NodeStop.AirWrite → Rose (A.write_faults air.old) (A.write_faults air.new) }
 {
+    // Whatever is heard is a stream of packets.
+    stream_law();
     let mut reader = PacketReader::new();
     for turn in 0..polls {
+        let moment = moment_of_turn(turn, first, given, clock);
         match take_turn(air, &mut reader, session, moment, store) {
             Ok(AirState::Closed) => return Ok(Served { turns: turn + 1 }),
             Ok(AirState::Open) => {}
@@ -117,7 +152,7 @@ fn listen<A: Air>(
     Err(NodeStop::Spent)
 }
 
-/// Takes one turn: a poll, and the replies to the packets that it finishes.
+/// Takes one turn: a poll, and the replies to the packets that it finishes, all at this moment.
 fn take_turn<A: Air>(
     air: &mut A,
     reader: &mut PacketReader,
@@ -127,12 +162,14 @@ fn take_turn<A: Air>(
 ) -> Result<AirState, NodeStop>
     requires held { IsHeld store.old session.old }
     requires idle { packets_of (under_way reader.old) ≡ [] }
+    requires left { rest_of (under_way reader.old) ≡ under_way reader.old }
     ensures held { IsHeld store.new session.new }
     ensures idle { packets_of (under_way reader.new) ≡ [] }
+    ensures left { rest_of (under_way reader.new) ≡ under_way reader.new }
     ensures caller { session.new.caller ≡ session.old.caller }
     ensures turn { (turn : Turn) × (text : List ℕ) × HearsAll (A.heard air.old) (A.heard air.new) (turn ∷ [])
         × Gains (A.said air.old) (A.said air.new) text × IsOctets (octets_of_turn turn)
-        × TurnRuns session.old.caller moment (point_of store.old session.old reader.old []) (point_of store.new session.new reader.new []) turn text result }
+        × TurnRuns session.old.caller moment (point_of store.old session.old (under_way reader.old ++ octets_of_turn turn)) (point_of store.new session.new (under_way reader.new)) turn text result }
     ensures no_fewer_reads { A.read_faults air.old ≤ A.read_faults air.new }
     ensures no_fewer_writes { A.write_faults air.old ≤ A.write_faults air.new }
     ensures air_read { IsErrOf result NodeStop.AirRead → Rose (A.read_faults air.old) (A.read_faults air.new) }
@@ -164,14 +201,16 @@ fn hear<A: Air>(
 ) -> Result<(), NodeStop>
     requires held { IsHeld store.old session.old }
     requires idle { packets_of (under_way reader.old) ≡ [] }
+    requires left { rest_of (under_way reader.old) ≡ under_way reader.old }
     ensures held { IsHeld store.new session.new }
     ensures idle { packets_of (under_way reader.new) ≡ [] }
+    ensures left { rest_of (under_way reader.new) ≡ under_way reader.new }
     ensures caller { session.new.caller ≡ session.old.caller }
     ensures octets { IsOctets octets.now }
     ensures heard { A.heard air.new ≡ A.heard air.old }
     ensures said { (text : List ℕ) × Gains (A.said air.old) (A.said air.new) text
-        × MatchResult result (λ _. GoesOn session.old.caller moment (point_of store.old session.old reader.old octets.now) (point_of store.new session.new reader.new []) text)
-        (Stops session.old.caller moment (point_of store.old session.old reader.old octets.now) text) }
+        × MatchResult result (λ _. GoesOn session.old.caller moment (point_of store.old session.old (under_way reader.old ++ octets.now)) (point_of store.new session.new (under_way reader.new)) text)
+        (Stops session.old.caller moment (point_of store.old session.old (under_way reader.old ++ octets.now)) text) }
     ensures reads { A.read_faults air.new ≡ A.read_faults air.old }
     ensures no_fewer_writes { A.write_faults air.old ≤ A.write_faults air.new }
     ensures air_write { IsErrOf result NodeStop.AirWrite → Rose (A.write_faults air.old) (A.write_faults air.new) }
@@ -199,12 +238,13 @@ fn feed<A: Air>(
     requires some { 0 < length piece.now }
     ensures held { IsHeld store.new session.new }
     ensures idle { packets_of (under_way reader.new) ≡ [] }
+    ensures left { rest_of (under_way reader.new) ≡ under_way reader.new }
     ensures caller { session.new.caller ≡ session.old.caller }
     ensures heard { A.heard air.new ≡ A.heard air.old }
     ensures taken { IfOk result (λ taken. (0 < taken) × (taken ≤ length piece.now)) }
     ensures said { (text : List ℕ) × Gains (A.said air.old) (A.said air.new) text
-        × MatchResult result (λ taken. GoesOn session.old.caller moment (point_of store.old session.old reader.old piece.now) (point_of store.new session.new reader.new (drop taken piece.now)) text)
-        (Stops session.old.caller moment (point_of store.old session.old reader.old piece.now) text) }
+        × MatchResult result (λ taken. GoesOn session.old.caller moment (point_of store.old session.old (under_way reader.old ++ piece.now)) (point_of store.new session.new (under_way reader.new ++ drop taken piece.now)) text)
+        (Stops session.old.caller moment (point_of store.old session.old (under_way reader.old ++ piece.now)) text) }
     ensures reads { A.read_faults air.new ≡ A.read_faults air.old }
     ensures no_fewer_writes { A.write_faults air.old ≤ A.write_faults air.new }
     ensures air_write { IsErrOf result NodeStop.AirWrite → Rose (A.write_faults air.old) (A.write_faults air.new) }

@@ -14,10 +14,18 @@ pub enum Status {
     AirRead,
     /// Saying failed: the air's count of write faults rose.
     AirWrite,
+    /// The shelf has no content of the name.
+    NoSuch,
     /// There was no memory.
     OutOfMemory,
     /// As many polls were made as may be, and none was the end of the air.
     Spent,
+    /// Showing failed: the output's count of faults rose.
+    Out,
+    /// The shelf failed: its count of faults rose.
+    Shelf,
+    /// The content of the name is longer than may be.
+    TooLong,
     /// A word or a packet came that isn't built yet.
     NotBuilt,
 }
@@ -32,8 +40,12 @@ impl Status {
             Status::Usage => 2,
             Status::AirRead => 3,
             Status::AirWrite => 4,
+            Status::NoSuch => 6,
             Status::OutOfMemory => 9,
             Status::Spent => 10,
+            Status::Out => 11,
+            Status::Shelf => 12,
+            Status::TooLong => 17,
             Status::NotBuilt => 18,
         }
     }
@@ -47,8 +59,12 @@ impl Status {
             Status::Usage => "usage\n",
             Status::AirRead => "air read\n",
             Status::AirWrite => "air write\n",
+            Status::NoSuch => "no such file\n",
             Status::OutOfMemory => "out of memory\n",
             Status::Spent => "spent\n",
+            Status::Out => "out\n",
+            Status::Shelf => "shelf\n",
+            Status::TooLong => "too long\n",
             Status::NotBuilt => "not built\n",
         }
     }

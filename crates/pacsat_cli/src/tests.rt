@@ -5,13 +5,17 @@ use px_base::MemoryOut;
 use std::process::Abort;
 use std::test::Fail;
 
-const STATUSES: [(Status, u8, &str); 7] = [
+const STATUSES: [(Status, u8, &str); 11] = [
     (Status::Done, 0, ""),
     (Status::Usage, 2, "usage\n"),
     (Status::AirRead, 3, "air read\n"),
     (Status::AirWrite, 4, "air write\n"),
+    (Status::NoSuch, 6, "no such file\n"),
     (Status::OutOfMemory, 9, "out of memory\n"),
     (Status::Spent, 10, "spent\n"),
+    (Status::Out, 11, "out\n"),
+    (Status::Shelf, 12, "shelf\n"),
+    (Status::TooLong, 17, "too long\n"),
     (Status::NotBuilt, 18, "not built\n"),
 ];
 

@@ -1,9 +1,8 @@
 -- Turns with one more.
-use Rattle.std.proofs.Common.{◌≡◌, List, [], ◌∷◌, ◌++◌}
+use Rattle.std.proofs.Common.{◌≡◌, List, [], ◌∷◌, ◌++◌, ap, sym, ◌∙◌, append_assoc, append-nil}
 use Rattle.std.specs.List.{AllByRecursion}
 use Rattle.px_base.specs.declared.air.Turn.{Turn}
 use Rattle.px_base.specs.Polling.{IsTurn, octets_heard, octets_of_turn}
-use Rattle.pacsat_cli.proofs.Listening.{octets_heard-append}
 
 -- each of the turns and of one more is a turn that a poll can bring
 pub turns_push : (turns : List Turn) (next : Turn) → AllByRecursion IsTurn turns → IsTurn next → AllByRecursion IsTurn (turns ++ next ∷ [])
@@ -12,4 +11,6 @@ turns_push (t ∷ turns) next h k = (h.0, turns_push turns next h.1 k)
 
 -- and the octets heard are those of the turns and of the one more
 pub octets_push : (turns : List Turn) (next : Turn) → octets_heard (turns ++ next ∷ []) ≡ octets_heard turns ++ octets_of_turn next
-octets_push = octets_heard-append
+octets_push [] next = append-nil (octets_of_turn next)
+octets_push (t ∷ turns) next =
+    ap (λ octets. octets_of_turn t ++ octets) (octets_push turns next) ∙ sym (append_assoc (octets_of_turn t) (octets_heard turns) (octets_of_turn next))

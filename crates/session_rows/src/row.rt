@@ -3,10 +3,10 @@
 use crate::turns::turns_of;
 use anyhow::{Context, Result, ensure};
 use pacsat_cli::{Words, run};
-use px_base::{MemoryAir, MemoryOut};
+use px_base::{MemoryAir, MemoryClock, MemoryOut, MemoryShelf};
 use std::alloc::Global;
 
-/// Plays a row, and gives the octets said in hexadecimal, the status's number, and the line that was shown.
+/// Plays a row at the constant moment 1, and gives the octets said in hexadecimal, the status's number, and the line that was shown.
 pub fn play(alloc: Global, row: &str) -> Result<String> {
     let (words, rest) = row.split_once(';').context("no words")?;
     let (failing, rest) = rest.split_once(';').context("no failing calls")?;
@@ -19,7 +19,9 @@ pub fn play(alloc: Global, row: &str) -> Result<String> {
     let turns = turns_of(alloc, heard.as_slice(), poll)?;
     let mut air = MemoryAir::new(alloc, turns, failing.as_slice())?;
     let mut out = MemoryOut::new(alloc, &[])?;
-    let status = run(alloc, &words, &mut air, &mut out);
+    let mut shelf = MemoryShelf::new(alloc, &[])?;
+    let mut clock = MemoryClock::new(alloc, &[1])?;
+    let status = run(alloc, &words, &mut air, &mut shelf, &mut out, &mut clock);
     let said = hex::encode(alloc, air.said())?;
     let shown = shown_text(alloc, out.shown())?;
     let number = status.number();

@@ -1,50 +1,45 @@
 -- The loop over turns.
-use Rattle.std.proofs.Common.{◌≡◌, [], length, arith}
-use Rattle.px_base.specs.Polling.{octets_heard}
-use Rattle.pacsat_cli.specs.Node.{point_of}
-use Rattle.pacsat_cli.proofs.Listening.{listening-ends, listening-start, listening-stops, listening-turn, said_all}
+use Rattle.std.proofs.Common.{◌≡◌, arith}
+use Rattle.pacsat_cli.proofs.Listening.{listening-ends, listening-open, listening-spent, listening-start, listening-stops}
 use Rattle.pacsat_cli.proofs.node.listen.Goals as goal
 
 pub loop-turn-init : goal.loop-turn-init
 loop-turn-init g c =
-    listening-start g.A.Air.said g.A.Air.heard g.A.Air.read_faults g.A.Air.write_faults c.args.moment c.args.air.now c.args.store.now c.args.session.now
-    c.new-reader.result c.new-reader.ensures.octets c.new-reader.ensures.none c.requires
-
-pub returns-in-Ok-Closed-clause-listened : goal.returns-in-Ok-Closed-clause-listened
-returns-in-Ok-Closed-clause-listened g c =
-    let ran = rw c.in-Ok-Closed.field-0-is at c.in-Ok-Closed.ensures.turn in
-    listening-ends g.A.Air.said g.A.Air.heard g.A.Air.read_faults g.A.Air.write_faults c.args.moment c.args.air.now c.args.store.now c.args.session.now
-    c.args.polls c.loop-turn.air c.loop-turn.store c.loop-turn.session c.loop-turn.reader c.loop-turn.turn c.take_turn.new.air ran.0 ran.1
-    c.loop-turn.invariant c.loop-turn-test.true ran.2 ran.3 ran.4 ran.5.0 ran.5.1
-
-pub returns-in-Err-clause-listened : goal.returns-in-Err-clause-listened
-returns-in-Err-clause-listened g c =
-    let ran = c.in-Err.ensures.turn in
-    listening-stops g.A.Air.said g.A.Air.heard g.A.Air.read_faults g.A.Air.write_faults c.args.moment c.args.air.now c.args.store.now c.args.session.now
-    c.args.polls c.loop-turn.air c.loop-turn.store c.loop-turn.session c.loop-turn.reader c.loop-turn.turn c.take_turn.new.air (point_of c.take_turn.new.store c.take_turn.new.session c.take_turn.new.reader []) ran.0 ran.1 c.in-Err.stop
-    c.loop-turn.invariant c.loop-turn-test.true ran.2 ran.3 ran.4 ran.5
+    listening-start g.A.Air.said g.A.Air.heard g.A.Air.read_faults g.A.Air.write_faults g.C.Clock.given c.args.first c.args.given c.args.air.now c.args.clock.now c.args.store.now c.args.session.now
+    c.new-reader.result c.new-reader.ensures.octets c.new-reader.ensures.none c.new-reader.ensures.left c.requires
 
 pub loop-turn-preserved : goal.loop-turn-preserved
 loop-turn-preserved g c =
     let ran = rw c.in-Ok-Open.field-0-is at c.in-Ok-Open.ensures.turn in
     let fed = c.in-Ok-Open.ensures in
-    listening-turn g.A.Air.said g.A.Air.heard g.A.Air.read_faults g.A.Air.write_faults c.args.moment c.args.air.now c.args.store.now c.args.session.now
-    c.loop-turn.air c.loop-turn.store c.loop-turn.session c.loop-turn.reader c.loop-turn.turn c.take_turn.new.air c.take_turn.new.store c.take_turn.new.session c.take_turn.new.reader ran.0 ran.1
-    c.loop-turn.invariant fed.held fed.idle fed.caller fed.no_fewer_reads fed.no_fewer_writes ran.2 ran.3 ran.4 ran.5.0 ran.5.1
+    let moment = c.moment_of_turn-moment.ensures in
+    listening-open g.A.Air.said g.A.Air.heard g.A.Air.read_faults g.A.Air.write_faults g.C.Clock.given c.args.first c.args.given c.args.air.now c.args.clock.now c.args.store.now c.args.session.now
+    c.stream_law.ensures.read c.loop-turn.air c.loop-turn.clock c.loop-turn.store c.loop-turn.session c.loop-turn.reader c.loop-turn.turn c.loop-turn.invariant.0 c.loop-turn.invariant.1
+    c.moment_of_turn-moment.new.clock c.moment_of_turn-moment.result moment.first moment.later moment.clock
+    c.take_turn.new.air ran.0 ran.1 ran.2 ran.3 ran.4 c.take_turn.new.store c.take_turn.new.session c.take_turn.new.reader fed.held fed.idle fed.left fed.caller fed.no_fewer_reads fed.no_fewer_writes ran.5.0 ran.5.1
+
+pub returns-in-Ok-Closed-clause-listened : goal.returns-in-Ok-Closed-clause-listened
+returns-in-Ok-Closed-clause-listened g c =
+    let ran = rw c.in-Ok-Closed.field-0-is at c.in-Ok-Closed.ensures.turn in
+    let fed = c.in-Ok-Closed.ensures in
+    let moment = c.moment_of_turn-moment.ensures in
+    listening-ends g.A.Air.said g.A.Air.heard g.A.Air.read_faults g.A.Air.write_faults g.C.Clock.given c.args.first c.args.given c.args.air.now c.args.clock.now c.args.store.now c.args.session.now
+    c.stream_law.ensures.read c.loop-turn.air c.loop-turn.clock c.loop-turn.store c.loop-turn.session c.loop-turn.reader c.loop-turn.turn c.loop-turn.invariant.0 c.loop-turn.invariant.1
+    c.moment_of_turn-moment.new.clock c.moment_of_turn-moment.result moment.first moment.later moment.clock
+    c.take_turn.new.air ran.0 ran.1 ran.2 ran.3 ran.4 c.args.polls c.take_turn.new.store c.take_turn.new.session c.take_turn.new.reader fed.held fed.idle fed.left fed.caller fed.no_fewer_reads fed.no_fewer_writes c.loop-turn-test.true ran.5.0 ran.5.1
+
+pub returns-in-Err-clause-listened : goal.returns-in-Err-clause-listened
+returns-in-Err-clause-listened g c =
+    let fed = c.in-Err.ensures in
+    let ran = fed.turn in
+    let moment = c.moment_of_turn-moment.ensures in
+    listening-stops g.A.Air.said g.A.Air.heard g.A.Air.read_faults g.A.Air.write_faults g.C.Clock.given c.args.first c.args.given c.args.air.now c.args.clock.now c.args.store.now c.args.session.now
+    c.stream_law.ensures.read c.loop-turn.air c.loop-turn.clock c.loop-turn.store c.loop-turn.session c.loop-turn.reader c.loop-turn.turn c.loop-turn.invariant.0 c.loop-turn.invariant.1
+    c.moment_of_turn-moment.new.clock c.moment_of_turn-moment.result moment.first moment.later moment.clock
+    c.take_turn.new.air ran.0 ran.1 ran.2 ran.3 ran.4 c.args.polls c.take_turn.new.store c.take_turn.new.session c.take_turn.new.reader c.in-Err.stop fed.held fed.idle fed.left fed.caller fed.no_fewer_reads fed.no_fewer_writes c.loop-turn-test.true ran.5
 
 pub returns-clause-listened : goal.returns-clause-listened
 returns-clause-listened g c =
-    let far = c.loop-turn.invariant in
-    let all : length far.turns ≡ c.args.polls = omega (arith, far.counted, c.loop-turn.auto.turn-end, c.loop-turn-test.false) in (
-      far.turns,
-      far.text,
-      far.turns_heard,
-      far.text_said,
-      far.octets,
-      omega (arith, all),
-      (
-        all,
-        far.open_turns,
-        said_all c.args.session.now.caller c.args.moment c.args.store.now c.args.session.now (octets_heard far.turns) c.loop-turn.store c.loop-turn.session c.loop-turn.reader far.text far.idle far.goes_on,
-      ),
-    )
+    let all : c.loop-turn.turn ≡ c.args.polls = omega (arith, c.loop-turn.auto.turn-end, c.loop-turn-test.false) in
+    listening-spent g.A.Air.said g.A.Air.heard g.A.Air.read_faults g.A.Air.write_faults g.C.Clock.given c.args.first c.args.given c.args.air.now c.args.clock.now c.args.store.now c.args.session.now
+    c.loop-turn.air c.loop-turn.clock c.loop-turn.store c.loop-turn.session c.loop-turn.reader c.loop-turn.turn c.loop-turn.invariant.0 c.args.polls all c.loop-turn.invariant.1

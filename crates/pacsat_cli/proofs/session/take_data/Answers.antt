@@ -12,7 +12,7 @@ returns-in-Ok-clause-answers c =
     λ moment. (
       record { state = receiving c.args.up.number (rest_of (c.args.up.rest ++ c.args.octets.now)); commands = whole_grows c.args.up.number (c.args.up.rest ++ c.args.octets.now); replies = [] },
       row-data c.args.up.caller moment c.args.store.now c.args.up c.args.octets.now c.requires.holds (omega (arith, no_more _ _ c.in-Ok.ensures.too_much.1)),
-      (c.in-Ok.ensures.ok, ap (λ (u : Upload). receiving u.number u.rest) c.in-Ok.ensures.upload, c.requires.empty),
+      ((c.in-Ok.ensures.allowed, c.in-Ok.ensures.ok), ap (λ (u : Upload). receiving u.number u.rest) c.in-Ok.ensures.upload, c.requires.empty),
     )
 
 pub returns-in-Err-TooMuch-clause-answers : goal.returns-in-Err-TooMuch-clause-answers
@@ -21,7 +21,7 @@ returns-in-Err-TooMuch-clause-answers c =
     λ moment. (
       record { state = aborting; commands = []; replies = ul_nak_resp 1 ∷ [] },
       row-too_much c.args.up.caller moment c.args.store.now c.args.up c.args.octets.now c.requires.holds (omega (arith, past.0 refl)),
-      (c.park.ensures ∙ c.in-Err-TooMuch.ensures.err, refl, c.put_reply.ensures),
+      ((tt, c.park.ensures ∙ c.in-Err-TooMuch.ensures.err), refl, c.put_reply.ensures),
     )
 
 pub returns-in-Err-OutOfMemory-clause-answers : goal.returns-in-Err-OutOfMemory-clause-answers

@@ -1,48 +1,75 @@
 -- The words ask for one thing, and that is what is done.
-use Rattle.std.proofs.Common.{ℕ, refl, ap, sym, subst, Err}
-use Rattle.px_base.specs.CallSign.{CallSign}
-use Rattle.pacsat_cli.specs.declared.status.Status.{Status}
-use Rattle.pacsat_cli.specs.Run.{SessionRan, most_polls, store_blocks}
-use Rattle.pacsat_cli.proofs.Outcome.{session-caller, session-moment, session-not_unbuilt, session-not_usage, unbuilt-not_usage}
+use Rattle.std.proofs.Common.{◌≡◌, ℕ, List, refl, ap, subst, rules, inl, inr, Err}
+use Rattle.command_words.specs.Words.{IsUnbuilt, NamesBuilt}
 use Rattle.pacsat_cli.proofs.top_call.play.Goals as goal
 
-pub returns-in-Ok-clause-unbuilt_words : goal.returns-in-Ok-clause-unbuilt_words
-returns-in-Ok-clause-unbuilt_words g c = λ unbuilt.
-    let asks = rw c.as_slice.ensures at c.in-Ok.ensures.asks in
-    absurd (session-not_unbuilt c.args.words.now c.in-Ok.request.caller c.in-Ok.request.moment asks unbuilt)
+pub returns-in-Ok-Session-clause-unbuilt_words : goal.returns-in-Ok-Session-clause-unbuilt_words
+returns-in-Ok-Session-clause-unbuilt_words g c = λ unbuilt.
+    let asks = rw (c.as_slice.ensures, c.in-Ok-Session.field-0-is) at c.in-Ok-Session.ensures.asks in
+    absurd ((c.one_meaning.ensures.only_one c.args.words.now).unbuilt_session unbuilt (c.in-Ok-Session.request.caller, c.in-Ok-Session.request.moment, asks))
 
-pub returns-in-Ok-clause-session : goal.returns-in-Ok-clause-session
-returns-in-Ok-clause-session g c = λ caller moment session.
-    let asks = rw c.as_slice.ensures at c.in-Ok.ensures.asks in
-    let ran = c.session.ensures.ran in
-    let at_caller : CallSign → Type 0 = λ call. SessionRan call c.in-Ok.request.moment store_blocks most_polls ran.0 ran.1 c.status_of.result in
-    let at_moment : ℕ → Type 0 = λ m. SessionRan caller m store_blocks most_polls ran.0 ran.1 c.status_of.result in
-    let at_status : Status → Type 0 = λ s. SessionRan c.in-Ok.request.caller c.in-Ok.request.moment store_blocks most_polls ran.0 ran.1 s in (
-      ran.0,
-      ran.1,
-      ran.2,
-      ran.3,
-      subst at_moment (session-moment c.args.words.now c.in-Ok.request.caller caller c.in-Ok.request.moment moment asks session)
-          (subst at_caller (session-caller c.one_call.ensures c.args.words.now c.in-Ok.request.caller caller c.in-Ok.request.moment moment asks session)
-          (subst at_status (sym c.status_of.ensures) ran.4)),
-    )
+pub returns-in-Ok-Session-clause-untouched : goal.returns-in-Ok-Session-clause-untouched
+returns-in-Ok-Session-clause-untouched g c = λ others.
+    let asks = rw (c.as_slice.ensures, c.in-Ok-Session.field-0-is) at c.in-Ok-Session.ensures.asks in
+    let only = c.one_meaning.ensures.only_one c.args.words.now in
+    elim others [
+      | inl usage ↦ absurd (only.usage_session usage (c.in-Ok-Session.request.caller, c.in-Ok-Session.request.moment, asks))
+      | inr unbuilt ↦ absurd (only.unbuilt_session unbuilt (c.in-Ok-Session.request.caller, c.in-Ok-Session.request.moment, asks))
+    ]
+
+pub returns-in-Ok-Session-clause-session : goal.returns-in-Ok-Session-clause-session
+returns-in-Ok-Session-clause-session g c = λ caller moment session.
+    let asks = rw (c.as_slice.ensures, c.in-Ok-Session.field-0-is) at c.in-Ok-Session.ensures.asks in
+    let same = (c.one_meaning.ensures.determined c.args.words.now).session c.in-Ok-Session.request.caller caller c.in-Ok-Session.request.moment moment asks session in
+    inr (rw (← same.0, ← same.1) c.session.ensures.played)
+
+pub returns-in-Ok-Session-clause-clock_unasked : goal.returns-in-Ok-Session-clause-clock_unasked
+returns-in-Ok-Session-clause-clock_unasked g c = λ caller moment session.
+    let asks = rw (c.as_slice.ensures, c.in-Ok-Session.field-0-is) at c.in-Ok-Session.ensures.asks in
+    let same = (c.one_meaning.ensures.determined c.args.words.now).session c.in-Ok-Session.request.caller caller c.in-Ok-Session.request.moment _ asks session in
+    c.session.ensures.clock (rw same.1 (search rules))
+
+pub returns-in-Ok-Frames-clause-usage_told : goal.returns-in-Ok-Frames-clause-usage_told
+returns-in-Ok-Frames-clause-usage_told g c = λ usage.
+    let asks = rw (c.as_slice.ensures, c.in-Ok-Frames.field-0-is) at c.in-Ok-Frames.ensures.asks in
+    absurd ((c.one_meaning.ensures.only_one c.args.words.now).usage_frames usage (c.in-Ok-Frames.name.now, asks))
+
+pub returns-in-Ok-Frames-clause-untouched : goal.returns-in-Ok-Frames-clause-untouched
+returns-in-Ok-Frames-clause-untouched g c = λ others.
+    let asks = rw (c.as_slice.ensures, c.in-Ok-Frames.field-0-is) at c.in-Ok-Frames.ensures.asks in
+    let only = c.one_meaning.ensures.only_one c.args.words.now in
+    elim others [
+      | inl usage ↦ absurd (only.usage_frames usage (c.in-Ok-Frames.name.now, asks))
+      | inr unbuilt ↦ absurd (only.unbuilt_frames unbuilt (c.in-Ok-Frames.name.now, asks))
+    ]
+
+pub returns-in-Ok-Frames-clause-frames : goal.returns-in-Ok-Frames-clause-frames
+returns-in-Ok-Frames-clause-frames g c = λ name frames.
+    let asks = rw (c.as_slice.ensures, c.in-Ok-Frames.field-0-is) at c.in-Ok-Frames.ensures.asks in
+    let same = (c.one_meaning.ensures.determined c.args.words.now).frames c.in-Ok-Frames.name.now name asks frames in
+    rw (← same) c.frames.ensures.played
 
 pub returns-in-Err-Usage-clause-usage : goal.returns-in-Err-Usage-clause-usage
 returns-in-Err-Usage-clause-usage g c =
     let usage = rw c.as_slice.ensures at c.in-Err-Usage.ensures.usage in
-    (λ _. usage (ap Err c.in-Err-Usage.field-0-is), λ _. refl)
+    λ _. usage (ap Err c.in-Err-Usage.field-0-is)
 
-pub returns-in-Err-Usage-clause-unbuilt_words : goal.returns-in-Err-Usage-clause-unbuilt_words
-returns-in-Err-Usage-clause-unbuilt_words g c = λ unbuilt.
+pub returns-in-Err-Usage-clause-frames : goal.returns-in-Err-Usage-clause-frames
+returns-in-Err-Usage-clause-frames g c = λ name frames.
     let usage = rw c.as_slice.ensures at c.in-Err-Usage.ensures.usage in
-    absurd (unbuilt-not_usage c.args.words.now unbuilt (usage (ap Err c.in-Err-Usage.field-0-is)))
+    absurd ((c.one_meaning.ensures.only_one c.args.words.now).usage_frames (usage (ap Err c.in-Err-Usage.field-0-is)) (name, frames))
 
-pub returns-in-Err-Usage-clause-session : goal.returns-in-Err-Usage-clause-session
-returns-in-Err-Usage-clause-session g c = λ caller moment session.
-    let usage = rw c.as_slice.ensures at c.in-Err-Usage.ensures.usage in
-    absurd (session-not_usage c.args.words.now caller moment session (usage (ap Err c.in-Err-Usage.field-0-is)))
+pub returns-in-Err-NotBuilt-clause-session : goal.returns-in-Err-NotBuilt-clause-session
+returns-in-Err-NotBuilt-clause-session g c = λ caller moment session.
+    let P : List (List ℕ) → Type 0 = λ words. IsUnbuilt words in
+    let unbuilt : IsUnbuilt c.args.words.now = subst P c.as_slice.ensures (c.in-Err-NotBuilt.ensures.unbuilt (ap Err c.in-Err-NotBuilt.field-0-is)) in
+    absurd ((c.one_meaning.ensures.only_one c.args.words.now).unbuilt_session unbuilt (caller, moment, session))
 
-pub returns-in-Err-NotBuilt-clause-usage : goal.returns-in-Err-NotBuilt-clause-usage
-returns-in-Err-NotBuilt-clause-usage g c =
-    let unbuilt = rw c.as_slice.ensures at c.in-Err-NotBuilt.ensures.unbuilt in
-    (λ e. absurd (cc), λ usage. absurd (unbuilt-not_usage c.args.words.now (unbuilt (ap Err c.in-Err-NotBuilt.field-0-is)) usage))
+named : (words seen : List (List ℕ)) → seen ≡ words → NamesBuilt seen → NamesBuilt words
+named words seen same names = let P : List (List ℕ) → Type 0 = λ w. NamesBuilt w in subst P same names
+
+pub returns-in-Err-OutOfMemory-clause-usage_told : goal.returns-in-Err-OutOfMemory-clause-usage_told
+returns-in-Err-OutOfMemory-clause-usage_told g c = λ _. inr (refl, named _ _ c.as_slice.ensures (c.in-Err-OutOfMemory.ensures.memory (ap Err c.in-Err-OutOfMemory.field-0-is)))
+
+pub returns-in-Err-OutOfMemory-clause-unbuilt_words : goal.returns-in-Err-OutOfMemory-clause-unbuilt_words
+returns-in-Err-OutOfMemory-clause-unbuilt_words g c = λ _. inr (refl, named _ _ c.as_slice.ensures (c.in-Err-OutOfMemory.ensures.memory (ap Err c.in-Err-OutOfMemory.field-0-is)))

@@ -1,0 +1,97 @@
+//! One row: what is run, and what it shows.
+
+ghost use Rattle.std.specs.Prelude.{◌≤◌, length, IfOk};
+
+use anyhow::{Context, Result};
+use pacsat_cli::{Words, run};
+use px_base::{MemoryAir, MemoryClock, MemoryOut, MemoryShelf, Shelf};
+use std::alloc::Global;
+
+/// Plays a row over a closed air, and gives the status's number, the octets said in
+/// hexadecimal, and the lines that were shown, each ended by `|`.
+pub fn play(alloc: Global, row: &str) -> Result<String> {
+    let (words, rest) = row.split_once(';').context("no words")?;
+    let (content, rest) = rest.split_once(';').context("no shelf")?;
+    let (failing_shelf, rest) = rest.split_once(';').context("no failing calls")?;
+    let (failing_out, moments) = rest.split_once(';').context("no moments")?;
+    let words = read_words(alloc, words)?;
+    let mut shelf = read_shelf(
+        alloc,
+        content,
+        read_numbers(alloc, failing_shelf)?.as_slice(),
+    )?;
+    let mut air = MemoryAir::new(alloc, Vec::new(alloc), &[])?;
+    let mut out = MemoryOut::new(alloc, read_numbers(alloc, failing_out)?.as_slice())?;
+    let mut clock = MemoryClock::new(alloc, read_moments(alloc, moments)?.as_slice())?;
+    let status = run(alloc, &words, &mut air, &mut shelf, &mut out, &mut clock);
+    let number = status.number();
+    let said = hex::encode(alloc, air.said())?;
+    let shown = shown_text(alloc, out.shown())?;
+    Ok(format!(in alloc; "{number};{said};{shown}")?)
+}
+
+/// The words of a row, parted by blanks.
+fn read_words(alloc: Global, text: &str) -> Result<Words> {
+    let mut words = Words::new(alloc);
+    for word in text.split_whitespace() {
+        words.add(written(word))?;
+    }
+    Ok(words)
+}
+
+/// What a word of a row stands for: `''` is one without octets.
+fn written(word: &str) -> &str {
+    if word == "''" { "" } else { word }
+}
+
+/// A shelf whose calls with these numbers fail. It has nothing, or one name with its content, which is given in
+/// hexadecimal, or after `*` by the number of its octets, all FEND; `keep` is its first call.
+fn read_shelf(alloc: Global, text: &str, failing: &[u64]) -> Result<MemoryShelf> {
+    let mut shelf = MemoryShelf::new(alloc, failing)?;
+    if text.is_empty() {
+        return Ok(shelf);
+    }
+    let (name, content) = text.split_once(' ').context("no content")?;
+    let octets = match content.strip_prefix('*') {
+        Some(count) => fends(alloc, count.parse::<usize>()?)?,
+        None => hex::decode(alloc, content)?,
+    };
+    shelf.keep(written(name), octets.as_slice())?;
+    Ok(shelf)
+}
+
+/// So many octets, all FEND.
+fn fends(alloc: Global, count: usize) -> Result<Vec<u8>> {
+    let mut octets = Vec::new(alloc);
+    octets.resize(count, 0xC0)?;
+    Ok(octets)
+}
+
+/// Numbers parted by blanks.
+fn read_numbers(alloc: Global, text: &str) -> Result<Vec<u64>> {
+    let mut numbers = Vec::new(alloc);
+    for word in text.split_whitespace() {
+        numbers.push(word.parse::<u64>()?)?;
+    }
+    Ok(numbers)
+}
+
+/// The moments that a clock gives, parted by blanks; 1 where a row has none.
+fn read_moments(alloc: Global, text: &str) -> Result<Vec<u32>>
+    ensures { IfOk result (λ moments. 1 ≤ length moments.items) }
+{
+    let mut moments = Vec::new(alloc);
+    for word in text.split_whitespace() {
+        moments.push(word.parse::<u32>()?)?;
+    }
+    if moments.is_empty() {
+        moments.push(1)?;
+    }
+    Ok(moments)
+}
+
+/// The lines that were shown, each ended by `|` in place of its line feed.
+fn shown_text(alloc: Global, shown: &[u8]) -> Result<String> {
+    let text = std::str::from_utf8(shown)?;
+    Ok(text.replace(alloc, "\n", "|")?)
+}
