@@ -38,11 +38,13 @@ pub record Reading (names words : List (List ℕ)) : Type 0 where
   pub each : AllByRecursion (IsPart names) parts
   pub written : words ≡ flat_map words_of parts ++ words_of_end end
 
+-- the place that a part is, if it is one
 abbrev pub place_in : Part → List (List ℕ)
 place_in (place word) = word ∷ []
 place_in (spaced name value) = []
 place_in (joined name value) = []
 
+-- the value that a part gives the option of this name, if it does
 abbrev pub value_in : List ℕ → Part → List (List ℕ)
 value_in name (place word) = []
 value_in name (spaced other value) = if bytes_eq other name then value ∷ [] else []
