@@ -1,0 +1,4 @@
+mod Crashes
+mod Steps
+mod Surfaces
+mod Writes

@@ -1,0 +1,17 @@
+use Rattle.disk_model.specs.Memory.{state}
+use Rattle.disk_model.specs.MemoryLaws.{content_is_image}
+use Rattle.disk_model.proofs.Steps.{writing_elapses, writing_opens, writing_tears, writing_writes}
+use Rattle.disk_model.proofs.memory_disk.MemoryDiskDisk.write_at.Goals as goal
+
+pub returns-clause-written : goal.returns-clause-written
+returns-clause-written c = writing_writes (state c.args.self.now) (state c.record_write.new.self) c.args.at c.args.bytes.now c.record_write.result c.record_write.ensures.writing
+
+pub returns-clause-torn : goal.returns-clause-torn
+returns-clause-torn c =
+    writing_tears (state c.args.self.now) (state c.record_write.new.self) c.args.at c.args.bytes.now c.record_write.result c.record_write.ensures.writing (content_is_image c.args.self.now)
+
+pub returns-clause-open : goal.returns-clause-open
+returns-clause-open c = writing_opens (state c.args.self.now) (state c.record_write.new.self) c.args.at c.args.bytes.now c.record_write.result c.record_write.ensures.writing
+
+pub returns-clause-past : goal.returns-clause-past
+returns-clause-past c = writing_elapses (state c.args.self.now) (state c.record_write.new.self) c.args.at c.args.bytes.now c.record_write.result c.record_write.ensures.writing

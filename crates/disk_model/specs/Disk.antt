@@ -1,0 +1,65 @@
+-- What the calls of a disk do to its content, and what a crash may leave.
+use Rattle.std.specs.Prelude.{◌≡◌, ◌↔◌, ◌⊎◌, ℕ, ◌+◌, ◌<◌, ◌≤◌, max, List, length, take, drop, All, Option, Some, IfSome, IsSome, Result, OnOk}
+
+-- octets, as numbers
+abbrev pub IsOctets : List ℕ → Type 0
+IsOctets octets = All (λ octet. octet < 256) octets
+
+-- the content is told
+abbrev pub IsTold : Option (List ℕ) → Type 0
+IsTold content = IsSome content
+
+-- a crash leaves this and nothing else
+abbrev pub Only : (List ℕ → Type 0) → List ℕ → Type 0
+Only images content = (image : List ℕ) → images image → image ≡ content
+
+-- quiet: where the content is told, a crash leaves it and nothing else
+abbrev pub IsQuiet : Option (List ℕ) → (List ℕ → Type 0) → Type 0
+IsQuiet content images = IfSome content (Only images)
+
+-- a crash may leave the same as before
+abbrev pub SameImages : (List ℕ → Type 0) → (List ℕ → Type 0) → Type 0
+SameImages before now = (image : List ℕ) → now image ↔ before image
+
+-- and might have left the same since each moment
+abbrev pub SamePast : (ℕ → List ℕ → Type 0) → (ℕ → List ℕ → Type 0) → Type 0
+SamePast before now = (t : ℕ) (image : List ℕ) → now t image ↔ before t image
+
+-- where the content before is told, the content now is told, and stands in this relation to it
+abbrev pub HasContent : Option (List ℕ) → Option (List ℕ) → (List ℕ → List ℕ → Type 0) → Type 0
+HasContent before now step = IfSome before (λ old. (new : List ℕ) × (now ≡ Some new) × step old new)
+
+-- the room holds the octets from this place on
+abbrev pub FillsRoom : List ℕ → ℕ → ℕ → List ℕ → Type 0
+FillsRoom octets at count room = room ≡ take count (drop at octets)
+
+-- The octets stand at this place, and all others before the old end are as they were; the length grows where the octets
+-- end past the old end, and a gap before them holds any octets.
+pub record Writes (at : ℕ) (octets : List ℕ) (old new : List ℕ) : Type 0 where
+  pub before : take at (take (length old) new) ≡ take at old
+  pub there : take (length octets) (drop at new) ≡ octets
+  pub after : drop (at + length octets) new ≡ drop (at + length octets) old
+  pub size : length new ≡ max (length old) (at + length octets)
+
+-- What a crash may leave of a write of so many octets at this place: any octets in the range and past the old end, the
+-- same elsewhere, and a length between the old one and that of the whole write.
+pub record Torn (at count : ℕ) (old new : List ℕ) : Type 0 where
+  pub before : take at (take (length old) new) ≡ take at old
+  pub after : drop (at + count) (take (length old) new) ≡ drop (at + count) old
+  pub no_shorter : length old ≤ length new
+  pub no_longer : length new ≤ max (length old) (at + count)
+
+-- each image now is an image before after a step
+abbrev pub Follows : (List ℕ → List ℕ → Type 0) → (List ℕ → Type 0) → (List ℕ → Type 0) → Type 0
+Follows step before now = (image : List ℕ) → now image → (old : List ℕ) × before old × step old image
+
+-- Time goes on: a crash since t might have left what it might have left before, or what it may leave now.
+pub record Elapses (before now : ℕ) (past since : ℕ → List ℕ → Type 0) (images : List ℕ → Type 0) : Type 0 where
+  pub later : before ≤ now
+  pub nothing_else : (t : ℕ) (image : List ℕ) → t ≤ before → since t image → past t image ⊎ images image
+  pub keeps : (t : ℕ) (image : List ℕ) → t ≤ before → past t image → since t image
+
+-- A call that answered Ok is one moment, where it is told; one that failed is one at most.
+pub record Counts {T E : Type 0} (content : Option (List ℕ)) (before now : ℕ) (result : Result T E) : Type 0 where
+  pub one : OnOk result (IfSome content (λ octets. now ≡ before + 1))
+  pub at_most : now ≤ before + 1

@@ -1,0 +1,10 @@
+pub mod Calls
+pub mod Counts
+pub mod Crash
+pub mod Disk
+pub mod Files
+pub mod Fuse
+pub mod FuseLaws
+pub mod Memory
+pub mod MemoryLaws
+pub mod Surface
