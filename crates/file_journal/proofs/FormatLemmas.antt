@@ -1,0 +1,120 @@
+-- What formatting makes of octets, and what a crash in it leaves.
+use Rattle.std.proofs.Common.{◌≡◌, ℕ, ◌%◌, ◌==◌, nat_lt, ◌≤◌, List, [], ◌∷◌, ◌++◌, length, get_or, take, drop, sym, ◌∙◌, ap, subst, arith, append_assoc, append-nil, length-append, length-drop, take-take, get_or-take, take-append-drop, take_all, eq-eqb, ne_eqb}
+use Rattle.std.proofs.lemmas.List.{drop_all, drop_more, take_at, length-take-le, get_or_at}
+use Rattle.std.proofs.lemmas.Bool.{cond-true, cond-false, lt-ltb, le-ltb}
+use Rattle.file_journal.specs.Journal.{even_selector, finished}
+use Rattle.disk_model.specs.Disk.{Writes, Torn, Follows, Only}
+use Rattle.file_journal.specs.Steps.{IsMakingEven, IsMakingGates, IsFinishing}
+use Rattle.file_journal.proofs.OctetLemmas.{written, torn_front, torn_length}
+
+-- each image after a torn write comes from the content, where it was the only image
+pub torn_only : (at n : ℕ) (before : List ℕ) (old now : List ℕ → Type 0) → Only old before → Follows (Torn at n) old now → (image : List ℕ) → now image → Torn at n before image
+torn_only at n before old now only follows image left =
+    let from = follows image left in subst (λ (l : List ℕ). Torn at n l image) (only from.0 from.1) from.2
+
+pub even_crash : (before image : List ℕ) → 16 ≤ length before → Torn 15 1 before image → IsMakingEven before image
+even_crash before image long torn = (torn_front 15 1 before image (omega arith) torn, torn_length 15 1 before image (omega arith) torn)
+
+pub even_by : (before new : List ℕ) → 16 ≤ length before → get_or before 15 0 % 2 ≡ 1 → Writes 15 (0 ∷ []) before new → new ≡ take 15 before ++ even_selector before ∷ drop 16 before
+even_by before new long odd writes =
+    written 15 (0 ∷ []) before new (omega arith) writes ∙ append_assoc (take 15 before) (0 ∷ []) (drop 16 before)
+    ∙ ap (λ (n : ℕ). take 15 before ++ n ∷ drop 16 before) (sym (cond-true (get_or before 15 0 % 2 == 1) 0 (get_or before 15 0) (eq-eqb (get_or before 15 0 % 2) 1 odd)))
+
+-- an even one stays
+pub even_before : (before : List ℕ) → 16 ≤ length before → (get_or before 15 0 % 2 ≡ 1 → ⊥) → before ≡ take 15 before ++ even_selector before ∷ drop 16 before
+even_before before long even =
+    sym (take-append-drop 15 before)
+    ∙ ap (λ (l : List ℕ). take 15 before ++ l) (drop_more before 15 0 (omega arith))
+    ∙ ap (λ (n : ℕ). take 15 before ++ n ∷ drop 16 before) (sym (cond-false (get_or before 15 0 % 2 == 1) 0 (get_or before 15 0) (ne_eqb (get_or before 15 0 % 2) 1 even)))
+
+-- the header and one gate
+abbrev pub one_gate : List ℕ → List ℕ
+one_gate before = take 16 before ++ 0 ∷ []
+
+module _ (before : List ℕ) (low : 16 ≤ length before) (high : length before ≤ 17) where
+  front : length (take 16 before) ≡ 16
+  front = length-take-le 16 before low
+
+  pub one_gate_length : length (one_gate before) ≡ 17
+  one_gate_length = omega (arith, front, length-append (take 16 before) (0 ∷ []))
+
+  pub one_gate_by : (new : List ℕ) → Writes 16 (0 ∷ []) before new → new ≡ one_gate before
+  one_gate_by new writes =
+      written 16 (0 ∷ []) before new low writes
+      ∙ ap (λ (l : List ℕ). take 16 before ++ (0 ∷ []) ++ l) (drop_all 17 before high)
+      ∙ append-nil (one_gate before)
+
+  pub gates_by : (new : List ℕ) → Writes 17 (0 ∷ []) (one_gate before) new → new ≡ take 16 before ++ 0 ∷ 0 ∷ []
+  gates_by new writes =
+      written 17 (0 ∷ []) (one_gate before) new (omega (arith, one_gate_length)) writes
+      ∙ ap (λ (l : List ℕ). l ++ (0 ∷ []) ++ drop 18 (one_gate before)) (take_all 17 (one_gate before) (omega (arith, one_gate_length)))
+      ∙ ap (λ (l : List ℕ). one_gate before ++ (0 ∷ []) ++ l) (drop_all 18 (one_gate before) (omega (arith, one_gate_length)))
+      ∙ append-nil (one_gate before ++ 0 ∷ [])
+      ∙ append_assoc (take 16 before) (0 ∷ []) (0 ∷ [])
+
+  pub first_gate_crash : (image : List ℕ) → Torn 16 1 before image → IsMakingGates before image
+  first_gate_crash image torn =
+      record {
+        header = torn_front 16 1 before image low torn;
+        no_shorter = torn.no_shorter;
+        no_longer = omega (arith, torn.no_longer);
+        closed = λ long. absurd (omega (arith, torn.no_longer, long));
+      }
+
+  pub second_gate_crash : (image : List ℕ) → Torn 17 1 (one_gate before) image → IsMakingGates before image
+  second_gate_crash image torn =
+      let same : take 17 image ≡ one_gate before =
+      torn_front 17 1 (one_gate before) image (omega (arith, one_gate_length)) torn ∙ take_all 17 (one_gate before) (omega (arith, one_gate_length)) in
+      record {
+        header =
+            sym (take-take 16 17 image (omega arith)) ∙ ap (λ (l : List ℕ). take 16 l) same
+            ∙ take_at_gate;
+        no_shorter = omega (arith, torn.no_shorter, one_gate_length);
+        no_longer = omega (arith, torn.no_longer, one_gate_length);
+        closed = λ long. sym (get_or-take 17 image 16 0 (omega arith)) ∙ ap (λ (l : List ℕ). get_or l 16 0) same ∙ get_or_at (take 16 before) 0 [] 0 16 front;
+      }
+    where
+      take_at_gate : take 16 (one_gate before) ≡ take 16 before
+      take_at_gate = take_at (take 16 before) (0 ∷ []) 16 front
+
+-- The content once the selector is even.
+module _ (before : List ℕ) (size : length before ≡ 17) where
+  abbrev pub evened : List ℕ
+  evened = take 15 before ++ even_selector before ∷ drop 16 before
+
+  front15 : length (take 15 before) ≡ 15
+  front15 = length-take-le 15 before (omega (arith, size))
+
+  pub evened_length : length evened ≡ 17
+  evened_length = omega (arith, front15, size, length-append (take 15 before) (even_selector before ∷ drop 16 before), length-drop 16 before)
+
+  pub evened_front : take 15 evened ≡ take 15 before
+  evened_front = take_at (take 15 before) (even_selector before ∷ drop 16 before) 15 front15
+
+  pub evened_header : take 16 evened ≡ take 15 before ++ even_selector before ∷ []
+  evened_header =
+      ap (λ (l : List ℕ). take 16 l) (sym (append_assoc (take 15 before) (even_selector before ∷ []) (drop 16 before)))
+      ∙ take_at (take 15 before ++ even_selector before ∷ []) (drop 16 before) 16 (omega (arith, front15, length-append (take 15 before) (even_selector before ∷ [])))
+
+  pub even_finishing : (image : List ℕ) → IsMakingEven before image → IsFinishing before image
+  even_finishing image making =
+      record { interrupted = size; header = making.0; no_shorter = omega (arith, making.1, size); no_longer = omega (arith, making.1, size); closed = λ long. absurd (omega (arith, making.1, size, long)) }
+
+  pub gates_finishing : (image : List ℕ) → IsMakingGates evened image → IsFinishing before image
+  gates_finishing image making =
+      record {
+        interrupted = size;
+        header = sym (take-take 15 16 image (omega arith)) ∙ ap (λ (l : List ℕ). take 15 l) making.header ∙ take-take 15 16 evened (omega arith) ∙ evened_front;
+        no_shorter = omega (arith, making.no_shorter, evened_length);
+        no_longer = making.no_longer;
+        closed = making.closed;
+      }
+
+  pub finished_by : (new : List ℕ) → new ≡ take 16 evened ++ 0 ∷ 0 ∷ [] → new ≡ finished before
+  finished_by new is =
+      is ∙ ap (λ (l : List ℕ). l ++ 0 ∷ 0 ∷ []) evened_header ∙ append_assoc (take 15 before) (even_selector before ∷ []) (0 ∷ 0 ∷ [])
+      ∙ sym (cond-true (nat_lt (length before) 18) _ before (lt-ltb (length before) 18 (omega (arith, size))))
+
+-- what is formatted stays
+pub finished_before : (before : List ℕ) → 18 ≤ length before → before ≡ finished before
+finished_before before long = sym (cond-false (nat_lt (length before) 18) _ before (le-ltb (length before) 18 long))

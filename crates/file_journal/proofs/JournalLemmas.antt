@@ -1,0 +1,154 @@
+-- What the octets of a disk stand for, by their header and their length.
+use Rattle.std.proofs.Common.{◌≡◌, ◌≢◌, ℕ, ◌+◌, ◌<◌, ◌≤◌, true, false, cond, not, nat_le, nat_lt, List, [], ◌∷◌, ◌++◌, length, get_or, take, drop, None, Some, refl, sym, ◌∙◌, ap, subst, arith, append_assoc, append-nil, length-append, length-drop, take-take, get_or-take, inl, inr}
+use Rattle.std.proofs.lemmas.Bool.{cond-true, cond-false, cases_Bool, cases_lt, and_from, false_from_ne_true, both_ways, not_from_true, not_from_false, le-leb, lt-leb, lt-ltb, le-ltb}
+use Rattle.std.proofs.lemmas.Slice.Eq.{bytes_eq-Decides}
+use Rattle.std.proofs.lemmas.List.{take_at, drop_more, get_or-append-add}
+use Rattle.std.proofs.lemmas.List.Elements.{All-drop}
+use Rattle.disk_model.specs.Disk.{IsOctets}
+use Rattle.std.specs.Str.{bytes_eq}
+use Rattle.px_base.specs.Numbers.{le32, le32_octets}
+use Rattle.file_journal.specs.Records.{Record, Reading, whole, broken, reading_from}
+use Rattle.file_journal.specs.Journal.{Standing, store, damaged, not_a_store, is_block_number, store_of, journal_of, header, IsSameStore, IsStore}
+use Rattle.file_journal.specs.Steps.{IsMakingGates}
+use Rattle.file_journal.proofs.ReadingLemmas.{reading_closed, broken_later}
+
+-- the octets begin with a header of this magic and block number
+pub record HasHeader (magic : List ℕ) (blocks : ℕ) (octets : List ℕ) : Type 0 where
+  pub magic_is : take 8 octets ≡ magic
+  pub blocks_are : le32 octets 8 ≡ blocks
+  pub is_number : is_block_number blocks ≡ true
+
+module _ (magic octets : List ℕ) where
+  pub of_short : length octets ≤ 16 → journal_of magic octets ≡ store None []
+  unfolding journal_of
+  of_short short = cond-true (nat_le (length octets) 16) _ _ (le-leb (length octets) 16 short)
+
+  -- more than 16 octets
+  longer : (rest : Standing) → 16 < length octets → cond (nat_le (length octets) 16) (store None []) rest ≡ rest
+  longer rest long = cond-false (nat_le (length octets) 16) (store None []) rest (lt-leb (length octets) 16 long)
+
+  pub of_foreign : 16 < length octets → take 8 octets ≢ magic → journal_of magic octets ≡ not_a_store (take 8 octets)
+  unfolding journal_of
+  of_foreign long foreign =
+      longer _ long
+      ∙ cond-true (not (bytes_eq (take 8 octets) magic)) _ _
+      (not_from_false _ (false_from_ne_true _ (λ same. foreign ((bytes_eq-Decides (take 8 octets) magic).0 same))))
+
+  -- the right magic
+  known : (found rest : Standing) → take 8 octets ≡ magic → cond (not (bytes_eq (take 8 octets) magic)) found rest ≡ rest
+  known found rest is = cond-false (not (bytes_eq (take 8 octets) magic)) found rest (not_from_true _ ((bytes_eq-Decides (take 8 octets) magic).1 is))
+
+  pub of_bad_number : 16 < length octets → take 8 octets ≡ magic → is_block_number (le32 octets 8) ≡ false → journal_of magic octets ≡ damaged 8
+  unfolding journal_of
+  of_bad_number long is bad = longer _ long ∙ known _ _ is ∙ cond-true (not (is_block_number (le32 octets 8))) _ _ (not_from_false _ bad)
+
+  module _ (blocks : ℕ) (head : HasHeader magic blocks octets) where
+    good : (bad rest : Standing) → cond (not (is_block_number (le32 octets 8))) bad rest ≡ rest
+    good bad rest = cond-false (not (is_block_number (le32 octets 8))) bad rest (not_from_true _ (ap is_block_number head.blocks_are ∙ head.is_number))
+
+    pub of_17 : length octets ≡ 17 → journal_of magic octets ≡ store (Some blocks) []
+    unfolding journal_of
+    of_17 size =
+        longer _ (omega (arith, size)) ∙ known _ _ head.magic_is ∙ good _ _
+        ∙ cond-true (nat_lt (length octets) 18) _ _ (lt-ltb (length octets) 18 (omega (arith, size)))
+        ∙ ap (λ (n : ℕ). store (Some n) []) head.blocks_are
+
+    pub of_full : 18 ≤ length octets → journal_of magic octets ≡ store_of blocks (reading_from 16 (drop 16 octets))
+    unfolding journal_of
+    of_full size =
+        longer _ (omega (arith, size)) ∙ known _ _ head.magic_is ∙ good _ _
+        ∙ cond-false (nat_lt (length octets) 18) _ _ (le-ltb (length octets) 18 size)
+        ∙ ap (λ (n : ℕ). store_of n (reading_from 16 (drop 16 octets))) head.blocks_are
+
+    -- a store whose first gate isn't open, or isn't there yet
+    pub of_empty : 17 ≤ length octets → (17 < length octets → get_or octets 16 0 ≢ 1) → journal_of magic octets ≡ store (Some blocks) []
+    of_empty long shut = elim (cases_lt 17 (length octets)) [
+      | inr short ↦ of_17 (omega (arith, long, short))
+      | inl more ↦
+          of_full (omega (arith, more))
+          ∙ ap (store_of blocks)
+          (ap (reading_from 16) (drop_more octets 16 0 (omega (arith, more)))
+          ∙ reading_closed 16 (get_or octets 16 0) (drop 17 octets) (shut more))
+    ]
+
+-- such octets aren't refused
+pub is_store : (magic octets : List ℕ) (blocks : ℕ) → IsOctets octets → 16 < length octets → HasHeader magic blocks octets → IsStore (journal_of magic octets)
+is_store magic octets blocks are long head = elim (cases_lt 17 (length octets)) [
+  | inr short ↦ (let is = of_17 magic octets blocks head (omega (arith, long, short)) in (λ found foreign. cc (sym is ∙ foreign), λ bad. cc (sym is ∙ bad)))
+  | inl more ↦ go (reading_from 16 (drop 16 octets)) refl (of_full magic octets blocks head (omega (arith, more))) (omega (arith, more, length-drop 16 octets))
+]
+  where
+    go : (reading : Reading) → reading_from 16 (drop 16 octets) ≡ reading → journal_of magic octets ≡ store_of blocks reading → 0 < length (drop 16 octets) → IsStore (journal_of magic octets)
+    go (whole entries) read is some = (λ found foreign. cc (sym is ∙ foreign), λ bad. cc (sym is ∙ bad))
+    go (broken entries at) read is some = (
+      λ found foreign. cc (sym is ∙ foreign),
+      λ bad.
+          let later = broken_later 16 at (drop 16 octets) entries (All-drop (λ octet. octet < 256) 16 octets are) some read in
+          let same : at ≡ 8 = cc (sym is ∙ bad) in
+          omega (arith, later, same),
+    )
+
+-- octets with the same front have the same header
+pub same_header : (n : ℕ) (magic : List ℕ) (blocks : ℕ) (octets image : List ℕ) → 12 ≤ n → take n image ≡ take n octets → HasHeader magic blocks octets → HasHeader magic blocks image
+same_header n magic blocks octets image le same head =
+    let at : (i : ℕ) → i < 12 → get_or image i 0 ≡ get_or octets i 0 =
+    λ i lt. sym (get_or-take n image i 0 (omega (arith, le, lt))) ∙ ap (λ (l : List ℕ). get_or l i 0) same ∙ get_or-take n octets i 0 (omega (arith, le, lt)) in
+    record {
+      magic_is = sym (take-take 8 n image (omega (arith, le))) ∙ ap (λ (l : List ℕ). take 8 l) same ∙ take-take 8 n octets (omega (arith, le)) ∙ head.magic_is;
+      blocks_are = omega (arith, head.blocks_are, at 8 (omega arith), at 9 (omega arith), at 10 (omega arith), at 11 (omega arith));
+      is_number = head.is_number;
+    }
+
+-- a header that is written
+pub header_length : (magic : List ℕ) (blocks : ℕ) → length magic ≡ 8 → length (header magic blocks) ≡ 16
+header_length magic blocks eight =
+    omega (arith, eight, length-append magic (le32_octets blocks), length-append (magic ++ le32_octets blocks) (0 ∷ 0 ∷ 0 ∷ 0 ∷ []))
+
+pub header_written : (magic : List ℕ) (blocks : ℕ) (rest : List ℕ) → length magic ≡ 8 → 1 ≤ blocks → blocks ≤ 65536 → HasHeader magic blocks (header magic blocks ++ rest)
+header_written magic blocks rest eight some most =
+    let tail = 0 ∷ 0 ∷ 0 ∷ 0 ∷ rest in
+    let shape : header magic blocks ++ rest ≡ magic ++ (le32_octets blocks ++ tail) =
+    append_assoc (magic ++ le32_octets blocks) (0 ∷ 0 ∷ 0 ∷ 0 ∷ []) rest ∙ append_assoc magic (le32_octets blocks) tail in
+    let at : (i : ℕ) → get_or (header magic blocks ++ rest) (8 + i) 0 ≡ get_or (le32_octets blocks ++ tail) i 0 =
+    λ i. ap (λ (l : List ℕ). get_or l (8 + i) 0) shape
+    ∙ ap (λ (n : ℕ). get_or (magic ++ (le32_octets blocks ++ tail)) (n + i) 0) (sym eight)
+    ∙ get_or-append-add magic (le32_octets blocks ++ tail) i 0 in
+    record {
+      magic_is = ap (λ (l : List ℕ). take 8 l) shape ∙ take_at magic (le32_octets blocks ++ tail) 8 eight;
+      blocks_are = omega (arith, most, at 0, at 1, at 2, at 3);
+      is_number = and_from (nat_le 1 blocks) (nat_le blocks 65536) (le-leb 1 blocks some) (le-leb blocks 65536 most);
+    }
+
+-- while the gates of a new store are written
+pub new_gates : (magic : List ℕ) (blocks : ℕ) (image : List ℕ) → length magic ≡ 8 → 1 ≤ blocks → blocks ≤ 65536 → IsMakingGates (header magic blocks) image → IsSameStore blocks (store None []) (journal_of magic image)
+new_gates magic blocks image eight some most making = elim (cases_lt 16 (length image)) [
+  | inr short ↦ inl (of_short magic image short)
+  | inl long ↦
+      let head = subst (λ (l : List ℕ). HasHeader magic blocks l) (append-nil (header magic blocks)) (header_written magic blocks [] eight some most) in
+      inr (
+        refl,
+        of_empty magic image blocks (same_header 16 magic blocks (header magic blocks) image (omega arith) making.header head) (omega (arith, long))
+            (λ more is_open. absurd (omega (arith, making.closed more, is_open))),
+      )
+]
+
+-- what a whole store of at least 18 octets has
+pub store_parts : (magic octets : List ℕ) (blocks : ℕ) (entries : List Record) → 18 ≤ length octets → journal_of magic octets ≡ store (Some blocks) entries
+    → HasHeader magic blocks octets × (reading_from 16 (drop 16 octets) ≡ whole entries)
+store_parts magic octets blocks entries long is = elim (cases_Bool (bytes_eq (take 8 octets) magic)) [
+  | inr foreign ↦ absurd (cc (sym is ∙ of_foreign magic octets (omega (arith, long)) (λ same. both_ways _ foreign ((bytes_eq-Decides (take 8 octets) magic).1 same))))
+  | inl same ↦ elim (cases_Bool (is_block_number (le32 octets 8))) [
+    | inr bad ↦ absurd (cc (sym is ∙ of_bad_number magic octets (omega (arith, long)) ((bytes_eq-Decides (take 8 octets) magic).0 same) bad))
+    | inl good ↦ parts ((bytes_eq-Decides (take 8 octets) magic).0 same) good
+  ]
+]
+  where
+    fits : (number : ℕ) (reading : Reading) → store_of number reading ≡ store (Some blocks) entries → (number ≡ blocks) × (reading ≡ whole entries)
+    fits number (whole others) same = (cc same, cc same)
+    fits number (broken others at) same = absurd (cc same)
+
+    parts : take 8 octets ≡ magic → is_block_number (le32 octets 8) ≡ true → HasHeader magic blocks octets × (reading_from 16 (drop 16 octets) ≡ whole entries)
+    parts is_magic good =
+        let head : HasHeader magic (le32 octets 8) octets = record { magic_is = is_magic; blocks_are = refl; is_number = good } in
+        let same = fits (le32 octets 8) (reading_from 16 (drop 16 octets)) (sym (of_full magic octets (le32 octets 8) head long) ∙ is) in
+        (record { magic_is = is_magic; blocks_are = same.0; is_number = ap is_block_number (sym same.0) ∙ good }, same.1)

@@ -1,0 +1,9 @@
+pub mod AppendLemmas
+pub mod FormatLemmas
+pub mod JournalLemmas
+pub mod MomentLemmas
+pub mod OctetLemmas
+pub mod PositionLemmas
+pub mod PutLemmas
+pub mod ReadingLemmas
+pub mod RecoverLemmas

@@ -1,0 +1,54 @@
+-- What writes, whole and torn, make of octets.
+use Rattle.std.proofs.Common.{◌≡◌, ℕ, ◌+◌, ◌<◌, ◌≤◌, List, ◌∷◌, ◌++◌, length, get_or, take, drop, sym, ◌∙◌, ap, ap₂, arith, append_assoc, take-append-drop, take-take, take_all, drop-drop, get_or-take}
+use Rattle.std.proofs.lemmas.List.{drop_more}
+use Rattle.px_base.specs.Numbers.{le32}
+use Rattle.disk_model.specs.Disk.{Writes, Torn}
+
+-- a list is its parts
+pub three_parts : (at n : ℕ) (octets : List ℕ) → octets ≡ take at octets ++ take n (drop at octets) ++ drop (at + n) octets
+three_parts at n octets =
+    sym (take-append-drop at octets)
+    ∙ ap (λ (l : List ℕ). take at octets ++ l) (sym (take-append-drop n (drop at octets)) ∙ ap (λ (l : List ℕ). take n (drop at octets) ++ l) (drop-drop n at octets))
+    ∙ sym (append_assoc (take at octets) (take n (drop at octets)) (drop (at + n) octets))
+
+-- the front of a longer list, of which the front is the same
+take_front : (at whole : ℕ) (old new : List ℕ) → at ≤ whole → take at (take whole new) ≡ take at old → take at new ≡ take at old
+take_front at whole old new le same = sym (take-take at whole new le) ∙ same
+
+-- a write inside or at the end
+pub written : (at : ℕ) (text old new : List ℕ) → at ≤ length old → Writes at text old new → new ≡ take at old ++ text ++ drop (at + length text) old
+written at text old new le writes =
+    three_parts at (length text) new
+    ∙ ap (λ (l : List ℕ). l ++ take (length text) (drop at new) ++ drop (at + length text) new) (take_front at (length old) old new le writes.before)
+    ∙ ap (λ (l : List ℕ). take at old ++ l ++ drop (at + length text) new) writes.there
+    ∙ ap (λ (l : List ℕ). take at old ++ text ++ l) writes.after
+
+-- the octets before a torn write stay
+pub torn_front : (at n : ℕ) (old new : List ℕ) → at ≤ length old → Torn at n old new → take at new ≡ take at old
+torn_front at n old new le torn = take_front at (length old) old new le torn.before
+
+-- a torn write inside
+pub torn_length : (at n : ℕ) (old new : List ℕ) → at + n ≤ length old → Torn at n old new → length new ≡ length old
+torn_length at n old new le torn = omega (arith, torn.no_shorter, torn.no_longer)
+
+pub torn_back : (at n : ℕ) (old new : List ℕ) → at + n ≤ length old → Torn at n old new → drop (at + n) new ≡ drop (at + n) old
+torn_back at n old new le torn =
+    let long = torn_length at n old new le torn in
+    ap (λ (l : List ℕ). drop (at + n) l) (sym (take_all (length old) new (omega (arith, long)))) ∙ torn.after
+
+-- a torn write of one octet inside leaves some octet there
+pub torn_octet : (at : ℕ) (old new : List ℕ) → at < length old → Torn at 1 old new → new ≡ take at old ++ get_or new at 0 ∷ drop (at + 1) old
+torn_octet at old new lt torn =
+    let long = torn_length at 1 old new (omega arith) torn in
+    sym (take-append-drop at new)
+    ∙ ap₂ (λ (a b : List ℕ). a ++ b) (torn_front at 1 old new (omega arith) torn)
+    (drop_more new at 0 (omega (arith, long)) ∙ ap (λ (l : List ℕ). get_or new at 0 ∷ l) (torn_back at 1 old new (omega arith) torn))
+
+-- the front of octets, in which the header is read
+pub front16 : (octets room : List ℕ) → room ≡ take 16 (drop 0 octets) → (le32 room 8 ≡ le32 octets 8) × (get_or room 15 0 ≡ get_or octets 15 0) × (take 8 room ≡ take 8 octets)
+front16 octets room is =
+    let at : (i : ℕ) → i < 16 → get_or room i 0 ≡ get_or octets i 0 = λ i lt. ap (λ (l : List ℕ). get_or l i 0) is ∙ get_or-take 16 octets i 0 lt in (
+      omega (arith, at 8 (omega arith), at 9 (omega arith), at 10 (omega arith), at 11 (omega arith)),
+      at 15 (omega arith),
+      ap (λ (l : List ℕ). take 8 l) is ∙ take-take 8 16 octets (omega arith),
+    )

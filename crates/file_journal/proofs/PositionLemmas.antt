@@ -1,0 +1,65 @@
+-- The journal's place among the records.
+use Rattle.std.proofs.Common.{◌≡◌, inl, inr, ℕ, ◌+◌, List, [], ◌∷◌, ◌++◌, length, drop, Option, IfSome, refl, sym, ◌∙◌, ap, arith, append_assoc, length-append}
+use Rattle.std.specs.List.{AllByRecursion}
+use Rattle.disk_model.specs.Disk.{SameImages}
+use Rattle.file_journal.specs.Records.{Record, IsRecord, record_text, records_text, Reading, with_record, with_records, reading_from}
+use Rattle.file_journal.specs.Journal.{store_of}
+use Rattle.file_journal.specs.Position.{Position, left, IsAt, StandsOn}
+use Rattle.file_journal.proofs.MomentLemmas.{if_told, at_told}
+use Rattle.file_journal.proofs.ReadingLemmas.{read_on, no_record}
+
+pub records_text-append : (entries others : List Record) → records_text (entries ++ others) ≡ records_text entries ++ records_text others
+records_text-append [] others = refl
+records_text-append (entry ∷ entries) others =
+    ap (λ (l : List ℕ). 1 ∷ record_text entry ++ l) (records_text-append entries others)
+    ∙ sym (append_assoc (1 ∷ record_text entry) (records_text entries) (records_text others))
+
+pub length-records_text-push : (entries : List Record) (entry : Record) → length (records_text (entries ++ entry ∷ [])) ≡ length (records_text entries) + 4 + length entry.content
+length-records_text-push entries entry =
+    ap length (records_text-append entries (entry ∷ []))
+    ∙ omega (arith, length-append (records_text entries) (records_text (entry ∷ [])), length-append entry.content [])
+
+pub with_records-append : (entries others : List Record) (reading : Reading) → with_records (entries ++ others) reading ≡ with_records entries (with_records others reading)
+with_records-append [] others reading = refl
+with_records-append (entry ∷ entries) others reading = ap (with_record entry) (with_records-append entries others reading)
+
+-- The journal moves on over a record that it has read.
+module _ (journal : Position) (place : ℕ) (entry : Record) (is_place : place ≡ journal.place + 4 + length entry.content) where
+  moved_at : (passed : List Record) (octets : List ℕ) (next : Reading) → IsAt journal passed octets → left journal octets ≡ with_record entry next
+      → IsAt (record journal { place = place }) (passed ++ entry ∷ []) octets × (left (record journal { place = place }) octets ≡ next)
+  moved_at passed octets next is_at found =
+      let on = read_on journal.place octets entry next found in
+      let now : reading_from place (drop place octets) ≡ next = ap (λ (i : ℕ). reading_from i (drop i octets)) is_place ∙ on.1 in (
+        record {
+          formatted = is_at.formatted;
+          place = is_place ∙ omega (arith, is_at.place, length-records_text-push passed entry);
+          records =
+              is_at.records ∙ ap (λ (r : Reading). store_of journal.blocks (with_records passed r)) (found ∙ ap (with_record entry) (sym now))
+              ∙ ap (store_of journal.blocks) (sym (with_records-append passed (entry ∷ []) (reading_from place (drop place octets))));
+          ended = λ end. absurd (no_record entry next (sym found ∙ is_at.ended end));
+        },
+        now,
+      )
+
+  pub moved : (content now : Option (List ℕ)) (images later : List ℕ → Type 0) → now ≡ content → SameImages images later
+      → IfSome content (λ octets. left journal octets ≡ with_record entry (reading_from place (drop place octets)))
+      → StandsOn journal content images → StandsOn (record journal { place = place }) now later
+  moved content now images later same same_images found (inl failed) = inl failed
+  moved content now images later same same_images found (inr stands) =
+      inr (if_told now _ (λ octets told.
+      let was = sym same ∙ told in
+      let at = at_told _ octets was stands in
+      let here = at_told _ octets was found in
+      let moved_here = moved_at at.0 octets _ at.1 here in (
+        at.0 ++ entry ∷ [],
+        moved_here.0,
+        λ image left_there.
+            let there = at.2 image ((same_images image).0 left_there) in
+            let moved_there = moved_at at.0 image _ there.0 (there.1 ∙ here) in
+            (moved_there.0, moved_there.1),
+      )))
+
+-- each is a record, and so is one more
+pub records-push : (entries : List Record) (entry : Record) → AllByRecursion IsRecord entries → IsRecord entry → AllByRecursion IsRecord (entries ++ entry ∷ [])
+records-push [] entry are is = (is, tt)
+records-push (first ∷ entries) entry are is = (are.0, records-push entries entry are.1 is)

@@ -1,0 +1,51 @@
+-- What a crash leaves while a record is put behind a gate.
+use Rattle.std.proofs.Common.{◌≡◌, inr, ℕ, ◌+◌, ◌<◌, List, [], ◌∷◌, ◌++◌, length, get_or, take, drop, sym, ◌∙◌, ap, ap₂, subst, arith, append_assoc, length-append, take-take}
+use Rattle.std.proofs.lemmas.List.{take-append-le, drop_at, length-take-le}
+use Rattle.disk_model.specs.Disk.{Writes, Torn, Follows, Only}
+use Rattle.file_journal.specs.Steps.{IsPutting, with_gate}
+use Rattle.file_journal.proofs.OctetLemmas.{written, torn_octet}
+
+-- the content with a record behind the gate, which is as it was
+abbrev pub staged : ℕ → List ℕ → List ℕ → List ℕ
+staged place text before = take (place + 1) before ++ text ++ drop (place + 1 + length text) before
+
+module _ (place : ℕ) (text before : List ℕ) (there : place < length before) where
+  front_length : length (take (place + 1) before) ≡ place + 1
+  front_length = length-take-le (place + 1) before (omega arith)
+
+  pub staged_front : take place (staged place text before) ≡ take place before
+  staged_front =
+      take-append-le place (take (place + 1) before ++ text) (drop (place + 1 + length text) before) (omega (arith, front_length, length-append (take (place + 1) before) text))
+      ∙ take-append-le place (take (place + 1) before) text (omega (arith, front_length))
+      ∙ take-take place (place + 1) before (omega arith)
+
+  pub staged_back : drop (place + 1) (staged place text before) ≡ text ++ drop (place + 1 + length text) before
+  staged_back =
+      ap (λ (l : List ℕ). drop (place + 1) l) (append_assoc (take (place + 1) before) text (drop (place + 1 + length text) before))
+      ∙ drop_at (take (place + 1) before) (text ++ drop (place + 1 + length text) before) (place + 1) front_length
+
+  pub staged_long : place < length (staged place text before)
+  staged_long =
+      omega (arith, front_length, length-append (take (place + 1) before) text, length-append (take (place + 1) before ++ text) (drop (place + 1 + length text) before))
+
+  -- an octet at the gate's place, and the record behind it
+  pub gated : (gate : ℕ) → take place (staged place text before) ++ gate ∷ drop (place + 1) (staged place text before) ≡ with_gate place gate text before
+  gated gate =
+      ap₂ (λ (a b : List ℕ). a ++ gate ∷ b) staged_front staged_back
+      ∙ sym (append_assoc (take place before) (gate ∷ text) (drop (place + 1 + length text) before))
+
+  pub staged_by : (new : List ℕ) → Writes (place + 1) text before new → new ≡ staged place text before
+  staged_by new writes = written (place + 1) text before new (omega arith) writes
+
+  pub opened_by : (new : List ℕ) → Writes place (1 ∷ []) (staged place text before) new → new ≡ with_gate place 1 text before
+  opened_by new writes =
+      written place (1 ∷ []) (staged place text before) new (omega (arith, staged_long)) writes
+      ∙ append_assoc (take place (staged place text before)) (1 ∷ []) (drop (place + 1) (staged place text before))
+      ∙ gated 1
+
+  -- each image after the gate's write has the record whole
+  pub gate_crash : (old images now : List ℕ → Type 0) → Only images (staged place text before) → Follows (Torn place 1) images now → (image : List ℕ) → now image → IsPutting place text before old image
+  gate_crash old images now only follows image left =
+      let from = follows image left in
+      let torn : Torn place 1 (staged place text before) image = subst (λ (l : List ℕ). Torn place 1 l image) (only from.0 from.1) from.2 in
+      inr (get_or image place 0, torn_octet place (staged place text before) image staged_long torn ∙ gated (get_or image place 0))

@@ -1,0 +1,340 @@
+-- What is read from a gate on.
+use Rattle.std.proofs.Common.{◌≡◌, ◌≢◌, ◌⊎◌, inl, inr, ⊎_elim, ℕ, zero, suc, ◌+◌, ◌-◌, ◌*◌, ◌/◌, ◌%◌, ◌<◌, ◌≤◌, true, false, ◌==◌, nat_le, nat_lt, if◌then◌else◌, List, [], ◌∷◌, ◌++◌, length, get_or, take, drop, refl, sym, ◌∙◌, ap, ap₂, subst, arith, append_assoc, append-nil, length-append, length-drop, take-append-drop, drop-drop, get_or-drop, get_or-take, ne_eqb}
+use Rattle.std.proofs.lemmas.Bool.{cond-true, cond-false, cases_Bool, cases_eq, cases_lt, and_parts, and_from, and_left, and_right, leb-true, ltb-true, le-leb, lt-leb, lt-ltb, le-ltb, both_ways}
+use Rattle.std.proofs.lemmas.List.{take_at, drop_at, drop_more, drop_all, length-take-le}
+use Rattle.std.proofs.lemmas.List.Elements.{All-take, All-drop, All-head, All-tail}
+use Rattle.std.specs.List.{AllByRecursion}
+use Rattle.px_base.specs.Numbers.{le16}
+use Rattle.disk_model.specs.Disk.{IsOctets}
+use Rattle.file_journal.specs.Records.{Record, IsRecord, record_text, records_text, StartsClosed, StartsCut, Reading, whole, broken, StandsFrom, record_len, starts_whole, record_in, with_record, with_records, reading_within, reading_from}
+
+-- what is made of what follows a gate's record
+abbrev step_of : ℕ → ℕ → List ℕ → Reading → Reading
+step_of place gate octets next =
+    if gate == 1 then (if starts_whole octets then with_record (record_in octets) next else broken [] place) else whole []
+
+-- more records than octets are never asked for
+enough : (n m place : ℕ) (octets : List ℕ) → length octets ≤ n → length octets ≤ m → reading_within n place octets ≡ reading_within m place octets
+unfolding reading_within
+enough zero zero place octets hn hm = refl
+enough zero (suc m) place [] hn hm = refl
+enough zero (suc m) place (gate ∷ octets) hn hm = absurd (omega arith)
+enough (suc n) zero place [] hn hm = refl
+enough (suc n) zero place (gate ∷ octets) hn hm = absurd (omega arith)
+enough (suc n) (suc m) place [] hn hm = refl
+enough (suc n) (suc m) place (gate ∷ octets) hn hm =
+    ap (step_of place gate octets)
+    (enough n m (place + 1 + record_len octets) (drop (record_len octets) octets)
+    (omega (arith, length-drop (record_len octets) octets, hn)) (omega (arith, length-drop (record_len octets) octets, hm)))
+
+pub reading_step : (place gate : ℕ) (octets : List ℕ) → reading_from place (gate ∷ octets) ≡ step_of place gate octets (reading_from (place + 1 + record_len octets) (drop (record_len octets) octets))
+unfolding reading_from reading_within
+reading_step place gate octets =
+    ap (step_of place gate octets)
+    (enough (length octets) (length (drop (record_len octets) octets)) (place + 1 + record_len octets) (drop (record_len octets) octets)
+    (omega (arith, length-drop (record_len octets) octets)) (omega arith))
+
+pub reading_none : (place : ℕ) → reading_from place [] ≡ broken [] place
+unfolding reading_from reading_within
+reading_none place = refl
+
+pub reading_closed : (place gate : ℕ) (octets : List ℕ) → gate ≢ 1 → reading_from place (gate ∷ octets) ≡ whole []
+reading_closed place gate octets shut = reading_step place gate octets ∙ cond-false (gate == 1) _ _ (ne_eqb gate 1 shut)
+
+pub reading_broken : (place : ℕ) (octets : List ℕ) → starts_whole octets ≡ false → reading_from place (1 ∷ octets) ≡ broken [] place
+reading_broken place octets cut = reading_step place 1 octets ∙ cond-false (starts_whole octets) _ _ cut
+
+pub reading_whole : (place : ℕ) (octets : List ℕ) → starts_whole octets ≡ true → reading_from place (1 ∷ octets) ≡ with_record (record_in octets) (reading_from (place + 1 + record_len octets) (drop (record_len octets) octets))
+reading_whole place octets is_whole = reading_step place 1 octets ∙ cond-true (starts_whole octets) _ _ is_whole
+
+-- A record's text, with a gate behind it, is read as that record.
+module _ (entry : Record) (is : IsRecord entry) (gate : ℕ) (later : List ℕ) where
+  number : le16 (record_text entry ++ gate ∷ later) 1 ≡ length entry.content
+  number = omega (arith, is.most)
+
+  text_length : length (record_text entry ++ gate ∷ later) ≡ 4 + length entry.content + length later
+  text_length = omega (arith, length-append entry.content (gate ∷ later))
+
+  pub text_starts_whole : starts_whole (record_text entry ++ gate ∷ later) ≡ true
+  text_starts_whole =
+      and_from _ _ (le-leb (le16 (record_text entry ++ gate ∷ later) 1) 600 (omega (arith, number, is.most)))
+      (lt-ltb (record_len (record_text entry ++ gate ∷ later)) (length (record_text entry ++ gate ∷ later)) (omega (arith, number, text_length)))
+
+  pub text_record_in : record_in (record_text entry ++ gate ∷ later) ≡ entry
+  text_record_in =
+      ap (λ (l : List ℕ). let r : Record = record { kind = entry.kind; content = l } in r)
+      (ap (λ (n : ℕ). take n (entry.content ++ gate ∷ later)) number ∙ take_at entry.content (gate ∷ later) (length entry.content) refl)
+
+  pub text_rest : drop (record_len (record_text entry ++ gate ∷ later)) (record_text entry ++ gate ∷ later) ≡ gate ∷ later
+  text_rest =
+      ap (λ (n : ℕ). drop (3 + n) (record_text entry ++ gate ∷ later)) number
+      ∙ sym (drop-drop (length entry.content) 3 (record_text entry ++ gate ∷ later))
+      ∙ drop_at entry.content (gate ∷ later) (length entry.content) refl
+
+  pub reading_text : (place : ℕ) → reading_from place (1 ∷ record_text entry ++ gate ∷ later) ≡ with_record entry (reading_from (place + 4 + length entry.content) (gate ∷ later))
+  reading_text place =
+      reading_whole place (record_text entry ++ gate ∷ later) text_starts_whole
+      ∙ ap₂ with_record text_record_in
+      (ap₂ reading_from (let at : place + 1 + record_len (record_text entry ++ gate ∷ later) ≡ place + 4 + length entry.content = omega (arith, number) in at) text_rest)
+
+-- what the test says
+pub whole_parts : (octets : List ℕ) → starts_whole octets ≡ true → (le16 octets 1 ≤ 600) × (record_len octets < length octets)
+whole_parts octets is_whole =
+    let parts = and_parts (nat_le (le16 octets 1) 600) (nat_lt (record_len octets) (length octets)) is_whole in
+    (leb-true (le16 octets 1) 600 parts.0, ltb-true (record_len octets) (length octets) parts.1)
+
+-- the text of a record of this kind and content
+three_octets : (kind low high n : ℕ) (content : List ℕ) → low < 256 → high < 256 → length content ≡ low + 256 * high
+    → kind ∷ low ∷ high ∷ content ≡ record_text (record { kind = kind; content = content })
+three_octets kind low high n content hl hh is =
+    let first : low ≡ length content % 256 = omega arith in
+    let second : high ≡ length content / 256 % 256 = omega arith in
+    ap₂ (λ (a b : ℕ). kind ∷ a ∷ b ∷ content) first second
+
+-- Octets that begin with a whole record and a gate are its text and what follows.
+pub whole_text : (octets : List ℕ) → IsOctets octets → starts_whole octets ≡ true → (gate : ℕ) × (later : List ℕ) × IsRecord (record_in octets) × (octets ≡ record_text (record_in octets) ++ gate ∷ later)
+whole_text [] are is_whole = absurd (let parts = whole_parts [] is_whole in omega (arith, parts.1))
+whole_text (a ∷ []) are is_whole = absurd (let parts = whole_parts (a ∷ []) is_whole in omega (arith, parts.1))
+whole_text (a ∷ b ∷ []) are is_whole = absurd (let parts = whole_parts (a ∷ b ∷ []) is_whole in omega (arith, parts.1))
+whole_text (kind ∷ low ∷ high ∷ rest) are is_whole =
+    let P : ℕ → Type 0 = λ octet. octet < 256 in
+    let n = low + 256 * high in
+    let parts = whole_parts (kind ∷ low ∷ high ∷ rest) is_whole in
+    let most : n ≤ 600 = omega (arith, parts.0) in
+    let long : n < length rest = omega (arith, parts.1) in
+    let size : length (take n rest) ≡ n = length-take-le n rest (omega (arith, long)) in
+    let are_rest : IsOctets rest = All-tail P high rest (All-tail P low (high ∷ rest) (All-tail P kind (low ∷ high ∷ rest) are)) in
+    let low_octet : low < 256 = All-head P low (high ∷ rest) (All-tail P kind (low ∷ high ∷ rest) are) in
+    let high_octet : high < 256 = All-head P high rest (All-tail P low (high ∷ rest) (All-tail P kind (low ∷ high ∷ rest) are)) in
+    let split : rest ≡ take n rest ++ get_or rest n 0 ∷ drop (n + 1) rest = sym (take-append-drop n rest) ∙ ap (λ (l : List ℕ). take n rest ++ l) (drop_more rest n 0 long) in (
+      get_or rest n 0,
+      drop (n + 1) rest,
+      record { kind = All-head P kind (low ∷ high ∷ rest) are; octets = All-take P n rest are_rest; most = omega (arith, size, most) },
+      ap (λ (l : List ℕ). kind ∷ low ∷ high ∷ l) split
+          ∙ ap (λ (l : List ℕ). l ++ get_or rest n 0 ∷ drop (n + 1) rest) (three_octets kind low high n (take n rest) low_octet high_octet size),
+    )
+
+-- Where no record with a gate stands at the front, none is read.
+pub cut_text : (octets : List ℕ) → IsOctets octets → StartsCut octets → starts_whole octets ≡ false
+cut_text octets are cut = elim (cases_Bool (starts_whole octets)) [
+  | inl is_whole ↦ (let text = whole_text octets are is_whole in absurd (cut (record_in octets) text.0 text.1 text.2 text.3))
+  | inr none ↦ none
+]
+
+-- and the other way round
+pub text_cut : (octets : List ℕ) → starts_whole octets ≡ false → StartsCut octets
+text_cut octets none entry gate later is same =
+    both_ways (starts_whole octets) none (ap starts_whole same ∙ text_starts_whole entry is gate later)
+
+pub with_records-whole : (entries others : List Record) → with_records entries (whole others) ≡ whole (entries ++ others)
+with_records-whole [] others = refl
+with_records-whole (entry ∷ entries) others = ap (with_record entry) (with_records-whole entries others)
+
+pub with_records-broken : (entries others : List Record) (at : ℕ) → with_records entries (broken others at) ≡ broken (entries ++ others) at
+with_records-broken [] others at = refl
+with_records-broken (entry ∷ entries) others at = ap (with_record entry) (with_records-broken entries others at)
+
+pub length-record_text : (entry : Record) → length (record_text entry) ≡ 3 + length entry.content
+length-record_text entry = omega arith
+
+-- a gate stands at the front of records with a gate behind them
+some_gate : (entries : List Record) (gate : ℕ) (later : List ℕ) → (first : ℕ) × (others : List ℕ) × (records_text entries ++ gate ∷ later ≡ first ∷ others)
+some_gate [] gate later = (gate, later, refl)
+some_gate (entry ∷ entries) gate later = (1, record_text entry ++ records_text entries ++ gate ∷ later, refl)
+
+-- one record before octets that begin with a gate
+pub reading_more : (entry : Record) (place : ℕ) (next : List ℕ) → IsRecord entry → 0 < length next
+    → reading_from place (1 ∷ record_text entry ++ next) ≡ with_record entry (reading_from (place + 4 + length entry.content) next)
+reading_more entry place [] is some = absurd (omega (arith, some))
+reading_more entry place (gate ∷ later) is some = reading_text entry is gate later place
+
+-- The text of records, with a gate behind it, is read as them and what stands from that gate on.
+pub reading_records : (entries : List Record) (place gate : ℕ) (later : List ℕ) → AllByRecursion IsRecord entries
+    → reading_from place (records_text entries ++ gate ∷ later) ≡ with_records entries (reading_from (place + length (records_text entries)) (gate ∷ later))
+reading_records [] place gate later are = ap (λ (n : ℕ). reading_from n (gate ∷ later)) (let same : place ≡ place + 0 = omega arith in same)
+reading_records (entry ∷ entries) place gate later are =
+    let at : place + 4 + length entry.content + length (records_text entries) ≡ place + length (records_text (entry ∷ entries)) =
+    omega (arith, length-append entry.content (records_text entries)) in
+    let some : 0 < length (records_text entries ++ gate ∷ later) = omega (arith, length-append (records_text entries) (gate ∷ later)) in
+    ap (λ (l : List ℕ). reading_from place (1 ∷ l)) (append_assoc (record_text entry) (records_text entries) (gate ∷ later))
+    ∙ reading_more entry place (records_text entries ++ gate ∷ later) are.0 some
+    ∙ ap (with_record entry) (reading_records entries (place + 4 + length entry.content) gate later are.1)
+    ∙ ap (λ (n : ℕ). with_record entry (with_records entries (reading_from n (gate ∷ later)))) at
+
+-- octets behind others that are octets
+are_behind : (front back octets : List ℕ) → octets ≡ front ++ back → IsOctets octets → IsOctets back
+are_behind front back octets is are =
+    let P : ℕ → Type 0 = λ octet. octet < 256 in
+    subst (λ (l : List ℕ). IsOctets l) (ap (λ (l : List ℕ). drop (length front) l) is ∙ drop_at front back (length front) refl) (All-drop P (length front) octets are)
+
+-- What octets stand for is what is read.
+pub read_from_stands : (place : ℕ) (octets : List ℕ) (reading : Reading) → IsOctets octets → StandsFrom place octets reading → reading ≡ reading_from place octets
+read_from_stands place octets (whole entries) are stands = closed_end stands.0 stands.2 stands.3
+  where
+    closed_end : (rest : List ℕ) → octets ≡ records_text entries ++ rest → StartsClosed rest → whole entries ≡ reading_from place octets
+    closed_end [] is shut = absurd shut
+    closed_end (gate ∷ later) is shut =
+        sym (ap (reading_from place) is ∙ reading_records entries place gate later stands.1
+        ∙ ap (with_records entries) (reading_closed (place + length (records_text entries)) gate later shut)
+        ∙ with_records-whole entries [] ∙ ap whole (append-nil entries))
+read_from_stands place octets (broken entries at) are stands =
+    let rest = stands.0 in
+    let cut = cut_text rest (are_behind (records_text entries ++ 1 ∷ []) rest octets (stands.2 ∙ sym (append_assoc (records_text entries) (1 ∷ []) rest)) are) stands.3 in
+    sym (ap (reading_from place) stands.2 ∙ reading_records entries place 1 rest stands.1
+    ∙ ap (with_records entries) (reading_broken (place + length (records_text entries)) rest cut)
+    ∙ with_records-broken entries [] (place + length (records_text entries))
+    ∙ ap₂ broken (append-nil entries) (sym stands.4))
+
+-- one record more in front
+stands_more : (entry : Record) (place after : ℕ) (octets next : List ℕ) (reading : Reading) → IsRecord entry → octets ≡ record_text entry ++ next
+    → after ≡ place + 4 + length entry.content → StandsFrom after next reading → StandsFrom place (1 ∷ octets) (with_record entry reading)
+stands_more entry place after octets next (whole entries) is same at stands = (
+  stands.0,
+  (is, stands.1),
+  ap (λ (l : List ℕ). 1 ∷ l) (same ∙ ap (λ (l : List ℕ). record_text entry ++ l) stands.2 ∙ sym (append_assoc (record_text entry) (records_text entries) stands.0)),
+  stands.3,
+)
+stands_more entry place after octets next (broken entries where_) is same at stands = (
+  stands.0,
+  (is, stands.1),
+  ap (λ (l : List ℕ). 1 ∷ l) (same ∙ ap (λ (l : List ℕ). record_text entry ++ l) stands.2 ∙ sym (append_assoc (record_text entry) (records_text entries) (1 ∷ stands.0))),
+  stands.3,
+  omega (arith, at, stands.4, length-append entry.content (records_text entries)),
+)
+
+-- octets of which all that is shorter stands for what is read there
+abbrev StandsBelow : ℕ → Type 0
+StandsBelow most = (place : ℕ) (octets : List ℕ) → length octets ≤ most → IsOctets octets → 0 < length octets → StandsFrom place octets (reading_from place octets)
+
+-- the step of the induction, behind an open gate
+module _ (most place : ℕ) (octets : List ℕ) (le : length octets ≤ most) (are : IsOctets octets) (shorter : StandsBelow most) where
+  behind_whole : starts_whole octets ≡ true → StandsFrom place (1 ∷ octets) (reading_from place (1 ∷ octets))
+  behind_whole is_whole =
+      let text = whole_text octets are is_whole in
+      let entry = record_in octets in
+      let next : drop (record_len octets) octets ≡ text.0 ∷ text.1 =
+      ap (λ (l : List ℕ). drop (record_len l) l) text.3 ∙ text_rest entry text.2 text.0 text.1 in
+      let after = place + 1 + record_len octets in
+      let stands =
+      shorter after (drop (record_len octets) octets) (omega (arith, length-drop (record_len octets) octets, le))
+      (All-drop (λ octet. octet < 256) (record_len octets) octets are) (omega (arith, ap length next)) in
+      let at : after ≡ place + 4 + length entry.content =
+      omega (arith, number entry text.2 text.0 text.1, ap (λ (l : List ℕ). le16 l 1) text.3) in
+      subst (λ (r : Reading). StandsFrom place (1 ∷ octets) r) (sym (reading_whole place octets is_whole))
+      (stands_more entry place after octets (drop (record_len octets) octets) _ text.2 (text.3 ∙ ap (λ (l : List ℕ). record_text entry ++ l) (sym next)) at stands)
+
+  behind_cut : starts_whole octets ≡ false → StandsFrom place (1 ∷ octets) (reading_from place (1 ∷ octets))
+  behind_cut none =
+      subst (λ (r : Reading). StandsFrom place (1 ∷ octets) r) (sym (reading_broken place octets none))
+      (octets, tt, refl, text_cut octets none, omega arith)
+
+  opened : (gate : ℕ) → gate ≡ 1 → StandsFrom place (gate ∷ octets) (reading_from place (gate ∷ octets))
+  opened gate is_open =
+      subst (λ (n : ℕ). StandsFrom place (n ∷ octets) (reading_from place (n ∷ octets))) (sym is_open)
+      (⊎_elim behind_whole behind_cut (cases_Bool (starts_whole octets)))
+
+-- What is read is what octets stand for.
+pub stands_from_read : (most : ℕ) → StandsBelow most
+stands_from_read zero place octets le are some = absurd (omega (arith, le, some))
+stands_from_read (suc most) place [] le are some = absurd (omega (arith, some))
+stands_from_read (suc most) place (gate ∷ octets) le are some =
+    ⊎_elim
+    (opened most place octets (omega (arith, le)) (All-tail (λ octet. octet < 256) gate octets are) (stands_from_read most) gate)
+    (λ shut. subst (λ (r : Reading). StandsFrom place (gate ∷ octets) r) (sym (reading_closed place gate octets shut)) (gate ∷ octets, tt, refl, shut))
+    (cases_eq gate 1)
+
+-- Damage stands at the gate or behind it.
+pub broken_later : (place at : ℕ) (octets : List ℕ) (entries : List Record) → IsOctets octets → 0 < length octets → reading_from place octets ≡ broken entries at → place ≤ at
+broken_later place at octets entries are some is =
+    let stands = subst (λ (r : Reading). StandsFrom place octets r) is (stands_from_read (length octets) place octets (omega arith) are some) in
+    omega (arith, stands.4)
+
+-- The gate at a place in octets, and what is read there.
+module _ (place : ℕ) (octets : List ℕ) where
+  pub read_past : length octets ≤ place → reading_from place (drop place octets) ≡ broken [] place
+  read_past past = ap (reading_from place) (drop_all place octets past) ∙ reading_none place
+
+  pub read_closed : place < length octets → get_or octets place 0 ≢ 1 → reading_from place (drop place octets) ≡ whole []
+  read_closed there shut = ap (reading_from place) (drop_more octets place 0 there) ∙ reading_closed place (get_or octets place 0) (drop (place + 1) octets) shut
+
+  at_gate : place < length octets → get_or octets place 0 ≡ 1 → drop place octets ≡ 1 ∷ drop (place + 1) octets
+  at_gate there is_open = drop_more octets place 0 there ∙ ap (λ (n : ℕ). n ∷ drop (place + 1) octets) is_open
+
+  pub read_cut : place < length octets → get_or octets place 0 ≡ 1 → starts_whole (drop (place + 1) octets) ≡ false → reading_from place (drop place octets) ≡ broken [] place
+  read_cut there is_open cut = ap (reading_from place) (at_gate there is_open) ∙ reading_broken place (drop (place + 1) octets) cut
+
+  -- a record of this kind and length
+  pub read_one : (kind n : ℕ) → place < length octets → get_or octets place 0 ≡ 1 → kind ≡ get_or (drop (place + 1) octets) 0 0 → n ≡ le16 (drop (place + 1) octets) 1 → n ≤ 600 → place + 4 + n < length octets
+      → reading_from place (drop place octets) ≡ with_record (record { kind = kind; content = take n (drop (place + 4) octets) }) (reading_from (place + 4 + n) (drop (place + 4 + n) octets))
+  read_one kind n there is_open is_kind is_number most long =
+      let rest = drop (place + 1) octets in
+      let size : length rest ≡ length octets - (place + 1) = length-drop (place + 1) octets in
+      let is_whole : starts_whole rest ≡ true =
+      and_from _ _ (le-leb (le16 rest 1) 600 (omega (arith, is_number, most))) (lt-ltb (record_len rest) (length rest) (omega (arith, is_number, long, size))) in
+      let at : place + 1 + record_len rest ≡ place + 4 + n = omega (arith, is_number) in
+      let content : drop 3 rest ≡ drop (place + 4) octets = drop-drop 3 (place + 1) octets ∙ ap (λ (i : ℕ). drop i octets) (let same : place + 1 + 3 ≡ place + 4 = omega arith in same) in
+      let next : drop (record_len rest) rest ≡ drop (place + 4 + n) octets = drop-drop (record_len rest) (place + 1) octets ∙ ap (λ (i : ℕ). drop i octets) at in
+      let entry : record_in rest ≡ record { kind = kind; content = take n (drop (place + 4) octets) } =
+      ap₂ (λ (k : ℕ) (l : List ℕ). let r : Record = record { kind = k; content = l } in r) (sym is_kind) (ap₂ (λ (i : ℕ) (l : List ℕ). take i l) (sym is_number) content) in
+      ap (reading_from place) (at_gate there is_open) ∙ reading_whole place rest is_whole ∙ ap₂ with_record entry (ap₂ reading_from at next)
+
+-- no whole record where its content is too long, or it and a gate aren't there
+pub not_whole : (octets : List ℕ) → (600 < le16 octets 1) ⊎ (length octets ≤ record_len octets) → starts_whole octets ≡ false
+not_whole octets (inl long) = and_left (nat_le (le16 octets 1) 600) (nat_lt (record_len octets) (length octets)) (lt-leb (le16 octets 1) 600 long)
+not_whole octets (inr short) = and_right (nat_le (le16 octets 1) 600) (nat_lt (record_len octets) (length octets)) (le-ltb (record_len octets) (length octets) short)
+
+-- what was read of a gate, and of the front of a record
+pub gate_read : (place : ℕ) (octets room : List ℕ) → room ≡ take 1 (drop place octets) → get_or room 0 0 ≡ get_or octets place 0
+gate_read place octets room is =
+    ap (λ (l : List ℕ). get_or l 0 0) is ∙ get_or-take 1 (drop place octets) 0 0 (omega arith) ∙ get_or-drop place octets 0 0
+    ∙ ap (λ (i : ℕ). get_or octets i 0) (let same : place + 0 ≡ place = omega arith in same)
+
+pub front_read : (rest room : List ℕ) → room ≡ take 3 rest → (get_or room 0 0 ≡ get_or rest 0 0) × (le16 room 1 ≡ le16 rest 1)
+front_read rest room is =
+    let at : (i : ℕ) → i < 3 → get_or room i 0 ≡ get_or rest i 0 = λ i lt. ap (λ (l : List ℕ). get_or l i 0) is ∙ get_or-take 3 rest i 0 lt in
+    (at 0 (omega arith), omega (arith, at 1 (omega arith), at 2 (omega arith)))
+
+-- a reading that begins with a record isn't one without, and begins with no other
+pub no_record : (entry : Record) (reading : Reading) → with_record entry reading ≡ whole [] → ⊥
+no_record entry (whole entries) is = cc is
+no_record entry (broken entries at) is = cc is
+
+pub no_record_broken : (entry : Record) (reading : Reading) (at : ℕ) → with_record entry reading ≡ broken [] at → ⊥
+no_record_broken entry (whole entries) at is = cc is
+no_record_broken entry (broken entries where_) at is = cc is
+
+pub same_record : (a b : Record) (x y : Reading) → with_record a x ≡ with_record b y → (a ≡ b) × (x ≡ y)
+same_record a b (whole x) (whole y) is = (cc is, cc is)
+same_record a b (whole x) (broken y at) is = absurd (cc is)
+same_record a b (broken x at) (whole y) is = absurd (cc is)
+same_record a b (broken x at) (broken y where_) is = (cc is, cc is)
+
+-- Where a record is read, what is behind it is read there.
+pub read_on : (place : ℕ) (octets : List ℕ) (entry : Record) (next : Reading) → reading_from place (drop place octets) ≡ with_record entry next
+    → (place + 4 + length entry.content < length octets) × (reading_from (place + 4 + length entry.content) (drop (place + 4 + length entry.content) octets) ≡ next)
+read_on place octets entry next is = elim (cases_lt place (length octets)) [
+  | inr past ↦ absurd (no_record_broken entry next place (sym is ∙ read_past place octets past))
+  | inl there ↦ elim (cases_eq (get_or octets place 0) 1) [
+    | inr shut ↦ absurd (no_record entry next (sym is ∙ read_closed place octets there shut))
+    | inl is_open ↦ elim (cases_Bool (starts_whole (drop (place + 1) octets))) [
+      | inr cut ↦ absurd (no_record_broken entry next place (sym is ∙ read_cut place octets there is_open cut))
+      | inl is_whole ↦ on place octets entry next there is_open is_whole is
+    ]
+  ]
+]
+  where
+    on : (place : ℕ) (octets : List ℕ) (entry : Record) (next : Reading) → place < length octets → get_or octets place 0 ≡ 1 → starts_whole (drop (place + 1) octets) ≡ true
+        → reading_from place (drop place octets) ≡ with_record entry next
+        → (place + 4 + length entry.content < length octets) × (reading_from (place + 4 + length entry.content) (drop (place + 4 + length entry.content) octets) ≡ next)
+    on place octets entry next there is_open is_whole is =
+        let rest = drop (place + 1) octets in
+        let n = le16 rest 1 in
+        let parts = whole_parts rest is_whole in
+        let size : length rest ≡ length octets - (place + 1) = length-drop (place + 1) octets in
+        let long : place + 4 + n < length octets = omega (arith, parts.1, size) in
+        let here : Record = record { kind = get_or rest 0 0; content = take n (drop (place + 4) octets) } in
+        let same : (here ≡ entry) × (reading_from (place + 4 + n) (drop (place + 4 + n) octets) ≡ next) =
+        same_record here entry _ next (sym (read_one place octets (get_or rest 0 0) n there is_open refl refl parts.0 long) ∙ is) in
+        let number : n ≡ length entry.content =
+        sym (length-take-le n (drop (place + 4) octets) (omega (arith, long, length-drop (place + 4) octets))) ∙ ap (λ (e : Record). length e.content) same.0 in
+        (omega (arith, long, number), ap (λ (i : ℕ). reading_from (place + 4 + i) (drop (place + 4 + i) octets)) (sym number) ∙ same.1)

@@ -1,0 +1,46 @@
+//! The refusals of a journal.
+
+ghost use Rattle.std.specs.Prelude.{◌≡◌};
+ghost use Rattle.file_journal.specs.declared.faults.RecoverFault.TheVariants.{Disk};
+
+use disk_model::DiskFault;
+use thiserror::Error;
+
+/// Why a disk's content isn't read as a journal.
+#[derive(Clone, Copy, Debug, PartialEq, Eq, Error)]
+pub enum RecoverFault {
+    /// There are more than 16 octets, and they don't begin with the magic.
+    #[error("no store: it begins with {found:?}")]
+    NotAStore {
+        /// The first eight octets.
+        found: [u8; 8],
+    },
+    /// The block number isn't in 1..=65,536, or an open gate isn't followed by a whole record.
+    #[error("the store is damaged at octet {at}")]
+    Damaged {
+        /// 8 for the block number, else the place of the gate.
+        at: u64,
+    },
+    /// The disk failed, and its count of faults rose.
+    #[error("the disk failed")]
+    Disk,
+}
+
+impl From<DiskFault> for RecoverFault {
+    ghost from_gives = { λ _ fault. fault ≡ Disk };
+
+    fn from(_fault: DiskFault) -> RecoverFault {
+        RecoverFault::Disk
+    }
+}
+
+/// Why a record wasn't appended.
+#[derive(Clone, Copy, Debug, PartialEq, Eq, Error)]
+pub enum JournalFault {
+    /// The disk failed, and its count of faults rose. The record may stand or not.
+    #[error("the disk failed")]
+    Disk,
+    /// An earlier append failed; a new recovery is needed.
+    #[error("the journal failed before")]
+    Failed,
+}

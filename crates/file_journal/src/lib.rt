@@ -1,0 +1,21 @@
+//! A journal of records on a disk that may lose power at any moment.
+//!
+//! Octets 0 to 7 of the disk are the magic, 8 to 11 the block number, 12 to 14 zero, 15 the selector. From octet 16 on
+//! stand the records, each behind a gate of one octet: the kind in one octet, the content's length in two, the content,
+//! then the next gate. A gate is open where it is 01, and a record counts where its gate is open. A gate stands closed
+//! on the disk before anything is written behind it, and is opened by a write of its own after the record is synced: so
+//! no checksum is needed, and a crash leaves the records from before an append, or these and the new one.
+#![tactic(auto)]
+
+mod faults;
+mod format;
+mod header;
+mod journal;
+pub mod laws;
+mod record;
+
+pub use faults::{JournalFault, RecoverFault};
+pub use journal::Journal;
+
+#[cfg(test)]
+mod tests;

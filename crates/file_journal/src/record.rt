@@ -1,0 +1,150 @@
+//! One record: its text, putting it, and reading it.
+
+ghost use Rattle.std.specs.Prelude.{◌≡◌, ◌+◌, ◌^◌, ◌<◌, ◌≤◌, ℕ, List, [], ◌∷◌, ◌++◌, length, take, drop, slice_index, true, false, IfOk, IfSome, OnOk, OnErr, IsErrOf, None};
+ghost use Rattle.px_base.specs.Outside.{HasCause, Rose};
+ghost use Rattle.disk_model.specs.Disk.{HasContent, IsTold, Only};
+ghost use Rattle.file_journal.specs.Moments.{LeavesOnly, OnlyReads};
+ghost use Rattle.file_journal.specs.Records.{record_text as text, reading_from, with_record, whole, broken};
+ghost use Rattle.file_journal.specs.Steps.{IsPutting, with_gate};
+
+use crate::RecoverFault;
+use arrayvec::ArrayVec;
+use byteorder::{ByteOrder, LittleEndian};
+use disk_model::{Disk, DiskFault};
+use px_base::le16;
+
+/// An open gate.
+const OPEN: u8 = 1;
+
+/// A closed gate.
+const CLOSED: u8 = 0;
+
+/// The most octets that the content of a record has.
+const MAX_CONTENT: usize = 600;
+
+/// A record's octets behind its gate, and the next gate.
+pub type RecordText = ArrayVec<u8, 604>;
+
+/// The octets of a record behind its gate, and a closed gate.
+pub fn record_text(kind: u8, content: &[u8]) -> RecordText
+    requires { length content.now ≤ 600 }
+    ensures { result.items ≡ text (record { kind = kind; content = content.now }) ++ 0 ∷ [] }
+{
+    let mut octets = ArrayVec::new();
+    let mut len = [0; 2];
+    LittleEndian::write_u16(&mut len, content.len() as u16);
+    octets.push(kind);
+    octets.try_extend_from_slice(&len).unwrap();
+    octets.try_extend_from_slice(content).unwrap();
+    octets.push(CLOSED);
+    octets
+}
+
+/// Puts octets behind the closed gate at this place, syncs them, and then opens the gate and syncs it.
+pub fn put_record<D: Disk>(disk: &mut D, place: u64, octets: &[u8]) -> Result<(), DiskFault>
+    requires far { place < 2 ^ 63 }
+    requires gate { IfSome (D.content disk.old) (λ before. place < length before) }
+    ensures ok { OnOk result (HasContent (D.content disk.old) (D.content disk.new) (λ before now. (now ≡ with_gate place 1 octets.now before) × Only (D.images disk.new) now)) }
+    ensures fits { OnOk result (place + 1 + length octets.now ≤ 2 ^ 63) }
+    ensures since { IfSome (D.content disk.old) (λ before. LeavesOnly D.moment D.images_since disk.old disk.new (IsPutting place octets.now before (D.images disk.old))) }
+    ensures untold { IsTold (D.content disk.new) → IsTold (D.content disk.old) }
+    ensures told { IsTold (D.content disk.old) → IsTold (D.content disk.new) }
+    ensures calls { OnOk result (IfSome (D.content disk.old) (λ _. D.moment disk.new ≡ D.moment disk.old + 4)) }
+    ensures write_faults { HasCause (D.write_faults disk.old) (D.write_faults disk.new) result }
+    ensures read_faults { D.read_faults disk.new ≡ D.read_faults disk.old }
+{
+    disk.write_at(place + 1, octets)?;
+    disk.sync()?;
+    disk.write_at(place, &[OPEN])?;
+    disk.sync()
+}
+
+/// What stands at the front of a record.
+#[derive(Clone, Copy)]
+struct Start {
+    kind: u8,
+    /// The length of the content in octets, at most 600.
+    len: usize,
+}
+
+/// Whether the gate at this place is open. Where the disk has ended before it, the store is damaged there.
+fn is_open<D: Disk>(disk: &mut D, place: u64, end: u64) -> Result<bool, RecoverFault>
+    requires { IfSome (D.content disk.old) (λ octets. end ≡ length octets) }
+    ensures there { OnOk result (place < end) }
+    ensures open { result ≡ Ok true → IfSome (D.content disk.old) (λ octets. slice_index octets place ≡ 1) }
+    ensures closed { result ≡ Ok false → IfSome (D.content disk.old) (λ octets. reading_from place (drop place octets) ≡ whole []) }
+    ensures damaged { (at : ℕ) → IsErrOf result (RecoverFault.Damaged at) → (at ≡ place) × IfSome (D.content disk.old) (λ octets. reading_from place (drop place octets) ≡ broken [] place) }
+    ensures is_store { (found : List ℕ) → ¬ IsErrOf result (RecoverFault.NotAStore found) }
+    ensures disk { IsErrOf result RecoverFault.Disk → Rose (D.read_faults disk.old) (D.read_faults disk.new) }
+    ensures read_faults { D.read_faults disk.old ≤ D.read_faults disk.new }
+    ensures only_reads { OnlyReads D.content D.images D.moment D.images_since D.write_faults disk.old disk.new }
+{
+    if place >= end {
+        return Err(RecoverFault::Damaged { at: place });
+    }
+    let mut gate = [0];
+    disk.read(place, &mut gate)?;
+    Ok(gate[0] == OPEN)
+}
+
+/// Reads what stands at the front of the record behind the open gate at this place, where the record is whole and a
+/// gate stands behind it.
+fn read_start<D: Disk>(disk: &mut D, place: u64, end: u64) -> Result<Start, RecoverFault>
+    requires end { IfSome (D.content disk.old) (λ octets. end ≡ length octets) }
+    requires there { place < end }
+    requires gate { IfSome (D.content disk.old) (λ octets. slice_index octets place ≡ 1) }
+    ensures fits { IfOk result (λ start. (start.len ≤ 600) × (place + 4 + start.len < end)) }
+    ensures start { IfOk result (λ start. IfSome (D.content disk.old) (λ octets. reading_from place (drop place octets)
+        ≡ with_record (record { kind = start.kind; content = take start.len (drop (place + 4) octets) }) (reading_from (place + 4 + start.len) (drop (place + 4 + start.len) octets)))) }
+    ensures damaged { (at : ℕ) → IsErrOf result (RecoverFault.Damaged at) → (at ≡ place) × IfSome (D.content disk.old) (λ octets. reading_from place (drop place octets) ≡ broken [] place) }
+    ensures is_store { (found : List ℕ) → ¬ IsErrOf result (RecoverFault.NotAStore found) }
+    ensures disk { IsErrOf result RecoverFault.Disk → Rose (D.read_faults disk.old) (D.read_faults disk.new) }
+    ensures read_faults { D.read_faults disk.old ≤ D.read_faults disk.new }
+    ensures only_reads { OnlyReads D.content D.images D.moment D.images_since D.write_faults disk.old disk.new }
+{
+    let damaged = RecoverFault::Damaged { at: place };
+    if end - place <= 4 {
+        return Err(damaged);
+    }
+    let mut octets = [0; 3];
+    disk.read(place + 1, &mut octets)?;
+    let len = le16(&octets, 1);
+    if usize::from(len) > MAX_CONTENT || end - place - 4 <= u64::from(len) {
+        return Err(damaged);
+    }
+    Ok(Start {
+        kind: octets[0],
+        len: usize::from(len),
+    })
+}
+
+/// Reads the record behind the gate at this place: its kind, with its content in `room`; `None` exactly where the gate
+/// isn't open. Only a record replaces what is in `room`.
+pub fn read_record<D: Disk>(
+    disk: &mut D,
+    place: u64,
+    room: &mut ArrayVec<u8, 600>,
+) -> Result<Option<u8>, RecoverFault>
+    requires far { place < 2 ^ 63 }
+    ensures found { IfOk result (λ next. IfSome next (λ kind. IfSome (D.content disk.old) (λ octets. (place + 4 + length room.new.items < length octets) × (reading_from place (drop place octets) ≡ with_record (record { kind = kind; content = room.new.items }) (reading_from (place + 4 + length room.new.items) (drop (place + 4 + length room.new.items) octets)))))) }
+    ensures fits { IfOk result (λ next. IfSome next (λ kind. place + 4 + length room.new.items < 2 ^ 63)) }
+    ensures none { result ≡ Ok None → IfSome (D.content disk.old) (λ octets. reading_from place (drop place octets) ≡ whole []) }
+    ensures damaged { (at : ℕ) → IsErrOf result (RecoverFault.Damaged at) → (at ≡ place) × IfSome (D.content disk.old) (λ octets. reading_from place (drop place octets) ≡ broken [] place) }
+    ensures is_store { (found : List ℕ) → ¬ IsErrOf result (RecoverFault.NotAStore found) }
+    ensures err { OnErr result (room.new ≡ room.old) }
+    ensures room { result ≡ Ok None → room.new ≡ room.old }
+    ensures disk { IsErrOf result RecoverFault.Disk → Rose (D.read_faults disk.old) (D.read_faults disk.new) }
+    ensures read_faults { D.read_faults disk.old ≤ D.read_faults disk.new }
+    ensures only_reads { OnlyReads D.content D.images D.moment D.images_since D.write_faults disk.old disk.new }
+{
+    let end = disk.len()?;
+    if !is_open(disk, place, end)? {
+        return Ok(None);
+    }
+    let start = read_start(disk, place, end)?;
+    let mut content = [0; MAX_CONTENT];
+    disk.read(place + 4, &mut content[..start.len])?;
+    room.clear();
+    room.try_extend_from_slice(&content[..start.len]).unwrap();
+    Ok(Some(start.kind))
+}

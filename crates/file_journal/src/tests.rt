@@ -1,0 +1,267 @@
+//! Tests of what no clause says: texts, exact octets with ample memory, and recoveries after a stop at each call.
+
+ghost use Rattle.std.specs.Prelude.{◌≡◌, true, IfOk};
+ghost use Rattle.file_journal.specs.Position.{StandsOn};
+
+use crate::{Journal, JournalFault, RecoverFault};
+use arrayvec::ArrayVec;
+use disk_model::{Disk, FuseDisk, MemoryDisk};
+use std::test::Fail;
+
+const MAGIC: [u8; 8] = *b"PXSTORE0";
+
+/// A store of 8 blocks without records.
+const NEW: [u8; 18] = [
+    0x50, 0x58, 0x53, 0x54, 0x4F, 0x52, 0x45, 0x30, 8, 0, 0, 0, 0, 0, 0, 0, 0, 0,
+];
+
+/// The same with one record of kind 4.
+const ONE: [u8; 25] = [
+    0x50, 0x58, 0x53, 0x54, 0x4F, 0x52, 0x45, 0x30, 8, 0, 0, 0, 0, 0, 0, 0, 1, 4, 4, 0, 1, 0, 0, 0,
+    0,
+];
+
+#[test]
+fn texts_of_the_refusals(rt: HostRuntime) -> Result<(), Fail> {
+    let alloc = rt.alloc();
+    let found = *b"not a st";
+    let rows = [
+        (
+            RecoverFault::NotAStore { found },
+            "no store: it begins with [110, 111, 116, 32, 97, 32, 115, 116]",
+        ),
+        (
+            RecoverFault::Damaged { at: 16 },
+            "the store is damaged at octet 16",
+        ),
+        (RecoverFault::Disk, "the disk failed"),
+    ];
+    for (fault, text) in rows {
+        assert_eq!(rt; format!(in alloc; "{fault}")?.as_str(), text);
+    }
+    assert_eq!(rt;
+        format!(in alloc; "{}", JournalFault::Disk)?.as_str(),
+        "the disk failed"
+    );
+    assert_eq!(rt;
+        format!(in alloc; "{}", JournalFault::Failed)?.as_str(),
+        "the journal failed before"
+    );
+    Ok(())
+}
+
+/// Recovers the journal and reads it to its end: the journal, and how many records it has.
+fn read_to_end<D: Disk>(disk: &mut D) -> Result<(Journal, u64), RecoverFault>
+    ensures stands_on { IfOk result (λ read. StandsOn read.0 (D.content disk.new) (D.images disk.new)) }
+    ensures ended { IfOk result (λ read. read.0.ended ≡ true) }
+{
+    let mut journal = Journal::recover(disk, MAGIC, 8)?;
+    let mut room = ArrayVec::new();
+    let mut records = 0u64;
+    while journal.next(disk, &mut room)?.is_some() {
+        records = records.saturating_add(1);
+    }
+    Ok((journal, records))
+}
+
+#[test]
+fn a_new_store_and_a_record(rt: HostRuntime) -> Result<(), Fail> {
+    let mut disk = MemoryDisk::new(rt.alloc(), &[], &[])?;
+    let (mut journal, records) = read_to_end(&mut disk)?;
+    assert_eq!(rt; records, 0);
+    assert_eq!(rt; disk.bytes(), NEW.as_slice());
+    assert_eq!(rt; journal.append(&mut disk, 4, &[1, 0, 0, 0]), Ok(()));
+    assert_eq!(rt; disk.bytes(), ONE.as_slice());
+    assert!(rt; !journal.failed());
+    assert_eq!(rt; journal.append(&mut disk, 5, &[]), Ok(()));
+
+    let mut again = Journal::recover(&mut disk, MAGIC, 9)?;
+    assert_eq!(rt; again.blocks(), 8);
+    let mut room = ArrayVec::new();
+    assert_eq!(rt; again.next(&mut disk, &mut room), Ok(Some(4)));
+    assert_eq!(rt; room.as_slice(), [1, 0, 0, 0].as_slice());
+    assert_eq!(rt; again.next(&mut disk, &mut room), Ok(Some(5)));
+    assert_eq!(rt; room.as_slice(), [].as_slice());
+    assert_eq!(rt; again.next(&mut disk, &mut room), Ok(None));
+    Ok(())
+}
+
+#[test]
+fn contents(rt: HostRuntime) -> Result<(), Fail> {
+    let foreign = RecoverFault::NotAStore {
+        found: *b"not a st",
+    };
+    // the four octets of block number behind the magic, the octets behind them, and how many records the disk has
+    let rows: [(&[u8], &[u8], Result<u64, RecoverFault>); 11] = [
+        (
+            &[8, 0, 0, 0],
+            &[0, 0, 0, 0, 1, 4, 4, 0, 1, 0, 0, 0, 0],
+            Ok(1),
+        ),
+        (
+            &[8, 0, 0, 0],
+            &[0, 0, 0, 0, 1, 4, 4, 0, 1, 0, 0, 0],
+            Err(RecoverFault::Damaged { at: 16 }),
+        ),
+        (
+            &[8, 0, 0, 0],
+            &[0, 0, 0, 0, 1, 4, 0, 0, 1, 4, 4, 0],
+            Err(RecoverFault::Damaged { at: 20 }),
+        ),
+        (
+            &[8, 0, 0, 0],
+            &[0, 0, 0, 0, 1, 0],
+            Err(RecoverFault::Damaged { at: 16 }),
+        ),
+        (
+            &[8, 0, 0, 0],
+            &[0, 0, 0, 0, 1, 0, 0],
+            Err(RecoverFault::Damaged { at: 16 }),
+        ),
+        (&[8, 0, 0, 0], &[0, 0, 0, 0, 2, 4, 4, 0], Ok(0)),
+        (&[8, 0, 0, 0], &[0, 0, 0, 3, 1], Ok(0)),
+        (&[8, 0, 0], &[], Ok(0)),
+        (
+            &[0, 0, 0, 0],
+            &[0, 0, 0, 0, 0],
+            Err(RecoverFault::Damaged { at: 8 }),
+        ),
+        (
+            &[1, 0, 1, 0],
+            &[0, 0, 0, 0, 0, 0],
+            Err(RecoverFault::Damaged { at: 8 }),
+        ),
+        (&[0, 0, 1, 0], &[0, 0, 0, 0, 0, 0], Ok(0)),
+    ];
+    for (number, rest, wanted) in rows {
+        let mut octets = MAGIC.to_vec(rt.alloc())?;
+        octets.extend_from_slice(number)?;
+        octets.extend_from_slice(rest)?;
+        let mut disk = MemoryDisk::new(rt.alloc(), &octets, &[])?;
+        let read = read_to_end(&mut disk).map(|(_, records)| records);
+        assert_eq!(rt; read, wanted, "{number:?} {rest:?}");
+    }
+    let mut disk = MemoryDisk::new(rt.alloc(), b"not a store file.", &[])?;
+    assert_eq!(rt;
+        read_to_end(&mut disk).map(|(_, records)| records),
+        Err(foreign)
+    );
+    Ok(())
+}
+
+#[test]
+fn lengths_of_contents(rt: HostRuntime) -> Result<(), Fail> {
+    // the two octets of length before 602 others, and how many records there are
+    let rows = [
+        ([0x58, 0x02], Ok(1)),
+        ([0x59, 0x02], Err(RecoverFault::Damaged { at: 16 })),
+    ];
+    for (len, wanted) in rows {
+        let mut octets = NEW[..16].to_vec(rt.alloc())?;
+        octets.extend_from_slice(&[1, 4])?;
+        octets.extend_from_slice(&len)?;
+        octets.extend_from_slice(&[0; 602])?;
+        let mut disk = MemoryDisk::new(rt.alloc(), &octets, &[])?;
+        let read = read_to_end(&mut disk).map(|(_, records)| records);
+        assert_eq!(rt; read, wanted, "{len:?}");
+    }
+    Ok(())
+}
+
+#[test]
+fn an_interrupted_formatting(rt: HostRuntime) -> Result<(), Fail> {
+    // the selector and the octet behind it, and the selector after the recovery
+    for (selector, gate, wanted) in [(0, 0, 0), (3, 1, 0), (4, 1, 4)] {
+        let mut octets = NEW[..15].to_vec(rt.alloc())?;
+        octets.extend_from_slice(&[selector, gate])?;
+        let mut disk = MemoryDisk::new(rt.alloc(), &octets, &[])?;
+        assert_eq!(rt; read_to_end(&mut disk)?.1, 0);
+        let mut after = NEW[..15].to_vec(rt.alloc())?;
+        after.extend_from_slice(&[wanted, 0, 0])?;
+        assert_eq!(rt; disk.bytes(), after.as_slice(), "{selector}");
+    }
+    Ok(())
+}
+
+#[test]
+fn stops_in_an_interrupted_formatting(rt: HostRuntime) -> Result<(), Fail> {
+    let mut octets = NEW[..15].to_vec(rt.alloc())?;
+    octets.extend_from_slice(&[3, 1])?;
+    for calls in 0..8u64 {
+        for pick in [0, 1, 6, 3, 7, 1003] {
+            let mut fuse = FuseDisk::new(MemoryDisk::new(rt.alloc(), &octets, &[])?, calls);
+            assert_eq!(rt; read_to_end(&mut fuse).is_ok(), calls == 7, "{calls}");
+            let mut disk = fuse.into_disk().crash(pick)?;
+            assert_eq!(rt; read_to_end(&mut disk)?.1, 0, "{calls} {pick}");
+            assert!(rt; disk.bytes().starts_with(&NEW[..15]), "{calls} {pick}");
+        }
+    }
+    Ok(())
+}
+
+/// Makes a store on the disk, or recovers it, and appends a record.
+fn put_one<D: Disk>(disk: &mut D) -> Result<(), RecoverFault> {
+    let (mut journal, _) = read_to_end(disk)?;
+    match journal.append(disk, 4, &[1, 0, 0, 0]) {
+        Ok(()) => Ok(()),
+        Err(_) => Err(RecoverFault::Disk),
+    }
+}
+
+#[test]
+fn an_append_that_fails(rt: HostRuntime) -> Result<(), Fail> {
+    // seven writes and syncs make the store, and the append's second sync is the eleventh
+    let mut fuse = FuseDisk::new(MemoryDisk::new(rt.alloc(), &[], &[])?, 10);
+    let (mut journal, _) = read_to_end(&mut fuse)?;
+    assert_eq!(rt;
+        journal.append(&mut fuse, 4, &[1, 0, 0, 0]),
+        Err(JournalFault::Disk)
+    );
+    assert!(rt; journal.failed());
+    assert_eq!(rt;
+        journal.append(&mut fuse, 4, &[]),
+        Err(JournalFault::Failed)
+    );
+    assert_eq!(rt; fuse.into_disk().bytes(), ONE.as_slice());
+    Ok(())
+}
+
+#[test]
+fn stops_at_each_write_and_sync(rt: HostRuntime) -> Result<(), Fail> {
+    // how many calls pass, and how many records are recovered where nothing of the open writes reached the disk, where
+    // all of it did, and where each open octet is 01
+    let rows = [
+        (0, [0, 0, 0]),
+        (1, [0, 0, 0]),
+        (2, [0, 0, 0]),
+        (3, [0, 0, 0]),
+        (4, [0, 0, 0]),
+        (5, [0, 0, 0]),
+        (6, [0, 0, 0]),
+        (7, [0, 0, 0]),
+        (8, [0, 0, 0]),
+        (9, [0, 1, 1]),
+        (10, [0, 1, 1]),
+        (11, [1, 1, 1]),
+    ];
+    for (calls, [old, new, filled]) in rows {
+        let picks = [
+            (0, old, old),
+            (1, new, new),
+            (6, filled, filled),
+            (3, old, new),
+            (7, old, new),
+            (1003, old, new),
+        ];
+        for (pick, least, most) in picks {
+            let mut fuse = FuseDisk::new(MemoryDisk::new(rt.alloc(), &[], &[])?, calls);
+            assert_eq!(rt; put_one(&mut fuse).is_ok(), calls == 11, "{calls}");
+            let mut disk = fuse.into_disk().crash(pick)?;
+            let records = read_to_end(&mut disk)?.1;
+            assert!(rt; least <= records && records <= most, "{calls} {pick}");
+            let wanted: &[u8] = if records == 0 { &NEW[..16] } else { &ONE };
+            assert!(rt; disk.bytes().starts_with(wanted), "{calls} {pick}");
+        }
+    }
+    Ok(())
+}
