@@ -223,6 +223,7 @@ impl Journal {
         ensures since { IfSome (D.content disk.old) (λ before. LeavesOnly D.moment D.images_since disk.old disk.new
             (λ image. IsBeforeOrAfter (journal_of self.old.magic before) (record { kind = kind; content = content.now }) (journal_of self.old.magic image))) }
         ensures calls { OnOk result (IfSome (D.content disk.old) (λ _. D.moment disk.new ≡ D.moment disk.old + 4)) }
+        ensures no_more_calls { D.moment disk.new ≤ D.moment disk.old + 4 }
     {
         if self.failed {
             return Err(JournalFault::Failed);

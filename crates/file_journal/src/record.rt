@@ -50,6 +50,7 @@ pub fn put_record<D: Disk>(disk: &mut D, place: u64, octets: &[u8]) -> Result<()
     ensures untold { IsTold (D.content disk.new) → IsTold (D.content disk.old) }
     ensures told { IsTold (D.content disk.old) → IsTold (D.content disk.new) }
     ensures calls { OnOk result (IfSome (D.content disk.old) (λ _. D.moment disk.new ≡ D.moment disk.old + 4)) }
+    ensures no_more_calls { D.moment disk.new ≤ D.moment disk.old + 4 }
     ensures write_faults { HasCause (D.write_faults disk.old) (D.write_faults disk.new) result }
     ensures read_faults { D.read_faults disk.new ≡ D.read_faults disk.old }
 {

@@ -184,6 +184,18 @@ fn an_interrupted_formatting(rt: HostRuntime) -> Result<(), Fail> {
 }
 
 #[test]
+fn an_append_reads_nothing(rt: HostRuntime) -> Result<(), Fail> {
+    // the recovery makes three calls of the disk, the reading of the closed gate two, and the append four
+    for (failing, wanted) in [(10, Ok(())), (9, Err(JournalFault::Disk))] {
+        let mut disk = MemoryDisk::new(rt.alloc(), &NEW, &[failing])?;
+        let (mut journal, _) = read_to_end(&mut disk)?;
+        assert_eq!(rt; journal.append(&mut disk, 4, &[1, 0, 0, 0]), wanted);
+        assert!(rt; !disk.starved());
+    }
+    Ok(())
+}
+
+#[test]
 fn stops_in_an_interrupted_formatting(rt: HostRuntime) -> Result<(), Fail> {
     let mut octets = NEW[..15].to_vec(rt.alloc())?;
     octets.extend_from_slice(&[3, 1])?;
