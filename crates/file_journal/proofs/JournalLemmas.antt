@@ -8,7 +8,7 @@ use Rattle.disk_model.specs.Disk.{IsOctets}
 use Rattle.std.specs.Str.{bytes_eq}
 use Rattle.px_base.specs.Numbers.{le32, le32_octets}
 use Rattle.file_journal.specs.Records.{Record, Reading, whole, broken, reading_from}
-use Rattle.file_journal.specs.Journal.{Standing, store, damaged, not_a_store, is_block_number, store_of, journal_of, header, IsSameStore, IsStore}
+use Rattle.file_journal.specs.Journal.{Standing, store, damaged, not_a_store, is_block_number, store_of, journal_of, header, IsSameStore, HasGoodHeader}
 use Rattle.file_journal.specs.Steps.{IsMakingGates}
 use Rattle.file_journal.proofs.ReadingLemmas.{reading_closed, broken_later}
 
@@ -72,13 +72,13 @@ module _ (magic octets : List ℕ) where
     ]
 
 -- such octets aren't refused
-pub is_store : (magic octets : List ℕ) (blocks : ℕ) → IsOctets octets → 16 < length octets → HasHeader magic blocks octets → IsStore (journal_of magic octets)
+pub is_store : (magic octets : List ℕ) (blocks : ℕ) → IsOctets octets → 16 < length octets → HasHeader magic blocks octets → HasGoodHeader (journal_of magic octets)
 is_store magic octets blocks are long head = elim (cases_lt 17 (length octets)) [
   | inr short ↦ (let is = of_17 magic octets blocks head (omega (arith, long, short)) in (λ found foreign. cc (sym is ∙ foreign), λ bad. cc (sym is ∙ bad)))
   | inl more ↦ go (reading_from 16 (drop 16 octets)) refl (of_full magic octets blocks head (omega (arith, more))) (omega (arith, more, length-drop 16 octets))
 ]
   where
-    go : (reading : Reading) → reading_from 16 (drop 16 octets) ≡ reading → journal_of magic octets ≡ store_of blocks reading → 0 < length (drop 16 octets) → IsStore (journal_of magic octets)
+    go : (reading : Reading) → reading_from 16 (drop 16 octets) ≡ reading → journal_of magic octets ≡ store_of blocks reading → 0 < length (drop 16 octets) → HasGoodHeader (journal_of magic octets)
     go (whole entries) read is some = (λ found foreign. cc (sym is ∙ foreign), λ bad. cc (sym is ∙ bad))
     go (broken entries at) read is some = (
       λ found foreign. cc (sym is ∙ foreign),

@@ -32,8 +32,8 @@ journal_of magic octets =
     else store_of (le32 octets 8) (reading_from 16 (drop 16 octets))
 
 -- not refused by its magic or its block number
-abbrev pub IsStore : Standing → Type 0
-IsStore standing = ((found : List ℕ) → standing ≡ not_a_store found → ⊥) × (standing ≡ damaged 8 → ⊥)
+abbrev pub HasGoodHeader : Standing → Type 0
+HasGoodHeader standing = ((found : List ℕ) → standing ≡ not_a_store found → ⊥) × (standing ≡ damaged 8 → ⊥)
 
 -- with one more record at the end
 abbrev pub added : Standing → Record → Standing

@@ -12,7 +12,7 @@ use byteorder::{ByteOrder, LittleEndian};
 use disk_model::{Disk, DiskFault};
 
 /// The place of the first gate.
-pub const FIRST_GATE: u64 = 16;
+pub(crate) const FIRST_GATE: u64 = 16;
 
 /// The number of octets of a formatted disk without records.
 const FORMATTED: u64 = 18;
@@ -21,15 +21,19 @@ const FORMATTED: u64 = 18;
 const SELECTOR: u64 = 15;
 
 /// Formats a disk of at most 16 octets.
-pub fn format_new<D: Disk>(disk: &mut D, magic: [u8; 8], blocks: u32) -> Result<(), DiskFault>
+pub(crate) fn format_new<D: Disk>(
+    disk: &mut D,
+    magic: [u8; 8],
+    blocks: u32,
+) -> Result<(), DiskFault>
     requires quiet { IsQuiet (D.content disk.old) (D.images disk.old) }
     requires short { IfSome (D.content disk.old) (λ octets. length octets ≤ 16) }
     requires some { 1 ≤ blocks }
     requires most { blocks ≤ 65536 }
     ensures ok { OnOk result (HasContent (D.content disk.old) (D.content disk.new) (λ before now. (now ≡ header magic blocks ++ 0 ∷ 0 ∷ []) × Only (D.images disk.new) now)) }
     ensures since { IfSome (D.content disk.old) (λ before. LeavesOnly D.moment D.images_since disk.old disk.new (λ image. IsSameStore blocks (store None []) (journal_of magic image))) }
-    ensures untold { IsTold (D.content disk.new) → IsTold (D.content disk.old) }
     ensures told { IsTold (D.content disk.old) → IsTold (D.content disk.new) }
+    ensures untold { IsTold (D.content disk.new) → IsTold (D.content disk.old) }
     ensures write_faults { HasCause (D.write_faults disk.old) (D.write_faults disk.new) result }
     ensures read_faults { D.read_faults disk.new ≡ D.read_faults disk.old }
 {
@@ -38,13 +42,13 @@ pub fn format_new<D: Disk>(disk: &mut D, magic: [u8; 8], blocks: u32) -> Result<
 }
 
 /// Formats a disk of `len` octets, more than 16, to its end, if its formatting was interrupted: it has 17 octets then.
-pub fn finish_format<D: Disk>(disk: &mut D, len: u64, selector: u8) -> Result<(), DiskFault>
+pub(crate) fn finish_format<D: Disk>(disk: &mut D, len: u64, selector: u8) -> Result<(), DiskFault>
     requires quiet { IsQuiet (D.content disk.old) (D.images disk.old) }
     requires there { IfSome (D.content disk.old) (λ octets. (16 < length octets) × (len ≡ length octets) × (selector ≡ slice_index octets 15)) }
     ensures ok { OnOk result (HasContent (D.content disk.old) (D.content disk.new) (λ before now. (now ≡ finished before) × Only (D.images disk.new) now)) }
     ensures since { IfSome (D.content disk.old) (λ before. LeavesOnly D.moment D.images_since disk.old disk.new (IsFinishing before)) }
-    ensures untold { IsTold (D.content disk.new) → IsTold (D.content disk.old) }
     ensures told { IsTold (D.content disk.old) → IsTold (D.content disk.new) }
+    ensures untold { IsTold (D.content disk.new) → IsTold (D.content disk.old) }
     ensures write_faults { HasCause (D.write_faults disk.old) (D.write_faults disk.new) result }
     ensures read_faults { D.read_faults disk.new ≡ D.read_faults disk.old }
 {
@@ -74,8 +78,8 @@ fn format_header<D: Disk>(disk: &mut D, magic: [u8; 8], blocks: u32) -> Result<(
     requires short { IfSome (D.content disk.old) (λ octets. length octets ≤ 16) }
     ensures ok { OnOk result (HasContent (D.content disk.old) (D.content disk.new) (λ before now. (now ≡ header magic blocks) × Only (D.images disk.new) now)) }
     ensures since { IfSome (D.content disk.old) (λ before. LeavesOnly D.moment D.images_since disk.old disk.new (λ image. length image ≤ 16)) }
-    ensures untold { IsTold (D.content disk.new) → IsTold (D.content disk.old) }
     ensures told { IsTold (D.content disk.old) → IsTold (D.content disk.new) }
+    ensures untold { IsTold (D.content disk.new) → IsTold (D.content disk.old) }
     ensures write_faults { HasCause (D.write_faults disk.old) (D.write_faults disk.new) result }
     ensures read_faults { D.read_faults disk.new ≡ D.read_faults disk.old }
 {
@@ -89,8 +93,8 @@ fn make_even<D: Disk>(disk: &mut D, selector: u8) -> Result<(), DiskFault>
     requires there { IfSome (D.content disk.old) (λ octets. (16 ≤ length octets) × (selector ≡ slice_index octets 15)) }
     ensures ok { OnOk result (HasContent (D.content disk.old) (D.content disk.new) (λ before now. (now ≡ take 15 before ++ even_selector before ∷ drop 16 before) × Only (D.images disk.new) now)) }
     ensures since { IfSome (D.content disk.old) (λ before. LeavesOnly D.moment D.images_since disk.old disk.new (IsMakingEven before)) }
-    ensures untold { IsTold (D.content disk.new) → IsTold (D.content disk.old) }
     ensures told { IsTold (D.content disk.old) → IsTold (D.content disk.new) }
+    ensures untold { IsTold (D.content disk.new) → IsTold (D.content disk.old) }
     ensures write_faults { HasCause (D.write_faults disk.old) (D.write_faults disk.new) result }
     ensures read_faults { D.read_faults disk.new ≡ D.read_faults disk.old }
 {
@@ -107,8 +111,8 @@ fn format_gates<D: Disk>(disk: &mut D) -> Result<(), DiskFault>
     requires header { IfSome (D.content disk.old) (λ octets. (16 ≤ length octets) × (length octets ≤ 17)) }
     ensures ok { OnOk result (HasContent (D.content disk.old) (D.content disk.new) (λ before now. (now ≡ take 16 before ++ 0 ∷ 0 ∷ []) × Only (D.images disk.new) now)) }
     ensures since { IfSome (D.content disk.old) (λ before. LeavesOnly D.moment D.images_since disk.old disk.new (IsMakingGates before)) }
-    ensures untold { IsTold (D.content disk.new) → IsTold (D.content disk.old) }
     ensures told { IsTold (D.content disk.old) → IsTold (D.content disk.new) }
+    ensures untold { IsTold (D.content disk.new) → IsTold (D.content disk.old) }
     ensures write_faults { HasCause (D.write_faults disk.old) (D.write_faults disk.new) result }
     ensures read_faults { D.read_faults disk.new ≡ D.read_faults disk.old }
 {

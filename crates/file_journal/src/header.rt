@@ -3,7 +3,7 @@
 ghost use Rattle.std.specs.Prelude.{◌≡◌, ◌≢◌, ◌<◌, ◌≤◌, List, ℕ, length, take, slice_index, true, false, IfOk, IfSome, OnOk, IsErrOf};
 ghost use Rattle.px_base.specs.Numbers.{le32 as number_of_four};
 ghost use Rattle.px_base.specs.Outside.{Rose};
-ghost use Rattle.file_journal.specs.Journal.{IsStore, is_block_number, journal_of, not_a_store as stands_for_no_store, damaged as is_damaged};
+ghost use Rattle.file_journal.specs.Journal.{HasGoodHeader, is_block_number, journal_of, not_a_store as stands_for_no_store, damaged as is_damaged};
 ghost use Rattle.file_journal.specs.Moments.{OnlyReads};
 
 use crate::RecoverFault;
@@ -12,7 +12,7 @@ use px_base::le32;
 
 /// What the header of a store says.
 #[derive(Clone, Copy)]
-pub struct Header {
+pub(crate) struct Header {
     /// The block number, 1 to 65,536.
     pub blocks: u32,
     /// Octet 15.
@@ -20,11 +20,11 @@ pub struct Header {
 }
 
 /// Reads the header of a store with this magic.
-pub fn read_header<D: Disk>(disk: &mut D, magic: [u8; 8]) -> Result<Header, RecoverFault>
+pub(crate) fn read_header<D: Disk>(disk: &mut D, magic: [u8; 8]) -> Result<Header, RecoverFault>
     requires { IfSome (D.content disk.old) (λ octets. 16 < length octets) }
     ensures header { IfOk result (λ header. IfSome (D.content disk.old) (λ octets. (take 8 octets ≡ magic) × (header.blocks ≡ number_of_four octets 8) × (header.selector ≡ slice_index octets 15))) }
     ensures blocks { IfOk result (λ header. is_block_number header.blocks ≡ true) }
-    ensures store { OnOk result (IfSome (D.content disk.old) (λ octets. IsStore (journal_of magic octets))) }
+    ensures store { OnOk result (IfSome (D.content disk.old) (λ octets. HasGoodHeader (journal_of magic octets))) }
     ensures not_a_store { (found : List ℕ) → IsErrOf result (RecoverFault.NotAStore found) → IfSome (D.content disk.old) (λ octets. journal_of magic octets ≡ stands_for_no_store found) }
     ensures damaged { (at : ℕ) → IsErrOf result (RecoverFault.Damaged at) → (at ≡ 8) × IfSome (D.content disk.old) (λ octets. journal_of magic octets ≡ is_damaged 8) }
     ensures disk { IsErrOf result RecoverFault.Disk → Rose (D.read_faults disk.old) (D.read_faults disk.new) }

@@ -47,8 +47,9 @@ impl Journal {
     /// number `blocks`, 1 to 65,536; one whose formatting was interrupted is formatted to its end. It may be cut at
     /// any of its writes and syncs, and is then done again.
     ///
-    /// `NotAStore` and `Damaged` leave the content as it was. After `Disk` the disk is to be recovered again; its records
-    /// are still those from before, or nothing was changed, where the first sync failed. Takes no memory.
+    /// `NotAStore` and `Damaged` leave the content as it was. After `Disk` the disk is to be recovered again: once the first
+    /// sync passed, a crash leaves the records of the content before; where that sync failed nothing is changed, and a crash
+    /// may leave whatever it might have left before. Takes no memory.
     pub fn recover<D: Disk>(
         disk: &mut D,
         magic: [u8; 8],
@@ -59,9 +60,9 @@ impl Journal {
 
         // The journal stands at the first gate; the records of the content are those from before, and all are left.
         ensures journal { IfOk result (λ journal. (journal.magic ≡ magic) × (journal.place ≡ 16) × (journal.ended ≡ false) × (journal.failed ≡ false)) }
+        ensures blocks { IfOk result (λ journal. IfSome (D.content disk.new) (λ now. journal.blocks ≡ le32 now 8)) }
         ensures stands_on { IfOk result (λ journal. StandsOn journal (D.content disk.new) (D.images disk.new)) }
         ensures records { IfOk result (λ journal. HasContent (D.content disk.old) (D.content disk.new) (λ before now. IsSameStore blocks (journal_of magic before) (journal_of magic now) × (journal_of magic now ≡ store_of journal.blocks (left journal now)))) }
-        ensures blocks { IfOk result (λ journal. HasContent (D.content disk.old) (D.content disk.new) (λ before now. journal.blocks ≡ le32 now 8)) }
         ensures formatted { OnOk result (HasContent (D.content disk.old) (D.content disk.new) (λ before now. now ≡ formats magic blocks before)) }
 
         // But for a fault of the disk, each refusal comes exactly where the content stands for it.
@@ -69,18 +70,17 @@ impl Journal {
         ensures damaged { (at : ℕ) → IfSome (D.content disk.old) (λ before. ¬ IsErrOf result RecoverFault.Disk → (IsErrOf result (RecoverFault.Damaged at) ↔ ((at ≡ 8) × (journal_of magic before ≡ is_damaged 8)))) }
         ensures untouched { OnErr result (¬ IsErrOf result RecoverFault.Disk → D.content disk.new ≡ D.content disk.old) }
         ensures disk { IsErrOf result RecoverFault.Disk → Rose (D.read_faults disk.old) (D.read_faults disk.new) ⊎ Rose (D.write_faults disk.old) (D.write_faults disk.new) }
-        ensures read_faults { D.read_faults disk.old ≤ D.read_faults disk.new }
-        ensures write_faults { D.write_faults disk.old ≤ D.write_faults disk.new }
-
-        // Whether the content is told stays as it was.
+        ensures quiet { OnOk result (IsQuiet (D.content disk.new) (D.images disk.new)) }
         ensures told { IsTold (D.content disk.old) → IsTold (D.content disk.new) }
         ensures untold { IsTold (D.content disk.new) → IsTold (D.content disk.old) }
+        ensures read_faults { D.read_faults disk.old ≤ D.read_faults disk.new }
+        ensures write_faults { D.write_faults disk.old ≤ D.write_faults disk.new }
 
         // A crash since the start leaves what it might have left before, or the same records; since the end of the first
         // sync, which is one moment after the start, it leaves the same records. Where that sync fails, nothing is changed.
         ensures since_start { IfSome (D.content disk.old) (λ before. LeavesOnly D.moment D.images_since disk.old disk.new (λ image. IsSameStore blocks (journal_of magic before) (journal_of magic image))) }
         ensures since_sync { IfSome (D.content disk.old) (λ before.
-            (D.moment disk.old + 1 ≤ D.moment disk.new) × LeavesSince (D.moment disk.old + 1) (D.images_since disk.new) (λ image. IsSameStore blocks (journal_of magic before) (journal_of magic image))
+            ((D.moment disk.old + 1 ≤ D.moment disk.new) × LeavesSince (D.moment disk.old + 1) (D.images_since disk.new) (λ image. IsSameStore blocks (journal_of magic before) (journal_of magic image)))
             ⊎ (IsErrOf result RecoverFault.Disk × (D.content disk.new ≡ D.content disk.old) × LeavesSince (D.moment disk.old) (D.images_since disk.new) (D.images disk.old))) }
     {
         disk.sync()?;
@@ -100,18 +100,19 @@ impl Journal {
         requires some { 1 ≤ blocks }
         requires most { blocks ≤ 65536 }
         ensures journal { IfOk result (λ journal. (journal.magic ≡ magic) × (journal.place ≡ 16) × (journal.ended ≡ false) × (journal.failed ≡ false)) }
+        ensures blocks { IfOk result (λ journal. IfSome (D.content disk.new) (λ now. journal.blocks ≡ le32 now 8)) }
         ensures stands_on { IfOk result (λ journal. StandsOn journal (D.content disk.new) (D.images disk.new)) }
         ensures records { IfOk result (λ journal. HasContent (D.content disk.old) (D.content disk.new) (λ before now. IsSameStore blocks (journal_of magic before) (journal_of magic now) × (journal_of magic now ≡ store_of journal.blocks (left journal now)))) }
-        ensures blocks { IfOk result (λ journal. HasContent (D.content disk.old) (D.content disk.new) (λ before now. journal.blocks ≡ le32 now 8)) }
         ensures formatted { OnOk result (HasContent (D.content disk.old) (D.content disk.new) (λ before now. now ≡ formats magic blocks before)) }
         ensures not_a_store { (found : List ℕ) → IfSome (D.content disk.old) (λ before. ¬ IsErrOf result RecoverFault.Disk → (IsErrOf result (RecoverFault.NotAStore found) ↔ (journal_of magic before ≡ stands_for_no_store found))) }
         ensures damaged { (at : ℕ) → IfSome (D.content disk.old) (λ before. ¬ IsErrOf result RecoverFault.Disk → (IsErrOf result (RecoverFault.Damaged at) ↔ ((at ≡ 8) × (journal_of magic before ≡ is_damaged 8)))) }
         ensures untouched { OnErr result (¬ IsErrOf result RecoverFault.Disk → D.content disk.new ≡ D.content disk.old) }
         ensures disk { IsErrOf result RecoverFault.Disk → Rose (D.read_faults disk.old) (D.read_faults disk.new) ⊎ Rose (D.write_faults disk.old) (D.write_faults disk.new) }
-        ensures read_faults { D.read_faults disk.old ≤ D.read_faults disk.new }
-        ensures write_faults { D.write_faults disk.old ≤ D.write_faults disk.new }
+        ensures quiet { OnOk result (IsQuiet (D.content disk.new) (D.images disk.new)) }
         ensures told { IsTold (D.content disk.old) → IsTold (D.content disk.new) }
         ensures untold { IsTold (D.content disk.new) → IsTold (D.content disk.old) }
+        ensures read_faults { D.read_faults disk.old ≤ D.read_faults disk.new }
+        ensures write_faults { D.write_faults disk.old ≤ D.write_faults disk.new }
         ensures since { IfSome (D.content disk.old) (λ before. LeavesOnly D.moment D.images_since disk.old disk.new (λ image. IsSameStore blocks (journal_of magic before) (journal_of magic image))) }
     {
         if len <= FIRST_GATE {
@@ -210,12 +211,10 @@ impl Journal {
         ensures goes_on { OnOk result (self.new.failed ≡ false) }
         ensures untouched { IsErrOf result JournalFault.Failed → (self.new ≡ self.old) × (disk.new ≡ disk.old) }
         ensures disk { IsErrOf result JournalFault.Disk → Rose (D.write_faults disk.old) (D.write_faults disk.new) }
-        ensures write_faults { D.write_faults disk.old ≤ D.write_faults disk.new }
-        ensures read_faults { D.read_faults disk.new ≡ D.read_faults disk.old }
-
-        // Whether the content is told stays as it was.
         ensures told { IsTold (D.content disk.old) → IsTold (D.content disk.new) }
         ensures untold { IsTold (D.content disk.new) → IsTold (D.content disk.old) }
+        ensures write_faults { D.write_faults disk.old ≤ D.write_faults disk.new }
+        ensures read_faults { D.read_faults disk.new ≡ D.read_faults disk.old }
 
         // A crash at any moment since the start leaves the records from before, with the new one or without.
         ensures any_moment { self.old.failed ≡ false → IfSome (D.content disk.old) (λ before. LeavesSince (D.moment disk.old) (D.images_since disk.new)
@@ -223,7 +222,7 @@ impl Journal {
         ensures since { IfSome (D.content disk.old) (λ before. LeavesOnly D.moment D.images_since disk.old disk.new
             (λ image. IsBeforeOrAfter (journal_of self.old.magic before) (record { kind = kind; content = content.now }) (journal_of self.old.magic image))) }
         ensures calls { OnOk result (IfSome (D.content disk.old) (λ _. D.moment disk.new ≡ D.moment disk.old + 4)) }
-        ensures no_more_calls { D.moment disk.new ≤ D.moment disk.old + 4 }
+        ensures at_most { D.moment disk.new ≤ D.moment disk.old + 4 }
     {
         if self.failed {
             return Err(JournalFault::Failed);

@@ -23,10 +23,10 @@ const CLOSED: u8 = 0;
 const MAX_CONTENT: usize = 600;
 
 /// A record's octets behind its gate, and the next gate.
-pub type RecordText = ArrayVec<u8, 604>;
+pub(crate) type RecordText = ArrayVec<u8, 604>;
 
 /// The octets of a record behind its gate, and a closed gate.
-pub fn record_text(kind: u8, content: &[u8]) -> RecordText
+pub(crate) fn record_text(kind: u8, content: &[u8]) -> RecordText
     requires { length content.now ≤ 600 }
     ensures { result.items ≡ text (record { kind = kind; content = content.now }) ++ 0 ∷ [] }
 {
@@ -41,16 +41,16 @@ pub fn record_text(kind: u8, content: &[u8]) -> RecordText
 }
 
 /// Puts octets behind the closed gate at this place, syncs them, and then opens the gate and syncs it.
-pub fn put_record<D: Disk>(disk: &mut D, place: u64, octets: &[u8]) -> Result<(), DiskFault>
+pub(crate) fn put_record<D: Disk>(disk: &mut D, place: u64, octets: &[u8]) -> Result<(), DiskFault>
     requires far { place < 2 ^ 63 }
     requires gate { IfSome (D.content disk.old) (λ before. place < length before) }
     ensures ok { OnOk result (HasContent (D.content disk.old) (D.content disk.new) (λ before now. (now ≡ with_gate place 1 octets.now before) × Only (D.images disk.new) now)) }
     ensures fits { OnOk result (place + 1 + length octets.now ≤ 2 ^ 63) }
     ensures since { IfSome (D.content disk.old) (λ before. LeavesOnly D.moment D.images_since disk.old disk.new (IsPutting place octets.now before (D.images disk.old))) }
-    ensures untold { IsTold (D.content disk.new) → IsTold (D.content disk.old) }
     ensures told { IsTold (D.content disk.old) → IsTold (D.content disk.new) }
+    ensures untold { IsTold (D.content disk.new) → IsTold (D.content disk.old) }
     ensures calls { OnOk result (IfSome (D.content disk.old) (λ _. D.moment disk.new ≡ D.moment disk.old + 4)) }
-    ensures no_more_calls { D.moment disk.new ≤ D.moment disk.old + 4 }
+    ensures at_most { D.moment disk.new ≤ D.moment disk.old + 4 }
     ensures write_faults { HasCause (D.write_faults disk.old) (D.write_faults disk.new) result }
     ensures read_faults { D.read_faults disk.new ≡ D.read_faults disk.old }
 {
@@ -121,7 +121,7 @@ fn read_start<D: Disk>(disk: &mut D, place: u64, end: u64) -> Result<Start, Reco
 
 /// Reads the record behind the gate at this place: its kind, with its content in `room`; `None` exactly where the gate
 /// isn't open. Only a record replaces what is in `room`.
-pub fn read_record<D: Disk>(
+pub(crate) fn read_record<D: Disk>(
     disk: &mut D,
     place: u64,
     room: &mut ArrayVec<u8, 600>,

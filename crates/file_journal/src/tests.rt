@@ -50,25 +50,32 @@ fn texts_of_the_refusals(rt: HostRuntime) -> Result<(), Fail> {
     Ok(())
 }
 
-/// Recovers the journal and reads it to its end: the journal, and how many records it has.
-fn read_to_end<D: Disk>(disk: &mut D) -> Result<(Journal, u64), RecoverFault>
-    ensures stands_on { IfOk result (λ read. StandsOn read.0 (D.content disk.new) (D.images disk.new)) }
-    ensures ended { IfOk result (λ read. read.0.ended ≡ true) }
+/// The kind and the content of each record, one after another.
+type Seen = ArrayVec<u8, 700>;
+
+/// What is seen of the one record of `ONE`.
+const SEEN_ONE: [u8; 5] = [4, 1, 0, 0, 0];
+
+/// Recovers the journal and reads it to its end, or up to its damage, and puts what it sees behind `seen`.
+fn read_to_end<D: Disk>(disk: &mut D, seen: &mut Seen) -> Result<Journal, RecoverFault>
+    ensures stands_on { IfOk result (λ journal. StandsOn journal (D.content disk.new) (D.images disk.new)) }
+    ensures ended { IfOk result (λ journal. journal.ended ≡ true) }
 {
     let mut journal = Journal::recover(disk, MAGIC, 8)?;
     let mut room = ArrayVec::new();
-    let mut records = 0u64;
-    while journal.next(disk, &mut room)?.is_some() {
-        records = records.saturating_add(1);
+    while let Some(kind) = journal.next(disk, &mut room)? {
+        let _room_for_kind = seen.try_push(kind);
+        let _room_for_content = seen.try_extend_from_slice(room.as_slice());
     }
-    Ok((journal, records))
+    Ok(journal)
 }
 
 #[test]
 fn a_new_store_and_a_record(rt: HostRuntime) -> Result<(), Fail> {
     let mut disk = MemoryDisk::new(rt.alloc(), &[], &[])?;
-    let (mut journal, records) = read_to_end(&mut disk)?;
-    assert_eq!(rt; records, 0);
+    let mut seen = Seen::new();
+    let mut journal = read_to_end(&mut disk, &mut seen)?;
+    assert!(rt; seen.is_empty());
     assert_eq!(rt; disk.bytes(), NEW.as_slice());
     assert_eq!(rt; journal.append(&mut disk, 4, &[1, 0, 0, 0]), Ok(()));
     assert_eq!(rt; disk.bytes(), ONE.as_slice());
@@ -88,82 +95,72 @@ fn a_new_store_and_a_record(rt: HostRuntime) -> Result<(), Fail> {
 
 #[test]
 fn contents(rt: HostRuntime) -> Result<(), Fail> {
+    let damaged = |at: u64| Some(RecoverFault::Damaged { at });
+    // what stands behind the magic, from the block number on; what is seen of its records; and the refusal that ends them
+    let rows: [(&[u8], &[u8], Option<RecoverFault>); 11] = [
+        (
+            &[8, 0, 0, 0, 0, 0, 0, 0, 1, 4, 4, 0, 1, 0, 0, 0, 0],
+            &SEEN_ONE,
+            None,
+        ),
+        (
+            &[8, 0, 0, 0, 0, 0, 0, 0, 1, 4, 4, 0, 1, 0, 0, 0],
+            &[],
+            damaged(16),
+        ),
+        (
+            &[8, 0, 0, 0, 0, 0, 0, 0, 1, 4, 0, 0, 1, 4, 4, 0],
+            &[4],
+            damaged(20),
+        ),
+        (&[8, 0, 0, 0, 0, 0, 0, 0, 1, 0], &[], damaged(16)),
+        (&[8, 0, 0, 0, 0, 0, 0, 0, 1, 0, 0], &[], damaged(16)),
+        (&[8, 0, 0, 0, 0, 0, 0, 0, 2, 4, 4, 0], &[], None),
+        (&[8, 0, 0, 0, 0, 0, 0, 3, 1], &[], None),
+        (&[8, 0, 0], &[], None),
+        (&[0, 0, 0, 0, 0, 0, 0, 0, 0], &[], damaged(8)),
+        (&[1, 0, 1, 0, 0, 0, 0, 0, 0, 0], &[], damaged(8)),
+        (&[0, 0, 1, 0, 0, 0, 0, 0, 0, 0], &[], None),
+    ];
+    for (rest, wanted, refusal) in rows {
+        let mut octets = MAGIC.to_vec(rt.alloc())?;
+        octets.extend_from_slice(rest)?;
+        let mut disk = MemoryDisk::new(rt.alloc(), &octets, &[])?;
+        let mut seen = Seen::new();
+        assert_eq!(rt;
+            read_to_end(&mut disk, &mut seen).err(),
+            refusal,
+            "{rest:?}"
+        );
+        assert_eq!(rt; seen.as_slice(), wanted, "{rest:?}");
+    }
+    let mut disk = MemoryDisk::new(rt.alloc(), b"not a store file.", &[])?;
     let foreign = RecoverFault::NotAStore {
         found: *b"not a st",
     };
-    // the four octets of block number behind the magic, the octets behind them, and how many records the disk has
-    let rows: [(&[u8], &[u8], Result<u64, RecoverFault>); 11] = [
-        (
-            &[8, 0, 0, 0],
-            &[0, 0, 0, 0, 1, 4, 4, 0, 1, 0, 0, 0, 0],
-            Ok(1),
-        ),
-        (
-            &[8, 0, 0, 0],
-            &[0, 0, 0, 0, 1, 4, 4, 0, 1, 0, 0, 0],
-            Err(RecoverFault::Damaged { at: 16 }),
-        ),
-        (
-            &[8, 0, 0, 0],
-            &[0, 0, 0, 0, 1, 4, 0, 0, 1, 4, 4, 0],
-            Err(RecoverFault::Damaged { at: 20 }),
-        ),
-        (
-            &[8, 0, 0, 0],
-            &[0, 0, 0, 0, 1, 0],
-            Err(RecoverFault::Damaged { at: 16 }),
-        ),
-        (
-            &[8, 0, 0, 0],
-            &[0, 0, 0, 0, 1, 0, 0],
-            Err(RecoverFault::Damaged { at: 16 }),
-        ),
-        (&[8, 0, 0, 0], &[0, 0, 0, 0, 2, 4, 4, 0], Ok(0)),
-        (&[8, 0, 0, 0], &[0, 0, 0, 3, 1], Ok(0)),
-        (&[8, 0, 0], &[], Ok(0)),
-        (
-            &[0, 0, 0, 0],
-            &[0, 0, 0, 0, 0],
-            Err(RecoverFault::Damaged { at: 8 }),
-        ),
-        (
-            &[1, 0, 1, 0],
-            &[0, 0, 0, 0, 0, 0],
-            Err(RecoverFault::Damaged { at: 8 }),
-        ),
-        (&[0, 0, 1, 0], &[0, 0, 0, 0, 0, 0], Ok(0)),
-    ];
-    for (number, rest, wanted) in rows {
-        let mut octets = MAGIC.to_vec(rt.alloc())?;
-        octets.extend_from_slice(number)?;
-        octets.extend_from_slice(rest)?;
-        let mut disk = MemoryDisk::new(rt.alloc(), &octets, &[])?;
-        let read = read_to_end(&mut disk).map(|(_, records)| records);
-        assert_eq!(rt; read, wanted, "{number:?} {rest:?}");
-    }
-    let mut disk = MemoryDisk::new(rt.alloc(), b"not a store file.", &[])?;
     assert_eq!(rt;
-        read_to_end(&mut disk).map(|(_, records)| records),
-        Err(foreign)
+        read_to_end(&mut disk, &mut Seen::new()).err(),
+        Some(foreign)
     );
     Ok(())
 }
 
 #[test]
 fn lengths_of_contents(rt: HostRuntime) -> Result<(), Fail> {
-    // the two octets of length before 602 others, and how many records there are
+    // the two octets of length before 602 others, how many octets are seen, and the refusal
     let rows = [
-        ([0x58, 0x02], Ok(1)),
-        ([0x59, 0x02], Err(RecoverFault::Damaged { at: 16 })),
+        ([0x58, 0x02], 601, None),
+        ([0x59, 0x02], 0, Some(RecoverFault::Damaged { at: 16 })),
     ];
-    for (len, wanted) in rows {
+    for (len, wanted, refusal) in rows {
         let mut octets = NEW[..16].to_vec(rt.alloc())?;
         octets.extend_from_slice(&[1, 4])?;
         octets.extend_from_slice(&len)?;
         octets.extend_from_slice(&[0; 602])?;
         let mut disk = MemoryDisk::new(rt.alloc(), &octets, &[])?;
-        let read = read_to_end(&mut disk).map(|(_, records)| records);
-        assert_eq!(rt; read, wanted, "{len:?}");
+        let mut seen = Seen::new();
+        assert_eq!(rt; read_to_end(&mut disk, &mut seen).err(), refusal, "{len:?}");
+        assert_eq!(rt; seen.len(), wanted, "{len:?}");
     }
     Ok(())
 }
@@ -175,7 +172,7 @@ fn an_interrupted_formatting(rt: HostRuntime) -> Result<(), Fail> {
         let mut octets = NEW[..15].to_vec(rt.alloc())?;
         octets.extend_from_slice(&[selector, gate])?;
         let mut disk = MemoryDisk::new(rt.alloc(), &octets, &[])?;
-        assert_eq!(rt; read_to_end(&mut disk)?.1, 0);
+        assert_eq!(rt; read_to_end(&mut disk, &mut Seen::new())?.blocks(), 8);
         let mut after = NEW[..15].to_vec(rt.alloc())?;
         after.extend_from_slice(&[wanted, 0, 0])?;
         assert_eq!(rt; disk.bytes(), after.as_slice(), "{selector}");
@@ -184,47 +181,10 @@ fn an_interrupted_formatting(rt: HostRuntime) -> Result<(), Fail> {
 }
 
 #[test]
-fn an_append_reads_nothing(rt: HostRuntime) -> Result<(), Fail> {
-    // the recovery makes three calls of the disk, the reading of the closed gate two, and the append four
-    for (failing, wanted) in [(10, Ok(())), (9, Err(JournalFault::Disk))] {
-        let mut disk = MemoryDisk::new(rt.alloc(), &NEW, &[failing])?;
-        let (mut journal, _) = read_to_end(&mut disk)?;
-        assert_eq!(rt; journal.append(&mut disk, 4, &[1, 0, 0, 0]), wanted);
-        assert!(rt; !disk.starved());
-    }
-    Ok(())
-}
-
-#[test]
-fn stops_in_an_interrupted_formatting(rt: HostRuntime) -> Result<(), Fail> {
-    let mut octets = NEW[..15].to_vec(rt.alloc())?;
-    octets.extend_from_slice(&[3, 1])?;
-    for calls in 0..8u64 {
-        for pick in [0, 1, 6, 3, 7, 1003] {
-            let mut fuse = FuseDisk::new(MemoryDisk::new(rt.alloc(), &octets, &[])?, calls);
-            assert_eq!(rt; read_to_end(&mut fuse).is_ok(), calls == 7, "{calls}");
-            let mut disk = fuse.into_disk().crash(pick)?;
-            assert_eq!(rt; read_to_end(&mut disk)?.1, 0, "{calls} {pick}");
-            assert!(rt; disk.bytes().starts_with(&NEW[..15]), "{calls} {pick}");
-        }
-    }
-    Ok(())
-}
-
-/// Makes a store on the disk, or recovers it, and appends a record.
-fn put_one<D: Disk>(disk: &mut D) -> Result<(), RecoverFault> {
-    let (mut journal, _) = read_to_end(disk)?;
-    match journal.append(disk, 4, &[1, 0, 0, 0]) {
-        Ok(()) => Ok(()),
-        Err(_) => Err(RecoverFault::Disk),
-    }
-}
-
-#[test]
 fn an_append_that_fails(rt: HostRuntime) -> Result<(), Fail> {
     // seven writes and syncs make the store, and the append's second sync is the eleventh
     let mut fuse = FuseDisk::new(MemoryDisk::new(rt.alloc(), &[], &[])?, 10);
-    let (mut journal, _) = read_to_end(&mut fuse)?;
+    let mut journal = read_to_end(&mut fuse, &mut Seen::new())?;
     assert_eq!(rt;
         journal.append(&mut fuse, 4, &[1, 0, 0, 0]),
         Err(JournalFault::Disk)
@@ -234,29 +194,50 @@ fn an_append_that_fails(rt: HostRuntime) -> Result<(), Fail> {
         journal.append(&mut fuse, 4, &[]),
         Err(JournalFault::Failed)
     );
+    assert!(rt; !fuse.starved());
     assert_eq!(rt; fuse.into_disk().bytes(), ONE.as_slice());
     Ok(())
 }
 
 #[test]
+fn an_append_reads_nothing(rt: HostRuntime) -> Result<(), Fail> {
+    // the recovery makes three calls of the disk, the reading of the closed gate two, and the append four
+    for (failing, wanted) in [(10, Ok(())), (9, Err(JournalFault::Disk))] {
+        let mut disk = MemoryDisk::new(rt.alloc(), &NEW, &[failing])?;
+        let mut journal = read_to_end(&mut disk, &mut Seen::new())?;
+        assert_eq!(rt; journal.append(&mut disk, 4, &[1, 0, 0, 0]), wanted);
+        assert!(rt; !disk.starved());
+    }
+    Ok(())
+}
+
+/// Makes a store on the disk, or recovers it, and appends a record.
+fn put_one<D: Disk>(disk: &mut D) -> Result<Result<(), JournalFault>, RecoverFault> {
+    let mut journal = read_to_end(disk, &mut Seen::new())?;
+    Ok(journal.append(disk, 4, &[1, 0, 0, 0]))
+}
+
+#[test]
 fn stops_at_each_write_and_sync(rt: HostRuntime) -> Result<(), Fail> {
-    // how many calls pass, and how many records are recovered where nothing of the open writes reached the disk, where
-    // all of it did, and where each open octet is 01
+    let stopped = Err(RecoverFault::Disk);
+    let failed = Ok(Err(JournalFault::Disk));
+    // how many calls pass, the answer, and how many records are recovered where nothing of the open writes reached the
+    // disk, where all of it did, and where each open octet is 01
     let rows = [
-        (0, [0, 0, 0]),
-        (1, [0, 0, 0]),
-        (2, [0, 0, 0]),
-        (3, [0, 0, 0]),
-        (4, [0, 0, 0]),
-        (5, [0, 0, 0]),
-        (6, [0, 0, 0]),
-        (7, [0, 0, 0]),
-        (8, [0, 0, 0]),
-        (9, [0, 1, 1]),
-        (10, [0, 1, 1]),
-        (11, [1, 1, 1]),
+        (0, stopped, [0, 0, 0]),
+        (1, stopped, [0, 0, 0]),
+        (2, stopped, [0, 0, 0]),
+        (3, stopped, [0, 0, 0]),
+        (4, stopped, [0, 0, 0]),
+        (5, stopped, [0, 0, 0]),
+        (6, stopped, [0, 0, 0]),
+        (7, failed, [0, 0, 0]),
+        (8, failed, [0, 0, 0]),
+        (9, failed, [0, 1, 1]),
+        (10, failed, [0, 1, 1]),
+        (11, Ok(Ok(())), [1, 1, 1]),
     ];
-    for (calls, [old, new, filled]) in rows {
+    for (calls, answer, [old, new, filled]) in rows {
         let picks = [
             (0, old, old),
             (1, new, new),
@@ -267,12 +248,42 @@ fn stops_at_each_write_and_sync(rt: HostRuntime) -> Result<(), Fail> {
         ];
         for (pick, least, most) in picks {
             let mut fuse = FuseDisk::new(MemoryDisk::new(rt.alloc(), &[], &[])?, calls);
-            assert_eq!(rt; put_one(&mut fuse).is_ok(), calls == 11, "{calls}");
+            assert_eq!(rt; put_one(&mut fuse), answer, "{calls}");
+            assert!(rt; !fuse.starved());
             let mut disk = fuse.into_disk().crash(pick)?;
-            let records = read_to_end(&mut disk)?.1;
+            let mut seen = Seen::new();
+            assert_eq!(rt; read_to_end(&mut disk, &mut seen)?.blocks(), 8);
+            let records = match seen.as_slice() {
+                [] => 0,
+                [4, 1, 0, 0, 0] => 1,
+                _ => 2,
+            };
             assert!(rt; least <= records && records <= most, "{calls} {pick}");
-            let wanted: &[u8] = if records == 0 { &NEW[..16] } else { &ONE };
-            assert!(rt; disk.bytes().starts_with(wanted), "{calls} {pick}");
+        }
+    }
+    Ok(())
+}
+
+#[test]
+fn stops_while_a_formatting_is_done_to_its_end(rt: HostRuntime) -> Result<(), Fail> {
+    let mut octets = NEW[..15].to_vec(rt.alloc())?;
+    octets.extend_from_slice(&[3, 1])?;
+    for calls in 0..8 {
+        for pick in [0, 1, 6, 3, 7, 1003] {
+            let mut fuse = FuseDisk::new(MemoryDisk::new(rt.alloc(), &octets, &[])?, calls);
+            assert_eq!(rt;
+                read_to_end(&mut fuse, &mut Seen::new()).is_ok(),
+                calls == 7,
+                "{calls}"
+            );
+            assert!(rt; !fuse.starved());
+            let mut disk = fuse.into_disk().crash(pick)?;
+            let mut seen = Seen::new();
+            assert_eq!(rt; read_to_end(&mut disk, &mut seen)?.blocks(), 8);
+            assert!(rt; seen.is_empty(), "{calls} {pick}");
+            assert_eq!(rt; disk.bytes().len(), 18, "{calls} {pick}");
+            let selector = disk.bytes().get(15).map(|octet| *octet % 2);
+            assert_eq!(rt; selector, Some(0), "{calls} {pick}");
         }
     }
     Ok(())

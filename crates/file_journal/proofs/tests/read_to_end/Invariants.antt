@@ -2,8 +2,8 @@ use Rattle.std.proofs.Common.{◌-◌, ◌^◌}
 use Rattle.file_journal.specs.Position.{StandsOn}
 use Rattle.file_journal.proofs.tests.read_to_end.Given as goal
 
-abbrev pub invariant-loop-records : goal.invariant-loop-records
-invariant-loop-records g l = StandsOn l.journal (g.D.Disk.content l.disk) (g.D.Disk.images l.disk)
+abbrev pub invariant-loop-kind : goal.invariant-loop-kind
+invariant-loop-kind g l = StandsOn l.journal (g.D.Disk.content l.disk) (g.D.Disk.images l.disk)
 
-abbrev pub decreases-loop-records : goal.decreases-loop-records
-decreases-loop-records g l = 2 ^ 63 - l.journal.place
+abbrev pub decreases-loop-kind : goal.decreases-loop-kind
+decreases-loop-kind g l = 2 ^ 63 - l.journal.place

@@ -1,7 +1,6 @@
 use Rattle.std.proofs.Common.{◌≡◌, inl, inr, ℕ, ◌<◌, [], List, length, None, Ok, Err, refl, sym, ◌∙◌, ap, subst, arith, rules}
 use Rattle.std.proofs.lemmas.Option.{same_Some}
 use Rattle.std.proofs.lemmas.Result.{err_from_is_err_and}
-use Rattle.px_base.specs.Numbers.{le32}
 use Rattle.disk_model.specs.Disk.{Only}
 use Rattle.file_journal.specs.Journal.{Standing, store, IsSameStore, journal_of, store_of}
 use Rattle.file_journal.specs.Position.{Position, left, StandsOn}
@@ -157,21 +156,11 @@ returns-clause-stands_on g c =
 
 pub returns-then-len-le-FIRST_GATE-clause-blocks : goal.returns-then-len-le-FIRST_GATE-clause-blocks
 returns-then-len-le-FIRST_GATE-clause-blocks g c =
+    let D = g.D.Disk in
     let eight : length c.args.magic ≡ 8 = search rules in
-    let D = g.D.Disk in
-    if_told (D.content c.args.disk.now) _ (λ before told.
-    let new = at_told _ before told c.in_ok-format_new.ensures.ok in
-    let is = new_store c.args.magic c.args.blocks new.0 eight c.requires.some c.requires.most new.2.0 in
-    (new.0, new.1, subst (λ (journal : Position). journal.blocks ≡ le32 new.0 8) (sym c.at_first_gate.ensures) (sym is.0.blocks_are)))
-
-pub returns-clause-blocks : goal.returns-clause-blocks
-returns-clause-blocks g c =
-    let D = g.D.Disk in
-    if_told (D.content c.args.disk.now) _ (λ before told.
-    let same_content = c.read_header.ensures.only_reads.same_content in
-    let header = at_told _ before told c.in_ok-header.ensures.header in
-    let long : 16 < length before = omega (arith, at_told _ before told c.requires.len, c.if-len-le-FIRST_GATE.false) in
-    let head : HasHeader c.args.magic c.in_ok-header.header.blocks before = record { magic_is = header.0; blocks_are = sym header.1; is_number = c.in_ok-header.ensures.blocks } in
-    let new = at_told _ before (same_content ∙ told) c.in_ok-finish_format.ensures.ok in
-    let is = finished_store c.args.magic c.in_ok-header.header.blocks before new.0 long head new.2.0 in
-    (new.0, new.1, subst (λ (journal : Position). journal.blocks ≡ le32 new.0 8) (sym c.at_first_gate-2.ensures) (sym is.0.blocks_are)))
+    if_told (D.content c.format_new.new.disk) _ (λ now told_now.
+    let was = told_before (D.content c.args.disk.now) (D.content c.format_new.new.disk) now c.format_new.ensures.untold told_now in
+    let new = at_told _ was.0 was.1 c.in_ok-format_new.ensures.ok in
+    let same = same_Some new.0 now (sym new.1 ∙ told_now) in
+    let is = new_store c.args.magic c.args.blocks now eight c.requires.some c.requires.most (sym same ∙ new.2.0) in
+    ap (λ (journal : Position). journal.blocks) c.at_first_gate.ensures ∙ sym is.0.blocks_are)
