@@ -1,10 +1,9 @@
 -- How `frames` ended, by the content of the name.
-use Rattle.std.proofs.Common.{◌≡◌, ◌⊎◌, ℕ, ◌<◌, ◌≤◌, List, length, refl, ap, sym, subst, ◌∙◌, inl, inr, arith, Bool, true, false}
-use Rattle.std.specs.Prelude.{Option, None, Some, IfSome, Result, Ok, Err, if◌then◌else◌}
-use Rattle.px_base.specs.declared.shelf.ShelfRefusal.{ShelfRefusal}
+use Rattle.std.proofs.Common.{◌≡◌, ℕ, ◌<◌, ◌≤◌, List, length, refl, ap, sym, subst, ◌∙◌, inl, inr, arith, Bool, true, false}
+use Rattle.std.specs.Prelude.{Option, None, Some, IfSome, Ok, Err, if◌then◌else◌}
 use Rattle.px_base.specs.declared.shelf.ShelfRefusal.TheVariants as refusal
-use Rattle.px_base.specs.Outside.{Gains, GainsPrefix}
-use Rattle.px_base.specs.Shelves.{AnswersOf, Holding, Loads, content_of, load_answer}
+use Rattle.px_base.specs.Outside.{GainsPrefix}
+use Rattle.px_base.specs.Shelves.{AnswersOf, Holding, Loads, content_of}
 use Rattle.frame_lines.specs.FramesText.{FramesText}
 use Rattle.pacsat_cli.specs.declared.status.Status.{Status}
 use Rattle.pacsat_cli.specs.declared.status.Status.TheVariants.{Done, Usage, AirRead, AirWrite, NoSuch, OutOfMemory, Spent, Out, Shelf, TooLong, NotBuilt}

@@ -1,5 +1,5 @@
 -- What is played is what is run, and what was heard says how it ended.
-use Rattle.std.proofs.Common.{refl, ap, inl, inr, ◌∙◌, arith}
+use Rattle.std.proofs.Common.{ap, inl, inr, ◌∙◌, arith}
 use Rattle.pacsat_cli.proofs.Outcome.{complete_end, ends_heard, not_built_end, spent_end, untouched-no_end}
 use Rattle.pacsat_cli.proofs.FramesEnds.{frames-done, frames-no_such, frames-too_long}
 use Rattle.pacsat_cli.specs.Run.{heard_unbuilt, most_polls}
