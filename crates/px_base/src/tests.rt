@@ -289,19 +289,24 @@ fn shelf_over_a_folder(rt: HostRuntime) -> Result<(), Fail> {
     let name = "px_base.shelf.test";
     assert_eq!(rt; shelf.keep(name, b"longer"), Ok(()));
     assert_eq!(rt; shelf.keep(name, b"long"), Ok(()));
-    // the name, the most octets, and what is loaded; the folder itself can be opened, and not read
+    // the name, the most octets, and what is loaded; the folder itself can be opened, and not read, and a path through a
+    // file is none, which isn't that nothing is there
     let loaded = [
         (name, 4, Ok(b"long".as_slice())),
         (name, 3, Err(ShelfRefusal::TooLong)),
         (name, usize::MAX, Ok(b"long".as_slice())),
         ("px_base.no.such.test", 4, Err(ShelfRefusal::NoSuch)),
+        ("px_base.no.such.test/name", 4, Err(ShelfRefusal::NoSuch)),
+        ("px_base.shelf.test/name", 4, Err(ShelfRefusal::Fault)),
         (".", 4, Err(ShelfRefusal::Fault)),
     ];
     for (name, most, wanted) in loaded {
         let content = shelf.load(rt.alloc(), name, most);
         assert_eq!(rt; octets_of(&content), wanted, "{name}");
     }
-    assert_eq!(rt; shelf.keep(".", b"no file"), Err(ShelfDown));
+    for name in [".", "px_base.shelf.test/name"] {
+        assert_eq!(rt; shelf.keep(name, b"no file"), Err(ShelfDown), "{name}");
+    }
     fs::remove_file(&rt, name)?;
     Ok(())
 }
