@@ -1,7 +1,7 @@
 -- Lemmas on reading all that a reader has left, up to a limit.
-use Rattle.std.proofs.Common.{◌≡◌, ℕ, ◌+◌, ◌<◌, ◌≤◌, Bool, true, false, min, List, [], ◌++◌, length, take, Option, None, Some, IfSome, Result, Ok, Err, refl, ap, ◌∙◌, sym, inl, inr, arith}
+use Rattle.std.proofs.Common.{◌≡◌, ℕ, ◌+◌, ◌<◌, ◌≤◌, Bool, true, false, min, List, [], ◌++◌, length, take, Option, None, Some, IfSome, Result, Ok, Err, refl, ap, ◌∙◌, inl, inr, arith}
 use Rattle.std.specs.Option.{option_map}
-use Rattle.std.specs.Prelude.{OnOk, nat_le, if◌then◌else◌}
+use Rattle.std.specs.Prelude.{OnOk, nat_le}
 use Rattle.std.specs.declared.io.Error.{Error}
 use Rattle.std.proofs.lemmas.List.{length-take, take_all}
 use Rattle.std.proofs.lemmas.Bool.Decides.{nat_tests}

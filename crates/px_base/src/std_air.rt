@@ -17,9 +17,8 @@ use std::marker::Model;
 #[derive(Drop)]
 pub struct StdAir<R, W> {
     input: R,
-    output: W,
+    output: StdOut<W>,
     read_faults: FaultCount,
-    write_faults: FaultCount,
 }
 
 impl<R, W> Model for StdAir<R, W> {
@@ -29,9 +28,9 @@ impl<R, W> Model for StdAir<R, W> {
 
     ghost view = { λ a. record {
       input = a.input;
-      output = a.output;
+      output = a.output.output;
       read_faults = a.read_faults;
-      write_faults = a.write_faults;
+      write_faults = a.output.faults;
     } };
 }
 
@@ -42,9 +41,8 @@ impl<R: Read, W: Write> StdAir<R, W> {
     {
         StdAir {
             input,
-            output,
+            output: StdOut::new(output),
             read_faults: FaultCount::new(),
-            write_faults: FaultCount::new(),
         }
     }
 }
@@ -79,10 +77,7 @@ impl<R: Read, W: Write> Air for StdAir<R, W> {
         ensures counted { self.new.write_faults ≡ counted_after result self.old.write_faults }
         ensures input { self.new.input ≡ self.old.input }
     {
-        let wrote = self.output.write_all(bytes);
-        let flushed = self.output.flush();
-        self.write_faults
-            .count_err(put_answer(wrote, flushed, AirDown))
+        self.output.put(bytes).map_err(|_| AirDown)
     }
 }
 
@@ -126,7 +121,7 @@ impl<W: Write> Out for StdOut<W> {
     {
         let wrote = self.output.write_all(bytes);
         let flushed = self.output.flush();
-        self.faults.count_err(put_answer(wrote, flushed, OutDown))
+        self.faults.count_err(put_answer(wrote, flushed))
     }
 }
 
@@ -143,12 +138,12 @@ fn poll_answer(read: io::Result<usize>) -> Result<Polled, AirDown>
 }
 
 /// Octets were put exactly where both writing them and flushing answered so.
-fn put_answer<D: Drop>(wrote: io::Result<()>, flushed: io::Result<()>, down: D) -> Result<(), D>
+fn put_answer(wrote: io::Result<()>, flushed: io::Result<()>) -> Result<(), OutDown>
     ensures { IsOk result ↔ (IsOk wrote × IsOk flushed) }
 {
     if wrote.is_ok() && flushed.is_ok() {
         Ok(())
     } else {
-        Err(down)
+        Err(OutDown)
     }
 }
