@@ -1,20 +1,22 @@
 -- A disk in memory as contracts see it, and what each of its calls does.
-use Rattle.std.specs.Prelude.{◌≡◌, ◌⊎◌, ℕ, ◌+◌, ◌^◌, ◌≤◌, List, [], ◌∷◌, ◌++◌, length, true, Result, OnOk, OnErr}
+use Rattle.std.specs.Prelude.{◌≡◌, ◌⊎◌, ℕ, ◌+◌, ◌^◌, ◌<◌, ◌≤◌, List, [], ◌∷◌, ◌++◌, length, Bool, false, true, Result, OnOk, OnErr}
 use Rattle.disk_model.specs.Counts.{Counts, IsListed, counts_after_call, counts_after_failed_read, counts_after_failed_write, new_counts}
 use Rattle.disk_model.specs.Surface.{ImagesSince, IsImage, Surface, surface_after}
 use Rattle.disk_model.specs.declared.disk_call.DiskCall.{DiskCall}
 use Rattle.disk_model.specs.declared.disk_call.DiskCall.TheVariants as call
 
--- The octets that the disk had at first, its calls of `write_at` and `sync` since then, but for those that found no
--- memory, and how all its calls were numbered and its faults counted.
+-- The octets that the disk had at first; its calls of `write_at` and `sync` since then, but for those that changed
+-- nothing for want of memory; whether it is down, after a write that found no memory; and how all its calls were
+-- numbered and its faults counted.
 pub record DiskState : Type 0 where
   pub first : List ℕ
   pub calls : List DiskCall
+  pub down : Bool
   pub counts : Counts
 
 -- before the first call: at rest, with these octets, and these calls listed to fail
 abbrev pub new_state : List ℕ → List ℕ → DiskState
-new_state octets failing = record { first = octets; calls = []; counts = new_counts failing }
+new_state octets failing = record { first = octets; calls = []; down = false; counts = new_counts failing }
 
 -- what stands on the disk
 abbrev pub surface : DiskState → Surface
@@ -28,7 +30,7 @@ content_of state = (surface state).content
 abbrev pub images_of : DiskState → List ℕ → Type 0
 images_of state = IsImage (surface state)
 
--- how many calls of `write_at` and `sync` were made, but for those that found no memory
+-- how many calls of `write_at` and `sync` were made, but for those that changed nothing for want of memory
 abbrev pub moment_of : DiskState → ℕ
 moment_of state = length state.calls
 
@@ -53,32 +55,51 @@ abbrev pub state_after_failed : DiskState → DiskCall → DiskState
 state_after_failed state done =
     record state { calls = state.calls ++ done ∷ []; counts = counts_after_failed_write state.counts state.counts.starved }
 
--- after one that found no memory
+-- after one that changed nothing for want of memory
 abbrev pub state_after_starved : DiskState → DiskState
 state_after_starved state = record state { counts = counts_after_failed_write state.counts true }
+
+-- after a write of so many octets that found no memory: its range is open, and the disk is down
+abbrev pub state_after_lost : DiskState → ℕ → ℕ → DiskState
+state_after_lost state at count =
+    record state { calls = state.calls ++ call.TornWrite at count ∷ []; down = true; counts = counts_after_failed_write state.counts true }
 
 -- A call of `len` or `read` fails exactly where it is listed.
 pub record IsReading {T E : Type 0} (before now : DiskState) (result : Result T E) : Type 0 where
   pub ok : OnOk result ((IsListed before.counts → ⊥) × (now ≡ state_after_reading before))
   pub err : OnErr result (IsListed before.counts × (now ≡ state_after_failed_reading before))
 
--- A call of `write_at` is done, or fails where it is listed, or finds no memory; so does one that would end past 2 ^ 63.
+-- the disk isn't down, and so many octets at this place end within the most octets of a disk
+pub record IsWithin (state : DiskState) (at count : ℕ) : Type 0 where
+  pub up : state.down ≡ false
+  pub ends : at + count ≤ 2 ^ 63
+
+-- The disk is down, or so many octets at this place would end past the most octets of a disk.
+abbrev pub IsRefused : DiskState → ℕ → ℕ → Type 0
+IsRefused state at count = (state.down ≡ true) ⊎ (2 ^ 63 < at + count)
+
+-- A call of `write_at` is done; or fails where it is listed, or where it finds no memory, and its range is open; or it
+-- fails and changes nothing, where the disk is down or it would end past 2 ^ 63.
 pub record IsWriting {T E : Type 0} (before now : DiskState) (at : ℕ) (octets : List ℕ) (result : Result T E) : Type 0 where
-  pub ok : OnOk result ((IsListed before.counts → ⊥) × (at + length octets ≤ 2 ^ 63) × (now ≡ state_after before (call.Write at octets)))
+  pub ok : OnOk result ((IsListed before.counts → ⊥) × IsWithin before at (length octets) × (now ≡ state_after before (call.Write at octets)))
   pub err :
       OnErr result
-      ((IsListed before.counts × (at + length octets ≤ 2 ^ 63) × (now ≡ state_after_failed before (call.TornWrite at octets)))
-      ⊎ (now ≡ state_after_starved before))
+      ((IsListed before.counts × IsWithin before at (length octets) × (now ≡ state_after_failed before (call.TornWrite at (length octets))))
+      ⊎ ((IsWithin before at (length octets) × (now ≡ state_after_lost before at (length octets)))
+      ⊎ (IsRefused before at (length octets) × (now ≡ state_after_starved before))))
 
--- A call of `sync` is done, or fails where it is listed, or finds no memory.
+-- A call of `sync` is done, or fails where it is listed, or finds no memory. On a disk that is down it fails.
 pub record IsSyncing {T E : Type 0} (before now : DiskState) (result : Result T E) : Type 0 where
-  pub ok : OnOk result ((IsListed before.counts → ⊥) × (now ≡ state_after before call.Sync))
+  pub ok : OnOk result ((IsListed before.counts → ⊥) × (before.down ≡ false) × (now ≡ state_after before call.Sync))
   pub err :
       OnErr result
-      ((IsListed before.counts × (now ≡ state_after_failed before call.FailedSync)) ⊎ (now ≡ state_after_starved before))
+      ((IsListed before.counts × (before.down ≡ false) × (now ≡ state_after_failed before call.FailedSync)) ⊎ (now ≡ state_after_starved before))
 
--- a write that is cut short by no listed call leaves its range open, but where there is no memory to record it
-abbrev pub IsTearing : DiskState → DiskState → ℕ → List ℕ → Type 0
-IsTearing before now at octets =
-    ((at + length octets ≤ 2 ^ 63) × (now ≡ record before { calls = before.calls ++ call.TornWrite at octets ∷ [] }))
-    ⊎ (now ≡ record before { counts = record before.counts { starved = true } })
+-- A write that a fuse cuts short leaves its range open, and the disk is down where there is no memory for a further call;
+-- a disk that is down stays as it was.
+pub record IsTearing (before now : DiskState) (at count : ℕ) : Type 0 where
+  pub up :
+      before.down ≡ false
+      → (now ≡ record before { calls = before.calls ++ call.TornWrite at count ∷ [] })
+      ⊎ (now ≡ record before { calls = before.calls ++ call.TornWrite at count ∷ []; down = true; counts = record before.counts { starved = true } })
+  pub down : before.down ≡ true → now ≡ before
