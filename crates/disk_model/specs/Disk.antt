@@ -1,9 +1,6 @@
 -- What the calls of a disk do to its content, and what a crash may leave.
-use Rattle.std.specs.Prelude.{◌≡◌, ℕ, ◌+◌, ◌<◌, ◌≤◌, max, List, length, take, drop, All, Option, Some, IfSome, IsSome}
-
--- octets, as numbers
-abbrev pub IsOctets : List ℕ → Type 0
-IsOctets octets = All (λ octet. octet < 256) octets
+use Rattle.std.specs.Prelude.{◌≡◌, ℕ, ◌+◌, ◌≤◌, max, List, length, take, drop, Option, Some, IfSome, IsSome}
+use Rattle.px_base.specs.Octets.{IsOctets}
 
 -- the content is told
 abbrev pub IsTold : Option (List ℕ) → Type 0

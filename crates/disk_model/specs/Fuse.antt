@@ -1,6 +1,6 @@
 -- A disk that stops after so many calls, as contracts see it, and what each of its calls does.
 use Rattle.std.specs.Prelude.{◌≡◌, ◌⊎◌, ℕ, ◌+◌, ◌^◌, ◌<◌, ◌≤◌, List, length, Option, Some, true, Result, IsErr}
-use Rattle.px_base.specs.Forms.{counted}
+use Rattle.px_base.specs.Outside.{counted}
 use Rattle.disk_model.specs.Calls.{DiskState, IsReading, IsSyncing, IsTearing, IsWriting, content_of, images_of, images_since_of, moment_of}
 use Rattle.disk_model.specs.Memory.{state}
 use Rattle.disk_model.specs.declared.fuse_disk.FuseDisk.{FuseDisk}
@@ -35,10 +35,10 @@ abbrev pub images_since : FuseDisk → ℕ → List ℕ → Type 0
 images_since disk = images_since_of (fuse disk).disk
 
 abbrev pub read_faults : FuseDisk → ℕ
-read_faults disk = (fuse disk).disk.counts.read_faults + (fuse disk).read_faults
+read_faults disk = (fuse disk).disk.read_faults + (fuse disk).read_faults
 
 abbrev pub write_faults : FuseDisk → ℕ
-write_faults disk = (fuse disk).disk.counts.write_faults + (fuse disk).write_faults
+write_faults disk = (fuse disk).disk.write_faults + (fuse disk).write_faults
 
 abbrev pub is_down : FuseDisk → Type 0
 is_down disk = ((fuse disk).stage ≡ stage.Down) ⊎ ((fuse disk).disk.down ≡ true)

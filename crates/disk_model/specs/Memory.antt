@@ -5,7 +5,7 @@ use Rattle.disk_model.specs.declared.memory_disk.MemoryDisk.{MemoryDisk}
 
 abbrev pub state : MemoryDisk → DiskState
 state disk =
-    record { first = disk.history.first; calls = disk.history.calls.items; down = disk.history.down; counts = disk.counts }
+    record { first = disk.history.first; calls = disk.history.calls.items; down = disk.history.down; counter = disk.counter; read_faults = disk.read_faults; write_faults = disk.write_faults }
 
 -- it as a disk: what it tells, and when it is down
 abbrev pub content : MemoryDisk → Option (List ℕ)
@@ -21,10 +21,10 @@ abbrev pub images_since : MemoryDisk → ℕ → List ℕ → Type 0
 images_since disk = images_since_of (state disk)
 
 abbrev pub read_faults : MemoryDisk → ℕ
-read_faults disk = (state disk).counts.read_faults
+read_faults disk = (state disk).read_faults
 
 abbrev pub write_faults : MemoryDisk → ℕ
-write_faults disk = (state disk).counts.write_faults
+write_faults disk = (state disk).write_faults
 
 abbrev pub is_down : MemoryDisk → Type 0
 is_down disk = (state disk).down ≡ true

@@ -1,8 +1,8 @@
 //! What a crash leaves, as a number picks it.
 
-ghost use Rattle.std.specs.Prelude.{◌≡◌, ◌+◌, ◌/◌, ◌%◌, ◌<◌, ◌≤◌, ◌^◌, ℕ, List, None, Some, length, slice_index, IfOk};
+ghost use Rattle.std.specs.Prelude.{◌≡◌, ◌+◌, ◌/◌, ◌%◌, ◌<◌, ◌≤◌, ◌^◌, ℕ, List, Some, length, slice_index, IfOk};
 ghost use Rattle.disk_model.specs.Crash.{IsCrash, IsFilled};
-ghost use Rattle.disk_model.specs.Disk.{IsOctets};
+ghost use Rattle.px_base.specs.Octets.{IsOctets};
 ghost use Rattle.disk_model.specs.Surface.{IsImage, NoSync, count_of, place_of, surface_after};
 
 use crate::disk_call::DiskCall;
@@ -18,6 +18,16 @@ struct Pick {
 }
 
 impl Pick {
+    /// By the number's remainder by 4: at 2 each is the octet that the next eight bits are, else each is drawn.
+    fn new(number: u64) -> Pick
+        ensures { number % 4 ≡ 2 → result.octet ≡ Some (number / 4 % 256) }
+    {
+        Pick {
+            octet: (number % 4 == 2).then_some((number / 4 % 256) as u8),
+            drawn: number,
+        }
+    }
+
     /// The next number, as SplitMix64 draws it.
     fn draw(&mut self) -> u64
         ensures { self.new.octet ≡ self.old.octet }
@@ -95,12 +105,7 @@ pub(crate) fn crash(
     if pick % 4 == 0 {
         return Ok(at_rest);
     }
-    let octet = if pick % 4 == 2 {
-        Some((pick / 4 % 256) as u8)
-    } else {
-        None
-    };
-    torn(at_rest, &calls[rest..], Pick { octet, drawn: pick })
+    torn(at_rest, &calls[rest..], Pick::new(pick))
 }
 
 /// What a crash leaves of these octets at rest and these calls since then.

@@ -2,7 +2,8 @@
 
 ghost use Rattle.std.specs.Prelude.{◌≡◌, ◌↔◌, ◌⊎◌, ℕ, ◌+◌, ◌^◌, ◌<◌, ◌≤◌, List, length, Option, IfSome, IfOk, OnErr, OnOk, IsErr};
 ghost use Rattle.px_base.specs.Outside.{HasCause};
-ghost use Rattle.disk_model.specs.Disk.{FillsRoom, Follows, HasContent, IsOctets, IsTold, LeavesOpen, Only, Torn, Writes};
+ghost use Rattle.px_base.specs.Octets.{IsOctets};
+ghost use Rattle.disk_model.specs.Disk.{FillsRoom, Follows, HasContent, IsTold, LeavesOpen, Only, Torn, Writes};
 ghost use Rattle.disk_model.specs.Moments.{ChangesNothing, Elapses, OnlyReads, SinceNow, TakesOneMoment};
 
 use thiserror::Error;

@@ -87,9 +87,7 @@ impl History {
         ensures down { self.new.down ≡ true }
     {
         self.down = true;
-        self.calls
-            .push(DiskCall::TornWrite { at, count })
-            .unwrap();
+        self.calls.push(DiskCall::TornWrite { at, count }).unwrap();
     }
 
     /// Fails to write so many octets, and is down where there is no memory for a further call.
@@ -125,7 +123,11 @@ impl History {
         if fails {
             return self.tear(at, count);
         }
-        self.write(at, bytes).inspect_err(|_| self.break_off(at, count))
+        if self.write(at, bytes).is_err() {
+            self.break_off(at, count);
+            return Err(OutOfMemory);
+        }
+        Ok(())
     }
 
     /// Brings all to rest, or fails to. It changes nothing where there is no memory, or where the disk is down.

@@ -1,6 +1,7 @@
 //! What the recorded calls of a disk come to.
 
 ghost use Rattle.std.specs.Prelude.{◌≡◌, ◌≤◌, length, take, drop, ℕ, List, IfOk};
+ghost use Rattle.px_base.specs.Octets.{IsOctets};
 ghost use Rattle.disk_model.specs.Surface.{NoSync, surface_after, surface_at_rest};
 
 use crate::disk_call::DiskCall;
@@ -29,7 +30,8 @@ pub(crate) fn replay(
     first: &[u8],
     calls: &[DiskCall],
 ) -> Result<Vec<u8>, OutOfMemory>
-    ensures { IfOk result (λ octets. octets.items ≡ (surface_after first.now calls.now).content) }
+    ensures content { IfOk result (λ octets. octets.items ≡ (surface_after first.now calls.now).content) }
+    ensures octets { IfOk result (λ octets. IsOctets octets.items) }
 {
     let mut octets = Vec::from_slice(alloc, first)?;
     for call in calls {

@@ -59,7 +59,7 @@ fn crashes(rt: HostRuntime) -> Result<(), Fail> {
     let rows: [(u64, &[u8]); 5] = [
         (0, &[1, 2, 3, 4, 5]),
         (400, &[1, 2, 3, 4, 5]),
-        (1, &[11, 2, 13, 14, 5, 0, 17]),
+        (1, &[1, 2, 13, 14, 5, 0, 17]),
         (2, &[0, 2, 0, 0, 5, 0, 0]),
         (2 + 4 * 0xAA, &[0xAA, 2, 0xAA, 0xAA, 5, 0xAA, 0xAA]),
     ];
@@ -106,12 +106,12 @@ fn mixed_crashes(rt: HostRuntime) -> Result<(), Fail> {
 
 #[test]
 fn fuses(rt: HostRuntime) -> Result<(), Fail> {
-    // how many calls pass, what a read gives, and what a crash leaves where all that was written reached the disk
+    // how many calls pass, what a read gives, and what a crash leaves whose open octets are 9
     let rows: [(u64, &[u8], &[u8]); 5] = [
-        (0, &[1, 2], &[7, 2]),
-        (1, &[7, 2], &[7, 2]),
-        (2, &[7, 2], &[7, 2, 8]),
-        (3, &[7, 2, 8], &[7, 2, 8]),
+        (0, &[1, 2], &[9, 2]),
+        (1, &[7, 2], &[9, 2, 9]),
+        (2, &[7, 2], &[7, 2, 9]),
+        (3, &[7, 2, 8], &[7, 2, 9]),
         (4, &[7, 2, 8], &[7, 2, 8]),
     ];
     for (calls, content, crashed) in rows {
@@ -126,7 +126,7 @@ fn fuses(rt: HostRuntime) -> Result<(), Fail> {
         assert!(rt; !fuse.starved(), "{calls}");
         let disk = fuse.into_disk();
         assert_eq!(rt; disk.bytes(), content, "{calls}");
-        assert_eq!(rt; disk.crash(1)?.bytes(), crashed, "{calls}");
+        assert_eq!(rt; disk.crash(2 + 4 * 9)?.bytes(), crashed, "{calls}");
     }
     Ok(())
 }
