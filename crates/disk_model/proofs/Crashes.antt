@@ -5,8 +5,8 @@ use Rattle.std.proofs.lemmas.List.{take_at, take_more, take_rest, take-append-dr
 use Rattle.std.proofs.lemmas.List.Elements.{All-tail}
 use Rattle.std.proofs.lemmas.List.Sums.{fold-append}
 use Rattle.px_base.specs.Octets.{IsOctets}
-use Rattle.disk_model.specs.Crash.{IsCrash, IsFilled}
-use Rattle.disk_model.specs.Surface.{IsImage, IsOpen, NoSync, Surface, count_of, opened, place_of, surface_after, surface_after_call, surface_at_rest}
+use Rattle.disk_model.specs.Crash.{IsCrash, IsFilled, Tears}
+use Rattle.disk_model.specs.Surface.{IsImage, IsInRange, IsOpen, NoSync, Surface, count_of, with_range, place_of, surface_after, surface_after_call, quiet_surface}
 use Rattle.disk_model.proofs.Surfaces.{surface_after-push}
 use Rattle.disk_model.specs.declared.disk_call.DiskCall.{DiskCall}
 use Rattle.disk_model.specs.declared.disk_call.DiskCall.TheVariants as call
@@ -20,30 +20,24 @@ pub record IsTorn (surface : Surface) (picked : Option ℕ) (image : List ℕ) :
 pub written_back : (new old : List ℕ) (len : ℕ) → length new ≡ len → take len (new ++ drop (length new) old) ≡ new
 written_back new old len size = take_at new (drop (length new) old) len size
 
--- one range is torn
-pub record Tears (at count : ℕ) (picked : Option ℕ) (old new : List ℕ) : Type 0 where
-  pub size : length new ≡ length old
-  pub outside : (place : ℕ) → ((at ≤ place) × (place < at + count) → ⊥) → get_or new place 0 ≡ get_or old place 0
-  pub filled : (octet place : ℕ) → picked ≡ Some octet → (at ≤ place) × (place < at + count) → place < length old → get_or new place 0 ≡ octet
-
 pub tears_same : (at count : ℕ) (picked picked' : Option ℕ) (old old' new : List ℕ) → picked ≡ picked' → old ≡ old' → Tears at count picked old new → Tears at count picked' old' new
 tears_same at count picked picked' old old' new e f tears =
     subst (λ (p : Option ℕ). Tears at count p old' new) e (subst (λ (o : List ℕ). Tears at count picked o new) f tears)
 
 -- inside a range, or not
-inside_or_not : (at count place : ℕ) → ((at ≤ place) × (place < at + count)) ⊎ ((at ≤ place) × (place < at + count) → ⊥)
+inside_or_not : (at count place : ℕ) → IsInRange at count place ⊎ (IsInRange at count place → ⊥)
 inside_or_not at count place = elim (cases_lt place at) [
   | inl before ↦ inr (λ inside. omega (arith, before, inside.0))
   | inr from ↦ elim (cases_lt place (at + count)) [ inl to ↦ inl (from, to) | inr past ↦ inr (λ inside. omega (arith, past, inside.1)) ]
 ]
 
-opened_torn : (surface : Surface) (at count : ℕ) (picked : Option ℕ) (old new : List ℕ) → Tears at count picked old new → IsTorn surface picked old → IsTorn (opened surface at count) picked new
-opened_torn surface at count picked old new tears torn = record {
+with_range_torn : (surface : Surface) (at count : ℕ) (picked : Option ℕ) (old new : List ℕ) → Tears at count picked old new → IsTorn surface picked old → IsTorn (with_range surface at count) picked new
+with_range_torn surface at count picked old new tears torn = record {
   kept = λ place below shut. tears.outside place (λ inside. shut (inl inside)) ∙ torn.kept place below (λ inside. shut (inr inside));
   filled = filled;
 }
   where
-    filled : (octet place : ℕ) → picked ≡ Some octet → place < length new → (length surface.synced ≤ place) ⊎ (((at ≤ place) × (place < at + count)) ⊎ IsOpen surface.writes place) → get_or new place 0 ≡ octet
+    filled : (octet place : ℕ) → picked ≡ Some octet → place < length new → (length surface.synced ≤ place) ⊎ (IsInRange at count place ⊎ IsOpen surface.writes place) → get_or new place 0 ≡ octet
     filled octet place is below reached =
         let within : place < length old = omega (arith, tears.size, below) in
         elim (inside_or_not at count place) [
@@ -63,9 +57,9 @@ nothing_torn surface picked old new tears torn = record {
 
 pub torn_more : (surface : Surface) (done : DiskCall) (picked : Option ℕ) (old new : List ℕ) → (done ≡ call.Sync → ⊥) → Tears (place_of done) (count_of done) picked old new → IsTorn surface picked old → IsTorn (surface_after_call surface done) picked new
 torn_more surface (call.Write at octets) picked old new no_sync tears torn =
-    let here = opened_torn surface at (length octets) picked old new tears torn in
+    let here = with_range_torn surface at (length octets) picked old new tears torn in
     record { kept = here.kept; filled = here.filled }
-torn_more surface (call.TornWrite at count) picked old new no_sync tears torn = opened_torn surface at count picked old new tears torn
+torn_more surface (call.TornWrite at count) picked old new no_sync tears torn = with_range_torn surface at count picked old new tears torn
 torn_more surface call.Sync picked old new no_sync tears torn = absurd (no_sync refl)
 torn_more surface call.FailedSync picked old new no_sync tears torn = nothing_torn surface picked old new tears torn
 
@@ -88,37 +82,37 @@ synced_kept surface (done ∷ calls) none =
     ∙ synced_same surface done (none 0 done (omega arith))
 
 -- from a sync on, a disk is as one that had at first what stood at that sync
-pub since_rest : (first : List ℕ) (calls : List DiskCall) (n : ℕ) (content : List ℕ) → surface_after first (take n calls) ≡ surface_at_rest (surface_after first (take n calls)).content → content ≡ (surface_after first (take n calls)).content → surface_after content (drop n calls) ≡ surface_after first calls
+pub since_rest : (first : List ℕ) (calls : List DiskCall) (n : ℕ) (content : List ℕ) → surface_after first (take n calls) ≡ quiet_surface (surface_after first (take n calls)).content → content ≡ (surface_after first (take n calls)).content → surface_after content (drop n calls) ≡ surface_after first calls
 since_rest first calls n content rest is =
     ap (λ (octets : List ℕ). surface_after octets (drop n calls)) is
-    ∙ sym (fold-append surface_after_call (surface_at_rest first) (take n calls) (drop n calls) ∙ ap (λ (s : Surface). fold surface_after_call s (drop n calls)) rest)
+    ∙ sym (fold-append surface_after_call (quiet_surface first) (take n calls) (drop n calls) ∙ ap (λ (s : Surface). fold surface_after_call s (drop n calls)) rest)
     ∙ ap (surface_after first) (take-append-drop n calls)
 
 -- one call more of those since the last sync
-pub record NextCall (at_rest : List ℕ) (calls : List DiskCall) (i : ℕ) (done : DiskCall) : Type 0 where
-  pub after : surface_after at_rest (take (i + 1) calls) ≡ surface_after_call (surface_after at_rest (take i calls)) done
+pub record NextCall (synced : List ℕ) (calls : List DiskCall) (i : ℕ) (done : DiskCall) : Type 0 where
+  pub after : surface_after synced (take (i + 1) calls) ≡ surface_after_call (surface_after synced (take i calls)) done
   pub no_sync : done ≡ call.Sync → ⊥
 
-pub next_call : (at_rest : List ℕ) (calls : List DiskCall) (i : ℕ) (done : DiskCall) → NoSync calls → i < length calls → done ≡ get_or calls i done → NextCall at_rest calls i done
-next_call at_rest calls i done none below is = record {
-  after = ap (surface_after at_rest) (take_more calls i done below ∙ ap (λ (d : DiskCall). take i calls ++ d ∷ []) (sym is)) ∙ surface_after-push at_rest (take i calls) done;
+pub next_call : (synced : List ℕ) (calls : List DiskCall) (i : ℕ) (done : DiskCall) → NoSync calls → i < length calls → done ≡ get_or calls i done → NextCall synced calls i done
+next_call synced calls i done none below is = record {
+  after = ap (surface_after synced) (take_more calls i done below ∙ ap (λ (d : DiskCall). take i calls ++ d ∷ []) (sym is)) ∙ surface_after-push synced (take i calls) done;
   no_sync = λ sync. none i done below (sym is ∙ sync);
 }
 
-pub torn_next : (at_rest : List ℕ) (calls : List DiskCall) (i : ℕ) (done : DiskCall) (picked : Option ℕ) (old new : List ℕ) → NextCall at_rest calls i done → Tears (place_of done) (count_of done) picked old new → IsTorn (surface_after at_rest (take i calls)) picked old → IsTorn (surface_after at_rest (take (i + 1) calls)) picked new
-torn_next at_rest calls i done picked old new next tears torn =
-    subst (λ (s : Surface). IsTorn s picked new) (sym next.after) (torn_more (surface_after at_rest (take i calls)) done picked old new next.no_sync tears torn)
+pub torn_next : (synced : List ℕ) (calls : List DiskCall) (i : ℕ) (done : DiskCall) (picked : Option ℕ) (old new : List ℕ) → NextCall synced calls i done → Tears (place_of done) (count_of done) picked old new → IsTorn (surface_after synced (take i calls)) picked old → IsTorn (surface_after synced (take (i + 1) calls)) picked new
+torn_next synced calls i done picked old new next tears torn =
+    subst (λ (s : Surface). IsTorn s picked new) (sym next.after) (torn_more (surface_after synced (take i calls)) done picked old new next.no_sync tears torn)
 
-pub synced_next : (at_rest : List ℕ) (calls : List DiskCall) (i : ℕ) (done : DiskCall) → NextCall at_rest calls i done → (surface_after at_rest (take (i + 1) calls)).synced ≡ (surface_after at_rest (take i calls)).synced
-synced_next at_rest calls i done next = ap (λ (s : Surface). s.synced) next.after ∙ synced_same (surface_after at_rest (take i calls)) done next.no_sync
+pub synced_next : (synced : List ℕ) (calls : List DiskCall) (i : ℕ) (done : DiskCall) → NextCall synced calls i done → (surface_after synced (take (i + 1) calls)).synced ≡ (surface_after synced (take i calls)).synced
+synced_next synced calls i done next = ap (λ (s : Surface). s.synced) next.after ∙ synced_same (surface_after synced (take i calls)) done next.no_sync
 
-pub since_last : (first : List ℕ) (calls : List DiskCall) (n : ℕ) (content : List ℕ) → surface_after first (take n calls) ≡ surface_at_rest (surface_after first (take n calls)).content → content ≡ (surface_after first (take n calls)).content → surface_after content (take (length calls - n) (drop n calls)) ≡ surface_after first calls
+pub since_last : (first : List ℕ) (calls : List DiskCall) (n : ℕ) (content : List ℕ) → surface_after first (take n calls) ≡ quiet_surface (surface_after first (take n calls)).content → content ≡ (surface_after first (take n calls)).content → surface_after content (take (length calls - n) (drop n calls)) ≡ surface_after first calls
 since_last first calls n content rest is = ap (surface_after content) (take_rest calls n) ∙ since_rest first calls n content rest is
 
 -- what a read gave at the last sync is what was synced
-pub synced_at_rest : (first : List ℕ) (calls : List DiskCall) (n : ℕ) (content : List ℕ) → surface_after first (take n calls) ≡ surface_at_rest (surface_after first (take n calls)).content → content ≡ (surface_after first (take n calls)).content → NoSync (drop n calls) → (surface_after first calls).synced ≡ content
-synced_at_rest first calls n content rest is none =
-    sym (ap (λ (s : Surface). s.synced) (since_rest first calls n content rest is)) ∙ synced_kept (surface_at_rest content) (drop n calls) none
+pub synced_content : (first : List ℕ) (calls : List DiskCall) (n : ℕ) (content : List ℕ) → surface_after first (take n calls) ≡ quiet_surface (surface_after first (take n calls)).content → content ≡ (surface_after first (take n calls)).content → NoSync (drop n calls) → (surface_after first calls).synced ≡ content
+synced_content first calls n content rest is none =
+    sym (ap (λ (s : Surface). s.synced) (since_rest first calls n content rest is)) ∙ synced_kept (quiet_surface content) (drop n calls) none
 
 -- what is torn is what a crash leaves
 pub crash_of : {E : Type 0} (surface : Surface) (pick : ℕ) (result : Result (Vec ℕ Global) E) → IfOk result (λ (image : Vec ℕ Global). IsImage surface image.items)

@@ -3,13 +3,14 @@ use Rattle.std.proofs.Common.{◌≡◌, ◌⊎◌, inl, inr, ℕ, ◌+◌, ◌�
 use Rattle.std.proofs.lemmas.Bool.{cases_Bool, cases_lt}
 use Rattle.std.proofs.lemmas.List.{length_push, take_all, take-append-le}
 use Rattle.px_base.specs.Outside.{HasCause}
+use Rattle.px_base.specs.Octets.{IsOctets}
 use Rattle.disk_model.specs.Calls.{DiskState, IsRefused, IsSyncing, IsTearing, IsWriting, content_of, images_of, images_since_of, moment_of, surface}
-use Rattle.disk_model.specs.Disk.{Follows, HasContent, LeavesOpen, Only, Torn, Writes}
-use Rattle.disk_model.specs.Moments.{Elapses, SinceNow}
-use Rattle.disk_model.specs.Surface.{ImagesSince, IsImage, Surface, opened, surface_after, surface_after_call, write_over}
+use Rattle.disk_model.specs.Disk.{Follows, HasContent, Only, Torn, Writes}
+use Rattle.disk_model.specs.Moments.{Elapses}
+use Rattle.disk_model.specs.Surface.{ImagesSince, IsImage, Surface, with_range, surface_after, surface_after_call, write_over}
 use Rattle.disk_model.specs.declared.disk_call.DiskCall.{DiskCall}
 use Rattle.disk_model.specs.declared.disk_call.DiskCall.TheVariants as call
-use Rattle.disk_model.proofs.Surfaces.{at_rest_only, images_of_this_content, images_of_other_content, opened_keeps, surface_after-push, torn_from, torn_leaves}
+use Rattle.disk_model.proofs.Surfaces.{quiet_leaves_only, images_of_this_content, images_of_other_content, with_range_keeps, surface_after-push, torn_from, torn_leaves}
 use Rattle.disk_model.proofs.Writes.{torn_by_places, write_over_writes}
 
 -- no call was made, and a crash may leave no more than before
@@ -41,12 +42,9 @@ pub past_is_now : (first : List ℕ) (calls : List DiskCall) (image : List ℕ) 
 past_is_now first calls image since =
     subst (λ (s : Surface). IsImage s image) (ap (surface_after first) (take_all since.0 calls since.1)) since.3
 
-pub since_now : (before : ℕ) (state : DiskState) → SinceNow before (moment_of state) (images_since_of state) (images_of state)
-since_now before state later image since = past_is_now state.first state.calls image since
-
 -- the images of a range that is open
-opened_follows : (before : DiskState) (at count : ℕ) → images_of before (content_of before) → Follows (Torn at count) (images_of before) (IsImage (opened (surface before) at count))
-opened_follows before at count content image left = torn_from (surface before) at count (content_of before) image content left
+with_range_follows : (before : DiskState) (at count : ℕ) → images_of before (content_of before) → Follows (Torn at count) (images_of before) (IsImage (with_range (surface before) at count))
+with_range_follows before at count content image left = torn_from (surface before) at count (content_of before) image content left
 
 same_follows : (before : DiskState) (at count : ℕ) → Follows (Torn at count) (images_of before) (images_of before)
 same_follows before at count image left = (image, left, torn_by_places at count image image (omega arith) (omega arith) (λ place below outside. refl))
@@ -57,7 +55,7 @@ ElapsesTo before now = Elapses (moment_of before) (moment_of now) (images_since_
 -- what a call of `write_at` does that leaves its range open
 pub record Opens (before now : DiskState) (at count : ℕ) : Type 0 where
   pub follows : images_of before (content_of before) → Follows (Torn at count) (images_of before) (images_of now)
-  pub leaves_open : LeavesOpen at count (images_of before) (images_of now)
+  pub leaves_open : (old new : List ℕ) → images_of before old → IsOctets new → Torn at count old new → images_of now new
   pub kept : (image : List ℕ) → images_of before image → images_of now image
   pub elapses : ElapsesTo before now
 
@@ -69,25 +67,25 @@ pub record Untouched (before now : DiskState) : Type 0 where
 -- the call is recorded, and its surface is the one before but for the content, with this range open
 opens_by : (before now : DiskState) (at count : ℕ) (done : DiskCall) (content : List ℕ)
     → now.first ≡ before.first → now.calls ≡ before.calls ++ done ∷ []
-    → surface_after_call (surface before) done ≡ record (opened (surface before) at count) { content = content }
+    → surface_after_call (surface before) done ≡ record (with_range (surface before) at count) { content = content }
     → Opens before now at count
 opens_by before now at count done content first calls is = record {
-  follows = λ content_is image left. opened_follows before at count content_is image (images_of_this_content (opened (surface before) at count) content image (subst (λ (s : Surface). IsImage s image) surface_is left));
+  follows = λ content_is image left. with_range_follows before at count content_is image (images_of_this_content (with_range (surface before) at count) content image (subst (λ (s : Surface). IsImage s image) surface_is left));
   leaves_open = λ old new left small torn. here new (torn_leaves (surface before) at count old new left small torn);
-  kept = λ image left. here image (opened_keeps (surface before) at count image left);
+  kept = λ image left. here image (with_range_keeps (surface before) at count image left);
   elapses = subst (λ (f : List ℕ). Elapses (moment_of before) (length now.calls) (images_since_of before) (ImagesSince f now.calls) (IsImage (surface_after f now.calls))) (sym first)
       (subst (λ (l : List DiskCall). Elapses (moment_of before) (length l) (images_since_of before) (ImagesSince before.first l) (IsImage (surface_after before.first l))) (sym calls) (call_elapses before.first before.calls done));
 }
   where
-    surface_is : surface now ≡ record (opened (surface before) at count) { content = content }
+    surface_is : surface now ≡ record (with_range (surface before) at count) { content = content }
     surface_is =
         ap (λ (f : List ℕ). surface_after f now.calls) first
         ∙ ap (surface_after before.first) calls
         ∙ surface_after-push before.first before.calls done
         ∙ is
 
-    here : (image : List ℕ) → IsImage (opened (surface before) at count) image → images_of now image
-    here image left = subst (λ (s : Surface). IsImage s image) (sym surface_is) (images_of_other_content (opened (surface before) at count) content image left)
+    here : (image : List ℕ) → IsImage (with_range (surface before) at count) image → images_of now image
+    here image left = subst (λ (s : Surface). IsImage s image) (sym surface_is) (images_of_other_content (with_range (surface before) at count) content image left)
 
 -- a write that is done, and one that is torn
 pub write_opens : (before now : DiskState) (at : ℕ) (octets : List ℕ) → now.first ≡ before.first → now.calls ≡ before.calls ++ call.Write at octets ∷ [] → Opens before now at (length octets)
@@ -113,9 +111,9 @@ module _ (before now : DiskState) (at count : ℕ) (P : Type 0) where
   follows_either (inr same) content image left =
       same_follows before at count image (subst (λ (s : Surface). IsImage s image) (untouched_surface before now same.1) left)
 
-  pub leaves_open_either : Opens before now at count ⊎ (P × Untouched before now) → (P → ⊥) → LeavesOpen at count (images_of before) (images_of now)
-  leaves_open_either (inl opens) none = opens.leaves_open
-  leaves_open_either (inr same) none = absurd (none same.0)
+  pub leaves_open_either : Opens before now at count ⊎ (P × Untouched before now) → (P → ⊥) → (old new : List ℕ) → images_of before old → IsOctets new → Torn at count old new → images_of now new
+  leaves_open_either (inl opens) none old new left small torn = opens.leaves_open old new left small torn
+  leaves_open_either (inr same) none old new left small torn = absurd (none same.0)
 
   pub kept_either : Opens before now at count ⊎ (P × Untouched before now) → (image : List ℕ) → images_of before image → images_of now image
   kept_either (inl opens) image left = opens.kept image left
@@ -155,11 +153,11 @@ tearing_opens before now at count step = elim (cases_Bool before.down) [
 ]
 
 module _ {T E : Type 0} (before now : DiskState) where
-  pub syncing_quiets : (result : Result T E) → IsSyncing before now result → OnOk result (Only (images_of now) (content_of before))
-  syncing_quiets (Ok done) step = λ image left.
+  pub syncing_leaves_only : (result : Result T E) → IsSyncing before now result → OnOk result (Only (images_of now) (content_of before))
+  syncing_leaves_only (Ok done) step = λ image left.
       let surface_is = ap surface step.ok.2 ∙ surface_after-push before.first before.calls call.Sync in
-      at_rest_only (content_of before) image (subst (λ (s : Surface). IsImage s image) surface_is left)
-  syncing_quiets (Err fault) step = tt
+      quiet_leaves_only (content_of before) image (subst (λ (s : Surface). IsImage s image) surface_is left)
+  syncing_leaves_only (Err fault) step = tt
 
   pub syncing_elapses : (result : Result T E) → IsSyncing before now result → ElapsesTo before now
   syncing_elapses (Ok done) step = subst (ElapsesTo before) (sym step.ok.2) (call_elapses before.first before.calls call.Sync)

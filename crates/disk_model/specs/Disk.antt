@@ -1,5 +1,5 @@
 -- What the calls of a disk do to its content, and what a crash may leave.
-use Rattle.std.specs.Prelude.{◌≡◌, ℕ, ◌+◌, ◌≤◌, max, List, length, take, drop, Option, Some, IfSome, IsSome}
+use Rattle.std.specs.Prelude.{◌≡◌, ℕ, ◌+◌, ◌^◌, ◌≤◌, max, List, length, take, drop, Option, Some, IfSome, IsSome}
 use Rattle.px_base.specs.Octets.{IsOctets}
 
 -- the content is told
@@ -42,6 +42,18 @@ pub record Torn (at count : ℕ) (old new : List ℕ) : Type 0 where
 abbrev pub Follows : (List ℕ → List ℕ → Type 0) → (List ℕ → Type 0) → (List ℕ → Type 0) → Type 0
 Follows step before now = (image : List ℕ) → now image → (old : List ℕ) × before old × step old image
 
--- Each list that is torn so from what a crash might have left is what a crash may leave.
-abbrev pub LeavesOpen : ℕ → ℕ → (List ℕ → Type 0) → (List ℕ → Type 0) → Type 0
-LeavesOpen at count before now = (old new : List ℕ) → before old → IsOctets new → Torn at count old new → now new
+-- each of these images is one of those
+abbrev pub AreAmong : (List ℕ → Type 0) → (List ℕ → Type 0) → Type 0
+AreAmong these those = (image : List ℕ) → these image → those image
+
+-- Unless the disk was down before, or the range ends past 2 ^ 63: each list that is torn so from an image before is an
+-- image now.
+abbrev pub LeavesOpen : {D : Type 0} → (D → Type 0) → (D → List ℕ → Type 0) → ℕ → ℕ → D → D → Type 0
+LeavesOpen is_down images at count old new =
+    (is_down old → ⊥)
+    → at + count ≤ 2 ^ 63
+    → (before now : List ℕ)
+    → images old before
+    → IsOctets now
+    → Torn at count before now
+    → images new now

@@ -15,7 +15,13 @@ pub record FuseState : Type 0 where
   pub write_faults : ℕ
 
 abbrev pub fuse : FuseDisk → FuseState
-fuse disk = record { disk = state disk.disk; stage = disk.stage; read_faults = disk.read_faults; write_faults = disk.write_faults }
+fuse disk =
+    record {
+      disk = state disk.disk;
+      stage = disk.stage;
+      read_faults = disk.read_faults;
+      write_faults = disk.write_faults;
+    }
 
 -- before the first call
 abbrev pub new_fuse : DiskState → ℕ → FuseState
@@ -70,23 +76,28 @@ fuse_after_failed before stage_is = record before { stage = stage_is; write_faul
 
 -- A call of `len` or `read` is one of the disk until the fuse has failed a call, and fails from then on.
 pub record IsFuseReading {T E : Type 0} (before now : FuseState) (result : Result T E) : Type 0 where
-  pub whole : (HasBlown before.stage → ⊥) → IsReading before.disk now.disk result × (now ≡ record before { disk = now.disk })
+  pub whole :
+      (HasBlown before.stage → ⊥) → IsReading before.disk now.disk result × (now ≡ record before { disk = now.disk })
   pub blown : HasBlown before.stage → IsErr result × (now ≡ fuse_after_failed_reading before)
 
--- A call of `write_at` is one of the disk while calls are left. Each after them fails; the first of these leaves its
--- range open, and after it the disk is down. A range past 2 ^ 63 leaves nothing open.
-pub record IsFuseWriting {T E : Type 0} (before now : FuseState) (at : ℕ) (octets : List ℕ) (result : Result T E) : Type 0 where
+-- The fuse fails a write: its range is open, and the disk is down; but one that would end past 2 ^ 63 changes nothing.
+pub record IsCutShort (before now : FuseState) (at count : ℕ) : Type 0 where
+  pub within :
+      at + count ≤ 2 ^ 63
+      → IsTearing before.disk now.disk at count
+      × (now ≡ fuse_after_failed (record before { disk = now.disk }) stage.Down)
+  pub far : 2 ^ 63 < at + count → now ≡ fuse_after_failed before stage.Blown
+
+-- A call of `write_at` is one of the disk while calls are left. Each after them fails; the first of these is cut short,
+-- and those after it change nothing.
+pub record IsFuseWriting {T E : Type 0} (before now : FuseState) (at : ℕ) (octets : List ℕ) (result : Result T E)
+    : Type 0 where
   pub passes :
       (left : ℕ)
       → before.stage ≡ stage.Passes (left + 1)
-      → IsWriting before.disk now.disk at octets result × (now ≡ record before { disk = now.disk; stage = stage.Passes left })
-  pub tears :
-      IsTornNext before.stage
-      → at + length octets ≤ 2 ^ 63
-      → IsErr result
-      × IsTearing before.disk now.disk at (length octets)
-      × (now ≡ fuse_after_failed (record before { disk = now.disk }) stage.Down)
-  pub far : IsTornNext before.stage → 2 ^ 63 < at + length octets → IsErr result × (now ≡ fuse_after_failed before stage.Blown)
+      → IsWriting before.disk now.disk at octets result
+      × (now ≡ record before { disk = now.disk; stage = stage.Passes left })
+  pub cut_short : IsTornNext before.stage → IsErr result × IsCutShort before now at (length octets)
   pub down : before.stage ≡ stage.Down → IsErr result × (now ≡ fuse_after_failed before stage.Down)
 
 -- A call of `sync` is one of the disk while calls are left; each after them fails.
@@ -95,5 +106,5 @@ pub record IsFuseSyncing {T E : Type 0} (before now : FuseState) (result : Resul
       (left : ℕ)
       → before.stage ≡ stage.Passes (left + 1)
       → IsSyncing before.disk now.disk result × (now ≡ record before { disk = now.disk; stage = stage.Passes left })
-  pub tears : IsTornNext before.stage → IsErr result × (now ≡ fuse_after_failed before stage.Blown)
+  pub blown : IsTornNext before.stage → IsErr result × (now ≡ fuse_after_failed before stage.Blown)
   pub down : before.stage ≡ stage.Down → IsErr result × (now ≡ fuse_after_failed before stage.Down)

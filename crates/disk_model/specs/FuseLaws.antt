@@ -11,8 +11,10 @@ content_is_image disk = law.content_is_image disk.disk
 pub images_fit : (disk : FuseDisk) (image : List ℕ) → images disk image → IsOctets image × (length image ≤ 2 ^ 63)
 images_fit disk image is = law.images_fit disk.disk image is
 
-pub counts_now : (disk : FuseDisk) (t : ℕ) (image : List ℕ) → t ≤ moment disk → images disk image → images_since disk t image
+pub counts_now :
+    (disk : FuseDisk) (t : ℕ) (image : List ℕ) → t ≤ moment disk → images disk image → images_since disk t image
 counts_now disk t image early is = law.counts_now disk.disk t image early is
 
-pub earlier : (disk : FuseDisk) (t u : ℕ) (image : List ℕ) → t ≤ u → images_since disk u image → images_since disk t image
+pub earlier :
+    (disk : FuseDisk) (t u : ℕ) (image : List ℕ) → t ≤ u → images_since disk u image → images_since disk t image
 earlier disk t u image before since = law.earlier disk.disk t u image before since

@@ -5,7 +5,14 @@ use Rattle.disk_model.specs.declared.memory_disk.MemoryDisk.{MemoryDisk}
 
 abbrev pub state : MemoryDisk → DiskState
 state disk =
-    record { first = disk.history.first; calls = disk.history.calls.items; down = disk.history.down; counter = disk.counter; read_faults = disk.read_faults; write_faults = disk.write_faults }
+    record {
+      first = disk.history.first;
+      calls = disk.history.calls.items;
+      down = disk.history.down;
+      counter = disk.counter;
+      read_faults = disk.read_faults;
+      write_faults = disk.write_faults;
+    }
 
 -- it as a disk: what it tells, and when it is down
 abbrev pub content : MemoryDisk → Option (List ℕ)

@@ -15,11 +15,13 @@ content_is_image disk = subst (IsImage (surface (state disk))) disk.history.cont
 pub images_fit : (disk : MemoryDisk) (image : List ℕ) → images disk image → IsOctets image × (length image ≤ 2 ^ 63)
 images_fit disk image is = (is.octets, le_trans is.no_longer disk.history.most)
 
-pub counts_now : (disk : MemoryDisk) (t : ℕ) (image : List ℕ) → t ≤ moment disk → images disk image → images_since disk t image
+pub counts_now :
+    (disk : MemoryDisk) (t : ℕ) (image : List ℕ) → t ≤ moment disk → images disk image → images_since disk t image
 counts_now disk t image early is =
     let calls = (state disk).calls in
     let all = ap (surface_after (state disk).first) (take_all (length calls) calls (le_refl (length calls))) in
     (length calls, early, le_refl (length calls), subst (λ (s : Surface). IsImage s image) (sym all) is)
 
-pub earlier : (disk : MemoryDisk) (t u : ℕ) (image : List ℕ) → t ≤ u → images_since disk u image → images_since disk t image
+pub earlier :
+    (disk : MemoryDisk) (t u : ℕ) (image : List ℕ) → t ≤ u → images_since disk u image → images_since disk t image
 earlier disk t u image before since = (since.0, le_trans before since.1, since.2, since.3)

@@ -1,7 +1,7 @@
 //! What a crash leaves, as a number picks it.
 
 ghost use Rattle.std.specs.Prelude.{◌≡◌, ◌+◌, ◌/◌, ◌%◌, ◌<◌, ◌≤◌, ◌^◌, ℕ, List, Some, length, slice_index, IfOk};
-ghost use Rattle.disk_model.specs.Crash.{IsCrash, IsFilled};
+ghost use Rattle.disk_model.specs.Crash.{IsCrash, IsFilled, Tears};
 ghost use Rattle.px_base.specs.Octets.{IsOctets};
 ghost use Rattle.disk_model.specs.Surface.{IsImage, NoSync, count_of, place_of, surface_after};
 
@@ -69,21 +69,21 @@ impl Pick {
     }
 }
 
-/// How many octets there have been at most, where these were at rest before these calls.
-fn greatest_length(at_rest: &[u8], calls: &[DiskCall]) -> u64
+/// How many octets there have been at most, where these were synced before these calls.
+fn greatest_length(synced: &[u8], calls: &[DiskCall]) -> u64
     requires no_sync { NoSync calls.now }
-    requires most { (surface_after at_rest.now calls.now).most ≤ 2 ^ 63 }
-    ensures most { result ≡ (surface_after at_rest.now calls.now).most }
-    ensures least { length at_rest.now ≤ result }
+    requires most { (surface_after synced.now calls.now).most ≤ 2 ^ 63 }
+    ensures most { result ≡ (surface_after synced.now calls.now).most }
+    ensures least { length synced.now ≤ result }
 {
-    let mut most = at_rest.len() as u64;
+    let mut most = synced.len() as u64;
     for call in calls {
         most = most.max(call.end());
     }
     most
 }
 
-/// What a crash leaves, as this number picks it, after these calls of a disk that had those octets at rest, where a read
+/// What a crash leaves, as this number picks it, after these calls of a quiet disk with those octets, where a read
 /// gives the present ones. Takes memory.
 pub(crate) fn crash(
     alloc: Global,
@@ -101,22 +101,23 @@ pub(crate) fn crash(
         return Ok(Vec::from_slice(alloc, present)?);
     }
     let rest = last_sync(calls);
-    let at_rest = replay(alloc, first, &calls[..rest])?;
+    let synced = replay(alloc, first, &calls[..rest])?;
     if pick % 4 == 0 {
-        return Ok(at_rest);
+        return Ok(synced);
     }
-    torn(at_rest, &calls[rest..], Pick::new(pick))
+    torn(synced, &calls[rest..], Pick::new(pick))
 }
 
-/// What a crash leaves of these octets at rest and these calls since then.
-fn torn(at_rest: Vec<u8>, calls: &[DiskCall], pick: Pick) -> Result<Vec<u8>, OutOfMemory>
+/// What a crash leaves of a quiet disk with these octets after these calls.
+fn torn(synced: Vec<u8>, calls: &[DiskCall], pick: Pick) -> Result<Vec<u8>, OutOfMemory>
     requires no_sync { NoSync calls.now }
-    requires most { (surface_after at_rest.items calls.now).most ≤ 2 ^ 63 }
-    ensures image { IfOk result (λ image. IsImage (surface_after at_rest.items calls.now) image.items) }
-    ensures filled { (octet : ℕ) → pick.octet ≡ Some octet → IfOk result (λ image. IsFilled (surface_after at_rest.items calls.now) octet image.items) }
+    requires most { (surface_after synced.items calls.now).most ≤ 2 ^ 63 }
+    ensures image { IfOk result (λ image. IsImage (surface_after synced.items calls.now) image.items) }
+    ensures filled { (octet : ℕ) → pick.octet ≡ Some octet
+        → IfOk result (λ image. IsFilled (surface_after synced.items calls.now) octet image.items) }
 {
     let mut pick = pick;
-    let mut image = at_rest;
+    let mut image = synced;
     let least = image.len() as u64;
     let length = pick.length(least, greatest_length(&image, calls));
     image.resize(length as usize, pick.octet(0, 0))?;
@@ -128,8 +129,7 @@ fn torn(at_rest: Vec<u8>, calls: &[DiskCall], pick: Pick) -> Result<Vec<u8>, Out
 
 /// Puts other octets in the range of a write, as picked for each; those past the end are left out.
 fn tear(image: &mut [u8], call: &DiskCall, pick: &mut Pick)
-    ensures outside { (place : ℕ) → ((place_of call.now ≤ place) × (place < place_of call.now + count_of call.now) → ⊥) → slice_index image.new place ≡ slice_index image.old place }
-    ensures filled { (octet place : ℕ) → pick.old.octet ≡ Some octet → (place_of call.now ≤ place) × (place < place_of call.now + count_of call.now) → place < length image.old → slice_index image.new place ≡ octet }
+    ensures tears { Tears (place_of call.now) (count_of call.now) pick.old.octet image.old image.new }
     ensures same { pick.new.octet ≡ pick.old.octet }
     ensures octets { IsOctets image.new }
 {

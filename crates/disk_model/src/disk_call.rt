@@ -11,7 +11,7 @@ pub(crate) enum DiskCall {
     Write { at: u64, bytes: FileBytes },
     /// Writing so many octets at this place failed: any octets may stand there.
     TornWrite { at: u64, count: u64 },
-    /// All was brought to rest.
+    /// All that was written was synced.
     Sync,
     /// A sync failed.
     FailedSync,

@@ -1,7 +1,7 @@
 //! A real file as a disk. It tells nothing of its content; it counts its faults.
 
 ghost use Rattle.std.specs.Prelude.{◌≡◌};
-ghost use Rattle.disk_model.specs.Files.{no_images, no_moment, no_past, untold};
+ghost use Rattle.disk_model.specs.Files.{no_content, no_images, no_moment, no_past};
 
 use crate::limits::{MOST_OCTETS, ends_within};
 use crate::{Disk, DiskFault};
@@ -47,7 +47,7 @@ impl<'a, R: Files> FileDisk<'a, R> {
 }
 
 impl<'a, R: Files> Disk for FileDisk<'a, R> {
-    ghost content = { λ _. untold };
+    ghost content = { λ _. no_content };
 
     ghost images = { λ _. no_images };
 

@@ -2,9 +2,8 @@
 
 ghost use Rattle.std.specs.Prelude.{◌≡◌, ◌⊎◌, ◌↔◌, ◌+◌, ◌<◌, ◌≤◌, ◌^◌, length, List, ℕ, false, true, IfOk, IfSome, IsErr, IsTrue, OnErr, OnOk};
 ghost use Rattle.px_base.specs.Outside.{HasCause, Rose};
-ghost use Rattle.disk_model.specs.Calls.{IsTearing};
-ghost use Rattle.disk_model.specs.Disk.{FillsRoom, Follows, HasContent, IsTold, LeavesOpen, Only, Torn, Writes};
-ghost use Rattle.disk_model.specs.Moments.{ChangesNothing, Elapses, OnlyReads, SinceNow, TakesOneMoment};
+ghost use Rattle.disk_model.specs.Disk.{AreAmong, FillsRoom, Follows, HasContent, IsTold, LeavesOpen, Only, Torn, Writes};
+ghost use Rattle.disk_model.specs.Moments.{OnlyFails, OnlyReads, SinceNow, TakesOneMoment, TimePasses};
 
 use crate::limits::ends_within;
 use crate::memory_disk::MemoryDisk;
@@ -22,9 +21,9 @@ enum FuseStage {
     Down,
 }
 
-/// A disk in memory that passes so many calls of `write_at` and `sync`. The next one fails, and so does every call after
-/// it, also of `len` and `read`; those before that one pass. The first write that fails so leaves its range open, and the
-/// disk is down from then on. Its content, images and moment are those of the disk in it.
+/// A disk in memory that passes so many calls of `write_at` and `sync`. The next one fails, and so does every call
+/// after it, also of `len` and `read`; those before that one pass. The first write that fails so leaves its range open,
+/// and the disk is down from then on. Its content, images and moment are those of the disk in it.
 #[derive(Drop)]
 pub struct FuseDisk {
     disk: MemoryDisk,
@@ -34,8 +33,8 @@ pub struct FuseDisk {
 }
 
 impl FuseDisk {
-    ghost use Rattle.disk_model.specs.Fuse.{HasBlown, fuse, fuse_after_failed, fuse_after_failed_reading, new_fuse};
-    ghost use Rattle.disk_model.specs.Fuse as fused;
+    ghost use Rattle.disk_model.specs.Fuse.{HasBlown, IsCutShort, fuse, fuse_after_failed, fuse_after_failed_reading, new_fuse};
+    ghost use Rattle.disk_model.specs.Fuse as it;
     ghost use Rattle.disk_model.specs.Memory.{state};
 
     /// A disk that passes this many calls of `write_at` and `sync`. Takes no memory.
@@ -74,8 +73,8 @@ impl FuseDisk {
     /// Counts a call of `len` or `read` that fails since the fuse has blown.
     fn fail_reading(&mut self) -> DiskFault
         ensures counted { fuse self.new ≡ fuse_after_failed_reading (fuse self.old) }
-        ensures no_less { fused.read_faults self.old ≤ fused.read_faults self.new }
-        ensures rose { Rose (fused.read_faults self.old) (fused.read_faults self.new) }
+        ensures no_less { it.read_faults self.old ≤ it.read_faults self.new }
+        ensures rose { Rose (it.read_faults self.old) (it.read_faults self.new) }
     {
         self.read_faults.count();
         DiskFault
@@ -84,8 +83,8 @@ impl FuseDisk {
     /// Counts a call of `write_at` or `sync` that fails by the fuse, which is at this stage from then on.
     fn fail_writing(&mut self, stage: FuseStage) -> DiskFault
         ensures counted { fuse self.new ≡ fuse_after_failed (fuse self.old) stage }
-        ensures no_less { fused.write_faults self.old ≤ fused.write_faults self.new }
-        ensures rose { Rose (fused.write_faults self.old) (fused.write_faults self.new) }
+        ensures no_less { it.write_faults self.old ≤ it.write_faults self.new }
+        ensures rose { Rose (it.write_faults self.old) (it.write_faults self.new) }
     {
         self.stage = stage;
         self.write_faults.count();
@@ -95,10 +94,9 @@ impl FuseDisk {
     /// Counts a call of `write_at` that the fuse fails, and leaves its range open; one that would end past 2^63 changes
     /// nothing.
     fn tear(&mut self, at: u64, bytes: &[u8]) -> DiskFault
-        ensures within { at + length bytes.now ≤ 2 ^ 63 → IsTearing (fuse self.old).disk (fuse self.new).disk at (length bytes.now) × (fuse self.new ≡ fuse_after_failed (record (fuse self.old) { disk = (fuse self.new).disk }) FuseStage.Down) }
-        ensures far { 2 ^ 63 < at + length bytes.now → fuse self.new ≡ fuse_after_failed (fuse self.old) FuseStage.Blown }
-        ensures no_less { fused.write_faults self.old ≤ fused.write_faults self.new }
-        ensures rose { Rose (fused.write_faults self.old) (fused.write_faults self.new) }
+        ensures cut_short { IsCutShort (fuse self.old) (fuse self.new) at (length bytes.now) }
+        ensures no_less { it.write_faults self.old ≤ it.write_faults self.new }
+        ensures rose { Rose (it.write_faults self.old) (it.write_faults self.new) }
     {
         if !ends_within(at, bytes) {
             return self.fail_writing(FuseStage::Blown);
@@ -109,33 +107,34 @@ impl FuseDisk {
 }
 
 impl Disk for FuseDisk {
-    ghost use Rattle.disk_model.specs.Fuse as fused;
+    ghost use Rattle.disk_model.specs.Fuse as it;
     ghost use Rattle.disk_model.specs.Fuse.{IsFuseReading, IsFuseSyncing, IsFuseWriting, fuse};
     ghost use Rattle.disk_model.specs.FuseLaws as law;
 
-    ghost content = { fused.content };
+    ghost content = { it.content };
 
-    ghost images = { fused.images };
+    ghost images = { it.images };
 
-    ghost moment = { fused.moment };
+    ghost moment = { it.moment };
 
-    ghost images_since = { fused.images_since };
+    ghost images_since = { it.images_since };
 
-    ghost read_faults = { fused.read_faults };
+    ghost read_faults = { it.read_faults };
 
-    ghost write_faults = { fused.write_faults };
+    ghost write_faults = { it.write_faults };
 
-    ghost is_down = { fused.is_down };
+    ghost is_down = { it.is_down };
 
     ghost lasts = { λ _ _. Unit {0} };
 
     /// The number of octets. It fails where the disk does, and where the fuse has blown.
     fn len(&mut self) -> Result<u64, DiskFault>
-        ensures len { IfOk result (λ n. IfSome (fused.content self.old) (λ octets. n ≡ length octets)) }
+        ensures len { IfOk result (λ n. IfSome (it.content self.old) (λ octets. n ≡ length octets)) }
         ensures most { IfOk result (λ n. n ≤ 2 ^ 63) }
-        ensures only_reads { OnlyReads fused.content fused.images fused.moment fused.images_since fused.write_faults self.old self.new }
-        ensures read_faults { HasCause (fused.read_faults self.old) (fused.read_faults self.new) result }
-        ensures down { fused.is_down self.new ↔ fused.is_down self.old }
+        ensures only_reads { OnlyReads
+            it.content it.images it.moment it.images_since it.write_faults self.old self.new }
+        ensures read_faults { HasCause (it.read_faults self.old) (it.read_faults self.new) result }
+        ensures down { it.is_down self.new ↔ it.is_down self.old }
         ensures lasts { Unit {0} }
         ensures reading { IsFuseReading (fuse self.old) (fuse self.new) result }
     {
@@ -147,11 +146,13 @@ impl Disk for FuseDisk {
 
     /// Fills the room from this place on. It fails where the disk does, and where the fuse has blown.
     fn read(&mut self, at: u64, room: &mut [u8]) -> Result<(), DiskFault>
-        requires { IfSome (fused.content self.old) (λ octets. at + length room.old ≤ length octets) }
-        ensures room { OnOk result (IfSome (fused.content self.old) (λ octets. FillsRoom octets at (length room.old) room.new)) }
-        ensures only_reads { OnlyReads fused.content fused.images fused.moment fused.images_since fused.write_faults self.old self.new }
-        ensures read_faults { HasCause (fused.read_faults self.old) (fused.read_faults self.new) result }
-        ensures down { fused.is_down self.new ↔ fused.is_down self.old }
+        requires { IfSome (it.content self.old) (λ octets. at + length room.old ≤ length octets) }
+        ensures room { OnOk result
+            (IfSome (it.content self.old) (λ octets. FillsRoom octets at (length room.old) room.new)) }
+        ensures only_reads { OnlyReads
+            it.content it.images it.moment it.images_since it.write_faults self.old self.new }
+        ensures read_faults { HasCause (it.read_faults self.old) (it.read_faults self.new) result }
+        ensures down { it.is_down self.new ↔ it.is_down self.old }
         ensures lasts { Unit {0} }
         ensures reading { IsFuseReading (fuse self.old) (fuse self.new) result }
         ensures failed { OnErr result (room.new ≡ room.old) }
@@ -165,21 +166,24 @@ impl Disk for FuseDisk {
     /// Writes octets. It fails where the disk does, and by the fuse; the first write that fails by the fuse leaves its
     /// range open, unless it would end past 2^63, and the disk is down from then on.
     fn write_at(&mut self, at: u64, bytes: &[u8]) -> Result<(), DiskFault>
-        ensures written { OnOk result (HasContent (fused.content self.old) (fused.content self.new) (Writes at bytes.now)) }
-        ensures told { IsTold (fused.content self.old) → IsTold (fused.content self.new) }
-        ensures untold { IsTold (fused.content self.new) → IsTold (fused.content self.old) }
-        ensures torn { Follows (Torn at (length bytes.now)) (fused.images self.old) (fused.images self.new) }
-        ensures open { ¬ fused.is_down self.old → at + length bytes.now ≤ 2 ^ 63 → LeavesOpen at (length bytes.now) (fused.images self.old) (fused.images self.new) }
-        ensures kept { (image : List ℕ) → fused.images self.old image → fused.images self.new image }
-        ensures far { 2 ^ 63 < at + length bytes.now → IsErr result × ChangesNothing fused.content fused.images fused.moment fused.images_since self.old self.new }
-        ensures down { fused.is_down self.old → IsErr result × ChangesNothing fused.content fused.images fused.moment fused.images_since self.old self.new }
-        ensures stays_down { fused.is_down self.old → fused.is_down self.new }
-        ensures goes_down { fused.is_down self.new → fused.is_down self.old ⊎ (IsErr result × (at + length bytes.now ≤ 2 ^ 63)) }
-        ensures moment { TakesOneMoment (fused.content self.old) (fused.moment self.old) (fused.moment self.new) result }
-        ensures past { Elapses (fused.moment self.old) (fused.moment self.new) (fused.images_since self.old) (fused.images_since self.new) (fused.images self.new) }
-        ensures since_now { SinceNow (fused.moment self.old) (fused.moment self.new) (fused.images_since self.new) (fused.images self.new) }
-        ensures read_faults { fused.read_faults self.new ≡ fused.read_faults self.old }
-        ensures write_faults { HasCause (fused.write_faults self.old) (fused.write_faults self.new) result }
+        ensures written { OnOk result (HasContent (it.content self.old) (it.content self.new) (Writes at bytes.now)) }
+        ensures told { IsTold (it.content self.old) → IsTold (it.content self.new) }
+        ensures untold { IsTold (it.content self.new) → IsTold (it.content self.old) }
+        ensures torn { Follows (Torn at (length bytes.now)) (it.images self.old) (it.images self.new) }
+        ensures open { LeavesOpen it.is_down it.images at (length bytes.now) self.old self.new }
+        ensures kept { AreAmong (it.images self.old) (it.images self.new) }
+        ensures far { 2 ^ 63 < at + length bytes.now
+            → OnlyFails it.content it.images it.moment it.images_since self.old self.new result }
+        ensures down { it.is_down self.old
+            → OnlyFails it.content it.images it.moment it.images_since self.old self.new result }
+        ensures stays_down { it.is_down self.old → it.is_down self.new }
+        ensures goes_down { it.is_down self.new
+            → it.is_down self.old ⊎ (IsErr result × (at + length bytes.now ≤ 2 ^ 63)) }
+        ensures moment { TakesOneMoment (it.content self.old) (it.moment self.old) (it.moment self.new) result }
+        ensures past { TimePasses it.moment it.images it.images_since self.old self.new }
+        ensures since_now { SinceNow it.moment it.images it.images_since self.old self.new }
+        ensures read_faults { it.read_faults self.new ≡ it.read_faults self.old }
+        ensures write_faults { HasCause (it.write_faults self.old) (it.write_faults self.new) result }
         ensures lasts { Unit {0} }
         ensures writing { IsFuseWriting (fuse self.old) (fuse self.new) at bytes.now result }
     {
@@ -193,19 +197,20 @@ impl Disk for FuseDisk {
         }
     }
 
-    /// Brings all to rest. It fails where the disk does, and by the fuse.
+    /// Syncs what was written. It fails where the disk does, and by the fuse.
     fn sync(&mut self) -> Result<(), DiskFault>
-        ensures durable { OnOk result (IfSome (fused.content self.old) (Only (fused.images self.new))) }
-        ensures content { fused.content self.new ≡ fused.content self.old }
-        ensures images { (image : List ℕ) → fused.images self.new image → fused.images self.old image }
-        ensures kept { OnErr result ((image : List ℕ) → fused.images self.old image → fused.images self.new image) }
-        ensures down { fused.is_down self.old → IsErr result × ChangesNothing fused.content fused.images fused.moment fused.images_since self.old self.new }
-        ensures stays_down { fused.is_down self.new ↔ fused.is_down self.old }
-        ensures moment { TakesOneMoment (fused.content self.old) (fused.moment self.old) (fused.moment self.new) result }
-        ensures past { Elapses (fused.moment self.old) (fused.moment self.new) (fused.images_since self.old) (fused.images_since self.new) (fused.images self.new) }
-        ensures since_now { SinceNow (fused.moment self.old) (fused.moment self.new) (fused.images_since self.new) (fused.images self.new) }
-        ensures read_faults { fused.read_faults self.new ≡ fused.read_faults self.old }
-        ensures write_faults { HasCause (fused.write_faults self.old) (fused.write_faults self.new) result }
+        ensures durable { OnOk result (IfSome (it.content self.old) (Only (it.images self.new))) }
+        ensures content { it.content self.new ≡ it.content self.old }
+        ensures images { AreAmong (it.images self.new) (it.images self.old) }
+        ensures kept { OnErr result (AreAmong (it.images self.old) (it.images self.new)) }
+        ensures down { it.is_down self.old
+            → OnlyFails it.content it.images it.moment it.images_since self.old self.new result }
+        ensures stays_down { it.is_down self.new ↔ it.is_down self.old }
+        ensures moment { TakesOneMoment (it.content self.old) (it.moment self.old) (it.moment self.new) result }
+        ensures past { TimePasses it.moment it.images it.images_since self.old self.new }
+        ensures since_now { SinceNow it.moment it.images it.images_since self.old self.new }
+        ensures read_faults { it.read_faults self.new ≡ it.read_faults self.old }
+        ensures write_faults { HasCause (it.write_faults self.old) (it.write_faults self.new) result }
         ensures lasts { Unit {0} }
         ensures syncing { IsFuseSyncing (fuse self.old) (fuse self.new) result }
     {

@@ -1,6 +1,7 @@
 //! What was done to a disk in memory since it was made, and what stands on it.
 
 ghost use Rattle.std.specs.Prelude.{◌≡◌, ◌⊎◌, ◌+◌, ◌<◌, ◌≤◌, ◌^◌, [], ◌∷◌, ◌++◌, length, vec_capacity, vec_len, false, true, IfOk, OnOk, OnErr, IsTrue, ◌↔◌};
+ghost use Rattle.disk_model.specs.Calls.{LosesWrite};
 ghost use Rattle.disk_model.specs.Crash.{IsCrash};
 ghost use Rattle.disk_model.specs.Surface.{IsImage, surface_after, sync_of, write_of};
 
@@ -27,7 +28,7 @@ pub(crate) struct History {
 }
 
 impl History {
-    /// A disk at rest, with these octets.
+    /// A quiet disk with these octets.
     pub(crate) fn new(alloc: Global, bytes: &[u8]) -> Result<History, OutOfMemory>
         ensures first { IfOk result (λ history. history.first ≡ bytes.now) }
         ensures calls { IfOk result (λ history. history.calls.items ≡ []) }
@@ -112,25 +113,23 @@ impl History {
         ensures up { OnOk result ((self.old.down ≡ false) × (self.new.down ≡ false)) }
         ensures ends { OnOk result (at + length bytes.now ≤ 2 ^ 63) }
         ensures ok { OnOk result (self.new.calls.items ≡ self.old.calls.items ++ write_of fails at bytes.now ∷ []) }
-        ensures lost { OnErr result (self.old.down ≡ false → at + length bytes.now ≤ 2 ^ 63 → (self.new.calls.items ≡ self.old.calls.items ++ DiskCall.TornWrite at (length bytes.now) ∷ []) × (self.new.down ≡ true)) }
-        ensures down { OnErr result (self.old.down ≡ true → (self.new.calls.items ≡ self.old.calls.items) × (self.new.down ≡ true)) }
-        ensures far { 2 ^ 63 < at + length bytes.now → (self.new.calls.items ≡ self.old.calls.items) × (self.new.down ≡ self.old.down) }
+        ensures err { OnErr result
+            (LosesWrite self.old.calls.items self.new.calls.items self.old.down self.new.down at (length bytes.now)) }
     {
         if self.down || !ends_within(at, bytes) {
             return Err(OutOfMemory);
         }
-        let count = bytes.len() as u64;
         if fails {
-            return self.tear(at, count);
+            return self.tear(at, bytes.len() as u64);
         }
         if self.write(at, bytes).is_err() {
-            self.break_off(at, count);
+            self.break_off(at, bytes.len() as u64);
             return Err(OutOfMemory);
         }
         Ok(())
     }
 
-    /// Brings all to rest, or fails to. It changes nothing where there is no memory, or where the disk is down.
+    /// Syncs what was written, or fails to. It changes nothing where there is no memory, or where the disk is down.
     pub(crate) fn sync(&mut self, fails: bool) -> Result<(), OutOfMemory>
         ensures first { self.new.first ≡ self.old.first }
         ensures up { OnOk result (self.old.down ≡ false) }

@@ -2,10 +2,10 @@
 
 ghost use Rattle.std.specs.Prelude.{◌≡◌, ◌⊎◌, ◌↔◌, ◌+◌, ◌/◌, ◌%◌, ◌<◌, ◌≤◌, ◌^◌, [], false, true, IsOk, length, List, ℕ, Some, IfOk, IfSome, IsErr, IsTrue, OnErr, OnOk};
 ghost use Rattle.px_base.specs.Counter.{HasCauses};
-ghost use Rattle.px_base.specs.Outside.{HasCause, counted};
-ghost use Rattle.disk_model.specs.Disk.{FillsRoom, Follows, HasContent, IsQuiet, IsTold, LeavesOpen, Only, Torn, Writes};
-ghost use Rattle.disk_model.specs.Moments.{ChangesNothing, Elapses, OnlyReads, SinceNow, TakesOneMoment};
-ghost use Rattle.disk_model.specs.Calls.{IsReading, IsSyncing, IsTearing, IsWriting, content_of, images_of, new_state, surface};
+ghost use Rattle.px_base.specs.Outside.{HasCause};
+ghost use Rattle.disk_model.specs.Disk.{AreAmong, FillsRoom, Follows, HasContent, IsQuiet, IsTold, LeavesOpen, Only, Torn, Writes};
+ghost use Rattle.disk_model.specs.Moments.{OnlyFails, OnlyReads, SinceNow, TakesOneMoment, TimePasses};
+ghost use Rattle.disk_model.specs.Calls.{IsReading, IsSyncing, IsTearing, IsWriting, content_of, images_of, new_state, surface, with_starved_fault, with_write_fault};
 ghost use Rattle.disk_model.specs.Crash.{IsFilled};
 
 use crate::history::History;
@@ -14,8 +14,8 @@ use px_base::{CallCounter, FaultCount, OutOfMemory};
 use std::alloc::Global;
 
 /// A disk in memory. Its calls are numbered together from 1; one whose number is listed fails. A call that finds no
-/// memory fails too: a write then leaves its range open, and the disk is down; a sync changes nothing. A write that would
-/// end past 2^63 is want of memory as well, and changes nothing.
+/// memory fails too: a write then leaves its range open, and the disk is down; a sync changes nothing. A write that
+/// would end past 2^63 is want of memory as well, and changes nothing.
 #[derive(Drop)]
 pub struct MemoryDisk {
     history: History,
@@ -29,7 +29,7 @@ pub struct MemoryDisk {
 impl MemoryDisk {
     ghost use Rattle.disk_model.specs.Memory.{state};
 
-    /// A disk at rest with these octets, whose calls of these numbers fail. Takes memory.
+    /// A quiet disk with these octets, whose calls of these numbers fail. Takes memory.
     pub fn new(alloc: Global, bytes: &[u8], failing: &[u64]) -> Result<MemoryDisk, OutOfMemory>
         ensures fresh { IfOk result (λ disk. state disk ≡ new_state bytes.now failing.now) }
         ensures quiet { IfOk result (λ disk. IsQuiet (Some (content_of (state disk))) (images_of (state disk))) }
@@ -58,21 +58,22 @@ impl MemoryDisk {
         self.counter.starved()
     }
 
-    /// What a crash leaves of the disk, as a number picks it, at rest; no call of it is listed to fail, and no fault is
-    /// counted. Takes memory.
+    /// What a crash leaves of the disk, as a number picks it: a quiet disk, of which no call is listed to fail, and no
+    /// fault is counted. Takes memory.
     ///
-    /// The number's remainder by 4 picks what becomes of the writes since the last sync: 0, none of them reached the disk;
-    /// 1, those that answered Ok did, and a crash leaves what a read gives; 2, each of their octets, and each past the end at
-    /// that sync, is the octet `pick / 4 % 256`, and the length is the greatest since then; 3, each is the one before it was
-    /// written, the one that was written, or any other, and the length is any that may be left, as numbers that are drawn
-    /// from `pick` choose.
+    /// The number's remainder by 4 picks what becomes of the writes since the last sync: 0, none of them reached the
+    /// disk; 1, those that answered Ok did, and a crash leaves what a read gives; 2, each of their octets, and each past
+    /// the end at that sync, is the octet `pick / 4 % 256`, and the length is the greatest since then; 3, each is the one
+    /// before it was written, the one that was written, or any other, and the length is any that may be left, as numbers
+    /// that are drawn from `pick` choose.
     pub fn crash(self, pick: u64) -> Result<MemoryDisk, OutOfMemory>
         ensures image { IfOk result (λ disk. images_of (state self) (content_of (state disk))) }
         ensures fresh { IfOk result (λ disk. state disk ≡ new_state (content_of (state disk)) []) }
         ensures quiet { IfOk result (λ disk. IsQuiet (Some (content_of (state disk))) (images_of (state disk))) }
         ensures synced { pick % 4 ≡ 0 → IfOk result (λ disk. content_of (state disk) ≡ (surface (state self)).synced) }
         ensures written { pick % 4 ≡ 1 → IfOk result (λ disk. content_of (state disk) ≡ content_of (state self)) }
-        ensures filled { pick % 4 ≡ 2 → IfOk result (λ disk. IsFilled (surface (state self)) (pick / 4 % 256) (content_of (state disk))) }
+        ensures filled { pick % 4 ≡ 2
+            → IfOk result (λ disk. IsFilled (surface (state self)) (pick / 4 % 256) (content_of (state disk))) }
     {
         let image = self.history.crashed(pick)?;
         MemoryDisk::new(self.history.alloc(), &image, &[])
@@ -94,8 +95,9 @@ impl MemoryDisk {
     fn settle(&mut self, listed: bool, recorded: Result<(), OutOfMemory>) -> Result<(), DiskFault>
         requires { (state self.old).counter.failing ≡ [] → listed ≡ false }
         ensures ok { OnOk result ((listed ≡ false) × IsOk recorded × (state self.new ≡ state self.old)) }
-        ensures listed { OnErr result (OnOk recorded ((listed ≡ true) × (state self.new ≡ record (state self.old) { write_faults = counted (state self.old).write_faults }))) }
-        ensures starved { OnErr result (OnErr recorded (state self.new ≡ record (state self.old) { counter = record (state self.old).counter { starved = true }; write_faults = counted (state self.old).write_faults })) }
+        ensures listed { OnErr result (OnOk recorded
+            ((listed ≡ true) × (state self.new ≡ with_write_fault (state self.old)))) }
+        ensures starved { OnErr result (OnErr recorded (state self.new ≡ with_starved_fault (state self.old))) }
         ensures cause { HasCause (state self.old).write_faults (state self.new).write_faults result }
     {
         if recorded.is_err() {
@@ -140,33 +142,34 @@ impl MemoryDisk {
 }
 
 impl Disk for MemoryDisk {
-    ghost use Rattle.disk_model.specs.Memory as memory;
+    ghost use Rattle.disk_model.specs.Memory as it;
     ghost use Rattle.disk_model.specs.Memory.{state};
     ghost use Rattle.disk_model.specs.MemoryLaws as law;
 
-    ghost content = { memory.content };
+    ghost content = { it.content };
 
-    ghost images = { memory.images };
+    ghost images = { it.images };
 
-    ghost moment = { memory.moment };
+    ghost moment = { it.moment };
 
-    ghost images_since = { memory.images_since };
+    ghost images_since = { it.images_since };
 
-    ghost read_faults = { memory.read_faults };
+    ghost read_faults = { it.read_faults };
 
-    ghost write_faults = { memory.write_faults };
+    ghost write_faults = { it.write_faults };
 
-    ghost is_down = { memory.is_down };
+    ghost is_down = { it.is_down };
 
     ghost lasts = { λ _ _. Unit {0} };
 
     /// The number of octets; a call that is listed fails.
     fn len(&mut self) -> Result<u64, DiskFault>
-        ensures len { IfOk result (λ n. IfSome (memory.content self.old) (λ octets. n ≡ length octets)) }
+        ensures len { IfOk result (λ n. IfSome (it.content self.old) (λ octets. n ≡ length octets)) }
         ensures most { IfOk result (λ n. n ≤ 2 ^ 63) }
-        ensures only_reads { OnlyReads memory.content memory.images memory.moment memory.images_since memory.write_faults self.old self.new }
-        ensures read_faults { HasCause (memory.read_faults self.old) (memory.read_faults self.new) result }
-        ensures down { memory.is_down self.new ↔ memory.is_down self.old }
+        ensures only_reads { OnlyReads
+            it.content it.images it.moment it.images_since it.write_faults self.old self.new }
+        ensures read_faults { HasCause (it.read_faults self.old) (it.read_faults self.new) result }
+        ensures down { it.is_down self.new ↔ it.is_down self.old }
         ensures lasts { Unit {0} }
         ensures reading { IsReading (state self.old) (state self.new) result }
     {
@@ -176,11 +179,13 @@ impl Disk for MemoryDisk {
 
     /// Fills the room from this place on; a call that is listed fails, and leaves the room as it is.
     fn read(&mut self, at: u64, room: &mut [u8]) -> Result<(), DiskFault>
-        requires { IfSome (memory.content self.old) (λ octets. at + length room.old ≤ length octets) }
-        ensures room { OnOk result (IfSome (memory.content self.old) (λ octets. FillsRoom octets at (length room.old) room.new)) }
-        ensures only_reads { OnlyReads memory.content memory.images memory.moment memory.images_since memory.write_faults self.old self.new }
-        ensures read_faults { HasCause (memory.read_faults self.old) (memory.read_faults self.new) result }
-        ensures down { memory.is_down self.new ↔ memory.is_down self.old }
+        requires { IfSome (it.content self.old) (λ octets. at + length room.old ≤ length octets) }
+        ensures room { OnOk result
+            (IfSome (it.content self.old) (λ octets. FillsRoom octets at (length room.old) room.new)) }
+        ensures only_reads { OnlyReads
+            it.content it.images it.moment it.images_since it.write_faults self.old self.new }
+        ensures read_faults { HasCause (it.read_faults self.old) (it.read_faults self.new) result }
+        ensures down { it.is_down self.new ↔ it.is_down self.old }
         ensures lasts { Unit {0} }
         ensures reading { IsReading (state self.old) (state self.new) result }
         ensures failed { OnErr result (room.new ≡ room.old) }
@@ -191,45 +196,49 @@ impl Disk for MemoryDisk {
         Ok(())
     }
 
-    /// Writes octets; a gap before them is filled with zeros. A call that is listed fails, and leaves its range open, as
-    /// does one that finds no memory, from which on the disk is down. One that would end past 2^63, or comes when the disk
-    /// is down, fails and changes nothing. It costs the octets written.
+    /// Writes octets; a gap before them is filled with zeros. A call that is listed fails, and leaves its range open; so
+    /// does one that finds no memory, and the disk is down from then on. One that would end past 2^63, or comes when the
+    /// disk is down, fails and changes nothing. It costs the octets written.
     fn write_at(&mut self, at: u64, bytes: &[u8]) -> Result<(), DiskFault>
-        ensures written { OnOk result (HasContent (memory.content self.old) (memory.content self.new) (Writes at bytes.now)) }
-        ensures told { IsTold (memory.content self.old) → IsTold (memory.content self.new) }
-        ensures untold { IsTold (memory.content self.new) → IsTold (memory.content self.old) }
-        ensures torn { Follows (Torn at (length bytes.now)) (memory.images self.old) (memory.images self.new) }
-        ensures open { ¬ memory.is_down self.old → at + length bytes.now ≤ 2 ^ 63 → LeavesOpen at (length bytes.now) (memory.images self.old) (memory.images self.new) }
-        ensures kept { (image : List ℕ) → memory.images self.old image → memory.images self.new image }
-        ensures far { 2 ^ 63 < at + length bytes.now → IsErr result × ChangesNothing memory.content memory.images memory.moment memory.images_since self.old self.new }
-        ensures down { memory.is_down self.old → IsErr result × ChangesNothing memory.content memory.images memory.moment memory.images_since self.old self.new }
-        ensures stays_down { memory.is_down self.old → memory.is_down self.new }
-        ensures goes_down { memory.is_down self.new → memory.is_down self.old ⊎ (IsErr result × (at + length bytes.now ≤ 2 ^ 63)) }
-        ensures moment { TakesOneMoment (memory.content self.old) (memory.moment self.old) (memory.moment self.new) result }
-        ensures past { Elapses (memory.moment self.old) (memory.moment self.new) (memory.images_since self.old) (memory.images_since self.new) (memory.images self.new) }
-        ensures since_now { SinceNow (memory.moment self.old) (memory.moment self.new) (memory.images_since self.new) (memory.images self.new) }
-        ensures read_faults { memory.read_faults self.new ≡ memory.read_faults self.old }
-        ensures write_faults { HasCause (memory.write_faults self.old) (memory.write_faults self.new) result }
+        ensures written { OnOk result (HasContent (it.content self.old) (it.content self.new) (Writes at bytes.now)) }
+        ensures told { IsTold (it.content self.old) → IsTold (it.content self.new) }
+        ensures untold { IsTold (it.content self.new) → IsTold (it.content self.old) }
+        ensures torn { Follows (Torn at (length bytes.now)) (it.images self.old) (it.images self.new) }
+        ensures open { LeavesOpen it.is_down it.images at (length bytes.now) self.old self.new }
+        ensures kept { AreAmong (it.images self.old) (it.images self.new) }
+        ensures far { 2 ^ 63 < at + length bytes.now
+            → OnlyFails it.content it.images it.moment it.images_since self.old self.new result }
+        ensures down { it.is_down self.old
+            → OnlyFails it.content it.images it.moment it.images_since self.old self.new result }
+        ensures stays_down { it.is_down self.old → it.is_down self.new }
+        ensures goes_down { it.is_down self.new
+            → it.is_down self.old ⊎ (IsErr result × (at + length bytes.now ≤ 2 ^ 63)) }
+        ensures moment { TakesOneMoment (it.content self.old) (it.moment self.old) (it.moment self.new) result }
+        ensures past { TimePasses it.moment it.images it.images_since self.old self.new }
+        ensures since_now { SinceNow it.moment it.images it.images_since self.old self.new }
+        ensures read_faults { it.read_faults self.new ≡ it.read_faults self.old }
+        ensures write_faults { HasCause (it.write_faults self.old) (it.write_faults self.new) result }
         ensures lasts { Unit {0} }
         ensures writing { IsWriting (state self.old) (state self.new) at bytes.now result }
     {
         self.record_write(at, bytes)
     }
 
-    /// Brings all to rest; a call that is listed, finds no memory or comes when the disk is down, fails and changes
+    /// Syncs what was written; a call that is listed, finds no memory or comes when the disk is down, fails and changes
     /// nothing. It copies no octet.
     fn sync(&mut self) -> Result<(), DiskFault>
-        ensures durable { OnOk result (IfSome (memory.content self.old) (Only (memory.images self.new))) }
-        ensures content { memory.content self.new ≡ memory.content self.old }
-        ensures images { (image : List ℕ) → memory.images self.new image → memory.images self.old image }
-        ensures kept { OnErr result ((image : List ℕ) → memory.images self.old image → memory.images self.new image) }
-        ensures down { memory.is_down self.old → IsErr result × ChangesNothing memory.content memory.images memory.moment memory.images_since self.old self.new }
-        ensures stays_down { memory.is_down self.new ↔ memory.is_down self.old }
-        ensures moment { TakesOneMoment (memory.content self.old) (memory.moment self.old) (memory.moment self.new) result }
-        ensures past { Elapses (memory.moment self.old) (memory.moment self.new) (memory.images_since self.old) (memory.images_since self.new) (memory.images self.new) }
-        ensures since_now { SinceNow (memory.moment self.old) (memory.moment self.new) (memory.images_since self.new) (memory.images self.new) }
-        ensures read_faults { memory.read_faults self.new ≡ memory.read_faults self.old }
-        ensures write_faults { HasCause (memory.write_faults self.old) (memory.write_faults self.new) result }
+        ensures durable { OnOk result (IfSome (it.content self.old) (Only (it.images self.new))) }
+        ensures content { it.content self.new ≡ it.content self.old }
+        ensures images { AreAmong (it.images self.new) (it.images self.old) }
+        ensures kept { OnErr result (AreAmong (it.images self.old) (it.images self.new)) }
+        ensures down { it.is_down self.old
+            → OnlyFails it.content it.images it.moment it.images_since self.old self.new result }
+        ensures stays_down { it.is_down self.new ↔ it.is_down self.old }
+        ensures moment { TakesOneMoment (it.content self.old) (it.moment self.old) (it.moment self.new) result }
+        ensures past { TimePasses it.moment it.images it.images_since self.old self.new }
+        ensures since_now { SinceNow it.moment it.images it.images_since self.old self.new }
+        ensures read_faults { it.read_faults self.new ≡ it.read_faults self.old }
+        ensures write_faults { HasCause (it.write_faults self.old) (it.write_faults self.new) result }
         ensures lasts { Unit {0} }
         ensures syncing { IsSyncing (state self.old) (state self.new) result }
     {

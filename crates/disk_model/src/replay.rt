@@ -2,7 +2,7 @@
 
 ghost use Rattle.std.specs.Prelude.{◌≡◌, ◌≤◌, length, take, drop, ℕ, List, IfOk};
 ghost use Rattle.px_base.specs.Octets.{IsOctets};
-ghost use Rattle.disk_model.specs.Surface.{NoSync, surface_after, surface_at_rest};
+ghost use Rattle.disk_model.specs.Surface.{IsQuietSurface, NoSync, surface_after};
 
 use crate::disk_call::DiskCall;
 use crate::overwrite::overwrite;
@@ -12,7 +12,7 @@ use std::alloc::Global;
 /// How many calls there are up to the last sync that passed, which is one of them.
 pub(crate) fn last_sync(calls: &[DiskCall]) -> usize
     ensures within { result ≤ length calls.now }
-    ensures rest { (first : List ℕ) → surface_after first (take result calls.now) ≡ surface_at_rest (surface_after first (take result calls.now)).content }
+    ensures rest { (first : List ℕ) → IsQuietSurface (surface_after first (take result calls.now)) }
     ensures after { NoSync (drop result calls.now) }
 {
     let mut last = 0;
@@ -24,7 +24,7 @@ pub(crate) fn last_sync(calls: &[DiskCall]) -> usize
     last
 }
 
-/// The octets that a read gives after these calls, of a disk that had those at rest. Takes memory.
+/// The octets that a read gives after these calls of a quiet disk with those. Takes memory.
 pub(crate) fn replay(
     alloc: Global,
     first: &[u8],

@@ -10,6 +10,6 @@ invariant-loop-call l =
       size : length l.image.items ≡ l.length;
       octets : IsOctets l.image.items;
       same : l.pick.octet ≡ l.fn.pick.octet;
-      synced : (surface_after l.fn.at_rest.items (take l.call-index l.calls)).synced ≡ l.fn.at_rest.items;
-      torn : IsTorn (surface_after l.fn.at_rest.items (take l.call-index l.calls)) l.fn.pick.octet l.image.items;
+      synced : (surface_after l.fn.synced.items (take l.call-index l.calls)).synced ≡ l.fn.synced.items;
+      torn : IsTorn (surface_after l.fn.synced.items (take l.call-index l.calls)) l.fn.pick.octet l.image.items;
     }

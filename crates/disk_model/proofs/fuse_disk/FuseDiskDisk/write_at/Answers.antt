@@ -14,9 +14,9 @@ opens : (c : goal.After-tear) → Opens (state c.args.self.now.disk) (state c.te
     ⊎ ((((state c.args.self.now.disk).down ≡ true) ⊎ (2 ^ 63 < c.args.at + length c.args.bytes.now)) × Untouched (state c.args.self.now.disk) (state c.tear.new.self.disk))
 opens c = elim (cases_lt (2 ^ 63) (c.args.at + length c.args.bytes.now)) [
   | inl far ↦
-      let same = ap (λ (f : FuseState). f.disk) (c.tear.ensures.far far) in
+      let same = ap (λ (f : FuseState). f.disk) (c.tear.ensures.cut_short.far far) in
       inr (inr far, record { first = ap (λ (s : DiskState). s.first) same; calls = ap (λ (s : DiskState). s.calls) same })
-  | inr within ↦ elim (tearing_opens _ _ _ _ (c.tear.ensures.within within).0) [ inl torn ↦ inl torn | inr same ↦ inr (inl same.0, same.1) ]
+  | inr within ↦ elim (tearing_opens _ _ _ _ (c.tear.ensures.cut_short.within within).0) [ inl torn ↦ inl torn | inr same ↦ inr (inl same.0, same.1) ]
 ]
 
 pub returns-in_default-clause-torn : goal.returns-in_default-clause-torn
@@ -33,7 +33,7 @@ pub returns-in_default-clause-past : goal.returns-in_default-clause-past
 returns-in_default-clause-past c = elapses_either _ _ _ _ _ (opens c)
 
 pub returns-in-Passes-clause-open : goal.returns-in-Passes-clause-open
-returns-in-Passes-clause-open c = λ up within. c.write_at.ensures.open (λ down. up (inr down)) within
+returns-in-Passes-clause-open c = λ up. c.write_at.ensures.open (λ down. up (inr down))
 
 pub returns-in-Passes-clause-far : goal.returns-in-Passes-clause-far
 returns-in-Passes-clause-far c = λ far.
@@ -66,7 +66,6 @@ returns-in-Passes-clause-writing c =
           let one_more : c.in-Passes.left ≡ left + 1 = cc in
           let one_less : c.in-Passes.left - 1 ≡ left = omega (arith, one_more) in
           (c.write_at.ensures.writing, ap (λ (n : ℕ). fuse (record { disk = c.write_at.new.self; stage = stage.Passes n; read_faults = c.args.self.now.read_faults; write_faults = c.args.self.now.write_faults })) one_less);
-      tears = λ next within. absurd (let none = subst IsTornNext here next in omega (arith, none, c.if-left-gt0.true));
-      far = λ next far. absurd (let none = subst IsTornNext here next in omega (arith, none, c.if-left-gt0.true));
+      cut_short = λ next. absurd (let none = subst IsTornNext here next in omega (arith, none, c.if-left-gt0.true));
       down = λ is. absurd (let e : stage.Passes c.in-Passes.left ≡ stage.Down = sym here ∙ is in cc);
     }
