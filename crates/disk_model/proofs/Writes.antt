@@ -3,7 +3,8 @@ use Rattle.std.proofs.Common.{◌≡◌, inl, inr, ℕ, ◌+◌, ◌-◌, ◌<�
 use Rattle.std.proofs.lemmas.Bool.{cases_lt}
 use Rattle.std.proofs.lemmas.List.{places, same_lists, ext_get_or, get_or_past}
 use Rattle.std.proofs.lemmas.List.Elements.{All-append, All-take, All-drop, All-from_get_or, All-replicate}
-use Rattle.disk_model.specs.Disk.{IsOctets, Torn, Writes}
+use Rattle.px_base.specs.Octets.{IsOctets}
+use Rattle.disk_model.specs.Disk.{Torn, Writes}
 use Rattle.disk_model.specs.Surface.{write_over}
 
 -- the octets as they are written: filled up with zeros, and then replaced
