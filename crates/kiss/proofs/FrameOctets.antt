@@ -6,7 +6,7 @@ use Rattle.std.proofs.lemmas.List.Elements.{All-from_recursion, recursion_from_A
 use Rattle.kiss.specs.declared.whole.Part.{Part}
 use Rattle.kiss.specs.declared.whole.Part.TheVariants.{Frame, Dropped, Passed}
 use Rattle.kiss.specs.KissText.{but_last, data_on_port_0, fend, fesc, has_octets, is_fend, kiss_parts, most_octets, part_of, part_of_text, pieces, tfend, tfesc, unescape, with_front}
-use Rattle.kiss.specs.Laws.{IsOctets, HasOctets, FramesHaveOctets}
+use Rattle.kiss.specs.Laws.{HasOctets, FramesHaveOctets}
 
 -- the fact by recursion on the list
 abbrev AreOctets : List ℕ → Type 0

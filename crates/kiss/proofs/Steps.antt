@@ -10,7 +10,7 @@ use Rattle.kiss.specs.KissText.{fend, fesc, tfend, tfesc, most_octets, escape_oc
 use Rattle.kiss.specs.declared.reader.State.{State}
 use Rattle.kiss.specs.declared.reader.State.TheVariants as state
 use Rattle.kiss.specs.Hearing.{Hearing, parts_ended, frames_ended}
-use Rattle.kiss.specs.ReaderMemory.{heard_in, parts_of_text}
+use Rattle.kiss.specs.ReaderMemory.{heard_in, hearing, parts_of_text, IsStep}
 use Rattle.kiss.proofs.Splitting.{split_form, one_piece, kiss_parts-fend, after_fend-piece, after_fend-swap}
 use Rattle.kiss.proofs.Escapes.{escape-form, escape-no_fend, escape-push, escape-push_itself, unescape-whole, ill-dropped, open-dropped, long-dropped, HasNoFend-append}
 
@@ -147,10 +147,19 @@ pub no_frame : (octets : List ℕ) → kiss_parts octets ≡ [] → kiss_frames 
 unfolding kiss_frames
 no_frame octets e = rw e refl
 
--- at the end of what came, only what was ended is there
-pub parts_alone : (s : State) (text : List ℕ) (parts : List Part) → parts ++ kiss_parts (heard_in s text ++ []) ≡ parts
-parts_alone s text parts =
-    ap (λ (rest : List Part). parts ++ rest) (ap kiss_parts (append-nil (heard_in s text)) ∙ heard_in-no_part s text) ∙ append-nil parts
+-- what an octet ended is what there is now
+pub step_verdict : (before : State) (text : List ℕ) (octet : ℕ) (now : State) (text_now : List ℕ) (answer : KissFed) → IsStep before text octet now text_now answer
+    → parts_ended answer (hearing now text_now) ≡ kiss_parts (heard_in before text ++ octet ∷ [])
+step_verdict before text octet now text_now answer h =
+    sym (
+    h.parts []
+    ∙ ap (λ (rest : List Part). parts_ended answer (hearing now text_now) ++ rest) (ap kiss_parts (append-nil (heard_in now text_now)) ∙ heard_in-no_part now text_now)
+    ∙ append-nil (parts_ended answer (hearing now text_now)))
+
+-- and the frame among it
+pub step_frames : (before : State) (text : List ℕ) (octet : ℕ) (now : State) (text_now : List ℕ) (answer : KissFed) → IsStep before text octet now text_now answer
+    → (later : List ℕ) → kiss_frames (heard_in before text ++ octet ∷ later) ≡ frames_ended answer (hearing now text_now) ++ kiss_frames (heard_in now text_now ++ later)
+step_frames before text octet now text_now answer h later = frames_go_on answer (hearing now text_now) _ _ (h.parts later)
 
 -- a loop that goes from FEND to FEND, one piece further
 pub piece_more : (parts new all : List Part) (rest piece after : List ℕ) (part : Part)

@@ -1,6 +1,7 @@
 -- Laws of KISS text.
-use Rattle.std.specs.Prelude.{◌≡◌, ◌<◌, ◌≤◌, ◌↔◌, ℕ, List, [], ◌∷◌, ◌++◌, length, map, Some, All, ⊤}
+use Rattle.std.specs.Prelude.{◌≡◌, ◌≤◌, ◌↔◌, ℕ, List, [], ◌∷◌, ◌++◌, length, map, Some, All, ⊤}
 use Rattle.std.specs.List.{flat_map, AllByRecursion}
+use Rattle.px_base.specs.Octets.{IsOctets}
 use Rattle.kiss.specs.declared.whole.Part.{Part}
 use Rattle.kiss.specs.declared.whole.Part.TheVariants.{Frame, Dropped, Passed}
 use Rattle.kiss.specs.KissText.{most_octets, escape, unescape, kiss_text, kiss_parts, kiss_frames, from_last_fend, HasNoFend}
@@ -30,9 +31,6 @@ PartsGoOn = (octets later : List ℕ) → kiss_parts (octets ++ later) ≡ kiss_
 -- so do the frames
 abbrev pub FramesGoOn : Type 0
 FramesGoOn = (octets later : List ℕ) → kiss_frames (octets ++ later) ≡ kiss_frames octets ++ kiss_frames (from_last_fend octets ++ later)
-
-abbrev pub IsOctets : List ℕ → Type 0
-IsOctets octets = All (λ octet. octet < 256) octets
 
 -- a frame of octets, or another part
 abbrev pub HasOctets : Part → Type 0

@@ -1,7 +1,7 @@
 //! Reading KISS text an octet at a time.
 
 ghost use Rattle.std.specs.Prelude.{◌≡◌, ◌≢◌, ◌↔◌, ℕ, List, [], ◌∷◌, ◌++◌, length, ◌<◌, ◌≤◌, IsSome, Some, None};
-ghost use Rattle.kiss.specs.KissText.{fend, kiss_parts, kiss_frames, escape};
+ghost use Rattle.kiss.specs.KissText.{fend, fesc, kiss_parts, kiss_frames, escape};
 ghost use Rattle.kiss.specs.Hearing.{parts_ended, frames_ended};
 ghost use Rattle.kiss.specs.ReaderMemory.{heard_in, frame_in, hearing, parts_ended_in, parts_of_text, IsStep};
 
@@ -94,6 +94,14 @@ impl KissReader {
         ensures no_part { kiss_parts self.new.heard ≡ [] }
         ensures no_frame { kiss_frames self.new.heard ≡ [] }
     {
+        if self.state == State::Within
+            && byte != FEND
+            && byte != FESC
+            && !self.text.is_full()
+        {
+            push_itself(&mut self.text, byte);
+            return KissFed::More;
+        }
         let (state, fed) = step(self.state, &mut self.text, byte);
         self.state = state;
         fed
@@ -110,21 +118,20 @@ impl KissReader {
     }
 }
 
-/// Where a reader stands after an octet, and what that octet ended. Most octets stand for
-/// themselves within a part, so these are looked at first, and at the caller.
+/// Keeps an octet of a part that stands for itself. Most octets do, so `feed` looks at them first.
 #[inline]
-fn step(state: State, text: &mut ArrayVec<u8, MOST_TEXT>, octet: u8) -> (State, KissFed)
-    ensures { IsStep state text.old.items octet result.0 text.new.items result.1 }
+fn push_itself(text: &mut ArrayVec<u8, MOST_TEXT>, octet: u8)
+    requires room { length text.old.items < MOST_TEXT }
+    requires no_end { octet ≢ fend }
+    requires no_escape { octet ≢ fesc }
+    ensures { IsStep State.Within text.old.items octet State.Within text.new.items KissFed.More }
 {
-    if state == State::Within && octet != FEND && octet != FESC {
-        return (keep(text, octet), KissFed::More);
-    }
-    step_at_sign(state, text, octet)
+    text.push(octet);
 }
 
-/// The same, for an octet that may have a meaning where the reader stands.
+/// Where a reader stands after an octet, and what that octet ended.
 #[inline(never)]
-fn step_at_sign(state: State, text: &mut ArrayVec<u8, MOST_TEXT>, octet: u8) -> (State, KissFed)
+fn step(state: State, text: &mut ArrayVec<u8, MOST_TEXT>, octet: u8) -> (State, KissFed)
     ensures { IsStep state text.old.items octet result.0 text.new.items result.1 }
 {
     if octet != FEND {
@@ -186,7 +193,6 @@ fn advance_escaped(text: &mut ArrayVec<u8, MOST_TEXT>, octet: u8) -> State
 }
 
 /// Keeps an unescaped octet, where there is room for it.
-#[inline]
 fn keep(text: &mut ArrayVec<u8, MOST_TEXT>, octet: u8) -> State
     ensures parts { (later : List ℕ) → kiss_parts (fend ∷ (escape (text.old.items ++ octet ∷ []) ++ later))
         ≡ kiss_parts (heard_in result text.new.items ++ later) }
