@@ -4,7 +4,8 @@ ghost use Rattle.std.specs.Prelude.{◌<◌};
 
 use super::{KissFed, KissReader, Part, TooLong, parts, parts_of_pieces, write_frame};
 use arrayvec::ArrayVec;
-use std::alloc::{AllocError, Global};
+use px_base::{FileBytes, OutOfMemory};
+use std::alloc::Global;
 use std::process::Abort;
 use std::test::Fail;
 
@@ -37,12 +38,12 @@ fn assert_wanted(rt: &impl Abort, got: &[Part], wants: &[Want], case: usize) {
 }
 
 /// The octets in pieces of this length.
-fn cut(alloc: Global, octets: &[u8], len: usize) -> Result<Vec<Vec<u8>>, AllocError>
+fn cut(alloc: Global, octets: &[u8], len: usize) -> Result<Vec<FileBytes>, OutOfMemory>
     requires { 0 < len }
 {
     let mut pieces = Vec::new(alloc);
     for piece in octets.chunks(len) {
-        pieces.push(Vec::from_slice(alloc, piece)?)?;
+        pieces.push(FileBytes::copy_of(alloc, piece)?)?;
     }
     Ok(pieces)
 }
@@ -54,7 +55,7 @@ fn assert_read(
     octets: &[u8],
     wants: &[Want],
     case: usize,
-) -> Result<(), AllocError> {
+) -> Result<(), OutOfMemory> {
     assert_wanted(rt, &parts(alloc, octets)?, wants, case);
     for len in [1, 2, 7, 1000] {
         let pieces = cut(alloc, octets, len)?;
@@ -64,7 +65,7 @@ fn assert_read(
 }
 
 /// FEND, the type octet 00, the filler so many times, FEND.
-fn long_text(alloc: Global, filler: &[u8], times: usize) -> Result<Vec<u8>, AllocError> {
+fn long_text(alloc: Global, filler: &[u8], times: usize) -> Result<Vec<u8>, OutOfMemory> {
     let mut text = Vec::from_slice(alloc, &[0xC0, 0x00])?;
     for _ in 0..times {
         text.extend_from_slice(filler)?;

@@ -1,24 +1,16 @@
 -- The octets of the frames in octets are octets.
-use Rattle.std.proofs.Common.{ℕ, zero, suc, ◌<◌, Bool, true, false, List, [], ◌∷◌, map, drop, arith}
+use Rattle.std.proofs.Common.{ℕ, ◌<◌, Bool, true, false, List, [], ◌∷◌, map, drop, arith}
 use Rattle.std.specs.Prelude.{◌==◌, nat_lt, Option, None, Some, ⊤, if◌then◌else◌}
 use Rattle.std.specs.List.{AllByRecursion, filter, onto_first, slice_split}
+use Rattle.std.proofs.lemmas.List.Elements.{All-from_recursion, recursion_from_All}
 use Rattle.kiss.specs.declared.whole.Part.{Part}
 use Rattle.kiss.specs.declared.whole.Part.TheVariants.{Frame, Dropped, Passed}
 use Rattle.kiss.specs.KissText.{but_last, data_on_port_0, fend, fesc, has_octets, is_fend, kiss_parts, most_octets, part_of, part_of_text, pieces, tfend, tfesc, unescape, with_front}
-use Rattle.ax25_frames.specs.Kinds.{IsOctets}
+use Rattle.kiss.specs.Laws.{HasOctets, FramesHaveOctets}
 
--- each is an octet
+-- the fact by recursion on the list
 abbrev AreOctets : List ℕ → Type 0
 AreOctets octets = AllByRecursion (λ octet. octet < 256) octets
-
-from_places : (octets : List ℕ) → IsOctets octets → AreOctets octets
-from_places [] h = tt
-from_places (x ∷ xs) h = (h zero, from_places xs (λ i. h (suc i)))
-
-by_places : (octets : List ℕ) → AreOctets octets → IsOctets octets
-by_places [] h i = omega arith
-by_places (x ∷ xs) h zero = h.0
-by_places (x ∷ xs) h (suc i) = by_places xs h.1 i
 
 -- what holds of both holds of the one that is chosen
 either : {A : Type 0} (P : A → Type 0) (b : Bool) (x y : A) → P x → P y → P (if b then x else y)
@@ -71,16 +63,10 @@ unescaped_octets (octet ∷ next ∷ rest) h =
     (either ReadsOctets (next == tfesc) (with_front fesc (unescape rest)) None (front_octets fesc (unescape rest) (omega arith) two) tt))
     (front_octets octet (unescape (next ∷ rest)) h.0 one)
 
--- a frame of octets, or another part
-abbrev pub HasOctets : Part → Type 0
-HasOctets (Frame octets) = IsOctets octets
-HasOctets Dropped = ⊤
-HasOctets Passed = ⊤
-
 text_octets : (text : List ℕ) → AreOctets text → HasOctets (part_of_text text)
 text_octets [] h = tt
 text_octets (kind ∷ octets) h =
-    either HasOctets (nat_lt most_octets _) Dropped _ tt (either HasOctets (kind == data_on_port_0) (Frame octets) Passed (by_places octets h.1) tt)
+    either HasOctets (nat_lt most_octets _) Dropped _ tt (either HasOctets (kind == data_on_port_0) (Frame octets) Passed (All-from_recursion (λ octet. octet < 256) octets h.1) tt)
 
 part_octets : (read : Option (List ℕ)) → ReadsOctets read → HasOctets (part_of read)
 part_octets None h = tt
@@ -90,9 +76,8 @@ parts_octets : (pieces : List (List ℕ)) → AllByRecursion AreOctets pieces �
 parts_octets [] h = tt
 parts_octets (piece ∷ pieces) h = (part_octets (unescape piece) (unescaped_octets piece h.0), parts_octets pieces h.1)
 
--- the octets of the frames in recorded octets are octets
-pub kiss_octets : (recorded : List ℕ) → IsOctets recorded → AllByRecursion HasOctets (kiss_parts recorded)
+pub frames_have_octets : FramesHaveOctets
 unfolding kiss_parts
-kiss_octets recorded h =
-    let split = split_octets recorded (from_places recorded h) in
-    parts_octets (pieces recorded) (kept _ (all_but_last _ (after_first _ split)))
+frames_have_octets octets h =
+    let split = split_octets octets (recursion_from_All (λ octet. octet < 256) octets h) in
+    All-from_recursion HasOctets (kiss_parts octets) (parts_octets (pieces octets) (kept _ (all_but_last _ (after_first _ split))))
