@@ -176,6 +176,19 @@ fn other_types_and_lengths_are_malformed(rt: HostRuntime) {
     check_read(&rt, &long, 100, Err(Malformed { kind: 3, len: 264 }));
 }
 
+#[test]
+fn a_malformed_packet_is_told(rt: HostRuntime) -> Result<(), Fail> {
+    let malformed = Malformed {
+        kind: 12,
+        len: 2047,
+    };
+    assert_eq!(rt;
+        malformed.to_string(rt.alloc())?.as_str(),
+        "a packet of type 12 with 2047 octets of information is malformed"
+    );
+    Ok(())
+}
+
 /// The types of the packets that were taken.
 #[derive(Drop)]
 struct Types {
