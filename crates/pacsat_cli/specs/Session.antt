@@ -96,12 +96,12 @@ replies_to caller store state (event ∷ events) =
     on_row (session_row caller event.moment store state event.packet) []
     (λ row. row.replies ++ replies_to caller (after_all store row.commands) row.state events)
 
--- whether one of these events meets a row that isn't built
-abbrev pub meets_unbuilt : CallSign → Store → State → List Event → Bool
-meets_unbuilt caller store state [] = false
-meets_unbuilt caller store state (event ∷ events) =
-    on_row (session_row caller event.moment store state event.packet) true
-    (λ row. meets_unbuilt caller (after_all store row.commands) row.state events)
+-- the first packet of these events whose row isn't built, if there is one
+abbrev pub first_unbuilt : CallSign → Store → State → List Event → Option Item
+first_unbuilt caller store state [] = None
+first_unbuilt caller store state (event ∷ events) =
+    on_row (session_row caller event.moment store state event.packet) (Some event.packet)
+    (λ row. first_unbuilt caller (after_all store row.commands) row.state events)
 
 -- The reply to the connection (FTL0 1990, LOGIN_RESP): the moment; version 0, and file headers in use.
 abbrev pub greeting : ℕ → PacketValue

@@ -21,7 +21,7 @@ returns-in-Err-TooMuch-clause-answers c =
     λ moment. (
       record { state = aborting; commands = []; replies = ul_nak_resp 1 ∷ [] },
       row-too_much c.args.up.caller moment c.args.store.now c.args.up c.args.octets.now c.requires.holds (omega (arith, past.0 refl)),
-      ((tt, c.park.ensures ∙ c.in-Err-TooMuch.ensures.err), refl, c.put_reply.ensures),
+      ((tt, c.park.ensures ∙ c.in-Err-TooMuch.ensures.err), refl, c.write_packet.ensures.text),
     )
 
 pub returns-in-Err-OutOfMemory-clause-answers : goal.returns-in-Err-OutOfMemory-clause-answers
