@@ -21,7 +21,15 @@ pub record MemoryAirState : Type 0 where
 -- before the first call
 abbrev pub new_air_state : List Turn → List ℕ → MemoryAirState
 new_air_state turns failing =
-    record { coming = turns; heard = []; said = []; calls = new_counter failing; read_faults = 0; write_faults = 0; untold = false }
+    record {
+      coming = turns;
+      heard = [];
+      said = [];
+      calls = new_counter failing;
+      read_faults = 0;
+      write_faults = 0;
+      untold = false;
+    }
 
 -- what was heard is told until a poll found no memory to record it
 abbrev pub told_heard : MemoryAirState → Option (List Turn)
@@ -80,7 +88,8 @@ air_state_after_starved_poll state turns =
       untold = true;
     }
 
--- A poll answers the next turn, and fails where it finds no memory to record it. One that is listed fails, and takes no turn.
+-- A poll answers the next turn, and fails where it finds no memory to record it. One that is listed fails, and takes no
+-- turn.
 pub record IsPoll (before now : MemoryAirState) (answer : Turn) : Type 0 where
   pub listed :
       IsListed before.calls
@@ -93,7 +102,8 @@ pub record IsPoll (before now : MemoryAirState) (answer : Turn) : Type 0 where
 
 -- after these octets were said
 abbrev pub air_state_after_saying : MemoryAirState → List ℕ → MemoryAirState
-air_state_after_saying state octets = record state { said = state.said ++ octets; calls = counter_after_call state.calls }
+air_state_after_saying state octets =
+    record state { said = state.said ++ octets; calls = counter_after_call state.calls }
 
 -- after saying octets failed, with the calls numbered so
 abbrev pub air_state_after_failed_saying : MemoryAirState → CallCounterState → MemoryAirState
@@ -102,7 +112,9 @@ air_state_after_failed_saying state calls =
 
 -- All of the octets are said, or none where there is no memory for them. A call that is listed fails, and says none.
 pub record IsSaying {T E : Type 0} (before now : MemoryAirState) (octets : List ℕ) (result : Result T E) : Type 0 where
-  pub listed : IsListed before.calls → IsErr result × (now ≡ air_state_after_failed_saying before (counter_after_call before.calls))
+  pub listed :
+      IsListed before.calls
+      → IsErr result × (now ≡ air_state_after_failed_saying before (counter_after_call before.calls))
   pub next :
       (IsListed before.calls → ⊥)
       → (IsOk result × (now ≡ air_state_after_saying before octets))

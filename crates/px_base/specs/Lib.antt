@@ -1,5 +1,6 @@
 pub mod CallSign
 pub mod Counter
+pub mod Folder
 pub mod Forms
 pub mod Moments
 pub mod Numbers

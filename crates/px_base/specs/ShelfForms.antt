@@ -1,11 +1,10 @@
--- What contracts see of a shelf in memory, and of one over a folder.
-use Rattle.std.specs.Prelude.{◌≡◌, ℕ, ◌⊎◌, map, List, [], Some, Result, Ok, Err, IsOk, IsErr, String}
+-- What contracts see of a shelf in memory.
+use Rattle.std.specs.Prelude.{◌≡◌, ℕ, ◌⊎◌, map, List, [], Some, Result, Err, IsOk, IsErr, String}
 use Rattle.std.specs.String.{string_bytes}
-use Rattle.px_base.specs.declared.shelf.ShelfRefusal.{ShelfRefusal}
 use Rattle.px_base.specs.declared.shelf.ShelfRefusal.TheVariants as refusal
 use Rattle.px_base.specs.Counter.{CallCounterState, IsListed, counter_after_call, counter_after_starved_call, new_counter}
 use Rattle.px_base.specs.Outside.{counted}
-use Rattle.px_base.specs.Shelves.{Holding, SameOthers, content_of, load_answer}
+use Rattle.px_base.specs.Shelves.{Holding, LoadResult, SameOthers, content_of, load_answer}
 
 -- a shelf in memory: what is held, how the calls are numbered, and the count of faults
 pub record MemoryShelfState : Type 0 where
@@ -30,7 +29,7 @@ abbrev pub shelf_state_after_fault : MemoryShelfState → CallCounterState → M
 shelf_state_after_fault state calls = record state { calls = calls; faults = counted state.faults }
 
 -- A load answers of the content of this name, or finds no memory. A call that is listed fails. Nothing held changes.
-pub record IsLoading (before now : MemoryShelfState) (name : List ℕ) (most : ℕ) (result : Result (List ℕ) ShelfRefusal) : Type 0 where
+pub record IsLoading (before now : MemoryShelfState) (name : List ℕ) (most : ℕ) (result : LoadResult) : Type 0 where
   pub listed :
       IsListed before.calls
       → (result ≡ Err refusal.Fault) × (now ≡ shelf_state_after_fault before (counter_after_call before.calls))
@@ -46,24 +45,13 @@ pub record IsKept (before now : MemoryShelfState) (name content : List ℕ) : Ty
   pub others : SameOthers before.held now.held name
   pub rest : now ≡ record (shelf_state_after_call before) { held = now.held }
 
--- The content is kept, or, where there is no memory for it, nothing held changes. A call that is listed fails, and keeps none.
-pub record IsKeeping {T E : Type 0} (before now : MemoryShelfState) (name content : List ℕ) (result : Result T E) : Type 0 where
+-- The content is kept, or, where there is no memory for it, nothing held changes. A call that is listed fails, and keeps
+-- none.
+pub record IsKeeping {T E : Type 0} (before now : MemoryShelfState) (name content : List ℕ) (result : Result T E) :
+    Type 0 where
   pub listed :
       IsListed before.calls → IsErr result × (now ≡ shelf_state_after_fault before (counter_after_call before.calls))
   pub next :
       (IsListed before.calls → ⊥)
       → (IsOk result × IsKept before now name content)
       ⊎ (IsErr result × (now ≡ shelf_state_after_fault before (counter_after_starved_call before.calls)))
-
--- a shelf over a folder: what opens its files, and the count of faults
-pub record Folder (R : Type 0) : Type 0 where
-  pub files : R
-  pub faults : ℕ
-
--- the count of faults after a load with this answer
-abbrev pub counted_after_load : Result (List ℕ) ShelfRefusal → ℕ → ℕ
-counted_after_load (Ok content) faults = faults
-counted_after_load (Err refusal.NoSuch) faults = faults
-counted_after_load (Err refusal.TooLong) faults = faults
-counted_after_load (Err refusal.Fault) faults = counted faults
-counted_after_load (Err refusal.OutOfMemory) faults = faults

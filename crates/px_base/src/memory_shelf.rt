@@ -1,10 +1,10 @@
 //! A shelf in memory: contents under names, and a count of calls.
 
-ghost use Rattle.std.specs.Prelude.{◌≡◌, ◌≤◌, ◌⊎◌, length, Err, Some, IfOk, OnOk, OnErr};
+ghost use Rattle.std.specs.Prelude.{◌≡◌, ◌⊎◌, Err, Some, IfOk, OnOk, OnErr};
 ghost use Rattle.px_base.specs.Counter.{HasCauses};
 ghost use Rattle.px_base.specs.Outside.{HasCause};
 ghost use Rattle.px_base.specs.ShelfForms.{IsKeeping, IsLoading, holding_of, new_shelf_state};
-ghost use Rattle.px_base.specs.Shelves.{HasLoadCause, Keeps, KeepsOthers, Loads, SameOthers, content_of, load_answer};
+ghost use Rattle.px_base.specs.Shelves.{HasLoadCause, IsWithin, Keeps, KeepsOthers, Loads, SameOthers, content_of, load_answer};
 ghost use Rattle.std.specs.Option.{option_copied};
 
 use crate::FileBytes;
@@ -73,9 +73,9 @@ impl Shelf for MemoryShelf {
 
     ghost faults = { λ a. a.faults };
 
-    /// The content of this name, of at most `most` octets; a call that is listed fails. Want of memory counts as a fault.
+    /// The content of this name, of at most `most` octets; a call that is listed fails. Want of memory is counted too.
     fn load(&mut self, alloc: Global, name: &str, most: usize) -> Result<FileBytes, ShelfRefusal>
-        ensures most { IfOk result (λ content. length content ≤ most) }
+        ensures most { IsWithin most result }
         ensures answer { Loads (Some self.old.held) name.now most result }
         ensures held { Some self.new.held ≡ Some self.old.held }
         ensures faults { HasLoadCause self.old.faults self.new.faults result }
@@ -93,7 +93,7 @@ impl Shelf for MemoryShelf {
         answer
     }
 
-    /// Sets the content of this name; a call that is listed, or finds no memory, fails and changes nothing that is held.
+    /// Sets the content of this name; a call that is listed, or finds no memory, fails and changes nothing held.
     fn keep(&mut self, name: &str, bytes: &[u8]) -> Result<(), ShelfDown>
         ensures ok { OnOk result (Keeps (Some self.old.held) (Some self.new.held) name.now bytes.now) }
         ensures err { OnErr result (KeepsOthers (Some self.old.held) (Some self.new.held) name.now) }
