@@ -1,10 +1,9 @@
 -- What stands of a surface that is torn write by write.
 use Rattle.std.proofs.Common.{◌≡◌, ◌⊎◌, inl, inr, ⊎_elim, ℕ, ◌+◌, ◌-◌, ◌/◌, ◌%◌, ◌<◌, ◌≤◌, List, [], ◌∷◌, ◌++◌, length, get_or, take, drop, Option, Some, Result, Ok, Err, IfOk, Vec, Global, refl, sym, ◌∙◌, ap, subst, arith, fold}
 use Rattle.std.proofs.lemmas.Bool.{cases_lt}
-use Rattle.std.proofs.lemmas.List.{take_at, take_more, take_rest, take-append-drop}
+use Rattle.std.proofs.lemmas.List.{take_more, take_rest, take-append-drop}
 use Rattle.std.proofs.lemmas.List.Elements.{All-tail}
 use Rattle.std.proofs.lemmas.List.Sums.{fold-append}
-use Rattle.px_base.specs.Octets.{IsOctets}
 use Rattle.disk_model.specs.Crash.{IsCrash, IsFilled, Tears}
 use Rattle.disk_model.specs.Surface.{IsImage, IsInRange, IsOpen, NoSync, Surface, count_of, with_range, place_of, surface_after, surface_after_call, quiet_surface}
 use Rattle.disk_model.proofs.Surfaces.{surface_after-push}
@@ -16,10 +15,7 @@ pub record IsTorn (surface : Surface) (picked : Option ℕ) (image : List ℕ) :
   pub kept : (place : ℕ) → place < length surface.synced → (IsOpen surface.writes place → ⊥) → get_or image place 0 ≡ get_or surface.synced place 0
   pub filled : (octet place : ℕ) → picked ≡ Some octet → place < length image → (length surface.synced ≤ place) ⊎ IsOpen surface.writes place → get_or image place 0 ≡ octet
 
--- a slice of all of a vector, written back to it
-pub written_back : (new old : List ℕ) (len : ℕ) → length new ≡ len → take len (new ++ drop (length new) old) ≡ new
-written_back new old len size = take_at new (drop (length new) old) len size
-
+-- the same, of equal octets
 pub tears_same : (at count : ℕ) (picked picked' : Option ℕ) (old old' new : List ℕ) → picked ≡ picked' → old ≡ old' → Tears at count picked old new → Tears at count picked' old' new
 tears_same at count picked picked' old old' new e f tears =
     subst (λ (p : Option ℕ). Tears at count p old' new) e (subst (λ (o : List ℕ). Tears at count picked o new) f tears)
@@ -68,11 +64,6 @@ synced_same surface (call.Write at octets) no_sync = refl
 synced_same surface (call.TornWrite at count) no_sync = refl
 synced_same surface call.Sync no_sync = absurd (no_sync refl)
 synced_same surface call.FailedSync no_sync = refl
-
--- an image that is torn, and whose length is one that may be left
-pub torn_is_image : (surface : Surface) (picked : Option ℕ) (image : List ℕ) → IsOctets image → length surface.synced ≤ length image → length image ≤ surface.most → IsTorn surface picked image → IsImage surface image
-torn_is_image surface picked image octets no_shorter no_longer torn =
-    record { octets = octets; no_shorter = no_shorter; no_longer = no_longer; kept = torn.kept }
 
 -- the octets that the last sync left stay until another sync passes
 synced_kept : (surface : Surface) (calls : List DiskCall) → NoSync calls → (fold surface_after_call surface calls).synced ≡ surface.synced

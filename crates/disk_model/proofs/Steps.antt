@@ -37,11 +37,6 @@ call_elapses first calls call = record {
       | inr le ↦ inl (since.0, since.1, le, subst (λ (s : Surface). IsImage s image) (same since.0 le) since.3)
     ]
 
--- since the moment of the last call, a crash leaves what it may leave now
-pub past_is_now : (first : List ℕ) (calls : List DiskCall) (image : List ℕ) → ImagesSince first calls (length calls) image → IsImage (surface_after first calls) image
-past_is_now first calls image since =
-    subst (λ (s : Surface). IsImage s image) (ap (surface_after first) (take_all since.0 calls since.1)) since.3
-
 -- the images of a range that is open
 with_range_follows : (before : DiskState) (at count : ℕ) → images_of before (content_of before) → Follows (Torn at count) (images_of before) (IsImage (with_range (surface before) at count))
 with_range_follows before at count content image left = torn_from (surface before) at count (content_of before) image content left

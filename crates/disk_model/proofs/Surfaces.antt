@@ -1,5 +1,5 @@
 -- How what a crash may leave changes with the calls of a disk.
-use Rattle.std.proofs.Common.{◌≡◌, inl, inr, ⊎_elim, ℕ, ◌+◌, ◌<◌, ◌≤◌, min, List, [], ◌∷◌, ◌++◌, length, get_or, take, refl, sym, ◌∙◌, arith}
+use Rattle.std.proofs.Common.{◌≡◌, inl, inr, ⊎_elim, ℕ, ◌+◌, ◌<◌, ◌≤◌, min, List, [], ◌∷◌, ◌++◌, length, get_or, take, sym, ◌∙◌, arith}
 use Rattle.std.proofs.lemmas.Bool.{cases_lt}
 use Rattle.std.proofs.lemmas.List.{ext_get_or, get_or-take, length-take}
 use Rattle.std.proofs.lemmas.List.Elements.{All-take}
@@ -13,10 +13,7 @@ use Rattle.disk_model.proofs.Writes.{length-write_over, get_or-write_over_outsid
 pub surface_after-push : (first : List ℕ) (calls : List DiskCall) (call : DiskCall) → surface_after first (calls ++ call ∷ []) ≡ surface_after_call (surface_after first calls) call
 surface_after-push first calls call = fold-append surface_after_call (quiet_surface first) calls (call ∷ [])
 
--- a quiet disk leaves what it has
-pub quiet_leaves : (octets : List ℕ) → IsOctets octets → IsImage (quiet_surface octets) octets
-quiet_leaves octets is = record { octets = is; no_shorter = omega arith; no_longer = omega arith; kept = λ place below shut. refl }
-
+-- a quiet disk leaves what it has, and nothing else
 pub quiet_leaves_only : (octets : List ℕ) → Only (IsImage (quiet_surface octets)) octets
 quiet_leaves_only octets image is =
     ext_get_or 0 image octets (omega (arith, is.no_shorter, is.no_longer))

@@ -61,16 +61,11 @@ IsTornNext (stage.Passes left) = left ≡ 0
 IsTornNext stage.Blown = Unit {0}
 IsTornNext stage.Down = ⊥
 
--- after a call that the fuse failed, but for a write that left its range open
-abbrev pub stage_after_fault : FuseStage → FuseStage
-stage_after_fault (stage.Passes left) = stage.Blown
-stage_after_fault stage.Blown = stage.Blown
-stage_after_fault stage.Down = stage.Down
-
--- after a call of `len` or `read`, or of `write_at` or `sync`, that the fuse failed
+-- after a call of `len` or `read` that the fuse failed
 abbrev pub fuse_after_failed_reading : FuseState → FuseState
 fuse_after_failed_reading before = record before { read_faults = counted before.read_faults }
 
+-- after a call of `write_at` or `sync` that the fuse failed, which is at this stage then
 abbrev pub fuse_after_failed : FuseState → FuseStage → FuseState
 fuse_after_failed before stage_is = record before { stage = stage_is; write_faults = counted before.write_faults }
 

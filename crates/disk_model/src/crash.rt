@@ -1,6 +1,6 @@
 //! What a crash leaves, as a number picks it.
 
-ghost use Rattle.std.specs.Prelude.{◌≡◌, ◌+◌, ◌/◌, ◌%◌, ◌<◌, ◌≤◌, ◌^◌, ℕ, List, Some, length, slice_index, IfOk};
+ghost use Rattle.std.specs.Prelude.{◌≡◌, ◌+◌, ◌/◌, ◌%◌, ◌≤◌, ◌^◌, ℕ, Some, length, IfOk};
 ghost use Rattle.disk_model.specs.Crash.{IsCrash, IsFilled, Tears};
 ghost use Rattle.px_base.specs.Octets.{IsOctets};
 ghost use Rattle.disk_model.specs.Surface.{IsImage, NoSync, count_of, place_of, surface_after};

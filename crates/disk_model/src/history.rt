@@ -1,6 +1,6 @@
 //! What was done to a disk in memory since it was made, and what stands on it.
 
-ghost use Rattle.std.specs.Prelude.{◌≡◌, ◌⊎◌, ◌+◌, ◌<◌, ◌≤◌, ◌^◌, [], ◌∷◌, ◌++◌, length, vec_capacity, vec_len, false, true, IfOk, OnOk, OnErr, IsTrue, ◌↔◌};
+ghost use Rattle.std.specs.Prelude.{◌≡◌, ◌+◌, ◌<◌, ◌≤◌, ◌^◌, [], ◌∷◌, ◌++◌, length, vec_capacity, vec_len, false, true, IfOk, OnOk, OnErr};
 ghost use Rattle.disk_model.specs.Calls.{LosesWrite};
 ghost use Rattle.disk_model.specs.Crash.{IsCrash};
 ghost use Rattle.disk_model.specs.Surface.{IsImage, surface_after, sync_of, write_of};

@@ -1,6 +1,6 @@
-use Rattle.std.proofs.Common.{◌≡◌, ℕ, ◌-◌, List, length, get_or, take, drop, sym, ap, subst, arith, IfOk, Vec, Global}
-use Rattle.disk_model.specs.Crash.{IsCrash, IsFilled}
-use Rattle.disk_model.specs.Surface.{IsImage, Surface, surface_after}
+use Rattle.std.proofs.Common.{ℕ, ◌-◌, List, length, get_or, take, drop, sym, ap, subst, arith, IfOk, Vec, Global}
+use Rattle.disk_model.specs.Crash.{IsCrash}
+use Rattle.disk_model.specs.Surface.{Surface, surface_after}
 use Rattle.disk_model.proofs.Crashes.{crash_of, since_last, synced_content}
 use Rattle.disk_model.proofs.crash.crash.Goals as goal
 

@@ -1,4 +1,4 @@
-use Rattle.std.proofs.Common.{List, ℕ, sym, ap, subst, arith, Vec, Global}
+use Rattle.std.proofs.Common.{ℕ, sym, subst, arith, Vec, Global}
 use Rattle.std.proofs.lemmas.Grind.{common_steps}
 use Rattle.px_base.specs.Octets.{IsOctets}
 use Rattle.disk_model.proofs.replay.replay.Goals as goal

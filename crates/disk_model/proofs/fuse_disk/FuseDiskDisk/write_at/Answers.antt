@@ -1,10 +1,9 @@
-use Rattle.std.proofs.Common.{◌≡◌, ◌⊎◌, inl, inr, ⊎_elim, ℕ, ◌+◌, ◌-◌, ◌^◌, ◌<◌, length, true, sym, ◌∙◌, ap, subst, refl, arith}
+use Rattle.std.proofs.Common.{◌≡◌, ◌⊎◌, inl, inr, ⊎_elim, ℕ, ◌+◌, ◌-◌, ◌^◌, ◌<◌, length, true, sym, ◌∙◌, ap, subst, arith}
 use Rattle.std.proofs.lemmas.Bool.{cases_lt}
 use Rattle.disk_model.specs.Calls.{DiskState}
 use Rattle.disk_model.specs.Fuse.{FuseState, IsTornNext, fuse}
 use Rattle.disk_model.specs.Memory.{state}
 use Rattle.disk_model.specs.MemoryLaws.{content_is_image}
-use Rattle.disk_model.specs.declared.fuse_disk.FuseStage.{FuseStage}
 use Rattle.disk_model.specs.declared.fuse_disk.FuseStage.TheVariants as stage
 use Rattle.disk_model.proofs.Steps.{Opens, Untouched, cause_of_sum, elapses_either, follows_either, kept_either, leaves_open_either, tearing_opens}
 use Rattle.disk_model.proofs.fuse_disk.FuseDiskDisk.write_at.Goals as goal
