@@ -28,8 +28,13 @@ impl Model for StoredFile {
 
     ghost Value = { Entry };
 
-    ghost view = { λ a. record { number = a.number; caller = a.caller; length = a.length; begun = a.begun;
-        holding = holding_of a.octets.items a.sealed } };
+    ghost view = { λ a. record {
+      number = a.number;
+      caller = a.caller;
+      length = a.length;
+      begun = a.begun;
+      holding = holding_of a.octets.items a.sealed;
+    } };
 }
 
 impl StoredFile {
