@@ -1,5 +1,5 @@
 -- The first fault of octets, part by part: the address entries, the control octet, and what follows it.
-use Rattle.std.proofs.Common.{◌≡◌, ℕ, zero, suc, ◌+◌, ◌*◌, ◌≤◌, ◌<◌, Bool, true, false, List, [], ◌∷◌, ◌++◌, length, take, drop, slice_index, refl, sym, ap, ◌∙◌, subst, arith, append_assoc, append-nil, length-append, length-drop, length-take-le, take-append-drop}
+use Rattle.std.proofs.Common.{◌≡◌, ℕ, suc, ◌+◌, ◌*◌, ◌≤◌, ◌<◌, Bool, true, false, List, [], ◌∷◌, ◌++◌, length, take, drop, min, slice_index, refl, sym, ap, ◌∙◌, subst, arith, append_assoc, append-nil, length-append, length-drop, length-take-le, take-append-drop}
 use Rattle.std.proofs.lemmas.Grind.{common_steps}
 use Rattle.std.proofs.lemmas.List.{take_all, take_at}
 use Rattle.std.proofs.lemmas.List.Elements.{All-take}
@@ -89,35 +89,44 @@ bad_character es x h n six l =
           b.ends six l entry.call entry.later begins.1 entry.is_call entry.text;
     }
 
-pub bad_address : (octets : List ℕ) (n : ℕ) → BeginsUnended octets n → n < 10 → characters_begun (drop (7 * n) octets) < 6
-    → characters_begun (drop (7 * n) octets) < length (drop (7 * n) octets) → FaultAt (BadAddress (7 * n + characters_begun (drop (7 * n) octets))) octets
-bad_address octets n h few six l =
+-- what is left after entries without the end bit
+unended_rest : (octets : List ℕ) (n : ℕ) (h : BeginsUnended octets n) → drop (7 * n) octets ≡ h.1
+unended_rest octets n h =
     let len = length_unended h.0 h.2 in
     let size = h.3 in
-    let left : drop (7 * n) octets ≡ h.1 = ap (λ (o : List ℕ). drop (7 * n) o) h.4 ∙ drop_past (unended h.0) h.1 (7 * n) (omega arith) in
-    let begun : characters_begun (drop (7 * n) octets) ≡ characters_begun h.1 = ap characters_begun left in
-    let long : length (drop (7 * n) octets) ≡ length h.1 = ap length left in
+    ap (λ (o : List ℕ). drop (7 * n) o) h.4 ∙ drop_past (unended h.0) h.1 (7 * n) (omega arith)
+
+-- the entry that begins with these octets fails by the octet after so many
+pub bad_entry : (octets x : List ℕ) (n begun : ℕ) → x ≡ drop (7 * n) octets → begun ≡ characters_begun x → BeginsUnended octets n → n < 10
+    → begun < min 6 (length x) → FaultAt (BadAddress (7 * n + begun)) octets
+bad_entry octets x n begun is b h few l =
+    let size = h.3 in
+    let left : x ≡ h.1 = is ∙ unended_rest octets n h in
+    let same : characters_begun x ≡ characters_begun h.1 = ap characters_begun left in
+    let long : length x ≡ length h.1 = ap length left in
     let fails = bad_character h.0 h.1 h.2 (omega arith) (omega arith) (omega arith) in
-    let place : 7 * length h.0 + characters_begun h.1 ≡ 7 * n + characters_begun (drop (7 * n) octets) = omega arith in (
-      subst (λ (o : List ℕ). FailsAt o (7 * n + characters_begun (drop (7 * n) octets))) (sym h.4) (subst (FailsAt (unended h.0 ++ h.1)) place fails),
+    let place : 7 * length h.0 + characters_begun h.1 ≡ 7 * n + begun = omega arith in (
+      subst (λ (o : List ℕ). FailsAt o (7 * n + begun)) (sym h.4) (subst (FailsAt (unended h.0 ++ h.1)) place fails),
       (n, h, few, omega arith, omega arith),
       omega arith,
     )
 
 -- an entry that ends too early
-pub short_entry : (octets : List ℕ) (n : ℕ) → BeginsUnended octets n → n < 10 → length (drop (7 * n) octets) ≤ 6
-    → characters_begun (drop (7 * n) octets) ≡ length (drop (7 * n) octets) → FaultAt (Short (length octets)) octets
-short_entry octets n h few short all =
+pub short_entry : (octets x : List ℕ) (n begun : ℕ) → x ≡ drop (7 * n) octets → begun ≡ characters_begun x → BeginsUnended octets n → n < 10
+    → min 6 (length x) ≤ begun → length x < 7 → FaultAt (Short (length octets)) octets
+short_entry octets x n begun is b h few l short =
     let len = length_unended h.0 h.2 in
     let size = h.3 in
-    let left : drop (7 * n) octets ≡ h.1 = ap (λ (o : List ℕ). drop (7 * n) o) h.4 ∙ drop_past (unended h.0) h.1 (7 * n) (omega arith) in
-    let b = begun_is (drop (7 * n) octets) in
-    let front : take (characters_begun (drop (7 * n) octets)) (drop (7 * n) octets) ≡ h.1 = take_all _ (drop (7 * n) octets) (omega arith) ∙ left in
-    let long : length (drop (7 * n) octets) ≡ length h.1 = ap length left in (
+    let left : x ≡ h.1 = is ∙ unended_rest octets n h in
+    let there = begun_is x in
+    let within = there.within in
+    let inside = there.inside in
+    let front : take (characters_begun x) x ≡ h.1 = take_all _ x (omega arith) ∙ left in
+    let long : length x ≡ length h.1 = ap length left in (
       refl,
       subst BeginsFrame (sym h.4)
-          (begun_entries h.0 (record { call = b.call; reserved = 0; c_or_h_bit = false }) h.1 b.rest h.2 (record { call = b.is_call; reserved = omega arith }) (omega arith)
-          (b.text ∙ ap (λ (x : List ℕ). x ++ b.rest) front)),
+          (begun_entries h.0 (record { call = there.call; reserved = 0; c_or_h_bit = false }) h.1 there.rest h.2 (record { call = there.is_call; reserved = omega arith }) (omega arith)
+          (there.text ∙ ap (λ (front : List ℕ). front ++ there.rest) front)),
       λ frame t.
           let whole : FrameText frame ((unended h.0 ++ h.1) ++ []) = subst (FrameText frame) (h.4 ∙ sym (append-nil (unended h.0 ++ h.1))) t in
           let p = unended_left h.0 h.1 frame [] h.2 whole in
@@ -175,10 +184,8 @@ too_many octets h = (
 -- one more entry without the end bit
 pub more_unended : (octets : List ℕ) (n : ℕ) (call : CallSign) (c_or_h_bit : Bool) → BeginsUnended octets n → EntryAt octets n call c_or_h_bit false → BeginsUnended octets (n + 1)
 more_unended octets n call c_or_h_bit h e =
-    let len = length_unended h.0 h.2 in
     let size = h.3 in
-    let left : drop (7 * n) octets ≡ h.1 = ap (λ (o : List ℕ). drop (7 * n) o) h.4 ∙ drop_past (unended h.0) h.1 (7 * n) (omega arith) in
-    let rest : h.1 ≡ entry_octets false e.0 ++ e.1 = sym left ∙ e.5 in
+    let rest : h.1 ≡ entry_octets false e.0 ++ e.1 = sym (unended_rest octets n h) ∙ e.5 in
     let count = length-append h.0 (e.0 ∷ []) in (
       h.0 ++ e.0 ∷ [],
       e.1,
@@ -192,12 +199,11 @@ more_unended octets n call c_or_h_bit h e =
 
 -- octets that are a whole address field can be completed
 whole_begins : (dest src : Entry) (repeaters : List Entry) → AreEntries (dest ∷ src ∷ repeaters) → length repeaters ≤ 8 → BeginsFrame (address_field (dest ∷ src ∷ repeaters))
-whole_begins dest src repeaters h most =
-    (
-      frame_of dest src repeaters (bare_value control.Sabm) false,
-      kind_octets (bare_value control.Sabm) false,
-      text_of dest src repeaters (bare_value control.Sabm) false h most sabm_fits,
-    )
+whole_begins dest src repeaters h most = (
+  frame_of dest src repeaters (bare_value control.Sabm) false,
+  kind_octets (bare_value control.Sabm) false,
+  text_of dest src repeaters (bare_value control.Sabm) false h most sabm_fits,
+)
 
 -- what follows the address field of a frame
 after_addresses : (dest src : Entry) (repeaters : List Entry) (x : List ℕ) (frame : FrameValue) (rest : List ℕ) → AreEntries (dest ∷ src ∷ repeaters)

@@ -9,14 +9,15 @@ use Rattle.ax25_frames.specs.Kinds.{fields_of, poll_bit}
 use Rattle.ax25_frames.specs.Addresses.{BeginsUnended}
 use Rattle.ax25_frames.specs.FrameText.{FrameText, FrameValue}
 use Rattle.ax25_frames.specs.Faults.{FaultAt}
+use Rattle.ax25_frames.specs.Laws.{IsFrameOrFault}
 use Rattle.ax25_frames.specs.Reading.{AddressesAt, EntryAt, RepeatersAt, characters_begun}
-use Rattle.ax25_frames.proofs.FaultLemmas.{ended_destination, more_unended, too_many}
-use Rattle.ax25_frames.proofs.ReadLemmas.{AreRepeaters, addresses_more, addresses_two, bad_entry, control_fault, entry_read, frame_at, octets_after, repeaters_begin, repeaters_end, repeaters_more, rest_fault_at, short_at, short_of_entry, six_begun}
+use Rattle.ax25_frames.proofs.FaultLemmas.{bad_entry, ended_destination, more_unended, short_entry, too_many}
+use Rattle.ax25_frames.proofs.ReadLemmas.{AreRepeaters, addresses_more, addresses_two, control_fault, entry_read, frame_at, octets_after, repeaters_begin, repeaters_end, repeaters_more, rest_fault_at, short_at}
 use Rattle.ax25_frames.proofs.ControlCases.{control_or_none, rest_or_fault}
 use Rattle.ax25_frames.proofs.KindLemmas.{kind_of}
 
 -- the octets have a fault
-abbrev pub HasFault : List ℕ → Type 0
+abbrev HasFault : List ℕ → Type 0
 HasFault octets = (fault : FrameFault) × FaultAt fault octets
 
 module _ (octets : List ℕ) (o : IsOctets octets) where
@@ -30,8 +31,8 @@ module _ (octets : List ℕ) (o : IsOctets octets) where
       elim (cases_lt (characters_begun x) (min 6 (length x))) [
         | inl ill ↦ inr (BadAddress (7 * n + characters_begun x), bad_entry octets x n (characters_begun x) refl refl h few ill)
         | inr begun ↦ elim (cases_lt (length x) 7) [
-          | inl short ↦ inr (Short (length octets), short_of_entry octets x n (characters_begun x) refl refl h few begun short)
-          | inr long ↦ inl (_, _, _, entry_read octets n x refl long (six_begun x (characters_begun x) refl begun long) (octets_after (7 * n) octets x refl o 6 0 (omega arith)))
+          | inl short ↦ inr (Short (length octets), short_entry octets x n (characters_begun x) refl refl h few begun short)
+          | inr long ↦ inl (_, _, _, entry_read octets x _ n (characters_begun x) refl refl refl begun long (octets_after (7 * n) octets x refl o 6 0 (omega arith)))
         ]
       ]
 
@@ -87,7 +88,7 @@ module _ (octets : List ℕ) (o : IsOctets octets) where
       next dest command false d = source_or_fault dest command d (more_unended octets 0 dest command none d)
 
   -- some frame has the octets
-  abbrev pub HasFrame : Type 0
+  abbrev HasFrame : Type 0
   HasFrame = (frame : FrameValue) × FrameText frame octets
 
   after_addresses : (dest src : CallSign) (via : ℕ) (command : Bool) (len : ℕ) → AddressesAt octets dest src via command len → HasFrame ⊎ HasFault octets
@@ -103,16 +104,19 @@ module _ (octets : List ℕ) (o : IsOctets octets) where
               elim (rest_or_fault says.0 rest (length octets) says.1.0 are) [
                 | inr f ↦ inr (f.0, rest_fault_at octets dest src via command len a octet says.0 (poll_bit octet) rest f.0 refl there says.1.1 refl says.1.0 are f.1)
                 | inl fits ↦
-                    inl (_, frame_at octets dest src via command len a octet says.0 (poll_bit octet) rest (kind_of says.0 rest) refl there says.1.1 refl refl
-                    (take-append-drop (fields_of says.0).pids rest) fits)
+                    inl (
+                      _,
+                      frame_at octets dest src via command len a octet says.0 (poll_bit octet) rest (kind_of says.0 rest) refl there says.1.1 refl refl
+                          (take-append-drop (fields_of says.0).pids rest) fits,
+                    )
               ]
         ]
       ]
 
-  -- some frame has the octets, or they have a fault
-  pub frame_or_fault : HasFrame ⊎ HasFault octets
-  frame_or_fault =
-      elim addresses_or_fault [
-        | inr fault ↦ inr fault
-        | inl a ↦ after_addresses a.0 a.1 a.2 a.3 (14 + 7 * a.2) a.4
-      ]
+-- some frame has the octets, or they have a fault
+pub frame_or_fault : IsFrameOrFault
+frame_or_fault octets o =
+    elim (addresses_or_fault octets o) [
+      | inr fault ↦ inr fault
+      | inl a ↦ after_addresses octets o a.0 a.1 a.2 a.3 (14 + 7 * a.2) a.4
+    ]

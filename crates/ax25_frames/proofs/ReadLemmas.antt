@@ -1,5 +1,5 @@
 -- What was read of the address field, entry by entry.
-use Rattle.std.proofs.Common.{◌≡◌, ℕ, zero, suc, ◌+◌, ◌*◌, ◌/◌, ◌%◌, ◌≤◌, ◌<◌, ◌==◌, Bool, true, false, List, [], ◌∷◌, ◌++◌, length, map, take, drop, slice_index, leb, refl, sym, ap, ◌∙◌, subst, arith, append_assoc, length-append, length-take-le, take-append-drop, drop-cons, min, inl, inr}
+use Rattle.std.proofs.Common.{◌≡◌, ℕ, suc, ◌+◌, ◌*◌, ◌/◌, ◌%◌, ◌≤◌, ◌<◌, ◌==◌, Bool, true, false, List, [], ◌∷◌, ◌++◌, length, map, take, drop, slice_index, leb, refl, sym, ap, ◌∙◌, subst, arith, append_assoc, length-append, length-take-le, take-append-drop, drop-cons, min, inl, inr}
 use Rattle.std.proofs.lemmas.Bool.{ne_eqb, eq-eqb, le-leb, lt-leb, cases_lt}
 use Rattle.std.proofs.lemmas.Grind.{common_steps}
 use Rattle.std.proofs.lemmas.List.{take_at, take_all, drop-drop}
@@ -7,7 +7,7 @@ use Rattle.std.proofs.lemmas.List.Elements.{All-drop}
 use Rattle.px_base.specs.CallSign.{CallSign, IsCall}
 use Rattle.ax25_frames.specs.declared.control.Control.{Control}
 use Rattle.ax25_frames.specs.declared.frame.FrameFault.{FrameFault}
-use Rattle.ax25_frames.specs.declared.frame.FrameFault.TheVariants.{Short, BadAddress, BadControl}
+use Rattle.ax25_frames.specs.declared.frame.FrameFault.TheVariants.{Short, BadControl}
 use Rattle.px_base.specs.Octets.{IsOctets}
 use Rattle.ax25_frames.specs.Kinds.{KindValue, bit, control_octet, fields_of, FitsControl, IsNoControl, FitsKind, kind_octets}
 use Rattle.ax25_frames.specs.FrameText.{FrameValue, FrameText}
@@ -16,7 +16,7 @@ use Rattle.ax25_frames.specs.Addresses.{Entry, AreEntries, character_octets, ssi
 use Rattle.ax25_frames.specs.Reading.{characters_begun, EntryAt, RepeatersAt, AddressesAt}
 use Rattle.ax25_frames.proofs.CharacterLemmas.{begun_is, begun_whole}
 use Rattle.ax25_frames.proofs.EntryLemmas.{length_entry, length_unended, length_field, unended_more, AreEntries_more, field_last}
-use Rattle.ax25_frames.proofs.FaultLemmas.{drop_past, bad_address, short_entry, short_control, bad_control, rest_fault}
+use Rattle.ax25_frames.proofs.FaultLemmas.{drop_past, short_control, bad_control, rest_fault}
 use Rattle.ax25_frames.proofs.FrameLemmas.{frame_of, text_of, same_frame}
 
 pub unended_within : (octets : List ℕ) (n : ℕ) → BeginsUnended octets n → 7 * n ≤ length octets
@@ -26,10 +26,6 @@ unended_within octets n h =
     let all = length-append (unended h.0) h.1 in
     let long : length octets ≡ length (unended h.0 ++ h.1) = ap length h.4 in
     omega arith
-
--- the call that six characters and the SSID octet say
-pub call_is : (x : List ℕ) → characters_begun x ≡ 6 → 6 ≤ length x → IsCall (record { chars = map (λ o. o / 2) (take 6 x); ssid = slice_index x 6 / 2 % 16 })
-call_is x six l = (begun_whole x (slice_index x 6 / 2 % 16) (omega arith) six l).is_call
 
 -- bit 0 of a number
 pub bit_mod : (o : ℕ) → bit (o % 2 == 1) ≡ o % 2
@@ -57,11 +53,26 @@ seven (a ∷ b ∷ c ∷ d ∷ e ∷ []) h = absurd (omega arith)
 seven (a ∷ b ∷ c ∷ d ∷ e ∷ f ∷ []) h = absurd (omega arith)
 seven (a ∷ b ∷ c ∷ d ∷ e ∷ f ∷ g ∷ x) h = refl
 
+-- all six characters were begun
+six_begun : (x : List ℕ) (begun : ℕ) → begun ≡ characters_begun x → min 6 (length x) ≤ begun → 7 ≤ length x → characters_begun x ≡ 6
+six_begun x begun b l long =
+    let there = begun_is x in
+    let within = there.within in
+    omega arith
+
+-- the call that was read
+pub call_read : (x chars : List ℕ) (begun : ℕ) → chars ≡ map (λ o. o / 2) (take 6 x) → begun ≡ characters_begun x → min 6 (length x) ≤ begun → 7 ≤ length x
+    → IsCall (record { chars = chars; ssid = slice_index x 6 / 2 % 16 })
+call_read x chars begun e b l long =
+    subst (λ (cs : List ℕ). IsCall (record { chars = cs; ssid = slice_index x 6 / 2 % 16 })) (sym e)
+    (begun_whole x (slice_index x 6 / 2 % 16) (omega arith) (six_begun x begun b l long) (omega arith)).is_call
+
 -- the entry that was read
-pub entry_read : (octets : List ℕ) (n : ℕ) (x : List ℕ) → x ≡ drop (7 * n) octets → 7 ≤ length x → characters_begun x ≡ 6 → slice_index x 6 < 256
-    → EntryAt octets n (record { chars = map (λ o. o / 2) (take 6 x); ssid = slice_index x 6 / 2 % 16 }) (leb 128 (slice_index x 6)) (slice_index x 6 % 2 == 1)
-entry_read octets n x is l six o =
-    let whole = begun_whole x (slice_index x 6 / 2 % 16) (omega arith) six (omega arith) in
+pub entry_read : (octets x chars : List ℕ) (n begun : ℕ) → x ≡ drop (7 * n) octets → chars ≡ map (λ o. o / 2) (take 6 x) → begun ≡ characters_begun x
+    → min 6 (length x) ≤ begun → 7 ≤ length x → slice_index x 6 < 256
+    → EntryAt octets n (record { chars = chars; ssid = slice_index x 6 / 2 % 16 }) (leb 128 (slice_index x 6)) (slice_index x 6 % 2 == 1)
+entry_read octets x chars n begun is e b most l o =
+    let whole = begun_whole x (slice_index x 6 / 2 % 16) (omega arith) (six_begun x begun b most l) (omega arith) in
     let entry : Entry = record { call = record { chars = map (λ o. o / 2) (take 6 x); ssid = slice_index x 6 / 2 % 16 }; reserved = slice_index x 6 / 32 % 4; c_or_h_bit = leb 128 (slice_index x 6) } in
     let low = bit_mod (slice_index x 6) in
     let high = bit_seven (slice_index x 6) o in
@@ -69,7 +80,7 @@ entry_read octets n x is l six o =
       entry,
       drop 7 x,
       record { call = whole.is_call; reserved = omega arith },
-      refl,
+      ap (λ (cs : List ℕ). let call : CallSign = record { chars = cs; ssid = slice_index x 6 / 2 % 16 } in call) (sym e),
       refl,
       sym is
           ∙ seven x l
@@ -203,43 +214,6 @@ addresses_more octets dest src command c_or_h_bit via d s (r ∷ rs, rest, h, co
   where
     grouped : (x y f z : List ℕ) → x ++ (y ++ (f ++ z)) ≡ (x ++ (y ++ f)) ++ z
     grouped x y f z = grind (arith, common_steps)
-
--- the faults of an entry that was read from these octets
-pub bad_entry : (octets x : List ℕ) (n begun : ℕ) → x ≡ drop (7 * n) octets → begun ≡ characters_begun x → BeginsUnended octets n → n < 10
-    → begun < min 6 (length x) → FaultAt (BadAddress (7 * n + begun)) octets
-bad_entry octets x n begun is b h few l =
-    let same : begun ≡ characters_begun (drop (7 * n) octets) = b ∙ ap characters_begun is in
-    let long : length x ≡ length (drop (7 * n) octets) = ap length is in
-    subst (λ (k : ℕ). FaultAt (BadAddress (7 * n + k)) octets) (sym same) (bad_address octets n h few (omega arith) (omega arith))
-
-pub short_of_entry : (octets x : List ℕ) (n begun : ℕ) → x ≡ drop (7 * n) octets → begun ≡ characters_begun x → BeginsUnended octets n → n < 10
-    → min 6 (length x) ≤ begun → length x < 7 → FaultAt (Short (length octets)) octets
-short_of_entry octets x n begun is b h few l short =
-    let same : begun ≡ characters_begun (drop (7 * n) octets) = b ∙ ap characters_begun is in
-    let long : length x ≡ length (drop (7 * n) octets) = ap length is in
-    let begun_there = begun_is (drop (7 * n) octets) in
-    let within = begun_there.within in
-    let inside = begun_there.inside in
-    short_entry octets n h few (omega arith) (omega arith)
-
--- all six characters were begun
-pub six_begun : (x : List ℕ) (begun : ℕ) → begun ≡ characters_begun x → min 6 (length x) ≤ begun → 7 ≤ length x → characters_begun x ≡ 6
-six_begun x begun b l long =
-    let there = begun_is x in
-    let within = there.within in
-    omega arith
-
-pub call_was_read : (x chars : List ℕ) (begun : ℕ) → chars ≡ map (λ o. o / 2) (take 6 x) → begun ≡ characters_begun x → min 6 (length x) ≤ begun → 7 ≤ length x
-    → IsCall (record { chars = chars; ssid = slice_index x 6 / 2 % 16 })
-call_was_read x chars begun e b l long =
-    subst (λ (cs : List ℕ). IsCall (record { chars = cs; ssid = slice_index x 6 / 2 % 16 })) (sym e) (call_is x (six_begun x begun b l long) (omega arith))
-
-pub entry_was_read : (octets x chars : List ℕ) (n begun : ℕ) → x ≡ drop (7 * n) octets → chars ≡ map (λ o. o / 2) (take 6 x) → begun ≡ characters_begun x
-    → min 6 (length x) ≤ begun → 7 ≤ length x → slice_index x 6 < 256
-    → EntryAt octets n (record { chars = chars; ssid = slice_index x 6 / 2 % 16 }) (leb 128 (slice_index x 6)) (slice_index x 6 % 2 == 1)
-entry_was_read octets x chars n begun is e b l long o =
-    subst (λ (cs : List ℕ). EntryAt octets n (record { chars = cs; ssid = slice_index x 6 / 2 % 16 }) (leb 128 (slice_index x 6)) (slice_index x 6 % 2 == 1)) (sym e)
-    (entry_read octets n x is long (six_begun x begun b l long) o)
 
 -- octets that begin with an address field of so many octets
 module _ (octets : List ℕ) (dest src : CallSign) (via : ℕ) (command : Bool) (len : ℕ) (a : AddressesAt octets dest src via command len) where

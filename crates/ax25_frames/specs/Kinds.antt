@@ -94,10 +94,11 @@ pub record FitsKind (kind : KindValue) : Type 0 where
   pub least : (fields_of kind.control).least ≤ length kind.information
   pub most : length kind.information ≤ (fields_of kind.control).most
 
--- what can be written: sequence numbers below 8, and no more information than the kind has
+-- What can be written: sequence numbers below 8, and no more information after a PID octet than the kind has. The other
+-- kinds have none, or three octets by their type.
 pub record CanWrite (kind : KindValue) : Type 0 where
   pub control : FitsControl kind.control
-  pub most : length kind.information ≤ (fields_of kind.control).most
+  pub most : (fields_of kind.control).pids ≡ 1 → length kind.information ≤ (fields_of kind.control).most
 
 -- what follows the address field: the control octet, the PID where the kind has one, and the information (2.2)
 abbrev pub kind_octets : KindValue → Bool → List ℕ

@@ -1,5 +1,5 @@
 -- What contracts see of a frame: its value, without where its octets lie.
-use Rattle.std.specs.Prelude.{List, ℕ, [], ◌∷◌}
+use Rattle.std.specs.Prelude.{[], ◌∷◌}
 use Rattle.ax25_frames.specs.declared.control.Control.{Control}
 use Rattle.ax25_frames.specs.declared.control.Control.TheVariants as control
 use Rattle.ax25_frames.specs.declared.frame.Frame.{Frame}

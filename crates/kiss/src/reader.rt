@@ -94,11 +94,7 @@ impl KissReader {
         ensures no_part { kiss_parts self.new.heard ≡ [] }
         ensures no_frame { kiss_frames self.new.heard ≡ [] }
     {
-        if self.state == State::Within
-            && byte != FEND
-            && byte != FESC
-            && !self.text.is_full()
-        {
+        if self.state == State::Within && byte != FEND && byte != FESC && !self.text.is_full() {
             push_itself(&mut self.text, byte);
             return KissFed::More;
         }

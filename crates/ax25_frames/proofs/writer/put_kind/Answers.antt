@@ -12,9 +12,9 @@ returns-in-I-clause-fits c =
       | inl w ↦
           let can = subst CanWrite (ap kind_value w.2) c.requires.kind in
           subst FitsKind (sym (ap kind_value w.2))
-          (fits_information (control.I w.0 w.1) c.in-I.pid c.in-I.info.now can.control refl c.put_information.ensures.range can.most)
+          (fits_information (control.I w.0 w.1) c.in-I.pid c.in-I.info.now can.control refl c.put_information.ensures.range (can.most refl))
       | inr e ↦
           let can = subst CanWrite (ap kind_value e) c.requires.kind in
           subst FitsKind (sym (ap kind_value e))
-          (fits_information control.Ui c.in-I.pid c.in-I.info.now can.control refl c.put_information.ensures.range can.most)
+          (fits_information control.Ui c.in-I.pid c.in-I.info.now can.control refl c.put_information.ensures.range (can.most refl))
     ]

@@ -1,8 +1,5 @@
-use Rattle.std.proofs.Common.{◌≡◌, ◌∷◌, ◌++◌, ℕ, List, [], refl, sym, ap, ◌∙◌, rules}
-use Rattle.kiss.specs.declared.reader.State.{State}
+use Rattle.std.proofs.Common.{◌≡◌, rules}
 use Rattle.kiss.specs.declared.reader.State.TheVariants as state
-use Rattle.kiss.specs.KissText.{kiss_frames}
-use Rattle.kiss.specs.ReaderMemory.{heard_in}
 use Rattle.kiss.proofs.Steps.{step_verdict, step_frames, heard_in-no_part, no_frame}
 use Rattle.kiss.proofs.reader.KissReader.feed.Goals as goal
 
