@@ -196,10 +196,12 @@ module _ (magic : List ℕ) (blocks : ℕ) (before : List ℕ) where
       where
         size : length (header_text magic blocks) ≡ 16
         size = header_length magic blocks eight
+
         get_or_at_end : get_or (header_text magic blocks) 15 0 ≡ 0
         get_or_at_end =
             ap (λ (n : ℕ). get_or (header_text magic blocks) n 0) (let at : 15 ≡ length (magic ++ le32_octets blocks) + 3 = omega (arith, eight, length-append magic (le32_octets blocks)) in at)
             ∙ get_or-append-add (magic ++ le32_octets blocks) (0 ∷ 0 ∷ 0 ∷ 0 ∷ []) 3 0
+
         selector : get_or image 15 0 ≡ 0
         selector =
             sym (get_or-take 16 image 15 0 (omega arith)) ∙ ap (λ (l : List ℕ). get_or l 15 0) making.header ∙ get_or-take 16 (header_text magic blocks) 15 0 (omega arith)
@@ -222,15 +224,15 @@ module _ {D : Type 0} (g : Ghosts D) (magic : List ℕ) (blocks : ℕ) where
     unread = ap (λ (journal : Position). journal.ended) is;
     healthy = ap (λ (journal : Position). journal.failed) is;
     content = told_weaker (g.content old) _ _ (λ before told now. (
-        now.0,
-        now.1,
-        record {
-          octets = now.2.octets;
-          number = ap (λ (journal : Position). journal.blocks) is ∙ sym now.2.head.blocks_are;
-          same = now.2.same;
-          whole = subst (λ (journal : Position). journal_of magic now.0 ≡ store_of journal.blocks (left_to_read journal now.0)) (sym is) (of_full magic now.0 number now.2.head now.2.long);
-        },
-      )) has;
+      now.0,
+      now.1,
+      record {
+        octets = now.2.octets;
+        number = ap (λ (journal : Position). journal.blocks) is ∙ sym now.2.head.blocks_are;
+        same = now.2.same;
+        whole = subst (λ (journal : Position). journal_of magic now.0 ≡ store_of journal.blocks (left_to_read journal now.0)) (sym is) (of_full magic now.0 number now.2.head now.2.long);
+      },
+    )) has;
     quiet = rest;
     stands_on = subst (λ (journal : Position). StandsOn g journal new) (sym is) (first_stands magic number (g.content new) (images_now g new) (λ now told.
         let was = content_now _ _ (IsFormatted number) now alike has told in

@@ -17,6 +17,14 @@ IsQuietNow g disk = IsQuiet (g.content disk) (images_now g disk)
 abbrev pub TellsAlike : Option (List ℕ) → Option (List ℕ) → Type 0
 TellsAlike before now = IsTold now ↔ IsTold before
 
+-- the content, where it is told, takes this step
+abbrev pub TakesStep : {D : Type 0} → Ghosts D → D → D → (List ℕ → List ℕ → Type 0) → Type 0
+TakesStep g old new step = HasContent (g.content old) (g.content new) step
+
+-- it becomes what this makes of it
+abbrev pub Becomes : (List ℕ → List ℕ) → List ℕ → List ℕ → Type 0
+Becomes after before now = now ≡ after before
+
 -- since the call began, a crash leaves what stands so to the content before it
 abbrev pub Leaves : {D : Type 0} → Ghosts D → D → D → (List ℕ → List ℕ → Type 0) → Type 0
 Leaves g old new stands = IfSome (g.content old) (λ before. LeavesOnly g.moment g.images_since old new (stands before))
@@ -45,8 +53,8 @@ IsLastCall g old new =
     × TimePasses g.moment g.images g.images_since old new)
     ⊎ ChangesReads g old new
 
--- Nothing is called after a call that failed: up to some disk between the two none failed, and only one call came since,
--- or reads alone.
+-- No write and no sync comes after a call that failed: up to some disk between the two none failed, and since that came
+-- one call, or reads alone.
 pub record StopsAtFault {D : Type 0} (g : Ghosts D) (old new : D) : Type 0 where
   pub last : D
   pub lasts : g.lasts old last
@@ -68,10 +76,11 @@ pub record Puts {D : Type 0} (g : Ghosts D) (failed : Type 0) (old new : D) : Ty
   pub stops : StopsAtFault g old new
   pub lasts : g.lasts old new
 
--- A run of writes and syncs that takes a step: where none failed, the content is what the step makes of that before, and
--- the disk is quiet; a crash since the start leaves what stands so to the content before.
-pub record Makes {D T E : Type 0} (g : Ghosts D) (result : Result T E) (old new : D) (step stands : List ℕ → List ℕ → Type 0) : Type 0 where
-  pub ok : OnOk result (HasContent (g.content old) (g.content new) step)
+-- A run of writes and syncs: where none failed, the content took this step, and the disk is quiet; a crash since the
+-- start leaves what stands so to the content before.
+pub record Makes {D T E : Type 0} (g : Ghosts D) (result : Result T E) (old new : D)
+    (step stands : List ℕ → List ℕ → Type 0) : Type 0 where
+  pub ok : OnOk result (TakesStep g old new step)
   pub quiet : OnOk result (IsQuietNow g new)
   pub since : Leaves g old new stands
   pub puts : Puts g (IsErr result) old new

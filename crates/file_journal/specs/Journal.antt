@@ -4,8 +4,8 @@ use Rattle.std.specs.Str.{bytes_eq}
 use Rattle.px_base.specs.Numbers.{le32, le32_octets}
 use Rattle.file_journal.specs.Records.{Record, Reading, whole, broken, reading_from}
 
--- What octets stand for: for no store, since they begin with these eight octets; for none, by what stands at this place;
--- or for a store with a block number, where it has one yet, and these records.
+-- What octets stand for: for no store, since they begin with these eight octets; for none, by what stands at this
+-- place; or for a store with a block number, where it has one yet, and these records.
 pub data Standing : Type 0 where
   no_store : List ℕ → Standing
   damaged_at : ℕ → Standing
@@ -57,8 +57,8 @@ header_text magic blocks = magic ++ le32_octets blocks ++ 0 ∷ 0 ∷ 0 ∷ 0 �
 abbrev pub even_selector : List ℕ → ℕ
 even_selector octets = if slice_index octets 15 % 2 == 1 then 0 else slice_index octets 15
 
--- More than 16 octets after a recovery: behind 16 octets and no second gate come two closed gates, and the selector is even
--- then; all else stays.
+-- More than 16 octets after a recovery: behind 16 octets and no second gate come two closed gates, and the selector is
+-- even then; all else stays.
 abbrev pub after_finishing : List ℕ → List ℕ
 after_finishing octets =
     if nat_lt (length octets) 18 then take 15 octets ++ even_selector octets ∷ 0 ∷ 0 ∷ [] else octets

@@ -25,16 +25,18 @@ pub record IsAt (journal : Position) (passed : List Record) (octets : List ℕ) 
   pub are_octets : IsOctets octets
   pub formatted : 18 ≤ length octets
   pub place : journal.place ≡ 16 + length (records_text passed)
-  pub records : journal_of journal.magic octets ≡ store_of journal.blocks (with_records passed (left_to_read journal octets))
+  pub records :
+      journal_of journal.magic octets ≡ store_of journal.blocks (with_records passed (left_to_read journal octets))
   pub ended : journal.ended ≡ true → left_to_read journal octets ≡ whole []
 
--- The journal has failed; or the content, where it is told, and each image stand for the same records, and the journal's
--- magic, block number, place and end are theirs.
+-- The journal has failed; or the content, where it is told, and each image stand for the same records, and the
+-- journal's magic, block number, place and end are theirs.
 abbrev pub StandsAmong : Position → Option (List ℕ) → (List ℕ → Type 0) → Type 0
 StandsAmong journal content images =
     (journal.failed ≡ true)
     ⊎ IfSome content (λ octets. (passed : List Record) × IsAt journal passed octets
-    × ((image : List ℕ) → images image → IsAt journal passed image × (left_to_read journal image ≡ left_to_read journal octets)))
+    × ((image : List ℕ) → images image
+    → IsAt journal passed image × (left_to_read journal image ≡ left_to_read journal octets)))
 
 -- the same of a disk, with what a crash since this moment might have left
 abbrev pub StandsOn : {D : Type 0} → Ghosts D → Position → D → Type 0

@@ -35,7 +35,8 @@ StartsClosed (gate ∷ octets) = gate ≢ 1
 
 -- no record with a gate behind it stands at the front
 abbrev pub StartsCut : List ℕ → Type 0
-StartsCut octets = (entry : Record) (gate : ℕ) (later : List ℕ) → IsRecord entry → octets ≡ record_text entry ++ gate ∷ later → ⊥
+StartsCut octets =
+    (entry : Record) (gate : ℕ) (later : List ℕ) → IsRecord entry → octets ≡ record_text entry ++ gate ∷ later → ⊥
 
 -- What stands from a gate on: these records before the first gate that isn't open; or these records and then, at this
 -- place, an open gate that no whole record with a gate behind it follows.
@@ -82,7 +83,8 @@ reading_within (suc most) place [] = broken [] place
 reading_within (suc most) place (gate ∷ octets) =
     if gate == 1 then
     (if starts_whole octets
-    then with_record (record_in octets) (reading_within most (place + 1 + record_len octets) (drop (record_len octets) octets))
+    then with_record (record_in octets)
+    (reading_within most (place + 1 + record_len octets) (drop (record_len octets) octets))
     else broken [] place)
     else whole []
 
@@ -102,4 +104,5 @@ pub record HasRecord (place : ℕ) (entry : Record) (octets : List ℕ) : Type 0
 -- a record of this kind and length stands behind the gate at this place, and then what is read from behind it
 abbrev pub StartsRecord : ℕ → ℕ → ℕ → List ℕ → Type 0
 StartsRecord place kind len octets =
-    reading_at place octets ≡ with_record (record_of kind (take len (drop (place + 4) octets))) (reading_at (place + 4 + len) octets)
+    reading_at place octets
+    ≡ with_record (record_of kind (take len (drop (place + 4) octets))) (reading_at (place + 4 + len) octets)

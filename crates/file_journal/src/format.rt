@@ -1,8 +1,9 @@
 //! Formatting: the header, and the first two gates.
 
-ghost use Rattle.std.specs.Prelude.{◌≡◌, ◌<◌, ◌≤◌, length, slice_index, IfSome};
-ghost use Rattle.file_journal.specs.Calls.{IsQuietNow, Makes};
+ghost use Rattle.std.specs.Prelude.{◌≡◌, ◌<◌, ◌≤◌, length, IfSome};
+ghost use Rattle.file_journal.specs.Calls.{Becomes, IsQuietNow, Makes};
 ghost use Rattle.file_journal.specs.Formatting.{IsFinishing, IsMakingEven, IsMakingGates, MakesEven, MakesGates};
+ghost use Rattle.file_journal.specs.Header.{HasSelector};
 ghost use Rattle.file_journal.specs.Journal.{after_finishing, after_recovery, header_text};
 ghost use Rattle.file_journal.specs.Recovery.{IsRecovering};
 
@@ -30,7 +31,7 @@ pub(crate) fn format_new<D: Disk>(
     requires short { IfSome (D.content disk.old) (λ octets. length octets ≤ 16) }
     requires some { 1 ≤ blocks }
     requires most { blocks ≤ 65536 }
-    ensures { Makes D.Disk result disk.old disk.new (λ before now. now ≡ after_recovery magic blocks before) (IsRecovering magic blocks) }
+    ensures { Makes D.Disk result disk.old disk.new (Becomes (after_recovery magic blocks)) (IsRecovering magic blocks) }
 {
     // A crash before this is synced leaves at most 16 octets, whatever they are: the formatting begins anew.
     write_synced(disk, 0, encode_header(magic, blocks).as_slice())?;
@@ -40,8 +41,10 @@ pub(crate) fn format_new<D: Disk>(
 /// Formats a disk of more than 16 octets to its end, if its formatting was interrupted: it has 17 octets then.
 pub(crate) fn finish_format<D: Disk>(disk: &mut D, len: u64, selector: u8) -> Result<(), DiskFault>
     requires quiet { IsQuietNow D.Disk disk.old }
-    requires there { IfSome (D.content disk.old) (λ octets. (16 < length octets) × (len ≡ length octets) × (selector ≡ slice_index octets 15)) }
-    ensures { Makes D.Disk result disk.old disk.new (λ before now. now ≡ after_finishing before) IsFinishing }
+    requires long { IfSome (D.content disk.old) (λ octets. 16 < length octets) }
+    requires len { IfSome (D.content disk.old) (λ octets. len ≡ length octets) }
+    requires selector { HasSelector (D.content disk.old) selector }
+    ensures { Makes D.Disk result disk.old disk.new (Becomes after_finishing) IsFinishing }
 {
     if len >= FORMATTED {
         return Ok(());
@@ -66,7 +69,8 @@ fn encode_header(magic: [u8; 8], blocks: u32) -> ArrayVec<u8, 16>
 /// Makes the selector even, where it is odd, and syncs it.
 fn make_selector_even<D: Disk>(disk: &mut D, selector: u8) -> Result<(), DiskFault>
     requires quiet { IsQuietNow D.Disk disk.old }
-    requires there { IfSome (D.content disk.old) (λ octets. (16 ≤ length octets) × (selector ≡ slice_index octets 15)) }
+    requires long { IfSome (D.content disk.old) (λ octets. 16 ≤ length octets) }
+    requires selector { HasSelector (D.content disk.old) selector }
     ensures { Makes D.Disk result disk.old disk.new MakesEven IsMakingEven }
 {
     if selector % 2 == 0 {
@@ -80,12 +84,13 @@ fn make_selector_even<D: Disk>(disk: &mut D, selector: u8) -> Result<(), DiskFau
 /// Writes the first gate, closed, and one more octet 00 behind it, each synced, on a disk of 16 or 17 octets.
 fn format_gates<D: Disk>(disk: &mut D) -> Result<(), DiskFault>
     requires quiet { IsQuietNow D.Disk disk.old }
-    requires header { IfSome (D.content disk.old) (λ octets. (16 ≤ length octets) × (length octets ≤ 17)) }
+    requires long { IfSome (D.content disk.old) (λ octets. 16 ≤ length octets) }
+    requires short { IfSome (D.content disk.old) (λ octets. length octets ≤ 17) }
     ensures { Makes D.Disk result disk.old disk.new MakesGates IsMakingGates }
 {
     // A crash before this is synced leaves 16 or 17 octets, of which no record is read, whatever the last one is.
     write_synced(disk, FIRST_GATE, &[0])?;
-    // The first gate is synced by now, and closed. A crash before this is synced leaves 17 octets, or 18 of which the last
-    // one is any: there are no records before a closed gate.
+    // The first gate is synced by now, and closed. A crash before this is synced leaves 17 octets, or 18 of which the
+    // last one is any: no record is read behind a closed gate.
     write_synced(disk, FIRST_GATE + 1, &[0])
 }

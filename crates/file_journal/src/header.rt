@@ -1,9 +1,9 @@
 //! The header of a store.
 
-ghost use Rattle.std.specs.Prelude.{◌≡◌, ◌≢◌, ◌<◌, ◌≤◌, List, ℕ, length, take, slice_index, IfOk, IfSome, IsErrOf};
+ghost use Rattle.std.specs.Prelude.{◌≡◌, ◌<◌, ◌≤◌, List, ℕ, length, slice_index, IfOk, IfSome, IsErrOf};
 ghost use Rattle.file_journal.specs.Calls.{Reads};
-ghost use Rattle.file_journal.specs.Header.{HasBadNumber, HasHeader};
-ghost use Rattle.file_journal.specs.Recovery.{RefusesExactly};
+ghost use Rattle.file_journal.specs.Header.{HasBadNumber, HasHeader, HasSelector, IsForeign};
+ghost use Rattle.file_journal.specs.Recovery.{Refuses};
 
 use crate::RecoverFault;
 use disk_model::Disk;
@@ -22,10 +22,10 @@ pub(crate) struct Header {
 pub(crate) fn read_header<D: Disk>(disk: &mut D, magic: [u8; 8]) -> Result<Header, RecoverFault>
     requires { IfSome (D.content disk.old) (λ octets. 16 < length octets) }
     ensures header { IfOk result (λ header. IfSome (D.content disk.old) (HasHeader magic header.blocks)) }
-    ensures selector { IfOk result (λ header. IfSome (D.content disk.old) (λ octets. header.selector ≡ slice_index octets 15)) }
+    ensures selector { IfOk result (λ header. HasSelector (D.content disk.old) header.selector) }
     ensures some { IfOk result (λ header. 1 ≤ header.blocks) }
     ensures most { IfOk result (λ header. header.blocks ≤ 65536) }
-    ensures refuses { ¬ IsErrOf result RecoverFault.Disk → IfSome (D.content disk.old) (λ before. RefusesExactly magic before result) }
+    ensures refuses { Refuses magic (D.content disk.old) result }
     ensures reads { Reads D.Disk (IsErrOf result RecoverFault.Disk) disk.old disk.new }
 {
     let mut octets = [0; 16];
@@ -39,7 +39,7 @@ fn parse_header(octets: &[u8; 16], magic: [u8; 8]) -> Result<Header, RecoverFaul
     ensures selector { IfOk result (λ header. header.selector ≡ slice_index octets.now 15) }
     ensures some { IfOk result (λ header. 1 ≤ header.blocks) }
     ensures most { IfOk result (λ header. header.blocks ≤ 65536) }
-    ensures not_a_store { (found : List ℕ) → IsErrOf result (RecoverFault.NotAStore found) → (found ≡ take 8 octets.now) × (found ≢ magic) }
+    ensures not_a_store { (found : List ℕ) → IsErrOf result (RecoverFault.NotAStore found) → IsForeign magic octets.now found }
     ensures damaged { (at : ℕ) → IsErrOf result (RecoverFault.Damaged at) → (at ≡ 8) × HasBadNumber magic octets.now }
     ensures disk { ¬ IsErrOf result RecoverFault.Disk }
 {

@@ -1,15 +1,12 @@
 //! The journal: recovery, reading, appending.
 
-ghost use Rattle.std.specs.Prelude.{◌≡◌, ◌↔◌, ◌⊎◌, ℕ, ◌+◌, ◌^◌, ◌<◌, ◌≤◌, List, length, true, false, IfOk, IfSome, IsErrOf, None, OnErr, OnOk, OnSome};
-ghost use Rattle.disk_model.specs.Disk.{HasContent};
-ghost use Rattle.disk_model.specs.Moments.{LeavesSince};
-ghost use Rattle.file_journal.specs.Appending.{Appends, IsAppending};
-ghost use Rattle.file_journal.specs.Calls.{IsQuietNow, Leaves, Puts, Reads, Runs};
-ghost use Rattle.file_journal.specs.Journal.{IsBeforeOrAfter, journal_of};
-ghost use Rattle.file_journal.specs.Next.{ReadsNext};
+ghost use Rattle.std.specs.Prelude.{◌≡◌, ◌↔◌, ℕ, ◌+◌, ◌^◌, ◌<◌, ◌≤◌, List, length, true, false, IfOk, IfSome, IsErrOf, None, OnErr, OnOk, OnSome};
+ghost use Rattle.file_journal.specs.Appending.{Appends, LeavesAppending, LeavesBeforeOrAfter};
+ghost use Rattle.file_journal.specs.Calls.{IsQuietNow, Leaves, Puts, Reads, Runs, TakesStep};
+ghost use Rattle.file_journal.specs.Next.{AnswersNext};
 ghost use Rattle.file_journal.specs.Position.{StandsOn};
 ghost use Rattle.file_journal.specs.Records.{record_of};
-ghost use Rattle.file_journal.specs.Recovery.{IsFailedSync, IsRecovered, IsRecovering, LeavesSinceSync, RefusesExactly};
+ghost use Rattle.file_journal.specs.Recovery.{IsRecovered, IsRecovering, LeavesSinceSync, Refuses};
 
 use crate::format::{FIRST_GATE, finish_format, format_new};
 use crate::header::read_header;
@@ -38,7 +35,8 @@ impl Model for Journal {
 
     ghost Value = { Position };
 
-    ghost view = { λ a. record { magic = a.magic; blocks = a.blocks; place = a.place; ended = a.ended; failed = a.failed } };
+    ghost view = { λ a.
+        record { magic = a.magic; blocks = a.blocks; place = a.place; ended = a.ended; failed = a.failed } };
 
     ghost invariant = { λ a. (a.place < 2 ^ 63) × (1 ≤ a.blocks) × (a.blocks ≤ 65536) };
 }
@@ -49,9 +47,10 @@ impl Journal {
     /// number `blocks`, 1 to 65,536; one whose formatting was interrupted is formatted to its end. It may be cut at
     /// any of its writes and syncs, and is then done again.
     ///
-    /// `NotAStore` and `Damaged` leave the content as it was. After `Disk` the disk is to be recovered again: once the first
-    /// sync passed, a crash leaves the records of the content before; where that sync failed nothing is changed, and a crash
-    /// may leave whatever it might have left before. Nothing is called after a call of the disk that failed. Takes no memory.
+    /// `NotAStore` and `Damaged` leave the content as it was. After `Disk` the disk is to be recovered again: once the
+    /// first sync passed, a crash leaves the records of the content before; where that sync failed nothing is changed, and
+    /// a crash may leave whatever it might have left before. No write and no sync follows a call of the disk that failed.
+    /// Takes no memory.
     pub fn recover<D: Disk>(
         disk: &mut D,
         magic: [u8; 8],
@@ -62,18 +61,18 @@ impl Journal {
         ensures recovered { IfOk result (IsRecovered D.Disk magic blocks disk.old disk.new) }
 
         // But for a fault of the disk, each refusal comes exactly where the content stands for it, and leaves it so.
-        ensures refuses { ¬ IsErrOf result RecoverFault.Disk → IfSome (D.content disk.old) (λ before. RefusesExactly magic before result) }
-        ensures untouched { OnErr result (¬ IsErrOf result RecoverFault.Disk → D.content disk.new ≡ D.content disk.old) }
+        ensures refuses { Refuses magic (D.content disk.old) result }
+        ensures untouched { OnErr result
+            (¬ IsErrOf result RecoverFault.Disk → D.content disk.new ≡ D.content disk.old) }
         ensures runs { Runs D.Disk (IsErrOf result RecoverFault.Disk) disk.old disk.new }
 
-        // A crash since the start leaves what it might have left before, or the same records; since the end of the first
-        // sync the same records. Only where that sync failed, a crash may leave what it might have left before.
+        // A crash since the start leaves what it might have left before, or the same records; since the end of the
+        // first sync the same records, but where that sync failed.
         ensures since_start { Leaves D.Disk disk.old disk.new (IsRecovering magic blocks) }
-        ensures since_sync { IfSome (D.content disk.old) (λ before. LeavesSinceSync D.Disk disk.old disk.new (IsRecovering magic blocks before)
-            ⊎ (IsErrOf result RecoverFault.Disk × IsFailedSync D.Disk disk.old disk.new)) }
+        ensures since_sync { LeavesSinceSync D.Disk result disk.old disk.new (IsRecovering magic blocks) }
     {
-        // Before this sync a crash may leave any octets where an earlier write wasn't synced, and a read may give others.
-        // After it a crash leaves what is read. Where it fails, nothing is read, and nothing is tried again.
+        // A crash before this sync leaves any octets where an earlier write wasn't synced, whatever a read gives; after
+        // it, what is read. Where it fails, nothing is read, and it isn't tried again.
         disk.sync()?;
         let len = disk.len()?;
         Journal::recover_synced(disk, len, magic, blocks)
@@ -91,8 +90,9 @@ impl Journal {
         requires some { 1 ≤ blocks }
         requires most { blocks ≤ 65536 }
         ensures recovered { IfOk result (IsRecovered D.Disk magic blocks disk.old disk.new) }
-        ensures refuses { ¬ IsErrOf result RecoverFault.Disk → IfSome (D.content disk.old) (λ before. RefusesExactly magic before result) }
-        ensures untouched { OnErr result (¬ IsErrOf result RecoverFault.Disk → D.content disk.new ≡ D.content disk.old) }
+        ensures refuses { Refuses magic (D.content disk.old) result }
+        ensures untouched { OnErr result
+            (¬ IsErrOf result RecoverFault.Disk → D.content disk.new ≡ D.content disk.old) }
         ensures runs { Runs D.Disk (IsErrOf result RecoverFault.Disk) disk.old disk.new }
         ensures since { Leaves D.Disk disk.old disk.new (IsRecovering magic blocks) }
     {
@@ -136,9 +136,10 @@ impl Journal {
         ensures journal { self.new ≡ record self.old { place = self.new.place; ended = self.new.ended } }
 
         // But for a fault of the disk, it answers exactly what stands at its place.
-        ensures next { ¬ IsErrOf result RecoverFault.Disk → IfSome (D.content disk.old) (λ octets. ReadsNext self.old self.new room.new.items octets result) }
+        ensures next { AnswersNext self.old self.new room.new.items (D.content disk.old) result }
         ensures ended { result ≡ Ok None → self.new ≡ record self.old { ended = true } }
-        ensures moves { IfOk result (λ next. OnSome next (self.new.place ≡ self.old.place + 4 + length room.new.items)) }
+        ensures moves { IfOk result (λ next.
+            OnSome next (self.new.place ≡ self.old.place + 4 + length room.new.items)) }
         ensures fits { self.new.place < 2 ^ 63 }
         ensures is_store { (found : List ℕ) → ¬ IsErrOf result (RecoverFault.NotAStore found) }
         ensures err { OnErr result ((self.new ≡ self.old) × (room.new ≡ room.old)) }
@@ -162,8 +163,8 @@ impl Journal {
     /// writes and two syncs, and reads nothing. Takes no memory.
     ///
     /// `Disk`: the record may stand or not, and the journal answers `Failed` from then on, where nothing is touched;
-    /// a new recovery is needed. Nothing is called after a call of the disk that failed. A record that would pass octet
-    /// 2^63 is such a fault of the disk.
+    /// a new recovery is needed. No write and no sync follows a call of the disk that failed. A record that would pass
+    /// octet 2^63 is such a fault of the disk.
     pub fn append<D: Disk>(
         &mut self,
         disk: &mut D,
@@ -175,7 +176,7 @@ impl Journal {
         requires most { length content.now ≤ 600 }
         ensures stands_on { StandsOn D.Disk self.new disk.new }
         ensures journal { self.new ≡ record self.old { place = self.new.place; failed = self.new.failed } }
-        ensures ok { OnOk result (HasContent (D.content disk.old) (D.content disk.new) (Appends self.old (record_of kind content.now))) }
+        ensures ok { OnOk result (TakesStep D.Disk disk.old disk.new (Appends self.old (record_of kind content.now))) }
         ensures quiet { OnOk result (IsQuietNow D.Disk disk.new) }
 
         // `Failed` comes exactly after an earlier `Disk`, and touches nothing.
@@ -185,11 +186,10 @@ impl Journal {
         ensures untouched { IsErrOf result JournalFault.Failed → (self.new ≡ self.old) × (disk.new ≡ disk.old) }
         ensures puts { Puts D.Disk (IsErrOf result JournalFault.Disk) disk.old disk.new }
 
-        // A crash at any moment since the start leaves the records from before, with the new one or without; and outside the
-        // record's range, and the gates before and behind it, the octets of an image from before.
-        ensures any_moment { self.old.failed ≡ false → IfSome (D.content disk.old) (λ before. LeavesSince (D.moment disk.old) (D.images_since disk.new)
-            (λ image. IsBeforeOrAfter (journal_of self.old.magic before) (record_of kind content.now) (journal_of self.old.magic image))) }
-        ensures since { Leaves D.Disk disk.old disk.new (IsAppending self.old (record_of kind content.now) (D.images disk.old)) }
+        // A crash at any moment since the start leaves the records from before, with the new one or without; and outside
+        // the record and the gates before and behind it, the octets of an image from before.
+        ensures any_moment { LeavesBeforeOrAfter D.Disk self.old (record_of kind content.now) disk.old disk.new }
+        ensures since { LeavesAppending D.Disk self.old (record_of kind content.now) disk.old disk.new }
         ensures calls { OnOk result (IfSome (D.content disk.old) (λ _. D.moment disk.new ≡ D.moment disk.old + 4)) }
         ensures at_most { D.moment disk.new ≤ D.moment disk.old + 4 }
     {

@@ -3,8 +3,8 @@
 ghost use Rattle.std.specs.Prelude.{◌≡◌, ◌+◌, ◌^◌, ◌<◌, ◌≤◌, ℕ, List, [], ◌∷◌, ◌++◌, length, slice_index, take, drop, true, false, IfOk, IfSome, OnOk, OnErr, IsErrOf, None};
 ghost use Rattle.file_journal.specs.Appending.{IsPutting, OpensGate};
 ghost use Rattle.file_journal.specs.Calls.{Makes, Reads};
-ghost use Rattle.file_journal.specs.Next.{RefusesAt};
-ghost use Rattle.file_journal.specs.Records.{HasRecord, StartsRecord, reading_at, record_of, record_text, whole};
+ghost use Rattle.file_journal.specs.Next.{FindsRecord, RefusesAt};
+ghost use Rattle.file_journal.specs.Records.{StartsRecord, reading_at, record_of, record_text, whole};
 
 use crate::RecoverFault;
 use crate::write::write_synced;
@@ -44,15 +44,16 @@ pub(crate) fn encode_record(kind: u8, content: &[u8]) -> RecordText
 pub(crate) fn put_record<D: Disk>(disk: &mut D, place: u64, octets: &[u8]) -> Result<(), DiskFault>
     requires far { place < 2 ^ 63 }
     requires gate { IfSome (D.content disk.old) (λ before. place < length before) }
-    ensures makes { Makes D.Disk result disk.old disk.new (OpensGate place octets.now) (IsPutting place octets.now (D.images disk.old)) }
+    ensures makes { Makes D.Disk result disk.old disk.new
+        (OpensGate place octets.now) (IsPutting place octets.now (D.images disk.old)) }
     ensures fits { OnOk result (place + 1 + length octets.now ≤ 2 ^ 63) }
     ensures four { OnOk result (IfSome (D.content disk.old) (λ _. D.moment disk.new ≡ D.moment disk.old + 4)) }
     ensures at_most { D.moment disk.new ≤ D.moment disk.old + 4 }
 {
-    // A crash before these octets are synced leaves any octets behind the gate, which stands closed: none of them is read.
+    // A crash before these octets are synced leaves any octets behind the gate. It stands closed, so none of them is read.
     write_synced(disk, place + 1, octets)?;
-    // The whole record is synced by now, and a closed gate behind it. A crash before this gate is synced leaves any octet
-    // in its place: where it is 01, the record counts and is whole; where it is another, the record doesn't count.
+    // The whole record is synced by now, and a closed gate behind it. A crash before this gate is synced leaves any
+    // octet in its place: where it is 01, the record counts and is whole; where it is another, it doesn't count.
     write_synced(disk, place, &[OPEN])
 }
 
@@ -116,7 +117,7 @@ pub(crate) fn read_record<D: Disk>(
     room: &mut ArrayVec<u8, 600>,
 ) -> Result<Option<u8>, RecoverFault>
     requires far { place < 2 ^ 63 }
-    ensures found { IfOk result (λ next. IfSome next (λ kind. IfSome (D.content disk.old) (HasRecord place (record_of kind room.new.items)))) }
+    ensures found { IfOk result (FindsRecord place room.new.items (D.content disk.old)) }
     ensures fits { IfOk result (λ next. IfSome next (λ kind. place + 4 + length room.new.items < 2 ^ 63)) }
     ensures none { result ≡ Ok None → IfSome (D.content disk.old) (λ octets. reading_at place octets ≡ whole []) }
     ensures refuses { RefusesAt place (D.content disk.old) result }

@@ -202,7 +202,10 @@ fn stops_at_each_write_and_sync(rt: HostRuntime) -> Result<(), Fail> {
             assert_eq!(rt; put_one(&mut fuse), ended, "{calls}");
             assert!(rt; !fuse.starved());
             let (records, _even) = recovered(fuse.into_disk().crash(pick)?);
-            assert!(rt; records.is_some_and(|n| least <= n && n <= most), "{calls} {pick}");
+            assert!(rt;
+                records.is_some_and(|n| least <= n && n <= most),
+                "{calls} {pick}"
+            );
         }
     }
     Ok(())

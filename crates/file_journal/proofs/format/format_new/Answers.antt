@@ -1,6 +1,7 @@
 use Rattle.std.proofs.Common.{◌≡◌, ◌≤◌, ℕ, List, [], ◌∷◌, ◌++◌, length, take, Some, IsErr, rules, sym, ◌∙◌, ap, subst, arith, take_all}
 use Rattle.std.proofs.lemmas.Bool.{cond-true, le-leb}
 use Rattle.disk_model.specs.Disk.{Torn, Writes}
+use Rattle.file_journal.specs.Calls.{Becomes}
 use Rattle.file_journal.specs.Formatting.{IsMakingGates}
 use Rattle.file_journal.specs.Journal.{after_recovery, header_text}
 use Rattle.file_journal.specs.Recovery.{IsRecovering}
@@ -37,7 +38,7 @@ returns g c =
     let size : length c.as_slice.result.now ≡ 16 = ap length text ∙ header_length c.args.magic c.args.blocks eight in
     let header : (before middle : List ℕ) → length before ≤ 16 → Writes 0 c.as_slice.result.now before middle → middle ≡ header_text c.args.magic c.args.blocks =
     λ before middle short put. all_by c.as_slice.result.now before middle (omega (arith, size, short)) put ∙ text in
-    makes_on D g.met.D.Disk.lasts_on _ c.format_gates.result old mid c.format_gates.new.disk _ _ _ _ (λ before now. now ≡ after_recovery c.args.magic c.args.blocks before) (IsRecovering c.args.magic c.args.blocks)
+    makes_on D g.met.D.Disk.lasts_on _ c.format_gates.result old mid c.format_gates.new.disk _ _ _ _ (Becomes (after_recovery c.args.magic c.args.blocks)) (IsRecovering c.args.magic c.args.blocks)
     c.in_ok-write_synced.ensures.makes c.format_gates.ensures
     (λ before middle now told put gates.
     let short = at_told _ before told c.requires.short in

@@ -11,9 +11,7 @@ returns g c =
     let old = c.args.disk.now in
     makes_weaker D c.write_synced.result old c.write_synced.new.disk _ _ MakesEven IsMakingEven
     (λ before now told writes.
-    let there = at_told _ before told c.requires.there in
-    even_by before now there.0 (omega (arith, there.1)) writes)
+    even_by before now (at_told _ before told c.requires.long) (omega (arith, at_told _ before told c.requires.selector)) writes)
     (λ before image told torn.
-    let there = at_told _ before told c.requires.there in
-    even_crash before image there.0 (torn_only 15 1 before _ (quiet_images D old (g.met.D.Disk.counts_now old) c.requires.quiet before told) image torn))
+    even_crash before image (at_told _ before told c.requires.long) (torn_only 15 1 before _ (quiet_images D old (g.met.D.Disk.counts_now old) c.requires.quiet before told) image torn))
     c.write_synced.ensures.makes

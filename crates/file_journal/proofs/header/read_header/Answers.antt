@@ -31,7 +31,7 @@ returns-clause-refuses g c healthy =
     is_store magic octets header.blocks are long (record { magic_is = sym front.2 ∙ head.magic_is; blocks_are = sym front.0 ∙ head.blocks_are; is_number = head.is_number }))
     (λ found is.
     let other = says.not_a_store found is in
-    of_foreign magic octets long (λ same. other.1 (other.0 ∙ front.2 ∙ same)) ∙ ap no_store (sym (other.0 ∙ front.2)))
+    of_foreign magic octets long (λ same. other.other (other.found_is ∙ front.2 ∙ same)) ∙ ap no_store (sym (other.found_is ∙ front.2)))
     (λ at is.
     let other = says.damaged at is in
     (other.0, of_bad_number magic octets long (sym front.2 ∙ other.1.magic_is) (ap is_block_number (sym front.0) ∙ other.1.is_bad)))

@@ -21,9 +21,9 @@ returns-clause-since_sync g c =
     let leaves = at_told _ before (only.same_content ∙ c.sync.ensures.content ∙ told) c.recover_synced.ensures.since in
     let quiet = at_told (Only (images_now D synced)) before (c.sync.ensures.content ∙ told) rest in
     inl (record {
-        later = omega (arith, first, leaves.later);
-        each = λ image since. ⊎_elim
-            (λ past. subst P (sym (quiet image (reads_now D synced mid only image past))) (recovering_same c.args.magic c.args.blocks before))
-            (λ here. here)
-            (leaves.each (D.moment mid) image (omega arith) (subst (λ (t : ℕ). D.images_since c.recover_synced.new.disk t image) first since));
-      }))
+      later = omega (arith, first, leaves.later);
+      each = λ image since. ⊎_elim
+          (λ past. subst P (sym (quiet image (reads_now D synced mid only image past))) (recovering_same c.args.magic c.args.blocks before))
+          (λ here. here)
+          (leaves.each (D.moment mid) image (omega arith) (subst (λ (t : ℕ). D.images_since c.recover_synced.new.disk t image) first since));
+    }))
