@@ -3,8 +3,9 @@
 ghost use Rattle.std.specs.Prelude.{◌≤◌, length, IfOk};
 
 use anyhow::{Context, Result};
-use pacsat_cli::{Words, run};
+use pacsat_cli::run;
 use px_base::{MemoryAir, MemoryClock, MemoryOut, MemoryShelf, Shelf};
+use row_words::{read_numbers, read_words, written};
 use std::alloc::Global;
 
 /// Plays a row over a closed air, and gives the status's number, the octets said in
@@ -30,20 +31,6 @@ pub fn play(alloc: Global, row: &str) -> Result<String> {
     Ok(format!(in alloc; "{number};{said};{shown}")?)
 }
 
-/// The words of a row, parted by blanks.
-fn read_words(alloc: Global, text: &str) -> Result<Words> {
-    let mut words = Words::new(alloc);
-    for word in text.split_whitespace() {
-        words.add(written(word))?;
-    }
-    Ok(words)
-}
-
-/// What a word of a row stands for: `''` is one without octets.
-fn written(word: &str) -> &str {
-    if word == "''" { "" } else { word }
-}
-
 /// A shelf whose calls with these numbers fail. It has nothing, or one name with its content, which is given in
 /// hexadecimal, or after `*` by the number of its octets, all FEND; `keep` is its first call.
 fn read_shelf(alloc: Global, text: &str, failing: &[u64]) -> Result<MemoryShelf> {
@@ -67,22 +54,13 @@ fn fends(alloc: Global, count: usize) -> Result<Vec<u8>> {
     Ok(octets)
 }
 
-/// Numbers parted by blanks.
-fn read_numbers(alloc: Global, text: &str) -> Result<Vec<u64>> {
-    let mut numbers = Vec::new(alloc);
-    for word in text.split_whitespace() {
-        numbers.push(word.parse::<u64>()?)?;
-    }
-    Ok(numbers)
-}
-
 /// The moments that a clock gives, parted by blanks; 1 where a row has none.
 fn read_moments(alloc: Global, text: &str) -> Result<Vec<u32>>
     ensures { IfOk result (λ moments. 1 ≤ length moments.items) }
 {
     let mut moments = Vec::new(alloc);
-    for word in text.split_whitespace() {
-        moments.push(word.parse::<u32>()?)?;
+    for number in read_numbers(alloc, text)?.as_slice() {
+        moments.push(u32::try_from(*number)?)?;
     }
     if moments.is_empty() {
         moments.push(1)?;

@@ -2,8 +2,9 @@
 
 use crate::turns::turns_of;
 use anyhow::{Context, Result, ensure};
-use pacsat_cli::{Words, run};
+use pacsat_cli::run;
 use px_base::{MemoryAir, MemoryClock, MemoryOut, MemoryShelf};
+use row_words::{read_numbers, read_words};
 use std::alloc::Global;
 
 /// Plays a row at the constant moment 1, and gives the octets said in hexadecimal, the status's number, and the line that was shown.
@@ -26,24 +27,6 @@ pub fn play(alloc: Global, row: &str) -> Result<String> {
     let shown = shown_text(alloc, out.shown())?;
     let number = status.number();
     Ok(format!(in alloc; "{said};{number};{shown}")?)
-}
-
-/// The words of a row, parted by blanks.
-fn read_words(alloc: Global, text: &str) -> Result<Words> {
-    let mut words = Words::new(alloc);
-    for word in text.split_whitespace() {
-        words.add(word)?;
-    }
-    Ok(words)
-}
-
-/// Numbers parted by blanks.
-fn read_numbers(alloc: Global, text: &str) -> Result<Vec<u64>> {
-    let mut numbers = Vec::new(alloc);
-    for word in text.split_whitespace() {
-        numbers.push(word.parse::<u64>()?)?;
-    }
-    Ok(numbers)
 }
 
 /// The text that was shown, without its line feed.
