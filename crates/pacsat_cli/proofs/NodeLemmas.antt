@@ -97,11 +97,12 @@ module _ (moment : ℕ) where
       let at_caller : CallSign → Type 0 = λ call. StopsOver call b.store b.state (events_at moment b) t why in
       let at_events : List Event → Type 0 = λ events. StopsOver a.caller a.store a.state events (s ++ t) why in
       let stops = subst at_caller h.caller k in
-      subst at_events (sym (ap (at_moment moment) h.packets ∙ at_moment-append moment h.done (packets_of b.octets)))
-      (stops.0,
-      said_until-trans why (λ es. texts (replies_to a.caller a.store a.state es)) (λ es. texts (replies_to a.caller b.store b.state es)) (first_unbuilt a.caller a.store a.state) (first_unbuilt a.caller b.store b.state)
-      (at_moment moment h.done) s (λ more. runs-said a.caller a.store a.state (at_moment moment h.done) s b.store b.state more h.runs)
-      (λ more. runs-unbuilt a.caller a.store a.state (at_moment moment h.done) s b.store b.state more h.runs) (events_at moment b) t stops.1)
+      subst at_events (sym (ap (at_moment moment) h.packets ∙ at_moment-append moment h.done (packets_of b.octets))) (
+        stops.0,
+        said_until-trans why (λ es. texts (replies_to a.caller a.store a.state es)) (λ es. texts (replies_to a.caller b.store b.state es)) (first_unbuilt a.caller a.store a.state) (first_unbuilt a.caller b.store b.state)
+            (at_moment moment h.done) s (λ more. runs-said a.caller a.store a.state (at_moment moment h.done) s b.store b.state more h.runs)
+            (λ more. runs-unbuilt a.caller a.store a.state (at_moment moment h.done) s b.store b.state more h.runs) (events_at moment b) t stops.1,
+      )
 
   module _ (caller : CallSign) (store : Store) (state : State) (octets left : List ℕ) where
     -- The packets and what is left are those of the octets that are left: nothing is said.

@@ -304,7 +304,13 @@ impl SessionServer {
     {
         let (taken, fed) = self.reader.feed(piece);
         if let PacketFed::Whole = fed {
-            answer(&self.reader, &mut self.session, &mut self.store, air, moment)?;
+            answer(
+                &self.reader,
+                &mut self.session,
+                &mut self.store,
+                air,
+                moment,
+            )?;
         }
         Ok(taken)
     }
