@@ -4,7 +4,8 @@ use Rattle.std.specs.List.{AllByRecursion}
 use Rattle.px_base.specs.declared.air.Turn.{Turn}
 use Rattle.px_base.specs.Polling.{octets_heard, octets_of_turn}
 use Rattle.ftl0_packets.specs.Laws.{IsOneStream}
-use Rattle.ftl0_packets.specs.Layout.{IsOctets, Item}
+use Rattle.px_base.specs.Octets.{IsOctets}
+use Rattle.ftl0_packets.specs.Layout.{Item}
 use Rattle.ftl0_packets.specs.Stream.{IsPartial, Stream}
 use Rattle.pacsat_cli.specs.Events.{Brings, Event, at_moment, packets_in}
 use Rattle.pacsat_cli.proofs.OctetLemmas.{octets_back}

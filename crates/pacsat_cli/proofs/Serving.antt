@@ -12,7 +12,8 @@ use Rattle.px_base.specs.declared.air.Turn.{Turn}
 use Rattle.px_base.specs.declared.air.Turn.TheVariants as turn
 use Rattle.px_base.proofs.Told.{Gains-front, Gains-none, Gains-trans}
 use Rattle.ftl0_packets.specs.Laws.{IsReadAsStream}
-use Rattle.ftl0_packets.specs.Layout.{IsOctets, Item}
+use Rattle.px_base.specs.Octets.{IsOctets}
+use Rattle.ftl0_packets.specs.Layout.{Item}
 use Rattle.ftl0_packets.specs.Reading.{packets_of, rest_of, under_way}
 use Rattle.ftl0_packets.specs.Stream.{Stream}
 use Rattle.file_store.specs.Store.{Store}

@@ -1,6 +1,6 @@
 -- What contracts see of a session's server, and what it keeps.
 use Rattle.std.specs.Prelude.{◌≡◌, ℕ, List, []}
-use Rattle.ftl0_packets.specs.Layout.{IsOctets}
+use Rattle.px_base.specs.Octets.{IsOctets}
 use Rattle.ftl0_packets.specs.Reading.{packets_of, rest_of, under_way}
 use Rattle.pacsat_cli.specs.declared.node.SessionServer.TheInside.{Inside}
 use Rattle.pacsat_cli.specs.ServerState.{ServerState}

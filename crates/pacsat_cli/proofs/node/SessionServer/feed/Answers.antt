@@ -9,6 +9,7 @@ use Rattle.pacsat_cli.specs.ServerState.{ServerState}
 use Rattle.pacsat_cli.specs.Taking.{state_of}
 use Rattle.pacsat_cli.proofs.NodeLemmas.{answer_runs, goes_on-waits, with_none}
 use Rattle.pacsat_cli.proofs.Serving.{at_exit, waits_after}
+use Rattle.pacsat_cli.proofs.OctetLemmas.{octets_from}
 use Rattle.pacsat_cli.proofs.node.SessionServer.feed.Goals as goal
 
 pub returns-in_err-answer-clause-fed : goal.returns-in_err-answer-clause-fed
@@ -31,7 +32,7 @@ invariant_of-self-in_default g c =
     record {
       held = c.self.invariant.held;
       waiting =
-          waits_after c.self.inside.reader c.feed-taken.new.self c.args.piece.now c.feed-taken.result.0 c.self.invariant.waiting (λ i. omega (arith, c.type_inv.piece i))
+          waits_after c.self.inside.reader c.feed-taken.new.self c.args.piece.now c.feed-taken.result.0 c.self.invariant.waiting (octets_from c.args.piece.now (λ i. omega (arith, c.type_inv.piece i)))
           c.feed-taken.ensures.octets c.feed-taken.ensures.none c.feed-taken.ensures.left;
     }
 
