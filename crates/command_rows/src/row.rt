@@ -3,7 +3,7 @@
 ghost use Rattle.std.specs.Prelude.{◌≤◌, length, IfOk};
 
 use anyhow::{Context, Result};
-use pacsat_cli::run;
+use pacsat_cli::{Words, run};
 use px_base::{MemoryAir, MemoryClock, MemoryOut, MemoryShelf, Shelf};
 use row_words::{read_numbers, read_words, written};
 use std::alloc::Global;
@@ -16,16 +16,24 @@ pub fn play(alloc: Global, row: &str) -> Result<String> {
     let (failing_shelf, rest) = rest.split_once(';').context("no failing calls")?;
     let (failing_out, moments) = rest.split_once(';').context("no moments")?;
     let words = read_words(alloc, words)?;
-    let mut shelf = read_shelf(
-        alloc,
-        content,
-        read_numbers(alloc, failing_shelf)?.as_slice(),
-    )?;
+    let failing_shelf = read_numbers(alloc, failing_shelf)?;
+    let mut shelf = read_shelf(alloc, content, failing_shelf.as_slice())?;
+    let failing_out = read_numbers(alloc, failing_out)?;
+    let mut out = MemoryOut::new(alloc, failing_out.as_slice())?;
+    run_over(alloc, &words, &mut shelf, &mut out, moments)
+}
+
+/// Runs the words over a closed air, this shelf and output, and a clock that gives these moments.
+fn run_over(
+    alloc: Global,
+    words: &Words,
+    shelf: &mut MemoryShelf,
+    out: &mut MemoryOut,
+    moments: &str,
+) -> Result<String> {
     let mut air = MemoryAir::new(alloc, Vec::new(alloc), &[])?;
-    let mut out = MemoryOut::new(alloc, read_numbers(alloc, failing_out)?.as_slice())?;
     let mut clock = MemoryClock::new(alloc, read_moments(alloc, moments)?.as_slice())?;
-    let status = run(alloc, &words, &mut air, &mut shelf, &mut out, &mut clock);
-    let number = status.number();
+    let number = run(alloc, words, &mut air, shelf, out, &mut clock).number();
     let said = hex::encode(alloc, air.said())?;
     let shown = shown_text(alloc, out.shown())?;
     Ok(format!(in alloc; "{number};{said};{shown}")?)
