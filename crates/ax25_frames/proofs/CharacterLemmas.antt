@@ -4,7 +4,8 @@ use Rattle.std.specs.Prelude.{IsTrue, ◌&&◌}
 use Rattle.std.specs.List.{AllByRecursion, prefix_len}
 use Rattle.std.proofs.lemmas.Bool.{eqb-true, eq-eqb, ne_eqb}
 use Rattle.std.proofs.lemmas.List.Sums.{prefix_len-le-length}
-use Rattle.std.proofs.lemmas.List.{length-take, nil_from_length}
+use Rattle.std.proofs.Math.Seq.{take-nil}
+use Rattle.std.proofs.lemmas.List.{length-take, map-append, nil_from_length}
 use Rattle.std.proofs.lemmas.List.Elements.{All-from_recursion, recursion_from_All}
 use Rattle.px_base.specs.CallSign.{CallSign, IsCall, IsBase, is_call_char, padded}
 use Rattle.ax25_frames.specs.Addresses.{character_octets}
@@ -25,17 +26,13 @@ begun zero octets = 0
 begun (suc f) [] = 0
 begun (suc f) (o ∷ os) = cond (is_character o) (1 + begun f os) (prefix_len is_blank (take (suc f) (o ∷ os)))
 
-take-none : (n : ℕ) → take {A = ℕ} n [] ≡ []
-take-none zero = refl
-take-none (suc n) = refl
-
 -- the run of letters and digits, and then that of blanks
 begun-runs : (f : ℕ) (octets : List ℕ)
     → prefix_len is_character (take f octets) + prefix_len is_blank (take (f - prefix_len is_character (take f octets)) (drop (prefix_len is_character (take f octets)) octets))
     ≡ begun f octets
 unfolding begun
 begun-runs zero octets = refl
-begun-runs (suc f) [] = ap (λ (xs : List ℕ). 0 + prefix_len is_blank xs) (take-none (suc f - 0))
+begun-runs (suc f) [] = ap (λ (xs : List ℕ). 0 + prefix_len is_blank xs) (take-nil (suc f - 0))
 begun-runs (suc f) (o ∷ os) = there (is_character o) (prefix_len is_character (take f os)) (begun-runs f os)
   where
     there : (b : Bool) (r : ℕ) → r + prefix_len is_blank (take (f - r) (drop r os)) ≡ begun f os
@@ -175,14 +172,10 @@ map_blanks : (n : ℕ) → shifted (replicate n 32) ≡ replicate n 64
 map_blanks zero = refl
 map_blanks (suc n) = ap (λ (x : List ℕ). 64 ∷ x) (map_blanks n)
 
-shifted-append : (xs ys : List ℕ) → shifted (xs ++ ys) ≡ shifted xs ++ shifted ys
-shifted-append [] ys = refl
-shifted-append (x ∷ xs) ys = ap (λ (zs : List ℕ). 2 * x ∷ zs) (shifted-append xs ys)
-
 -- the octets of a call's characters: shifted letters and digits, then shifted blanks
 shifted_padded : (base : List ℕ) → shifted (padded base) ≡ shifted base ++ replicate (6 - length base) 64
 shifted_padded base =
-    shifted-append base (replicate (6 - length base) 32) ∙ ap (λ (x : List ℕ). shifted base ++ x) (map_blanks (6 - length base))
+    map-append (λ (c : ℕ). 2 * c) base (replicate (6 - length base) 32) ∙ ap (λ (x : List ℕ). shifted base ++ x) (map_blanks (6 - length base))
 
 -- the octets up to this place begin the characters of an entry, and one more doesn't
 pub record IsBegun (octets : List ℕ) (at : ℕ) : Type 0 where

@@ -56,12 +56,12 @@ digits : (a b s t r q u v : ℕ) → a < 2 → b < 2 → s ≤ 15 → t ≤ 15 �
     → a + 2 * s + 32 * r + 128 * u ≡ b + 2 * t + 32 * q + 128 * v → (a ≡ b) × (s ≡ t) × (r ≡ q) × (u ≡ v)
 digits a b s t r q u v ha hb hs ht hr hq hu hv e = (omega arith, omega arith, omega arith, omega arith)
 
-same_entry : (e f : Entry) → e.call.chars ≡ f.call.chars → e.call.ssid ≡ f.call.ssid → e.reserved ≡ f.reserved → e.top ≡ f.top → e ≡ f
+same_entry : (e f : Entry) → e.call.chars ≡ f.call.chars → e.call.ssid ≡ f.call.ssid → e.reserved ≡ f.reserved → e.c_or_h_bit ≡ f.c_or_h_bit → e ≡ f
 same_entry e f hc hs hr ht =
-    let made : List ℕ → ℕ → ℕ → Bool → Entry = λ chars ssid reserved top. record { call = record { chars = chars; ssid = ssid }; reserved = reserved; top = top } in
-    ap (λ (x : List ℕ). made x e.call.ssid e.reserved e.top) hc
-    ∙ ap (λ (x : ℕ). made f.call.chars x e.reserved e.top) hs
-    ∙ ap (λ (x : ℕ). made f.call.chars f.call.ssid x e.top) hr
+    let made : List ℕ → ℕ → ℕ → Bool → Entry = λ chars ssid reserved c_or_h_bit. record { call = record { chars = chars; ssid = ssid }; reserved = reserved; c_or_h_bit = c_or_h_bit } in
+    ap (λ (x : List ℕ). made x e.call.ssid e.reserved e.c_or_h_bit) hc
+    ∙ ap (λ (x : ℕ). made f.call.chars x e.reserved e.c_or_h_bit) hs
+    ∙ ap (λ (x : ℕ). made f.call.chars f.call.ssid x e.c_or_h_bit) hr
     ∙ ap (λ (x : Bool). made f.call.chars f.call.ssid f.reserved x) ht
 
 -- the octets of an entry say it and its end bit
@@ -69,8 +69,8 @@ pub entry_one : (a b : Bool) (e f : Entry) → IsEntry e → IsEntry f → entry
 entry_one a b e f he hf same =
     let parts = cut (character_octets e.call) (character_octets f.call) (ssid_octet a e ∷ []) (ssid_octet b f ∷ []) (length_characters e.call he.call ∙ sym (length_characters f.call hf.call)) same in
     let octet : ssid_octet a e ≡ ssid_octet b f = cc (parts.1) in
-    let fields = digits (bit a) (bit b) e.call.ssid f.call.ssid e.reserved f.reserved (bit e.top) (bit f.top) (bit-below a) (bit-below b) he.call.in_range hf.call.in_range he.reserved hf.reserved (bit-below e.top) (bit-below f.top) octet in
-    (bit_one a b fields.0, same_entry e f (double_one e.call.chars f.call.chars parts.0) fields.1 fields.2 (bit_one e.top f.top fields.3))
+    let fields = digits (bit a) (bit b) e.call.ssid f.call.ssid e.reserved f.reserved (bit e.c_or_h_bit) (bit f.c_or_h_bit) (bit-below a) (bit-below b) he.call.in_range hf.call.in_range he.reserved hf.reserved (bit-below e.c_or_h_bit) (bit-below f.c_or_h_bit) octet in
+    (bit_one a b fields.0, same_entry e f (double_one e.call.chars f.call.chars parts.0) fields.1 fields.2 (bit_one e.c_or_h_bit f.c_or_h_bit fields.3))
 
 -- an entry at the front of two texts
 pub entry_cut : (a b : Bool) (e f : Entry) (xs ys x y : List ℕ) → IsEntry e → IsEntry f → (entry_octets a e ++ xs) ++ x ≡ (entry_octets b f ++ ys) ++ y

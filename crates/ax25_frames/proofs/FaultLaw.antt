@@ -5,13 +5,14 @@ use Rattle.std.proofs.lemmas.Grind.{common_steps}
 use Rattle.std.proofs.lemmas.List.{append_cancel_right, take_at, take-take}
 use Rattle.ax25_frames.specs.declared.frame.FrameFault.{FrameFault}
 use Rattle.ax25_frames.specs.declared.frame.FrameFault.TheVariants.{Short, BadAddress, TooManyAddresses, BadControl, LongInfo}
-use Rattle.ax25_frames.specs.Kinds.{KindValue, control_of, control_octet, pid_count, pid_octets, information, FitsKind}
+use Rattle.ax25_frames.specs.declared.control.Control.{Control}
+use Rattle.ax25_frames.specs.Kinds.{KindValue, control_octet, fields_of, FitsKind}
 use Rattle.ax25_frames.specs.Addresses.{Entry, IsEntry, AreEntries, character_octets, ssid_octet, address_field, unended, BeginsUnended, IsAddressField}
 use Rattle.ax25_frames.specs.Faults.{BeginsFrame, FailsAt, FaultAt}
 use Rattle.ax25_frames.specs.Laws.{IsOneFault}
 use Rattle.ax25_frames.proofs.EntryLemmas.{length_characters, length_unended, length_field, field_one, peel, unended_more}
 use Rattle.ax25_frames.proofs.FrameLemmas.{parts, begins_front, begins_whole, begun_entries}
-use Rattle.ax25_frames.proofs.KindLemmas.{control_one, sized}
+use Rattle.ax25_frames.proofs.KindLemmas.{control_one}
 
 -- each front of octets that can be completed can be completed
 begins_of : (octets : List ℕ) (n : ℕ) → BeginsFrame octets → BeginsFrame (take n octets)
@@ -94,25 +95,25 @@ record IsLong (octets : List ℕ) (len : ℕ) : Type 0 where
   poll : Bool
   fits : FitsKind kind
   info : List ℕ
-  text : octets ≡ address_field (dest ∷ src ∷ repeaters) ++ control_octet (control_of kind) poll ∷ (pid_octets kind ++ info)
+  text : octets ≡ address_field (dest ∷ src ∷ repeaters) ++ control_octet kind.control poll ∷ (kind.pid ++ info)
   len_is : len ≡ length info
   begins : BeginsFrame (take (length (address_field (dest ∷ src ∷ repeaters)) + 1) octets)
   ends : BeginsFrame octets → ⊥
 
 long_is : (octets : List ℕ) (len : ℕ) → FaultAt (LongInfo len) octets → IsLong octets len
 long_is octets len (frame, front, info, t, text, len_is, ends) =
-    let p = parts frame (front ++ information frame.kind) t in
+    let p = parts frame (front ++ frame.kind.information) t in
     let field : List ℕ = address_field (p.dest ∷ p.src ∷ p.repeaters) in
-    let control : ℕ = control_octet (control_of frame.kind) frame.poll in
-    let same : front ++ information frame.kind ≡ (field ++ control ∷ pid_octets frame.kind) ++ information frame.kind =
-    p.text ∙ sym (append_assoc field (control ∷ pid_octets frame.kind) (information frame.kind)) in
-    let is_front : front ≡ field ++ control ∷ pid_octets frame.kind = append_cancel_right front (field ++ control ∷ pid_octets frame.kind) (information frame.kind) same in
-    let whole : octets ≡ (field ++ control ∷ pid_octets frame.kind) ++ info = text ∙ ap (λ (x : List ℕ). x ++ info) is_front in
+    let control : ℕ = control_octet frame.kind.control frame.poll in
+    let same : front ++ frame.kind.information ≡ (field ++ control ∷ frame.kind.pid) ++ frame.kind.information =
+    p.text ∙ sym (append_assoc field (control ∷ frame.kind.pid) (frame.kind.information)) in
+    let is_front : front ≡ field ++ control ∷ frame.kind.pid = append_cancel_right front (field ++ control ∷ frame.kind.pid) (frame.kind.information) same in
+    let whole : octets ≡ (field ++ control ∷ frame.kind.pid) ++ info = text ∙ ap (λ (x : List ℕ). x ++ info) is_front in
     let through : field ++ control ∷ [] ≡ take (length field + 1) octets =
-    sym (take_at (field ++ control ∷ []) (pid_octets frame.kind ++ info) (length field + 1) (length-append field (control ∷ [])))
-    ∙ ap (λ (x : List ℕ). take (length field + 1) x) (parted field (pid_octets frame.kind) info control ∙ sym whole) in
-    let front_begins : BeginsFrame ((field ++ control ∷ []) ++ (pid_octets frame.kind ++ information frame.kind)) =
-    subst BeginsFrame (is_whole field (pid_octets frame.kind) (information frame.kind) control (front ++ information frame.kind) same) (begins_whole frame (front ++ information frame.kind) t) in
+    sym (take_at (field ++ control ∷ []) (frame.kind.pid ++ info) (length field + 1) (length-append field (control ∷ [])))
+    ∙ ap (λ (x : List ℕ). take (length field + 1) x) (parted field (frame.kind.pid) info control ∙ sym whole) in
+    let front_begins : BeginsFrame ((field ++ control ∷ []) ++ (frame.kind.pid ++ frame.kind.information)) =
+    subst BeginsFrame (is_whole field (frame.kind.pid) (frame.kind.information) control (front ++ frame.kind.information) same) (begins_whole frame (front ++ frame.kind.information) t) in
     record {
       dest = p.dest;
       src = p.src;
@@ -123,9 +124,9 @@ long_is octets len (frame, front, info, t, text, len_is, ends) =
       poll = frame.poll;
       fits = p.fits;
       info = info;
-      text = whole ∙ append_assoc field (control ∷ pid_octets frame.kind) info;
+      text = whole ∙ append_assoc field (control ∷ frame.kind.pid) info;
       len_is = len_is;
-      begins = subst BeginsFrame through (begins_front (field ++ control ∷ []) (pid_octets frame.kind ++ information frame.kind) front_begins);
+      begins = subst BeginsFrame through (begins_front (field ++ control ∷ []) (frame.kind.pid ++ frame.kind.information) front_begins);
       ends = ends;
     }
   where
@@ -175,7 +176,7 @@ bad_long : (octets : List ℕ) (at len : ℕ) → FaultAt (BadAddress at) octets
 bad_long octets at len b h =
     let l = long_is octets len h in
     let field = length_field (l.dest ∷ l.src ∷ l.repeaters) l.entries in
-    let f = fewer octets b.1.0 l.dest (l.src ∷ l.repeaters) (control_octet (control_of l.kind) l.poll ∷ (pid_octets l.kind ++ l.info)) b.1.1 l.entries l.text in
+    let f = fewer octets b.1.0 l.dest (l.src ∷ l.repeaters) (control_octet l.kind.control l.poll ∷ (l.kind.pid ++ l.info)) b.1.1 l.entries l.text in
     let below = b.1.4 in
     b.0.ends (begins_less octets (at + 1) (length (address_field (l.dest ∷ l.src ∷ l.repeaters)) + 1) (omega arith) l.begins)
 
@@ -183,7 +184,7 @@ many_long : (octets : List ℕ) (len : ℕ) → FaultAt TooManyAddresses octets 
 many_long octets len m h =
     let l = long_is octets len h in
     let most = l.most in
-    let f = fewer octets 10 l.dest (l.src ∷ l.repeaters) (control_octet (control_of l.kind) l.poll ∷ (pid_octets l.kind ++ l.info)) m.0 l.entries l.text in
+    let f = fewer octets 10 l.dest (l.src ∷ l.repeaters) (control_octet l.kind.control l.poll ∷ (l.kind.pid ++ l.info)) m.0 l.entries l.text in
     omega arith
 
 control_long : (octets : List ℕ) (octet len : ℕ) → FaultAt (BadControl octet) octets → FaultAt (LongInfo len) octets → ⊥
@@ -192,7 +193,7 @@ control_long octets octet len (at, fails, (e ∷ es, entries, least, most, text)
     let l = long_is octets len h in
     let inside = fails.inside in
     let w = field_whole octets at (omega arith) (e ∷ es, entries, least, most, text) in
-    let one = field_one e es l.dest (l.src ∷ l.repeaters) (drop at octets) (control_octet (control_of l.kind) l.poll ∷ (pid_octets l.kind ++ l.info)) entries l.entries (sym w.0 ∙ l.text) in
+    let one = field_one e es l.dest (l.src ∷ l.repeaters) (drop at octets) (control_octet l.kind.control l.poll ∷ (l.kind.pid ++ l.info)) entries l.entries (sym w.0 ∙ l.text) in
     let size : length (e ∷ es) ≡ length (l.dest ∷ l.src ∷ l.repeaters) = ap (λ (x : List Entry). length x) one.0 in
     let field = length_field (l.dest ∷ l.src ∷ l.repeaters) l.entries in
     let place = w.1 in
@@ -202,17 +203,15 @@ one_length : (octets : List ℕ) (a b : ℕ) → FaultAt (LongInfo a) octets →
 one_length octets a b ha hb =
     let l = long_is octets a ha in
     let m = long_is octets b hb in
-    let one = field_one l.dest (l.src ∷ l.repeaters) m.dest (m.src ∷ m.repeaters) (control_octet (control_of l.kind) l.poll ∷ (pid_octets l.kind ++ l.info))
-    (control_octet (control_of m.kind) m.poll ∷ (pid_octets m.kind ++ m.info)) l.entries m.entries (sym l.text ∙ m.text) in
-    let octet : control_octet (control_of l.kind) l.poll ≡ control_octet (control_of m.kind) m.poll = cc (one.1) in
-    let rest : pid_octets l.kind ++ l.info ≡ pid_octets m.kind ++ m.info = cc (one.1) in
-    let kinds = control_one (control_of l.kind) (control_of m.kind) l.poll m.poll l.fits.control m.fits.control octet in
-    let count : pid_count (control_of l.kind) ≡ pid_count (control_of m.kind) = ap pid_count kinds.0 in
-    let sl = (sized l.kind l.fits).pid in
-    let sm = (sized m.kind m.fits).pid in
-    let all : length (pid_octets l.kind ++ l.info) ≡ length (pid_octets m.kind ++ m.info) = ap length rest in
-    let al = length-append (pid_octets l.kind) l.info in
-    let am = length-append (pid_octets m.kind) m.info in
+    let one = field_one l.dest (l.src ∷ l.repeaters) m.dest (m.src ∷ m.repeaters) (control_octet l.kind.control l.poll ∷ (l.kind.pid ++ l.info))
+    (control_octet m.kind.control m.poll ∷ (m.kind.pid ++ m.info)) l.entries m.entries (sym l.text ∙ m.text) in
+    let octet : control_octet l.kind.control l.poll ≡ control_octet m.kind.control m.poll = cc (one.1) in
+    let rest : l.kind.pid ++ l.info ≡ m.kind.pid ++ m.info = cc (one.1) in
+    let kinds = control_one l.kind.control m.kind.control l.poll m.poll l.fits.control m.fits.control octet in
+    let count : length l.kind.pid ≡ length m.kind.pid = l.fits.count ∙ ap (λ (c : Control). (fields_of c).pids) kinds.0 ∙ sym m.fits.count in
+    let all : length (l.kind.pid ++ l.info) ≡ length (m.kind.pid ++ m.info) = ap length rest in
+    let al = length-append (l.kind.pid) l.info in
+    let am = length-append (m.kind.pid) m.info in
     let la = l.len_is in
     let lb = m.len_is in
     omega arith

@@ -1,13 +1,16 @@
 -- The first fault of octets, part by part: the address entries, the control octet, and what follows it.
-use Rattle.std.proofs.Common.{◌≡◌, ℕ, zero, suc, ◌+◌, ◌*◌, ◌≤◌, ◌<◌, Bool, true, false, List, [], ◌∷◌, ◌++◌, length, take, drop, slice_index, refl, sym, ap, ◌∙◌, subst, arith, append_assoc, append-nil, length-append, length-drop, length-take-le, take-append-drop}
+use Rattle.std.proofs.Common.{◌≡◌, ℕ, suc, ◌+◌, ◌*◌, ◌≤◌, ◌<◌, Bool, true, false, List, [], ◌∷◌, ◌++◌, length, take, drop, min, slice_index, refl, sym, ap, ◌∙◌, subst, arith, append_assoc, append-nil, length-append, length-drop, length-take-le, take-append-drop}
 use Rattle.std.proofs.lemmas.Grind.{common_steps}
 use Rattle.std.proofs.lemmas.List.{take_all, take_at}
+use Rattle.std.proofs.lemmas.List.Elements.{All-take}
 use Rattle.px_base.specs.CallSign.{CallSign, IsCall}
 use Rattle.ax25_frames.specs.declared.control.Control.{Control}
 use Rattle.ax25_frames.specs.declared.control.Control.TheVariants as control
 use Rattle.ax25_frames.specs.declared.frame.FrameFault.{FrameFault}
 use Rattle.ax25_frames.specs.declared.frame.FrameFault.TheVariants.{Short, BadAddress, TooManyAddresses, BadControl, LongInfo}
-use Rattle.ax25_frames.specs.Kinds.{KindValue, sabm, control_of, control_octet, FitsControl, pid_count, least_information, most_information, pid_octets, information, IsOctets, FitsKind, kind_octets}
+use Rattle.px_base.specs.Octets.{IsOctets}
+use Rattle.ax25_frames.specs.Kinds.{KindValue, control_octet, fields_of, FitsControl, IsNoControl, FitsKind, kind_octets}
+use Rattle.ax25_frames.specs.Values.{bare_value}
 use Rattle.ax25_frames.specs.Addresses.{Entry, AreEntries, character_octets, ssid_octet, entry_octets, is_none, address_field, unended, BeginsUnended}
 use Rattle.ax25_frames.specs.FrameText.{FrameValue, FrameText}
 use Rattle.ax25_frames.specs.Faults.{BeginsFrame, FailsAt, FaultAt, IsRestFault}
@@ -15,7 +18,7 @@ use Rattle.ax25_frames.specs.Reading.{characters_begun, EntryAt}
 use Rattle.ax25_frames.proofs.CharacterLemmas.{begun_is}
 use Rattle.ax25_frames.proofs.EntryLemmas.{cut, entry_cut, field_one, IsPeeled, peel, length_characters, length_entry, length_field, length_unended, unended_more, AreEntries_more}
 use Rattle.ax25_frames.proofs.FrameLemmas.{parts, frame_of, text_of, front_text, begun_entries}
-use Rattle.ax25_frames.proofs.KindLemmas.{control_one, sized, completed, sabm_fits}
+use Rattle.ax25_frames.proofs.KindLemmas.{control_one, sized, completed, least_within, sabm_fits}
 
 -- the front of two lists, and what is left
 take_past : (a b : List ℕ) (n g : ℕ) → n ≡ length a → take (n + g) (a ++ b) ≡ a ++ take g b
@@ -77,7 +80,7 @@ bad_character es x h n six l =
       inside = omega arith;
       begins =
           subst BeginsFrame (sym front)
-          (begun_entries es (record { call = b.call; reserved = 0; top = false }) (take (characters_begun x) x) b.rest h (record { call = b.is_call; reserved = omega arith }) (omega arith) b.text);
+          (begun_entries es (record { call = b.call; reserved = 0; c_or_h_bit = false }) (take (characters_begun x) x) b.rest h (record { call = b.is_call; reserved = omega arith }) (omega arith) b.text);
       ends = λ begins.
           let t : FrameText begins.0 ((unended es ++ take (suc (characters_begun x)) x) ++ begins.1) =
           subst (λ (o : List ℕ). FrameText begins.0 (o ++ begins.1)) more begins.2 in
@@ -86,35 +89,44 @@ bad_character es x h n six l =
           b.ends six l entry.call entry.later begins.1 entry.is_call entry.text;
     }
 
-pub bad_address : (octets : List ℕ) (n : ℕ) → BeginsUnended octets n → n < 10 → characters_begun (drop (7 * n) octets) < 6
-    → characters_begun (drop (7 * n) octets) < length (drop (7 * n) octets) → FaultAt (BadAddress (7 * n + characters_begun (drop (7 * n) octets))) octets
-bad_address octets n h few six l =
+-- what is left after entries without the end bit
+unended_rest : (octets : List ℕ) (n : ℕ) (h : BeginsUnended octets n) → drop (7 * n) octets ≡ h.1
+unended_rest octets n h =
     let len = length_unended h.0 h.2 in
     let size = h.3 in
-    let left : drop (7 * n) octets ≡ h.1 = ap (λ (o : List ℕ). drop (7 * n) o) h.4 ∙ drop_past (unended h.0) h.1 (7 * n) (omega arith) in
-    let begun : characters_begun (drop (7 * n) octets) ≡ characters_begun h.1 = ap characters_begun left in
-    let long : length (drop (7 * n) octets) ≡ length h.1 = ap length left in
+    ap (λ (o : List ℕ). drop (7 * n) o) h.4 ∙ drop_past (unended h.0) h.1 (7 * n) (omega arith)
+
+-- the entry that begins with these octets fails by the octet after so many
+pub bad_entry : (octets x : List ℕ) (n begun : ℕ) → x ≡ drop (7 * n) octets → begun ≡ characters_begun x → BeginsUnended octets n → n < 10
+    → begun < min 6 (length x) → FaultAt (BadAddress (7 * n + begun)) octets
+bad_entry octets x n begun is b h few l =
+    let size = h.3 in
+    let left : x ≡ h.1 = is ∙ unended_rest octets n h in
+    let same : characters_begun x ≡ characters_begun h.1 = ap characters_begun left in
+    let long : length x ≡ length h.1 = ap length left in
     let fails = bad_character h.0 h.1 h.2 (omega arith) (omega arith) (omega arith) in
-    let place : 7 * length h.0 + characters_begun h.1 ≡ 7 * n + characters_begun (drop (7 * n) octets) = omega arith in (
-      subst (λ (o : List ℕ). FailsAt o (7 * n + characters_begun (drop (7 * n) octets))) (sym h.4) (subst (FailsAt (unended h.0 ++ h.1)) place fails),
+    let place : 7 * length h.0 + characters_begun h.1 ≡ 7 * n + begun = omega arith in (
+      subst (λ (o : List ℕ). FailsAt o (7 * n + begun)) (sym h.4) (subst (FailsAt (unended h.0 ++ h.1)) place fails),
       (n, h, few, omega arith, omega arith),
       omega arith,
     )
 
 -- an entry that ends too early
-pub short_entry : (octets : List ℕ) (n : ℕ) → BeginsUnended octets n → n < 10 → length (drop (7 * n) octets) ≤ 6
-    → characters_begun (drop (7 * n) octets) ≡ length (drop (7 * n) octets) → FaultAt (Short (length octets)) octets
-short_entry octets n h few short all =
+pub short_entry : (octets x : List ℕ) (n begun : ℕ) → x ≡ drop (7 * n) octets → begun ≡ characters_begun x → BeginsUnended octets n → n < 10
+    → min 6 (length x) ≤ begun → length x < 7 → FaultAt (Short (length octets)) octets
+short_entry octets x n begun is b h few l short =
     let len = length_unended h.0 h.2 in
     let size = h.3 in
-    let left : drop (7 * n) octets ≡ h.1 = ap (λ (o : List ℕ). drop (7 * n) o) h.4 ∙ drop_past (unended h.0) h.1 (7 * n) (omega arith) in
-    let b = begun_is (drop (7 * n) octets) in
-    let front : take (characters_begun (drop (7 * n) octets)) (drop (7 * n) octets) ≡ h.1 = take_all _ (drop (7 * n) octets) (omega arith) ∙ left in
-    let long : length (drop (7 * n) octets) ≡ length h.1 = ap length left in (
+    let left : x ≡ h.1 = is ∙ unended_rest octets n h in
+    let there = begun_is x in
+    let within = there.within in
+    let inside = there.inside in
+    let front : take (characters_begun x) x ≡ h.1 = take_all _ x (omega arith) ∙ left in
+    let long : length x ≡ length h.1 = ap length left in (
       refl,
       subst BeginsFrame (sym h.4)
-          (begun_entries h.0 (record { call = b.call; reserved = 0; top = false }) h.1 b.rest h.2 (record { call = b.is_call; reserved = omega arith }) (omega arith)
-          (b.text ∙ ap (λ (x : List ℕ). x ++ b.rest) front)),
+          (begun_entries h.0 (record { call = there.call; reserved = 0; c_or_h_bit = false }) h.1 there.rest h.2 (record { call = there.is_call; reserved = omega arith }) (omega arith)
+          (there.text ∙ ap (λ (front : List ℕ). front ++ there.rest) front)),
       λ frame t.
           let whole : FrameText frame ((unended h.0 ++ h.1) ++ []) = subst (FrameText frame) (h.4 ∙ sym (append-nil (unended h.0 ++ h.1))) t in
           let p = unended_left h.0 h.1 frame [] h.2 whole in
@@ -127,8 +139,8 @@ short_entry octets n h few short all =
     )
 
 -- the end bit in the destination
-pub ended_destination : (octets : List ℕ) (call : CallSign) (top : Bool) → EntryAt octets 0 call top true → FaultAt (BadAddress 6) octets
-ended_destination octets call top h =
+pub ended_destination : (octets : List ℕ) (call : CallSign) (c_or_h_bit : Bool) → EntryAt octets 0 call c_or_h_bit true → FaultAt (BadAddress 6) octets
+ended_destination octets call c_or_h_bit h =
     let e = h.0 in
     let len = length_characters e.call h.2.call in
     let size = length_entry true e h.2 in
@@ -170,12 +182,10 @@ too_many octets h = (
 )
 
 -- one more entry without the end bit
-pub more_unended : (octets : List ℕ) (n : ℕ) (call : CallSign) (top : Bool) → BeginsUnended octets n → EntryAt octets n call top false → BeginsUnended octets (n + 1)
-more_unended octets n call top h e =
-    let len = length_unended h.0 h.2 in
+pub more_unended : (octets : List ℕ) (n : ℕ) (call : CallSign) (c_or_h_bit : Bool) → BeginsUnended octets n → EntryAt octets n call c_or_h_bit false → BeginsUnended octets (n + 1)
+more_unended octets n call c_or_h_bit h e =
     let size = h.3 in
-    let left : drop (7 * n) octets ≡ h.1 = ap (λ (o : List ℕ). drop (7 * n) o) h.4 ∙ drop_past (unended h.0) h.1 (7 * n) (omega arith) in
-    let rest : h.1 ≡ entry_octets false e.0 ++ e.1 = sym left ∙ e.5 in
+    let rest : h.1 ≡ entry_octets false e.0 ++ e.1 = sym (unended_rest octets n h) ∙ e.5 in
     let count = length-append h.0 (e.0 ∷ []) in (
       h.0 ++ e.0 ∷ [],
       e.1,
@@ -189,8 +199,11 @@ more_unended octets n call top h e =
 
 -- octets that are a whole address field can be completed
 whole_begins : (dest src : Entry) (repeaters : List Entry) → AreEntries (dest ∷ src ∷ repeaters) → length repeaters ≤ 8 → BeginsFrame (address_field (dest ∷ src ∷ repeaters))
-whole_begins dest src repeaters h most =
-    (frame_of dest src repeaters sabm false, kind_octets sabm false, text_of dest src repeaters sabm false h most sabm_fits)
+whole_begins dest src repeaters h most = (
+  frame_of dest src repeaters (bare_value control.Sabm) false,
+  kind_octets (bare_value control.Sabm) false,
+  text_of dest src repeaters (bare_value control.Sabm) false h most sabm_fits,
+)
 
 -- what follows the address field of a frame
 after_addresses : (dest src : Entry) (repeaters : List Entry) (x : List ℕ) (frame : FrameValue) (rest : List ℕ) → AreEntries (dest ∷ src ∷ repeaters)
@@ -201,41 +214,20 @@ after_addresses dest src repeaters x frame rest h t =
     (sym (append_assoc (address_field (dest ∷ src ∷ repeaters)) x rest) ∙ p.text) in
     (p.fits, cut.1)
 
-pub take_octets : (n : ℕ) (rest : List ℕ) → IsOctets rest → IsOctets (take n rest)
-take_octets zero rest h i = omega arith
-take_octets (suc n) [] h i = omega arith
-take_octets (suc n) (x ∷ xs) h zero = h zero
-take_octets (suc n) (x ∷ xs) h (suc i) = take_octets n xs (λ j. h (suc j)) i
-
 octet_at : (front rest : List ℕ) (octet : ℕ) → slice_index (front ++ octet ∷ rest) (length front) ≡ octet
 octet_at [] rest octet = refl
 octet_at (x ∷ front) rest octet = octet_at front rest octet
 
-least_within : (c : Control) → least_information c ≤ most_information c
-least_within (control.I ns nr) = omega arith
-least_within (control.Rr nr) = omega arith
-least_within (control.Rnr nr) = omega arith
-least_within (control.Rej nr) = omega arith
-least_within control.Sabm = omega arith
-least_within control.Disc = omega arith
-least_within control.Dm = omega arith
-least_within control.Ua = omega arith
-least_within control.Frmr = omega arith
-least_within control.Ui = omega arith
-
 -- what follows the control octet of a frame
 after_control : (c : Control) (p : Bool) (kind : KindValue) (q : Bool) (x : List ℕ) → FitsControl c → FitsKind kind → control_octet c p ∷ x ≡ kind_octets kind q
-    → (pid_count c + least_information c ≤ length x) × (length x ≤ pid_count c + most_information c)
+    → ((fields_of c).pids + (fields_of c).least ≤ length x) × (length x ≤ (fields_of c).pids + (fields_of c).most)
 after_control c p kind q x h fits e =
-    let octet : control_octet c p ≡ control_octet (control_of kind) q = cc in
-    let rest : x ≡ pid_octets kind ++ information kind = cc in
-    let one = control_one c (control_of kind) p q h fits.control octet in
+    let octet : control_octet c p ≡ control_octet kind.control q = cc in
+    let rest : x ≡ kind.pid ++ kind.information = cc in
+    let one = control_one c kind.control p q h fits.control octet in
     let size = sized kind fits in
-    let long : length x ≡ length (pid_octets kind ++ information kind) = ap length rest in
-    let pid : pid_count c ≡ pid_count (control_of kind) = ap pid_count one.0 in
-    let least : least_information c ≡ least_information (control_of kind) = ap least_information one.0 in
-    let most : most_information c ≡ most_information (control_of kind) = ap most_information one.0 in
-    (omega arith, omega arith)
+    let P : Control → Type 0 = λ d. ((fields_of d).pids + (fields_of d).least ≤ length x) × (length x ≤ (fields_of d).pids + (fields_of d).most) in
+    subst P (sym one.0) (rw rest (size.least, size.most))
 
 module _ (dest src : Entry) (repeaters : List Entry) (h : AreEntries (dest ∷ src ∷ repeaters)) (most : length repeaters ≤ 8) where
   abbrev pub field : List ℕ
@@ -252,7 +244,7 @@ module _ (dest src : Entry) (repeaters : List Entry) (h : AreEntries (dest ∷ s
   )
 
   -- a control octet of no kind
-  pub bad_control : (octet : ℕ) (rest : List ℕ) → ((c : Control) (p : Bool) → FitsControl c → octet ≡ control_octet c p → ⊥)
+  pub bad_control : (octet : ℕ) (rest : List ℕ) → IsNoControl octet
       → FaultAt (BadControl octet) (field ++ octet ∷ rest)
   bad_control octet rest none =
       let len = length-append field (octet ∷ rest) in
@@ -265,29 +257,27 @@ module _ (dest src : Entry) (repeaters : List Entry) (h : AreEntries (dest ∷ s
           ends = λ begins.
               let t : FrameText begins.0 ((field ++ octet ∷ []) ++ begins.1) = subst (λ (o : List ℕ). FrameText begins.0 (o ++ begins.1)) more begins.2 in
               let a = after_addresses dest src repeaters (octet ∷ []) begins.0 begins.1 h t in
-              let is : octet ≡ control_octet (control_of begins.0.kind) begins.0.poll = cc (a.1) in
-              none (control_of begins.0.kind) begins.0.poll a.0.control is;
+              let is : octet ≡ control_octet begins.0.kind.control begins.0.poll = cc (a.1) in
+              none begins.0.kind.control begins.0.poll a.0.control is;
         },
         (dest ∷ src ∷ repeaters, h, omega arith, omega arith, front),
         octet_at field rest octet,
       )
 
   -- what follows the control octet ends too early
-  short_rest : (c : Control) (p : Bool) (rest : List ℕ) → FitsControl c → IsOctets rest → length rest < pid_count c + least_information c
+  short_rest : (c : Control) (p : Bool) (rest : List ℕ) → FitsControl c → IsOctets rest → length rest < (fields_of c).pids + (fields_of c).least
       → FaultAt (Short (length (field ++ control_octet c p ∷ rest))) (field ++ control_octet c p ∷ rest)
   short_rest c p rest fits octets short =
       let within = least_within c in
       let done = completed c rest fits octets (omega arith) in
-      let kind : kind_octets done.kind p ≡ control_octet c p ∷ (rest ++ done.more) =
-      ap (λ (d : Control). control_octet d p ∷ (pid_octets done.kind ++ information done.kind)) done.control
-      ∙ ap (λ (x : List ℕ). control_octet c p ∷ x) done.text in
-      let whole : field ++ kind_octets done.kind p ≡ (field ++ control_octet c p ∷ rest) ++ done.more =
-      ap (λ (x : List ℕ). field ++ x) kind ∙ sym (append_assoc field (control_octet c p ∷ rest) done.more) in (
+      let kind : KindValue = record { control = c; pid = done.pid; information = done.information } in
+      let whole : field ++ kind_octets kind p ≡ (field ++ control_octet c p ∷ rest) ++ done.more =
+      ap (λ (x : List ℕ). field ++ control_octet c p ∷ x) done.text ∙ sym (append_assoc field (control_octet c p ∷ rest) done.more) in (
         refl,
         (
-          frame_of dest src repeaters done.kind p,
+          frame_of dest src repeaters kind p,
           done.more,
-          subst (FrameText (frame_of dest src repeaters done.kind p)) whole (text_of dest src repeaters done.kind p h most done.fits),
+          subst (FrameText (frame_of dest src repeaters kind p)) whole (text_of dest src repeaters kind p h most done.fits),
         ),
         λ frame t.
             let all : FrameText frame ((field ++ control_octet c p ∷ rest) ++ []) = subst (FrameText frame) (sym (append-nil (field ++ control_octet c p ∷ rest))) t in
@@ -299,27 +289,24 @@ module _ (dest src : Entry) (repeaters : List Entry) (h : AreEntries (dest ∷ s
       )
 
   -- the information is too long
-  long_rest : (c : Control) (p : Bool) (rest : List ℕ) (len : ℕ) → FitsControl c → IsOctets rest → pid_count c + most_information c < length rest
-      → len + pid_count c ≡ length rest → FaultAt (LongInfo len) (field ++ control_octet c p ∷ rest)
+  long_rest : (c : Control) (p : Bool) (rest : List ℕ) (len : ℕ) → FitsControl c → IsOctets rest → (fields_of c).pids + (fields_of c).most < length rest
+      → len + (fields_of c).pids ≡ length rest → FaultAt (LongInfo len) (field ++ control_octet c p ∷ rest)
   long_rest c p rest len fits octets long size =
-      let done = completed c (take (pid_count c) rest) fits (take_octets (pid_count c) rest octets) (let t = length-take-le (pid_count c) rest (omega arith) in omega arith) in
-      let sizes = sized done.kind done.fits in
-      let taken = length-take-le (pid_count c) rest (omega arith) in
-      let count : pid_count (control_of done.kind) ≡ pid_count c = ap pid_count done.control in
-      let pid = cut (pid_octets done.kind) (take (pid_count c) rest) (information done.kind) done.more (sizes.pid ∙ count ∙ sym taken) done.text in
-      let left = length-drop (pid_count c) rest in
-      let frame : FrameValue = frame_of dest src repeaters done.kind p in
-      let front : List ℕ = field ++ control_octet (control_of done.kind) p ∷ pid_octets done.kind in
-      let split : rest ≡ pid_octets done.kind ++ drop (pid_count c) rest =
-      sym (take-append-drop (pid_count c) rest) ∙ ap (λ (x : List ℕ). x ++ drop (pid_count c) rest) (sym pid.0) in
-      let whole : field ++ control_octet c p ∷ rest ≡ front ++ drop (pid_count c) rest =
-      ap (λ (x : List ℕ). field ++ control_octet c p ∷ x) split
-      ∙ ap (λ (d : Control). field ++ control_octet d p ∷ (pid_octets done.kind ++ drop (pid_count c) rest)) (sym done.control)
-      ∙ sym (append_assoc field (control_octet (control_of done.kind) p ∷ pid_octets done.kind) (drop (pid_count c) rest)) in (
-        frame,
+      let pid : List ℕ = take (fields_of c).pids rest in
+      let info : List ℕ = drop (fields_of c).pids rest in
+      let taken = length-take-le (fields_of c).pids rest (omega arith) in
+      let done = completed c pid fits (All-take (λ (octet : ℕ). octet < 256) (fields_of c).pids rest octets) (omega arith) in
+      let same = cut done.pid pid done.information done.more (done.fits.count ∙ sym taken) done.text in
+      let left = length-drop (fields_of c).pids rest in
+      let kind : KindValue = record { control = c; pid = done.pid; information = done.information } in
+      let front : List ℕ = field ++ control_octet c p ∷ done.pid in
+      let whole : field ++ control_octet c p ∷ rest ≡ front ++ info =
+      ap (λ (x : List ℕ). field ++ control_octet c p ∷ x) (sym (take-append-drop (fields_of c).pids rest) ∙ ap (λ (x : List ℕ). x ++ info) (sym same.0))
+      ∙ sym (append_assoc field (control_octet c p ∷ done.pid) info) in (
+        frame_of dest src repeaters kind p,
         front,
-        drop (pid_count c) rest,
-        front_text dest src repeaters done.kind p h most done.fits,
+        info,
+        front_text dest src repeaters kind p h most done.fits,
         whole,
         omega arith,
         λ begins.
@@ -331,7 +318,7 @@ module _ (dest src : Entry) (repeaters : List Entry) (h : AreEntries (dest ∷ s
       )
 
   pub rest_fault : (c : Control) (p : Bool) (rest : List ℕ) (fault : FrameFault) → FitsControl c → IsOctets rest
-      → IsRestFault (pid_count c) (least_information c) (most_information c) rest (length (field ++ control_octet c p ∷ rest)) fault
+      → IsRestFault (fields_of c) rest (length (field ++ control_octet c p ∷ rest)) fault
       → FaultAt fault (field ++ control_octet c p ∷ rest)
   rest_fault c p rest (Short at) fits octets f =
       subst (λ (n : ℕ). FaultAt (Short n) (field ++ control_octet c p ∷ rest)) (sym f.0) (short_rest c p rest fits octets f.1)

@@ -1,26 +1,29 @@
 -- Octets are those of a frame, or have a fault.
-use Rattle.std.proofs.Common.{◌≡◌, ◌⊎◌, ℕ, zero, suc, ◌+◌, ◌*◌, ◌≤◌, ◌<◌, Bool, true, false, List, [], length, drop, min, slice_index, refl, subst, arith, inl, inr}
+use Rattle.std.proofs.Common.{◌≡◌, ◌⊎◌, ℕ, zero, suc, ◌+◌, ◌*◌, ◌≤◌, ◌<◌, Bool, true, false, List, [], length, drop, min, slice_index, refl, subst, arith, inl, inr, take-append-drop}
 use Rattle.std.proofs.lemmas.Bool.{cases_lt}
 use Rattle.px_base.specs.CallSign.{CallSign}
 use Rattle.ax25_frames.specs.declared.frame.FrameFault.{FrameFault}
 use Rattle.ax25_frames.specs.declared.frame.FrameFault.TheVariants.{BadAddress, BadControl, Short, TooManyAddresses}
-use Rattle.ax25_frames.specs.Kinds.{IsOctets}
+use Rattle.px_base.specs.Octets.{IsOctets}
+use Rattle.ax25_frames.specs.Kinds.{fields_of, poll_bit}
 use Rattle.ax25_frames.specs.Addresses.{BeginsUnended}
 use Rattle.ax25_frames.specs.FrameText.{FrameText, FrameValue}
 use Rattle.ax25_frames.specs.Faults.{FaultAt}
+use Rattle.ax25_frames.specs.Laws.{IsFrameOrFault}
 use Rattle.ax25_frames.specs.Reading.{AddressesAt, EntryAt, RepeatersAt, characters_begun}
-use Rattle.ax25_frames.proofs.FaultLemmas.{ended_destination, more_unended, too_many}
-use Rattle.ax25_frames.proofs.ReadLemmas.{AreRepeaters, addresses_more, addresses_two, bad_entry, control_fault, entry_read, frame_at, octets_after, repeaters_begin, repeaters_end, repeaters_more, rest_fault_at, short_at, short_of_entry, six_begun}
+use Rattle.ax25_frames.proofs.FaultLemmas.{bad_entry, ended_destination, more_unended, short_entry, too_many}
+use Rattle.ax25_frames.proofs.ReadLemmas.{AreRepeaters, addresses_more, addresses_two, control_fault, entry_read, frame_at, octets_after, repeaters_begin, repeaters_end, repeaters_more, rest_fault_at, short_at}
 use Rattle.ax25_frames.proofs.ControlCases.{control_or_none, rest_or_fault}
+use Rattle.ax25_frames.proofs.KindLemmas.{kind_of}
 
 -- the octets have a fault
-abbrev pub HasFault : List ℕ → Type 0
+abbrev HasFault : List ℕ → Type 0
 HasFault octets = (fault : FrameFault) × FaultAt fault octets
 
 module _ (octets : List ℕ) (o : IsOctets octets) where
   -- after so many entries stands another
   abbrev HasEntry : ℕ → Type 0
-  HasEntry n = (call : CallSign) × (top end : Bool) × EntryAt octets n call top end
+  HasEntry n = (call : CallSign) × (c_or_h_bit end : Bool) × EntryAt octets n call c_or_h_bit end
 
   entry_or_fault : (n : ℕ) → BeginsUnended octets n → n < 10 → HasEntry n ⊎ HasFault octets
   entry_or_fault n h few =
@@ -28,8 +31,8 @@ module _ (octets : List ℕ) (o : IsOctets octets) where
       elim (cases_lt (characters_begun x) (min 6 (length x))) [
         | inl ill ↦ inr (BadAddress (7 * n + characters_begun x), bad_entry octets x n (characters_begun x) refl refl h few ill)
         | inr begun ↦ elim (cases_lt (length x) 7) [
-          | inl short ↦ inr (Short (length octets), short_of_entry octets x n (characters_begun x) refl refl h few begun short)
-          | inr long ↦ inl (_, _, _, entry_read octets n x refl long (six_begun x (characters_begun x) refl begun long) (octets_after (7 * n) octets x refl o 6))
+          | inl short ↦ inr (Short (length octets), short_entry octets x n (characters_begun x) refl refl h few begun short)
+          | inr long ↦ inl (_, _, _, entry_read octets x _ n (characters_begun x) refl refl refl begun long (octets_after (7 * n) octets x refl o 6 0 (omega arith)))
         ]
       ]
 
@@ -47,9 +50,9 @@ module _ (octets : List ℕ) (o : IsOctets octets) where
         | inl entry ↦ next entry.0 entry.1 entry.2 entry.3 (repeaters_or_fault left (n + 1) (omega arith))
       ]
     where
-      next : (call : CallSign) (top end : Bool) → EntryAt octets (2 + n) call top end → (AreRepeaters octets (n + 1) → HasRepeaters ⊎ HasFault octets) → HasRepeaters ⊎ HasFault octets
-      next call top true entry go_on = inl (n + 1, repeaters_end octets n call top h entry, omega arith, omega arith)
-      next call top false entry go_on = go_on (repeaters_more octets n call top h entry (more_unended octets (2 + n) call top h.before entry))
+      next : (call : CallSign) (c_or_h_bit end : Bool) → EntryAt octets (2 + n) call c_or_h_bit end → (AreRepeaters octets (n + 1) → HasRepeaters ⊎ HasFault octets) → HasRepeaters ⊎ HasFault octets
+      next call c_or_h_bit true entry go_on = inl (n + 1, repeaters_end octets n call c_or_h_bit h entry, omega arith, omega arith)
+      next call c_or_h_bit false entry go_on = go_on (repeaters_more octets n call c_or_h_bit h entry (more_unended octets (2 + n) call c_or_h_bit h.before entry))
 
   -- a whole address field stands at the front
   abbrev HasAddresses : Type 0
@@ -62,12 +65,12 @@ module _ (octets : List ℕ) (o : IsOctets octets) where
         | inl entry ↦ next entry.0 entry.1 entry.2 entry.3
       ]
     where
-      next : (src : CallSign) (top end : Bool) → EntryAt octets 1 src top end → HasAddresses ⊎ HasFault octets
-      next src top true s = inl (dest, src, 0, command, addresses_two octets dest src command top d s)
-      next src top false s =
-          elim (repeaters_or_fault 8 0 refl (repeaters_begin octets (more_unended octets 1 src top one s))) [
+      next : (src : CallSign) (c_or_h_bit end : Bool) → EntryAt octets 1 src c_or_h_bit end → HasAddresses ⊎ HasFault octets
+      next src c_or_h_bit true s = inl (dest, src, 0, command, addresses_two octets dest src command c_or_h_bit d s)
+      next src c_or_h_bit false s =
+          elim (repeaters_or_fault 8 0 refl (repeaters_begin octets (more_unended octets 1 src c_or_h_bit one s))) [
             | inr fault ↦ inr fault
-            | inl r ↦ inl (dest, src, r.0, command, addresses_more octets dest src command top r.0 d s r.1 r.2 r.3)
+            | inl r ↦ inl (dest, src, r.0, command, addresses_more octets dest src command c_or_h_bit r.0 d s r.1 r.2 r.3)
           ]
 
   addresses_or_fault : HasAddresses ⊎ HasFault octets
@@ -85,26 +88,35 @@ module _ (octets : List ℕ) (o : IsOctets octets) where
       next dest command false d = source_or_fault dest command d (more_unended octets 0 dest command none d)
 
   -- some frame has the octets
-  abbrev pub HasFrame : Type 0
+  abbrev HasFrame : Type 0
   HasFrame = (frame : FrameValue) × FrameText frame octets
 
   after_addresses : (dest src : CallSign) (via : ℕ) (command : Bool) (len : ℕ) → AddressesAt octets dest src via command len → HasFrame ⊎ HasFault octets
   after_addresses dest src via command len a =
       elim (cases_lt len (length octets)) [
         | inr short ↦ inr (Short (length octets), short_at octets dest src via command len a short)
-        | inl there ↦ elim (control_or_none (slice_index octets len) (o len)) [
+        | inl there ↦ elim (control_or_none (slice_index octets len) (o len 0 there)) [
           | inr none ↦ inr (BadControl (slice_index octets len), control_fault octets dest src via command len a (slice_index octets len) refl there none)
-          | inl c ↦ elim (rest_or_fault c.0 (drop (len + 1) octets) (length octets) c.2 (octets_after (len + 1) octets (drop (len + 1) octets) refl o)) [
-            | inr f ↦ inr (f.0, rest_fault_at octets dest src via command len a (slice_index octets len) c.0 c.1 (drop (len + 1) octets) f.0 refl there c.3 refl c.2 (octets_after (len + 1) octets (drop (len + 1) octets) refl o) f.1)
-            | inl k ↦ inl (_, frame_at octets dest src via command len a (slice_index octets len) c.0 c.1 (drop (len + 1) octets) k.0 refl there c.3 refl k.1 k.2 k.3)
-          ]
+          | inl says ↦
+              let octet : ℕ = slice_index octets len in
+              let rest : List ℕ = drop (len + 1) octets in
+              let are : IsOctets rest = octets_after (len + 1) octets rest refl o in
+              elim (rest_or_fault says.0 rest (length octets) says.1.0 are) [
+                | inr f ↦ inr (f.0, rest_fault_at octets dest src via command len a octet says.0 (poll_bit octet) rest f.0 refl there says.1.1 refl says.1.0 are f.1)
+                | inl fits ↦
+                    inl (
+                      _,
+                      frame_at octets dest src via command len a octet says.0 (poll_bit octet) rest (kind_of says.0 rest) refl there says.1.1 refl refl
+                          (take-append-drop (fields_of says.0).pids rest) fits,
+                    )
+              ]
         ]
       ]
 
-  -- some frame has the octets, or they have a fault
-  pub frame_or_fault : HasFrame ⊎ HasFault octets
-  frame_or_fault =
-      elim addresses_or_fault [
-        | inr fault ↦ inr fault
-        | inl a ↦ after_addresses a.0 a.1 a.2 a.3 (14 + 7 * a.2) a.4
-      ]
+-- some frame has the octets, or they have a fault
+pub frame_or_fault : IsFrameOrFault
+frame_or_fault octets o =
+    elim (addresses_or_fault octets o) [
+      | inr fault ↦ inr fault
+      | inl a ↦ after_addresses octets o a.0 a.1 a.2 a.3 (14 + 7 * a.2) a.4
+    ]

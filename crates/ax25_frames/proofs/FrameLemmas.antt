@@ -3,7 +3,9 @@ use Rattle.std.proofs.Common.{◌≡◌, ℕ, ◌+◌, ◌≤◌, Bool, true, fa
 use Rattle.std.proofs.lemmas.Grind.{common_steps}
 use Rattle.px_base.specs.CallSign.{CallSign}
 use Rattle.ax25_frames.specs.declared.frame.FrameFault.TheVariants.{Short, BadAddress, TooManyAddresses, BadControl, LongInfo}
-use Rattle.ax25_frames.specs.Kinds.{KindValue, sabm, control_of, control_octet, pid_octets, information, FitsKind, kind_octets}
+use Rattle.ax25_frames.specs.declared.control.Control.TheVariants as control
+use Rattle.ax25_frames.specs.Kinds.{KindValue, control_octet, FitsKind, kind_octets}
+use Rattle.ax25_frames.specs.Values.{bare_value}
 use Rattle.ax25_frames.specs.Addresses.{Entry, IsEntry, AreEntries, character_octets, ssid_octet, entry_octets, address_field, unended}
 use Rattle.ax25_frames.specs.FrameText.{FrameValue, FrameText}
 use Rattle.ax25_frames.specs.Faults.{BeginsFrame}
@@ -23,15 +25,15 @@ pub record HasParts (frame : FrameValue) (octets : List ℕ) : Type 0 where
   pub is_dest : frame.dest ≡ dest.call
   pub is_src : frame.src ≡ src.call
   pub is_via : frame.via ≡ length repeaters
-  pub is_command : frame.command ≡ dest.top
+  pub is_command : frame.command ≡ dest.c_or_h_bit
 
 pub parts : (frame : FrameValue) (octets : List ℕ) → FrameText frame octets → HasParts frame octets
 parts frame octets h =
     let via = h.fits_free.via in
     let most = h.fits.via in
     record {
-      dest = record { call = frame.dest; reserved = h.free.dest_reserved; top = frame.command };
-      src = record { call = frame.src; reserved = h.free.src_reserved; top = h.free.src_top };
+      dest = record { call = frame.dest; reserved = h.free.dest_reserved; c_or_h_bit = frame.command };
+      src = record { call = frame.src; reserved = h.free.src_reserved; c_or_h_bit = h.free.src_c_bit };
       repeaters = h.free.repeaters;
       entries = (record { call = h.fits.dest; reserved = h.fits_free.dest_reserved }, (record { call = h.fits.src; reserved = h.fits_free.src_reserved }, h.fits_free.repeaters));
       most = omega arith;
@@ -46,7 +48,7 @@ parts frame octets h =
 -- the frame of entries and a kind
 unfoldable pub frame_of : Entry → Entry → List Entry → KindValue → Bool → FrameValue
 frame_of dest src repeaters kind poll =
-    record { dest = dest.call; src = src.call; via = length repeaters; kind = kind; poll = poll; command = dest.top }
+    record { dest = dest.call; src = src.call; via = length repeaters; kind = kind; poll = poll; command = dest.c_or_h_bit }
 
 pub text_of : (dest src : Entry) (repeaters : List Entry) (kind : KindValue) (poll : Bool) → AreEntries (dest ∷ src ∷ repeaters) → length repeaters ≤ 8
     → FitsKind kind → FrameText (frame_of dest src repeaters kind poll) (address_field (dest ∷ src ∷ repeaters) ++ kind_octets kind poll)
@@ -54,7 +56,7 @@ unfolding frame_of
 text_of dest src repeaters kind poll h most fits =
     record {
       fits = record { dest = h.0.call; src = h.1.0.call; via = most; kind = fits };
-      free = record { dest_reserved = dest.reserved; src_reserved = src.reserved; src_top = src.top; repeaters = repeaters };
+      free = record { dest_reserved = dest.reserved; src_reserved = src.reserved; src_c_bit = src.c_or_h_bit; repeaters = repeaters };
       fits_free = record { dest_reserved = h.0.reserved; src_reserved = h.1.0.reserved; repeaters = h.1.1; via = refl };
       text = refl;
     }
@@ -63,11 +65,11 @@ text_of dest src repeaters kind poll h most fits =
 pub front_text : (dest src : Entry) (repeaters : List Entry) (kind : KindValue) (poll : Bool) → AreEntries (dest ∷ src ∷ repeaters) → length repeaters ≤ 8
     → FitsKind kind
     → FrameText (frame_of dest src repeaters kind poll)
-    ((address_field (dest ∷ src ∷ repeaters) ++ control_octet (control_of kind) poll ∷ pid_octets kind) ++ information (frame_of dest src repeaters kind poll).kind)
+    ((address_field (dest ∷ src ∷ repeaters) ++ control_octet kind.control poll ∷ kind.pid) ++ (frame_of dest src repeaters kind poll).kind.information)
 unfolding frame_of
 front_text dest src repeaters kind poll h most fits =
     subst (FrameText (frame_of dest src repeaters kind poll))
-    (sym (append_assoc (address_field (dest ∷ src ∷ repeaters)) (control_octet (control_of kind) poll ∷ pid_octets kind) (information kind)))
+    (sym (append_assoc (address_field (dest ∷ src ∷ repeaters)) (control_octet kind.control poll ∷ kind.pid) kind.information))
     (text_of dest src repeaters kind poll h most fits)
 
 pub same_frame : (a b : FrameValue) → a.dest ≡ b.dest → a.src ≡ b.src → a.via ≡ b.via → a.kind ≡ b.kind → a.poll ≡ b.poll → a.command ≡ b.command → a ≡ b
@@ -98,13 +100,13 @@ one_frame one other octets h k =
     (a.is_src ∙ ap (λ (e : Entry). e.call) second.0 ∙ sym b.is_src)
     (a.is_via ∙ ap (λ (es : List Entry). length es) second.1 ∙ sym b.is_via)
     kind.0 kind.1
-    (a.is_command ∙ ap (λ (e : Entry). e.top) first.0 ∙ sym b.is_command)
+    (a.is_command ∙ ap (λ (e : Entry). e.c_or_h_bit) first.0 ∙ sym b.is_command)
 
 pub canonical_text : IsCanonical
 canonical_text frame h via =
     record {
       fits = h;
-      free = record { dest_reserved = 3; src_reserved = 3; src_top = not frame.command; repeaters = [] };
+      free = record { dest_reserved = 3; src_reserved = 3; src_c_bit = not frame.command; repeaters = [] };
       fits_free = record { dest_reserved = omega arith; src_reserved = omega arith; repeaters = tt; via = sym via };
       text = refl;
     }
@@ -126,6 +128,10 @@ no_frame (BadAddress at) octets frame h k = h.0.ends (begins_take frame octets (
 no_frame TooManyAddresses octets frame h k = h.1 (begins_take frame octets 70 k)
 no_frame (BadControl octet) octets frame h k = h.1.ends (begins_take frame octets (h.0 + 1) k)
 no_frame (LongInfo len) octets frame h k = h.6 (begins_whole frame octets k)
+
+-- a kind that any frame may have
+abbrev sabm : KindValue
+sabm = bare_value control.Sabm
 
 -- an entry in two parts, between octets
 regroup : (u chars front rest z : List ℕ) (o : ℕ) → chars ≡ front ++ rest → u ++ ((chars ++ o ∷ []) ++ z) ≡ (u ++ front) ++ (rest ++ o ∷ z)

@@ -1,20 +1,22 @@
 -- What was read of the address field, entry by entry.
-use Rattle.std.proofs.Common.{◌≡◌, ℕ, zero, suc, ◌+◌, ◌*◌, ◌/◌, ◌%◌, ◌≤◌, ◌<◌, ◌==◌, Bool, true, false, List, [], ◌∷◌, ◌++◌, length, map, take, drop, slice_index, leb, refl, sym, ap, ◌∙◌, subst, arith, append_assoc, length-append, length-take-le, take-append-drop, drop-cons, min, inl, inr}
+use Rattle.std.proofs.Common.{◌≡◌, ℕ, suc, ◌+◌, ◌*◌, ◌/◌, ◌%◌, ◌≤◌, ◌<◌, ◌==◌, Bool, true, false, List, [], ◌∷◌, ◌++◌, length, map, take, drop, slice_index, leb, refl, sym, ap, ◌∙◌, subst, arith, append_assoc, length-append, length-take-le, take-append-drop, drop-cons, min, inl, inr}
 use Rattle.std.proofs.lemmas.Bool.{ne_eqb, eq-eqb, le-leb, lt-leb, cases_lt}
 use Rattle.std.proofs.lemmas.Grind.{common_steps}
 use Rattle.std.proofs.lemmas.List.{take_at, take_all, drop-drop}
+use Rattle.std.proofs.lemmas.List.Elements.{All-drop}
 use Rattle.px_base.specs.CallSign.{CallSign, IsCall}
 use Rattle.ax25_frames.specs.declared.control.Control.{Control}
 use Rattle.ax25_frames.specs.declared.frame.FrameFault.{FrameFault}
-use Rattle.ax25_frames.specs.declared.frame.FrameFault.TheVariants.{Short, BadAddress, BadControl}
-use Rattle.ax25_frames.specs.Kinds.{KindValue, bit, control_of, control_octet, FitsControl, pid_count, least_information, most_information, pid_octets, information, IsOctets, FitsKind, kind_octets}
+use Rattle.ax25_frames.specs.declared.frame.FrameFault.TheVariants.{Short, BadControl}
+use Rattle.px_base.specs.Octets.{IsOctets}
+use Rattle.ax25_frames.specs.Kinds.{KindValue, bit, control_octet, fields_of, FitsControl, IsNoControl, FitsKind, kind_octets}
 use Rattle.ax25_frames.specs.FrameText.{FrameValue, FrameText}
 use Rattle.ax25_frames.specs.Faults.{FaultAt, IsRestFault}
 use Rattle.ax25_frames.specs.Addresses.{Entry, AreEntries, character_octets, ssid_octet, entry_octets, address_field, unended, BeginsUnended}
 use Rattle.ax25_frames.specs.Reading.{characters_begun, EntryAt, RepeatersAt, AddressesAt}
 use Rattle.ax25_frames.proofs.CharacterLemmas.{begun_is, begun_whole}
 use Rattle.ax25_frames.proofs.EntryLemmas.{length_entry, length_unended, length_field, unended_more, AreEntries_more, field_last}
-use Rattle.ax25_frames.proofs.FaultLemmas.{drop_past, bad_address, short_entry, short_control, bad_control, rest_fault}
+use Rattle.ax25_frames.proofs.FaultLemmas.{drop_past, short_control, bad_control, rest_fault}
 use Rattle.ax25_frames.proofs.FrameLemmas.{frame_of, text_of, same_frame}
 
 pub unended_within : (octets : List ℕ) (n : ℕ) → BeginsUnended octets n → 7 * n ≤ length octets
@@ -25,10 +27,6 @@ unended_within octets n h =
     let long : length octets ≡ length (unended h.0 ++ h.1) = ap length h.4 in
     omega arith
 
--- the call that six characters and the SSID octet say
-pub call_is : (x : List ℕ) → characters_begun x ≡ 6 → 6 ≤ length x → IsCall (record { chars = map (λ o. o / 2) (take 6 x); ssid = slice_index x 6 / 2 % 16 })
-call_is x six l = (begun_whole x (slice_index x 6 / 2 % 16) (omega arith) six l).is_call
-
 -- bit 0 of a number
 pub bit_mod : (o : ℕ) → bit (o % 2 == 1) ≡ o % 2
 bit_mod o =
@@ -37,8 +35,8 @@ bit_mod o =
       | inr high ↦ let e : (o % 2 == 1) ≡ true = eq-eqb _ _ (omega arith) in ap bit e ∙ omega arith
     ]
 
-bit_top : (o : ℕ) → o < 256 → bit (leb 128 o) ≡ o / 128
-bit_top o h =
+bit_seven : (o : ℕ) → o < 256 → bit (leb 128 o) ≡ o / 128
+bit_seven o h =
     elim (cases_lt o 128) [
       | inl low ↦ let e : leb 128 o ≡ false = lt-leb _ _ low in ap bit e ∙ omega arith
       | inr high ↦ let e : leb 128 o ≡ true = le-leb _ _ high in ap bit e ∙ omega arith
@@ -55,19 +53,34 @@ seven (a ∷ b ∷ c ∷ d ∷ e ∷ []) h = absurd (omega arith)
 seven (a ∷ b ∷ c ∷ d ∷ e ∷ f ∷ []) h = absurd (omega arith)
 seven (a ∷ b ∷ c ∷ d ∷ e ∷ f ∷ g ∷ x) h = refl
 
+-- all six characters were begun
+six_begun : (x : List ℕ) (begun : ℕ) → begun ≡ characters_begun x → min 6 (length x) ≤ begun → 7 ≤ length x → characters_begun x ≡ 6
+six_begun x begun b l long =
+    let there = begun_is x in
+    let within = there.within in
+    omega arith
+
+-- the call that was read
+pub call_read : (x chars : List ℕ) (begun : ℕ) → chars ≡ map (λ o. o / 2) (take 6 x) → begun ≡ characters_begun x → min 6 (length x) ≤ begun → 7 ≤ length x
+    → IsCall (record { chars = chars; ssid = slice_index x 6 / 2 % 16 })
+call_read x chars begun e b l long =
+    subst (λ (cs : List ℕ). IsCall (record { chars = cs; ssid = slice_index x 6 / 2 % 16 })) (sym e)
+    (begun_whole x (slice_index x 6 / 2 % 16) (omega arith) (six_begun x begun b l long) (omega arith)).is_call
+
 -- the entry that was read
-pub entry_read : (octets : List ℕ) (n : ℕ) (x : List ℕ) → x ≡ drop (7 * n) octets → 7 ≤ length x → characters_begun x ≡ 6 → slice_index x 6 < 256
-    → EntryAt octets n (record { chars = map (λ o. o / 2) (take 6 x); ssid = slice_index x 6 / 2 % 16 }) (leb 128 (slice_index x 6)) (slice_index x 6 % 2 == 1)
-entry_read octets n x is l six o =
-    let whole = begun_whole x (slice_index x 6 / 2 % 16) (omega arith) six (omega arith) in
-    let entry : Entry = record { call = record { chars = map (λ o. o / 2) (take 6 x); ssid = slice_index x 6 / 2 % 16 }; reserved = slice_index x 6 / 32 % 4; top = leb 128 (slice_index x 6) } in
+pub entry_read : (octets x chars : List ℕ) (n begun : ℕ) → x ≡ drop (7 * n) octets → chars ≡ map (λ o. o / 2) (take 6 x) → begun ≡ characters_begun x
+    → min 6 (length x) ≤ begun → 7 ≤ length x → slice_index x 6 < 256
+    → EntryAt octets n (record { chars = chars; ssid = slice_index x 6 / 2 % 16 }) (leb 128 (slice_index x 6)) (slice_index x 6 % 2 == 1)
+entry_read octets x chars n begun is e b most l o =
+    let whole = begun_whole x (slice_index x 6 / 2 % 16) (omega arith) (six_begun x begun b most l) (omega arith) in
+    let entry : Entry = record { call = record { chars = map (λ o. o / 2) (take 6 x); ssid = slice_index x 6 / 2 % 16 }; reserved = slice_index x 6 / 32 % 4; c_or_h_bit = leb 128 (slice_index x 6) } in
     let low = bit_mod (slice_index x 6) in
-    let high = bit_top (slice_index x 6) o in
+    let high = bit_seven (slice_index x 6) o in
     let octet : ssid_octet (slice_index x 6 % 2 == 1) entry ≡ slice_index x 6 = omega arith in (
       entry,
       drop 7 x,
       record { call = whole.is_call; reserved = omega arith },
-      refl,
+      ap (λ (cs : List ℕ). let call : CallSign = record { chars = cs; ssid = slice_index x 6 / 2 % 16 } in call) (sym e),
       refl,
       sym is
           ∙ seven x l
@@ -98,9 +111,9 @@ rest_after octets n h =
 pub repeaters_begin : (octets : List ℕ) → BeginsUnended octets 2 → AreRepeaters octets 0
 repeaters_begin octets h = record { before = h; repeaters = []; rest = drop 14 octets; entries = tt; count = refl; text = refl }
 
-pub repeaters_more : (octets : List ℕ) (n : ℕ) (call : CallSign) (top : Bool) → AreRepeaters octets n → EntryAt octets (2 + n) call top false
+pub repeaters_more : (octets : List ℕ) (n : ℕ) (call : CallSign) (c_or_h_bit : Bool) → AreRepeaters octets n → EntryAt octets (2 + n) call c_or_h_bit false
     → BeginsUnended octets (2 + n + 1) → AreRepeaters octets (n + 1)
-repeaters_more octets n call top h e more =
+repeaters_more octets n call c_or_h_bit h e more =
     let count = h.count in
     let len = length-append h.repeaters (e.0 ∷ []) in
     let place : 2 + n + 1 ≡ 2 + (n + 1) = omega arith in
@@ -117,8 +130,8 @@ repeaters_more octets n call top h e more =
           ∙ ap (λ (x : List ℕ). x ++ e.1) (sym (unended_more h.repeaters e.0));
     }
 
-pub repeaters_end : (octets : List ℕ) (n : ℕ) (call : CallSign) (top : Bool) → AreRepeaters octets n → EntryAt octets (2 + n) call top true → RepeatersAt octets (n + 1)
-repeaters_end octets n call top h e =
+pub repeaters_end : (octets : List ℕ) (n : ℕ) (call : CallSign) (c_or_h_bit : Bool) → AreRepeaters octets n → EntryAt octets (2 + n) call c_or_h_bit true → RepeatersAt octets (n + 1)
+repeaters_end octets n call c_or_h_bit h e =
     let count = h.count in
     let len = length-append h.repeaters (e.0 ∷ []) in (
       h.repeaters ++ e.0 ∷ [],
@@ -132,9 +145,9 @@ repeaters_end octets n call top h e =
     )
 
 -- destination and source, and what follows them
-after_source : (octets : List ℕ) (dest src : CallSign) (command top end : Bool) (d : EntryAt octets 0 dest command false) (s : EntryAt octets 1 src top end)
+after_source : (octets : List ℕ) (dest src : CallSign) (command c_or_h_bit end : Bool) (d : EntryAt octets 0 dest command false) (s : EntryAt octets 1 src c_or_h_bit end)
     → (octets ≡ entry_octets false d.0 ++ (entry_octets end s.0 ++ s.1)) × (drop 14 octets ≡ s.1)
-after_source octets dest src command top end d s =
+after_source octets dest src command c_or_h_bit end d s =
     let one = length_entry false d.0 d.2 in
     let two = length_entry end s.0 s.2 in
     let whole : octets ≡ entry_octets false d.0 ++ d.1 = d.5 in
@@ -146,10 +159,10 @@ after_source octets dest src command top end d s =
           ∙ drop_past (entry_octets end s.0) s.1 7 (sym two),
     )
 
-pub addresses_two : (octets : List ℕ) (dest src : CallSign) (command top : Bool) → EntryAt octets 0 dest command false → EntryAt octets 1 src top true
+pub addresses_two : (octets : List ℕ) (dest src : CallSign) (command c_or_h_bit : Bool) → EntryAt octets 0 dest command false → EntryAt octets 1 src c_or_h_bit true
     → AddressesAt octets dest src 0 command (14 + 7 * 0)
-addresses_two octets dest src command top d s =
-    let a = after_source octets dest src command top true d s in
+addresses_two octets dest src command c_or_h_bit d s =
+    let a = after_source octets dest src command c_or_h_bit true d s in
     let field = length_field (d.0 ∷ s.0 ∷ []) (d.2, (s.2, tt)) in
     let whole : octets ≡ address_field (d.0 ∷ s.0 ∷ []) ++ s.1 = a.0 ∙ grouped (entry_octets false d.0) (entry_octets true s.0) s.1 in
     let long : length octets ≡ length (address_field (d.0 ∷ s.0 ∷ []) ++ s.1) = ap length whole in
@@ -172,11 +185,11 @@ addresses_two octets dest src command top d s =
     grouped : (x y z : List ℕ) → x ++ (y ++ z) ≡ (x ++ (y ++ [])) ++ z
     grouped x y z = grind (arith, common_steps)
 
-pub addresses_more : (octets : List ℕ) (dest src : CallSign) (command top : Bool) (via : ℕ) → EntryAt octets 0 dest command false → EntryAt octets 1 src top false
+pub addresses_more : (octets : List ℕ) (dest src : CallSign) (command c_or_h_bit : Bool) (via : ℕ) → EntryAt octets 0 dest command false → EntryAt octets 1 src c_or_h_bit false
     → RepeatersAt octets via → 1 ≤ via → via ≤ 8 → AddressesAt octets dest src via command (14 + 7 * via)
-addresses_more octets dest src command top via d s ([], rest, h, count, text) some most = absurd (omega arith)
-addresses_more octets dest src command top via d s (r ∷ rs, rest, h, count, text) some most =
-    let a = after_source octets dest src command top false d s in
+addresses_more octets dest src command c_or_h_bit via d s ([], rest, h, count, text) some most = absurd (omega arith)
+addresses_more octets dest src command c_or_h_bit via d s (r ∷ rs, rest, h, count, text) some most =
+    let a = after_source octets dest src command c_or_h_bit false d s in
     let field = length_field (d.0 ∷ s.0 ∷ r ∷ rs) (d.2, (s.2, h)) in
     let whole : octets ≡ address_field (d.0 ∷ s.0 ∷ r ∷ rs) ++ rest =
     a.0
@@ -201,43 +214,6 @@ addresses_more octets dest src command top via d s (r ∷ rs, rest, h, count, te
   where
     grouped : (x y f z : List ℕ) → x ++ (y ++ (f ++ z)) ≡ (x ++ (y ++ f)) ++ z
     grouped x y f z = grind (arith, common_steps)
-
--- the faults of an entry that was read from these octets
-pub bad_entry : (octets x : List ℕ) (n begun : ℕ) → x ≡ drop (7 * n) octets → begun ≡ characters_begun x → BeginsUnended octets n → n < 10
-    → begun < min 6 (length x) → FaultAt (BadAddress (7 * n + begun)) octets
-bad_entry octets x n begun is b h few l =
-    let same : begun ≡ characters_begun (drop (7 * n) octets) = b ∙ ap characters_begun is in
-    let long : length x ≡ length (drop (7 * n) octets) = ap length is in
-    subst (λ (k : ℕ). FaultAt (BadAddress (7 * n + k)) octets) (sym same) (bad_address octets n h few (omega arith) (omega arith))
-
-pub short_of_entry : (octets x : List ℕ) (n begun : ℕ) → x ≡ drop (7 * n) octets → begun ≡ characters_begun x → BeginsUnended octets n → n < 10
-    → min 6 (length x) ≤ begun → length x < 7 → FaultAt (Short (length octets)) octets
-short_of_entry octets x n begun is b h few l short =
-    let same : begun ≡ characters_begun (drop (7 * n) octets) = b ∙ ap characters_begun is in
-    let long : length x ≡ length (drop (7 * n) octets) = ap length is in
-    let begun_there = begun_is (drop (7 * n) octets) in
-    let within = begun_there.within in
-    let inside = begun_there.inside in
-    short_entry octets n h few (omega arith) (omega arith)
-
--- all six characters were begun
-pub six_begun : (x : List ℕ) (begun : ℕ) → begun ≡ characters_begun x → min 6 (length x) ≤ begun → 7 ≤ length x → characters_begun x ≡ 6
-six_begun x begun b l long =
-    let there = begun_is x in
-    let within = there.within in
-    omega arith
-
-pub call_was_read : (x chars : List ℕ) (begun : ℕ) → chars ≡ map (λ o. o / 2) (take 6 x) → begun ≡ characters_begun x → min 6 (length x) ≤ begun → 7 ≤ length x
-    → IsCall (record { chars = chars; ssid = slice_index x 6 / 2 % 16 })
-call_was_read x chars begun e b l long =
-    subst (λ (cs : List ℕ). IsCall (record { chars = cs; ssid = slice_index x 6 / 2 % 16 })) (sym e) (call_is x (six_begun x begun b l long) (omega arith))
-
-pub entry_was_read : (octets x chars : List ℕ) (n begun : ℕ) → x ≡ drop (7 * n) octets → chars ≡ map (λ o. o / 2) (take 6 x) → begun ≡ characters_begun x
-    → min 6 (length x) ≤ begun → 7 ≤ length x → slice_index x 6 < 256
-    → EntryAt octets n (record { chars = chars; ssid = slice_index x 6 / 2 % 16 }) (leb 128 (slice_index x 6)) (slice_index x 6 % 2 == 1)
-entry_was_read octets x chars n begun is e b l long o =
-    subst (λ (cs : List ℕ). EntryAt octets n (record { chars = cs; ssid = slice_index x 6 / 2 % 16 }) (leb 128 (slice_index x 6)) (slice_index x 6 % 2 == 1)) (sym e)
-    (entry_read octets n x is long (six_begun x begun b l long) o)
 
 -- octets that begin with an address field of so many octets
 module _ (octets : List ℕ) (dest src : CallSign) (via : ℕ) (command : Bool) (len : ℕ) (a : AddressesAt octets dest src via command len) where
@@ -268,7 +244,7 @@ module _ (octets : List ℕ) (dest src : CallSign) (via : ℕ) (command : Bool) 
       subst (λ (o : List ℕ). FaultAt (Short (length o)) o) (sym all) (short_control a.0 a.1 a.2 all_entries few)
 
   pub control_fault : (octet : ℕ) → octet ≡ slice_index octets len → len < length octets
-      → ((c : Control) (p : Bool) → FitsControl c → octet ≡ control_octet c p → ⊥) → FaultAt (BadControl octet) octets
+      → IsNoControl octet → FaultAt (BadControl octet) octets
   control_fault octet is l none =
       let whole : octets ≡ the_field ++ octet ∷ drop (len + 1) octets = split l ∙ ap (λ (k : ℕ). the_field ++ k ∷ drop (len + 1) octets) (sym is) in
       subst (FaultAt (BadControl octet)) (sym whole) (bad_control a.0 a.1 a.2 all_entries few octet (drop (len + 1) octets) none)
@@ -282,22 +258,22 @@ module _ (octets : List ℕ) (dest src : CallSign) (via : ℕ) (command : Bool) 
 
   pub rest_fault_at : (octet : ℕ) (c : Control) (p : Bool) (rest : List ℕ) (fault : FrameFault) → octet ≡ slice_index octets len → len < length octets
       → octet ≡ control_octet c p → rest ≡ drop (len + 1) octets → FitsControl c → IsOctets rest
-      → IsRestFault (pid_count c) (least_information c) (most_information c) rest (length octets) fault → FaultAt fault octets
+      → IsRestFault (fields_of c) rest (length octets) fault → FaultAt fault octets
   rest_fault_at octet c p rest fault is l control r fits o f =
       let whole = whole_of octet c p rest is l control r in
-      let there : IsRestFault (pid_count c) (least_information c) (most_information c) rest (length (the_field ++ control_octet c p ∷ rest)) fault =
-      subst (λ (x : List ℕ). IsRestFault (pid_count c) (least_information c) (most_information c) rest (length x) fault) whole f in
+      let there : IsRestFault (fields_of c) rest (length (the_field ++ control_octet c p ∷ rest)) fault =
+      subst (λ (x : List ℕ). IsRestFault (fields_of c) rest (length x) fault) whole f in
       subst (FaultAt fault) (sym whole) (rest_fault a.0 a.1 a.2 all_entries few c p rest fault fits o there)
 
   pub frame_at : (octet : ℕ) (c : Control) (p : Bool) (rest : List ℕ) (kind : KindValue) → octet ≡ slice_index octets len → len < length octets
-      → octet ≡ control_octet c p → rest ≡ drop (len + 1) octets → control_of kind ≡ c → pid_octets kind ++ information kind ≡ rest → FitsKind kind
+      → octet ≡ control_octet c p → rest ≡ drop (len + 1) octets → kind.control ≡ c → kind.pid ++ kind.information ≡ rest → FitsKind kind
       → FrameText (record { dest = dest; src = src; via = via; kind = kind; poll = p; command = command }) octets
   unfolding frame_of
   frame_at octet c p rest kind is l control r of_kind text fits =
       let whole : octets ≡ the_field ++ kind_octets kind p =
       whole_of octet c p rest is l control r
       ∙ ap (λ (d : Control). the_field ++ control_octet d p ∷ rest) (sym of_kind)
-      ∙ ap (λ (x : List ℕ). the_field ++ control_octet (control_of kind) p ∷ x) (sym text) in
+      ∙ ap (λ (x : List ℕ). the_field ++ control_octet kind.control p ∷ x) (sym text) in
       let same : frame_of a.0 a.1 a.2 kind p ≡ record { dest = dest; src = src; via = via; kind = kind; poll = p; command = command } =
       same_frame (frame_of a.0 a.1 a.2 kind p) (record { dest = dest; src = src; via = via; kind = kind; poll = p; command = command }) a.6 a.8 a.9 refl refl a.7 in
       subst (λ (f : FrameValue). FrameText f octets) same
@@ -305,9 +281,4 @@ module _ (octets : List ℕ) (dest src : CallSign) (via : ℕ) (command : Bool) 
 
 -- octets further on are octets
 pub octets_after : (n : ℕ) (octets x : List ℕ) → x ≡ drop n octets → IsOctets octets → IsOctets x
-octets_after n octets x is h = subst IsOctets (sym is) (after n octets h)
-  where
-    after : (n : ℕ) (octets : List ℕ) → IsOctets octets → IsOctets (drop n octets)
-    after zero octets h = h
-    after (suc n) [] h = h
-    after (suc n) (x ∷ xs) h = after n xs (λ i. h (suc i))
+octets_after n octets x is h = subst IsOctets (sym is) (All-drop (λ (octet : ℕ). octet < 256) n octets h)

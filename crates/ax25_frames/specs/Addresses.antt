@@ -9,7 +9,7 @@ use Rattle.ax25_frames.specs.Kinds.{bit}
 pub record Entry : Type 0 where
   pub call : CallSign
   pub reserved : ℕ
-  pub top : Bool
+  pub c_or_h_bit : Bool
 
 pub record IsEntry (entry : Entry) : Type 0 where
   pub call : IsCall entry.call
@@ -21,7 +21,7 @@ character_octets call = map (λ c. 2 * c) call.chars
 
 -- the SSID octet: the end bit in bit 0, the SSID in bits 1 to 4, the reserved bits, the C or H bit (2.2.13.1.1)
 abbrev pub ssid_octet : Bool → Entry → ℕ
-ssid_octet end entry = bit end + 2 * entry.call.ssid + 32 * entry.reserved + 128 * bit entry.top
+ssid_octet end entry = bit end + 2 * entry.call.ssid + 32 * entry.reserved + 128 * bit entry.c_or_h_bit
 
 -- the seven octets of an entry, with its end bit
 abbrev pub entry_octets : Bool → Entry → List ℕ

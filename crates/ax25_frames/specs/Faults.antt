@@ -2,7 +2,7 @@
 use Rattle.std.specs.Prelude.{◌≡◌, ℕ, ◌+◌, ◌*◌, ◌<◌, ◌≤◌, List, ◌++◌, length, take, slice_index}
 use Rattle.ax25_frames.specs.declared.frame.FrameFault.{FrameFault}
 use Rattle.ax25_frames.specs.declared.frame.FrameFault.TheVariants.{Short, BadAddress, TooManyAddresses, BadControl, LongInfo}
-use Rattle.ax25_frames.specs.Kinds.{information}
+use Rattle.ax25_frames.specs.Kinds.{Fields}
 use Rattle.ax25_frames.specs.Addresses.{BeginsUnended, IsAddressField}
 use Rattle.ax25_frames.specs.FrameText.{FrameValue, FrameText}
 
@@ -32,14 +32,13 @@ FaultAt TooManyAddresses octets = BeginsUnended octets 10 × (BeginsFrame (take 
 FaultAt (BadControl octet) octets =
     (at : ℕ) × FailsAt octets at × IsAddressField (take at octets) × (slice_index octets at ≡ octet)
 FaultAt (LongInfo len) octets =
-    (frame : FrameValue) × (front info : List ℕ) × FrameText frame (front ++ information frame.kind)
+    (frame : FrameValue) × (front info : List ℕ) × FrameText frame (front ++ frame.kind.information)
     × (octets ≡ front ++ info) × (len ≡ length info) × (BeginsFrame octets → ⊥)
 
--- How octets fail that are to be so many PID octets and then this least and most number of information octets, up to
--- the frame's end: they end too early, or there are too many.
-abbrev pub IsRestFault : ℕ → ℕ → ℕ → List ℕ → ℕ → FrameFault → Type 0
-IsRestFault pids least most rest end (Short at) = (at ≡ end) × (length rest < pids + least)
-IsRestFault pids least most rest end (BadAddress at) = ⊥
-IsRestFault pids least most rest end TooManyAddresses = ⊥
-IsRestFault pids least most rest end (BadControl octet) = ⊥
-IsRestFault pids least most rest end (LongInfo len) = (pids + most < length rest) × (len + pids ≡ length rest)
+-- How octets fail that are to be these fields, up to the frame's end: they end too early, or there are too many.
+abbrev pub IsRestFault : Fields → List ℕ → ℕ → FrameFault → Type 0
+IsRestFault fields rest end (Short at) = (at ≡ end) × (length rest < fields.pids + fields.least)
+IsRestFault fields rest end (BadAddress at) = ⊥
+IsRestFault fields rest end TooManyAddresses = ⊥
+IsRestFault fields rest end (BadControl octet) = ⊥
+IsRestFault fields rest end (LongInfo len) = (fields.pids + fields.most < length rest) × (len + fields.pids ≡ length rest)

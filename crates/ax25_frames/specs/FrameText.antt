@@ -25,7 +25,7 @@ pub record IsFrame (frame : FrameValue) : Type 0 where
 pub record FreeBits : Type 0 where
   pub dest_reserved : ℕ
   pub src_reserved : ℕ
-  pub src_top : Bool
+  pub src_c_bit : Bool
   pub repeaters : List Entry
 
 pub record FitsFree (frame : FrameValue) (free : FreeBits) : Type 0 where
@@ -37,8 +37,8 @@ pub record FitsFree (frame : FrameValue) (free : FreeBits) : Type 0 where
 -- the frame's address entries: destination, source and repeaters, in this order (2.2.13)
 abbrev pub entries_of : FrameValue → FreeBits → List Entry
 entries_of frame free =
-    record { call = frame.dest; reserved = free.dest_reserved; top = frame.command }
-    ∷ record { call = frame.src; reserved = free.src_reserved; top = free.src_top }
+    record { call = frame.dest; reserved = free.dest_reserved; c_or_h_bit = frame.command }
+    ∷ record { call = frame.src; reserved = free.src_reserved; c_or_h_bit = free.src_c_bit }
     ∷ free.repeaters
 
 -- the octets of the frame with these free bits (2.2)
@@ -56,4 +56,4 @@ pub record FrameText (frame : FrameValue) (octets : List ℕ) : Type 0 where
 -- opposite of the destination's, so 0 in a command and 1 in a response (2.4.1.2).
 abbrev pub canonical : FrameValue → List ℕ
 canonical frame =
-    frame_octets frame (record { dest_reserved = 3; src_reserved = 3; src_top = not frame.command; repeaters = [] })
+    frame_octets frame (record { dest_reserved = 3; src_reserved = 3; src_c_bit = not frame.command; repeaters = [] })

@@ -1,7 +1,7 @@
 -- Laws of frames and their octets.
 use Rattle.std.specs.Prelude.{◌≡◌, ◌⊎◌, List, ℕ}
 use Rattle.ax25_frames.specs.declared.frame.FrameFault.{FrameFault}
-use Rattle.ax25_frames.specs.Kinds.{IsOctets}
+use Rattle.px_base.specs.Octets.{IsOctets}
 use Rattle.ax25_frames.specs.FrameText.{FrameValue, IsFrame, FrameText, canonical}
 use Rattle.ax25_frames.specs.Faults.{FaultAt}
 

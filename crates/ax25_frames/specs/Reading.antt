@@ -24,8 +24,8 @@ characters_begun octets =
 
 -- the entry after so many entries has this call, bit 7 and end bit
 abbrev pub EntryAt : List ℕ → ℕ → CallSign → Bool → Bool → Type 0
-EntryAt octets n call top end =
-    (entry : Entry) × (rest : List ℕ) × IsEntry entry × (entry.call ≡ call) × (entry.top ≡ top)
+EntryAt octets n call c_or_h_bit end =
+    (entry : Entry) × (rest : List ℕ) × IsEntry entry × (entry.call ≡ call) × (entry.c_or_h_bit ≡ c_or_h_bit)
     × (drop (7 * n) octets ≡ entry_octets end entry ++ rest)
 
 -- so many repeater entries, the last with the end bit, follow destination and source
@@ -38,5 +38,5 @@ RepeatersAt octets via =
 abbrev pub AddressesAt : List ℕ → CallSign → CallSign → ℕ → Bool → ℕ → Type 0
 AddressesAt octets dest src via command len =
     (dest_entry src_entry : Entry) × (repeaters : List Entry) × IsEntry dest_entry × IsEntry src_entry × AreEntries repeaters
-    × (dest_entry.call ≡ dest) × (dest_entry.top ≡ command) × (src_entry.call ≡ src) × (length repeaters ≡ via) × (via ≤ 8)
+    × (dest_entry.call ≡ dest) × (dest_entry.c_or_h_bit ≡ command) × (src_entry.call ≡ src) × (length repeaters ≡ via) × (via ≤ 8)
     × (take len octets ≡ address_field (dest_entry ∷ src_entry ∷ repeaters)) × (len ≤ length octets)

@@ -27,7 +27,7 @@ pub(crate) struct Entry {
     /// The station.
     pub(crate) call: Call,
     /// Bit 7 of the SSID octet: the C bit of destination and source (2.4.1.2), the H bit of a repeater.
-    pub(crate) top: bool,
+    pub(crate) c_or_h_bit: bool,
     /// The end bit: no entry follows.
     pub(crate) is_last: bool,
 }
@@ -62,7 +62,7 @@ pub(crate) fn read_addresses(bytes: &[u8]) -> Result<Addresses, FrameFault>
         dest: dest.call,
         src: src.call,
         via,
-        command: dest.top,
+        command: dest.c_or_h_bit,
     })
 }
 
@@ -85,7 +85,7 @@ fn read_repeaters(bytes: &[u8]) -> Result<u8, FrameFault>
 fn read_entry(bytes: &[u8], before: usize) -> Result<Entry, FrameFault>
     requires unended { BeginsUnended bytes.now before }
     requires few { before < 10 }
-    ensures entry { IfOk result (λ entry. EntryAt bytes.now before entry.call entry.top entry.is_last) }
+    ensures entry { IfOk result (λ entry. EntryAt bytes.now before entry.call entry.c_or_h_bit entry.is_last) }
     ensures fault { IfErr result (λ fault. FaultAt fault bytes.now) }
 {
     let (_, octets) = bytes.split_at(ENTRY_LEN * before);
@@ -104,7 +104,7 @@ fn read_entry(bytes: &[u8], before: usize) -> Result<Entry, FrameFault>
             chars: characters(octets),
             ssid: ssid_octet / 2 % 16,
         },
-        top: ssid_octet >= 128,
+        c_or_h_bit: ssid_octet >= 128,
         is_last: ssid_octet % 2 == 1,
     })
 }

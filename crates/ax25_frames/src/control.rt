@@ -1,20 +1,45 @@
 //! The control octet (AX.25 2.0, 2.3).
 
-ghost use Rattle.std.specs.Prelude.{◌≡◌, ◌%◌, Bool, IfSome, IfNone};
-ghost use Rattle.ax25_frames.specs.Kinds.{FitsControl, IsNoUnnumbered, control_octet, poll_bit as bit_of_poll};
+ghost use Rattle.std.specs.Prelude.{◌≡◌, ◌%◌, IfSome, IfNone};
+ghost use Rattle.ax25_frames.specs.Kinds.{FitsControl, IsNoControl, SaysControl, control_octet, poll_bit as bit_of_poll};
 
-/// What a control octet says beside the P/F bit: a kind of frame, and its sequence numbers.
+/// What a control octet says beside the P/F bit: a kind of frame, and its sequence numbers, 0 to 7. Contracts name a
+/// kind of frame by it.
 #[derive(Clone, Copy)]
-pub(crate) enum Control {
-    I { ns: u8, nr: u8 },
-    Rr { nr: u8 },
-    Rnr { nr: u8 },
-    Rej { nr: u8 },
+pub enum Control {
+    /// Information (2.3.4.1).
+    I {
+        /// The send sequence number N(S).
+        ns: u8,
+        /// The receive sequence number N(R).
+        nr: u8,
+    },
+    /// Receive ready (2.3.4.2.1).
+    Rr {
+        /// The receive sequence number N(R).
+        nr: u8,
+    },
+    /// Receive not ready (2.3.4.2.2).
+    Rnr {
+        /// The receive sequence number N(R).
+        nr: u8,
+    },
+    /// Reject (2.3.4.2.3).
+    Rej {
+        /// The receive sequence number N(R).
+        nr: u8,
+    },
+    /// Set asynchronous balanced mode (2.3.4.3.1).
     Sabm,
+    /// Disconnect (2.3.4.3.2).
     Disc,
+    /// Disconnected mode (2.3.4.3.5).
     Dm,
+    /// Unnumbered acknowledge (2.3.4.3.4).
     Ua,
+    /// Frame reject (2.3.4.3.3).
     Frmr,
+    /// Unnumbered information (2.3.4.3.6).
     Ui,
 }
 
@@ -27,8 +52,8 @@ pub(crate) fn poll_bit(octet: u8) -> bool
 
 /// What a control octet says, if it is of a kind of frame (2.3.2).
 pub(crate) fn read_control(octet: u8) -> Option<Control>
-    ensures some { IfSome result (λ control. FitsControl control × (octet ≡ control_octet control (bit_of_poll octet))) }
-    ensures none { IfNone result ((control : Control) (poll : Bool) → FitsControl control → octet ≡ control_octet control poll → ⊥) }
+    ensures some { IfSome result (SaysControl octet) }
+    ensures none { IfNone result (IsNoControl octet) }
 {
     if octet % 2 == 0 {
         return Some(Control::I {
@@ -45,8 +70,8 @@ pub(crate) fn read_control(octet: u8) -> Option<Control>
 /// What the control octet of an S frame says (2.3.4.2).
 fn read_supervisory(octet: u8) -> Option<Control>
     requires { octet % 4 ≡ 1 }
-    ensures some { IfSome result (λ control. FitsControl control × (octet ≡ control_octet control (bit_of_poll octet))) }
-    ensures none { IfNone result (octet % 16 ≡ 13) }
+    ensures some { IfSome result (SaysControl octet) }
+    ensures none { IfNone result (IsNoControl octet) }
 {
     let nr = octet / 32;
     match octet / 4 % 4 {
@@ -59,8 +84,9 @@ fn read_supervisory(octet: u8) -> Option<Control>
 
 /// What the control octet of a U frame says (2.3.4.3).
 fn read_unnumbered(octet: u8) -> Option<Control>
-    ensures some { IfSome result (λ control. FitsControl control × (octet ≡ control_octet control (bit_of_poll octet))) }
-    ensures none { IfNone result (IsNoUnnumbered octet) }
+    requires { octet % 4 ≡ 3 }
+    ensures some { IfSome result (SaysControl octet) }
+    ensures none { IfNone result (IsNoControl octet) }
 {
     let without_poll = octet - 16 * (octet / 16 % 2);
     match without_poll {

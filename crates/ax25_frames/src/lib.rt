@@ -9,6 +9,7 @@ pub mod laws;
 mod reader;
 mod writer;
 
+pub use control::Control;
 pub use frame::{Frame, FrameFault, Kind};
 pub use reader::read_frame;
 pub use writer::write_frame;

@@ -1,7 +1,7 @@
 //! Frames from octets (AX.25 2.0, section 2).
 
 ghost use Rattle.std.specs.Prelude.{◌≡◌, ◌≤◌, [], ◌∷◌, ◌++◌, length, IfOk, IfErr, IsOkAnd};
-ghost use Rattle.ax25_frames.specs.Kinds.{FitsControl, FitsKind, control_of, information, least_information, most_information, pid_count, pid_octets};
+ghost use Rattle.ax25_frames.specs.Kinds.{FitsControl, FitsKind, fields_of, information_fields, no_fields, reject_fields};
 ghost use Rattle.ax25_frames.specs.Faults.{FaultAt, IsRestFault};
 ghost use Rattle.ax25_frames.specs.FrameText.{FrameText, FrameValue};
 ghost use Rattle.ax25_frames.specs.Values.{kind_value, value_of};
@@ -48,10 +48,10 @@ pub fn read_frame(bytes: &[u8]) -> Result<Frame<'_>, FrameFault>
 /// Reads what follows the control octet, up to the end of a frame of `len` octets.
 fn read_kind(control: Control, rest: &[u8], len: usize) -> Result<Kind<'_>, FrameFault>
     requires { FitsControl control }
-    ensures control { IfOk result (λ kind. control_of (kind_value kind) ≡ control) }
-    ensures rest { IfOk result (λ kind. pid_octets (kind_value kind) ++ information (kind_value kind) ≡ rest.now) }
+    ensures control { IfOk result (λ kind. (kind_value kind).control ≡ control) }
+    ensures rest { IfOk result (λ kind. (kind_value kind).pid ++ (kind_value kind).information ≡ rest.now) }
     ensures fits { IfOk result (λ kind. FitsKind (kind_value kind)) }
-    ensures fault { IfErr result (λ fault. IsRestFault (pid_count control) (least_information control) (most_information control) rest.now len fault) }
+    ensures fault { IfErr result (λ fault. IsRestFault (fields_of control) rest.now len fault) }
 {
     match control {
         Control::I { ns, nr } => {
@@ -77,7 +77,7 @@ fn read_kind(control: Control, rest: &[u8], len: usize) -> Result<Kind<'_>, Fram
 fn read_information(rest: &[u8], len: usize) -> Result<(u8, &[u8]), FrameFault>
     ensures octets { IfOk result (λ read. read.0 ∷ read.1.now ≡ rest.now) }
     ensures most { IfOk result (λ read. length read.1.now ≤ 256) }
-    ensures fault { IfErr result (λ fault. IsRestFault 1 0 256 rest.now len fault) }
+    ensures fault { IfErr result (λ fault. IsRestFault information_fields rest.now len fault) }
 {
     let Some((pid, info)) = rest.split_first() else {
         return Err(FrameFault::Short { at: len });
@@ -92,7 +92,7 @@ fn read_information(rest: &[u8], len: usize) -> Result<(u8, &[u8]), FrameFault>
 fn read_reject(rest: &[u8], len: usize) -> Result<[u8; 3], FrameFault>
     ensures octets { IfOk result (λ read. read ≡ rest.now) }
     ensures len { IfOk result (λ read. length read ≡ 3) }
-    ensures fault { IfErr result (λ fault. IsRestFault 0 3 3 rest.now len fault) }
+    ensures fault { IfErr result (λ fault. IsRestFault reject_fields rest.now len fault) }
 {
     match rest {
         [first, second, third] => Ok([*first, *second, *third]),
@@ -105,7 +105,7 @@ fn read_reject(rest: &[u8], len: usize) -> Result<[u8; 3], FrameFault>
 fn read_bare<'a>(kind: Kind<'a>, rest: &[u8]) -> Result<Kind<'a>, FrameFault>
     ensures kind { IfOk result (λ read. read ≡ kind.entry) }
     ensures rest { IfOk result (λ read. rest.now ≡ []) }
-    ensures fault { IfErr result (λ fault. IsRestFault 0 0 0 rest.now 0 fault) }
+    ensures fault { IfErr result (λ fault. IsRestFault no_fields rest.now 0 fault) }
 {
     if rest.is_empty() {
         Ok(kind)

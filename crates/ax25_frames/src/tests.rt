@@ -7,7 +7,6 @@ ghost use Rattle.ax25_frames.specs.Values.{kind_value};
 use super::*;
 use arrayvec::ArrayVec;
 use px_base::Call;
-use std::process::Abort;
 use std::test::Fail;
 
 /// The address octets of a command from NOCALL to PACSAT.
@@ -25,15 +24,29 @@ const SABM: [u8; 15] = [
     0xA0, 0x82, 0x86, 0xA6, 0x82, 0xA8, 0xE0, 0x9C, 0x9E, 0x86, 0x82, 0x98, 0x98, 0x61, 0x3F,
 ];
 
-/// The entry of the repeater W1AW-15, without the end bit.
-const REPEATER: [u8; 7] = [0xAE, 0x62, 0x82, 0xAE, 0x40, 0x40, 0x7E];
+/// Those of a command by the repeaters W1AW-15 and PACSAT, of which the last has no end bit.
+const REPEATED: [u8; 28] = [
+    0xA0, 0x82, 0x86, 0xA6, 0x82, 0xA8, 0xE0, 0x9C, 0x9E, 0x86, 0x82, 0x98, 0x98, 0x60, 0xAE, 0x62,
+    0x82, 0xAE, 0x40, 0x40, 0x7E, 0xA0, 0x82, 0x86, 0xA6, 0x82, 0xA8, 0xE0,
+];
 
-static LONGEST: [u8; 256] = [0x55; 256];
+/// Ten entries without an end bit.
+const UNENDED: [u8; 70] = [
+    0xA0, 0x82, 0x86, 0xA6, 0x82, 0xA8, 0xE0, 0xA0, 0x82, 0x86, 0xA6, 0x82, 0xA8, 0xE0, 0xA0, 0x82,
+    0x86, 0xA6, 0x82, 0xA8, 0xE0, 0xA0, 0x82, 0x86, 0xA6, 0x82, 0xA8, 0xE0, 0xA0, 0x82, 0x86, 0xA6,
+    0x82, 0xA8, 0xE0, 0xA0, 0x82, 0x86, 0xA6, 0x82, 0xA8, 0xE0, 0xA0, 0x82, 0x86, 0xA6, 0x82, 0xA8,
+    0xE0, 0xA0, 0x82, 0x86, 0xA6, 0x82, 0xA8, 0xE0, 0xA0, 0x82, 0x86, 0xA6, 0x82, 0xA8, 0xE0, 0xA0,
+    0x82, 0x86, 0xA6, 0x82, 0xA8, 0xE0,
+];
 
-static TOO_LONG: [u8; 257] = [0xAA; 257];
+/// The longest information.
+const LONGEST: [u8; 256] = [0x55; 256];
 
-/// Each kind, with what follows the address field where the P/F bit is 0, but for its information.
-const KINDS: [(Kind<'static>, &[u8]); 20] = [
+/// The control octet of an I frame, its PID octet, and one octet of information too many.
+const TOO_LONG: [u8; 259] = [0x54; 259];
+
+/// Each kind, with its control octet where the P/F bit is 0, and its PID octet where it has one.
+const KINDS: [(Kind<'static>, &[u8]); 22] = [
     (
         Kind::I {
             ns: 0,
@@ -50,7 +63,7 @@ const KINDS: [(Kind<'static>, &[u8]); 20] = [
             pid: 0x00,
             info: &[0x41],
         },
-        &[0x0E, 0x00, 0x41],
+        &[0x0E, 0x00],
     ),
     (
         Kind::I {
@@ -59,7 +72,7 @@ const KINDS: [(Kind<'static>, &[u8]); 20] = [
             pid: 0xFF,
             info: &[0x00, 0xFF],
         },
-        &[0xE0, 0xFF, 0x00, 0xFF],
+        &[0xE0, 0xFF],
     ),
     (
         Kind::I {
@@ -68,7 +81,7 @@ const KINDS: [(Kind<'static>, &[u8]); 20] = [
             pid: 0xF0,
             info: &[0x3F],
         },
-        &[0x6A, 0xF0, 0x3F],
+        &[0x6A, 0xF0],
     ),
     (Kind::Rr { nr: 0 }, &[0x01]),
     (Kind::Rr { nr: 7 }, &[0xE1]),
@@ -81,8 +94,8 @@ const KINDS: [(Kind<'static>, &[u8]); 20] = [
     (Kind::Disc, &[0x43]),
     (Kind::Dm, &[0x0F]),
     (Kind::Ua, &[0x63]),
-    (Kind::Frmr([0x00, 0x00, 0x00]), &[0x87, 0x00, 0x00, 0x00]),
-    (Kind::Frmr([0x3F, 0xEE, 0x0F]), &[0x87, 0x3F, 0xEE, 0x0F]),
+    (Kind::Frmr([0x00, 0x00, 0x00]), &[0x87]),
+    (Kind::Frmr([0x3F, 0xEE, 0x0F]), &[0x87]),
     (
         Kind::Ui {
             pid: 0xF0,
@@ -95,16 +108,41 @@ const KINDS: [(Kind<'static>, &[u8]); 20] = [
             pid: 0xCC,
             info: &[0x01],
         },
-        &[0x03, 0xCC, 0x01],
+        &[0x03, 0xCC],
     ),
     (
         Kind::Ui {
             pid: 0x00,
             info: &[0x48, 0x69],
         },
-        &[0x03, 0x00, 0x48, 0x69],
+        &[0x03, 0x00],
+    ),
+    (
+        Kind::I {
+            ns: 1,
+            nr: 2,
+            pid: 0x55,
+            info: &LONGEST,
+        },
+        &[0x42, 0x55],
+    ),
+    (
+        Kind::Ui {
+            pid: 0x55,
+            info: &LONGEST,
+        },
+        &[0x03, 0x55],
     ),
 ];
+
+/// The information of a kind.
+fn information<'a>(kind: &'a Kind<'a>) -> &'a [u8] {
+    match kind {
+        Kind::I { info, .. } | Kind::Ui { info, .. } => info,
+        Kind::Frmr(info) => info,
+        _ => &[],
+    }
+}
 
 /// Whether the kind can be written.
 fn fits(kind: &Kind<'_>) -> bool
@@ -118,37 +156,34 @@ fn fits(kind: &Kind<'_>) -> bool
     }
 }
 
-/// Checks that the frame has these octets as they are sent, and is read from them.
-fn assert_both_ways(rt: &impl Abort, frame: &Frame<'_>, octets: &[u8], case: usize) {
-    assert!(rt; frame.via == 0 && fits(&frame.kind), "case {case}");
+/// Whether the frame has these octets as they are sent, and is read from them.
+fn goes_both_ways(frame: &Frame<'_>, octets: &[u8]) -> bool {
     let mut out = ArrayVec::new();
     out.push(0x99);
+    if frame.via != 0 || !fits(&frame.kind) {
+        return false;
+    }
     write_frame(frame, &mut out);
-    assert_eq!(rt; out.as_slice(), octets, "case {case}");
-    assert_read(rt, octets, frame, case);
+    out.as_slice() == octets && is_read(octets, frame)
 }
 
-/// Checks that the frame is read from these octets.
-fn assert_read(rt: &impl Abort, octets: &[u8], frame: &Frame<'_>, case: usize) {
-    match read_frame(octets) {
-        Ok(read) => assert!(rt; read == *frame, "case {case}"),
-        Err(fault) => panic!(rt; "case {case}: {fault}"),
-    }
+/// Whether the frame is read from these octets.
+fn is_read(octets: &[u8], frame: &Frame<'_>) -> bool {
+    matches!(read_frame(octets), Ok(read) if read == *frame)
 }
 
-/// Checks the fault of these octets.
-fn assert_fault(rt: &impl Abort, octets: &[u8], fault: FrameFault, case: usize) {
-    match read_frame(octets) {
-        Ok(_) => panic!(rt; "case {case}: a frame"),
-        Err(found) => assert!(rt; found == fault, "case {case}: {found}"),
-    }
+/// Whether these octets have this fault.
+fn has_fault(octets: &[u8], fault: FrameFault) -> bool {
+    matches!(read_frame(octets), Err(found) if found == fault)
 }
 
-/// These octets, one after the other.
-fn joined(rt: &impl Abort, parts: &[&[u8]]) -> ArrayVec<u8, 400> {
+/// These octets, one after the other; none where there is no room for them.
+fn joined(first: &[u8], second: &[u8], third: &[u8]) -> ArrayVec<u8, 400> {
     let mut out = ArrayVec::new();
-    for part in parts {
-        assert!(rt; out.try_extend_from_slice(part).is_ok(), "too many octets");
+    for part in [first, second, third] {
+        if out.try_extend_from_slice(part).is_err() {
+            return ArrayVec::new();
+        }
     }
     out
 }
@@ -159,7 +194,7 @@ fn kinds_both_ways(rt: HostRuntime) -> Result<(), Fail> {
     for (case, (kind, octets)) in KINDS.iter().enumerate() {
         for (command, addresses) in [(true, &COMMAND), (false, &RESPONSE)] {
             for poll in [false, true] {
-                let mut text = joined(&rt, &[addresses, octets]);
+                let mut text = joined(addresses, octets, information(kind));
                 if let Some(control) = text.as_mut_slice().get_mut(14) {
                     *control ^= 16 * u8::from(poll);
                 }
@@ -171,46 +206,10 @@ fn kinds_both_ways(rt: HostRuntime) -> Result<(), Fail> {
                     poll,
                     command,
                 };
-                assert_both_ways(&rt, &frame, text.as_slice(), case);
+                assert!(rt; goes_both_ways(&frame, text.as_slice()), "case {case}");
             }
         }
     }
-    let info = LONGEST.as_slice();
-    let kind = Kind::I {
-        ns: 1,
-        nr: 2,
-        pid: 0xF0,
-        info,
-    };
-    let frame = Frame {
-        dest,
-        src,
-        via: 0,
-        kind,
-        poll: false,
-        command: true,
-    };
-    assert_both_ways(
-        &rt,
-        &frame,
-        joined(&rt, &[&COMMAND, &[0x42, 0xF0], info]).as_slice(),
-        90,
-    );
-    let kind = Kind::Ui { pid: 0xF0, info };
-    let frame = Frame {
-        dest,
-        src,
-        via: 0,
-        kind,
-        poll: true,
-        command: false,
-    };
-    assert_both_ways(
-        &rt,
-        &frame,
-        joined(&rt, &[&RESPONSE, &[0x13, 0xF0], info]).as_slice(),
-        91,
-    );
     Ok(())
 }
 
@@ -256,80 +255,101 @@ const CHANGED: [(usize, u8, FrameFault); 32] = [
     (14, 0x03, FrameFault::Short { at: 15 }),
 ];
 
-/// What follows the address field of a command, and its fault.
-const FOLLOWING: [(&[u8], FrameFault); 19] = [
-    (&[], FrameFault::Short { at: 14 }),
-    (&[0x00], FrameFault::Short { at: 15 }),
-    (&[0xFE], FrameFault::Short { at: 15 }),
-    (&[0x87], FrameFault::Short { at: 15 }),
-    (&[0x87, 0x00], FrameFault::Short { at: 16 }),
-    (&[0x87, 0x00, 0x00], FrameFault::Short { at: 17 }),
+/// Address fields or fronts of them, what follows, and the fault.
+const FOLLOWING: [(&[u8], &[u8], FrameFault); 36] = [
+    (&COMMAND, &[], FrameFault::Short { at: 14 }),
+    (&COMMAND, &[0x00], FrameFault::Short { at: 15 }),
+    (&COMMAND, &[0xFE], FrameFault::Short { at: 15 }),
+    (&COMMAND, &[0x87], FrameFault::Short { at: 15 }),
+    (&COMMAND, &[0x87, 0x00], FrameFault::Short { at: 16 }),
+    (&COMMAND, &[0x87, 0x00, 0x00], FrameFault::Short { at: 17 }),
     (
+        &COMMAND,
         &[0x87, 0x00, 0x00, 0x00, 0x00],
         FrameFault::LongInfo { len: 4 },
     ),
-    (&[0x01, 0x00], FrameFault::LongInfo { len: 1 }),
-    (&[0x05, 0x00, 0x00], FrameFault::LongInfo { len: 2 }),
-    (&[0x09, 0xF0], FrameFault::LongInfo { len: 1 }),
-    (&[0x2F, 0xF0], FrameFault::LongInfo { len: 1 }),
-    (&[0x43, 0x43], FrameFault::LongInfo { len: 1 }),
-    (&[0x0F, 0x00], FrameFault::LongInfo { len: 1 }),
-    (&[0x73, 0x00], FrameFault::LongInfo { len: 1 }),
-    // An ill control octet comes before what follows it.
-    (&[0x0D, 0x00], FrameFault::BadControl { octet: 0x0D }),
+    (&COMMAND, &[0x01, 0x00], FrameFault::LongInfo { len: 1 }),
     (
+        &COMMAND,
+        &[0x05, 0x00, 0x00],
+        FrameFault::LongInfo { len: 2 },
+    ),
+    (&COMMAND, &[0x09, 0xF0], FrameFault::LongInfo { len: 1 }),
+    (&COMMAND, &[0x2F, 0xF0], FrameFault::LongInfo { len: 1 }),
+    (&COMMAND, &[0x43, 0x43], FrameFault::LongInfo { len: 1 }),
+    (&COMMAND, &[0x0F, 0x00], FrameFault::LongInfo { len: 1 }),
+    (&COMMAND, &[0x73, 0x00], FrameFault::LongInfo { len: 1 }),
+    // An ill control octet comes before what follows it.
+    (
+        &COMMAND,
+        &[0x0D, 0x00],
+        FrameFault::BadControl { octet: 0x0D },
+    ),
+    (
+        &COMMAND,
         &[0x6F, 0x00, 0x00, 0x00, 0x00],
         FrameFault::BadControl { octet: 0x6F },
     ),
-    (&[0xBF], FrameFault::BadControl { octet: 0xBF }),
-    (&[0x0B], FrameFault::BadControl { octet: 0x0B }),
-    (&[0x23], FrameFault::BadControl { octet: 0x23 }),
-];
-
-/// Octets with two faults, of which the first counts, and address fields that end too early.
-const FIRST: [(&[u8], FrameFault); 12] = [
-    (&[], FrameFault::Short { at: 0 }),
-    (&[0xA0, 0x82, 0x86], FrameFault::Short { at: 3 }),
+    (&COMMAND, &[0xBF], FrameFault::BadControl { octet: 0xBF }),
+    (&COMMAND, &[0x0B], FrameFault::BadControl { octet: 0x0B }),
+    (&COMMAND, &[0x23], FrameFault::BadControl { octet: 0x23 }),
+    (&COMMAND, &TOO_LONG, FrameFault::LongInfo { len: 257 }),
+    // Address fields that end too early, and octets with two faults, of which the first counts.
+    (&[], &[], FrameFault::Short { at: 0 }),
+    (&[], &[0xA0, 0x82, 0x86], FrameFault::Short { at: 3 }),
     (
+        &[],
         &[0xA0, 0x40, 0x40, 0x40, 0x40, 0x40],
         FrameFault::Short { at: 6 },
     ),
     (
+        &[],
         &[0xA0, 0x82, 0x86, 0xA6, 0x82, 0xA8, 0xE0],
         FrameFault::Short { at: 7 },
     ),
     (
+        &[],
         &[0x40, 0x40, 0x40, 0x40, 0x40, 0x40, 0xE0],
         FrameFault::BadAddress { at: 0 },
     ),
     // An ill character comes before the end of the octets, and before a later ill character.
-    (&[0xA0, 0xE2], FrameFault::BadAddress { at: 1 }),
-    (&[0x41], FrameFault::BadAddress { at: 0 }),
+    (&[], &[0xA0, 0xE2], FrameFault::BadAddress { at: 1 }),
+    (&[], &[0x41], FrameFault::BadAddress { at: 0 }),
     (
+        &[],
         &[0xA0, 0x82, 0x40, 0xA6, 0x83],
         FrameFault::BadAddress { at: 3 },
     ),
     (
+        &[],
         &[0xA0, 0x82, 0xE2, 0xA6, 0x82, 0xA8, 0xE1],
         FrameFault::BadAddress { at: 2 },
     ),
     // The end bit in the destination comes before the source.
     (
+        &[],
         &[0xA0, 0x82, 0x86, 0xA6, 0x82, 0xA8, 0xE1, 0x41],
         FrameFault::BadAddress { at: 6 },
     ),
     (
+        &[],
         &[0xA0, 0x82, 0x86, 0xA6, 0x82, 0xA8, 0xE1],
         FrameFault::BadAddress { at: 6 },
     ),
     // An ill source comes before an ill control octet.
     (
+        &[],
         &[
             0xA0, 0x82, 0x86, 0xA6, 0x82, 0xA8, 0xE0, 0x9D, 0x9E, 0x86, 0x82, 0x98, 0x98, 0x61,
             0x0D,
         ],
         FrameFault::BadAddress { at: 7 },
     ),
+    // Repeaters: the last has no end bit, or there are too many.
+    (&REPEATED, &[], FrameFault::Short { at: 28 }),
+    (&REPEATED, &[0x0D], FrameFault::BadAddress { at: 28 }),
+    (&UNENDED, &[], FrameFault::TooManyAddresses),
+    (&UNENDED, &[0x3F], FrameFault::TooManyAddresses),
 ];
 
 #[test]
@@ -339,23 +359,11 @@ fn first_faults(rt: HostRuntime) {
         if let Some(changed) = octets.get_mut(*at) {
             *changed = *octet;
         }
-        assert_fault(&rt, &octets, *fault, case);
+        assert!(rt; has_fault(&octets, *fault), "changed {case}");
     }
-    for (case, (following, fault)) in FOLLOWING.iter().enumerate() {
-        let octets = joined(&rt, &[&COMMAND, following]);
-        assert_fault(&rt, octets.as_slice(), *fault, 100 + case);
-    }
-    for (case, (octets, fault)) in FIRST.iter().enumerate() {
-        assert_fault(&rt, octets, *fault, 200 + case);
-    }
-    for control in [0x00, 0x13] {
-        let octets = joined(&rt, &[&COMMAND, &[control, 0xF0], TOO_LONG.as_slice()]);
-        assert_fault(
-            &rt,
-            octets.as_slice(),
-            FrameFault::LongInfo { len: 257 },
-            300,
-        );
+    for (case, (addresses, following, fault)) in FOLLOWING.iter().enumerate() {
+        let octets = joined(addresses, following, &[]);
+        assert!(rt; has_fault(octets.as_slice(), *fault), "following {case}");
     }
     for octet in 0..=255u8 {
         let ill = octet % 16 == 0x0D || (octet % 4 == 3 && !UNNUMBERED.contains(&octet));
@@ -378,123 +386,75 @@ fn is_ill(octet: u8) -> bool {
     }
 }
 
+/// The end of the destination and of the source: reserved bits and the source's C bit are free, and the destination's C
+/// bit says whether the frame is a command.
+const ENDS: [([u8; 2], bool); 4] = [
+    ([0xE0, 0xE1], true),
+    ([0x80, 0x01], true),
+    ([0x20, 0x61], false),
+    ([0x00, 0x81], false),
+];
+
 #[test]
-fn repeaters_and_free_bits(rt: HostRuntime) -> Result<(), Fail> {
-    let (dest, src) = (Call::read("PACSAT")?, Call::read("NOCALL")?);
+fn calls_and_free_bits(rt: HostRuntime) -> Result<(), Fail> {
     let mut frame = Frame {
-        dest,
-        src,
+        dest: Call::read("PACSAT")?,
+        src: Call::read("NOCALL")?,
         via: 0,
         kind: Kind::Sabm,
         poll: true,
         command: true,
     };
-    assert_read(&rt, &SABM, &frame, 0);
-    let mut octets = joined(&rt, &[&COMMAND]);
-    for via in 1..=9u8 {
-        // The entry before loses its end bit.
-        if let Some(last) = octets.as_mut_slice().last_mut() {
-            *last &= 0xFE;
-        }
-        assert_fault(
-            &rt,
-            octets.as_slice(),
-            short_or_too_many(octets.len()),
-            usize::from(via),
-        );
-        let next = joined(&rt, &[octets.as_slice(), &REPEATER]);
-        octets = next;
-        if let Some(last) = octets.as_mut_slice().last_mut() {
-            *last |= 0x01;
-        }
-        frame.via = via;
-        let whole = joined(&rt, &[octets.as_slice(), &[0x3F]]);
-        if via <= 8 {
-            assert_read(&rt, whole.as_slice(), &frame, usize::from(via));
-        } else {
-            assert_fault(&rt, whole.as_slice(), FrameFault::TooManyAddresses, 9);
-        }
-        let bad = joined(&rt, &[octets.as_slice(), &[0x0D]]);
-        if via <= 8 {
-            assert_fault(
-                &rt,
-                bad.as_slice(),
-                FrameFault::BadControl { octet: 0x0D },
-                10,
-            );
-        }
-    }
-    Ok(())
-}
-
-/// The fault of entries without an end bit.
-fn short_or_too_many(len: usize) -> FrameFault {
-    if len < 70 {
-        FrameFault::Short { at: len }
-    } else {
-        FrameFault::TooManyAddresses
-    }
-}
-
-#[test]
-fn calls_and_texts(rt: HostRuntime) -> Result<(), Fail> {
-    let alloc = rt.alloc();
-    // Reserved bits, and the source's C bit, are free; the destination's C bit says whether the frame is a command.
-    let (dest, src) = (Call::read("PACSAT")?, Call::read("NOCALL")?);
-    for (ends, command) in [
-        ([0xE0, 0xE1], true),
-        ([0x80, 0x01], true),
-        ([0x20, 0x61], false),
-        ([0x00, 0x81], false),
-    ] {
+    for (ends, command) in &ENDS {
         let mut octets = SABM;
         octets[6] = ends[0];
         octets[13] = ends[1];
-        let frame = Frame {
-            dest,
-            src,
-            via: 0,
-            kind: Kind::Sabm,
-            poll: true,
-            command,
-        };
-        assert_read(&rt, &octets, &frame, usize::from(ends[0]));
+        frame.command = *command;
+        assert!(rt; is_read(&octets, &frame), "{command}");
     }
-    let (dest, src) = (Call::read("A-15")?, Call::read("K9X2-8")?);
-    let frame = Frame {
-        dest,
-        src,
-        via: 0,
-        kind: Kind::Disc,
-        poll: false,
-        command: true,
-    };
+    frame.command = true;
+    frame.via = 2;
+    let mut octets = joined(&REPEATED, &[0x3F], &[]);
+    if let Some(last) = octets.as_mut_slice().get_mut(27) {
+        *last |= 0x01;
+    }
+    let repeated = is_read(octets.as_slice(), &frame);
+    frame.via = 0;
+    frame.dest = Call::read("A-15")?;
+    frame.src = Call::read("K9X2-8")?;
     let octets = [
-        0x82, 0x40, 0x40, 0x40, 0x40, 0x40, 0xFE, 0x96, 0x72, 0xB0, 0x64, 0x40, 0x40, 0x71, 0x43,
+        0x82, 0x40, 0x40, 0x40, 0x40, 0x40, 0xFE, 0x96, 0x72, 0xB0, 0x64, 0x40, 0x40, 0x71, 0x3F,
     ];
-    assert_both_ways(&rt, &frame, &octets, 0);
-    let texts = [
-        (
-            FrameFault::Short { at: 14 },
-            "the frame ends after 14 octets, before an octet that it needs",
-        ),
-        (
-            FrameFault::BadAddress { at: 6 },
-            "the address field is ill at octet 6",
-        ),
-        (FrameFault::TooManyAddresses, "more than eight repeaters"),
-        (
-            FrameFault::BadControl { octet: 0x0D },
-            "the control octet 0x0d is of no kind of frame",
-        ),
-        (
-            FrameFault::LongInfo { len: 257 },
-            "257 octets of information are too many for the kind of frame",
-        ),
-    ];
-    for (fault, text) in texts {
-        let shown = format!(in alloc; "{fault}")?;
-        assert_eq!(rt; shown.as_str(), text);
+    assert!(rt; repeated && goes_both_ways(&frame, &octets));
+    Ok(())
+}
+
+/// The faults, as they are told.
+const TEXTS: [(FrameFault, &str); 5] = [
+    (
+        FrameFault::Short { at: 14 },
+        "the frame ends after 14 octets, before an octet that it needs",
+    ),
+    (
+        FrameFault::BadAddress { at: 6 },
+        "the address field is ill at octet 6",
+    ),
+    (FrameFault::TooManyAddresses, "more than eight repeaters"),
+    (
+        FrameFault::BadControl { octet: 0x0D },
+        "the control octet 0x0d is of no kind of frame",
+    ),
+    (
+        FrameFault::LongInfo { len: 257 },
+        "257 octets of information are too many for the kind of frame",
+    ),
+];
+
+#[test]
+fn texts_of_faults(rt: HostRuntime) -> Result<(), Fail> {
+    for (fault, text) in &TEXTS {
+        let told = fault.to_string(rt.alloc())?;
+        assert!(rt; told.as_str() == *text, "{text}");
     }
     Ok(())
 }

@@ -3,7 +3,8 @@
 ghost use Rattle.std.specs.Prelude.{◌≡◌, ◌+◌, ◌*◌, ◌≤◌, ◌<◌, ◌∷◌, ◌++◌, [], length, not};
 ghost use Rattle.px_base.specs.CallSign.{CallSign, IsCall};
 ghost use Rattle.ax25_frames.specs.Addresses.{entry_octets};
-ghost use Rattle.ax25_frames.specs.Kinds.{CanWrite, FitsControl, FitsKind, IsOctets, control_of, kind_octets};
+ghost use Rattle.px_base.specs.Octets.{IsOctets};
+ghost use Rattle.ax25_frames.specs.Kinds.{CanWrite, FitsControl, FitsKind, kind_octets};
 ghost use Rattle.ax25_frames.specs.FrameText.{FrameText, canonical};
 ghost use Rattle.ax25_frames.specs.Values.{kind_value, value_of};
 
@@ -31,16 +32,16 @@ pub fn write_frame(frame: &Frame<'_>, out: &mut ArrayVec<u8, 400>)
 }
 
 /// Puts an address entry at the end, with bit 7 of its SSID octet and its end bit (2.2.13).
-fn put_entry(out: &mut ArrayVec<u8, 400>, call: &Call, top: bool, is_last: bool)
+fn put_entry(out: &mut ArrayVec<u8, 400>, call: &Call, c_or_h_bit: bool, is_last: bool)
     requires { length out.old.items + 7 ≤ 400 }
-    ensures octets { out.new.items ≡ out.old.items ++ entry_octets is_last (record { call = call.now; reserved = 3; top = top }) }
+    ensures octets { out.new.items ≡ out.old.items ++ entry_octets is_last (record { call = call.now; reserved = 3; c_or_h_bit = c_or_h_bit }) }
     ensures len { length out.new.items ≡ length out.old.items + 7 }
     ensures call { IsCall call.now }
 {
     for c in &call.chars {
         out.push(2 * *c);
     }
-    out.push(u8::from(is_last) + 2 * call.ssid + RESERVED + 128 * u8::from(top));
+    out.push(u8::from(is_last) + 2 * call.ssid + RESERVED + 128 * u8::from(c_or_h_bit));
 }
 
 /// Puts the control octet, the PID where the kind has one, and the information at the end (2.3, 2.2.4, 2.2.5).
@@ -81,7 +82,7 @@ fn put_reject(out: &mut ArrayVec<u8, 400>, info: &[u8; 3])
 /// What the control octet says of the kind (2.3.2).
 fn control_of_kind(kind: &Kind<'_>) -> Control
     requires { CanWrite (kind_value kind.now) }
-    ensures control { result ≡ control_of (kind_value kind.now) }
+    ensures control { result ≡ (kind_value kind.now).control }
     ensures fits { FitsControl result }
 {
     match *kind {

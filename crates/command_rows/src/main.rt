@@ -6,18 +6,9 @@
 
 mod row;
 
-use anyhow::{Context, Result};
+use anyhow::Result;
+use row_words::play_rows;
 
 fn main(rt: HostRuntime) -> Result<()> {
-    for line in rt.lines(rt.alloc()) {
-        let line = line?;
-        let text = line.as_str();
-        if text.is_empty() || text.starts_with('#') {
-            println!(rt; "{text}")?;
-            continue;
-        }
-        let shown = row::play(rt.alloc(), text).context(format_args!("in the row {text}"))?;
-        println!(rt; "{shown}")?;
-    }
-    Ok(())
+    play_rows(&rt, row::play)
 }

@@ -5,6 +5,7 @@ ghost use Rattle.std.specs.Prelude.{◌≤◌, length, IfOk};
 use anyhow::{Context, Result};
 use pacsat_cli::{Words, run};
 use px_base::{MemoryAir, MemoryClock, MemoryOut, MemoryShelf, Shelf};
+use row_words::{read_numbers, read_words, written};
 use std::alloc::Global;
 
 /// Plays a row over a closed air, and gives the status's number, the octets said in
@@ -15,33 +16,27 @@ pub fn play(alloc: Global, row: &str) -> Result<String> {
     let (failing_shelf, rest) = rest.split_once(';').context("no failing calls")?;
     let (failing_out, moments) = rest.split_once(';').context("no moments")?;
     let words = read_words(alloc, words)?;
-    let mut shelf = read_shelf(
-        alloc,
-        content,
-        read_numbers(alloc, failing_shelf)?.as_slice(),
-    )?;
+    let failing_shelf = read_numbers(alloc, failing_shelf)?;
+    let mut shelf = read_shelf(alloc, content, failing_shelf.as_slice())?;
+    let failing_out = read_numbers(alloc, failing_out)?;
+    let mut out = MemoryOut::new(alloc, failing_out.as_slice())?;
+    run_over(alloc, &words, &mut shelf, &mut out, moments)
+}
+
+/// Runs the words over a closed air, this shelf and output, and a clock that gives these moments.
+fn run_over(
+    alloc: Global,
+    words: &Words,
+    shelf: &mut MemoryShelf,
+    out: &mut MemoryOut,
+    moments: &str,
+) -> Result<String> {
     let mut air = MemoryAir::new(alloc, Vec::new(alloc), &[])?;
-    let mut out = MemoryOut::new(alloc, read_numbers(alloc, failing_out)?.as_slice())?;
     let mut clock = MemoryClock::new(alloc, read_moments(alloc, moments)?.as_slice())?;
-    let status = run(alloc, &words, &mut air, &mut shelf, &mut out, &mut clock);
-    let number = status.number();
+    let number = run(alloc, words, &mut air, shelf, out, &mut clock).number();
     let said = hex::encode(alloc, air.said())?;
     let shown = shown_text(alloc, out.shown())?;
     Ok(format!(in alloc; "{number};{said};{shown}")?)
-}
-
-/// The words of a row, parted by blanks.
-fn read_words(alloc: Global, text: &str) -> Result<Words> {
-    let mut words = Words::new(alloc);
-    for word in text.split_whitespace() {
-        words.add(written(word))?;
-    }
-    Ok(words)
-}
-
-/// What a word of a row stands for: `''` is one without octets.
-fn written(word: &str) -> &str {
-    if word == "''" { "" } else { word }
 }
 
 /// A shelf whose calls with these numbers fail. It has nothing, or one name with its content, which is given in
@@ -67,22 +62,13 @@ fn fends(alloc: Global, count: usize) -> Result<Vec<u8>> {
     Ok(octets)
 }
 
-/// Numbers parted by blanks.
-fn read_numbers(alloc: Global, text: &str) -> Result<Vec<u64>> {
-    let mut numbers = Vec::new(alloc);
-    for word in text.split_whitespace() {
-        numbers.push(word.parse::<u64>()?)?;
-    }
-    Ok(numbers)
-}
-
 /// The moments that a clock gives, parted by blanks; 1 where a row has none.
 fn read_moments(alloc: Global, text: &str) -> Result<Vec<u32>>
     ensures { IfOk result (λ moments. 1 ≤ length moments.items) }
 {
     let mut moments = Vec::new(alloc);
-    for word in text.split_whitespace() {
-        moments.push(word.parse::<u32>()?)?;
+    for number in read_numbers(alloc, text)?.as_slice() {
+        moments.push(u32::try_from(*number)?)?;
     }
     if moments.is_empty() {
         moments.push(1)?;

@@ -10,8 +10,10 @@ pub mod laws;
 mod line;
 mod number;
 mod request;
+mod words;
 
 pub use request::{Refusal, Request, SessionRequest, read};
+pub use words::Words;
 
 #[cfg(test)]
 mod tests;

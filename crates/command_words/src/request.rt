@@ -10,6 +10,7 @@ ghost use Rattle.command_words.specs.Words.{BeyondSession, GivesNumber, IsFrames
 use crate::air::{AirWord, read_air};
 use crate::line;
 use crate::number::read_number;
+use crate::words::Words;
 use px_base::Call;
 use std::alloc::Global;
 use thiserror::Error;
@@ -68,16 +69,17 @@ struct SessionAsked {
 /// the command set exactly where the answer is `Usage`, and ask for what isn't built yet exactly where it is `NotBuilt`,
 /// but for want of memory (`OutOfMemory`); [`laws::one_meaning`](crate::laws::one_meaning) turns the clauses round.
 /// Takes memory where COMMAND is `session` or `frames`.
-pub fn read(alloc: Global, words: &[String]) -> Result<Request<'_>, Refusal>
-    ensures asks { IfOk result (AsksFor (map string_bytes words.now)) }
-    ensures usage { IsErrOf result Refusal.Usage → IsUsage (map string_bytes words.now) }
-    ensures unbuilt { IsErrOf result Refusal.NotBuilt → IsUnbuilt (map string_bytes words.now) }
-    ensures memory { IsErrOf result Refusal.OutOfMemory → NamesBuilt (map string_bytes words.now) }
+pub fn read(alloc: Global, words: &Words) -> Result<Request<'_>, Refusal>
+    ensures asks { IfOk result (AsksFor words.now) }
+    ensures usage { IsErrOf result Refusal.Usage → IsUsage words.now }
+    ensures unbuilt { IsErrOf result Refusal.NotBuilt → IsUnbuilt words.now }
+    ensures memory { IsErrOf result Refusal.OutOfMemory → NamesBuilt words.now }
 {
-    let [disk, air, command, ..] = words else {
+    let texts = words.as_slice();
+    let [disk, air, command, ..] = texts else {
         return Err(Refusal::Usage);
     };
-    let line = &words[2..];
+    let line = &texts[2..];
     if command.as_str() == "session" {
         return session_request(alloc, disk.as_str(), air.as_str(), line);
     }

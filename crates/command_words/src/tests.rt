@@ -1,6 +1,7 @@
 //! What the words ask for, from outside.
 
-use crate::{Refusal, Request, read};
+use crate::{Refusal, Request, Words, read};
+use px_base::OutOfMemory;
 use std::alloc::{AllocError, Global};
 use std::test::Fail;
 
@@ -134,10 +135,10 @@ const UNBUILT: [&str; 8] = [
 ];
 
 /// The words of a text.
-fn words_of(alloc: Global, text: &str) -> Result<Vec<String>, AllocError> {
-    let mut words = Vec::new(alloc);
+fn words_of(alloc: Global, text: &str) -> Result<Words, OutOfMemory> {
+    let mut words = Words::new(alloc);
     for word in text.split(' ') {
-        words.push(String::from_str(alloc, word)?)?;
+        words.add(word)?;
     }
     Ok(words)
 }
@@ -160,13 +161,13 @@ fn told(alloc: Global, asked: &Result<Request<'_>, Refusal>) -> Result<String, A
 fn words_are_read(rt: HostRuntime) -> Result<(), Fail> {
     for (text, want) in WORDS.iter() {
         let words = words_of(rt.alloc(), text)?;
-        let asked = read(rt.alloc(), words.as_slice());
+        let asked = read(rt.alloc(), &words);
         assert_eq!(rt; told(rt.alloc(), &asked)?.as_str(), *want, "{text}");
     }
     for command in UNBUILT.iter() {
         let text = format!(in rt.alloc(); "none none {command} --x -y ")?;
         let words = words_of(rt.alloc(), text.as_str())?;
-        let asked = read(rt.alloc(), words.as_slice());
+        let asked = read(rt.alloc(), &words);
         assert!(rt; asked == Err(Refusal::NotBuilt), "{command}");
     }
     Ok(())

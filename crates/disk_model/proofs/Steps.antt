@@ -1,14 +1,16 @@
 -- What a call of a disk in memory leaves of its content, its images and its past.
-use Rattle.std.proofs.Common.{◌≡◌, ◌⊎◌, inl, inr, ℕ, ◌+◌, ◌≤◌, List, [], ◌∷◌, ◌++◌, length, take, refl, sym, ◌∙◌, ap, subst, arith, Some, Ok, Err, Result, OnOk}
-use Rattle.std.proofs.lemmas.Bool.{cases_lt}
+use Rattle.std.proofs.Common.{◌≡◌, ◌⊎◌, inl, inr, ℕ, ◌+◌, ◌≤◌, List, true, [], ◌∷◌, ◌++◌, length, take, refl, sym, ◌∙◌, ap, subst, arith, Some, Ok, Err, Result, OnOk}
+use Rattle.std.proofs.lemmas.Bool.{cases_Bool, cases_lt}
 use Rattle.std.proofs.lemmas.List.{length_push, take_all, take-append-le}
 use Rattle.px_base.specs.Outside.{HasCause}
-use Rattle.disk_model.specs.Calls.{DiskState, IsSyncing, IsTearing, IsWriting, content_of, images_of, images_since_of, moment_of, surface}
-use Rattle.disk_model.specs.Disk.{Elapses, Follows, HasContent, IsOctets, Only, Torn, Writes}
-use Rattle.disk_model.specs.Surface.{ImagesSince, IsImage, Surface, opened, surface_after, write_over}
+use Rattle.px_base.specs.Octets.{IsOctets}
+use Rattle.disk_model.specs.Calls.{DiskState, IsRefused, IsSyncing, IsTearing, IsWriting, content_of, images_of, images_since_of, moment_of, surface}
+use Rattle.disk_model.specs.Disk.{Follows, HasContent, Only, Torn, Writes}
+use Rattle.disk_model.specs.Moments.{Elapses}
+use Rattle.disk_model.specs.Surface.{ImagesSince, IsImage, Surface, with_range, surface_after, surface_after_call, write_over}
 use Rattle.disk_model.specs.declared.disk_call.DiskCall.{DiskCall}
 use Rattle.disk_model.specs.declared.disk_call.DiskCall.TheVariants as call
-use Rattle.disk_model.proofs.Surfaces.{at_rest_only, images_of_this_content, images_of_other_content, surface_after-push, torn_from, torn_leaves}
+use Rattle.disk_model.proofs.Surfaces.{quiet_leaves_only, images_of_this_content, images_of_other_content, with_range_keeps, surface_after-push, torn_from, torn_leaves}
 use Rattle.disk_model.proofs.Writes.{torn_by_places, write_over_writes}
 
 -- no call was made, and a crash may leave no more than before
@@ -36,14 +38,85 @@ call_elapses first calls call = record {
     ]
 
 -- the images of a range that is open
-opened_follows : (before : DiskState) (at : ℕ) (octets : List ℕ) → images_of before (content_of before) → Follows (Torn at (length octets)) (images_of before) (IsImage (opened (surface before) at octets))
-opened_follows before at octets content image left = torn_from (surface before) at octets (content_of before) image content left
+with_range_follows : (before : DiskState) (at count : ℕ) → images_of before (content_of before) → Follows (Torn at count) (images_of before) (IsImage (with_range (surface before) at count))
+with_range_follows before at count content image left = torn_from (surface before) at count (content_of before) image content left
 
 same_follows : (before : DiskState) (at count : ℕ) → Follows (Torn at count) (images_of before) (images_of before)
 same_follows before at count image left = (image, left, torn_by_places at count image image (omega arith) (omega arith) (λ place below outside. refl))
 
 abbrev ElapsesTo : DiskState → DiskState → Type 0
 ElapsesTo before now = Elapses (moment_of before) (moment_of now) (images_since_of before) (images_since_of now) (images_of now)
+
+-- what a call of `write_at` does that leaves its range open
+pub record Opens (before now : DiskState) (at count : ℕ) : Type 0 where
+  pub follows : images_of before (content_of before) → Follows (Torn at count) (images_of before) (images_of now)
+  pub leaves_open : (old new : List ℕ) → images_of before old → IsOctets new → Torn at count old new → images_of now new
+  pub kept : (image : List ℕ) → images_of before image → images_of now image
+  pub elapses : ElapsesTo before now
+
+-- and what one does that changes nothing
+pub record Untouched (before now : DiskState) : Type 0 where
+  pub first : now.first ≡ before.first
+  pub calls : now.calls ≡ before.calls
+
+-- the call is recorded, and its surface is the one before but for the content, with this range open
+opens_by : (before now : DiskState) (at count : ℕ) (done : DiskCall) (content : List ℕ)
+    → now.first ≡ before.first → now.calls ≡ before.calls ++ done ∷ []
+    → surface_after_call (surface before) done ≡ record (with_range (surface before) at count) { content = content }
+    → Opens before now at count
+opens_by before now at count done content first calls is = record {
+  follows = λ content_is image left. with_range_follows before at count content_is image (images_of_this_content (with_range (surface before) at count) content image (subst (λ (s : Surface). IsImage s image) surface_is left));
+  leaves_open = λ old new left small torn. here new (torn_leaves (surface before) at count old new left small torn);
+  kept = λ image left. here image (with_range_keeps (surface before) at count image left);
+  elapses = subst (λ (f : List ℕ). Elapses (moment_of before) (length now.calls) (images_since_of before) (ImagesSince f now.calls) (IsImage (surface_after f now.calls))) (sym first)
+      (subst (λ (l : List DiskCall). Elapses (moment_of before) (length l) (images_since_of before) (ImagesSince before.first l) (IsImage (surface_after before.first l))) (sym calls) (call_elapses before.first before.calls done));
+}
+  where
+    surface_is : surface now ≡ record (with_range (surface before) at count) { content = content }
+    surface_is =
+        ap (λ (f : List ℕ). surface_after f now.calls) first
+        ∙ ap (surface_after before.first) calls
+        ∙ surface_after-push before.first before.calls done
+        ∙ is
+
+    here : (image : List ℕ) → IsImage (with_range (surface before) at count) image → images_of now image
+    here image left = subst (λ (s : Surface). IsImage s image) (sym surface_is) (images_of_other_content (with_range (surface before) at count) content image left)
+
+-- a write that is done, and one that is torn
+pub write_opens : (before now : DiskState) (at : ℕ) (octets : List ℕ) → now.first ≡ before.first → now.calls ≡ before.calls ++ call.Write at octets ∷ [] → Opens before now at (length octets)
+write_opens before now at octets first calls =
+    opens_by before now at (length octets) (call.Write at octets) (write_over (content_of before) at octets) first calls refl
+
+pub torn_write_opens : (before now : DiskState) (at count : ℕ) → now.first ≡ before.first → now.calls ≡ before.calls ++ call.TornWrite at count ∷ [] → Opens before now at count
+torn_write_opens before now at count first calls = opens_by before now at count (call.TornWrite at count) (content_of before) first calls refl
+
+module _ (before now : DiskState) where
+  untouched_surface : Untouched before now → surface now ≡ surface before
+  untouched_surface same = ap (λ (f : List ℕ). surface_after f now.calls) same.first ∙ ap (surface_after before.first) same.calls
+
+  untouched_elapses : Untouched before now → ElapsesTo before now
+  untouched_elapses same =
+      subst (λ (f : List ℕ). Elapses (moment_of before) (length now.calls) (images_since_of before) (ImagesSince f now.calls) (IsImage (surface_after f now.calls))) (sym same.first)
+      (subst (λ (l : List DiskCall). Elapses (moment_of before) (length l) (images_since_of before) (ImagesSince before.first l) (IsImage (surface_after before.first l))) (sym same.calls) (nothing_elapses before.first before.calls (images_of before)))
+
+-- a call of `write_at` that left its range open, or, where this holds, changed nothing
+module _ (before now : DiskState) (at count : ℕ) (P : Type 0) where
+  pub follows_either : Opens before now at count ⊎ (P × Untouched before now) → images_of before (content_of before) → Follows (Torn at count) (images_of before) (images_of now)
+  follows_either (inl opens) content image left = opens.follows content image left
+  follows_either (inr same) content image left =
+      same_follows before at count image (subst (λ (s : Surface). IsImage s image) (untouched_surface before now same.1) left)
+
+  pub leaves_open_either : Opens before now at count ⊎ (P × Untouched before now) → (P → ⊥) → (old new : List ℕ) → images_of before old → IsOctets new → Torn at count old new → images_of now new
+  leaves_open_either (inl opens) none old new left small torn = opens.leaves_open old new left small torn
+  leaves_open_either (inr same) none old new left small torn = absurd (none same.0)
+
+  pub kept_either : Opens before now at count ⊎ (P × Untouched before now) → (image : List ℕ) → images_of before image → images_of now image
+  kept_either (inl opens) image left = opens.kept image left
+  kept_either (inr same) image left = subst (λ (s : Surface). IsImage s image) (sym (untouched_surface before now same.1)) left
+
+  pub elapses_either : Opens before now at count ⊎ (P × Untouched before now) → ElapsesTo before now
+  elapses_either (inl opens) = opens.elapses
+  elapses_either (inr same) = untouched_elapses before now same.1
 
 module _ {T E : Type 0} (before now : DiskState) (at : ℕ) (octets : List ℕ) where
   pub writing_writes : (result : Result T E) → IsWriting before now at octets result → OnOk result (HasContent (Some (content_of before)) (Some (content_of now)) (Writes at octets))
@@ -52,58 +125,43 @@ module _ {T E : Type 0} (before now : DiskState) (at : ℕ) (octets : List ℕ) 
       (write_over (content_of before) at octets, ap Some content, write_over_writes (content_of before) at octets)
   writing_writes (Err fault) step = tt
 
-  pub writing_tears : (result : Result T E) → IsWriting before now at octets result → images_of before (content_of before) → Follows (Torn at (length octets)) (images_of before) (images_of now)
-  writing_tears (Ok done) step content image left =
-      let surface_is = ap surface step.ok.2 ∙ surface_after-push before.first before.calls (call.Write at octets) in
-      let here = subst (λ (s : Surface). IsImage s image) surface_is left in
-      opened_follows before at octets content image (images_of_this_content (opened (surface before) at octets) (write_over (content_of before) at octets) image here)
-  writing_tears (Err fault) step content image left = elim step.err [
-    | inl torn ↦
-        let surface_is = ap surface torn.2 ∙ surface_after-push before.first before.calls (call.TornWrite at octets) in
-        opened_follows before at octets content image (subst (λ (s : Surface). IsImage s image) surface_is left)
-    | inr starved ↦ same_follows before at (length octets) image (subst (λ (s : DiskState). images_of s image) starved left)
+  pub writing_opens : (result : Result T E) → IsWriting before now at octets result
+      → Opens before now at (length octets) ⊎ (IsRefused before at (length octets) × Untouched before now)
+  writing_opens (Ok done) step =
+      inl (write_opens before now at octets (ap (λ (s : DiskState). s.first) step.ok.2) (ap (λ (s : DiskState). s.calls) step.ok.2))
+  writing_opens (Err fault) step = elim step.err [
+    | inl listed ↦ inl (torn_write_opens before now at (length octets) (ap (λ (s : DiskState). s.first) listed.2) (ap (λ (s : DiskState). s.calls) listed.2))
+    | inr rest ↦ elim rest [
+      | inl lost ↦ inl (torn_write_opens before now at (length octets) (ap (λ (s : DiskState). s.first) lost.1) (ap (λ (s : DiskState). s.calls) lost.1))
+      | inr refused ↦ inr (refused.0, record { first = ap (λ (s : DiskState). s.first) refused.1; calls = ap (λ (s : DiskState). s.calls) refused.1 })
+    ]
   ]
 
-  pub writing_opens : (result : Result T E) → IsWriting before now at octets result → OnOk result ((old new : List ℕ) → images_of before old → IsOctets new → Torn at (length octets) old new → images_of now new)
-  writing_opens (Ok done) step = λ old new left small torn.
-      let surface_is = ap surface step.ok.2 ∙ surface_after-push before.first before.calls (call.Write at octets) in
-      let here = torn_leaves (surface before) at octets old new left small torn in
-      subst (λ (s : Surface). IsImage s new) (sym surface_is) (images_of_other_content (opened (surface before) at octets) (write_over (content_of before) at octets) new here)
-  writing_opens (Err fault) step = tt
-
-  pub writing_elapses : (result : Result T E) → IsWriting before now at octets result → ElapsesTo before now
-  writing_elapses (Ok done) step = subst (ElapsesTo before) (sym step.ok.2) (call_elapses before.first before.calls (call.Write at octets))
-  writing_elapses (Err fault) step = elim step.err [
-    | inl torn ↦ subst (ElapsesTo before) (sym torn.2) (call_elapses before.first before.calls (call.TornWrite at octets))
-    | inr starved ↦ subst (ElapsesTo before) (sym starved) (nothing_elapses before.first before.calls (images_of before))
+-- a write that a fuse cuts short
+pub tearing_opens : (before now : DiskState) (at count : ℕ) → IsTearing before now at count → Opens before now at count ⊎ ((before.down ≡ true) × Untouched before now)
+tearing_opens before now at count step = elim (cases_Bool before.down) [
+  | inl is ↦ inr (is, record { first = ap (λ (s : DiskState). s.first) (step.down is); calls = ap (λ (s : DiskState). s.calls) (step.down is) })
+  | inr up ↦ elim (step.up up) [
+    | inl torn ↦ inl (torn_write_opens before now at count (ap (λ (s : DiskState). s.first) torn) (ap (λ (s : DiskState). s.calls) torn))
+    | inr torn ↦ inl (torn_write_opens before now at count (ap (λ (s : DiskState). s.first) torn) (ap (λ (s : DiskState). s.calls) torn))
   ]
+]
 
 module _ {T E : Type 0} (before now : DiskState) where
-  pub syncing_quiets : (result : Result T E) → IsSyncing before now result → OnOk result (Only (images_of now) (content_of before))
-  syncing_quiets (Ok done) step = λ image left.
-      let surface_is = ap surface step.ok.1 ∙ surface_after-push before.first before.calls call.Sync in
-      at_rest_only (content_of before) image (subst (λ (s : Surface). IsImage s image) surface_is left)
-  syncing_quiets (Err fault) step = tt
+  pub syncing_leaves_only : (result : Result T E) → IsSyncing before now result → OnOk result (Only (images_of now) (content_of before))
+  syncing_leaves_only (Ok done) step = λ image left.
+      let surface_is = ap surface step.ok.2 ∙ surface_after-push before.first before.calls call.Sync in
+      quiet_leaves_only (content_of before) image (subst (λ (s : Surface). IsImage s image) surface_is left)
+  syncing_leaves_only (Err fault) step = tt
 
   pub syncing_elapses : (result : Result T E) → IsSyncing before now result → ElapsesTo before now
-  syncing_elapses (Ok done) step = subst (ElapsesTo before) (sym step.ok.1) (call_elapses before.first before.calls call.Sync)
+  syncing_elapses (Ok done) step = subst (ElapsesTo before) (sym step.ok.2) (call_elapses before.first before.calls call.Sync)
   syncing_elapses (Err fault) step = elim step.err [
-    | inl failed ↦ subst (ElapsesTo before) (sym failed.1) (call_elapses before.first before.calls call.FailedSync)
+    | inl failed ↦ subst (ElapsesTo before) (sym failed.2) (call_elapses before.first before.calls call.FailedSync)
     | inr starved ↦ subst (ElapsesTo before) (sym starved) (nothing_elapses before.first before.calls (images_of before))
   ]
-
-module _ (before now : DiskState) (at : ℕ) (octets : List ℕ) where
-  pub tearing_tears : IsTearing before now at octets → images_of before (content_of before) → Follows (Torn at (length octets)) (images_of before) (images_of now)
-  tearing_tears (inl torn) content image left =
-      let surface_is = ap surface torn.1 ∙ surface_after-push before.first before.calls (call.TornWrite at octets) in
-      opened_follows before at octets content image (subst (λ (s : Surface). IsImage s image) surface_is left)
-  tearing_tears (inr starved) content image left = same_follows before at (length octets) image (subst (λ (s : DiskState). images_of s image) starved left)
-
-  pub tearing_elapses : IsTearing before now at octets → ElapsesTo before now
-  tearing_elapses (inl torn) = subst (ElapsesTo before) (sym torn.1) (call_elapses before.first before.calls (call.TornWrite at octets))
-  tearing_elapses (inr starved) = subst (ElapsesTo before) (sym starved) (nothing_elapses before.first before.calls (images_of before))
 
 -- a count that rose by a part
 pub cause_of_sum : {T E : Type 0} (before now other : ℕ) (result : Result T E) → HasCause before now result → HasCause (before + other) (now + other) result
-cause_of_sum before now other (Ok done) cause = record { no_less = omega (arith, cause.no_less); rose = tt }
-cause_of_sum before now other (Err fault) cause = record { no_less = omega (arith, cause.no_less); rose = λ below. let rose = cause.rose (omega (arith, below)) in omega (arith, rose) }
+cause_of_sum before now other (Ok done) cause = record { no_less = omega (arith, cause.no_less); rose = tt; same = omega (arith, cause.same) }
+cause_of_sum before now other (Err fault) cause = record { no_less = omega (arith, cause.no_less); rose = λ below. let rose = cause.rose (omega (arith, below)) in omega (arith, rose); same = tt }

@@ -1,23 +1,21 @@
 -- How what a crash may leave changes with the calls of a disk.
-use Rattle.std.proofs.Common.{◌≡◌, inl, inr, ⊎_elim, ℕ, ◌+◌, ◌<◌, ◌≤◌, min, List, [], ◌∷◌, ◌++◌, length, get_or, take, refl, sym, ◌∙◌, arith}
+use Rattle.std.proofs.Common.{◌≡◌, inl, inr, ⊎_elim, ℕ, ◌+◌, ◌<◌, ◌≤◌, min, List, [], ◌∷◌, ◌++◌, length, get_or, take, sym, ◌∙◌, arith}
 use Rattle.std.proofs.lemmas.Bool.{cases_lt}
 use Rattle.std.proofs.lemmas.List.{ext_get_or, get_or-take, length-take}
 use Rattle.std.proofs.lemmas.List.Elements.{All-take}
 use Rattle.std.proofs.lemmas.List.Sums.{fold-append}
 use Rattle.disk_model.specs.declared.disk_call.DiskCall.{DiskCall}
-use Rattle.disk_model.specs.Disk.{IsOctets, Only, Torn}
-use Rattle.disk_model.specs.Surface.{IsImage, IsOpen, Surface, opened, surface_after, surface_after_call, surface_at_rest, write_over}
+use Rattle.px_base.specs.Octets.{IsOctets}
+use Rattle.disk_model.specs.Disk.{Only, Torn}
+use Rattle.disk_model.specs.Surface.{IsImage, IsOpen, Surface, with_range, surface_after, surface_after_call, quiet_surface, write_over}
 use Rattle.disk_model.proofs.Writes.{length-write_over, get_or-write_over_outside, IsOctets-write_over, restored, length-restored, get_or-restored_inside, get_or-restored_outside, IsOctets-restored, torn_by_places, torn_outside}
 
 pub surface_after-push : (first : List ℕ) (calls : List DiskCall) (call : DiskCall) → surface_after first (calls ++ call ∷ []) ≡ surface_after_call (surface_after first calls) call
-surface_after-push first calls call = fold-append surface_after_call (surface_at_rest first) calls (call ∷ [])
+surface_after-push first calls call = fold-append surface_after_call (quiet_surface first) calls (call ∷ [])
 
--- a disk at rest leaves what it has
-pub at_rest_leaves : (octets : List ℕ) → IsOctets octets → IsImage (surface_at_rest octets) octets
-at_rest_leaves octets is = record { octets = is; no_shorter = omega arith; no_longer = omega arith; kept = λ place below shut. refl }
-
-pub at_rest_only : (octets : List ℕ) → Only (IsImage (surface_at_rest octets)) octets
-at_rest_only octets image is =
+-- a quiet disk leaves what it has, and nothing else
+pub quiet_leaves_only : (octets : List ℕ) → Only (IsImage (quiet_surface octets)) octets
+quiet_leaves_only octets image is =
     ext_get_or 0 image octets (omega (arith, is.no_shorter, is.no_longer))
     (λ place below. is.kept place (omega (arith, is.no_shorter, is.no_longer)) (λ none. none))
 
@@ -29,8 +27,8 @@ pub images_of_this_content : (surface : Surface) (content image : List ℕ) → 
 images_of_this_content surface content image is = record { octets = is.octets; no_shorter = is.no_shorter; no_longer = is.no_longer; kept = is.kept }
 
 -- what might be left before a write may be left after it
-pub opened_keeps : (surface : Surface) (at : ℕ) (octets image : List ℕ) → IsImage surface image → IsImage (opened surface at octets) image
-opened_keeps surface at octets image is = record {
+pub with_range_keeps : (surface : Surface) (at count : ℕ) (image : List ℕ) → IsImage surface image → IsImage (with_range surface at count) image
+with_range_keeps surface at count image is = record {
   octets = is.octets;
   no_shorter = is.no_shorter;
   no_longer = omega (arith, is.no_longer);
@@ -38,7 +36,7 @@ opened_keeps surface at octets image is = record {
 }
 
 -- a write that is done leaves its octets, whatever might be left before
-pub written_leaves : (surface : Surface) (at : ℕ) (octets image : List ℕ) → IsOctets octets → IsImage surface image → IsImage (opened surface at octets) (write_over image at octets)
+pub written_leaves : (surface : Surface) (at : ℕ) (octets image : List ℕ) → IsOctets octets → IsImage surface image → IsImage (with_range surface at (length octets)) (write_over image at octets)
 written_leaves surface at octets image bytes is = record {
   octets = IsOctets-write_over image at octets is.octets bytes;
   no_shorter = omega (arith, is.no_shorter, length-write_over image at octets);
@@ -49,12 +47,9 @@ written_leaves surface at octets image bytes is = record {
 }
 
 -- an image is torn from one in which nothing of the range was written
-pub torn_from : (surface : Surface) (at : ℕ) (octets other image : List ℕ) → IsImage surface other → IsImage (opened surface at octets) image → (old : List ℕ) × IsImage surface old × Torn at (length octets) old image
-torn_from surface at octets other image is_other is = (restored at count other front, old_is, torn)
+pub torn_from : (surface : Surface) (at count : ℕ) (other image : List ℕ) → IsImage surface other → IsImage (with_range surface at count) image → (old : List ℕ) × IsImage surface old × Torn at count old image
+torn_from surface at count other image is_other is = (restored at count other front, old_is, torn)
   where
-    count : ℕ
-    count = length octets
-
     front : List ℕ
     front = take surface.most image
 
@@ -95,12 +90,12 @@ torn_from surface at octets other image is_other is = (restored at count other f
         (λ place below outside. sym (get_or-restored_outside at count other front place (omega (arith, size)) outside ∙ get_or-take surface.most image place 0 (omega (arith, size, front_size))))
 
 -- and each that is torn from one may be left
-pub torn_leaves : (surface : Surface) (at : ℕ) (octets old image : List ℕ) → IsImage surface old → IsOctets image → Torn at (length octets) old image → IsImage (opened surface at octets) image
-torn_leaves surface at octets old image is small torn = record {
+pub torn_leaves : (surface : Surface) (at count : ℕ) (old image : List ℕ) → IsImage surface old → IsOctets image → Torn at count old image → IsImage (with_range surface at count) image
+torn_leaves surface at count old image is small torn = record {
   octets = small;
   no_shorter = omega (arith, is.no_shorter, torn.no_shorter);
   no_longer = omega (arith, is.no_longer, torn.no_longer);
   kept = λ place below shut.
-      torn_outside at (length octets) old image torn place (omega (arith, is.no_shorter)) (λ inside. shut (inl inside))
+      torn_outside at count old image torn place (omega (arith, is.no_shorter)) (λ inside. shut (inl inside))
       ∙ is.kept place below (λ inside. shut (inr inside));
 }

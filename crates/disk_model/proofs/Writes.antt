@@ -1,9 +1,10 @@
 -- What a write does to the octets of a disk.
-use Rattle.std.proofs.Common.{◌≡◌, inl, inr, ℕ, ◌+◌, ◌-◌, ◌<◌, ◌≤◌, max, List, ◌++◌, length, get_or, take, drop, replicate, Fits, w8, ap, sym, ◌∙◌, arith, rules}
+use Rattle.std.proofs.Common.{◌≡◌, inl, inr, ℕ, ◌+◌, ◌-◌, ◌<◌, ◌≤◌, max, List, ◌++◌, length, get_or, take, drop, replicate, Fits, w8, ap, arith, rules}
 use Rattle.std.proofs.lemmas.Bool.{cases_lt}
-use Rattle.std.proofs.lemmas.List.{places, same_lists, ext_get_or, get_or_past}
+use Rattle.std.proofs.lemmas.List.{places, same_lists, ext_get_or}
 use Rattle.std.proofs.lemmas.List.Elements.{All-append, All-take, All-drop, All-from_get_or, All-replicate}
-use Rattle.disk_model.specs.Disk.{IsOctets, Torn, Writes}
+use Rattle.px_base.specs.Octets.{IsOctets}
+use Rattle.disk_model.specs.Disk.{Torn, Writes}
 use Rattle.disk_model.specs.Surface.{write_over}
 
 -- the octets as they are written: filled up with zeros, and then replaced
@@ -21,24 +22,6 @@ get_or-write_over_outside old at octets place below outside = elim (cases_lt pla
     | inr back ↦ grind (arith, places)
   ]
 ]
-
--- the same past the old end, where a read at 0 gives 0
-pub get_or-write_over_beside : (old : List ℕ) (at : ℕ) (octets : List ℕ) (place : ℕ) → ((at ≤ place) × (place < at + length octets) → ⊥) → get_or (write_over old at octets) place 0 ≡ get_or old place 0
-get_or-write_over_beside old at octets place outside = elim (cases_lt place (length old)) [
-  | inl below ↦ get_or-write_over_outside old at octets place below outside
-  | inr past ↦ elim (cases_lt place at) [
-    | inl gap ↦ grind (arith, places)
-    | inr rest ↦ elim (cases_lt place (at + length octets)) [
-      | inl inside ↦ absurd (outside (rest, inside))
-      | inr back ↦
-          let size = length-write_over old at octets in
-          get_or_past (write_over old at octets) place 0 (omega (arith, size)) ∙ sym (get_or_past old place 0 past)
-    ]
-  ]
-]
-
-pub get_or-write_over_inside : (old : List ℕ) (at : ℕ) (octets : List ℕ) (place : ℕ) → at ≤ place → place < at + length octets → get_or (write_over old at octets) place 0 ≡ get_or octets (place - at) 0
-get_or-write_over_inside old at octets place from to = grind (arith, places)
 
 pub IsOctets-write_over : (old : List ℕ) (at : ℕ) (octets : List ℕ) → IsOctets old → IsOctets octets → IsOctets (write_over old at octets)
 IsOctets-write_over old at octets was bytes =

@@ -1,22 +1,6 @@
 -- What a number picks of a crash.
-use Rattle.std.specs.Prelude.{◌≡◌, ◌⊎◌, ◌==◌, ◌/◌, ◌%◌, ◌<◌, ◌≤◌, ℕ, List, [], ◌∷◌, length, slice_index, if◌then◌else◌}
-use Rattle.disk_model.specs.Surface.{IsImage, IsOpen, Surface, write_over}
-use Rattle.disk_model.specs.declared.crash.Style.{Style}
-use Rattle.disk_model.specs.declared.crash.Style.TheVariants as style
-
--- by the remainder by 4: what was written since the last sync is lost, is there, is one octet all over, or is mixed
-abbrev pub style_of : ℕ → Style
-style_of number =
-    if number % 4 == 0 then style.Old else if number % 4 == 1 then style.New else if number % 4 == 2 then style.Filled (number / 4 % 256) else style.Mixed
-
--- these writes, the latest first, over the octets
-abbrev pub written_all : List ℕ → List (ℕ × List ℕ) → List ℕ
-written_all octets [] = octets
-written_all octets (write ∷ earlier) = write_over (written_all octets earlier) write.0 write.1
-
--- the octets, had every write since the last sync reached the disk, also those that failed
-abbrev pub newest : Surface → List ℕ
-newest surface = written_all surface.synced surface.writes
+use Rattle.std.specs.Prelude.{◌≡◌, ◌⊎◌, ◌/◌, ◌%◌, ◌<◌, ◌≤◌, ℕ, List, Option, Some, length, slice_index}
+use Rattle.disk_model.specs.Surface.{IsImage, IsInRange, IsOpen, Surface}
 
 -- Each octet that may be any octet is this one, and there are as many octets as there may be.
 pub record IsFilled (surface : Surface) (octet : ℕ) (image : List ℕ) : Type 0 where
@@ -27,9 +11,20 @@ pub record IsFilled (surface : Surface) (octet : ℕ) (image : List ℕ) : Type 
       → (length surface.synced ≤ place) ⊎ IsOpen surface.writes place
       → slice_index image place ≡ octet
 
--- what a crash leaves in this style
-pub record IsCrash (surface : Surface) (style_is : Style) (image : List ℕ) : Type 0 where
+-- The octets in the range are other ones, each this one, if there is one; those outside stay.
+pub record Tears (at count : ℕ) (octet : Option ℕ) (old new : List ℕ) : Type 0 where
+  pub size : length new ≡ length old
+  pub outside : (place : ℕ) → (IsInRange at count place → ⊥) → slice_index new place ≡ slice_index old place
+  pub filled :
+      (wanted place : ℕ)
+      → octet ≡ Some wanted
+      → IsInRange at count place
+      → place < length old
+      → slice_index new place ≡ wanted
+
+-- What a crash leaves, by the remainder by 4: what was synced, what a read gives, one octet all over, or any image.
+pub record IsCrash (surface : Surface) (pick : ℕ) (image : List ℕ) : Type 0 where
   pub left : IsImage surface image
-  pub old : style_is ≡ style.Old → image ≡ surface.synced
-  pub new : style_is ≡ style.New → image ≡ newest surface
-  pub filled : (octet : ℕ) → style_is ≡ style.Filled octet → IsFilled surface octet image
+  pub synced : pick % 4 ≡ 0 → image ≡ surface.synced
+  pub written : pick % 4 ≡ 1 → image ≡ surface.content
+  pub filled : pick % 4 ≡ 2 → IsFilled surface (pick / 4 % 256) image

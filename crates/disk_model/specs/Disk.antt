@@ -1,9 +1,6 @@
 -- What the calls of a disk do to its content, and what a crash may leave.
-use Rattle.std.specs.Prelude.{◌≡◌, ◌↔◌, ◌⊎◌, ℕ, ◌+◌, ◌<◌, ◌≤◌, max, List, length, take, drop, All, Option, Some, IfSome, IsSome, Result, OnOk}
-
--- octets, as numbers
-abbrev pub IsOctets : List ℕ → Type 0
-IsOctets octets = All (λ octet. octet < 256) octets
+use Rattle.std.specs.Prelude.{◌≡◌, ℕ, ◌+◌, ◌^◌, ◌≤◌, max, List, length, take, drop, Option, Some, IfSome, IsSome}
+use Rattle.px_base.specs.Octets.{IsOctets}
 
 -- the content is told
 abbrev pub IsTold : Option (List ℕ) → Type 0
@@ -16,14 +13,6 @@ Only images content = (image : List ℕ) → images image → image ≡ content
 -- quiet: where the content is told, a crash leaves it and nothing else
 abbrev pub IsQuiet : Option (List ℕ) → (List ℕ → Type 0) → Type 0
 IsQuiet content images = IfSome content (Only images)
-
--- a crash may leave the same as before
-abbrev pub SameImages : (List ℕ → Type 0) → (List ℕ → Type 0) → Type 0
-SameImages before now = (image : List ℕ) → now image ↔ before image
-
--- and might have left the same since each moment
-abbrev pub SamePast : (ℕ → List ℕ → Type 0) → (ℕ → List ℕ → Type 0) → Type 0
-SamePast before now = (t : ℕ) (image : List ℕ) → now t image ↔ before t image
 
 -- where the content before is told, the content now is told, and stands in this relation to it
 abbrev pub HasContent : Option (List ℕ) → Option (List ℕ) → (List ℕ → List ℕ → Type 0) → Type 0
@@ -53,13 +42,18 @@ pub record Torn (at count : ℕ) (old new : List ℕ) : Type 0 where
 abbrev pub Follows : (List ℕ → List ℕ → Type 0) → (List ℕ → Type 0) → (List ℕ → Type 0) → Type 0
 Follows step before now = (image : List ℕ) → now image → (old : List ℕ) × before old × step old image
 
--- Time goes on: a crash since t might have left what it might have left before, or what it may leave now.
-pub record Elapses (before now : ℕ) (past since : ℕ → List ℕ → Type 0) (images : List ℕ → Type 0) : Type 0 where
-  pub later : before ≤ now
-  pub nothing_else : (t : ℕ) (image : List ℕ) → t ≤ before → since t image → past t image ⊎ images image
-  pub keeps : (t : ℕ) (image : List ℕ) → t ≤ before → past t image → since t image
+-- each of these images is one of those
+abbrev pub AreAmong : (List ℕ → Type 0) → (List ℕ → Type 0) → Type 0
+AreAmong these those = (image : List ℕ) → these image → those image
 
--- A call that answered Ok is one moment, where it is told; one that failed is one at most.
-pub record Counts {T E : Type 0} (content : Option (List ℕ)) (before now : ℕ) (result : Result T E) : Type 0 where
-  pub one : OnOk result (IfSome content (λ octets. now ≡ before + 1))
-  pub at_most : now ≤ before + 1
+-- Unless the disk was down before, or the range ends past 2 ^ 63: each list that is torn so from an image before is an
+-- image now.
+abbrev pub LeavesOpen : {D : Type 0} → (D → Type 0) → (D → List ℕ → Type 0) → ℕ → ℕ → D → D → Type 0
+LeavesOpen is_down images at count old new =
+    (is_down old → ⊥)
+    → at + count ≤ 2 ^ 63
+    → (before now : List ℕ)
+    → images old before
+    → IsOctets now
+    → Torn at count before now
+    → images new now

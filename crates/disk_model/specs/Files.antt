@@ -6,8 +6,8 @@ pub record FaultCounts : Type 0 where
   pub write_faults : ℕ
 
 -- its content isn't told
-abbrev pub untold : Option (List ℕ)
-untold = None
+abbrev pub no_content : Option (List ℕ)
+no_content = None
 
 -- nor what a crash may leave
 abbrev pub no_images : List ℕ → Type 0

@@ -1,60 +1,105 @@
 -- A disk that stops after so many calls, as contracts see it, and what each of its calls does.
-use Rattle.std.specs.Prelude.{◌≡◌, ℕ, ◌+◌, ◌-◌, ◌<◌, List, Bool, false, true, Result, IsErr}
-use Rattle.px_base.specs.Forms.{counted}
-use Rattle.disk_model.specs.Calls.{DiskState, IsReading, IsSyncing, IsTearing, IsWriting}
+use Rattle.std.specs.Prelude.{◌≡◌, ◌⊎◌, ℕ, ◌+◌, ◌^◌, ◌<◌, ◌≤◌, List, length, Option, Some, true, Result, IsErr}
+use Rattle.px_base.specs.Outside.{counted}
+use Rattle.disk_model.specs.Calls.{DiskState, IsReading, IsSyncing, IsTearing, IsWriting, content_of, images_of, images_since_of, moment_of}
 use Rattle.disk_model.specs.Memory.{state}
 use Rattle.disk_model.specs.declared.fuse_disk.FuseDisk.{FuseDisk}
+use Rattle.disk_model.specs.declared.fuse_disk.FuseStage.{FuseStage}
+use Rattle.disk_model.specs.declared.fuse_disk.FuseStage.TheVariants as stage
 
--- The disk, how many calls of `write_at` and `sync` still pass, whether one failed after them, and the counts of the
--- calls that failed by it.
+-- The disk, what the fuse does at the next call, and the counts of the calls that failed by it.
 pub record FuseState : Type 0 where
   pub disk : DiskState
-  pub left : ℕ
-  pub blown : Bool
+  pub stage : FuseStage
   pub read_faults : ℕ
   pub write_faults : ℕ
 
 abbrev pub fuse : FuseDisk → FuseState
-fuse disk = record { disk = state disk.disk; left = disk.left; blown = disk.blown; read_faults = disk.read_faults; write_faults = disk.write_faults }
+fuse disk =
+    record {
+      disk = state disk.disk;
+      stage = disk.stage;
+      read_faults = disk.read_faults;
+      write_faults = disk.write_faults;
+    }
 
 -- before the first call
 abbrev pub new_fuse : DiskState → ℕ → FuseState
-new_fuse disk calls = record { disk = disk; left = calls; blown = false; read_faults = 0; write_faults = 0 }
+new_fuse disk calls = record { disk = disk; stage = stage.Passes calls; read_faults = 0; write_faults = 0 }
 
--- how often the disk's calls failed, by itself or by the fuse
-abbrev pub read_faults_of : FuseState → ℕ
-read_faults_of now = now.disk.counts.read_faults + now.read_faults
+-- it as a disk: what it tells, how often its calls failed, by the disk or by the fuse, and when it is down
+abbrev pub content : FuseDisk → Option (List ℕ)
+content disk = Some (content_of (fuse disk).disk)
 
-abbrev pub write_faults_of : FuseState → ℕ
-write_faults_of now = now.disk.counts.write_faults + now.write_faults
+abbrev pub images : FuseDisk → List ℕ → Type 0
+images disk = images_of (fuse disk).disk
 
--- A call of `len` or `read` is one of the disk until the fuse has blown, and fails from then on.
+abbrev pub moment : FuseDisk → ℕ
+moment disk = moment_of (fuse disk).disk
+
+abbrev pub images_since : FuseDisk → ℕ → List ℕ → Type 0
+images_since disk = images_since_of (fuse disk).disk
+
+abbrev pub read_faults : FuseDisk → ℕ
+read_faults disk = (fuse disk).disk.read_faults + (fuse disk).read_faults
+
+abbrev pub write_faults : FuseDisk → ℕ
+write_faults disk = (fuse disk).disk.write_faults + (fuse disk).write_faults
+
+abbrev pub is_down : FuseDisk → Type 0
+is_down disk = ((fuse disk).stage ≡ stage.Down) ⊎ ((fuse disk).disk.down ≡ true)
+
+-- The fuse has failed a call.
+abbrev pub HasBlown : FuseStage → Type 0
+HasBlown (stage.Passes left) = ⊥
+HasBlown stage.Blown = Unit {0}
+HasBlown stage.Down = Unit {0}
+
+-- The fuse fails the next call of `write_at`, and that leaves its range open.
+abbrev pub IsTornNext : FuseStage → Type 0
+IsTornNext (stage.Passes left) = left ≡ 0
+IsTornNext stage.Blown = Unit {0}
+IsTornNext stage.Down = ⊥
+
+-- after a call of `len` or `read` that the fuse failed
+abbrev pub fuse_after_failed_reading : FuseState → FuseState
+fuse_after_failed_reading before = record before { read_faults = counted before.read_faults }
+
+-- after a call of `write_at` or `sync` that the fuse failed, which is at this stage then
+abbrev pub fuse_after_failed : FuseState → FuseStage → FuseState
+fuse_after_failed before stage_is = record before { stage = stage_is; write_faults = counted before.write_faults }
+
+-- A call of `len` or `read` is one of the disk until the fuse has failed a call, and fails from then on.
 pub record IsFuseReading {T E : Type 0} (before now : FuseState) (result : Result T E) : Type 0 where
-  pub whole : before.blown ≡ false → IsReading before.disk now.disk result × (now ≡ record before { disk = now.disk })
-  pub blown : before.blown ≡ true → IsErr result × (now ≡ record before { read_faults = counted before.read_faults })
+  pub whole :
+      (HasBlown before.stage → ⊥) → IsReading before.disk now.disk result × (now ≡ record before { disk = now.disk })
+  pub blown : HasBlown before.stage → IsErr result × (now ≡ fuse_after_failed_reading before)
 
--- A call of `write_at` is one of the disk while calls are left; the next is cut short, and each after it fails.
-pub record IsFuseWriting {T E : Type 0} (before now : FuseState) (at : ℕ) (octets : List ℕ) (result : Result T E) : Type 0 where
+-- The fuse fails a write: its range is open, and the disk is down; but one that would end past 2 ^ 63 changes nothing.
+pub record IsCutShort (before now : FuseState) (at count : ℕ) : Type 0 where
+  pub within :
+      at + count ≤ 2 ^ 63
+      → IsTearing before.disk now.disk at count
+      × (now ≡ fuse_after_failed (record before { disk = now.disk }) stage.Down)
+  pub far : 2 ^ 63 < at + count → now ≡ fuse_after_failed before stage.Blown
+
+-- A call of `write_at` is one of the disk while calls are left. Each after them fails; the first of these is cut short,
+-- and those after it change nothing.
+pub record IsFuseWriting {T E : Type 0} (before now : FuseState) (at : ℕ) (octets : List ℕ) (result : Result T E)
+    : Type 0 where
   pub passes :
-      before.blown ≡ false
-      → 0 < before.left
-      → IsWriting before.disk now.disk at octets result × (now ≡ record before { disk = now.disk; left = before.left - 1 })
-  pub blows :
-      before.blown ≡ false
-      → before.left ≡ 0
-      → IsErr result
-      × IsTearing before.disk now.disk at octets
-      × (now ≡ record before { disk = now.disk; blown = true; write_faults = counted before.write_faults })
-  pub blown : before.blown ≡ true → IsErr result × (now ≡ record before { write_faults = counted before.write_faults })
+      (left : ℕ)
+      → before.stage ≡ stage.Passes (left + 1)
+      → IsWriting before.disk now.disk at octets result
+      × (now ≡ record before { disk = now.disk; stage = stage.Passes left })
+  pub cut_short : IsTornNext before.stage → IsErr result × IsCutShort before now at (length octets)
+  pub down : before.stage ≡ stage.Down → IsErr result × (now ≡ fuse_after_failed before stage.Down)
 
 -- A call of `sync` is one of the disk while calls are left; each after them fails.
 pub record IsFuseSyncing {T E : Type 0} (before now : FuseState) (result : Result T E) : Type 0 where
   pub passes :
-      before.blown ≡ false
-      → 0 < before.left
-      → IsSyncing before.disk now.disk result × (now ≡ record before { disk = now.disk; left = before.left - 1 })
-  pub blows :
-      before.blown ≡ false
-      → before.left ≡ 0
-      → IsErr result × (now ≡ record before { blown = true; write_faults = counted before.write_faults })
-  pub blown : before.blown ≡ true → IsErr result × (now ≡ record before { write_faults = counted before.write_faults })
+      (left : ℕ)
+      → before.stage ≡ stage.Passes (left + 1)
+      → IsSyncing before.disk now.disk result × (now ≡ record before { disk = now.disk; stage = stage.Passes left })
+  pub blown : IsTornNext before.stage → IsErr result × (now ≡ fuse_after_failed before stage.Blown)
+  pub down : before.stage ≡ stage.Down → IsErr result × (now ≡ fuse_after_failed before stage.Down)

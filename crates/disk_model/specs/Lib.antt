@@ -1,5 +1,4 @@
 pub mod Calls
-pub mod Counts
 pub mod Crash
 pub mod Disk
 pub mod Files
@@ -7,4 +6,5 @@ pub mod Fuse
 pub mod FuseLaws
 pub mod Memory
 pub mod MemoryLaws
+pub mod Moments
 pub mod Surface

@@ -1,21 +1,26 @@
 -- What stands on a disk, and what a crash may leave of it.
 use Rattle.std.specs.Prelude.{◌≡◌, ◌⊎◌, ℕ, ◌+◌, ◌-◌, ◌<◌, ◌≤◌, max, List, [], ◌∷◌, ◌++◌, length, take, drop, All, replicate, fold, slice_index, Bool, if◌then◌else◌}
-use Rattle.disk_model.specs.Disk.{IsOctets}
+use Rattle.px_base.specs.Octets.{IsOctets}
 use Rattle.disk_model.specs.declared.disk_call.DiskCall.{DiskCall}
 use Rattle.disk_model.specs.declared.disk_call.DiskCall.TheVariants as call
 
--- What stands on a disk: the octets that the last sync left; the writes since then, the latest first, also those that
--- failed, each by its place and its octets; the greatest length since then; and the octets that a read gives.
+-- What stands on a disk: the octets that the last sync left; the ranges written since then, the latest first, also of
+-- writes that failed, each by its place and its length; the greatest length since then; and the octets that a read
+-- gives.
 pub record Surface : Type 0 where
   pub synced : List ℕ
-  pub writes : List (ℕ × List ℕ)
+  pub writes : List (ℕ × ℕ)
   pub most : ℕ
   pub content : List ℕ
 
--- The place lies in the range of one of the writes.
-abbrev pub IsOpen : List (ℕ × List ℕ) → ℕ → Type 0
+-- the place is one of so many from this one on
+abbrev pub IsInRange : ℕ → ℕ → ℕ → Type 0
+IsInRange at count place = (at ≤ place) × (place < at + count)
+
+-- The place lies in one of the ranges.
+abbrev pub IsOpen : List (ℕ × ℕ) → ℕ → Type 0
 IsOpen [] place = ⊥
-IsOpen (write ∷ earlier) place = ((write.0 ≤ place) × (place < write.0 + length write.1)) ⊎ IsOpen earlier place
+IsOpen (write ∷ earlier) place = IsInRange write.0 write.1 place ⊎ IsOpen earlier place
 
 -- What a crash may leave: octets, each as it was synced where no write has its place, and any octets else; as many as
 -- were synced, or as many as there have been since, or any number between.
@@ -23,16 +28,24 @@ pub record IsImage (surface : Surface) (image : List ℕ) : Type 0 where
   pub octets : IsOctets image
   pub no_shorter : length surface.synced ≤ length image
   pub no_longer : length image ≤ surface.most
-  pub kept : (place : ℕ) → place < length surface.synced → (IsOpen surface.writes place → ⊥) → slice_index image place ≡ slice_index surface.synced place
+  pub kept :
+      (place : ℕ)
+      → place < length surface.synced
+      → (IsOpen surface.writes place → ⊥)
+      → slice_index image place ≡ slice_index surface.synced place
 
 -- after a sync, no write is open
-abbrev pub surface_at_rest : List ℕ → Surface
-surface_at_rest octets = record { synced = octets; writes = []; most = length octets; content = octets }
+abbrev pub quiet_surface : List ℕ → Surface
+quiet_surface octets = record { synced = octets; writes = []; most = length octets; content = octets }
 
--- one write more is open
-abbrev pub opened : Surface → ℕ → List ℕ → Surface
-opened surface at octets =
-    record surface { writes = (at, octets) ∷ surface.writes; most = max surface.most (at + length octets) }
+-- no write is open, and what was synced is what a read gives
+abbrev pub IsQuietSurface : Surface → Type 0
+IsQuietSurface surface = surface ≡ quiet_surface surface.content
+
+-- one range more is open
+abbrev pub with_range : Surface → ℕ → ℕ → Surface
+with_range surface at count =
+    record surface { writes = (at, count) ∷ surface.writes; most = max surface.most (at + count) }
 
 -- the octets at this place, over what is there; a gap before them is zeros
 abbrev pub write_over : List ℕ → ℕ → List ℕ → List ℕ
@@ -41,31 +54,31 @@ write_over old at octets = take at old ++ replicate (at - length old) 0 ++ octet
 -- after one call; a write that failed changes no octet that a read gives, and a sync that failed changes nothing
 abbrev pub surface_after_call : Surface → DiskCall → Surface
 surface_after_call surface (call.Write at octets) =
-    record (opened surface at octets) { content = write_over surface.content at octets }
-surface_after_call surface (call.TornWrite at octets) = opened surface at octets
-surface_after_call surface call.Sync = surface_at_rest surface.content
+    record (with_range surface at (length octets)) { content = write_over surface.content at octets }
+surface_after_call surface (call.TornWrite at count) = with_range surface at count
+surface_after_call surface call.Sync = quiet_surface surface.content
 surface_after_call surface call.FailedSync = surface
 
--- after these calls, of a disk that had these octets at rest
+-- after these calls of a quiet disk with these octets
 abbrev pub surface_after : List ℕ → List DiskCall → Surface
-surface_after first calls = fold surface_after_call (surface_at_rest first) calls
+surface_after first calls = fold surface_after_call (quiet_surface first) calls
 
--- the place at which a call was to write, and the octets
+-- the place at which a call was to write, and how many octets
 abbrev pub place_of : DiskCall → ℕ
 place_of (call.Write at octets) = at
-place_of (call.TornWrite at octets) = at
+place_of (call.TornWrite at count) = at
 place_of call.Sync = 0
 place_of call.FailedSync = 0
 
-abbrev pub octets_of : DiskCall → List ℕ
-octets_of (call.Write at octets) = octets
-octets_of (call.TornWrite at octets) = octets
-octets_of call.Sync = []
-octets_of call.FailedSync = []
+abbrev pub count_of : DiskCall → ℕ
+count_of (call.Write at octets) = length octets
+count_of (call.TornWrite at count) = count
+count_of call.Sync = 0
+count_of call.FailedSync = 0
 
 -- a write that passed or failed
 abbrev pub write_of : Bool → ℕ → List ℕ → DiskCall
-write_of fails at octets = if fails then call.TornWrite at octets else call.Write at octets
+write_of fails at octets = if fails then call.TornWrite at (length octets) else call.Write at octets
 
 -- a sync that passed or failed
 abbrev pub sync_of : Bool → DiskCall

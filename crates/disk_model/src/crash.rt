@@ -1,56 +1,36 @@
 //! What a crash leaves, as a number picks it.
 
-ghost use Rattle.std.specs.Prelude.{◌≡◌, ◌+◌, ◌-◌, ◌/◌, ◌%◌, ◌<◌, ◌≤◌, ◌^◌, ℕ, List, length, slice_index, IfOk, OnOk};
-ghost use Rattle.disk_model.specs.Crash.{IsCrash, style_of};
-ghost use Rattle.disk_model.specs.Disk.{IsOctets};
-ghost use Rattle.disk_model.specs.Surface.{IsImage, IsOpen, NoSync, surface_after};
+ghost use Rattle.std.specs.Prelude.{◌≡◌, ◌+◌, ◌/◌, ◌%◌, ◌≤◌, ◌^◌, ℕ, Some, length, IfOk};
+ghost use Rattle.disk_model.specs.Crash.{IsCrash, IsFilled, Tears};
+ghost use Rattle.px_base.specs.Octets.{IsOctets};
+ghost use Rattle.disk_model.specs.Surface.{IsImage, NoSync, count_of, place_of, surface_after};
 
 use crate::disk_call::DiskCall;
 use crate::replay::{last_sync, replay};
 use px_base::OutOfMemory;
 use std::alloc::Global;
 
-/// What becomes of the octets that were written since the last sync.
-#[derive(Clone, Copy, Debug, PartialEq, Eq)]
-pub(crate) enum Style {
-    /// None reached the disk.
-    Old,
-    /// All reached it, also those whose write failed.
-    New,
-    /// Each is this octet.
-    Filled(u8),
-    /// Each is the old one, the new one or any other, and the length is any that may be left.
-    Mixed,
-}
-
-/// A style, and the numbers that are drawn in the style `Mixed`.
+/// What becomes of the octets that may be any octet: each is this one, or is drawn.
 #[derive(Clone, Copy)]
-pub(crate) struct Pick {
-    style: Style,
+struct Pick {
+    octet: Option<u8>,
     drawn: u64,
 }
 
 impl Pick {
-    /// The style by the number's remainder by 4: 0 is `Old`, 1 is `New`, 2 is `Filled` with the octet that the next eight
-    /// bits are, and 3 is `Mixed`, with numbers drawn from the whole number on.
-    pub(crate) fn new(number: u64) -> Pick
-        ensures { result.style ≡ style_of number }
+    /// By the number's remainder by 4: at 2 each is the octet that the next eight bits are, else each is drawn.
+    fn new(number: u64) -> Pick
+        ensures { number % 4 ≡ 2 → result.octet ≡ Some (number / 4 % 256) }
     {
-        let style = match number % 4 {
-            0 => Style::Old,
-            1 => Style::New,
-            2 => Style::Filled((number / 4 % 256) as u8),
-            _ => Style::Mixed,
-        };
         Pick {
-            style,
+            octet: (number % 4 == 2).then_some((number / 4 % 256) as u8),
             drawn: number,
         }
     }
 
     /// The next number, as SplitMix64 draws it.
     fn draw(&mut self) -> u64
-        ensures { self.new.style ≡ self.old.style }
+        ensures { self.new.octet ≡ self.old.octet }
     {
         self.drawn = self.drawn.wrapping_add(0x9E37_79B9_7F4A_7C15);
         let mixed = (self.drawn ^ (self.drawn >> 30)).wrapping_mul(0xBF58_476D_1CE4_E5B9);
@@ -58,36 +38,29 @@ impl Pick {
         mixed ^ (mixed >> 31)
     }
 
-    /// A length from the least to the greatest.
+    /// A length from the least to the greatest, which it is where all are one octet.
     fn length(&mut self, least: u64, greatest: u64) -> u64
         requires ordered { least ≤ greatest }
         requires most { greatest ≤ 2 ^ 63 }
         ensures least { least ≤ result }
         ensures greatest { result ≤ greatest }
-        ensures old { self.old.style ≡ Style.Old → result ≡ least }
-        ensures new { self.old.style ≡ Style.New → result ≡ greatest }
-        ensures filled { (octet : ℕ) → self.old.style ≡ Style.Filled octet → result ≡ greatest }
-        ensures style { self.new.style ≡ self.old.style }
+        ensures filled { (octet : ℕ) → self.old.octet ≡ Some octet → result ≡ greatest }
+        ensures same { self.new.octet ≡ self.old.octet }
     {
-        match self.style {
-            Style::Old => least,
-            Style::New | Style::Filled(_) => greatest,
-            Style::Mixed => least + self.draw() % (greatest - least + 1),
+        if self.octet.is_some() {
+            return greatest;
         }
+        least + self.draw() % (greatest - least + 1)
     }
 
     /// The octet that stands where this one was to be written over that one.
     fn octet(&mut self, old: u8, new: u8) -> u8
-        ensures old { self.old.style ≡ Style.Old → result ≡ old }
-        ensures new { self.old.style ≡ Style.New → result ≡ new }
-        ensures filled { (octet : ℕ) → self.old.style ≡ Style.Filled octet → result ≡ octet }
-        ensures style { self.new.style ≡ self.old.style }
+        ensures filled { (octet : ℕ) → self.old.octet ≡ Some octet → result ≡ octet }
+        ensures same { self.new.octet ≡ self.old.octet }
     {
-        match self.style {
-            Style::Old => old,
-            Style::New => new,
-            Style::Filled(octet) => octet,
-            Style::Mixed => match self.draw() % 4 {
+        match self.octet {
+            Some(octet) => octet,
+            None => match self.draw() % 4 {
                 0 => old,
                 1 => new,
                 _ => (self.draw() % 256) as u8,
@@ -96,66 +69,74 @@ impl Pick {
     }
 }
 
-/// How many octets there have been at most, where these were at rest before these calls.
-fn greatest_length(at_rest: &[u8], calls: &[DiskCall]) -> u64
+/// How many octets there have been at most, where these were synced before these calls.
+fn greatest_length(synced: &[u8], calls: &[DiskCall]) -> u64
     requires no_sync { NoSync calls.now }
-    requires most { (surface_after at_rest.now calls.now).most ≤ 2 ^ 63 }
-    ensures most { result ≡ (surface_after at_rest.now calls.now).most }
-    ensures least { length at_rest.now ≤ result }
+    requires most { (surface_after synced.now calls.now).most ≤ 2 ^ 63 }
+    ensures most { result ≡ (surface_after synced.now calls.now).most }
+    ensures least { length synced.now ≤ result }
 {
-    let mut most = at_rest.len() as u64;
+    let mut most = synced.len() as u64;
     for call in calls {
         most = most.max(call.end());
     }
     most
 }
 
-/// What a crash leaves, as this number picks it, after these calls of a disk that had these octets at rest. Takes memory.
+/// What a crash leaves, as this number picks it, after these calls of a quiet disk with those octets, where a read
+/// gives the present ones. Takes memory.
 pub(crate) fn crash(
     alloc: Global,
     first: &[u8],
     calls: &[DiskCall],
+    present: &[u8],
     pick: u64,
 ) -> Result<Vec<u8>, OutOfMemory>
-    requires { (surface_after first.now calls.now).most ≤ 2 ^ 63 }
-    ensures { IfOk result (λ image. IsCrash (surface_after first.now calls.now) (style_of pick) image.items) }
+    requires most { (surface_after first.now calls.now).most ≤ 2 ^ 63 }
+    requires content { present.now ≡ (surface_after first.now calls.now).content }
+    requires image { IsImage (surface_after first.now calls.now) present.now }
+    ensures { IfOk result (λ image. IsCrash (surface_after first.now calls.now) pick image.items) }
 {
+    if pick % 4 == 1 {
+        return Ok(Vec::from_slice(alloc, present)?);
+    }
     let rest = last_sync(calls);
-    let at_rest = replay(alloc, first, &calls[..rest])?;
-    torn(at_rest, &calls[rest..], Pick::new(pick))
+    let synced = replay(alloc, first, &calls[..rest])?;
+    if pick % 4 == 0 {
+        return Ok(synced);
+    }
+    torn(synced, &calls[rest..], Pick::new(pick))
 }
 
-/// What a crash leaves of these octets at rest and these calls since then.
-fn torn(at_rest: Vec<u8>, calls: &[DiskCall], pick: Pick) -> Result<Vec<u8>, OutOfMemory>
+/// What a crash leaves of a quiet disk with these octets after these calls.
+fn torn(synced: Vec<u8>, calls: &[DiskCall], pick: Pick) -> Result<Vec<u8>, OutOfMemory>
     requires no_sync { NoSync calls.now }
-    requires most { (surface_after at_rest.items calls.now).most ≤ 2 ^ 63 }
-    ensures { IfOk result (λ image. IsCrash (surface_after at_rest.items calls.now) pick.style image.items) }
+    requires most { (surface_after synced.items calls.now).most ≤ 2 ^ 63 }
+    ensures image { IfOk result (λ image. IsImage (surface_after synced.items calls.now) image.items) }
+    ensures filled { (octet : ℕ) → pick.octet ≡ Some octet
+        → IfOk result (λ image. IsFilled (surface_after synced.items calls.now) octet image.items) }
 {
     let mut pick = pick;
-    let mut image = at_rest;
+    let mut image = synced;
     let least = image.len() as u64;
     let length = pick.length(least, greatest_length(&image, calls));
     image.resize(length as usize, pick.octet(0, 0))?;
     for call in calls {
-        tear(&mut image, call.place(), call.octets(), &mut pick);
+        tear(&mut image, call, &mut pick);
     }
     Ok(image)
 }
 
-/// Writes octets over others, as picked for each; those past the end are left out.
-fn tear(image: &mut [u8], at: u64, bytes: &[u8], pick: &mut Pick)
-    ensures outside { (place : ℕ) → ((at ≤ place) × (place < at + length bytes.now) → ⊥) → slice_index image.new place ≡ slice_index image.old place }
-    ensures old { pick.old.style ≡ Style.Old → image.new ≡ image.old }
-    ensures new { pick.old.style ≡ Style.New → (place : ℕ) → (at ≤ place) × (place < at + length bytes.now) → place < length image.old → slice_index image.new place ≡ slice_index bytes.now (place - at) }
-    ensures filled { (octet place : ℕ) → pick.old.style ≡ Style.Filled octet → (at ≤ place) × (place < at + length bytes.now) → place < length image.old → slice_index image.new place ≡ octet }
-    ensures style { pick.new.style ≡ pick.old.style }
+/// Puts other octets in the range of a write, as picked for each; those past the end are left out.
+fn tear(image: &mut [u8], call: &DiskCall, pick: &mut Pick)
+    ensures tears { Tears (place_of call.now) (count_of call.now) pick.old.octet image.old image.new }
+    ensures same { pick.new.octet ≡ pick.old.octet }
     ensures octets { IsOctets image.new }
 {
-    for (i, new) in bytes.iter().enumerate() {
-        let place = at.saturating_add(i as u64);
-        if place < image.len() as u64 {
-            let old = &mut image[place as usize];
-            *old = pick.octet(*old, *new);
-        }
+    let length = image.len() as u64;
+    for place in call.place().min(length)..call.end().min(length) {
+        let old = image[place as usize];
+        let new = call.octet(place).unwrap_or(old);
+        image[place as usize] = pick.octet(old, new);
     }
 }

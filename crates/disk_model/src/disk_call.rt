@@ -1,6 +1,6 @@
 //! The record of what was done to a disk.
 
-ghost use Rattle.std.specs.Prelude.{◌≡◌, ◌+◌, length, min};
+ghost use Rattle.std.specs.Prelude.{◌≡◌, ◌+◌, min};
 
 use px_base::FileBytes;
 
@@ -9,16 +9,16 @@ use px_base::FileBytes;
 pub(crate) enum DiskCall {
     /// These octets were written at this place.
     Write { at: u64, bytes: FileBytes },
-    /// Writing these octets at this place failed: some of them may stand there, or others.
-    TornWrite { at: u64, bytes: FileBytes },
-    /// All was brought to rest.
+    /// Writing so many octets at this place failed: any octets may stand there.
+    TornWrite { at: u64, count: u64 },
+    /// All that was written was synced.
     Sync,
     /// A sync failed.
     FailedSync,
 }
 
 impl DiskCall {
-    ghost use Rattle.disk_model.specs.Surface.{octets_of, place_of};
+    ghost use Rattle.disk_model.specs.Surface.{count_of, place_of};
 
     /// The place at which it was to write, or 0.
     pub(crate) fn place(&self) -> u64
@@ -30,20 +30,26 @@ impl DiskCall {
         }
     }
 
-    /// The octets that it was to write, or none.
-    pub(crate) fn octets(&self) -> &[u8]
-        ensures { result.now ≡ octets_of self.now }
+    /// The place past the octets that it was to write, or the greatest number there is.
+    pub(crate) fn end(&self) -> u64
+        ensures { result ≡ min (place_of self.now + count_of self.now) 18446744073709551615 }
     {
-        match self {
-            DiskCall::Write { bytes, .. } | DiskCall::TornWrite { bytes, .. } => bytes.as_slice(),
-            DiskCall::Sync | DiskCall::FailedSync => &[],
-        }
+        let count = match self {
+            DiskCall::Write { bytes, .. } => bytes.len() as u64,
+            DiskCall::TornWrite { count, .. } => *count,
+            DiskCall::Sync | DiskCall::FailedSync => 0,
+        };
+        self.place().saturating_add(count)
     }
 
-    /// The place past its octets, or the greatest number there is.
-    pub(crate) fn end(&self) -> u64
-        ensures { result ≡ min (place_of self.now + length (octets_of self.now)) 18446744073709551615 }
-    {
-        self.place().saturating_add(self.octets().len() as u64)
+    /// The octet that it wrote at this place, if it wrote one there.
+    pub(crate) fn octet(&self, place: u64) -> Option<u8> {
+        match self {
+            DiskCall::Write { at, bytes } => {
+                let i = place.checked_sub(*at)?;
+                bytes.as_slice().get(i as usize).copied()
+            }
+            DiskCall::TornWrite { .. } | DiskCall::Sync | DiskCall::FailedSync => None,
+        }
     }
 }

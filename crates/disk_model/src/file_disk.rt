@@ -1,13 +1,11 @@
 //! A real file as a disk. It tells nothing of its content; it counts its faults.
 
-ghost use Rattle.std.specs.Prelude.{◌≡◌, ◌+◌, ◌<◌, ◌≤◌, ◌^◌, List, ℕ, length, IfOk, IfSome, IsErr, OnOk};
-ghost use Rattle.px_base.specs.Outside.{HasCause};
-ghost use Rattle.px_base.specs.Streams.{counted_after};
-ghost use Rattle.disk_model.specs.Disk.{Counts, Elapses, FillsRoom, Follows, HasContent, IsOctets, IsTold, Only, SameImages, SamePast, Torn, Writes};
-ghost use Rattle.disk_model.specs.Files.{no_images, no_moment, no_past, untold};
+ghost use Rattle.std.specs.Prelude.{◌≡◌};
+ghost use Rattle.disk_model.specs.Files.{no_content, no_images, no_moment, no_past};
 
 use crate::limits::{MOST_OCTETS, ends_within};
 use crate::{Disk, DiskFault};
+use px_base::FaultCount;
 use std::fs::{OpenFile, OpenOptions};
 use std::io;
 use std::io::{Read, Seek, SeekFrom, Write};
@@ -21,8 +19,8 @@ pub struct FileDisk<'a, R: Files> {
     files: &'a R,
     path: &'a str,
     file: Option<R::File>,
-    read_faults: u64,
-    write_faults: u64,
+    read_faults: FaultCount,
+    write_faults: FaultCount,
 }
 
 impl<'a, R: Files> Model for FileDisk<'a, R> {
@@ -42,14 +40,14 @@ impl<'a, R: Files> FileDisk<'a, R> {
             files,
             path,
             file: None,
-            read_faults: 0,
-            write_faults: 0,
+            read_faults: FaultCount::new(),
+            write_faults: FaultCount::new(),
         }
     }
 }
 
 impl<'a, R: Files> Disk for FileDisk<'a, R> {
-    ghost content = { λ _. untold };
+    ghost content = { λ _. no_content };
 
     ghost images = { λ _. no_images };
 
@@ -61,85 +59,39 @@ impl<'a, R: Files> Disk for FileDisk<'a, R> {
 
     ghost write_faults = { λ d. d.write_faults };
 
+    ghost is_down = { λ _. ⊥ };
+
+    ghost lasts = { λ _ _. Unit {0} };
+
     /// The length of the file; one above 2^63 is a fault.
-    fn len(&mut self) -> Result<u64, DiskFault>
-        ensures len { IfOk result (λ n. IfSome untold (λ octets. n ≡ length octets)) }
-        ensures most { IfOk result (λ n. n ≤ 2 ^ 63) }
-        ensures content { untold ≡ untold }
-        ensures images { SameImages no_images no_images }
-        ensures moment { no_moment ≡ no_moment }
-        ensures past { SamePast no_past no_past }
-        ensures read_faults { HasCause self.old.read_faults self.new.read_faults result }
-        ensures write_faults { self.new.write_faults ≡ self.old.write_faults }
-        ensures counted { self.new.read_faults ≡ counted_after result self.old.read_faults }
-    {
-        match length(&mut self.file, self.files, self.path) {
+    fn len(&mut self) -> Result<u64, DiskFault> {
+        let length = match length(&mut self.file, self.files, self.path) {
             Ok(length) if length <= MOST_OCTETS => Ok(length),
-            _ => {
-                self.read_faults = self.read_faults.saturating_add(1);
-                Err(DiskFault)
-            }
-        }
+            _ => Err(DiskFault),
+        };
+        self.read_faults.count_err(length)
     }
 
     /// Fills the room from this place on; where the file ends before, it is a fault.
-    fn read(&mut self, at: u64, room: &mut [u8]) -> Result<(), DiskFault>
-        ensures room { OnOk result (IfSome untold (λ octets. FillsRoom octets at (length room.old) room.new)) }
-        ensures content { untold ≡ untold }
-        ensures images { SameImages no_images no_images }
-        ensures moment { no_moment ≡ no_moment }
-        ensures past { SamePast no_past no_past }
-        ensures read_faults { HasCause self.old.read_faults self.new.read_faults result }
-        ensures write_faults { self.new.write_faults ≡ self.old.write_faults }
-        ensures counted { self.new.read_faults ≡ counted_after result self.old.read_faults }
-    {
-        if read_at(&mut self.file, self.files, self.path, at, room).is_err() {
-            self.read_faults = self.read_faults.saturating_add(1);
-            return Err(DiskFault);
-        }
-        Ok(())
+    fn read(&mut self, at: u64, room: &mut [u8]) -> Result<(), DiskFault> {
+        let read = read_at(&mut self.file, self.files, self.path, at, room);
+        self.read_faults.count_err(read.map_err(|_| DiskFault))
     }
 
     /// Writes octets in place; a range that would end past 2^63 is a fault.
-    fn write_at(&mut self, at: u64, bytes: &[u8]) -> Result<(), DiskFault>
-        ensures written { OnOk result (HasContent untold untold (Writes at bytes.now)) }
-        ensures told { IsTold untold → IsTold untold }
-        ensures untold { IsTold untold → IsTold untold }
-        ensures torn { Follows (Torn at (length bytes.now)) no_images no_images }
-        ensures open { OnOk result ((before after : List ℕ) → no_images before → IsOctets after → Torn at (length bytes.now) before after → no_images after) }
-        ensures kept { (image : List ℕ) → no_images image → no_images image }
-        ensures far { 2 ^ 63 < at + length bytes.now → IsErr result × (untold ≡ untold) × SameImages no_images no_images }
-        ensures moment { Counts untold no_moment no_moment result }
-        ensures past { Elapses no_moment no_moment no_past no_past no_images }
-        ensures read_faults { self.new.read_faults ≡ self.old.read_faults }
-        ensures write_faults { HasCause self.old.write_faults self.new.write_faults result }
-        ensures counted { self.new.write_faults ≡ counted_after result self.old.write_faults }
-    {
-        if !ends_within(at, bytes)
-            || put_at(&mut self.file, self.files, self.path, at, bytes).is_err()
-        {
-            self.write_faults = self.write_faults.saturating_add(1);
+    fn write_at(&mut self, at: u64, bytes: &[u8]) -> Result<(), DiskFault> {
+        if !ends_within(at, bytes) {
+            self.write_faults.count();
             return Err(DiskFault);
         }
-        Ok(())
+        let written = put_at(&mut self.file, self.files, self.path, at, bytes);
+        self.write_faults.count_err(written.map_err(|_| DiskFault))
     }
 
     /// Brings what was written, and the length, to the device.
-    fn sync(&mut self) -> Result<(), DiskFault>
-        ensures durable { OnOk result (IfSome untold (Only no_images)) }
-        ensures content { untold ≡ untold }
-        ensures images { (image : List ℕ) → no_images image → no_images image }
-        ensures moment { Counts untold no_moment no_moment result }
-        ensures past { Elapses no_moment no_moment no_past no_past no_images }
-        ensures read_faults { self.new.read_faults ≡ self.old.read_faults }
-        ensures write_faults { HasCause self.old.write_faults self.new.write_faults result }
-        ensures counted { self.new.write_faults ≡ counted_after result self.old.write_faults }
-    {
-        if sync(&mut self.file, self.files, self.path).is_err() {
-            self.write_faults = self.write_faults.saturating_add(1);
-            return Err(DiskFault);
-        }
-        Ok(())
+    fn sync(&mut self) -> Result<(), DiskFault> {
+        let synced = sync(&mut self.file, self.files, self.path);
+        self.write_faults.count_err(synced.map_err(|_| DiskFault))
     }
 
     ghost content_is_image = { λ _. tt };
@@ -148,9 +100,11 @@ impl<'a, R: Files> Disk for FileDisk<'a, R> {
 
     ghost counts_now = { λ _ _ _ _ none. absurd none };
 
-    ghost only_now = { λ _ _ none. none };
-
     ghost earlier = { λ _ _ _ _ _ none. none };
+
+    ghost lasts_same = { λ _. tt };
+
+    ghost lasts_on = { λ _ _ _ _ _. tt };
 }
 
 /// Opens the file where it isn't open yet, and makes it where it isn't there.

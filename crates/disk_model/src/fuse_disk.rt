@@ -1,28 +1,40 @@
 //! A disk that stops after so many calls, as where power is lost or the device is gone.
 
-ghost use Rattle.std.specs.Prelude.{◌≡◌, ◌+◌, ◌<◌, ◌≤◌, ◌^◌, length, List, ℕ, Some, true, IfOk, IsErr, OnErr, OnOk};
-ghost use Rattle.px_base.specs.Forms.{counted};
+ghost use Rattle.std.specs.Prelude.{◌≡◌, ◌⊎◌, ◌↔◌, ◌+◌, ◌<◌, ◌≤◌, ◌^◌, length, IfOk, IfSome, IsErr, IsTrue, OnErr, OnOk};
 ghost use Rattle.px_base.specs.Outside.{HasCause, Rose};
-ghost use Rattle.disk_model.specs.Disk.{Counts, Elapses, FillsRoom, Follows, HasContent, IsOctets, IsTold, Only, SameImages, SamePast, Torn, Writes};
-ghost use Rattle.disk_model.specs.Calls.{content_of, images_of, images_since_of, moment_of};
+ghost use Rattle.disk_model.specs.Disk.{AreAmong, FillsRoom, Follows, HasContent, IsTold, LeavesOpen, Only, Torn, Writes};
+ghost use Rattle.disk_model.specs.Moments.{OnlyFails, OnlyReads, SinceNow, TakesOneMoment, TimePasses};
 
+use crate::limits::ends_within;
 use crate::memory_disk::MemoryDisk;
 use crate::{Disk, DiskFault};
+use px_base::FaultCount;
 
-/// A disk in memory that passes so many calls of `write_at` and `sync`. The next one fails, and so does every call after
-/// it, also of `len` and `read`; those before that one pass. A write that is the first to fail leaves its range open.
-/// Its content, images and moment are those of the disk in it.
+/// What a fuse does at the next call.
+#[derive(Clone, Copy, Debug, PartialEq, Eq)]
+enum FuseStage {
+    /// So many calls of `write_at` and `sync` pass; the one after them fails.
+    Passes(u64),
+    /// Every call fails, and the first write leaves its range open.
+    Blown,
+    /// Every call fails and changes nothing.
+    Down,
+}
+
+/// A disk in memory that passes so many calls of `write_at` and `sync`. The next one fails, and so does every call
+/// after it, also of `len` and `read`; those before that one pass. The first write that fails so leaves its range open,
+/// and the disk is down from then on. Its content, images and moment are those of the disk in it.
 #[derive(Drop)]
 pub struct FuseDisk {
     disk: MemoryDisk,
-    left: u64,
-    blown: bool,
-    read_faults: u64,
-    write_faults: u64,
+    stage: FuseStage,
+    read_faults: FaultCount,
+    write_faults: FaultCount,
 }
 
 impl FuseDisk {
-    ghost use Rattle.disk_model.specs.Fuse.{fuse, new_fuse, read_faults_of, write_faults_of};
+    ghost use Rattle.disk_model.specs.Fuse.{HasBlown, IsCutShort, fuse, fuse_after_failed, fuse_after_failed_reading, new_fuse};
+    ghost use Rattle.disk_model.specs.Fuse as it;
     ghost use Rattle.disk_model.specs.Memory.{state};
 
     /// A disk that passes this many calls of `write_at` and `sync`. Takes no memory.
@@ -31,10 +43,9 @@ impl FuseDisk {
     {
         FuseDisk {
             disk,
-            left: calls,
-            blown: false,
-            read_faults: 0,
-            write_faults: 0,
+            stage: FuseStage::Passes(calls),
+            read_faults: FaultCount::new(),
+            write_faults: FaultCount::new(),
         }
     }
 
@@ -47,64 +58,87 @@ impl FuseDisk {
 
     /// Whether a call found no memory.
     pub fn starved(&self) -> bool
-        ensures { result ≡ (fuse self.now).disk.counts.starved }
+        ensures { result ≡ (fuse self.now).disk.counter.starved }
     {
         self.disk.starved()
     }
 
+    /// Whether it has failed a call.
+    fn has_blown(&self) -> bool
+        ensures { IsTrue result ↔ HasBlown (fuse self.now).stage }
+    {
+        matches!(self.stage, FuseStage::Blown | FuseStage::Down)
+    }
+
     /// Counts a call of `len` or `read` that fails since the fuse has blown.
     fn fail_reading(&mut self) -> DiskFault
-        ensures counted { fuse self.new ≡ record (fuse self.old) { read_faults = counted (fuse self.old).read_faults } }
-        ensures no_less { read_faults_of (fuse self.old) ≤ read_faults_of (fuse self.new) }
-        ensures rose { Rose (read_faults_of (fuse self.old)) (read_faults_of (fuse self.new)) }
+        ensures counted { fuse self.new ≡ fuse_after_failed_reading (fuse self.old) }
+        ensures no_less { it.read_faults self.old ≤ it.read_faults self.new }
+        ensures rose { Rose (it.read_faults self.old) (it.read_faults self.new) }
     {
-        self.read_faults = self.read_faults.saturating_add(1);
+        self.read_faults.count();
         DiskFault
     }
 
-    /// Counts a call of `write_at` or `sync` that fails by the fuse, which is blown from then on.
-    fn fail_writing(&mut self) -> DiskFault
-        ensures counted { fuse self.new ≡ record (fuse self.old) { blown = true; write_faults = counted (fuse self.old).write_faults } }
-        ensures no_less { write_faults_of (fuse self.old) ≤ write_faults_of (fuse self.new) }
-        ensures rose { Rose (write_faults_of (fuse self.old)) (write_faults_of (fuse self.new)) }
+    /// Counts a call of `write_at` or `sync` that fails by the fuse, which is at this stage from then on.
+    fn fail_writing(&mut self, stage: FuseStage) -> DiskFault
+        ensures counted { fuse self.new ≡ fuse_after_failed (fuse self.old) stage }
+        ensures no_less { it.write_faults self.old ≤ it.write_faults self.new }
+        ensures rose { Rose (it.write_faults self.old) (it.write_faults self.new) }
     {
-        self.blown = true;
-        self.write_faults = self.write_faults.saturating_add(1);
+        self.stage = stage;
+        self.write_faults.count();
         DiskFault
+    }
+
+    /// Counts a call of `write_at` that the fuse fails, and leaves its range open; one that would end past 2^63 changes
+    /// nothing.
+    fn tear(&mut self, at: u64, bytes: &[u8]) -> DiskFault
+        ensures cut_short { IsCutShort (fuse self.old) (fuse self.new) at (length bytes.now) }
+        ensures no_less { it.write_faults self.old ≤ it.write_faults self.new }
+        ensures rose { Rose (it.write_faults self.old) (it.write_faults self.new) }
+    {
+        if !ends_within(at, bytes) {
+            return self.fail_writing(FuseStage::Blown);
+        }
+        self.disk.tear(at, bytes.len() as u64);
+        self.fail_writing(FuseStage::Down)
     }
 }
 
 impl Disk for FuseDisk {
-    ghost use Rattle.std.specs.Prelude.{Some};
-    ghost use Rattle.disk_model.specs.Calls.{content_of, images_of, images_since_of, moment_of};
-    ghost use Rattle.disk_model.specs.Fuse.{IsFuseReading, IsFuseSyncing, IsFuseWriting, fuse, read_faults_of, write_faults_of};
+    ghost use Rattle.disk_model.specs.Fuse as it;
+    ghost use Rattle.disk_model.specs.Fuse.{IsFuseReading, IsFuseSyncing, IsFuseWriting, fuse};
     ghost use Rattle.disk_model.specs.FuseLaws as law;
 
-    ghost content = { λ d. Some (content_of (fuse d).disk) };
+    ghost content = { it.content };
 
-    ghost images = { λ d. images_of (fuse d).disk };
+    ghost images = { it.images };
 
-    ghost moment = { λ d. moment_of (fuse d).disk };
+    ghost moment = { it.moment };
 
-    ghost images_since = { λ d. images_since_of (fuse d).disk };
+    ghost images_since = { it.images_since };
 
-    ghost read_faults = { λ d. read_faults_of (fuse d) };
+    ghost read_faults = { it.read_faults };
 
-    ghost write_faults = { λ d. write_faults_of (fuse d) };
+    ghost write_faults = { it.write_faults };
+
+    ghost is_down = { it.is_down };
+
+    ghost lasts = { λ _ _. Unit {0} };
 
     /// The number of octets. It fails where the disk does, and where the fuse has blown.
     fn len(&mut self) -> Result<u64, DiskFault>
-        ensures len { IfOk result (λ n. n ≡ length (content_of (fuse self.old).disk)) }
+        ensures len { IfOk result (λ n. IfSome (it.content self.old) (λ octets. n ≡ length octets)) }
         ensures most { IfOk result (λ n. n ≤ 2 ^ 63) }
-        ensures content { Some (content_of (fuse self.new).disk) ≡ Some (content_of (fuse self.old).disk) }
-        ensures images { SameImages (images_of (fuse self.old).disk) (images_of (fuse self.new).disk) }
-        ensures moment { moment_of (fuse self.new).disk ≡ moment_of (fuse self.old).disk }
-        ensures past { SamePast (images_since_of (fuse self.old).disk) (images_since_of (fuse self.new).disk) }
-        ensures read_faults { HasCause (read_faults_of (fuse self.old)) (read_faults_of (fuse self.new)) result }
-        ensures write_faults { write_faults_of (fuse self.new) ≡ write_faults_of (fuse self.old) }
+        ensures only_reads { OnlyReads
+            it.content it.images it.moment it.images_since it.write_faults self.old self.new }
+        ensures read_faults { HasCause (it.read_faults self.old) (it.read_faults self.new) result }
+        ensures down { it.is_down self.new ↔ it.is_down self.old }
+        ensures lasts { Unit {0} }
         ensures reading { IsFuseReading (fuse self.old) (fuse self.new) result }
     {
-        if self.blown {
+        if self.has_blown() {
             return Err(self.fail_reading());
         }
         self.disk.len()
@@ -112,65 +146,82 @@ impl Disk for FuseDisk {
 
     /// Fills the room from this place on. It fails where the disk does, and where the fuse has blown.
     fn read(&mut self, at: u64, room: &mut [u8]) -> Result<(), DiskFault>
-        requires { at + length room.old ≤ length (content_of (fuse self.old).disk) }
-        ensures room { OnOk result (FillsRoom (content_of (fuse self.old).disk) at (length room.old) room.new) }
-        ensures content { Some (content_of (fuse self.new).disk) ≡ Some (content_of (fuse self.old).disk) }
-        ensures images { SameImages (images_of (fuse self.old).disk) (images_of (fuse self.new).disk) }
-        ensures moment { moment_of (fuse self.new).disk ≡ moment_of (fuse self.old).disk }
-        ensures past { SamePast (images_since_of (fuse self.old).disk) (images_since_of (fuse self.new).disk) }
-        ensures read_faults { HasCause (read_faults_of (fuse self.old)) (read_faults_of (fuse self.new)) result }
-        ensures write_faults { write_faults_of (fuse self.new) ≡ write_faults_of (fuse self.old) }
+        requires { IfSome (it.content self.old) (λ octets. at + length room.old ≤ length octets) }
+        ensures room { OnOk result
+            (IfSome (it.content self.old) (λ octets. FillsRoom octets at (length room.old) room.new)) }
+        ensures only_reads { OnlyReads
+            it.content it.images it.moment it.images_since it.write_faults self.old self.new }
+        ensures read_faults { HasCause (it.read_faults self.old) (it.read_faults self.new) result }
+        ensures down { it.is_down self.new ↔ it.is_down self.old }
+        ensures lasts { Unit {0} }
         ensures reading { IsFuseReading (fuse self.old) (fuse self.new) result }
         ensures failed { OnErr result (room.new ≡ room.old) }
     {
-        if self.blown {
+        if self.has_blown() {
             return Err(self.fail_reading());
         }
         self.disk.read(at, room)
     }
 
-    /// Writes octets. It fails where the disk does, and by the fuse; its first fault by the fuse leaves its range open.
+    /// Writes octets. It fails where the disk does, and by the fuse; the first write that fails by the fuse leaves its
+    /// range open, unless it would end past 2^63, and the disk is down from then on.
     fn write_at(&mut self, at: u64, bytes: &[u8]) -> Result<(), DiskFault>
-        ensures written { OnOk result (HasContent (Some (content_of (fuse self.old).disk)) (Some (content_of (fuse self.new).disk)) (Writes at bytes.now)) }
-        ensures told { IsTold (Some (content_of (fuse self.old).disk)) → IsTold (Some (content_of (fuse self.new).disk)) }
-        ensures untold { IsTold (Some (content_of (fuse self.new).disk)) → IsTold (Some (content_of (fuse self.old).disk)) }
-        ensures torn { Follows (Torn at (length bytes.now)) (images_of (fuse self.old).disk) (images_of (fuse self.new).disk) }
-        ensures open { OnOk result ((before after : List ℕ) → images_of (fuse self.old).disk before → IsOctets after → Torn at (length bytes.now) before after → images_of (fuse self.new).disk after) }
-        ensures kept { (image : List ℕ) → images_of (fuse self.old).disk image → images_of (fuse self.new).disk image }
-        ensures far { 2 ^ 63 < at + length bytes.now → IsErr result × (Some (content_of (fuse self.new).disk) ≡ Some (content_of (fuse self.old).disk)) × SameImages (images_of (fuse self.old).disk) (images_of (fuse self.new).disk) }
-        ensures moment { Counts (Some (content_of (fuse self.old).disk)) (moment_of (fuse self.old).disk) (moment_of (fuse self.new).disk) result }
-        ensures past { Elapses (moment_of (fuse self.old).disk) (moment_of (fuse self.new).disk) (images_since_of (fuse self.old).disk) (images_since_of (fuse self.new).disk) (images_of (fuse self.new).disk) }
-        ensures read_faults { read_faults_of (fuse self.new) ≡ read_faults_of (fuse self.old) }
-        ensures write_faults { HasCause (write_faults_of (fuse self.old)) (write_faults_of (fuse self.new)) result }
+        ensures written { OnOk result (HasContent (it.content self.old) (it.content self.new) (Writes at bytes.now)) }
+        ensures told { IsTold (it.content self.old) → IsTold (it.content self.new) }
+        ensures untold { IsTold (it.content self.new) → IsTold (it.content self.old) }
+        ensures torn { Follows (Torn at (length bytes.now)) (it.images self.old) (it.images self.new) }
+        ensures open { LeavesOpen it.is_down it.images at (length bytes.now) self.old self.new }
+        ensures kept { AreAmong (it.images self.old) (it.images self.new) }
+        ensures far { 2 ^ 63 < at + length bytes.now
+            → OnlyFails it.content it.images it.moment it.images_since self.old self.new result }
+        ensures down { it.is_down self.old
+            → OnlyFails it.content it.images it.moment it.images_since self.old self.new result }
+        ensures stays_down { it.is_down self.old → it.is_down self.new }
+        ensures goes_down { it.is_down self.new
+            → it.is_down self.old ⊎ (IsErr result × (at + length bytes.now ≤ 2 ^ 63)) }
+        ensures moment { TakesOneMoment (it.content self.old) (it.moment self.old) (it.moment self.new) result }
+        ensures past { TimePasses it.moment it.images it.images_since self.old self.new }
+        ensures since_now { SinceNow it.moment it.images it.images_since self.old self.new }
+        ensures read_faults { it.read_faults self.new ≡ it.read_faults self.old }
+        ensures write_faults { HasCause (it.write_faults self.old) (it.write_faults self.new) result }
+        ensures lasts { Unit {0} }
         ensures writing { IsFuseWriting (fuse self.old) (fuse self.new) at bytes.now result }
     {
-        if self.blown {
-            return Err(self.fail_writing());
+        match self.stage {
+            FuseStage::Passes(left) if left > 0 => {
+                self.stage = FuseStage::Passes(left - 1);
+                self.disk.write_at(at, bytes)
+            }
+            FuseStage::Down => Err(self.fail_writing(FuseStage::Down)),
+            _ => Err(self.tear(at, bytes)),
         }
-        if self.left == 0 {
-            self.disk.tear(at, bytes);
-            return Err(self.fail_writing());
-        }
-        self.left -= 1;
-        self.disk.write_at(at, bytes)
     }
 
-    /// Brings all to rest. It fails where the disk does, and by the fuse.
+    /// Syncs what was written. It fails where the disk does, and by the fuse.
     fn sync(&mut self) -> Result<(), DiskFault>
-        ensures durable { OnOk result (Only (images_of (fuse self.new).disk) (content_of (fuse self.old).disk)) }
-        ensures content { Some (content_of (fuse self.new).disk) ≡ Some (content_of (fuse self.old).disk) }
-        ensures images { (image : List ℕ) → images_of (fuse self.new).disk image → images_of (fuse self.old).disk image }
-        ensures moment { Counts (Some (content_of (fuse self.old).disk)) (moment_of (fuse self.old).disk) (moment_of (fuse self.new).disk) result }
-        ensures past { Elapses (moment_of (fuse self.old).disk) (moment_of (fuse self.new).disk) (images_since_of (fuse self.old).disk) (images_since_of (fuse self.new).disk) (images_of (fuse self.new).disk) }
-        ensures read_faults { read_faults_of (fuse self.new) ≡ read_faults_of (fuse self.old) }
-        ensures write_faults { HasCause (write_faults_of (fuse self.old)) (write_faults_of (fuse self.new)) result }
+        ensures durable { OnOk result (IfSome (it.content self.old) (Only (it.images self.new))) }
+        ensures content { it.content self.new ≡ it.content self.old }
+        ensures images { AreAmong (it.images self.new) (it.images self.old) }
+        ensures kept { OnErr result (AreAmong (it.images self.old) (it.images self.new)) }
+        ensures down { it.is_down self.old
+            → OnlyFails it.content it.images it.moment it.images_since self.old self.new result }
+        ensures stays_down { it.is_down self.new ↔ it.is_down self.old }
+        ensures moment { TakesOneMoment (it.content self.old) (it.moment self.old) (it.moment self.new) result }
+        ensures past { TimePasses it.moment it.images it.images_since self.old self.new }
+        ensures since_now { SinceNow it.moment it.images it.images_since self.old self.new }
+        ensures read_faults { it.read_faults self.new ≡ it.read_faults self.old }
+        ensures write_faults { HasCause (it.write_faults self.old) (it.write_faults self.new) result }
+        ensures lasts { Unit {0} }
         ensures syncing { IsFuseSyncing (fuse self.old) (fuse self.new) result }
     {
-        if self.blown || self.left == 0 {
-            return Err(self.fail_writing());
+        match self.stage {
+            FuseStage::Passes(left) if left > 0 => {
+                self.stage = FuseStage::Passes(left - 1);
+                self.disk.sync()
+            }
+            FuseStage::Down => Err(self.fail_writing(FuseStage::Down)),
+            _ => Err(self.fail_writing(FuseStage::Blown)),
         }
-        self.left -= 1;
-        self.disk.sync()
     }
 
     ghost content_is_image = { law.content_is_image };
@@ -179,7 +230,9 @@ impl Disk for FuseDisk {
 
     ghost counts_now = { law.counts_now };
 
-    ghost only_now = { law.only_now };
-
     ghost earlier = { law.earlier };
+
+    ghost lasts_same = { λ _. tt };
+
+    ghost lasts_on = { λ _ _ _ _ _. tt };
 }

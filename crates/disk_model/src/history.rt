@@ -1,45 +1,58 @@
 //! What was done to a disk in memory since it was made, and what stands on it.
 
-ghost use Rattle.std.specs.Prelude.{◌≡◌, ◌+◌, ◌≤◌, ◌^◌, [], ◌∷◌, ◌++◌, ℕ, length, IfOk, OnOk, OnErr};
-ghost use Rattle.disk_model.specs.Crash.{IsCrash, style_of};
+ghost use Rattle.std.specs.Prelude.{◌≡◌, ◌+◌, ◌<◌, ◌≤◌, ◌^◌, [], ◌∷◌, ◌++◌, length, vec_capacity, vec_len, false, true, IfOk, OnOk, OnErr};
+ghost use Rattle.disk_model.specs.Calls.{LosesWrite};
+ghost use Rattle.disk_model.specs.Crash.{IsCrash};
 ghost use Rattle.disk_model.specs.Surface.{IsImage, surface_after, sync_of, write_of};
 
-use crate::crash::{Style, crash};
+use crate::crash::crash;
 use crate::disk_call::DiskCall;
 use crate::limits::ends_within;
 use crate::overwrite::overwrite;
 use px_base::{FileBytes, OutOfMemory};
 use std::alloc::Global;
 
-/// The octets that a disk had at first, its calls since then in order, and the octets that a read gives.
+/// The octets that a disk had at first, its calls since then in order, the octets that a read gives, and whether it is
+/// down. While it isn't, there is room for one call more, so that a write that finds no memory leaves its range open.
 #[derive(Drop)]
 pub(crate) struct History {
     alloc: Global,
     first: FileBytes,
     calls: Vec<DiskCall>,
     present: Vec<u8>,
+    down: bool,
     ghost content: { present.items ≡ (surface_after first calls.items).content },
     ghost image: { IsImage (surface_after first calls.items) present.items },
     ghost most: { (surface_after first calls.items).most ≤ 2 ^ 63 },
+    ghost room: { down ≡ false → vec_len calls < vec_capacity calls },
 }
 
 impl History {
-    /// A disk at rest, with these octets.
+    /// A quiet disk with these octets.
     pub(crate) fn new(alloc: Global, bytes: &[u8]) -> Result<History, OutOfMemory>
         ensures first { IfOk result (λ history. history.first ≡ bytes.now) }
         ensures calls { IfOk result (λ history. history.calls.items ≡ []) }
+        ensures up { IfOk result (λ history. history.down ≡ false) }
     {
         Ok(History {
             alloc,
             first: FileBytes::copy_of(alloc, bytes)?,
-            calls: Vec::new(alloc),
+            calls: Vec::with_capacity(alloc, 1)?,
             present: Vec::from_slice(alloc, bytes)?,
+            down: false,
         })
     }
 
     /// The allocator.
     pub(crate) fn alloc(&self) -> Global {
         self.alloc
+    }
+
+    /// Whether it is down.
+    pub(crate) fn is_down(&self) -> bool
+        ensures { result ≡ self.now.down }
+    {
+        self.down
     }
 
     /// The octets that a read gives.
@@ -50,15 +63,15 @@ impl History {
         self.present.as_slice()
     }
 
-    /// Writes octets.
+    /// Writes octets, or changes nothing where there is no memory, or where they would end past 2^63.
     fn write(&mut self, at: u64, bytes: &[u8]) -> Result<(), OutOfMemory>
-        ensures ends { OnOk result (at + length bytes.now ≤ 2 ^ 63) }
         ensures first { self.new.first ≡ self.old.first }
         ensures ok { OnOk result (self.new.calls.items ≡ self.old.calls.items ++ DiskCall.Write at bytes.now ∷ []) }
         ensures err { OnErr result (self.new.calls.items ≡ self.old.calls.items) }
+        ensures down { self.new.down ≡ self.old.down }
     {
         let copy = FileBytes::copy_of(self.alloc, bytes)?;
-        self.calls.reserve(1)?;
+        self.calls.reserve(2)?;
         overwrite(&mut self.present, at, bytes)?;
         self.calls
             .push(DiskCall::Write { at, bytes: copy })
@@ -66,56 +79,87 @@ impl History {
         Ok(())
     }
 
-    /// Fails to write octets, of which some may stand there.
-    pub(crate) fn tear(&mut self, at: u64, bytes: &[u8]) -> Result<(), OutOfMemory>
-        ensures ends { OnOk result (at + length bytes.now ≤ 2 ^ 63) }
+    /// Fails to write so many octets, and is down. Takes no memory.
+    fn break_off(&mut self, at: u64, count: u64)
+        requires up { self.old.down ≡ false }
+        requires ends { at + count ≤ 2 ^ 63 }
         ensures first { self.new.first ≡ self.old.first }
-        ensures ok { OnOk result (self.new.calls.items ≡ self.old.calls.items ++ DiskCall.TornWrite at bytes.now ∷ []) }
-        ensures err { OnErr result (self.new.calls.items ≡ self.old.calls.items) }
+        ensures calls { self.new.calls.items ≡ self.old.calls.items ++ DiskCall.TornWrite at count ∷ [] }
+        ensures down { self.new.down ≡ true }
     {
-        if !ends_within(at, bytes) {
-            return Err(OutOfMemory);
-        }
-        let bytes = FileBytes::copy_of(self.alloc, bytes)?;
-        self.calls.push(DiskCall::TornWrite { at, bytes })?;
+        self.down = true;
+        self.calls.push(DiskCall::TornWrite { at, count }).unwrap();
+    }
+
+    /// Fails to write so many octets, and is down where there is no memory for a further call.
+    pub(crate) fn tear(&mut self, at: u64, count: u64) -> Result<(), OutOfMemory>
+        requires up { self.old.down ≡ false }
+        requires ends { at + count ≤ 2 ^ 63 }
+        ensures first { self.new.first ≡ self.old.first }
+        ensures calls { self.new.calls.items ≡ self.old.calls.items ++ DiskCall.TornWrite at count ∷ [] }
+        ensures ok { OnOk result (self.new.down ≡ false) }
+        ensures err { OnErr result (self.new.down ≡ true) }
+    {
+        self.break_off(at, count);
+        self.calls.reserve(1)?;
+        self.down = false;
         Ok(())
     }
 
-    /// Writes octets, or fails to. A range that would end past 2^63 is want of memory.
+    /// Writes octets, or fails to. A write that finds no memory fails too, and the disk is down. A range that would end
+    /// past 2^63 is want of memory as well, and changes nothing, as does a write to a disk that is down.
     pub(crate) fn write_at(&mut self, at: u64, bytes: &[u8], fails: bool) -> Result<(), OutOfMemory>
         ensures first { self.new.first ≡ self.old.first }
-        ensures ok { OnOk result ((at + length bytes.now ≤ 2 ^ 63) × (self.new.calls.items ≡ self.old.calls.items ++ write_of fails at bytes.now ∷ [])) }
-        ensures err { OnErr result (self.new.calls.items ≡ self.old.calls.items) }
+        ensures up { OnOk result ((self.old.down ≡ false) × (self.new.down ≡ false)) }
+        ensures ends { OnOk result (at + length bytes.now ≤ 2 ^ 63) }
+        ensures ok { OnOk result (self.new.calls.items ≡ self.old.calls.items ++ write_of fails at bytes.now ∷ []) }
+        ensures err { OnErr result
+            (LosesWrite self.old.calls.items self.new.calls.items self.old.down self.new.down at (length bytes.now)) }
     {
-        if fails {
-            self.tear(at, bytes)
-        } else {
-            self.write(at, bytes)
+        if self.down || !ends_within(at, bytes) {
+            return Err(OutOfMemory);
         }
+        if fails {
+            return self.tear(at, bytes.len() as u64);
+        }
+        if self.write(at, bytes).is_err() {
+            self.break_off(at, bytes.len() as u64);
+            return Err(OutOfMemory);
+        }
+        Ok(())
     }
 
-    /// Brings all to rest, or fails to.
+    /// Syncs what was written, or fails to. It changes nothing where there is no memory, or where the disk is down.
     pub(crate) fn sync(&mut self, fails: bool) -> Result<(), OutOfMemory>
         ensures first { self.new.first ≡ self.old.first }
+        ensures up { OnOk result (self.old.down ≡ false) }
         ensures ok { OnOk result (self.new.calls.items ≡ self.old.calls.items ++ sync_of fails ∷ []) }
         ensures err { OnErr result (self.new.calls.items ≡ self.old.calls.items) }
+        ensures down { self.new.down ≡ self.old.down }
     {
-        self.calls.push(if fails {
-            DiskCall::FailedSync
-        } else {
-            DiskCall::Sync
-        })?;
+        if self.down {
+            return Err(OutOfMemory);
+        }
+        self.calls.reserve(2)?;
+        self.calls
+            .push(if fails {
+                DiskCall::FailedSync
+            } else {
+                DiskCall::Sync
+            })
+            .unwrap();
         Ok(())
     }
 
     /// What a crash leaves, as this number picks it. Takes memory.
     pub(crate) fn crashed(&self, pick: u64) -> Result<Vec<u8>, OutOfMemory>
-        ensures { IfOk result (λ image. IsCrash (surface_after self.now.first self.now.calls.items) (style_of pick) image.items) }
+        ensures { IfOk result (λ image. IsCrash (surface_after self.now.first self.now.calls.items) pick image.items) }
     {
         crash(
             self.alloc,
             self.first.as_slice(),
             self.calls.as_slice(),
+            self.present.as_slice(),
             pick,
         )
     }

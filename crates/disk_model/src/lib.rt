@@ -1,7 +1,6 @@
 //! A disk that may lose power at any write: what a read gives, and what a crash may leave.
 #![tactic(auto)]
 
-mod call_counts;
 mod crash;
 mod disk;
 mod disk_call;

@@ -1,6 +1,7 @@
 //! How octets are written over others.
 
 ghost use Rattle.std.specs.Prelude.{◌≡◌, ◌+◌, ◌-◌, ◌≤◌, ◌^◌, ◌++◌, length, take, drop, replicate, OnOk, OnErr};
+ghost use Rattle.px_base.specs.Octets.{IsOctets};
 ghost use Rattle.disk_model.specs.Surface.{write_over};
 
 use crate::limits::ends_within;
@@ -12,6 +13,7 @@ pub(crate) fn overwrite(octets: &mut Vec<u8>, at: u64, bytes: &[u8]) -> Result<(
     ensures ends { OnOk result (at + length bytes.now ≤ 2 ^ 63) }
     ensures ok { OnOk result (octets.new.items ≡ write_over octets.old.items at bytes.now) }
     ensures err { OnErr result (octets.new.items ≡ octets.old.items) }
+    ensures octets { IsOctets octets.new.items }
 {
     if !ends_within(at, bytes) {
         return Err(OutOfMemory);

@@ -1,6 +1,9 @@
 //! Tests of what no clause says: texts, exact octets with ample memory, what each pick of a crash leaves, a real file.
 
+ghost use Rattle.std.specs.Prelude.{◌≡◌};
+
 use crate::{Disk, DiskFault, FileDisk, FuseDisk, MemoryDisk};
+use px_base::FileBytes;
 use std::alloc::Global;
 use std::fs;
 use std::test::Fail;
@@ -38,7 +41,7 @@ fn a_disk_in_memory(rt: HostRuntime) -> Result<(), Fail> {
     Ok(())
 }
 
-/// A disk of five octets at rest, two of which were written over since, as well as one behind its end, while a write over
+/// A quiet disk of five octets, two of which were written over since, as well as one behind its end, while a write over
 /// its first octet failed.
 fn worn(alloc: Global) -> Result<MemoryDisk, Fail> {
     let mut disk = MemoryDisk::new(alloc, &[1, 2, 0, 0], &[5])?;
@@ -59,7 +62,7 @@ fn crashes(rt: HostRuntime) -> Result<(), Fail> {
     let rows: [(u64, &[u8]); 5] = [
         (0, &[1, 2, 3, 4, 5]),
         (400, &[1, 2, 3, 4, 5]),
-        (1, &[11, 2, 13, 14, 5, 0, 17]),
+        (1, &[1, 2, 13, 14, 5, 0, 17]),
         (2, &[0, 2, 0, 0, 5, 0, 0]),
         (2 + 4 * 0xAA, &[0xAA, 2, 0xAA, 0xAA, 5, 0xAA, 0xAA]),
     ];
@@ -106,12 +109,12 @@ fn mixed_crashes(rt: HostRuntime) -> Result<(), Fail> {
 
 #[test]
 fn fuses(rt: HostRuntime) -> Result<(), Fail> {
-    // how many calls pass, what a read gives, and what a crash leaves where all that was written reached the disk
+    // how many calls pass, what a read gives, and what a crash leaves whose open octets are 9
     let rows: [(u64, &[u8], &[u8]); 5] = [
-        (0, &[1, 2], &[7, 2]),
-        (1, &[7, 2], &[7, 2]),
-        (2, &[7, 2], &[7, 2, 8]),
-        (3, &[7, 2, 8], &[7, 2, 8]),
+        (0, &[1, 2], &[9, 2]),
+        (1, &[7, 2], &[9, 2, 9]),
+        (2, &[7, 2], &[7, 2, 9]),
+        (3, &[7, 2, 8], &[7, 2, 9]),
         (4, &[7, 2, 8], &[7, 2, 8]),
     ];
     for (calls, content, crashed) in rows {
@@ -126,8 +129,91 @@ fn fuses(rt: HostRuntime) -> Result<(), Fail> {
         assert!(rt; !fuse.starved(), "{calls}");
         let disk = fuse.into_disk();
         assert_eq!(rt; disk.bytes(), content, "{calls}");
-        assert_eq!(rt; disk.crash(1)?.bytes(), crashed, "{calls}");
+        assert_eq!(rt; disk.crash(2 + 4 * 9)?.bytes(), crashed, "{calls}");
     }
+    Ok(())
+}
+
+/// A disk with a label, which no call of the disk changes.
+#[derive(Drop)]
+struct Labelled<D> {
+    disk: D,
+    label: FileBytes,
+}
+
+impl<D: Disk + Drop> Disk for Labelled<D> {
+    ghost use Rattle.std.specs.Prelude.{◌≡◌, refl};
+    ghost use Rattle.std.proofs.Common.{◌∙◌};
+
+    ghost content = { λ l. D.content l.disk };
+
+    ghost images = { λ l. D.images l.disk };
+
+    ghost moment = { λ l. D.moment l.disk };
+
+    ghost images_since = { λ l. D.images_since l.disk };
+
+    ghost read_faults = { λ l. D.read_faults l.disk };
+
+    ghost write_faults = { λ l. D.write_faults l.disk };
+
+    ghost is_down = { λ l. D.is_down l.disk };
+
+    ghost lasts = { λ old new. new.label ≡ old.label };
+
+    fn len(&mut self) -> Result<u64, DiskFault> {
+        self.disk.len()
+    }
+
+    fn read(&mut self, at: u64, room: &mut [u8]) -> Result<(), DiskFault> {
+        self.disk.read(at, room)
+    }
+
+    fn write_at(&mut self, at: u64, bytes: &[u8]) -> Result<(), DiskFault> {
+        self.disk.write_at(at, bytes)
+    }
+
+    fn sync(&mut self) -> Result<(), DiskFault> {
+        self.disk.sync()
+    }
+
+    ghost content_is_image = { λ l. D.content_is_image l.disk };
+
+    ghost images_fit = { λ l. D.images_fit l.disk };
+
+    ghost counts_now = { λ l. D.counts_now l.disk };
+
+    ghost earlier = { λ l. D.earlier l.disk };
+
+    ghost lasts_same = { λ _. refl };
+
+    ghost lasts_on = { λ _ _ _ first second. second ∙ first };
+}
+
+/// Writes an octet and syncs it.
+fn put_octet<D: Disk>(disk: &mut D) -> Result<(), DiskFault>
+    ensures { D.lasts disk.old disk.new }
+{
+    disk.write_at(0, &[7])?;
+    disk.sync()
+}
+
+/// The same on a labelled disk; its label lasts.
+fn put_octet_under_label(disk: &mut Labelled<FuseDisk>) -> Result<(), DiskFault>
+    ensures { disk.new.label ≡ disk.old.label }
+{
+    put_octet(disk)
+}
+
+#[test]
+fn what_lasts(rt: HostRuntime) -> Result<(), Fail> {
+    let fuse = FuseDisk::new(MemoryDisk::new(rt.alloc(), &[1, 2], &[])?, 1);
+    let mut disk = Labelled {
+        disk: fuse,
+        label: FileBytes::copy_of(rt.alloc(), b"a")?,
+    };
+    assert_eq!(rt; put_octet_under_label(&mut disk), Err(DiskFault));
+    assert_eq!(rt; disk.label.as_slice(), b"a".as_slice());
     Ok(())
 }
 

@@ -1,19 +1,27 @@
 -- What a record put behind the last gate makes of a store, and what a crash leaves of it.
-use Rattle.std.proofs.Common.{◌≡◌, ◌≢◌, inl, inr, ℕ, ◌+◌, ◌<◌, ◌≤◌, true, false, List, [], ◌∷◌, ◌++◌, length, get_or, take, drop, Option, Some, IfSome, sym, ◌∙◌, ap, ap₂, subst, arith, append_assoc, append-nil, length-append, length-drop, take-append-drop, take-take, get_or-take, true≢false}
+use Rattle.std.proofs.Common.{◌≡◌, ◌≢◌, inl, inr, ⊎_elim, ℕ, ◌+◌, ◌<◌, ◌≤◌, true, false, List, [], ◌∷◌, ◌++◌, length, get_or, take, drop, Option, Some, IfSome, Result, OnOk, sym, ◌∙◌, ap, ap₂, subst, arith, append_assoc, append-nil, length-append, length-drop, take-append-drop, take-take, get_or-take, true≢false}
 use Rattle.std.proofs.lemmas.Bool.{cases_eq}
 use Rattle.std.proofs.lemmas.List.{take_at, drop_at, drop_more, length-take-le, get_or_at}
-use Rattle.std.proofs.lemmas.List.Elements.{All-drop}
+use Rattle.std.proofs.lemmas.List.Elements.{All-drop, All-from_get_or}
+use Rattle.std.proofs.lemmas.Result.{on_ok_weaker}
 use Rattle.std.specs.List.{AllByRecursion}
-use Rattle.disk_model.specs.Disk.{IsOctets, Only}
-use Rattle.file_journal.specs.Records.{Record, IsRecord, record_text, records_text, StartsClosed, Reading, whole, StandsFrom, with_records, reading_from}
-use Rattle.file_journal.specs.Journal.{Standing, store, journal_of, store_of, added, IsBeforeOrAfter}
-use Rattle.file_journal.specs.Position.{Position, left, IsAt, StandsOn}
-use Rattle.file_journal.specs.Steps.{with_gate, IsPutting}
-use Rattle.file_journal.proofs.JournalLemmas.{HasHeader, same_header, of_full, store_parts}
-use Rattle.file_journal.proofs.MomentLemmas.{at_told}
-use Rattle.file_journal.proofs.OctetLemmas.{torn_front}
+use Rattle.px_base.specs.Octets.{IsOctets}
+use Rattle.disk_model.specs.Disk.{HasContent, Only, Torn}
+use Rattle.disk_model.specs.Moments.{LeavesSince}
+use Rattle.disk_model.specs.declared.disk.Disk.{Ghosts}
+use Rattle.file_journal.specs.Appending.{Appends, IsAppending, IsPutting, IsTornFrom, OpensGate, with_gate}
+use Rattle.file_journal.specs.Calls.{IsQuietNow, Leaves, Makes, images_now}
+use Rattle.file_journal.specs.Header.{HasHeader}
+use Rattle.file_journal.specs.Records.{Record, IsRecord, record_of, record_text, records_text, StartsClosed, Reading, whole, StandsFrom, with_records, reading_from}
+use Rattle.file_journal.specs.Journal.{Standing, store, journal_of, store_of, with_last, IsBeforeOrAfter}
+use Rattle.file_journal.specs.Position.{Position, left_to_read, IsAt, StandsAmong, StandsOn}
+use Rattle.file_journal.proofs.CallLemmas.{on_ok_both}
+use Rattle.file_journal.proofs.JournalLemmas.{same_header, of_full, store_parts}
+use Rattle.file_journal.proofs.MomentLemmas.{weaker}
+use Rattle.file_journal.proofs.OctetLemmas.{kept_back, torn_front, torn_wider}
 use Rattle.file_journal.proofs.PositionLemmas.{records_text-append, length-records_text-push, records-push}
 use Rattle.file_journal.proofs.ReadingLemmas.{stands_from_read, reading_records, reading_closed, read_closed, with_records-whole}
+use Rattle.file_journal.proofs.ToldLemmas.{at_told, content_now, if_told, told_weaker}
 
 -- the store's records end at a gate at this place, which isn't open
 pub record Ends (magic : List ℕ) (blocks : ℕ) (entries : List Record) (place : ℕ) (octets : List ℕ) : Type 0 where
@@ -29,7 +37,7 @@ all_whole : (entries : List Record) → with_records entries (whole []) ≡ whol
 all_whole entries = with_records-whole entries [] ∙ ap whole (append-nil entries)
 
 -- A journal that has read its end stands there.
-module _ (journal : Position) (passed : List Record) (octets : List ℕ) (are : IsOctets octets) (end : journal.ended ≡ true) (at : IsAt journal passed octets) where
+module _ (journal : Position) (passed : List Record) (octets : List ℕ) (end : journal.ended ≡ true) (at : IsAt journal passed octets) where
   ends_behind : (rest : List ℕ) → HasHeader journal.magic journal.blocks octets → AllByRecursion IsRecord passed → drop 16 octets ≡ records_text passed ++ rest → StartsClosed rest
       → Ends journal.magic journal.blocks passed journal.place octets
   ends_behind [] head are_records is shut = absurd shut
@@ -56,7 +64,7 @@ module _ (journal : Position) (passed : List Record) (octets : List ℕ) (are : 
       let some : 0 < length (drop 16 octets) = omega (arith, at.formatted, length-drop 16 octets) in
       let stands : StandsFrom 16 (drop 16 octets) (whole passed) =
       subst (λ (r : Reading). StandsFrom 16 (drop 16 octets) r) parts.1
-      (stands_from_read (length (drop 16 octets)) 16 (drop 16 octets) (omega arith) (All-drop (λ octet. octet < 256) 16 octets are) some) in
+      (stands_from_read (length (drop 16 octets)) 16 (drop 16 octets) (omega arith) (All-drop (λ octet. octet < 256) 16 octets at.are_octets) some) in
       ends_behind stands.0 parts.0 stands.1 stands.2 stands.3
 
 module _ (magic : List ℕ) (blocks : ℕ) (entries : List Record) (place : ℕ) (octets : List ℕ) (ends : Ends magic blocks entries place octets) where
@@ -122,6 +130,21 @@ module _ (magic : List ℕ) (blocks : ℕ) (entries : List Record) (place : ℕ)
     gated_front : take place (with_gate place gate text octets) ≡ take place octets
     gated_front = ap (λ (l : List ℕ). take place l) shape ∙ take_at (take place octets) (gate ∷ (text ++ drop (place + 1 + length text) octets)) place place_front
 
+    -- outside the gate and the text all is as it was
+    pub gated_torn : (count : ℕ) → count ≡ 1 + length text → Torn place count octets (with_gate place gate text octets)
+    gated_torn count is_count =
+        let whole = with_gate place gate text octets in
+        let front : length (take place octets ++ gate ∷ text) ≡ place + count = omega (arith, place_front, is_count, length-append (take place octets) (gate ∷ text)) in
+        let behind : drop (place + count) whole ≡ drop (place + count) octets =
+        drop_at (take place octets ++ gate ∷ text) (drop (place + 1 + length text) octets) (place + count) front
+        ∙ ap (λ (i : ℕ). drop i octets) (let same : place + 1 + length text ≡ place + count = omega (arith, is_count) in same) in
+        record {
+          before = take-take place (length octets) whole (omega (arith, ends.there)) ∙ gated_front;
+          after = kept_back (place + count) octets whole behind;
+          no_shorter = gated_length;
+          no_longer = omega (arith, front, length-append (take place octets ++ gate ∷ text) (drop (place + 1 + length text) octets), length-drop (place + 1 + length text) octets, is_count);
+        }
+
     gated_header : take 16 (with_gate place gate text octets) ≡ take 16 octets
     gated_header =
         sym (take-take 16 place (with_gate place gate text octets) low) ∙ ap (λ (l : List ℕ). take 16 l) gated_front ∙ take-take 16 place octets low
@@ -140,10 +163,11 @@ module _ (magic : List ℕ) (blocks : ℕ) (entries : List Record) (place : ℕ)
         }
 
 -- A journal whose place that is stands there, and has read its end.
-pub ends_at : (journal : Position) (passed : List Record) (octets : List ℕ) → Ends journal.magic journal.blocks passed journal.place octets → IsAt journal passed octets × (left journal octets ≡ whole [])
-ends_at journal passed octets ends =
+pub ends_at : (journal : Position) (passed : List Record) (octets : List ℕ) → IsOctets octets → Ends journal.magic journal.blocks passed journal.place octets → IsAt journal passed octets × (left_to_read journal octets ≡ whole [])
+ends_at journal passed octets are ends =
     let end = read_closed journal.place octets ends.there ends.shut in (
       record {
+        are_octets = are;
         formatted = ends.long;
         place = ends.is_place;
         records = ends_store _ _ passed _ octets ends ∙ sym (ap (λ (r : Reading). store_of journal.blocks (with_records passed r)) end ∙ ap (store_of journal.blocks) (all_whole passed));
@@ -203,69 +227,123 @@ module _ (magic : List ℕ) (blocks : ℕ) (entries : List Record) (place : ℕ)
         shut = λ is_open. absurd (omega (arith, sym (ap (λ (l : List ℕ). get_or l (place + 4 + length entry.content) 0) opened_split ∙ get_or_at front 0 rest 0 (place + 4 + length entry.content) passed_length) ∙ is_open));
       }
 
--- A journal at its end, and a record that is put there.
-module _ (journal : Position) (content : Option (List ℕ)) (images : List ℕ → Type 0) (octets : List ℕ) (told : content ≡ Some octets) (ok : journal.failed ≡ false) (end : journal.ended ≡ true)
-    (is_image : IfSome content images) (fit : (image : List ℕ) → images image → IsOctets image) (stands : StandsOn journal content images) where
-  abbrev AllEnd : List Record → Type 0
-  AllEnd entries = Ends journal.magic journal.blocks entries journal.place octets × ((image : List ℕ) → images image → Ends journal.magic journal.blocks entries journal.place image)
+-- octets are the content of a record
+pub is_record : (kind : ℕ) (content : List ℕ) → kind < 256 → ((i : ℕ) → get_or content i 0 < 256) → length content ≤ 600 → IsRecord (record_of kind content)
+is_record kind content is_kind octet most = record { kind = is_kind; octets = All-from_get_or (λ octet. octet < 256) content 0 (λ i lt. octet i); most = most }
 
-  pub all_end : (entries : List Record) × AllEnd entries
-  all_end = go stands
+-- A journal at its end, and a record that is put there.
+module _ {D : Type 0} (g : Ghosts D) (journal : Position) (old : D) (ok : journal.failed ≡ false) (end : journal.ended ≡ true) (stands : StandsOn g journal old) where
+  -- the content's records and those of each image end at the journal's place
+  pub record AllEnd (octets : List ℕ) : Type 0 where
+    pub entries : List Record
+    pub content : Ends journal.magic journal.blocks entries journal.place octets
+    pub images : (image : List ℕ) → images_now g old image → Ends journal.magic journal.blocks entries journal.place image
+
+  pub all_end : (octets : List ℕ) → g.content old ≡ Some octets → AllEnd octets
+  all_end octets told = go stands
     where
-      go : StandsOn journal content images → (entries : List Record) × AllEnd entries
+      go : StandsOn g journal old → AllEnd octets
       go (inl failed) = absurd (true≢false (sym failed ∙ ok))
       go (inr holds) =
-          let at = at_told _ octets told holds in (
-            at.0,
-            (
-              ends_from journal at.0 octets (fit octets (at_told images octets told is_image)) end at.1,
-              λ image here. ends_from journal at.0 image (fit image here) end (at.2 image here).0,
-            ),
-          )
+          let at = at_told _ octets told holds in
+          record { entries = at.0; content = ends_from journal at.0 octets end at.1; images = λ image here. ends_from journal at.0 image end (at.2 image here).0 }
 
-  pub gate_there : journal.place < length octets
-  gate_there = all_end.1.0.there
-
-  -- each image stands for the same
-  pub image_same : (image : List ℕ) → images image → journal_of journal.magic image ≡ journal_of journal.magic octets
-  image_same image here = ends_store _ _ _ _ image (all_end.1.1 image here) ∙ sym (ends_store _ _ _ _ octets all_end.1.0)
+  pub gate_there : IfSome (g.content old) (λ octets. journal.place < length octets)
+  gate_there = if_told (g.content old) _ (λ octets told. (all_end octets told).content.there)
 
   module _ (entry : Record) (is : IsRecord entry) where
-    pub put_store : journal_of journal.magic (with_gate journal.place 1 (record_text entry ++ 0 ∷ []) octets) ≡ added (journal_of journal.magic octets) entry
-    put_store =
-        ends_store _ _ _ _ _ (gate_open _ _ _ _ octets all_end.1.0 entry is)
-        ∙ ap (λ (s : Standing). added s entry) (sym (ends_store _ _ _ _ octets all_end.1.0))
+    put_store : (octets : List ℕ) → AllEnd octets → journal_of journal.magic (with_gate journal.place 1 (record_text entry ++ 0 ∷ []) octets) ≡ with_last (journal_of journal.magic octets) entry
+    put_store octets all =
+        ends_store _ _ _ _ _ (gate_open _ _ _ _ octets all.content entry is)
+        ∙ ap (λ (s : Standing). with_last s entry) (sym (ends_store _ _ _ _ octets all.content))
 
-    pub put_split : with_gate journal.place 1 (record_text entry ++ 0 ∷ []) octets ≡ take journal.place octets ++ 1 ∷ record_text entry ++ 0 ∷ drop (journal.place + 5 + length entry.content) octets
-    put_split = opened_split _ _ _ _ octets all_end.1.0 entry is
+    put_length : length (record_text entry ++ 0 ∷ []) ≡ 4 + length entry.content
+    put_length = omega (arith, length-append entry.content (0 ∷ []))
 
-    pub put_crash : (image : List ℕ) → IsPutting journal.place (record_text entry ++ 0 ∷ []) octets images image → IsBeforeOrAfter (journal_of journal.magic octets) entry (journal_of journal.magic image)
-    put_crash image (inl torn) =
-        let ends = all_end.1.0 in
-        let old_ends = all_end.1.1 torn.0 torn.1 in
-        let image_ends = ends_kept _ _ _ _ torn.0 old_ends image
-        (torn_front (journal.place + 1) (length (record_text entry ++ 0 ∷ [])) torn.0 image (omega (arith, old_ends.there)) torn.2) torn.2.no_shorter in
-        inl (ends_store _ _ _ _ image image_ends ∙ sym (ends_store _ _ _ _ octets ends))
-    put_crash image (inr put) = elim (cases_eq put.0 1) [
-      | inl is_open ↦ inr (ap (journal_of journal.magic) (put.1 ∙ ap (λ (n : ℕ). with_gate journal.place n (record_text entry ++ 0 ∷ []) octets) is_open) ∙ put_store)
-      | inr shut ↦ inl (ap (journal_of journal.magic) put.1
-          ∙ ends_store _ _ _ _ _ (gate_shut _ _ _ _ octets all_end.1.0 put.0 (record_text entry ++ 0 ∷ []) shut)
-          ∙ sym (ends_store _ _ _ _ octets all_end.1.0))
-    ]
+    -- each image while it is put
+    putting : ((t : ℕ) (image : List ℕ) → t ≤ g.moment old → g.images old image → g.images_since old t image) → (octets : List ℕ) → g.content old ≡ Some octets → g.images old octets → (image : List ℕ)
+        → IsPutting journal.place (record_text entry ++ 0 ∷ []) (g.images old) octets image → IsAppending journal entry (g.images old) octets image
+    putting counts_now octets told is_image image (inl torn) =
+        let all = all_end octets told in
+        let before = all.images torn.0 (counts_now (g.moment old) torn.0 (omega arith) torn.1) in
+        let count : length (record_text entry ++ 0 ∷ []) + 1 ≡ 5 + length entry.content = omega (arith, put_length) in
+        let image_ends = ends_kept _ _ _ _ torn.0 before image
+        (torn_front (journal.place + 1) (length (record_text entry ++ 0 ∷ [])) torn.0 image (omega (arith, before.there)) torn.2) torn.2.no_shorter in
+        record {
+          store = inl (ends_store _ _ _ _ image image_ends ∙ sym (ends_store _ _ _ _ octets all.content));
+          beside = (torn.0, torn.1, subst (λ (n : ℕ). Torn journal.place n torn.0 image) count (torn_wider journal.place (length (record_text entry ++ 0 ∷ [])) torn.0 image torn.2));
+        }
+    putting counts_now octets told is_image image (inr put) =
+        let all = all_end octets told in
+        let text = record_text entry ++ 0 ∷ [] in
+        let torn = gated_torn _ _ _ _ octets all.content put.0 text (5 + length entry.content) (omega (arith, put_length)) in
+        record {
+          store = elim (cases_eq put.0 1) [
+            | inl is_open ↦ inr (ap (journal_of journal.magic) (put.1 ∙ ap (λ (n : ℕ). with_gate journal.place n text octets) is_open) ∙ put_store octets all)
+            | inr shut ↦ inl (ap (journal_of journal.magic) put.1 ∙ ends_store _ _ _ _ _ (gate_shut _ _ _ _ octets all.content put.0 text shut) ∙ sym (ends_store _ _ _ _ octets all.content))
+          ];
+          beside = (octets, is_image, subst (λ (l : List ℕ). Torn journal.place (5 + length entry.content) octets l) (sym put.1) torn);
+        }
 
-    pub stands_after : (place : ℕ) → place ≡ journal.place + 4 + length entry.content → (now : List ℕ) (later : List ℕ → Type 0)
-        → now ≡ with_gate journal.place 1 (record_text entry ++ 0 ∷ []) octets → Only later now
-        → (passed : List Record) × IsAt (record journal { place = place }) passed now
-        × ((image : List ℕ) → later image → IsAt (record journal { place = place }) passed image × (left (record journal { place = place }) image ≡ left (record journal { place = place }) now))
-    stands_after place is_place now later is_now only =
-        let ends : Ends journal.magic journal.blocks (all_end.0 ++ entry ∷ []) place now =
-        subst (λ (n : ℕ). Ends journal.magic journal.blocks (all_end.0 ++ entry ∷ []) n now) (sym is_place)
-        (subst (λ (l : List ℕ). Ends journal.magic journal.blocks (all_end.0 ++ entry ∷ []) (journal.place + 4 + length entry.content) l) (sym is_now)
-        (gate_open _ _ _ _ octets all_end.1.0 entry is)) in
-        let at = ends_at (record journal { place = place }) (all_end.0 ++ entry ∷ []) now ends in (
-          all_end.0 ++ entry ∷ [],
-          at.0,
-          λ image here.
-              let same = only image here in
-              (subst (λ (l : List ℕ). IsAt (record journal { place = place }) (all_end.0 ++ entry ∷ []) l) (sym same) at.0, ap (left (record journal { place = place })) same),
-        )
+    -- what it makes and leaves
+    module _ {U E : Type 0} (result : Result U E) (new : D) (text : List ℕ) (text_is : text ≡ record_text entry ++ 0 ∷ [])
+        (makes : Makes g result old new (OpensGate journal.place text) (IsPutting journal.place text (g.images old))) where
+      pub appends : OnOk result (HasContent (g.content old) (g.content new) (Appends journal entry))
+      appends = on_ok_weaker result (λ has. told_weaker (g.content old) _ _ (λ before told now.
+          let is_now : now.0 ≡ with_gate journal.place 1 (record_text entry ++ 0 ∷ []) before = now.2 ∙ ap (λ (l : List ℕ). with_gate journal.place 1 l before) text_is in
+          (now.0, now.1, record { octets = is_now; store = ap (journal_of journal.magic) is_now ∙ put_store before (all_end before told) })) has) makes.ok
+
+      pub stands_after : (place : ℕ) → place ≡ journal.place + 4 + length entry.content → IfSome (g.content new) IsOctets → OnOk result (StandsOn g (record journal { place = place }) new)
+      stands_after place is_place are = on_ok_both result (λ has rest. inr (if_told (g.content new) _ (λ now told_now.
+          let was = content_now _ _ (OpensGate journal.place text) now makes.puts.told has told_now in
+          let all = all_end was.0 was.1 in
+          let entries = all.entries ++ entry ∷ [] in
+          let is_now : now ≡ with_gate journal.place 1 (record_text entry ++ 0 ∷ []) was.0 = was.2 ∙ ap (λ (l : List ℕ). with_gate journal.place 1 l was.0) text_is in
+          let ends = subst (λ (n : ℕ). Ends journal.magic journal.blocks entries n now) (sym is_place)
+          (subst (λ (l : List ℕ). Ends journal.magic journal.blocks entries (journal.place + 4 + length entry.content) l) (sym is_now) (gate_open _ _ _ _ was.0 all.content entry is)) in
+          let at = ends_at (record journal { place = place }) entries now (at_told IsOctets now told_now are) ends in (
+            entries,
+            at.0,
+            λ image here.
+                let same = at_told (Only (images_now g new)) now told_now rest image here in
+                (subst (λ (l : List ℕ). IsAt (record journal { place = place }) entries l) (sym same) at.0, ap (left_to_read (record journal { place = place })) same),
+          )))) makes.ok makes.quiet
+
+      module _ (counts_now : (t : ℕ) (image : List ℕ) → t ≤ g.moment old → g.images old image → g.images_since old t image) (is_image : IfSome (g.content old) (g.images old)) where
+        pub leaves : Leaves g old new (IsAppending journal entry (g.images old))
+        leaves = told_weaker (g.content old) _ _ (λ before told left. weaker g.moment g.images_since old new _ _ (λ image put.
+            putting counts_now before told (at_told (g.images old) before told is_image) image (subst (λ (l : List ℕ). IsPutting journal.place l (g.images old) before image) text_is put)) left) makes.since
+
+        pub any_moment : IfSome (g.content old) (λ before. LeavesSince (g.moment old) (g.images_since new) (λ image. IsBeforeOrAfter (journal_of journal.magic before) entry (journal_of journal.magic image)))
+        any_moment = told_weaker (g.content old) _ _ (λ before told left image since. ⊎_elim
+            (λ past.
+            let all = all_end before told in
+            inl (ends_store _ _ _ _ image (all.images image past) ∙ sym (ends_store _ _ _ _ before all.content)))
+            (λ here. here.store)
+            (left.each (g.moment old) image (omega arith) since)) leaves
+
+-- The same of the journal as callers see it.
+module _ {D : Type 0} (g : Ghosts D) (old new : D) (journal self : Position) (view_is : journal ≡ self) (ok : journal.failed ≡ false) (ended : self.ended ≡ true) (stands : StandsOn g self old) where
+  end : journal.ended ≡ true
+  end = ap (λ (position : Position). position.ended) view_is ∙ ended
+
+  stands_inside : StandsOn g journal old
+  stands_inside = subst (λ (position : Position). StandsOn g position old) (sym view_is) stands
+
+  module _ (entry : Record) (is : IsRecord entry) {U E : Type 0} (result : Result U E) (text : List ℕ) (text_is : text ≡ record_text entry ++ 0 ∷ [])
+      (makes : Makes g result old new (OpensGate journal.place text) (IsPutting journal.place text (g.images old))) where
+    pub seen_appends : OnOk result (HasContent (g.content old) (g.content new) (Appends self entry))
+    seen_appends = subst (λ (position : Position). OnOk result (HasContent (g.content old) (g.content new) (Appends position entry))) view_is
+        (appends g journal old ok end stands_inside entry is result new text text_is makes)
+
+    pub seen_stands : (place : ℕ) → place ≡ journal.place + 4 + length entry.content → IfSome (g.content new) IsOctets → OnOk result (StandsOn g (record journal { place = place }) new)
+    seen_stands place is_place are = stands_after g journal old ok end stands_inside entry is result new text text_is makes place is_place are
+
+    module _ (counts_now : (t : ℕ) (image : List ℕ) → t ≤ g.moment old → g.images old image → g.images_since old t image) (is_image : IfSome (g.content old) (g.images old)) where
+      pub seen_leaves : Leaves g old new (IsAppending self entry (g.images old))
+      seen_leaves = subst (λ (position : Position). Leaves g old new (IsAppending position entry (g.images old))) view_is
+          (leaves g journal old ok end stands_inside entry is result new text text_is makes counts_now is_image)
+
+      pub seen_any_moment : IfSome (g.content old) (λ before. LeavesSince (g.moment old) (g.images_since new) (λ image. IsBeforeOrAfter (journal_of self.magic before) entry (journal_of self.magic image)))
+      seen_any_moment = subst (λ (position : Position). IfSome (g.content old) (λ before. LeavesSince (g.moment old) (g.images_since new) (λ image. IsBeforeOrAfter (journal_of position.magic before) entry (journal_of position.magic image)))) view_is
+          (any_moment g journal old ok end stands_inside entry is result new text text_is makes counts_now is_image)

@@ -1,27 +1,34 @@
 -- What formatting makes of octets, and what a crash in it leaves.
-use Rattle.std.proofs.Common.{◌≡◌, ℕ, ◌%◌, ◌==◌, nat_lt, ◌≤◌, List, [], ◌∷◌, ◌++◌, length, get_or, take, drop, sym, ◌∙◌, ap, subst, arith, append_assoc, append-nil, length-append, length-drop, take-take, get_or-take, take-append-drop, take_all, eq-eqb, ne_eqb}
+use Rattle.std.proofs.Common.{◌≡◌, inl, inr, ℕ, ◌+◌, ◌%◌, ◌==◌, nat_lt, ◌≤◌, List, [], ◌∷◌, ◌++◌, length, get_or, take, drop, sym, ◌∙◌, ap, subst, arith, append_assoc, append-nil, length-append, length-drop, take-take, get_or-take, take-append-drop, take_all, eq-eqb, ne_eqb}
 use Rattle.std.proofs.lemmas.List.{drop_all, drop_more, take_at, length-take-le, get_or_at}
-use Rattle.std.proofs.lemmas.Bool.{cond-true, cond-false, lt-ltb, le-ltb}
-use Rattle.file_journal.specs.Journal.{even_selector, finished}
-use Rattle.disk_model.specs.Disk.{Writes, Torn, Follows, Only}
-use Rattle.file_journal.specs.Steps.{IsMakingEven, IsMakingGates, IsFinishing}
+use Rattle.std.proofs.lemmas.Bool.{cases_eq, cond-true, cond-false, lt-ltb, le-ltb}
+use Rattle.file_journal.specs.Journal.{after_finishing, after_recovery, even_selector, header_text}
+use Rattle.disk_model.specs.Disk.{Only, Torn, Writes}
+use Rattle.file_journal.specs.Appending.{IsTornFrom}
+use Rattle.file_journal.specs.Formatting.{IsFinishing, IsMakingEven, IsMakingGates, MakesEven, MakesGates}
 use Rattle.file_journal.proofs.OctetLemmas.{written, torn_front, torn_length}
 
--- each image after a torn write comes from the content, where it was the only image
-pub torn_only : (at n : ℕ) (before : List ℕ) (old now : List ℕ → Type 0) → Only old before → Follows (Torn at n) old now → (image : List ℕ) → now image → Torn at n before image
-torn_only at n before old now only follows image left =
-    let from = follows image left in subst (λ (l : List ℕ). Torn at n l image) (only from.0 from.1) from.2
+-- what is torn from the one image that there was
+pub torn_only : (at n : ℕ) (before : List ℕ) (images : List ℕ → Type 0) → Only images before → (image : List ℕ) → IsTornFrom images at n image → Torn at n before image
+torn_only at n before images only image torn = subst (λ (l : List ℕ). Torn at n l image) (only torn.0 torn.1) torn.2
+
+-- at most as many octets give way to these
+pub all_by : (text before new : List ℕ) → length before ≤ length text → Writes 0 text before new → new ≡ text
+all_by text before new short writes =
+    written 0 text before new (omega arith) writes
+    ∙ ap (λ (l : List ℕ). text ++ l) (drop_all (0 + length text) before (omega (arith, short)))
+    ∙ append-nil text
 
 pub even_crash : (before image : List ℕ) → 16 ≤ length before → Torn 15 1 before image → IsMakingEven before image
 even_crash before image long torn = (torn_front 15 1 before image (omega arith) torn, torn_length 15 1 before image (omega arith) torn)
 
-pub even_by : (before new : List ℕ) → 16 ≤ length before → get_or before 15 0 % 2 ≡ 1 → Writes 15 (0 ∷ []) before new → new ≡ take 15 before ++ even_selector before ∷ drop 16 before
+pub even_by : (before new : List ℕ) → 16 ≤ length before → get_or before 15 0 % 2 ≡ 1 → Writes 15 (0 ∷ []) before new → MakesEven before new
 even_by before new long odd writes =
     written 15 (0 ∷ []) before new (omega arith) writes ∙ append_assoc (take 15 before) (0 ∷ []) (drop 16 before)
     ∙ ap (λ (n : ℕ). take 15 before ++ n ∷ drop 16 before) (sym (cond-true (get_or before 15 0 % 2 == 1) 0 (get_or before 15 0) (eq-eqb (get_or before 15 0 % 2) 1 odd)))
 
 -- an even one stays
-pub even_before : (before : List ℕ) → 16 ≤ length before → (get_or before 15 0 % 2 ≡ 1 → ⊥) → before ≡ take 15 before ++ even_selector before ∷ drop 16 before
+pub even_before : (before : List ℕ) → 16 ≤ length before → (get_or before 15 0 % 2 ≡ 1 → ⊥) → MakesEven before before
 even_before before long even =
     sym (take-append-drop 15 before)
     ∙ ap (λ (l : List ℕ). take 15 before ++ l) (drop_more before 15 0 (omega arith))
@@ -44,7 +51,7 @@ module _ (before : List ℕ) (low : 16 ≤ length before) (high : length before 
       ∙ ap (λ (l : List ℕ). take 16 before ++ (0 ∷ []) ++ l) (drop_all 17 before high)
       ∙ append-nil (one_gate before)
 
-  pub gates_by : (new : List ℕ) → Writes 17 (0 ∷ []) (one_gate before) new → new ≡ take 16 before ++ 0 ∷ 0 ∷ []
+  pub gates_by : (new : List ℕ) → Writes 17 (0 ∷ []) (one_gate before) new → MakesGates before new
   gates_by new writes =
       written 17 (0 ∷ []) (one_gate before) new (omega (arith, one_gate_length)) writes
       ∙ ap (λ (l : List ℕ). l ++ (0 ∷ []) ++ drop 18 (one_gate before)) (take_all 17 (one_gate before) (omega (arith, one_gate_length)))
@@ -77,6 +84,14 @@ module _ (before : List ℕ) (low : 16 ≤ length before) (high : length before 
       take_at_gate : take 16 (one_gate before) ≡ take 16 before
       take_at_gate = take_at (take 16 before) (0 ∷ []) 16 front
 
+pub even_selector_even : (before : List ℕ) → even_selector before % 2 ≡ 0
+even_selector_even before = elim (cases_eq (get_or before 15 0 % 2) 1) [
+  | inl odd ↦ ap (λ (n : ℕ). n % 2) (cond-true (get_or before 15 0 % 2 == 1) 0 (get_or before 15 0) (eq-eqb (get_or before 15 0 % 2) 1 odd))
+  | inr even ↦
+      ap (λ (n : ℕ). n % 2) (cond-false (get_or before 15 0 % 2 == 1) 0 (get_or before 15 0) (ne_eqb (get_or before 15 0 % 2) 1 even))
+      ∙ omega arith
+]
+
 -- The content once the selector is even.
 module _ (before : List ℕ) (size : length before ≡ 17) where
   abbrev pub evened : List ℕ
@@ -98,23 +113,33 @@ module _ (before : List ℕ) (size : length before ≡ 17) where
 
   pub even_finishing : (image : List ℕ) → IsMakingEven before image → IsFinishing before image
   even_finishing image making =
-      record { interrupted = size; header = making.0; no_shorter = omega (arith, making.1, size); no_longer = omega (arith, making.1, size); closed = λ long. absurd (omega (arith, making.1, size, long)) }
+      record {
+        interrupted = size;
+        header = making.0;
+        no_shorter = omega (arith, making.1, size);
+        no_longer = omega (arith, making.1, size);
+        even = λ long. absurd (omega (arith, making.1, size, long));
+        closed = λ long. absurd (omega (arith, making.1, size, long));
+      }
 
   pub gates_finishing : (image : List ℕ) → IsMakingGates evened image → IsFinishing before image
   gates_finishing image making =
+      let selector : get_or image 15 0 ≡ even_selector before =
+      sym (get_or-take 16 image 15 0 (omega arith)) ∙ ap (λ (l : List ℕ). get_or l 15 0) (making.header ∙ evened_header) ∙ get_or_at (take 15 before) (even_selector before) [] 0 15 front15 in
       record {
         interrupted = size;
         header = sym (take-take 15 16 image (omega arith)) ∙ ap (λ (l : List ℕ). take 15 l) making.header ∙ take-take 15 16 evened (omega arith) ∙ evened_front;
         no_shorter = omega (arith, making.no_shorter, evened_length);
         no_longer = making.no_longer;
+        even = λ long. ap (λ (n : ℕ). n % 2) selector ∙ even_selector_even before;
         closed = making.closed;
       }
 
-  pub finished_by : (new : List ℕ) → new ≡ take 16 evened ++ 0 ∷ 0 ∷ [] → new ≡ finished before
+  pub finished_by : (new : List ℕ) → MakesGates evened new → new ≡ after_finishing before
   finished_by new is =
       is ∙ ap (λ (l : List ℕ). l ++ 0 ∷ 0 ∷ []) evened_header ∙ append_assoc (take 15 before) (even_selector before ∷ []) (0 ∷ 0 ∷ [])
       ∙ sym (cond-true (nat_lt (length before) 18) _ before (lt-ltb (length before) 18 (omega (arith, size))))
 
 -- what is formatted stays
-pub finished_before : (before : List ℕ) → 18 ≤ length before → before ≡ finished before
+pub finished_before : (before : List ℕ) → 18 ≤ length before → before ≡ after_finishing before
 finished_before before long = sym (cond-false (nat_lt (length before) 18) _ before (le-ltb (length before) 18 long))

@@ -4,19 +4,14 @@ use Rattle.std.proofs.lemmas.Bool.{cond-true, cond-false, cases_Bool, cases_lt, 
 use Rattle.std.proofs.lemmas.Slice.Eq.{bytes_eq-Decides}
 use Rattle.std.proofs.lemmas.List.{take_at, drop_more, get_or-append-add}
 use Rattle.std.proofs.lemmas.List.Elements.{All-drop}
-use Rattle.disk_model.specs.Disk.{IsOctets}
+use Rattle.px_base.specs.Octets.{IsOctets}
 use Rattle.std.specs.Str.{bytes_eq}
 use Rattle.px_base.specs.Numbers.{le32, le32_octets}
 use Rattle.file_journal.specs.Records.{Record, Reading, whole, broken, reading_from}
-use Rattle.file_journal.specs.Journal.{Standing, store, damaged, not_a_store, is_block_number, store_of, journal_of, header, IsSameStore, HasGoodHeader}
-use Rattle.file_journal.specs.Steps.{IsMakingGates}
+use Rattle.file_journal.specs.Journal.{Standing, store, damaged_at, no_store, is_block_number, store_of, journal_of, header_text, IsSameStore, HasGoodHeader}
+use Rattle.file_journal.specs.Formatting.{IsMakingGates}
+use Rattle.file_journal.specs.Header.{HasHeader}
 use Rattle.file_journal.proofs.ReadingLemmas.{reading_closed, broken_later}
-
--- the octets begin with a header of this magic and block number
-pub record HasHeader (magic : List ℕ) (blocks : ℕ) (octets : List ℕ) : Type 0 where
-  pub magic_is : take 8 octets ≡ magic
-  pub blocks_are : le32 octets 8 ≡ blocks
-  pub is_number : is_block_number blocks ≡ true
 
 module _ (magic octets : List ℕ) where
   pub of_short : length octets ≤ 16 → journal_of magic octets ≡ store None []
@@ -27,7 +22,7 @@ module _ (magic octets : List ℕ) where
   longer : (rest : Standing) → 16 < length octets → cond (nat_le (length octets) 16) (store None []) rest ≡ rest
   longer rest long = cond-false (nat_le (length octets) 16) (store None []) rest (lt-leb (length octets) 16 long)
 
-  pub of_foreign : 16 < length octets → take 8 octets ≢ magic → journal_of magic octets ≡ not_a_store (take 8 octets)
+  pub of_foreign : 16 < length octets → take 8 octets ≢ magic → journal_of magic octets ≡ no_store (take 8 octets)
   unfolding journal_of
   of_foreign long foreign =
       longer _ long
@@ -38,7 +33,7 @@ module _ (magic octets : List ℕ) where
   known : (found rest : Standing) → take 8 octets ≡ magic → cond (not (bytes_eq (take 8 octets) magic)) found rest ≡ rest
   known found rest is = cond-false (not (bytes_eq (take 8 octets) magic)) found rest (not_from_true _ ((bytes_eq-Decides (take 8 octets) magic).1 is))
 
-  pub of_bad_number : 16 < length octets → take 8 octets ≡ magic → is_block_number (le32 octets 8) ≡ false → journal_of magic octets ≡ damaged 8
+  pub of_bad_number : 16 < length octets → take 8 octets ≡ magic → is_block_number (le32 octets 8) ≡ false → journal_of magic octets ≡ damaged_at 8
   unfolding journal_of
   of_bad_number long is bad = longer _ long ∙ known _ _ is ∙ cond-true (not (is_block_number (le32 octets 8))) _ _ (not_from_false _ bad)
 
@@ -100,16 +95,16 @@ same_header n magic blocks octets image le same head =
     }
 
 -- a header that is written
-pub header_length : (magic : List ℕ) (blocks : ℕ) → length magic ≡ 8 → length (header magic blocks) ≡ 16
+pub header_length : (magic : List ℕ) (blocks : ℕ) → length magic ≡ 8 → length (header_text magic blocks) ≡ 16
 header_length magic blocks eight =
     omega (arith, eight, length-append magic (le32_octets blocks), length-append (magic ++ le32_octets blocks) (0 ∷ 0 ∷ 0 ∷ 0 ∷ []))
 
-pub header_written : (magic : List ℕ) (blocks : ℕ) (rest : List ℕ) → length magic ≡ 8 → 1 ≤ blocks → blocks ≤ 65536 → HasHeader magic blocks (header magic blocks ++ rest)
+pub header_written : (magic : List ℕ) (blocks : ℕ) (rest : List ℕ) → length magic ≡ 8 → 1 ≤ blocks → blocks ≤ 65536 → HasHeader magic blocks (header_text magic blocks ++ rest)
 header_written magic blocks rest eight some most =
     let tail = 0 ∷ 0 ∷ 0 ∷ 0 ∷ rest in
-    let shape : header magic blocks ++ rest ≡ magic ++ (le32_octets blocks ++ tail) =
+    let shape : header_text magic blocks ++ rest ≡ magic ++ (le32_octets blocks ++ tail) =
     append_assoc (magic ++ le32_octets blocks) (0 ∷ 0 ∷ 0 ∷ 0 ∷ []) rest ∙ append_assoc magic (le32_octets blocks) tail in
-    let at : (i : ℕ) → get_or (header magic blocks ++ rest) (8 + i) 0 ≡ get_or (le32_octets blocks ++ tail) i 0 =
+    let at : (i : ℕ) → get_or (header_text magic blocks ++ rest) (8 + i) 0 ≡ get_or (le32_octets blocks ++ tail) i 0 =
     λ i. ap (λ (l : List ℕ). get_or l (8 + i) 0) shape
     ∙ ap (λ (n : ℕ). get_or (magic ++ (le32_octets blocks ++ tail)) (n + i) 0) (sym eight)
     ∙ get_or-append-add magic (le32_octets blocks ++ tail) i 0 in
@@ -120,14 +115,14 @@ header_written magic blocks rest eight some most =
     }
 
 -- while the gates of a new store are written
-pub new_gates : (magic : List ℕ) (blocks : ℕ) (image : List ℕ) → length magic ≡ 8 → 1 ≤ blocks → blocks ≤ 65536 → IsMakingGates (header magic blocks) image → IsSameStore blocks (store None []) (journal_of magic image)
+pub new_gates : (magic : List ℕ) (blocks : ℕ) (image : List ℕ) → length magic ≡ 8 → 1 ≤ blocks → blocks ≤ 65536 → IsMakingGates (header_text magic blocks) image → IsSameStore blocks (store None []) (journal_of magic image)
 new_gates magic blocks image eight some most making = elim (cases_lt 16 (length image)) [
   | inr short ↦ inl (of_short magic image short)
   | inl long ↦
-      let head = subst (λ (l : List ℕ). HasHeader magic blocks l) (append-nil (header magic blocks)) (header_written magic blocks [] eight some most) in
+      let head = subst (λ (l : List ℕ). HasHeader magic blocks l) (append-nil (header_text magic blocks)) (header_written magic blocks [] eight some most) in
       inr (
         refl,
-        of_empty magic image blocks (same_header 16 magic blocks (header magic blocks) image (omega arith) making.header head) (omega (arith, long))
+        of_empty magic image blocks (same_header 16 magic blocks (header_text magic blocks) image (omega arith) making.header head) (omega (arith, long))
             (λ more is_open. absurd (omega (arith, making.closed more, is_open))),
       )
 ]

@@ -1,9 +1,12 @@
 pub mod AppendLemmas
+pub mod CallLemmas
 pub mod FormatLemmas
 pub mod JournalLemmas
 pub mod MomentLemmas
+pub mod NextLemmas
 pub mod OctetLemmas
 pub mod PositionLemmas
 pub mod PutLemmas
 pub mod ReadingLemmas
 pub mod RecoverLemmas
+pub mod ToldLemmas

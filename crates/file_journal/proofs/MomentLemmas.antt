@@ -1,29 +1,6 @@
--- How a run of disk calls goes on, and what holds where content is told.
-use Rattle.std.proofs.Common.{◌≡◌, inl, inr, ⊎_elim, ℕ, List, Option, None, Some, IfSome, IsSome, is_some, refl, sym, ◌∙◌, ap, subst, true≢false, arith}
-use Rattle.disk_model.specs.Disk.{Elapses, HasContent, IsTold, Only, SamePast}
-use Rattle.std.proofs.lemmas.Option.{same_Some}
-use Rattle.file_journal.specs.Moments.{LeavesOnly}
-
--- to show a fact of what is told, and to use one
-pub if_told : {A : Type 0} (o : Option A) (P : A → Type 0) → ((x : A) → o ≡ Some x → P x) → IfSome o P
-if_told None P shows = tt
-if_told (Some x) P shows = shows x refl
-
-pub at_told : {A : Type 0} {o : Option A} (P : A → Type 0) (x : A) → o ≡ Some x → IfSome o P → P x
-at_told P x is holds = subst (λ o. IfSome o P) is holds
-
--- what is told after a call was told before it
-pub told_before : {A : Type 0} (before now : Option A) (x : A) → (IsSome now → IsSome before) → now ≡ Some x → (y : A) × (before ≡ Some y)
-told_before None now x untold is = absurd (true≢false (sym (untold (ap is_some is))))
-told_before (Some y) now x untold is = (y, refl)
-
--- what is quiet after a call, where it is what it leaves where it is told
-pub quiet_now : (before now : Option (List ℕ)) (images : List ℕ → Type 0) (step : List ℕ → List ℕ → Type 0) → (IsTold now → IsTold before)
-    → HasContent before now (λ old new. step old new × Only images new) → IfSome now (Only images)
-quiet_now before now images step untold has = if_told now (Only images) (λ x told.
-    let was = told_before before now x untold told in
-    let new = at_told _ was.0 was.1 has in
-    subst (λ (l : List ℕ). Only images l) (same_Some new.0 x (sym new.1 ∙ told)) new.2.1)
+-- How a run of disk calls goes on.
+use Rattle.std.proofs.Common.{◌≡◌, inl, inr, ⊎_elim, ℕ, List, arith}
+use Rattle.disk_model.specs.Moments.{Elapses, LeavesOnly, SamePast}
 
 module _ {D : Type 0} (moment : D → ℕ) (since : D → ℕ → List ℕ → Type 0) where
   -- before the first call

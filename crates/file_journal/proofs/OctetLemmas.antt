@@ -1,6 +1,7 @@
 -- What writes, whole and torn, make of octets.
-use Rattle.std.proofs.Common.{◌≡◌, ℕ, ◌+◌, ◌<◌, ◌≤◌, List, ◌∷◌, ◌++◌, length, get_or, take, drop, sym, ◌∙◌, ap, ap₂, arith, append_assoc, take-append-drop, take-take, take_all, drop-drop, get_or-take}
-use Rattle.std.proofs.lemmas.List.{drop_more}
+use Rattle.std.proofs.Common.{◌≡◌, inl, inr, ℕ, ◌+◌, ◌-◌, ◌<◌, ◌≤◌, List, ◌∷◌, ◌++◌, length, get_or, take, drop, sym, ◌∙◌, ap, ap₂, subst, arith, length-take, append_assoc, take-append-drop, take-take, take_all, drop-drop, get_or-take}
+use Rattle.std.proofs.lemmas.Bool.{cases_lt}
+use Rattle.std.proofs.lemmas.List.{drop-take, drop_all, drop_more, take_rest}
 use Rattle.px_base.specs.Numbers.{le32}
 use Rattle.disk_model.specs.Disk.{Writes, Torn}
 
@@ -52,3 +53,21 @@ front16 octets room is =
       at 15 (omega arith),
       ap (λ (l : List ℕ). take 8 l) is ∙ take-take 8 16 octets (omega arith),
     )
+
+-- what is the same behind a place is so in as many octets as before
+pub kept_back : (k : ℕ) (old new : List ℕ) → drop k new ≡ drop k old → drop k (take (length old) new) ≡ drop k old
+kept_back k old new same = elim (cases_lt k (length old)) [
+  | inl inside ↦
+      ap (λ (n : ℕ). drop k (take n new)) (let parts : length old ≡ k + (length old - k) = omega arith in parts)
+      ∙ drop-take k (length old - k) new ∙ ap (λ (l : List ℕ). take (length old - k) l) same ∙ take_rest old k
+  | inr past ↦ drop_all k (take (length old) new) (omega (arith, length-take (length old) new, past)) ∙ sym (drop_all k old past)
+]
+
+-- what is torn behind an octet is torn from that octet on
+pub torn_wider : (at n : ℕ) (old new : List ℕ) → Torn (at + 1) n old new → Torn at (n + 1) old new
+torn_wider at n old new torn = record {
+  before = sym (take-take at (at + 1) (take (length old) new) (omega arith)) ∙ ap (λ (l : List ℕ). take at l) torn.before ∙ take-take at (at + 1) old (omega arith);
+  after = subst (λ (i : ℕ). drop i (take (length old) new) ≡ drop i old) (let same : at + 1 + n ≡ at + (n + 1) = omega arith in same) torn.after;
+  no_shorter = torn.no_shorter;
+  no_longer = omega (arith, torn.no_longer);
+}

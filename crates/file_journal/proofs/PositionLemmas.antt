@@ -1,11 +1,10 @@
 -- The journal's place among the records.
 use Rattle.std.proofs.Common.{◌≡◌, inl, inr, ℕ, ◌+◌, List, [], ◌∷◌, ◌++◌, length, drop, Option, IfSome, refl, sym, ◌∙◌, ap, arith, append_assoc, length-append}
 use Rattle.std.specs.List.{AllByRecursion}
-use Rattle.disk_model.specs.Disk.{SameImages}
-use Rattle.file_journal.specs.Records.{Record, IsRecord, record_text, records_text, Reading, with_record, with_records, reading_from}
+use Rattle.file_journal.specs.Records.{Record, IsRecord, record_text, records_text, Reading, with_record, with_records, reading_at}
 use Rattle.file_journal.specs.Journal.{store_of}
-use Rattle.file_journal.specs.Position.{Position, left, IsAt, StandsOn}
-use Rattle.file_journal.proofs.MomentLemmas.{if_told, at_told}
+use Rattle.file_journal.specs.Position.{Position, left_to_read, IsAt, StandsAmong}
+use Rattle.file_journal.proofs.ToldLemmas.{at_told, if_told}
 use Rattle.file_journal.proofs.ReadingLemmas.{read_on, no_record}
 
 pub records_text-append : (entries others : List Record) → records_text (entries ++ others) ≡ records_text entries ++ records_text others
@@ -25,25 +24,26 @@ with_records-append (entry ∷ entries) others reading = ap (with_record entry) 
 
 -- The journal moves on over a record that it has read.
 module _ (journal : Position) (place : ℕ) (entry : Record) (is_place : place ≡ journal.place + 4 + length entry.content) where
-  moved_at : (passed : List Record) (octets : List ℕ) (next : Reading) → IsAt journal passed octets → left journal octets ≡ with_record entry next
-      → IsAt (record journal { place = place }) (passed ++ entry ∷ []) octets × (left (record journal { place = place }) octets ≡ next)
+  moved_at : (passed : List Record) (octets : List ℕ) (next : Reading) → IsAt journal passed octets → left_to_read journal octets ≡ with_record entry next
+      → IsAt (record journal { place = place }) (passed ++ entry ∷ []) octets × (left_to_read (record journal { place = place }) octets ≡ next)
   moved_at passed octets next is_at found =
       let on = read_on journal.place octets entry next found in
-      let now : reading_from place (drop place octets) ≡ next = ap (λ (i : ℕ). reading_from i (drop i octets)) is_place ∙ on.1 in (
+      let now : reading_at place octets ≡ next = ap (λ (i : ℕ). reading_at i octets) is_place ∙ on.1 in (
         record {
+          are_octets = is_at.are_octets;
           formatted = is_at.formatted;
           place = is_place ∙ omega (arith, is_at.place, length-records_text-push passed entry);
           records =
               is_at.records ∙ ap (λ (r : Reading). store_of journal.blocks (with_records passed r)) (found ∙ ap (with_record entry) (sym now))
-              ∙ ap (store_of journal.blocks) (sym (with_records-append passed (entry ∷ []) (reading_from place (drop place octets))));
+              ∙ ap (store_of journal.blocks) (sym (with_records-append passed (entry ∷ []) (reading_at place octets)));
           ended = λ end. absurd (no_record entry next (sym found ∙ is_at.ended end));
         },
         now,
       )
 
-  pub moved : (content now : Option (List ℕ)) (images later : List ℕ → Type 0) → now ≡ content → SameImages images later
-      → IfSome content (λ octets. left journal octets ≡ with_record entry (reading_from place (drop place octets)))
-      → StandsOn journal content images → StandsOn (record journal { place = place }) now later
+  pub moved : (content now : Option (List ℕ)) (images later : List ℕ → Type 0) → now ≡ content → ((image : List ℕ) → later image → images image)
+      → IfSome content (λ octets. left_to_read journal octets ≡ with_record entry (reading_at place octets))
+      → StandsAmong journal content images → StandsAmong (record journal { place = place }) now later
   moved content now images later same same_images found (inl failed) = inl failed
   moved content now images later same same_images found (inr stands) =
       inr (if_told now _ (λ octets told.
@@ -54,7 +54,7 @@ module _ (journal : Position) (place : ℕ) (entry : Record) (is_place : place �
         at.0 ++ entry ∷ [],
         moved_here.0,
         λ image left_there.
-            let there = at.2 image ((same_images image).0 left_there) in
+            let there = at.2 image (same_images image left_there) in
             let moved_there = moved_at at.0 image _ there.0 (there.1 ∙ here) in
             (moved_there.0, moved_there.1),
       )))

@@ -1,8 +1,8 @@
 -- What a crash leaves while a record is put behind a gate.
 use Rattle.std.proofs.Common.{◌≡◌, inr, ℕ, ◌+◌, ◌<◌, List, [], ◌∷◌, ◌++◌, length, get_or, take, drop, sym, ◌∙◌, ap, ap₂, subst, arith, append_assoc, length-append, take-take}
 use Rattle.std.proofs.lemmas.List.{take-append-le, drop_at, length-take-le}
-use Rattle.disk_model.specs.Disk.{Writes, Torn, Follows, Only}
-use Rattle.file_journal.specs.Steps.{IsPutting, with_gate}
+use Rattle.disk_model.specs.Disk.{Torn, Writes}
+use Rattle.file_journal.specs.Appending.{IsPutting, OpensGate, with_gate}
 use Rattle.file_journal.proofs.OctetLemmas.{written, torn_octet}
 
 -- the content with a record behind the gate, which is as it was
@@ -37,15 +37,12 @@ module _ (place : ℕ) (text before : List ℕ) (there : place < length before) 
   pub staged_by : (new : List ℕ) → Writes (place + 1) text before new → new ≡ staged place text before
   staged_by new writes = written (place + 1) text before new (omega arith) writes
 
-  pub opened_by : (new : List ℕ) → Writes place (1 ∷ []) (staged place text before) new → new ≡ with_gate place 1 text before
+  pub opened_by : (new : List ℕ) → Writes place (1 ∷ []) (staged place text before) new → OpensGate place text before new
   opened_by new writes =
       written place (1 ∷ []) (staged place text before) new (omega (arith, staged_long)) writes
       ∙ append_assoc (take place (staged place text before)) (1 ∷ []) (drop (place + 1) (staged place text before))
       ∙ gated 1
 
   -- each image after the gate's write has the record whole
-  pub gate_crash : (old images now : List ℕ → Type 0) → Only images (staged place text before) → Follows (Torn place 1) images now → (image : List ℕ) → now image → IsPutting place text before old image
-  gate_crash old images now only follows image left =
-      let from = follows image left in
-      let torn : Torn place 1 (staged place text before) image = subst (λ (l : List ℕ). Torn place 1 l image) (only from.0 from.1) from.2 in
-      inr (get_or image place 0, torn_octet place (staged place text before) image staged_long torn ∙ gated (get_or image place 0))
+  pub gate_crash : (images : List ℕ → Type 0) (image : List ℕ) → Torn place 1 (staged place text before) image → IsPutting place text images before image
+  gate_crash images image torn = inr (get_or image place 0, torn_octet place (staged place text before) image staged_long torn ∙ gated (get_or image place 0))

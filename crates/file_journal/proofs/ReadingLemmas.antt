@@ -5,7 +5,7 @@ use Rattle.std.proofs.lemmas.List.{take_at, drop_at, drop_more, drop_all, length
 use Rattle.std.proofs.lemmas.List.Elements.{All-take, All-drop, All-head, All-tail}
 use Rattle.std.specs.List.{AllByRecursion}
 use Rattle.px_base.specs.Numbers.{le16}
-use Rattle.disk_model.specs.Disk.{IsOctets}
+use Rattle.px_base.specs.Octets.{IsOctets}
 use Rattle.file_journal.specs.Records.{Record, IsRecord, record_text, records_text, StartsClosed, StartsCut, Reading, whole, broken, StandsFrom, record_len, starts_whole, record_in, with_record, with_records, reading_within, reading_from}
 
 -- what is made of what follows a gate's record

@@ -1,75 +1,100 @@
--- What a recovery answers, and where its journal stands.
-use Rattle.std.proofs.Common.{◌≡◌, ◌↔◌, inl, inr, ℕ, ◌<◌, ◌≤◌, nat_lt, false, List, [], ◌∷◌, ◌++◌, length, get_or, take, Option, Some, Result, Ok, Err, refl, sym, ◌∙◌, ap, subst, arith, append_assoc, length-append, true≢false}
-use Rattle.std.proofs.lemmas.List.{get_or_at, take_at, length-take-le}
-use Rattle.std.proofs.lemmas.Bool.{cases_lt, cond-true, lt-ltb}
-use Rattle.disk_model.specs.Disk.{Only}
+-- What a recovery leaves of a content, what it answers, and where its journal stands.
+use Rattle.std.proofs.Common.{◌≡◌, ◌↔◌, inl, inr, ℕ, ◌+◌, ◌%◌, ◌<◌, ◌≤◌, nat_le, nat_lt, false, List, [], ◌∷◌, ◌++◌, length, get_or, take, Option, Some, IfSome, Result, Ok, Err, refl, sym, ◌∙◌, ap, subst, arith, append_assoc, length-append, get_or-take, take-take, true≢false}
+use Rattle.std.proofs.lemmas.List.{get_or-append-add, get_or_at, take-append-le, take_at, length-take-le}
+use Rattle.std.proofs.lemmas.Bool.{cases_lt, cond-false, cond-true, le-ltb, le-leb, lt-leb, lt-ltb}
+use Rattle.px_base.specs.Numbers.{le32_octets}
+use Rattle.px_base.specs.Octets.{IsOctets}
+use Rattle.disk_model.specs.Disk.{HasContent, Only}
+use Rattle.disk_model.specs.declared.disk.Disk.{Ghosts}
 use Rattle.file_journal.specs.declared.faults.RecoverFault.{RecoverFault}
 use Rattle.file_journal.specs.declared.faults.RecoverFault.TheVariants as fault
-use Rattle.file_journal.specs.Journal.{Standing, store, not_a_store, damaged, journal_of, header, even_selector, finished}
-use Rattle.file_journal.specs.Position.{Position, left, IsAt, StandsOn}
-use Rattle.file_journal.specs.Steps.{IsFinishing}
-use Rattle.file_journal.proofs.JournalLemmas.{HasHeader, header_written, header_length, of_17, of_full, of_empty, same_header}
-use Rattle.file_journal.proofs.MomentLemmas.{if_told}
+use Rattle.file_journal.specs.Calls.{ChangesReads, IsQuietNow, Leaves, TellsAlike, images_now}
+use Rattle.file_journal.specs.Formatting.{IsFinishing, IsMakingGates}
+use Rattle.file_journal.specs.Header.{HasHeader}
+use Rattle.file_journal.specs.Journal.{Standing, store, no_store, damaged_at, journal_of, header_text, even_selector, after_finishing, after_recovery, HasGoodHeader, IsSameStore, store_of}
+use Rattle.file_journal.specs.Position.{Position, left_to_read, IsAt, StandsAmong, StandsOn}
+use Rattle.file_journal.specs.Recovery.{IsRecovered, IsRecovering, RefusesExactly}
 use Rattle.file_journal.proofs.FormatLemmas.{finished_before}
+use Rattle.file_journal.proofs.JournalLemmas.{header_length, header_written, new_gates, of_17, of_bad_number, of_empty, of_foreign, of_full, of_short, same_header}
+use Rattle.file_journal.proofs.ToldLemmas.{at_told, content_now, if_told, told_weaker}
+use Rattle.file_journal.proofs.MomentLemmas.{joined, reads, weaker}
 
--- a refusal is for what the content stands for
-abbrev pub IsCause : Standing → RecoverFault → Type 0
-IsCause standing (fault.NotAStore found) = standing ≡ not_a_store found
-IsCause standing (fault.Damaged at) = (at ≡ 8) × (standing ≡ damaged 8)
-IsCause standing fault.Disk = Unit {0}
+-- Refusals.
+module _ (magic before : List ℕ) where
+  -- a store is refused nowhere
+  pub refuses_none : {T : Type 0} (x : T) → ((found : List ℕ) → journal_of magic before ≡ no_store found → ⊥) → (journal_of magic before ≡ damaged_at 8 → ⊥) → RefusesExactly magic before (Ok x)
+  refuses_none x foreign bad = record {
+    not_a_store = λ found. (λ same. absurd (cc same), λ is. absurd (foreign found is));
+    damaged = λ at. (λ same. absurd (cc same), λ is. absurd (bad is.1));
+  }
 
-pub cause : (standing : Standing) (e : RecoverFault) → ((found : List ℕ) → e ≡ fault.NotAStore found → standing ≡ not_a_store found)
-    → ((at : ℕ) → e ≡ fault.Damaged at → (at ≡ 8) × (standing ≡ damaged 8)) → IsCause standing e
-cause standing (fault.NotAStore found) foreign bad = foreign found refl
-cause standing (fault.Damaged at) foreign bad = bad at refl
-cause standing fault.Disk foreign bad = tt
+  pub refuses_foreign : {T : Type 0} (result : Result T RecoverFault) (found : List ℕ) → result ≡ Err (fault.NotAStore found) → journal_of magic before ≡ no_store found → RefusesExactly magic before result
+  refuses_foreign result found answer is = record {
+    not_a_store = λ other. (λ same. is ∙ ap no_store (cc (sym answer ∙ same)), λ now. answer ∙ ap (λ (l : List ℕ). Err (fault.NotAStore l)) (cc (sym is ∙ now)));
+    damaged = λ at. (λ same. absurd (cc (sym answer ∙ same)), λ now. absurd (cc (sym is ∙ now.1)));
+  }
 
-module _ {J : Type 0} (standing : Standing) (result : Result J RecoverFault) where
-  pub foreign_exactly : (e : RecoverFault) → result ≡ Err e → IsCause standing e → (found : List ℕ) → ((result ≡ Err fault.Disk) → ⊥) → (result ≡ Err (fault.NotAStore found)) ↔ (standing ≡ not_a_store found)
-  foreign_exactly (fault.NotAStore f) is is_cause found healthy =
-      (λ same. is_cause ∙ ap not_a_store (cc (sym is ∙ same)), λ foreign. is ∙ ap (λ (l : List ℕ). Err (fault.NotAStore l)) (cc (sym is_cause ∙ foreign)))
-  foreign_exactly (fault.Damaged at) is is_cause found healthy = (λ same. absurd (cc (sym is ∙ same)), λ foreign. absurd (cc (sym is_cause.1 ∙ foreign)))
-  foreign_exactly fault.Disk is is_cause found healthy = absurd (healthy is)
+  pub refuses_bad : {T : Type 0} (result : Result T RecoverFault) → result ≡ Err (fault.Damaged 8) → journal_of magic before ≡ damaged_at 8 → RefusesExactly magic before result
+  refuses_bad result answer is = record {
+    not_a_store = λ found. (λ same. absurd (cc (sym answer ∙ same)), λ now. absurd (cc (sym is ∙ now)));
+    damaged = λ at. (λ same. (let n : 8 ≡ at = cc (sym answer ∙ same) in sym n, is), λ now. answer ∙ ap (λ (i : ℕ). Err (fault.Damaged i)) (sym now.0));
+  }
 
-  pub bad_exactly : (e : RecoverFault) → result ≡ Err e → IsCause standing e → (at : ℕ) → ((result ≡ Err fault.Disk) → ⊥) → (result ≡ Err (fault.Damaged at)) ↔ ((at ≡ 8) × (standing ≡ damaged 8))
-  bad_exactly (fault.NotAStore f) is is_cause at healthy = (λ same. absurd (cc (sym is ∙ same)), λ bad. absurd (cc (sym is_cause ∙ bad.1)))
-  bad_exactly (fault.Damaged n) is is_cause at healthy =
-      (λ same. (let n_is : n ≡ at = cc (sym is ∙ same) in sym n_is ∙ is_cause.0, is_cause.1), λ bad. is ∙ ap (λ (i : ℕ). Err (fault.Damaged i)) (is_cause.0 ∙ sym bad.0))
-  bad_exactly fault.Disk is is_cause at healthy = absurd (healthy is)
+  -- the refusal that was answered is handed on, and so is none
+  pub refuses_same : {T U : Type 0} (result : Result T RecoverFault) (other : Result U RecoverFault) (e : RecoverFault) → result ≡ Err e → other ≡ Err e → RefusesExactly magic before result → RefusesExactly magic before other
+  refuses_same result other e is other_is refuses = record {
+    not_a_store = λ found. (
+      λ same. (refuses.not_a_store found).0 (is ∙ ap Err (cc (sym other_is ∙ same))),
+      λ now. other_is ∙ ap Err (cc (sym is ∙ (refuses.not_a_store found).1 now)),
+    );
+    damaged = λ at. (
+      λ same. (refuses.damaged at).0 (is ∙ ap Err (cc (sym other_is ∙ same))),
+      λ now. other_is ∙ ap Err (cc (sym is ∙ (refuses.damaged at).1 now)),
+    );
+  }
 
-  -- a store isn't refused
-  pub foreign_never : (x : J) → result ≡ Ok x → ((found : List ℕ) → standing ≡ not_a_store found → ⊥) → (found : List ℕ) → ((result ≡ Err fault.Disk) → ⊥) → (result ≡ Err (fault.NotAStore found)) ↔ (standing ≡ not_a_store found)
-  foreign_never x is never found healthy = (λ same. absurd (cc (sym is ∙ same)), λ foreign. absurd (never found foreign))
+  pub refuses_still : {T U : Type 0} (x : T) (y : U) → RefusesExactly magic before (Ok x) → RefusesExactly magic before (Ok y)
+  refuses_still x y refuses = record {
+    not_a_store = λ found. (λ same. absurd (cc same), λ now. absurd (let bad = (refuses.not_a_store found).1 now in cc bad));
+    damaged = λ at. (λ same. absurd (cc same), λ now. absurd (let bad = (refuses.damaged at).1 now in cc bad));
+  }
 
-  pub bad_never : (x : J) → result ≡ Ok x → (standing ≡ damaged 8 → ⊥) → (at : ℕ) → ((result ≡ Err fault.Disk) → ⊥) → (result ≡ Err (fault.Damaged at)) ↔ ((at ≡ 8) × (standing ≡ damaged 8))
-  bad_never x is never at healthy = (λ same. absurd (cc (sym is ∙ same)), λ bad. absurd (never bad.1))
+-- the refusal of a content by its header
+pub refusal_of : {T : Type 0} (magic octets : List ℕ) (result : Result T RecoverFault) → ((x : T) → result ≡ Ok x → HasGoodHeader (journal_of magic octets))
+    → ((found : List ℕ) → result ≡ Err (fault.NotAStore found) → journal_of magic octets ≡ no_store found)
+    → ((at : ℕ) → result ≡ Err (fault.Damaged at) → (at ≡ 8) × (journal_of magic octets ≡ damaged_at 8)) → ¬ (result ≡ Err fault.Disk) → RefusesExactly magic octets result
+refusal_of magic octets (Ok x) good foreign bad healthy = let is = good x refl in refuses_none magic octets x is.0 is.1
+refusal_of magic octets (Err (fault.NotAStore found)) good foreign bad healthy = refuses_foreign magic octets (Err (fault.NotAStore found)) found refl (foreign found refl)
+refusal_of magic octets (Err (fault.Damaged at)) good foreign bad healthy =
+    let is = bad at refl in refuses_bad magic octets (Err (fault.Damaged at)) (ap (λ (i : ℕ). Err (fault.Damaged i)) is.0) is.1
+refusal_of magic octets (Err fault.Disk) good foreign bad healthy = absurd (healthy refl)
 
 -- A journal at its first gate.
 abbrev pub first_gate : List ℕ → ℕ → Position
 first_gate magic blocks = record { magic = magic; blocks = blocks; place = 16; ended = false; failed = false }
 
-pub first_at : (magic : List ℕ) (blocks : ℕ) (now : List ℕ) → HasHeader magic blocks now → 18 ≤ length now → IsAt (first_gate magic blocks) [] now
-first_at magic blocks now head long = record { formatted = long; place = refl; records = of_full magic now blocks head long; ended = λ end. absurd (true≢false (sym end)) }
+pub first_at : (magic : List ℕ) (blocks : ℕ) (now : List ℕ) → HasHeader magic blocks now → 18 ≤ length now → IsOctets now → IsAt (first_gate magic blocks) [] now
+first_at magic blocks now head long are = record { are_octets = are; formatted = long; place = refl; records = of_full magic now blocks head long; ended = λ end. absurd (true≢false (sym end)) }
 
 pub first_stands : (magic : List ℕ) (blocks : ℕ) (content : Option (List ℕ)) (images : List ℕ → Type 0)
-    → ((now : List ℕ) → content ≡ Some now → HasHeader magic blocks now × (18 ≤ length now) × Only images now) → StandsOn (first_gate magic blocks) content images
+    → ((now : List ℕ) → content ≡ Some now → HasHeader magic blocks now × (18 ≤ length now) × IsOctets now × Only images now) → StandsAmong (first_gate magic blocks) content images
 first_stands magic blocks content images shows = inr (if_told content _ (λ now told.
     let is = shows now told in
-    let at = first_at magic blocks now is.0 is.1 in (
+    let at = first_at magic blocks now is.0 is.1 is.2 in (
       [],
       at,
       λ image here.
-          let same = is.2 image here in
-          (subst (λ (l : List ℕ). IsAt (first_gate magic blocks) [] l) (sym same) at, ap (left (first_gate magic blocks)) same),
+          let same = is.3 image here in
+          (subst (λ (l : List ℕ). IsAt (first_gate magic blocks) [] l) (sym same) at, ap (left_to_read (first_gate magic blocks)) same),
     )))
 
 -- a new store
-pub new_store : (magic : List ℕ) (blocks : ℕ) (now : List ℕ) → length magic ≡ 8 → 1 ≤ blocks → blocks ≤ 65536 → now ≡ header magic blocks ++ 0 ∷ 0 ∷ []
+pub new_store : (magic : List ℕ) (blocks : ℕ) (now : List ℕ) → length magic ≡ 8 → 1 ≤ blocks → blocks ≤ 65536 → now ≡ header_text magic blocks ++ 0 ∷ 0 ∷ []
     → HasHeader magic blocks now × (18 ≤ length now) × (journal_of magic now ≡ store (Some blocks) [])
 new_store magic blocks now eight some most is =
     let head = subst (λ (l : List ℕ). HasHeader magic blocks l) (sym is) (header_written magic blocks (0 ∷ 0 ∷ []) eight some most) in
-    let size : length now ≡ 18 = ap length is ∙ omega (arith, header_length magic blocks eight, length-append (header magic blocks) (0 ∷ 0 ∷ [])) in
-    let gate : get_or now 16 0 ≡ 0 = ap (λ (l : List ℕ). get_or l 16 0) is ∙ get_or_at (header magic blocks) 0 (0 ∷ []) 0 16 (header_length magic blocks eight) in
+    let size : length now ≡ 18 = ap length is ∙ omega (arith, header_length magic blocks eight, length-append (header_text magic blocks) (0 ∷ 0 ∷ [])) in
+    let gate : get_or now 16 0 ≡ 0 = ap (λ (l : List ℕ). get_or l 16 0) is ∙ get_or_at (header_text magic blocks) 0 (0 ∷ []) 0 16 (header_length magic blocks eight) in
     (head, omega (arith, size), of_empty magic now blocks head (omega (arith, size)) (λ more is_open. absurd (omega (arith, gate, is_open))))
 
 -- a store whose formatting is done to its end
@@ -79,7 +104,7 @@ finishing magic blocks before image head making =
     (λ more is_open. absurd (omega (arith, making.closed more, is_open)))
     ∙ sym (of_17 magic before blocks head making.interrupted)
 
-pub finished_store : (magic : List ℕ) (blocks : ℕ) (before now : List ℕ) → 16 < length before → HasHeader magic blocks before → now ≡ finished before
+pub finished_store : (magic : List ℕ) (blocks : ℕ) (before now : List ℕ) → 16 < length before → HasHeader magic blocks before → now ≡ after_finishing before
     → HasHeader magic blocks now × (18 ≤ length now) × (journal_of magic now ≡ journal_of magic before)
 finished_store magic blocks before now long head is = elim (cases_lt (length before) 18) [
   | inr whole ↦
@@ -102,3 +127,140 @@ finished_store magic blocks before now long head is = elim (cases_lt (length bef
         of_empty magic now blocks now_head (omega (arith, now_length)) (λ more is_open. absurd (omega (arith, gate, is_open))) ∙ sym (of_17 magic before blocks head size),
       )
 ]
+
+-- What a recovery leaves of a content.
+module _ (magic : List ℕ) (blocks : ℕ) (before : List ℕ) where
+  -- more than 16 octets
+  pub known_after : 16 < length before → after_recovery magic blocks before ≡ after_finishing before
+  known_after long = cond-false (nat_le (length before) 16) (header_text magic blocks ++ 0 ∷ 0 ∷ []) (after_finishing before) (lt-leb (length before) 16 long)
+
+  -- more than 16 octets keep their first 15
+  kept_front : 16 < length before → length before < 18 → take 15 (after_recovery magic blocks before) ≡ take 15 before
+  kept_front long short =
+      ap (λ (l : List ℕ). take 15 l)
+      (known_after long
+      ∙ cond-true (nat_lt (length before) 18) (take 15 before ++ even_selector before ∷ 0 ∷ 0 ∷ []) before (lt-ltb (length before) 18 short))
+      ∙ take_at (take 15 before) (even_selector before ∷ 0 ∷ 0 ∷ []) 15 (length-take-le 15 before (omega (arith, long)))
+
+  -- the content as it was
+  pub recovering_same : IsRecovering magic blocks before before
+  recovering_same = record {
+    same = inl refl;
+    formatted = λ long. refl;
+    no_longer = λ short. omega (arith, short);
+    header = λ long. elim (cases_lt (length before) 18) [
+      | inr whole ↦ ap (λ (l : List ℕ). take 15 l) (finished_before before whole ∙ sym (known_after long))
+      | inl short ↦ sym (kept_front long short)
+    ];
+    even = λ short long. absurd (omega (arith, short, long));
+    closed = λ short long. absurd (omega (arith, short, long));
+  }
+
+  -- an interrupted formatting
+  pub recovering_finishing : (number : ℕ) (image : List ℕ) → HasHeader magic number before → IsFinishing before image → IsRecovering magic blocks before image
+  recovering_finishing number image head making = record {
+    same = inl (finishing magic number before image head making);
+    formatted = λ long. absurd (omega (arith, making.interrupted, long));
+    no_longer = λ short. making.no_longer;
+    header = λ long. making.header ∙ sym (kept_front (omega (arith, making.interrupted)) (omega (arith, making.interrupted)));
+    even = λ short long. making.even long;
+    closed = λ short long. making.closed long;
+  }
+
+  -- a new store
+  module _ (short : length before ≤ 16) where
+    pub new_after : after_recovery magic blocks before ≡ header_text magic blocks ++ 0 ∷ 0 ∷ []
+    new_after = cond-true (nat_le (length before) 16) (header_text magic blocks ++ 0 ∷ 0 ∷ []) (after_finishing before) (le-leb (length before) 16 short)
+
+    pub recovering_short : (image : List ℕ) → length image ≤ 16 → IsRecovering magic blocks before image
+    recovering_short image short_now = record {
+      same = inl (of_short magic image short_now ∙ sym (of_short magic before short));
+      formatted = λ long. absurd (omega (arith, long));
+      no_longer = λ less. omega (arith, short_now);
+      header = λ long. absurd (omega (arith, long));
+      even = λ less long. absurd (omega (arith, long));
+      closed = λ less long. absurd (omega (arith, long));
+    }
+
+    pub recovering_gates : (image : List ℕ) → length magic ≡ 8 → 1 ≤ blocks → blocks ≤ 65536 → IsMakingGates (header_text magic blocks) image → IsRecovering magic blocks before image
+    recovering_gates image eight some most making = record {
+      same = subst (λ (s : Standing). IsSameStore blocks s (journal_of magic image)) (sym (of_short magic before short)) (new_gates magic blocks image eight some most making);
+      formatted = λ long. absurd (omega (arith, long));
+      no_longer = λ less. making.no_longer;
+      header = λ long.
+          sym (take-take 15 16 image (omega arith)) ∙ ap (λ (l : List ℕ). take 15 l) making.header ∙ take-take 15 16 (header_text magic blocks) (omega arith)
+          ∙ sym (ap (λ (l : List ℕ). take 15 l) new_after ∙ take-append-le 15 (header_text magic blocks) (0 ∷ 0 ∷ []) (omega (arith, size)));
+      even = λ less long. ap (λ (n : ℕ). n % 2) selector;
+      closed = λ less long. making.closed long;
+    }
+      where
+        size : length (header_text magic blocks) ≡ 16
+        size = header_length magic blocks eight
+
+        get_or_at_end : get_or (header_text magic blocks) 15 0 ≡ 0
+        get_or_at_end =
+            ap (λ (n : ℕ). get_or (header_text magic blocks) n 0) (let at : 15 ≡ length (magic ++ le32_octets blocks) + 3 = omega (arith, eight, length-append magic (le32_octets blocks)) in at)
+            ∙ get_or-append-add (magic ++ le32_octets blocks) (0 ∷ 0 ∷ 0 ∷ 0 ∷ []) 3 0
+
+        selector : get_or image 15 0 ≡ 0
+        selector =
+            sym (get_or-take 16 image 15 0 (omega arith)) ∙ ap (λ (l : List ℕ). get_or l 15 0) making.header ∙ get_or-take 16 (header_text magic blocks) 15 0 (omega arith)
+            ∙ get_or_at_end
+
+-- What a recovery of a disk gives.
+module _ {D : Type 0} (g : Ghosts D) (magic : List ℕ) (blocks : ℕ) where
+  -- a store that has this header now, and the records from before
+  pub record IsFormatted (number : ℕ) (before now : List ℕ) : Type 0 where
+    pub head : HasHeader magic number now
+    pub long : 18 ≤ length now
+    pub octets : now ≡ after_recovery magic blocks before
+    pub same : IsSameStore blocks (journal_of magic before) (journal_of magic now)
+
+  pub recovered : (old new : D) (number : ℕ) (journal : Position) → journal ≡ first_gate magic number → TellsAlike (g.content old) (g.content new) → IsQuietNow g new
+      → IfSome (g.content new) (λ now. IsOctets now) → HasContent (g.content old) (g.content new) (IsFormatted number) → IsRecovered g magic blocks old new journal
+  recovered old new number journal is alike rest are has = record {
+    magic_is = ap (λ (journal : Position). journal.magic) is;
+    place = ap (λ (journal : Position). journal.place) is;
+    unread = ap (λ (journal : Position). journal.ended) is;
+    healthy = ap (λ (journal : Position). journal.failed) is;
+    content = told_weaker (g.content old) _ _ (λ before told now. (
+      now.0,
+      now.1,
+      record {
+        octets = now.2.octets;
+        number = ap (λ (journal : Position). journal.blocks) is ∙ sym now.2.head.blocks_are;
+        same = now.2.same;
+        whole = subst (λ (journal : Position). journal_of magic now.0 ≡ store_of journal.blocks (left_to_read journal now.0)) (sym is) (of_full magic now.0 number now.2.head now.2.long);
+      },
+    )) has;
+    quiet = rest;
+    stands_on = subst (λ (journal : Position). StandsOn g journal new) (sym is) (first_stands magic number (g.content new) (images_now g new) (λ now told.
+        let was = content_now _ _ (IsFormatted number) now alike has told in
+        (was.2.head, was.2.long, at_told _ now told are, at_told (Only (images_now g new)) now told rest)));
+  }
+
+  -- of at most 16 octets
+  pub new_formatted : (old new : D) → length magic ≡ 8 → 1 ≤ blocks → blocks ≤ 65536 → IfSome (g.content old) (λ before. length before ≤ 16)
+      → HasContent (g.content old) (g.content new) (λ before now. now ≡ after_recovery magic blocks before) → HasContent (g.content old) (g.content new) (IsFormatted blocks)
+  new_formatted old new eight some most short has = told_weaker (g.content old) _ _ (λ before told now.
+      let less = at_told _ before told short in
+      let is = new_store magic blocks now.0 eight some most (now.2 ∙ new_after magic blocks before less) in
+      (now.0, now.1, record { head = is.0; long = is.1; octets = now.2; same = inr (of_short magic before less, is.2) })) has
+
+  -- of more
+  module _ (old mid new : D) (number : ℕ) (only : ChangesReads g old mid) (head : IfSome (g.content old) (HasHeader magic number)) where
+    pub known_formatted : IfSome (g.content old) (λ before. 16 < length before) → HasContent (g.content mid) (g.content new) (λ before now. now ≡ after_finishing before)
+        → HasContent (g.content old) (g.content new) (IsFormatted number)
+    known_formatted long has = if_told (g.content old) _ (λ before told.
+        let now = at_told _ before (only.same_content ∙ told) has in
+        let more = at_told _ before told long in
+        let is = finished_store magic number before now.0 more (at_told _ before told head) now.2 in
+        (now.0, now.1, record { head = is.0; long = is.1; octets = now.2 ∙ sym (known_after magic blocks before more); same = inl is.2 }))
+
+    pub known_leaves : Leaves g mid new IsFinishing → Leaves g old new (IsRecovering magic blocks)
+    known_leaves leaves = if_told (g.content old) _ (λ before told.
+        joined g.moment g.images_since old mid new (IsRecovering magic blocks before)
+        (reads g.moment g.images_since old mid (IsRecovering magic blocks before) only.same_moment only.same_past)
+        (weaker g.moment g.images_since mid new (IsFinishing before) (IsRecovering magic blocks before)
+        (λ image making. recovering_finishing magic blocks before number image (at_told _ before told head) making)
+        (at_told _ before (only.same_content ∙ told) leaves)))

@@ -4,11 +4,11 @@ use Rattle.std.specs.Str.{bytes_eq}
 use Rattle.px_base.specs.Numbers.{le32, le32_octets}
 use Rattle.file_journal.specs.Records.{Record, Reading, whole, broken, reading_from}
 
--- What octets stand for: for no store, since they begin with these eight octets; for none, by what stands at this place;
--- or for a store with a block number, where it has one yet, and these records.
+-- What octets stand for: for no store, since they begin with these eight octets; for none, by what stands at this
+-- place; or for a store with a block number, where it has one yet, and these records.
 pub data Standing : Type 0 where
-  not_a_store : List ℕ → Standing
-  damaged : ℕ → Standing
+  no_store : List ℕ → Standing
+  damaged_at : ℕ → Standing
   store : Option ℕ → List Record → Standing
 
 -- a block number is from 1 to 65,536
@@ -18,7 +18,7 @@ is_block_number blocks = nat_le 1 blocks && nat_le blocks 65536
 -- a store with this block number and the records that were read
 abbrev pub store_of : ℕ → Reading → Standing
 store_of blocks (whole entries) = store (Some blocks) entries
-store_of blocks (broken entries at) = damaged at
+store_of blocks (broken entries at) = damaged_at at
 
 -- Octets 0 to 7 are the magic, 8 to 11 the block number, 12 to 14 zero, 15 the selector. The first gate stands at 16.
 -- At most 16 octets are a store that isn't formatted yet; with fewer than 18 its formatting was interrupted, and it has
@@ -26,45 +26,45 @@ store_of blocks (broken entries at) = damaged at
 unfoldable pub journal_of : List ℕ → List ℕ → Standing
 journal_of magic octets =
     if nat_le (length octets) 16 then store None []
-    else if not (bytes_eq (take 8 octets) magic) then not_a_store (take 8 octets)
-    else if not (is_block_number (le32 octets 8)) then damaged 8
+    else if not (bytes_eq (take 8 octets) magic) then no_store (take 8 octets)
+    else if not (is_block_number (le32 octets 8)) then damaged_at 8
     else if nat_lt (length octets) 18 then store (Some (le32 octets 8)) []
     else store_of (le32 octets 8) (reading_from 16 (drop 16 octets))
 
 -- not refused by its magic or its block number
 abbrev pub HasGoodHeader : Standing → Type 0
-HasGoodHeader standing = ((found : List ℕ) → standing ≡ not_a_store found → ⊥) × (standing ≡ damaged 8 → ⊥)
+HasGoodHeader standing = ((found : List ℕ) → standing ≡ no_store found → ⊥) × (standing ≡ damaged_at 8 → ⊥)
 
 -- with one more record at the end
-abbrev pub added : Standing → Record → Standing
-added (store blocks entries) entry = store blocks (entries ++ entry ∷ [])
-added (not_a_store found) entry = not_a_store found
-added (damaged at) entry = damaged at
+abbrev pub with_last : Standing → Record → Standing
+with_last (store blocks entries) entry = store blocks (entries ++ entry ∷ [])
+with_last (no_store found) entry = no_store found
+with_last (damaged_at at) entry = damaged_at at
 
 -- the same records, or these and the new one
 abbrev pub IsBeforeOrAfter : Standing → Record → Standing → Type 0
-IsBeforeOrAfter before entry now = (now ≡ before) ⊎ (now ≡ added before entry)
+IsBeforeOrAfter before entry now = (now ≡ before) ⊎ (now ≡ with_last before entry)
 
 -- the same; but a store that had no block number yet, and so no records, may have got this one
 abbrev pub IsSameStore : ℕ → Standing → Standing → Type 0
 IsSameStore blocks before now = (now ≡ before) ⊎ ((before ≡ store None []) × (now ≡ store (Some blocks) []))
 
 -- The header of a store: magic, block number, zeros, the selector 00.
-abbrev pub header : List ℕ → ℕ → List ℕ
-header magic blocks = magic ++ le32_octets blocks ++ 0 ∷ 0 ∷ 0 ∷ 0 ∷ []
+abbrev pub header_text : List ℕ → ℕ → List ℕ
+header_text magic blocks = magic ++ le32_octets blocks ++ 0 ∷ 0 ∷ 0 ∷ 0 ∷ []
 
 -- the selector, or 00 where it is odd
 abbrev pub even_selector : List ℕ → ℕ
 even_selector octets = if slice_index octets 15 % 2 == 1 then 0 else slice_index octets 15
 
--- More than 16 octets after a recovery: behind 16 octets and no second gate come two closed gates, and the selector is even
--- then; all else stays.
-abbrev pub finished : List ℕ → List ℕ
-finished octets =
+-- More than 16 octets after a recovery: behind 16 octets and no second gate come two closed gates, and the selector is
+-- even then; all else stays.
+abbrev pub after_finishing : List ℕ → List ℕ
+after_finishing octets =
     if nat_lt (length octets) 18 then take 15 octets ++ even_selector octets ∷ 0 ∷ 0 ∷ [] else octets
 
 -- The content after a recovery with this magic and block number: at most 16 octets give way to a header and two closed
 -- gates.
-abbrev pub formatted : List ℕ → ℕ → List ℕ → List ℕ
-formatted magic blocks octets =
-    if nat_le (length octets) 16 then header magic blocks ++ 0 ∷ 0 ∷ [] else finished octets
+abbrev pub after_recovery : List ℕ → ℕ → List ℕ → List ℕ
+after_recovery magic blocks octets =
+    if nat_le (length octets) 16 then header_text magic blocks ++ 0 ∷ 0 ∷ [] else after_finishing octets

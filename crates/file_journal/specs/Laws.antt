@@ -1,6 +1,6 @@
 -- Laws of what the octets of a journal stand for.
 use Rattle.std.specs.Prelude.{◌≡◌, ◌↔◌, ℕ, ◌<◌, List, length}
-use Rattle.disk_model.specs.Disk.{IsOctets}
+use Rattle.px_base.specs.Octets.{IsOctets}
 use Rattle.file_journal.specs.Records.{Reading, StandsFrom, reading_from}
 
 -- octets from a gate on stand for what is read there, and for nothing else

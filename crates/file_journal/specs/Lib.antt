@@ -1,6 +1,10 @@
+pub mod Appending
+pub mod Calls
+pub mod Formatting
+pub mod Header
 pub mod Journal
 pub mod Laws
-pub mod Moments
+pub mod Next
 pub mod Position
 pub mod Records
-pub mod Steps
+pub mod Recovery

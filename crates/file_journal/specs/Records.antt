@@ -2,12 +2,16 @@
 use Rattle.std.specs.Prelude.{◌≡◌, ◌≢◌, ℕ, zero, suc, ◌+◌, ◌<◌, ◌≤◌, ◌==◌, List, [], ◌∷◌, ◌++◌, length, take, drop, slice_index, Bool, ◌&&◌, nat_le, nat_lt, if◌then◌else◌}
 use Rattle.std.specs.List.{AllByRecursion}
 use Rattle.px_base.specs.Numbers.{le16, le16_octets}
-use Rattle.disk_model.specs.Disk.{IsOctets}
+use Rattle.px_base.specs.Octets.{IsOctets}
 
 -- a record: of what kind it is, and its content
 pub record Record : Type 0 where
   pub kind : ℕ
   pub content : List ℕ
+
+-- the record of this kind and content
+abbrev pub record_of : ℕ → List ℕ → Record
+record_of kind content = record { kind = kind; content = content }
 
 -- the kind is an octet, and the content at most 600 octets
 pub record IsRecord (entry : Record) : Type 0 where
@@ -31,7 +35,8 @@ StartsClosed (gate ∷ octets) = gate ≢ 1
 
 -- no record with a gate behind it stands at the front
 abbrev pub StartsCut : List ℕ → Type 0
-StartsCut octets = (entry : Record) (gate : ℕ) (later : List ℕ) → IsRecord entry → octets ≡ record_text entry ++ gate ∷ later → ⊥
+StartsCut octets =
+    (entry : Record) (gate : ℕ) (later : List ℕ) → IsRecord entry → octets ≡ record_text entry ++ gate ∷ later → ⊥
 
 -- What stands from a gate on: these records before the first gate that isn't open; or these records and then, at this
 -- place, an open gate that no whole record with a gate behind it follows.
@@ -59,7 +64,7 @@ starts_whole octets = nat_le (le16 octets 1) 600 && nat_lt (record_len octets) (
 
 -- the record at the front
 abbrev pub record_in : List ℕ → Record
-record_in octets = record { kind = slice_index octets 0; content = take (le16 octets 1) (drop 3 octets) }
+record_in octets = record_of (slice_index octets 0) (take (le16 octets 1) (drop 3 octets))
 
 -- with this record before what was read
 abbrev pub with_record : Record → Reading → Reading
@@ -78,10 +83,26 @@ reading_within (suc most) place [] = broken [] place
 reading_within (suc most) place (gate ∷ octets) =
     if gate == 1 then
     (if starts_whole octets
-    then with_record (record_in octets) (reading_within most (place + 1 + record_len octets) (drop (record_len octets) octets))
+    then with_record (record_in octets)
+    (reading_within most (place + 1 + record_len octets) (drop (record_len octets) octets))
     else broken [] place)
     else whole []
 
 -- what stands from a gate at this place on; there are no more records than octets
 unfoldable pub reading_from : ℕ → List ℕ → Reading
 reading_from place octets = reading_within (length octets) place octets
+
+-- what stands from the gate at this place of octets on
+abbrev pub reading_at : ℕ → List ℕ → Reading
+reading_at place octets = reading_from place (drop place octets)
+
+-- this record stands behind the gate at this place, and a gate behind it
+pub record HasRecord (place : ℕ) (entry : Record) (octets : List ℕ) : Type 0 where
+  pub there : place + 4 + length entry.content < length octets
+  pub reading : reading_at place octets ≡ with_record entry (reading_at (place + 4 + length entry.content) octets)
+
+-- a record of this kind and length stands behind the gate at this place, and then what is read from behind it
+abbrev pub StartsRecord : ℕ → ℕ → ℕ → List ℕ → Type 0
+StartsRecord place kind len octets =
+    reading_at place octets
+    ≡ with_record (record_of kind (take len (drop (place + 4) octets))) (reading_at (place + 4 + len) octets)

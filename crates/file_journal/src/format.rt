@@ -1,12 +1,13 @@
 //! Formatting: the header, and the first two gates.
 
-ghost use Rattle.std.specs.Prelude.{◌≡◌, ◌<◌, ◌≤◌, [], ◌∷◌, ◌++◌, length, take, drop, slice_index, None, IfSome, OnOk};
-ghost use Rattle.px_base.specs.Outside.{HasCause};
-ghost use Rattle.disk_model.specs.Disk.{HasContent, IsQuiet, IsTold, Only};
-ghost use Rattle.file_journal.specs.Journal.{IsSameStore, even_selector, finished, header, journal_of, store};
-ghost use Rattle.file_journal.specs.Moments.{LeavesOnly};
-ghost use Rattle.file_journal.specs.Steps.{IsFinishing, IsMakingEven, IsMakingGates};
+ghost use Rattle.std.specs.Prelude.{◌≡◌, ◌<◌, ◌≤◌, length, IfSome};
+ghost use Rattle.file_journal.specs.Calls.{Becomes, IsQuietNow, Makes};
+ghost use Rattle.file_journal.specs.Formatting.{IsFinishing, IsMakingEven, IsMakingGates, MakesEven, MakesGates};
+ghost use Rattle.file_journal.specs.Header.{HasSelector};
+ghost use Rattle.file_journal.specs.Journal.{after_finishing, after_recovery, header_text};
+ghost use Rattle.file_journal.specs.Recovery.{IsRecovering};
 
+use crate::write::write_synced;
 use arrayvec::ArrayVec;
 use byteorder::{ByteOrder, LittleEndian};
 use disk_model::{Disk, DiskFault};
@@ -26,42 +27,35 @@ pub(crate) fn format_new<D: Disk>(
     magic: [u8; 8],
     blocks: u32,
 ) -> Result<(), DiskFault>
-    requires quiet { IsQuiet (D.content disk.old) (D.images disk.old) }
+    requires quiet { IsQuietNow D.Disk disk.old }
     requires short { IfSome (D.content disk.old) (λ octets. length octets ≤ 16) }
     requires some { 1 ≤ blocks }
     requires most { blocks ≤ 65536 }
-    ensures ok { OnOk result (HasContent (D.content disk.old) (D.content disk.new) (λ before now. (now ≡ header magic blocks ++ 0 ∷ 0 ∷ []) × Only (D.images disk.new) now)) }
-    ensures since { IfSome (D.content disk.old) (λ before. LeavesOnly D.moment D.images_since disk.old disk.new (λ image. IsSameStore blocks (store None []) (journal_of magic image))) }
-    ensures told { IsTold (D.content disk.old) → IsTold (D.content disk.new) }
-    ensures untold { IsTold (D.content disk.new) → IsTold (D.content disk.old) }
-    ensures write_faults { HasCause (D.write_faults disk.old) (D.write_faults disk.new) result }
-    ensures read_faults { D.read_faults disk.new ≡ D.read_faults disk.old }
+    ensures { Makes D.Disk result disk.old disk.new (Becomes (after_recovery magic blocks)) (IsRecovering magic blocks) }
 {
-    format_header(disk, magic, blocks)?;
+    // A crash before this is synced leaves at most 16 octets, whatever they are: the formatting begins anew.
+    write_synced(disk, 0, encode_header(magic, blocks).as_slice())?;
     format_gates(disk)
 }
 
-/// Formats a disk of `len` octets, more than 16, to its end, if its formatting was interrupted: it has 17 octets then.
+/// Formats a disk of more than 16 octets to its end, if its formatting was interrupted: it has 17 octets then.
 pub(crate) fn finish_format<D: Disk>(disk: &mut D, len: u64, selector: u8) -> Result<(), DiskFault>
-    requires quiet { IsQuiet (D.content disk.old) (D.images disk.old) }
-    requires there { IfSome (D.content disk.old) (λ octets. (16 < length octets) × (len ≡ length octets) × (selector ≡ slice_index octets 15)) }
-    ensures ok { OnOk result (HasContent (D.content disk.old) (D.content disk.new) (λ before now. (now ≡ finished before) × Only (D.images disk.new) now)) }
-    ensures since { IfSome (D.content disk.old) (λ before. LeavesOnly D.moment D.images_since disk.old disk.new (IsFinishing before)) }
-    ensures told { IsTold (D.content disk.old) → IsTold (D.content disk.new) }
-    ensures untold { IsTold (D.content disk.new) → IsTold (D.content disk.old) }
-    ensures write_faults { HasCause (D.write_faults disk.old) (D.write_faults disk.new) result }
-    ensures read_faults { D.read_faults disk.new ≡ D.read_faults disk.old }
+    requires quiet { IsQuietNow D.Disk disk.old }
+    requires long { IfSome (D.content disk.old) (λ octets. 16 < length octets) }
+    requires len { IfSome (D.content disk.old) (λ octets. len ≡ length octets) }
+    requires selector { HasSelector (D.content disk.old) selector }
+    ensures { Makes D.Disk result disk.old disk.new (Becomes after_finishing) IsFinishing }
 {
     if len >= FORMATTED {
         return Ok(());
     }
-    make_even(disk, selector)?;
+    make_selector_even(disk, selector)?;
     format_gates(disk)
 }
 
 /// The octets of a header.
-fn header_octets(magic: [u8; 8], blocks: u32) -> ArrayVec<u8, 16>
-    ensures { result.items ≡ header magic blocks }
+fn encode_header(magic: [u8; 8], blocks: u32) -> ArrayVec<u8, 16>
+    ensures { result.items ≡ header_text magic blocks }
 {
     let mut number = [0; 4];
     LittleEndian::write_u32(&mut number, blocks);
@@ -72,52 +66,31 @@ fn header_octets(magic: [u8; 8], blocks: u32) -> ArrayVec<u8, 16>
     octets
 }
 
-/// Writes and syncs the header on a disk of at most 16 octets.
-fn format_header<D: Disk>(disk: &mut D, magic: [u8; 8], blocks: u32) -> Result<(), DiskFault>
-    requires quiet { IsQuiet (D.content disk.old) (D.images disk.old) }
-    requires short { IfSome (D.content disk.old) (λ octets. length octets ≤ 16) }
-    ensures ok { OnOk result (HasContent (D.content disk.old) (D.content disk.new) (λ before now. (now ≡ header magic blocks) × Only (D.images disk.new) now)) }
-    ensures since { IfSome (D.content disk.old) (λ before. LeavesOnly D.moment D.images_since disk.old disk.new (λ image. length image ≤ 16)) }
-    ensures told { IsTold (D.content disk.old) → IsTold (D.content disk.new) }
-    ensures untold { IsTold (D.content disk.new) → IsTold (D.content disk.old) }
-    ensures write_faults { HasCause (D.write_faults disk.old) (D.write_faults disk.new) result }
-    ensures read_faults { D.read_faults disk.new ≡ D.read_faults disk.old }
-{
-    disk.write_at(0, header_octets(magic, blocks).as_slice())?;
-    disk.sync()
-}
-
 /// Makes the selector even, where it is odd, and syncs it.
-fn make_even<D: Disk>(disk: &mut D, selector: u8) -> Result<(), DiskFault>
-    requires quiet { IsQuiet (D.content disk.old) (D.images disk.old) }
-    requires there { IfSome (D.content disk.old) (λ octets. (16 ≤ length octets) × (selector ≡ slice_index octets 15)) }
-    ensures ok { OnOk result (HasContent (D.content disk.old) (D.content disk.new) (λ before now. (now ≡ take 15 before ++ even_selector before ∷ drop 16 before) × Only (D.images disk.new) now)) }
-    ensures since { IfSome (D.content disk.old) (λ before. LeavesOnly D.moment D.images_since disk.old disk.new (IsMakingEven before)) }
-    ensures told { IsTold (D.content disk.old) → IsTold (D.content disk.new) }
-    ensures untold { IsTold (D.content disk.new) → IsTold (D.content disk.old) }
-    ensures write_faults { HasCause (D.write_faults disk.old) (D.write_faults disk.new) result }
-    ensures read_faults { D.read_faults disk.new ≡ D.read_faults disk.old }
+fn make_selector_even<D: Disk>(disk: &mut D, selector: u8) -> Result<(), DiskFault>
+    requires quiet { IsQuietNow D.Disk disk.old }
+    requires long { IfSome (D.content disk.old) (λ octets. 16 ≤ length octets) }
+    requires selector { HasSelector (D.content disk.old) selector }
+    ensures { Makes D.Disk result disk.old disk.new MakesEven IsMakingEven }
 {
-    if selector % 2 == 1 {
-        disk.write_at(SELECTOR, &[0])?;
-        disk.sync()?;
+    if selector % 2 == 0 {
+        return Ok(());
     }
-    Ok(())
+    // An odd selector chooses the other half of the records once there are two: so it is made even before there are 18
+    // octets. A crash before this is synced leaves 17, of which no record is read, whatever octet 15 is.
+    write_synced(disk, SELECTOR, &[0])
 }
 
 /// Writes the first gate, closed, and one more octet 00 behind it, each synced, on a disk of 16 or 17 octets.
 fn format_gates<D: Disk>(disk: &mut D) -> Result<(), DiskFault>
-    requires quiet { IsQuiet (D.content disk.old) (D.images disk.old) }
-    requires header { IfSome (D.content disk.old) (λ octets. (16 ≤ length octets) × (length octets ≤ 17)) }
-    ensures ok { OnOk result (HasContent (D.content disk.old) (D.content disk.new) (λ before now. (now ≡ take 16 before ++ 0 ∷ 0 ∷ []) × Only (D.images disk.new) now)) }
-    ensures since { IfSome (D.content disk.old) (λ before. LeavesOnly D.moment D.images_since disk.old disk.new (IsMakingGates before)) }
-    ensures told { IsTold (D.content disk.old) → IsTold (D.content disk.new) }
-    ensures untold { IsTold (D.content disk.new) → IsTold (D.content disk.old) }
-    ensures write_faults { HasCause (D.write_faults disk.old) (D.write_faults disk.new) result }
-    ensures read_faults { D.read_faults disk.new ≡ D.read_faults disk.old }
+    requires quiet { IsQuietNow D.Disk disk.old }
+    requires long { IfSome (D.content disk.old) (λ octets. 16 ≤ length octets) }
+    requires short { IfSome (D.content disk.old) (λ octets. length octets ≤ 17) }
+    ensures { Makes D.Disk result disk.old disk.new MakesGates IsMakingGates }
 {
-    disk.write_at(FIRST_GATE, &[0])?;
-    disk.sync()?;
-    disk.write_at(FIRST_GATE + 1, &[0])?;
-    disk.sync()
+    // A crash before this is synced leaves 16 or 17 octets, of which no record is read, whatever the last one is.
+    write_synced(disk, FIRST_GATE, &[0])?;
+    // The first gate is synced by now, and closed. A crash before this is synced leaves 17 octets, or 18 of which the
+    // last one is any: no record is read behind a closed gate.
+    write_synced(disk, FIRST_GATE + 1, &[0])
 }

@@ -1,10 +1,9 @@
 //! The header of a store.
 
-ghost use Rattle.std.specs.Prelude.{◌≡◌, ◌≢◌, ◌<◌, ◌≤◌, List, ℕ, length, take, slice_index, true, false, IfOk, IfSome, OnOk, IsErrOf};
-ghost use Rattle.px_base.specs.Numbers.{le32 as number_of_four};
-ghost use Rattle.px_base.specs.Outside.{Rose};
-ghost use Rattle.file_journal.specs.Journal.{HasGoodHeader, is_block_number, journal_of, not_a_store as stands_for_no_store, damaged as is_damaged};
-ghost use Rattle.file_journal.specs.Moments.{OnlyReads};
+ghost use Rattle.std.specs.Prelude.{◌≡◌, ◌<◌, ◌≤◌, List, ℕ, length, slice_index, IfOk, IfSome, IsErrOf};
+ghost use Rattle.file_journal.specs.Calls.{Reads};
+ghost use Rattle.file_journal.specs.Header.{HasBadNumber, HasHeader, HasSelector, IsForeign};
+ghost use Rattle.file_journal.specs.Recovery.{Refuses};
 
 use crate::RecoverFault;
 use disk_model::Disk;
@@ -22,14 +21,12 @@ pub(crate) struct Header {
 /// Reads the header of a store with this magic.
 pub(crate) fn read_header<D: Disk>(disk: &mut D, magic: [u8; 8]) -> Result<Header, RecoverFault>
     requires { IfSome (D.content disk.old) (λ octets. 16 < length octets) }
-    ensures header { IfOk result (λ header. IfSome (D.content disk.old) (λ octets. (take 8 octets ≡ magic) × (header.blocks ≡ number_of_four octets 8) × (header.selector ≡ slice_index octets 15))) }
-    ensures blocks { IfOk result (λ header. is_block_number header.blocks ≡ true) }
-    ensures store { OnOk result (IfSome (D.content disk.old) (λ octets. HasGoodHeader (journal_of magic octets))) }
-    ensures not_a_store { (found : List ℕ) → IsErrOf result (RecoverFault.NotAStore found) → IfSome (D.content disk.old) (λ octets. journal_of magic octets ≡ stands_for_no_store found) }
-    ensures damaged { (at : ℕ) → IsErrOf result (RecoverFault.Damaged at) → (at ≡ 8) × IfSome (D.content disk.old) (λ octets. journal_of magic octets ≡ is_damaged 8) }
-    ensures disk { IsErrOf result RecoverFault.Disk → Rose (D.read_faults disk.old) (D.read_faults disk.new) }
-    ensures read_faults { D.read_faults disk.old ≤ D.read_faults disk.new }
-    ensures only_reads { OnlyReads D.content D.images D.moment D.images_since D.write_faults disk.old disk.new }
+    ensures header { IfOk result (λ header. IfSome (D.content disk.old) (HasHeader magic header.blocks)) }
+    ensures selector { IfOk result (λ header. HasSelector (D.content disk.old) header.selector) }
+    ensures some { IfOk result (λ header. 1 ≤ header.blocks) }
+    ensures most { IfOk result (λ header. header.blocks ≤ 65536) }
+    ensures refuses { Refuses magic (D.content disk.old) result }
+    ensures reads { Reads D.Disk (IsErrOf result RecoverFault.Disk) disk.old disk.new }
 {
     let mut octets = [0; 16];
     disk.read(0, &mut octets)?;
@@ -38,9 +35,12 @@ pub(crate) fn read_header<D: Disk>(disk: &mut D, magic: [u8; 8]) -> Result<Heade
 
 /// What the 16 octets of a header say.
 fn parse_header(octets: &[u8; 16], magic: [u8; 8]) -> Result<Header, RecoverFault>
-    ensures header { IfOk result (λ header. (header.blocks ≡ number_of_four octets.now 8) × (header.selector ≡ slice_index octets.now 15) × (take 8 octets.now ≡ magic) × (is_block_number header.blocks ≡ true)) }
-    ensures not_a_store { (found : List ℕ) → IsErrOf result (RecoverFault.NotAStore found) → (found ≡ take 8 octets.now) × (take 8 octets.now ≢ magic) }
-    ensures damaged { (at : ℕ) → IsErrOf result (RecoverFault.Damaged at) → (at ≡ 8) × (take 8 octets.now ≡ magic) × (is_block_number (number_of_four octets.now 8) ≡ false) }
+    ensures header { IfOk result (λ header. HasHeader magic header.blocks octets.now) }
+    ensures selector { IfOk result (λ header. header.selector ≡ slice_index octets.now 15) }
+    ensures some { IfOk result (λ header. 1 ≤ header.blocks) }
+    ensures most { IfOk result (λ header. header.blocks ≤ 65536) }
+    ensures not_a_store { (found : List ℕ) → IsErrOf result (RecoverFault.NotAStore found) → IsForeign magic octets.now found }
+    ensures damaged { (at : ℕ) → IsErrOf result (RecoverFault.Damaged at) → (at ≡ 8) × HasBadNumber magic octets.now }
     ensures disk { ¬ IsErrOf result RecoverFault.Disk }
 {
     let mut found = [0; 8];

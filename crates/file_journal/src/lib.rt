@@ -13,6 +13,7 @@ mod header;
 mod journal;
 pub mod laws;
 mod record;
+mod write;
 
 pub use faults::{JournalFault, RecoverFault};
 pub use journal::Journal;

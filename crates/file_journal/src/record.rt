@@ -1,13 +1,13 @@
 //! One record: its text, putting it, and reading it.
 
-ghost use Rattle.std.specs.Prelude.{◌≡◌, ◌+◌, ◌^◌, ◌<◌, ◌≤◌, ℕ, List, [], ◌∷◌, ◌++◌, length, take, drop, slice_index, true, false, IfOk, IfSome, OnOk, OnErr, IsErrOf, None};
-ghost use Rattle.px_base.specs.Outside.{HasCause, Rose};
-ghost use Rattle.disk_model.specs.Disk.{HasContent, IsTold, Only};
-ghost use Rattle.file_journal.specs.Moments.{LeavesOnly, OnlyReads};
-ghost use Rattle.file_journal.specs.Records.{record_text as text, reading_from, with_record, whole, broken};
-ghost use Rattle.file_journal.specs.Steps.{IsPutting, with_gate};
+ghost use Rattle.std.specs.Prelude.{◌≡◌, ◌+◌, ◌^◌, ◌<◌, ◌≤◌, ℕ, List, [], ◌∷◌, ◌++◌, length, slice_index, take, drop, true, false, IfOk, IfSome, OnOk, OnErr, IsErrOf, None};
+ghost use Rattle.file_journal.specs.Appending.{IsPutting, OpensGate};
+ghost use Rattle.file_journal.specs.Calls.{Makes, Reads};
+ghost use Rattle.file_journal.specs.Next.{FindsRecord, RefusesAt};
+ghost use Rattle.file_journal.specs.Records.{StartsRecord, reading_at, record_of, record_text, whole};
 
 use crate::RecoverFault;
+use crate::write::write_synced;
 use arrayvec::ArrayVec;
 use byteorder::{ByteOrder, LittleEndian};
 use disk_model::{Disk, DiskFault};
@@ -26,9 +26,9 @@ const MAX_CONTENT: usize = 600;
 pub(crate) type RecordText = ArrayVec<u8, 604>;
 
 /// The octets of a record behind its gate, and a closed gate.
-pub(crate) fn record_text(kind: u8, content: &[u8]) -> RecordText
+pub(crate) fn encode_record(kind: u8, content: &[u8]) -> RecordText
     requires { length content.now ≤ 600 }
-    ensures { result.items ≡ text (record { kind = kind; content = content.now }) ++ 0 ∷ [] }
+    ensures { result.items ≡ record_text (record_of kind content.now) ++ 0 ∷ [] }
 {
     let mut octets = ArrayVec::new();
     let mut len = [0; 2];
@@ -44,20 +44,17 @@ pub(crate) fn record_text(kind: u8, content: &[u8]) -> RecordText
 pub(crate) fn put_record<D: Disk>(disk: &mut D, place: u64, octets: &[u8]) -> Result<(), DiskFault>
     requires far { place < 2 ^ 63 }
     requires gate { IfSome (D.content disk.old) (λ before. place < length before) }
-    ensures ok { OnOk result (HasContent (D.content disk.old) (D.content disk.new) (λ before now. (now ≡ with_gate place 1 octets.now before) × Only (D.images disk.new) now)) }
+    ensures makes { Makes D.Disk result disk.old disk.new
+        (OpensGate place octets.now) (IsPutting place octets.now (D.images disk.old)) }
     ensures fits { OnOk result (place + 1 + length octets.now ≤ 2 ^ 63) }
-    ensures since { IfSome (D.content disk.old) (λ before. LeavesOnly D.moment D.images_since disk.old disk.new (IsPutting place octets.now before (D.images disk.old))) }
-    ensures told { IsTold (D.content disk.old) → IsTold (D.content disk.new) }
-    ensures untold { IsTold (D.content disk.new) → IsTold (D.content disk.old) }
-    ensures calls { OnOk result (IfSome (D.content disk.old) (λ _. D.moment disk.new ≡ D.moment disk.old + 4)) }
+    ensures four { OnOk result (IfSome (D.content disk.old) (λ _. D.moment disk.new ≡ D.moment disk.old + 4)) }
     ensures at_most { D.moment disk.new ≤ D.moment disk.old + 4 }
-    ensures write_faults { HasCause (D.write_faults disk.old) (D.write_faults disk.new) result }
-    ensures read_faults { D.read_faults disk.new ≡ D.read_faults disk.old }
 {
-    disk.write_at(place + 1, octets)?;
-    disk.sync()?;
-    disk.write_at(place, &[OPEN])?;
-    disk.sync()
+    // A crash before these octets are synced leaves any octets behind the gate. It stands closed, so none of them is read.
+    write_synced(disk, place + 1, octets)?;
+    // The whole record is synced by now, and a closed gate behind it. A crash before this gate is synced leaves any
+    // octet in its place: where it is 01, the record counts and is whole; where it is another, it doesn't count.
+    write_synced(disk, place, &[OPEN])
 }
 
 /// What stands at the front of a record.
@@ -73,12 +70,9 @@ fn is_open<D: Disk>(disk: &mut D, place: u64, end: u64) -> Result<bool, RecoverF
     requires { IfSome (D.content disk.old) (λ octets. end ≡ length octets) }
     ensures there { OnOk result (place < end) }
     ensures open { result ≡ Ok true → IfSome (D.content disk.old) (λ octets. slice_index octets place ≡ 1) }
-    ensures closed { result ≡ Ok false → IfSome (D.content disk.old) (λ octets. reading_from place (drop place octets) ≡ whole []) }
-    ensures damaged { (at : ℕ) → IsErrOf result (RecoverFault.Damaged at) → (at ≡ place) × IfSome (D.content disk.old) (λ octets. reading_from place (drop place octets) ≡ broken [] place) }
-    ensures is_store { (found : List ℕ) → ¬ IsErrOf result (RecoverFault.NotAStore found) }
-    ensures disk { IsErrOf result RecoverFault.Disk → Rose (D.read_faults disk.old) (D.read_faults disk.new) }
-    ensures read_faults { D.read_faults disk.old ≤ D.read_faults disk.new }
-    ensures only_reads { OnlyReads D.content D.images D.moment D.images_since D.write_faults disk.old disk.new }
+    ensures closed { result ≡ Ok false → IfSome (D.content disk.old) (λ octets. reading_at place octets ≡ whole []) }
+    ensures refuses { RefusesAt place (D.content disk.old) result }
+    ensures reads { Reads D.Disk (IsErrOf result RecoverFault.Disk) disk.old disk.new }
 {
     if place >= end {
         return Err(RecoverFault::Damaged { at: place });
@@ -95,13 +89,9 @@ fn read_start<D: Disk>(disk: &mut D, place: u64, end: u64) -> Result<Start, Reco
     requires there { place < end }
     requires gate { IfSome (D.content disk.old) (λ octets. slice_index octets place ≡ 1) }
     ensures fits { IfOk result (λ start. (start.len ≤ 600) × (place + 4 + start.len < end)) }
-    ensures start { IfOk result (λ start. IfSome (D.content disk.old) (λ octets. reading_from place (drop place octets)
-        ≡ with_record (record { kind = start.kind; content = take start.len (drop (place + 4) octets) }) (reading_from (place + 4 + start.len) (drop (place + 4 + start.len) octets)))) }
-    ensures damaged { (at : ℕ) → IsErrOf result (RecoverFault.Damaged at) → (at ≡ place) × IfSome (D.content disk.old) (λ octets. reading_from place (drop place octets) ≡ broken [] place) }
-    ensures is_store { (found : List ℕ) → ¬ IsErrOf result (RecoverFault.NotAStore found) }
-    ensures disk { IsErrOf result RecoverFault.Disk → Rose (D.read_faults disk.old) (D.read_faults disk.new) }
-    ensures read_faults { D.read_faults disk.old ≤ D.read_faults disk.new }
-    ensures only_reads { OnlyReads D.content D.images D.moment D.images_since D.write_faults disk.old disk.new }
+    ensures start { IfOk result (λ start. IfSome (D.content disk.old) (StartsRecord place start.kind start.len)) }
+    ensures refuses { RefusesAt place (D.content disk.old) result }
+    ensures reads { Reads D.Disk (IsErrOf result RecoverFault.Disk) disk.old disk.new }
 {
     let damaged = RecoverFault::Damaged { at: place };
     if end - place <= 4 {
@@ -127,16 +117,13 @@ pub(crate) fn read_record<D: Disk>(
     room: &mut ArrayVec<u8, 600>,
 ) -> Result<Option<u8>, RecoverFault>
     requires far { place < 2 ^ 63 }
-    ensures found { IfOk result (λ next. IfSome next (λ kind. IfSome (D.content disk.old) (λ octets. (place + 4 + length room.new.items < length octets) × (reading_from place (drop place octets) ≡ with_record (record { kind = kind; content = room.new.items }) (reading_from (place + 4 + length room.new.items) (drop (place + 4 + length room.new.items) octets)))))) }
+    ensures found { IfOk result (FindsRecord place room.new.items (D.content disk.old)) }
     ensures fits { IfOk result (λ next. IfSome next (λ kind. place + 4 + length room.new.items < 2 ^ 63)) }
-    ensures none { result ≡ Ok None → IfSome (D.content disk.old) (λ octets. reading_from place (drop place octets) ≡ whole []) }
-    ensures damaged { (at : ℕ) → IsErrOf result (RecoverFault.Damaged at) → (at ≡ place) × IfSome (D.content disk.old) (λ octets. reading_from place (drop place octets) ≡ broken [] place) }
-    ensures is_store { (found : List ℕ) → ¬ IsErrOf result (RecoverFault.NotAStore found) }
+    ensures none { result ≡ Ok None → IfSome (D.content disk.old) (λ octets. reading_at place octets ≡ whole []) }
+    ensures refuses { RefusesAt place (D.content disk.old) result }
     ensures err { OnErr result (room.new ≡ room.old) }
     ensures room { result ≡ Ok None → room.new ≡ room.old }
-    ensures disk { IsErrOf result RecoverFault.Disk → Rose (D.read_faults disk.old) (D.read_faults disk.new) }
-    ensures read_faults { D.read_faults disk.old ≤ D.read_faults disk.new }
-    ensures only_reads { OnlyReads D.content D.images D.moment D.images_since D.write_faults disk.old disk.new }
+    ensures reads { Reads D.Disk (IsErrOf result RecoverFault.Disk) disk.old disk.new }
 {
     let end = disk.len()?;
     if !is_open(disk, place, end)? {

@@ -1,11 +1,11 @@
 //! Tests of what no clause says: texts, exact octets with ample memory, and recoveries after a stop at each call.
 
-ghost use Rattle.std.specs.Prelude.{◌≡◌, true, IfOk};
+ghost use Rattle.std.specs.Prelude.{◌≡◌, true, false, IfOk};
 ghost use Rattle.file_journal.specs.Position.{StandsOn};
 
 use crate::{Journal, JournalFault, RecoverFault};
 use arrayvec::ArrayVec;
-use disk_model::{Disk, FuseDisk, MemoryDisk};
+use disk_model::{Disk, DiskFault, FuseDisk, MemoryDisk};
 use std::test::Fail;
 
 const MAGIC: [u8; 8] = *b"PXSTORE0";
@@ -39,14 +39,13 @@ fn texts_of_the_refusals(rt: HostRuntime) -> Result<(), Fail> {
     for (fault, text) in rows {
         assert_eq!(rt; format!(in alloc; "{fault}")?.as_str(), text);
     }
-    assert_eq!(rt;
-        format!(in alloc; "{}", JournalFault::Disk)?.as_str(),
-        "the disk failed"
-    );
-    assert_eq!(rt;
-        format!(in alloc; "{}", JournalFault::Failed)?.as_str(),
-        "the journal failed before"
-    );
+    let rows = [
+        (JournalFault::Disk, "the disk failed"),
+        (JournalFault::Failed, "the journal failed before"),
+    ];
+    for (fault, text) in rows {
+        assert_eq!(rt; format!(in alloc; "{fault}")?.as_str(), text);
+    }
     Ok(())
 }
 
@@ -58,8 +57,9 @@ const SEEN_ONE: [u8; 5] = [4, 1, 0, 0, 0];
 
 /// Recovers the journal and reads it to its end, or up to its damage, and puts what it sees behind `seen`.
 fn read_to_end<D: Disk>(disk: &mut D, seen: &mut Seen) -> Result<Journal, RecoverFault>
-    ensures stands_on { IfOk result (λ journal. StandsOn journal (D.content disk.new) (D.images disk.new)) }
+    ensures stands_on { IfOk result (λ journal. StandsOn D.Disk journal disk.new) }
     ensures ended { IfOk result (λ journal. journal.ended ≡ true) }
+    ensures lasts { D.lasts disk.old disk.new }
 {
     let mut journal = Journal::recover(disk, MAGIC, 8)?;
     let mut room = ArrayVec::new();
@@ -70,97 +70,71 @@ fn read_to_end<D: Disk>(disk: &mut D, seen: &mut Seen) -> Result<Journal, Recove
     Ok(journal)
 }
 
+/// Why a recovery and a reading to the end read no further.
+fn refusal_of<D: Disk>(disk: &mut D, seen: &mut Seen) -> Option<RecoverFault> {
+    read_to_end(disk, seen).err()
+}
+
+/// How making a store, or recovering it, and appending a record ended.
+#[derive(Clone, Copy, Debug, PartialEq, Eq)]
+enum Ended {
+    Refused(RecoverFault),
+    /// The append failed, and so did a further one.
+    Failed(JournalFault, Result<(), JournalFault>),
+    Done,
+}
+
+/// Makes a store on the disk, or recovers it, and appends a record.
+fn put_one<D: Disk>(disk: &mut D) -> Ended
+    ensures { D.lasts disk.old disk.new }
+{
+    let mut journal = match read_to_end(disk, &mut Seen::new()) {
+        Ok(journal) => journal,
+        Err(refusal) => return Ended::Refused(refusal),
+    };
+    match journal.append(disk, 4, &[1, 0, 0, 0]) {
+        Ok(()) => Ended::Done,
+        Err(fault) => Ended::Failed(fault, journal.append(disk, 4, &[])),
+    }
+}
+
 #[test]
 fn a_new_store_and_a_record(rt: HostRuntime) -> Result<(), Fail> {
     let mut disk = MemoryDisk::new(rt.alloc(), &[], &[])?;
     let mut seen = Seen::new();
-    let mut journal = read_to_end(&mut disk, &mut seen)?;
-    assert!(rt; seen.is_empty());
+    assert_eq!(rt; refusal_of(&mut disk, &mut seen), None);
     assert_eq!(rt; disk.bytes(), NEW.as_slice());
-    assert_eq!(rt; journal.append(&mut disk, 4, &[1, 0, 0, 0]), Ok(()));
+    assert_eq!(rt; put_one(&mut disk), Ended::Done);
     assert_eq!(rt; disk.bytes(), ONE.as_slice());
-    assert!(rt; !journal.failed());
-    assert_eq!(rt; journal.append(&mut disk, 5, &[]), Ok(()));
-
-    let mut again = Journal::recover(&mut disk, MAGIC, 9)?;
-    assert_eq!(rt; again.blocks(), 8);
-    let mut room = ArrayVec::new();
-    assert_eq!(rt; again.next(&mut disk, &mut room), Ok(Some(4)));
-    assert_eq!(rt; room.as_slice(), [1, 0, 0, 0].as_slice());
-    assert_eq!(rt; again.next(&mut disk, &mut room), Ok(Some(5)));
-    assert_eq!(rt; room.as_slice(), [].as_slice());
-    assert_eq!(rt; again.next(&mut disk, &mut room), Ok(None));
+    assert_eq!(rt; refusal_of(&mut disk, &mut seen), None);
+    assert_eq!(rt; seen.as_slice(), SEEN_ONE.as_slice());
     Ok(())
 }
 
 #[test]
 fn contents(rt: HostRuntime) -> Result<(), Fail> {
     let damaged = |at: u64| Some(RecoverFault::Damaged { at });
-    // what stands behind the magic, from the block number on; what is seen of its records; and the refusal that ends them
-    let rows: [(&[u8], &[u8], Option<RecoverFault>); 11] = [
-        (
-            &[8, 0, 0, 0, 0, 0, 0, 0, 1, 4, 4, 0, 1, 0, 0, 0, 0],
-            &SEEN_ONE,
-            None,
-        ),
-        (
-            &[8, 0, 0, 0, 0, 0, 0, 0, 1, 4, 4, 0, 1, 0, 0, 0],
-            &[],
-            damaged(16),
-        ),
-        (
-            &[8, 0, 0, 0, 0, 0, 0, 0, 1, 4, 0, 0, 1, 4, 4, 0],
-            &[4],
-            damaged(20),
-        ),
-        (&[8, 0, 0, 0, 0, 0, 0, 0, 1, 0], &[], damaged(16)),
-        (&[8, 0, 0, 0, 0, 0, 0, 0, 1, 0, 0], &[], damaged(16)),
-        (&[8, 0, 0, 0, 0, 0, 0, 0, 2, 4, 4, 0], &[], None),
-        (&[8, 0, 0, 0, 0, 0, 0, 3, 1], &[], None),
-        (&[8, 0, 0], &[], None),
-        (&[0, 0, 0, 0, 0, 0, 0, 0, 0], &[], damaged(8)),
-        (&[1, 0, 1, 0, 0, 0, 0, 0, 0, 0], &[], damaged(8)),
-        (&[0, 0, 1, 0, 0, 0, 0, 0, 0, 0], &[], None),
-    ];
-    for (rest, wanted, refusal) in rows {
-        let mut octets = MAGIC.to_vec(rt.alloc())?;
-        octets.extend_from_slice(rest)?;
-        let mut disk = MemoryDisk::new(rt.alloc(), &octets, &[])?;
-        let mut seen = Seen::new();
-        assert_eq!(rt;
-            read_to_end(&mut disk, &mut seen).err(),
-            refusal,
-            "{rest:?}"
-        );
-        assert_eq!(rt; seen.as_slice(), wanted, "{rest:?}");
-    }
-    let mut disk = MemoryDisk::new(rt.alloc(), b"not a store file.", &[])?;
     let foreign = RecoverFault::NotAStore {
         found: *b"not a st",
     };
-    assert_eq!(rt;
-        read_to_end(&mut disk, &mut Seen::new()).err(),
-        Some(foreign)
-    );
-    Ok(())
-}
-
-#[test]
-fn lengths_of_contents(rt: HostRuntime) -> Result<(), Fail> {
-    // the two octets of length before 602 others, how many octets are seen, and the refusal
-    let rows = [
-        ([0x58, 0x02], 601, None),
-        ([0x59, 0x02], 0, Some(RecoverFault::Damaged { at: 16 })),
+    // the octets, what is seen of their records, and the refusal that ends them
+    let rows: [(&[u8], &[u8], Option<RecoverFault>); 6] = [
+        (&ONE, &SEEN_ONE, None),
+        (&ONE[..24], &[], damaged(16)),
+        (
+            b"PXSTORE0\x08\0\0\0\0\0\0\0\x01\x04\0\0\x01\x04\x04\0",
+            &[4],
+            damaged(20),
+        ),
+        (b"PXSTORE0\x08\0\0\0\0\0\0\0\x02\x04\x04\0", &[], None),
+        (b"PXSTORE0\x01\0\x01\0\0\0\0\0\0\0", &[], damaged(8)),
+        (b"not a store file.", &[], Some(foreign)),
     ];
-    for (len, wanted, refusal) in rows {
-        let mut octets = NEW[..16].to_vec(rt.alloc())?;
-        octets.extend_from_slice(&[1, 4])?;
-        octets.extend_from_slice(&len)?;
-        octets.extend_from_slice(&[0; 602])?;
-        let mut disk = MemoryDisk::new(rt.alloc(), &octets, &[])?;
+    for (octets, wanted, refusal) in rows {
+        let mut disk = MemoryDisk::new(rt.alloc(), octets, &[])?;
         let mut seen = Seen::new();
-        assert_eq!(rt; read_to_end(&mut disk, &mut seen).err(), refusal, "{len:?}");
-        assert_eq!(rt; seen.len(), wanted, "{len:?}");
+        assert_eq!(rt; refusal_of(&mut disk, &mut seen), refusal, "{octets:?}");
+        assert_eq!(rt; seen.as_slice(), wanted, "{octets:?}");
     }
     Ok(())
 }
@@ -169,60 +143,37 @@ fn lengths_of_contents(rt: HostRuntime) -> Result<(), Fail> {
 fn an_interrupted_formatting(rt: HostRuntime) -> Result<(), Fail> {
     // the selector and the octet behind it, and the selector after the recovery
     for (selector, gate, wanted) in [(0, 0, 0), (3, 1, 0), (4, 1, 4)] {
-        let mut octets = NEW[..15].to_vec(rt.alloc())?;
-        octets.extend_from_slice(&[selector, gate])?;
-        let mut disk = MemoryDisk::new(rt.alloc(), &octets, &[])?;
-        assert_eq!(rt; read_to_end(&mut disk, &mut Seen::new())?.blocks(), 8);
-        let mut after = NEW[..15].to_vec(rt.alloc())?;
-        after.extend_from_slice(&[wanted, 0, 0])?;
-        assert_eq!(rt; disk.bytes(), after.as_slice(), "{selector}");
+        let mut octets = NEW;
+        octets[15] = selector;
+        octets[16] = gate;
+        let mut disk = MemoryDisk::new(rt.alloc(), &octets[..17], &[])?;
+        assert_eq!(rt; refusal_of(&mut disk, &mut Seen::new()), None);
+        octets[15] = wanted;
+        octets[16] = 0;
+        assert_eq!(rt; disk.bytes(), octets.as_slice(), "{selector}");
     }
     Ok(())
 }
 
-#[test]
-fn an_append_that_fails(rt: HostRuntime) -> Result<(), Fail> {
-    // seven writes and syncs make the store, and the append's second sync is the eleventh
-    let mut fuse = FuseDisk::new(MemoryDisk::new(rt.alloc(), &[], &[])?, 10);
-    let mut journal = read_to_end(&mut fuse, &mut Seen::new())?;
-    assert_eq!(rt;
-        journal.append(&mut fuse, 4, &[1, 0, 0, 0]),
-        Err(JournalFault::Disk)
-    );
-    assert!(rt; journal.failed());
-    assert_eq!(rt;
-        journal.append(&mut fuse, 4, &[]),
-        Err(JournalFault::Failed)
-    );
-    assert!(rt; !fuse.starved());
-    assert_eq!(rt; fuse.into_disk().bytes(), ONE.as_slice());
-    Ok(())
-}
-
-#[test]
-fn an_append_reads_nothing(rt: HostRuntime) -> Result<(), Fail> {
-    // the recovery makes three calls of the disk, the reading of the closed gate two, and the append four
-    for (failing, wanted) in [(10, Ok(())), (9, Err(JournalFault::Disk))] {
-        let mut disk = MemoryDisk::new(rt.alloc(), &NEW, &[failing])?;
-        let mut journal = read_to_end(&mut disk, &mut Seen::new())?;
-        assert_eq!(rt; journal.append(&mut disk, 4, &[1, 0, 0, 0]), wanted);
-        assert!(rt; !disk.starved());
-    }
-    Ok(())
-}
-
-/// Makes a store on the disk, or recovers it, and appends a record.
-fn put_one<D: Disk>(disk: &mut D) -> Result<Result<(), JournalFault>, RecoverFault> {
-    let mut journal = read_to_end(disk, &mut Seen::new())?;
-    Ok(journal.append(disk, 4, &[1, 0, 0, 0]))
+/// What is recovered of a disk: how many of the records are those that were put, and whether octet 15 is even.
+fn recovered(mut disk: MemoryDisk) -> (Option<usize>, bool) {
+    let mut seen = Seen::new();
+    let refusal = refusal_of(&mut disk, &mut seen);
+    let records = match seen.as_slice() {
+        [] => 0,
+        [4, 1, 0, 0, 0] => 1,
+        _ => 2,
+    };
+    let even = disk.bytes().get(15).is_some_and(|octet| octet % 2 == 0);
+    (refusal.is_none().then_some(records), even)
 }
 
 #[test]
 fn stops_at_each_write_and_sync(rt: HostRuntime) -> Result<(), Fail> {
-    let stopped = Err(RecoverFault::Disk);
-    let failed = Ok(Err(JournalFault::Disk));
-    // how many calls pass, the answer, and how many records are recovered where nothing of the open writes reached the
-    // disk, where all of it did, and where each open octet is 01
+    let stopped = Ended::Refused(RecoverFault::Disk);
+    let failed = Ended::Failed(JournalFault::Disk, Err(JournalFault::Failed));
+    // how many calls pass, how it ends, and how many records are recovered where nothing of the open writes reached the
+    // disk, where what was written did, and where each open octet is 01
     let rows = [
         (0, stopped, [0, 0, 0]),
         (1, stopped, [0, 0, 0]),
@@ -233,32 +184,28 @@ fn stops_at_each_write_and_sync(rt: HostRuntime) -> Result<(), Fail> {
         (6, stopped, [0, 0, 0]),
         (7, failed, [0, 0, 0]),
         (8, failed, [0, 0, 0]),
-        (9, failed, [0, 1, 1]),
+        (9, failed, [0, 0, 1]),
         (10, failed, [0, 1, 1]),
-        (11, Ok(Ok(())), [1, 1, 1]),
+        (11, Ended::Done, [1, 1, 1]),
     ];
-    for (calls, answer, [old, new, filled]) in rows {
+    for (calls, ended, [old, new, filled]) in rows {
         let picks = [
             (0, old, old),
             (1, new, new),
             (6, filled, filled),
-            (3, old, new),
-            (7, old, new),
-            (1003, old, new),
+            (3, old, filled),
+            (7, old, filled),
+            (1003, old, filled),
         ];
         for (pick, least, most) in picks {
             let mut fuse = FuseDisk::new(MemoryDisk::new(rt.alloc(), &[], &[])?, calls);
-            assert_eq!(rt; put_one(&mut fuse), answer, "{calls}");
+            assert_eq!(rt; put_one(&mut fuse), ended, "{calls}");
             assert!(rt; !fuse.starved());
-            let mut disk = fuse.into_disk().crash(pick)?;
-            let mut seen = Seen::new();
-            assert_eq!(rt; read_to_end(&mut disk, &mut seen)?.blocks(), 8);
-            let records = match seen.as_slice() {
-                [] => 0,
-                [4, 1, 0, 0, 0] => 1,
-                _ => 2,
-            };
-            assert!(rt; least <= records && records <= most, "{calls} {pick}");
+            let (records, _even) = recovered(fuse.into_disk().crash(pick)?);
+            assert!(rt;
+                records.is_some_and(|n| least <= n && n <= most),
+                "{calls} {pick}"
+            );
         }
     }
     Ok(())
@@ -266,25 +213,95 @@ fn stops_at_each_write_and_sync(rt: HostRuntime) -> Result<(), Fail> {
 
 #[test]
 fn stops_while_a_formatting_is_done_to_its_end(rt: HostRuntime) -> Result<(), Fail> {
-    let mut octets = NEW[..15].to_vec(rt.alloc())?;
-    octets.extend_from_slice(&[3, 1])?;
+    let mut octets = NEW;
+    octets[15] = 3;
+    octets[16] = 1;
     for calls in 0..8 {
         for pick in [0, 1, 6, 3, 7, 1003] {
-            let mut fuse = FuseDisk::new(MemoryDisk::new(rt.alloc(), &octets, &[])?, calls);
-            assert_eq!(rt;
-                read_to_end(&mut fuse, &mut Seen::new()).is_ok(),
-                calls == 7,
-                "{calls}"
-            );
+            let mut fuse = FuseDisk::new(MemoryDisk::new(rt.alloc(), &octets[..17], &[])?, calls);
+            let refusal = refusal_of(&mut fuse, &mut Seen::new());
+            assert_eq!(rt; refusal.is_none(), calls == 7, "{calls}");
             assert!(rt; !fuse.starved());
-            let mut disk = fuse.into_disk().crash(pick)?;
-            let mut seen = Seen::new();
-            assert_eq!(rt; read_to_end(&mut disk, &mut seen)?.blocks(), 8);
-            assert!(rt; seen.is_empty(), "{calls} {pick}");
-            assert_eq!(rt; disk.bytes().len(), 18, "{calls} {pick}");
-            let selector = disk.bytes().get(15).map(|octet| *octet % 2);
-            assert_eq!(rt; selector, Some(0), "{calls} {pick}");
+            let recovered = recovered(fuse.into_disk().crash(pick)?);
+            assert_eq!(rt; recovered, (Some(0), true), "{calls} {pick}");
         }
     }
+    Ok(())
+}
+
+/// A disk beside a list, which no call of the disk changes.
+#[derive(Drop)]
+struct WithList<D> {
+    disk: D,
+    list: Vec<u64>,
+}
+
+impl<D: Disk + Drop> Disk for WithList<D> {
+    ghost use Rattle.std.specs.Prelude.{◌≡◌, refl};
+    ghost use Rattle.std.proofs.Common.{◌∙◌};
+
+    ghost content = { λ w. D.content w.disk };
+
+    ghost images = { λ w. D.images w.disk };
+
+    ghost moment = { λ w. D.moment w.disk };
+
+    ghost images_since = { λ w. D.images_since w.disk };
+
+    ghost read_faults = { λ w. D.read_faults w.disk };
+
+    ghost write_faults = { λ w. D.write_faults w.disk };
+
+    ghost is_down = { λ w. D.is_down w.disk };
+
+    ghost lasts = { λ old new. new.list.items ≡ old.list.items };
+
+    fn len(&mut self) -> Result<u64, DiskFault> {
+        self.disk.len()
+    }
+
+    fn read(&mut self, at: u64, room: &mut [u8]) -> Result<(), DiskFault> {
+        self.disk.read(at, room)
+    }
+
+    fn write_at(&mut self, at: u64, bytes: &[u8]) -> Result<(), DiskFault> {
+        self.disk.write_at(at, bytes)
+    }
+
+    fn sync(&mut self) -> Result<(), DiskFault> {
+        self.disk.sync()
+    }
+
+    ghost content_is_image = { λ w. D.content_is_image w.disk };
+
+    ghost images_fit = { λ w. D.images_fit w.disk };
+
+    ghost counts_now = { λ w. D.counts_now w.disk };
+
+    ghost earlier = { λ w. D.earlier w.disk };
+
+    ghost lasts_same = { λ _. refl };
+
+    ghost lasts_on = { λ _ _ _ first second. second ∙ first };
+}
+
+/// A recovery, a reading and an append, on a disk beside a list; the list is the same afterwards.
+fn put_one_beside_a_list(disk: &mut WithList<FuseDisk>) -> Ended
+    ensures { disk.new.list.items ≡ disk.old.list.items }
+{
+    put_one(disk)
+}
+
+#[test]
+fn what_lasts(rt: HostRuntime) -> Result<(), Fail> {
+    let mut disk = WithList {
+        disk: FuseDisk::new(MemoryDisk::new(rt.alloc(), &NEW, &[])?, 4),
+        list: Vec::from_slice(rt.alloc(), &[3, 5])?,
+    };
+    assert_eq!(rt;
+        put_one_beside_a_list(&mut disk),
+        Ended::Failed(JournalFault::Disk, Err(JournalFault::Failed))
+    );
+    assert_eq!(rt; disk.list.as_slice(), [3, 5].as_slice());
     Ok(())
 }

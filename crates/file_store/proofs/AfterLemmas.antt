@@ -12,8 +12,9 @@ use Rattle.file_store.specs.Command.{Command, begin, grow, seal, drop_entry, can
 use Rattle.file_store.specs.Info.{is_complete}
 use Rattle.file_store.specs.IsStore.{IsStore, FitsLength}
 use Rattle.file_store.specs.Kept.{KeepsComplete, KeepsUploads, KeepsOthers}
-use Rattle.file_store.specs.Store.{Entry, Holding, partial, complete, Store, entry_of, blocks_for, blocks_of, LONGEST_FILE, MOST_ENTRIES, LAST_NEXT}
-use Rattle.file_store.specs.Upload.{Upload, Holds, begun_upload}
+use Rattle.file_store.specs.declared.limits.TheConstants.{LAST_NEXT, LONGEST_FILE, MOST_ENTRIES}
+use Rattle.file_store.specs.Store.{Entry, Holding, partial, complete, Store, entry_of, blocks_for, blocks_of, new_entry}
+use Rattle.file_store.specs.Upload.{Upload, Holds, new_upload}
 use Rattle.file_store.proofs.EntriesLemmas.{has_number, AreEntries-push, AreEntries-map-changed, AreEntries-filter, blocks-map-changed, find-map-changed_other, find-filter_other, find_past}
 
 -- ---- what a test tells
@@ -76,10 +77,10 @@ pub grow-allowed : (store : Store) (number : ℕ) (octets : List ℕ) → IsTrue
     → IsTrue (passes (λ e. has_room e.holding e.length (length octets)) (entry_of store number))
 grow-allowed store number octets ok = (and-parts (nat_le 1 (length octets) && nat_le (length octets) 512) (passes (λ e. has_room e.holding e.length (length octets)) (entry_of store number)) ok).1
 
-pub begun-IsStore : (store : Store) (caller : CallSign) (file_length moment : ℕ) → IsStore store → file_length ≤ LONGEST_FILE → length store.entries < MOST_ENTRIES
+pub new_entry-IsStore : (store : Store) (caller : CallSign) (file_length moment : ℕ) → IsStore store → file_length ≤ LONGEST_FILE → length store.entries < MOST_ENTRIES
     → blocks_of store + blocks_for file_length ≤ store.blocks → IsStore (after store (begin store.next caller file_length moment))
-begun-IsStore store caller file_length moment is small few room =
-    let new : Entry = record { number = store.next; caller = caller; length = file_length; begun = moment; holding = partial [] } in
+new_entry-IsStore store caller file_length moment is small few room =
+    let new : Entry = new_entry store.next caller file_length moment in
     record {
       entries = AreEntries-push 1 store.next store.entries new is.entries is.next refl (omega arith) small;
       next = omega arith;
@@ -93,7 +94,7 @@ pub begin-IsStore : (store : Store) (number : ℕ) (caller : CallSign) (file_len
     → IsTrue (is_allowed store (begin number caller file_length moment)) → IsStore (after store (begin number caller file_length moment))
 begin-IsStore store number caller file_length moment is ok =
     let says = begin-allowed store number caller file_length moment ok in
-    subst (λ (n : ℕ). IsStore (after store (begin n caller file_length moment))) (sym says.0) (begun-IsStore store caller file_length moment is says.1 says.2 says.3)
+    subst (λ (n : ℕ). IsStore (after store (begin n caller file_length moment))) (sym says.0) (new_entry-IsStore store caller file_length moment is says.1 says.2 says.3)
 
 pub change-IsStore : (store : Store) (number : ℕ) (change : Holding → Holding) (e : Entry) → IsStore store → entry_of store number ≡ Some e
     → FitsLength (change e.holding) e.length → IsStore (with_holding store number change)
@@ -210,20 +211,20 @@ KeepsOthers-then one two three number a b other ne h = b other ne (a other ne h)
 
 -- ---- a file that was just begun
 
-pub begun-KeepsUploads : (store : Store) (number : ℕ) (caller : CallSign) (file_length moment : ℕ) → KeepsUploads store (after store (begin number caller file_length moment))
-begun-KeepsUploads store number caller file_length moment other h =
+pub begin-KeepsUploads : (store : Store) (number : ℕ) (caller : CallSign) (file_length moment : ℕ) → KeepsUploads store (after store (begin number caller file_length moment))
+begin-KeepsUploads store number caller file_length moment other h =
     Holds-kept store (after store (begin number caller file_length moment)) other (λ e found. find-append_found (has_number other.number) store.entries _ e found) h
 
-pub begun-KeepsComplete : (store : Store) (number : ℕ) (caller : CallSign) (file_length moment : ℕ) → KeepsComplete store (after store (begin number caller file_length moment))
-begun-KeepsComplete store number caller file_length moment other e found whole = find-append_found (has_number other) store.entries _ e found
+pub begin-KeepsComplete : (store : Store) (number : ℕ) (caller : CallSign) (file_length moment : ℕ) → KeepsComplete store (after store (begin number caller file_length moment))
+begin-KeepsComplete store number caller file_length moment other e found whole = find-append_found (has_number other) store.entries _ e found
 
 -- the entry at the end, of a number that none has
 pub find-push : (test : Entry → Bool) (xs : List Entry) (e : Entry) → find test xs ≡ None → test e ≡ true → find test (xs ++ e ∷ []) ≡ Some e
 find-push test xs e none passed = rw (find-append test xs (e ∷ []), none, passed) refl
 
-pub begun-Holds : (store : Store) (caller : CallSign) (file_length moment : ℕ) → IsStore store
-    → Holds (after store (begin store.next caller file_length moment)) (begun_upload store.next caller file_length)
-begun-Holds store caller file_length moment is =
+pub begin-Holds : (store : Store) (caller : CallSign) (file_length moment : ℕ) → IsStore store
+    → Holds (after store (begin store.next caller file_length moment)) (new_upload store.next caller file_length)
+begin-Holds store caller file_length moment is =
     record {
       begun = moment;
       held = [];

@@ -5,7 +5,8 @@ use Rattle.std.specs.List.{position_or_len}
 use Rattle.std.proofs.lemmas.Bool.Decides.{nat_tests, eqb_tells}
 use Rattle.std.proofs.lemmas.List.{get_or_default}
 use Rattle.std.proofs.lemmas.List.Sums.{sum_by-cons}
-use Rattle.file_store.specs.Store.{Entry, Holding, partial, complete, octets_of, LONGEST_FILE, blocks_for}
+use Rattle.file_store.specs.declared.limits.TheConstants.{LONGEST_FILE}
+use Rattle.file_store.specs.Store.{Entry, Holding, partial, complete, octets_of, blocks_for}
 use Rattle.file_store.specs.IsStore.{AreEntries, FitsLength}
 use Rattle.file_store.specs.Command.{changed}
 

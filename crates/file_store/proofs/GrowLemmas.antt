@@ -4,7 +4,7 @@ use Rattle.std.specs.Prelude.{IsTrue}
 use Rattle.std.proofs.lemmas.Bool.Decides.{nat_tests, eqb_tells}
 use Rattle.std.proofs.lemmas.List.{length-take-le, append-nil}
 use Rattle.std.proofs.Math.Seq.{take-add, take-append-add, drop-append-add}
-use Rattle.file_store.specs.Command.{Command, grow, has_room, passes, is_allowed, grown, changed, with_holding, after, after_all, AreAllowed, DoesAll, grows, whole_grows, rest_of, last_grow}
+use Rattle.file_store.specs.Command.{Command, grow, has_room, passes, is_allowed, grown, changed, with_holding, after, after_all, AreAllowed, DoesAll, grows, whole_grows, unfilled_block, last_grow}
 use Rattle.file_store.specs.Kept.{KeepsOthers}
 use Rattle.file_store.specs.Store.{Entry, Holding, partial, complete, Store, octets_at, entry_of}
 use Rattle.file_store.specs.Upload.{Upload, Holds, HoldsAll, came, octets_come, appended}
@@ -186,8 +186,8 @@ append-Holds store now up bytes h new =
     let octets : List ℕ = take (512 * blocks) (up.rest ++ bytes) in
     let count : length octets ≡ 512 * blocks = length-take-le (512 * blocks) (up.rest ++ bytes) (omega arith) in
     subst (λ (s : Store). Holds s (appended up bytes)) (sym new)
-    (subst (λ (n : ℕ). Holds (with_holding store up.number (grown octets)) (record up { held = up.held + n; rest = rest_of (up.rest ++ bytes) })) count
-    (Holds-grown store up octets (rest_of (up.rest ++ bytes)) h))
+    (subst (λ (n : ℕ). Holds (with_holding store up.number (grown octets)) (record up { held = up.held + n; rest = unfilled_block (up.rest ++ bytes) })) count
+    (Holds-grown store up octets (unfilled_block (up.rest ++ bytes)) h))
 
 pub append-upload : (up moved : Upload) (bytes later : List ℕ) (n : ℕ) → n ≡ length (up.rest ++ bytes) / 512 → length up.rest ≤ 512 * n
     → later ≡ drop (512 * n - length up.rest) bytes → moved ≡ record up { held = up.held + 512 * n; rest = later } → moved ≡ appended up bytes

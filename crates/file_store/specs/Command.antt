@@ -1,8 +1,9 @@
 -- The commands that change a store, with the condition of each and what it does.
-use Rattle.std.specs.Prelude.{◌≡◌, ℕ, zero, suc, ◌+◌, ◌*◌, ◌/◌, ◌==◌, List, [], ◌∷◌, ◌++◌, length, take, drop, map, filter, Bool, not, true, false, ◌&&◌, nat_le, nat_lt, if◌then◌else◌, Option, None, Some, is_none, IsTrue, ⊤}
+use Rattle.std.specs.Prelude.{◌≡◌, ℕ, zero, suc, ◌+◌, ◌*◌, ◌/◌, ◌≤◌, ◌<◌, ◌==◌, List, [], ◌∷◌, ◌++◌, length, take, drop, map, filter, Bool, not, true, false, ◌&&◌, nat_le, nat_lt, if◌then◌else◌, Option, None, Some, is_none, IsTrue, ⊤}
 use Rattle.px_base.specs.CallSign.{CallSign}
+use Rattle.file_store.specs.declared.limits.TheConstants.{LAST_NEXT, LONGEST_FILE, MOST_ENTRIES}
 use Rattle.file_store.specs.Header.{fault_of}
-use Rattle.file_store.specs.Store.{Entry, Holding, partial, complete, Store, blocks_for, blocks_of, entry_of, LAST_NEXT, LONGEST_FILE, MOST_ENTRIES}
+use Rattle.file_store.specs.Store.{Entry, Holding, partial, complete, Store, blocks_for, blocks_of, entry_count, entry_of, free_blocks, new_entry, octets_at}
 
 pub data Command : Type 0 where
   -- a file of this number, caller, length and moment is begun
@@ -19,6 +20,13 @@ abbrev pub can_begin : Store → ℕ → Bool
 can_begin store file_length =
     nat_le file_length LONGEST_FILE && nat_lt (length store.entries) MOST_ENTRIES && nat_lt store.next LAST_NEXT
     && nat_le (blocks_of store + blocks_for file_length) store.blocks
+
+-- the same as a fact: a file of this length may be begun
+pub record MayBegin (store : Store) (file_length : ℕ) : Type 0 where
+  pub short : file_length ≤ LONGEST_FILE
+  pub few : entry_count store < MOST_ENTRIES
+  pub left : store.next < LAST_NEXT
+  pub room : blocks_for file_length ≤ free_blocks store
 
 -- whether so many further octets fit a file of this length that has come so far
 abbrev pub has_room : Holding → ℕ → ℕ → Bool
@@ -44,6 +52,14 @@ is_partial (complete octets moment) = false
 abbrev pub passes : (Entry → Bool) → Option Entry → Bool
 passes test None = false
 passes test (Some entry) = test entry
+
+-- the entry of this number is partial, and has room for so many further octets
+abbrev pub HasRoom : Store → ℕ → ℕ → Type 0
+HasRoom store number more = IsTrue (passes (λ e. has_room e.holding e.length more) (entry_of store number))
+
+-- the code of the first rule that the octets of the entry of this number break
+abbrev pub fault_at : Store → ℕ → Option ℕ
+fault_at store number = fault_of (octets_at (entry_of store number))
 
 -- whether the condition of the command holds in the store
 abbrev pub is_allowed : Store → Command → Bool
@@ -77,7 +93,7 @@ with_holding store number change = record store { entries = map (changed number 
 abbrev pub after : Store → Command → Store
 after store (begin number caller file_length moment) =
     record store {
-      entries = store.entries ++ record { number = number; caller = caller; length = file_length; begun = moment; holding = partial [] } ∷ [];
+      entries = store.entries ++ new_entry number caller file_length moment ∷ [];
       next = number + 1;
     }
 after store (grow number octets) = with_holding store number (grown octets)
@@ -109,8 +125,8 @@ abbrev pub whole_grows : ℕ → List ℕ → List Command
 whole_grows number octets = grows number (length octets / 512) octets
 
 -- the octets that are left after the last whole 512
-abbrev pub rest_of : List ℕ → List ℕ
-rest_of octets = drop (512 * (length octets / 512)) octets
+abbrev pub unfilled_block : List ℕ → List ℕ
+unfilled_block octets = drop (512 * (length octets / 512)) octets
 
 -- the last grow, of the octets that are left, where there are any
 abbrev pub last_grow : ℕ → List ℕ → List Command

@@ -1,6 +1,7 @@
 -- What holds of each store that the commands make.
 use Rattle.std.specs.Prelude.{◌≡◌, ℕ, ◌+◌, ◌≤◌, ◌<◌, List, [], ◌∷◌, length, ⊤}
-use Rattle.file_store.specs.Store.{Entry, Holding, partial, complete, Store, blocks_of, LONGEST_FILE, MOST_ENTRIES}
+use Rattle.file_store.specs.declared.limits.TheConstants.{LONGEST_FILE, MOST_ENTRIES}
+use Rattle.file_store.specs.Store.{Entry, Holding, partial, complete, Store, blocks_of}
 
 -- so many octets as the file has, where it is complete, and no more before
 abbrev pub FitsLength : Holding → ℕ → Type 0

@@ -12,10 +12,11 @@ abbrev pub CommandsLaw : Type 0
 CommandsLaw =
     ((blocks : ℕ) → 1 ≤ blocks → blocks ≤ 65536 → IsStore (empty_store blocks))
     × ((store : Store) (command : Command) → IsStore store → IsTrue (is_allowed store command)
-    → IsStore (after store command) × KeepsComplete store (after store command) × (store.next ≤ (after store command).next))
+    → IsStore (after store command) × KeepsComplete store (after store command)
+    × (store.next ≤ (after store command).next))
 
 -- A number that was given, and has no entry any more, never gets one again, whatever commands follow.
 abbrev pub NumbersLaw : Type 0
 NumbersLaw =
-    (store : Store) (commands : List Command) (number : ℕ) → AreAllowed store commands → number < store.next → entry_of store number ≡ None
-    → entry_of (after_all store commands) number ≡ None
+    (store : Store) (commands : List Command) (number : ℕ) → AreAllowed store commands → number < store.next
+    → entry_of store number ≡ None → entry_of (after_all store commands) number ≡ None

@@ -27,14 +27,23 @@ pub record Entry : Type 0 where
   pub begun : ℕ
   pub holding : Holding
 
+-- the entry of a file that was just begun
+abbrev pub new_entry : ℕ → CallSign → ℕ → ℕ → Entry
+new_entry number caller file_length moment =
+    record { number = number; caller = caller; length = file_length; begun = moment; holding = partial [] }
+
 pub record Store : Type 0 where
   pub entries : List Entry
   pub next : ℕ
   pub blocks : ℕ
 
+-- a store by its parts
+abbrev pub store_from : List Entry → ℕ → ℕ → Store
+store_from entries next blocks = record { entries = entries; next = next; blocks = blocks }
+
 -- nothing is held yet, and the first number is 1
 abbrev pub empty_store : ℕ → Store
-empty_store blocks = record { entries = []; next = 1; blocks = blocks }
+empty_store blocks = store_from [] 1 blocks
 
 -- how many blocks of 512 octets a file of this length takes
 abbrev pub blocks_for : ℕ → ℕ
@@ -64,15 +73,3 @@ holding_of_number store number = option_map (λ e. e.holding) (entry_of store nu
 abbrev pub octets_at : Option Entry → List ℕ
 octets_at None = []
 octets_at (Some entry) = octets_of entry.holding
-
--- the longest file, in octets
-abbrev pub LONGEST_FILE : ℕ
-LONGEST_FILE = 4194304
-
--- the most entries
-abbrev pub MOST_ENTRIES : ℕ
-MOST_ENTRIES = 1024
-
--- the number after which none is given
-abbrev pub LAST_NEXT : ℕ
-LAST_NEXT = 4294967295

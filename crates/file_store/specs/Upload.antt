@@ -1,8 +1,9 @@
 -- An upload that is under way: what its holder knows of the entry, and the octets that came but aren't held yet.
 use Rattle.std.specs.Prelude.{◌≡◌, ℕ, ◌+◌, ◌*◌, ◌/◌, ◌<◌, ◌≤◌, List, [], ◌∷◌, ◌++◌, length, Some}
 use Rattle.px_base.specs.CallSign.{CallSign}
-use Rattle.file_store.specs.Command.{Command, seal, drop_entry, rest_of, last_grow}
-use Rattle.file_store.specs.Store.{partial, Store, entry_of, octets_at, LONGEST_FILE}
+use Rattle.file_store.specs.declared.limits.TheConstants.{LONGEST_FILE}
+use Rattle.file_store.specs.Command.{Command, seal, drop_entry, unfilled_block, last_grow}
+use Rattle.file_store.specs.Store.{partial, Store, entry_of, octets_at, Entry, Holding}
 
 pub record Upload : Type 0 where
   pub number : ℕ
@@ -11,22 +12,32 @@ pub record Upload : Type 0 where
   pub held : ℕ
   pub rest : List ℕ
 
+-- an upload by its parts
+abbrev pub upload_from : ℕ → CallSign → ℕ → ℕ → List ℕ → Upload
+upload_from number caller file_length held rest =
+    record { number = number; caller = caller; length = file_length; held = held; rest = rest }
+
 -- fewer than 512 octets aren't held yet, and no more came than the file has
 pub record IsUpload (up : Upload) : Type 0 where
   pub rest : length up.rest < 512
   pub came : up.held + length up.rest ≤ up.length
   pub file : up.length ≤ LONGEST_FILE
 
+-- an upload's entry, begun in this moment, that has come so far
+abbrev pub entry_for : Upload → ℕ → Holding → Entry
+entry_for up begun holding =
+    record { number = up.number; caller = up.caller; length = up.length; begun = begun; holding = holding }
+
 -- the store's entry is the upload's, under way, and holds as many octets as the upload says
 pub record Holds (store : Store) (up : Upload) : Type 0 where
   pub begun : ℕ
   pub held : List ℕ
-  pub entry : entry_of store up.number ≡ Some (record { number = up.number; caller = up.caller; length = up.length; begun = begun; holding = partial held })
+  pub entry : entry_of store up.number ≡ Some (entry_for up begun (partial held))
   pub count : length held ≡ up.held
 
 -- the upload of a file that was just begun
-abbrev pub begun_upload : ℕ → CallSign → ℕ → Upload
-begun_upload number caller file_length = record { number = number; caller = caller; length = file_length; held = 0; rest = [] }
+abbrev pub new_upload : ℕ → CallSign → ℕ → Upload
+new_upload number caller file_length = upload_from number caller file_length 0 []
 
 -- how many octets came of the file
 abbrev pub came : Upload → ℕ
@@ -35,7 +46,7 @@ came up = up.held + length up.rest
 -- the upload after further octets came: each whole 512 is held, and the rest isn't yet
 abbrev pub appended : Upload → List ℕ → Upload
 appended up octets =
-    record up { held = up.held + 512 * (length (up.rest ++ octets) / 512); rest = rest_of (up.rest ++ octets) }
+    record up { held = up.held + 512 * (length (up.rest ++ octets) / 512); rest = unfilled_block (up.rest ++ octets) }
 
 -- the octets that came of the file: those held, then those that aren't yet
 abbrev pub octets_come : Store → Upload → List ℕ
@@ -52,5 +63,5 @@ dropping up = last_grow up.number up.rest ++ drop_entry up.number ∷ []
 -- the store's entry is the upload's, under way, and holds these octets, as many as the file has
 pub record HoldsAll (store : Store) (up : Upload) (octets : List ℕ) : Type 0 where
   pub begun : ℕ
-  pub entry : entry_of store up.number ≡ Some (record { number = up.number; caller = up.caller; length = up.length; begun = begun; holding = partial octets })
+  pub entry : entry_of store up.number ≡ Some (entry_for up begun (partial octets))
   pub count : length octets ≡ up.length

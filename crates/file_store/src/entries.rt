@@ -1,12 +1,9 @@
 //! The list of entries.
 
-ghost use Rattle.std.specs.Prelude.{◌≡◌, ◌==◌, ◌+◌, ◌≤◌, ◌<◌, ◌^◌, ◌++◌, length, map, filter, not, find, position, sum_by, IsTrue, IsSome, OnOk, OnErr};
-ghost use Rattle.file_store.specs.Store.{blocks_for, octets_of, LONGEST_FILE};
-ghost use Rattle.file_store.specs.IsStore.{AreEntries};
-ghost use Rattle.file_store.specs.Command.{changed, grown, sealed, is_partial, passes};
+ghost use Rattle.std.specs.Prelude.{◌≡◌, ◌==◌, ◌<◌, ◌^◌, filter, not, position, sum_by};
+ghost use Rattle.file_store.specs.Store.{blocks_for};
 
 use crate::stored_file::StoredFile;
-use px_base::OutOfMemory;
 
 /// The place of the entry of this number.
 pub fn place_of(entries: &[StoredFile], number: u32) -> Option<usize>

@@ -2,39 +2,23 @@
 
 ghost use Rattle.std.specs.Prelude.{◌≡◌, ◌↔◌, ◌+◌, ◌≤◌, ◌<◌, ◌++◌, length, IsTrue, IsErrOf, OnOk, OnErr, IfOk, IfErr, MatchResult, IfSome, IfNone};
 ghost use Rattle.std.specs.Option.{option_map};
-ghost use Rattle.file_store.specs.Answers.{Tells, Names, Refuses, is_too_much, back_of, is_short, HandsBack, IsHeader, OnBack, OnHeader};
-ghost use Rattle.file_store.specs.Command.{begin as begun, grow as grows, seal as seals, drop_entry as drops, can_begin, is_whole, passes, has_room, with_holding, grown, after, after_all, AreAllowed, DoesAll, whole_grows, last_grow};
+ghost use Rattle.file_store.specs.Answers.{DropsFaulty, HandsBack, IsHeader, Names, OnBack, OnHeader, Refuses, Tells, back_of, is_short, is_too_much};
+ghost use Rattle.file_store.specs.Command.{AreAllowed, DoesAll, HasRoom, MayBegin, after, after_all, begin, can_begin, drop_entry, fault_at, grown, is_whole, last_grow, passes, seal, whole_grows, with_holding};
 ghost use Rattle.file_store.specs.Header.{fault_of};
 ghost use Rattle.file_store.specs.Info.{info_of};
 ghost use Rattle.file_store.specs.IsStore.{IsStore};
 ghost use Rattle.file_store.specs.Kept.{KeepsComplete, KeepsUploads, KeepsOthers};
-ghost use Rattle.file_store.specs.Store.{complete, empty_store, entry_of, entry_count, holding_of_number, octets_at, blocks_for, free_blocks, LONGEST_FILE, MOST_ENTRIES, LAST_NEXT};
-ghost use Rattle.file_store.specs.Upload.{Holds, HoldsAll, begun_upload, appended, came, octets_come, sealing, dropping};
+ghost use Rattle.file_store.specs.Store.{blocks_for, complete, empty_store, entry_of, free_blocks, holding_of_number};
+ghost use Rattle.file_store.specs.Upload.{Holds, HoldsAll, appended, came, new_upload, octets_come, sealing};
 
 use crate::entries::{self, blocks_taken, place_of};
 use crate::header::header_fault;
-use crate::open_upload::BLOCK;
+use crate::limits::{BLOCK, LAST_NEXT, LONGEST_FILE, MOST_ENTRIES, blocks_of_length};
 use crate::stored_file::StoredFile;
-use crate::{AppendRefusal, BeginRefusal, Info, OpenUpload, Receipt, SealRefusal};
+use crate::{AppendRefusal, BeginRefusal, Info, Limits, OpenUpload, Receipt, SealRefusal};
 use px_base::{Call, OutOfMemory};
 use std::alloc::Global;
 use std::marker::Model;
-
-/// The longest file, in octets.
-const MAX_LENGTH: u32 = 4_194_304;
-
-/// The most entries.
-const MAX_ENTRIES: usize = 1_024;
-
-/// The next number after which none is given.
-const LAST_NUMBER: u32 = u32::MAX;
-
-/// What a store may take.
-#[derive(Clone, Copy, Debug, PartialEq, Eq)]
-pub struct Limits {
-    /// How many blocks of 512 octets the files may take together, 1 to 65,536.
-    pub blocks: u32,
-}
 
 /// The files that are held. Contracts see it as a `Store`.
 #[derive(Drop)]
@@ -48,14 +32,14 @@ pub struct FileStore {
 }
 
 impl Model for FileStore {
-    ghost use Rattle.file_store.specs.Store.{Store};
+    ghost use Rattle.file_store.specs.Store.{Store, store_from};
     ghost use Rattle.file_store.specs.IsStore.{IsStore};
 
     ghost Value = { Store };
 
-    ghost view = { λ a. record { entries = a.entries.items; next = a.next; blocks = a.blocks } };
+    ghost view = { λ a. store_from a.entries.items a.next a.blocks };
 
-    ghost invariant = { λ a. IsStore (record { entries = a.entries.items; next = a.next; blocks = a.blocks }) };
+    ghost invariant = { λ a. IsStore (store_from a.entries.items a.next a.blocks) };
 }
 
 impl FileStore {
@@ -84,15 +68,18 @@ impl FileStore {
         moment: u32,
     ) -> Result<OpenUpload, BeginRefusal>
         // Each refusal comes exactly where its cause holds and none that is looked at before.
-        ensures too_long { IsErrOf result BeginRefusal.TooLong ↔ (LONGEST_FILE < length) }
-        ensures too_many { IsErrOf result BeginRefusal.TooMany ↔ ((length ≤ LONGEST_FILE) × (MOST_ENTRIES ≤ entry_count self.old)) }
-        ensures numbers_gone { IsErrOf result BeginRefusal.NumbersGone ↔ ((length ≤ LONGEST_FILE) × (entry_count self.old < MOST_ENTRIES) × (self.old.next ≡ LAST_NEXT)) }
-        ensures no_room { IsErrOf result (BeginRefusal.NoRoom (blocks_for length) (free_blocks self.old)) ↔ ((length ≤ LONGEST_FILE) × (entry_count self.old < MOST_ENTRIES) × (self.old.next < LAST_NEXT) × (free_blocks self.old < blocks_for length)) }
+        ensures too_long { IsErrOf result BeginRefusal.TooLong ↔ Refuses BeginRefusal.TooLong self.old length }
+        ensures too_many { IsErrOf result BeginRefusal.TooMany ↔ Refuses BeginRefusal.TooMany self.old length }
+        ensures numbers_gone { IsErrOf result BeginRefusal.NumbersGone
+            ↔ Refuses BeginRefusal.NumbersGone self.old length }
+        ensures no_room { let refusal = BeginRefusal.NoRoom (blocks_for length) (free_blocks self.old) in
+            IsErrOf result refusal ↔ Refuses refusal self.old length }
         ensures numbers { IfErr result (λ refusal. Names refusal (blocks_for length) (free_blocks self.old)) }
-        ensures can { MatchResult result (λ _. IsTrue (can_begin self.old length)) (λ refusal. Tells refusal (can_begin self.old length)) }
+        ensures can { MatchResult result (λ _. IsTrue (can_begin self.old length))
+            (λ refusal. Tells refusal (can_begin self.old length)) }
 
-        ensures ok { OnOk result (self.new ≡ after self.old (begun self.old.next caller length moment)) }
-        ensures upload { IfOk result (λ up. up ≡ begun_upload self.old.next caller length) }
+        ensures ok { OnOk result (self.new ≡ after self.old (begin self.old.next caller length moment)) }
+        ensures upload { IfOk result (λ up. up ≡ new_upload self.old.next caller length) }
         ensures holds { IfOk result (λ up. Holds self.new up) }
         ensures err { OnErr result (self.new ≡ self.old) }
 
@@ -104,7 +91,7 @@ impl FileStore {
         }
         let number = self.next;
         match self.add(caller, length, moment) {
-            Ok(()) => Ok(OpenUpload::begun(number, caller, length)),
+            Ok(()) => Ok(OpenUpload::new(number, caller, length)),
             Err(OutOfMemory) => Err(BeginRefusal::OutOfMemory),
         }
     }
@@ -157,10 +144,11 @@ impl FileStore {
         ensures good { OnOk result ((came up ≡ up.length) × (fault_of (octets_come self.old up) ≡ None)) }
         ensures receipt { IfOk result (λ receipt. receipt ≡ up.number) }
         ensures ok { OnOk result (DoesAll self.old self.new (sealing up moment)) }
-        ensures complete { OnOk result (holding_of_number self.new up.number ≡ Some (complete (octets_come self.old up) moment)) }
+        ensures complete { OnOk result
+            (holding_of_number self.new up.number ≡ Some (complete (octets_come self.old up) moment)) }
 
         // The entry of a file with a fault is dropped.
-        ensures header { IfErr result (λ refusal. OnHeader refusal (λ code. (came up ≡ up.length) × (fault_of (octets_come self.old up) ≡ Some code) × DoesAll self.old self.new (dropping up))) }
+        ensures header { IfErr result (λ refusal. OnHeader refusal (DropsFaulty self.old self.new up)) }
 
         ensures uploads { KeepsOthers self.old self.new up.number }
         ensures kept { KeepsComplete self.old self.new }
@@ -196,18 +184,18 @@ impl FileStore {
     /// Why a file of this length can't be begun, other than want of memory.
     fn begin_refusal(&self, length: u32) -> Option<BeginRefusal>
         ensures some { IfSome result (λ refusal. Refuses refusal self.now length) }
-        ensures none { IfNone result ((length ≤ LONGEST_FILE) × (entry_count self.now < MOST_ENTRIES) × (self.now.next < LAST_NEXT) × (blocks_for length ≤ free_blocks self.now)) }
+        ensures none { IfNone result (MayBegin self.now length) }
     {
-        if length > MAX_LENGTH {
+        if length > LONGEST_FILE {
             return Some(BeginRefusal::TooLong);
         }
-        if self.entries.len() >= MAX_ENTRIES {
+        if self.entries.len() >= MOST_ENTRIES {
             return Some(BeginRefusal::TooMany);
         }
-        if self.next == LAST_NUMBER {
+        if self.next == LAST_NEXT {
             return Some(BeginRefusal::NumbersGone);
         }
-        let blocks = length.div_ceil(512);
+        let blocks = blocks_of_length(length);
         let free = self.blocks - blocks_taken(&self.entries);
         if blocks > free {
             return Some(BeginRefusal::NoRoom { blocks, free });
@@ -219,15 +207,12 @@ impl FileStore {
 
     /// Begins a file, or changes nothing where there is no memory. Takes memory.
     fn add(&mut self, caller: Call, length: u32, moment: u32) -> Result<(), OutOfMemory>
-        requires short { length ≤ LONGEST_FILE }
-        requires few { entry_count self.old < MOST_ENTRIES }
-        requires left { self.old.next < LAST_NEXT }
-        requires room { blocks_for length ≤ free_blocks self.old }
+        requires { MayBegin self.old length }
         ensures rules { IsStore self.old }
-        ensures ok { OnOk result (self.new ≡ after self.old (begun self.old.next caller length moment)) }
+        ensures ok { OnOk result (self.new ≡ after self.old (begin self.old.next caller length moment)) }
         ensures err { OnErr result (self.new ≡ self.old) }
     {
-        let file = StoredFile::begun(self.alloc, self.next, caller, length, moment);
+        let file = StoredFile::new(self.alloc, self.next, caller, length, moment);
         self.entries.push(file)?;
         self.next += 1;
         Ok(())
@@ -235,7 +220,7 @@ impl FileStore {
 
     /// Puts octets at the end of those held, or changes nothing where there is no memory. Takes memory.
     fn grow(&mut self, number: u32, first: &[u8], second: &[u8]) -> Result<(), OutOfMemory>
-        requires { IsTrue (passes (λ e. has_room e.holding e.length (length first.now + length second.now)) (entry_of self.old number)) }
+        requires { HasRoom self.old number (length first.now + length second.now) }
         ensures rules { IsStore self.old }
         ensures ok { OnOk result (self.new ≡ with_holding self.old number (grown (first.now ++ second.now))) }
         ensures err { OnErr result (self.new ≡ self.old) }
@@ -265,9 +250,10 @@ impl FileStore {
     fn finish(&mut self, number: u32, moment: u32) -> Result<Receipt, SealRefusal>
         requires { IsTrue (passes (λ e. is_whole e.holding e.length) (entry_of self.old number)) }
         ensures rules { IsStore self.old }
-        ensures good { IfOk result (λ receipt. (receipt ≡ number) × (fault_of (octets_at (entry_of self.old number)) ≡ None)) }
-        ensures sealed { OnOk result (self.new ≡ after self.old (seals number moment)) }
-        ensures dropped { IfErr result (λ refusal. IsHeader refusal (fault_of (octets_at (entry_of self.old number))) × (self.new ≡ after self.old (drops number))) }
+        ensures good { IfOk result (λ receipt. (receipt ≡ number) × (fault_at self.old number ≡ None)) }
+        ensures sealed { OnOk result (self.new ≡ after self.old (seal number moment)) }
+        ensures dropped { IfErr result (λ refusal. IsHeader refusal (fault_at self.old number)
+            × (self.new ≡ after self.old (drop_entry number))) }
     {
         let place = place_of(&self.entries, number).unwrap();
         match header_fault(self.entries[place].octets()) {

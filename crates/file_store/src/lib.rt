@@ -10,6 +10,7 @@ mod file_store;
 mod header;
 mod info;
 pub mod laws;
+mod limits;
 mod open_upload;
 mod receipt;
 mod refusals;
@@ -17,8 +18,9 @@ mod stored_file;
 #[cfg(test)]
 mod tests;
 
-pub use file_store::{FileStore, Limits};
+pub use file_store::FileStore;
 pub use info::Info;
+pub use limits::{LAST_NEXT, LONGEST_FILE, Limits, MOST_ENTRIES};
 pub use open_upload::OpenUpload;
 pub use receipt::Receipt;
 pub use refusals::{AppendRefusal, BeginRefusal, SealRefusal};

@@ -1,15 +1,11 @@
 //! An upload under way.
 
-ghost use Rattle.std.specs.Prelude.{◌≡◌, ◌+◌, ◌-◌, ◌*◌, ◌/◌, ◌≤◌, ◌<◌, [], ◌++◌, length};
-ghost use Rattle.file_store.specs.Store.{LONGEST_FILE};
-ghost use Rattle.file_store.specs.Command.{rest_of};
+ghost use Rattle.std.specs.Prelude.{◌≡◌, ◌+◌, ◌-◌, ◌≤◌, ◌<◌, ◌++◌, length};
 
+use crate::limits::LONGEST_FILE;
 use arrayvec::ArrayVec;
 use px_base::Call;
 use std::marker::Model;
-
-/// The octets in a block.
-pub(crate) const BLOCK: usize = 512;
 
 /// An upload under way: the way to its entry in the store, and the octets that came but aren't held there
 /// yet, fewer than 512. It must be spent, by `seal` or `park`. Contracts see it as an `Upload`.
@@ -22,20 +18,22 @@ pub struct OpenUpload {
 }
 
 impl Model for OpenUpload {
-    ghost use Rattle.file_store.specs.Upload.{Upload, IsUpload};
+    ghost use Rattle.file_store.specs.Upload.{IsUpload, Upload, upload_from};
 
     ghost Value = { Upload };
 
-    ghost view = { λ a. record { number = a.number; caller = a.caller; length = a.length; held = a.held; rest = a.rest.items } };
+    ghost view = { λ a. upload_from a.number a.caller a.length a.held a.rest.items };
 
-    ghost invariant = { λ a. IsUpload (record { number = a.number; caller = a.caller; length = a.length; held = a.held; rest = a.rest.items }) };
+    ghost invariant = { λ a. IsUpload (upload_from a.number a.caller a.length a.held a.rest.items) };
 }
 
 impl OpenUpload {
+    ghost use Rattle.file_store.specs.Upload.{new_upload};
+
     /// The upload of an entry that was just begun.
-    pub(crate) fn begun(number: u32, caller: Call, file_length: u32) -> OpenUpload
+    pub(crate) fn new(number: u32, caller: Call, file_length: u32) -> OpenUpload
         requires { file_length ≤ LONGEST_FILE }
-        ensures { result ≡ record { number = number; caller = caller; length = file_length; held = 0; rest = [] } }
+        ensures { result ≡ new_upload number caller file_length }
     {
         OpenUpload {
             number,

@@ -1,11 +1,12 @@
 //! An entry of the store.
 
-ghost use Rattle.std.specs.Prelude.{◌≡◌, ◌+◌, ◌≤◌, ◌<◌, ◌++◌, [], length, IsTrue, OnOk, OnErr};
-ghost use Rattle.file_store.specs.Store.{partial, octets_of, blocks_for, LONGEST_FILE};
-ghost use Rattle.file_store.specs.Command.{grown, sealed, is_partial};
-ghost use Rattle.file_store.specs.Info.{info_of, is_complete};
+ghost use Rattle.std.specs.Prelude.{◌≡◌, ◌+◌, ◌≤◌, ◌++◌, length, IsTrue, OnOk, OnErr};
+ghost use Rattle.file_store.specs.Store.{blocks_for, new_entry, octets_of};
+ghost use Rattle.file_store.specs.Command.{grown, is_partial, sealed};
+ghost use Rattle.file_store.specs.Info.{info_of};
 
 use crate::Info;
+use crate::limits::{LONGEST_FILE, blocks_of_length};
 use px_base::{Call, OutOfMemory};
 use std::alloc::Global;
 use std::marker::Model;
@@ -27,19 +28,25 @@ impl Model for StoredFile {
 
     ghost Value = { Entry };
 
-    ghost view = { λ a. record { number = a.number; caller = a.caller; length = a.length; begun = a.begun; holding = holding_of a.octets.items a.sealed } };
+    ghost view = { λ a. record {
+      number = a.number;
+      caller = a.caller;
+      length = a.length;
+      begun = a.begun;
+      holding = holding_of a.octets.items a.sealed;
+    } };
 }
 
 impl StoredFile {
     /// A file of which no octet is held. Takes no memory.
-    pub fn begun(
+    pub fn new(
         alloc: Global,
         number: u32,
         caller: Call,
         file_length: u32,
         moment: u32,
     ) -> StoredFile
-        ensures { result ≡ record { number = number; caller = caller; length = file_length; begun = moment; holding = partial [] } }
+        ensures { result ≡ new_entry number caller file_length moment }
     {
         StoredFile {
             number,
@@ -62,7 +69,7 @@ impl StoredFile {
     pub fn blocks(&self) -> u32
         ensures { result ≡ blocks_for self.now.length }
     {
-        self.length.div_ceil(512)
+        blocks_of_length(self.length)
     }
 
     /// The octets held.
@@ -92,7 +99,8 @@ impl StoredFile {
     pub fn grow(&mut self, first: &[u8], second: &[u8]) -> Result<(), OutOfMemory>
         requires small { length first.now + length second.now ≤ LONGEST_FILE }
         requires under_way { IsTrue (is_partial self.old.holding) }
-        ensures ok { OnOk result (self.new ≡ record self.old { holding = grown (first.now ++ second.now) self.old.holding }) }
+        ensures ok { OnOk result
+            (self.new ≡ record self.old { holding = grown (first.now ++ second.now) self.old.holding }) }
         ensures err { OnErr result (self.new ≡ self.old) }
     {
         self.octets.reserve(first.len() + second.len())?;

@@ -2,16 +2,17 @@
 use Rattle.std.proofs.Common.{List, [], ◌∷◌, ◌++◌, ℕ, refl, inl, inr}
 use Rattle.std.specs.Prelude.{codes}
 use Rattle.std.specs.List.{AllByRecursion}
+use Rattle.std.proofs.lemmas.List.Elements.{recursion_from_All}
 use Rattle.kiss.specs.declared.whole.Part.{Part}
 use Rattle.kiss.specs.declared.whole.Part.TheVariants.{Frame, Dropped, Passed}
 use Rattle.kiss.specs.KissText.{kiss_parts}
+use Rattle.kiss.specs.Laws.{FramesHaveOctets, HasOctets}
 use Rattle.ax25_frames.specs.Laws.{IsFrameOrFault}
 use Rattle.frame_lines.specs.FrameLine.{fault_line, frame_line}
 use Rattle.frame_lines.specs.FramesText.{LineOf, LinesOf, line_feed}
 use Rattle.frame_lines.specs.Laws.{HasText}
-use Rattle.frame_lines.proofs.KissOctets.{HasOctets, kiss_octets}
 
-module _ (frame_or_fault : IsFrameOrFault) where
+module _ (frame_or_fault : IsFrameOrFault) (frames_have_octets : FramesHaveOctets) where
   -- each part has a line
   line_of : (part : Part) → HasOctets part → (line : List ℕ) × LineOf part line
   line_of (Frame octets) h =
@@ -31,4 +32,4 @@ module _ (frame_or_fault : IsFrameOrFault) where
       (line.0 ++ line_feed ∷ rest.0, (line.0, rest.0, line.1, rest.1, refl))
 
   pub each_text : HasText
-  each_text recorded h = text_of (kiss_parts recorded) (kiss_octets recorded h)
+  each_text recorded h = text_of (kiss_parts recorded) (recursion_from_All HasOctets (kiss_parts recorded) (frames_have_octets recorded h))

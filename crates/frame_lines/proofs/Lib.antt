@@ -1,4 +1,3 @@
 pub mod EachText
-pub mod KissOctets
 pub mod Lines
 pub mod Showing

@@ -1,6 +1,6 @@
 -- Laws of the text of recorded KISS text.
 use Rattle.std.specs.Prelude.{◌≡◌, ℕ, List}
-use Rattle.ax25_frames.specs.Kinds.{IsOctets}
+use Rattle.px_base.specs.Octets.{IsOctets}
 use Rattle.frame_lines.specs.FramesText.{FramesText}
 
 -- recorded octets have one text at most

@@ -1,3 +1,4 @@
 pub mod FrameLine
 pub mod FramesText
+pub mod Gathering
 pub mod Laws

@@ -3,12 +3,14 @@
 ghost use Rattle.frame_lines.specs.Laws.{HasText, IsOneText};
 
 use ax25_frames::laws::{frame_or_fault, no_frame_at_a_fault, one_fault, one_frame};
+use kiss::laws::frames_have_octets;
 
 /// Recorded octets have exactly one text.
 pub fn one_text()
     ensures at_most { IsOneText }
     ensures some { HasText }
 {
+    frames_have_octets();
     frame_or_fault();
     one_frame();
     one_fault();

@@ -11,26 +11,28 @@ use ax25_frames::{Frame, FrameFault, Kind};
 use itoa::Buffer;
 use px_base::Call;
 
-/// Room for a line in octets: 20 for the calls, 4 for the kind, 14 for two sequence numbers, 5 for the P/F bit, 2 for
+/// The most octets of a line: 20 for the calls, 4 for the kind, 14 for two sequence numbers, 5 for the P/F bit, 2 for
 /// command or response, 25 for a length, and 1 for the line feed.
 pub(crate) const LINE_ROOM: usize = 71;
 
-/// A line.
-pub(crate) type Line = ArrayString<LINE_ROOM>;
+/// Room for lines that are put together, in octets.
+pub(crate) const LINES_ROOM: usize = 4096;
 
-/// The line of a frame, without its line feed.
-pub(crate) fn line_of_frame(frame: &Frame<'_>) -> Line
-    ensures line { result.bytes ≡ frame_line (value_of frame.now) }
-    ensures room { array_string_len result < LINE_ROOM }
+/// Lines, each ended by a line feed, and the one that is being added.
+pub(crate) type Lines = ArrayString<LINES_ROOM>;
+
+/// Adds the line of a frame, without its line feed.
+pub(crate) fn push_frame(lines: &mut Lines, frame: &Frame<'_>)
+    requires { array_string_len lines.old + LINE_ROOM ≤ LINES_ROOM }
+    ensures line { lines.new.bytes ≡ lines.old.bytes ++ frame_line (value_of frame.now) }
+    ensures len { array_string_len lines.new < array_string_len lines.old + LINE_ROOM }
 {
-    let mut line = Line::new();
-    push_calls(&mut line, &frame.src, &frame.dest);
-    line.push_str(name_of_kind(&frame.kind));
-    push_sequence(&mut line, &frame.kind);
-    line.push_str(poll_mark(frame.poll));
-    line.push_str(command_mark(frame.command));
-    push_length(&mut line, &frame.kind);
-    line
+    push_calls(lines, &frame.src, &frame.dest);
+    lines.push_str(name_of_kind(&frame.kind));
+    push_sequence(lines, &frame.kind);
+    lines.push_str(poll_mark(frame.poll));
+    lines.push_str(command_mark(frame.command));
+    push_length(lines, &frame.kind);
 }
 
 /// The line of octets with this fault, without its line feed.
@@ -48,20 +50,20 @@ pub(crate) fn line_of_fault(fault: &FrameFault) -> &'static str
 }
 
 /// Adds source and destination.
-fn push_calls(line: &mut Line, src: &Call, dest: &Call)
-    requires { array_string_len line.old + 20 ≤ LINE_ROOM }
-    ensures calls { line.new.bytes ≡ line.old.bytes ++ (call_text src.now ++ codes ">" ++ call_text dest.now ++ codes " ") }
-    ensures len { array_string_len line.new ≤ array_string_len line.old + 20 }
+fn push_calls(lines: &mut Lines, src: &Call, dest: &Call)
+    requires { array_string_len lines.old + 20 ≤ LINES_ROOM }
+    ensures calls { lines.new.bytes ≡ lines.old.bytes ++ (call_text src.now ++ codes ">" ++ call_text dest.now ++ codes " ") }
+    ensures len { array_string_len lines.new ≤ array_string_len lines.old + 20 }
 {
-    line.push_str(src.text().as_str());
-    line.push('>');
-    line.push_str(dest.text().as_str());
-    line.push(' ');
+    lines.push_str(src.text().as_str());
+    lines.push_str(">");
+    lines.push_str(dest.text().as_str());
+    lines.push_str(" ");
 }
 
 /// The letters of a kind of frame.
 fn name_of_kind(kind: &Kind<'_>) -> &'static str
-    ensures name { result.now ≡ kind_name (kind_value kind.now) }
+    ensures name { result.now ≡ kind_name (kind_value kind.now).control }
     ensures short { length result.now ≤ 4 }
 {
     match kind {
@@ -79,32 +81,32 @@ fn name_of_kind(kind: &Kind<'_>) -> &'static str
 }
 
 /// Adds the sequence numbers that the kind has.
-fn push_sequence(line: &mut Line, kind: &Kind<'_>)
-    requires { array_string_len line.old + 14 ≤ LINE_ROOM }
-    ensures numbers { line.new.bytes ≡ line.old.bytes ++ sequence_text (kind_value kind.now) }
-    ensures len { array_string_len line.new ≤ array_string_len line.old + 14 }
+fn push_sequence(lines: &mut Lines, kind: &Kind<'_>)
+    requires { array_string_len lines.old + 14 ≤ LINES_ROOM }
+    ensures numbers { lines.new.bytes ≡ lines.old.bytes ++ sequence_text (kind_value kind.now) }
+    ensures len { array_string_len lines.new ≤ array_string_len lines.old + 14 }
 {
     match kind {
         Kind::I { ns, nr, .. } => {
-            push_sequence_number(line, " ns=", *ns);
-            push_sequence_number(line, " nr=", *nr);
+            push_sequence_number(lines, " ns=", *ns);
+            push_sequence_number(lines, " nr=", *nr);
         }
         Kind::Rr { nr } | Kind::Rnr { nr } | Kind::Rej { nr } => {
-            push_sequence_number(line, " nr=", *nr);
+            push_sequence_number(lines, " nr=", *nr);
         }
         _ => {}
     }
 }
 
 /// Adds a sequence number after its label of four octets.
-fn push_sequence_number(line: &mut Line, label: &str, number: u8)
+fn push_sequence_number(lines: &mut Lines, label: &str, number: u8)
     requires label { length label.now ≡ 4 }
-    requires room { array_string_len line.old + 7 ≤ LINE_ROOM }
-    ensures number { line.new.bytes ≡ line.old.bytes ++ (label.now ++ decimal number) }
-    ensures len { array_string_len line.new ≤ array_string_len line.old + 7 }
+    requires room { array_string_len lines.old + 7 ≤ LINES_ROOM }
+    ensures number { lines.new.bytes ≡ lines.old.bytes ++ (label.now ++ decimal number) }
+    ensures len { array_string_len lines.new ≤ array_string_len lines.old + 7 }
 {
-    line.push_str(label);
-    line.push_str(Buffer::new().format(number));
+    lines.push_str(label);
+    lines.push_str(Buffer::new().format(number));
 }
 
 /// How a line shows the P/F bit.
@@ -124,15 +126,15 @@ fn command_mark(command: bool) -> &'static str
 }
 
 /// Adds how many octets of information there are, where the kind is I or UI.
-fn push_length(line: &mut Line, kind: &Kind<'_>)
-    requires { array_string_len line.old + 25 ≤ LINE_ROOM }
-    ensures length { line.new.bytes ≡ line.old.bytes ++ length_text (kind_value kind.now) }
-    ensures len { array_string_len line.new ≤ array_string_len line.old + 25 }
+fn push_length(lines: &mut Lines, kind: &Kind<'_>)
+    requires { array_string_len lines.old + 25 ≤ LINES_ROOM }
+    ensures length { lines.new.bytes ≡ lines.old.bytes ++ length_text (kind_value kind.now) }
+    ensures len { array_string_len lines.new ≤ array_string_len lines.old + 25 }
 {
     match kind {
         Kind::I { info, .. } | Kind::Ui { info, .. } => {
-            line.push_str(" len=");
-            line.push_str(Buffer::new().format(info.len()));
+            lines.push_str(" len=");
+            lines.push_str(Buffer::new().format(info.len()));
         }
         _ => {}
     }

@@ -3,8 +3,10 @@ use Rattle.std.proofs.Common.{◌≡◌, ℕ, zero, suc, ◌+◌, ◌*◌, ◌/�
 use Rattle.std.proofs.lemmas.Bool.{eqb-true, ltb-true, lt-ltb, ne_eqb, false≢true}
 use Rattle.std.proofs.lemmas.List.{nil_from_length}
 use Rattle.px_base.specs.Numbers.{le16, le32, le16_octets, le32_octets}
-use Rattle.ftl0_packets.specs.Layout.{PacketValue, data_part, data_end, login_resp, upload_cmd, ul_go_resp, ul_error_resp, ul_ack_resp, ul_nak_resp, download_cmd, dl_error_resp, dl_aborted_resp, dl_completed_resp, dl_ack_cmd, dl_nak_cmd, dir_short_cmd, dir_long_cmd, select_cmd, select_resp, kind_of, information, Fits, IsOctets, has_length}
+use Rattle.px_base.specs.Octets.{IsOctets}
+use Rattle.ftl0_packets.specs.Layout.{PacketValue, data_part, data_end, login_resp, upload_cmd, ul_go_resp, ul_error_resp, ul_ack_resp, ul_nak_resp, download_cmd, dl_error_resp, dl_aborted_resp, dl_completed_resp, dl_ack_cmd, dl_nak_cmd, dir_short_cmd, dir_long_cmd, select_cmd, select_resp, kind_of, information, Fits, has_length}
 use Rattle.ftl0_packets.specs.Reading.{packet_from}
+use Rattle.ftl0_packets.proofs.OctetLemmas.{IsOctets-cons, IsOctets-nil, octet_at}
 
 -- the number of a number's four octets
 le32-le32_octets : (n : ℕ) (later : List ℕ) → n < 2 ^ 32 → le32 (le32_octets n ++ later) 0 ≡ n
@@ -108,50 +110,44 @@ length-information (dir_long_cmd number) h = lit< tt
 length-information (select_cmd tokens) h = h.0
 length-information (select_resp count) h = lit< tt
 
--- octets before octets are octets
-IsOctets-cons : (x : ℕ) (xs : List ℕ) → x < 256 → IsOctets xs → IsOctets (x ∷ xs)
-IsOctets-cons x xs h hs zero = h
-IsOctets-cons x xs h hs (suc i) = hs i
+low_octet : (n : ℕ) → n % 256 < 256
+low_octet n = omega arith
 
-IsOctets-none : IsOctets []
-IsOctets-none i = lit< tt
-
+-- the octets of a number, and octets after them
 IsOctets-le32 : (n : ℕ) (later : List ℕ) → IsOctets later → IsOctets (le32_octets n ++ later)
-IsOctets-le32 n later h zero = omega arith
-IsOctets-le32 n later h (suc zero) = omega arith
-IsOctets-le32 n later h (suc (suc zero)) = omega arith
-IsOctets-le32 n later h (suc (suc (suc zero))) = omega arith
-IsOctets-le32 n later h (suc (suc (suc (suc i)))) = h i
+IsOctets-le32 n later h =
+    let fourth = IsOctets-cons (n / 16777216 % 256) later (low_octet (n / 16777216)) h in
+    let third = IsOctets-cons (n / 65536 % 256) (n / 16777216 % 256 ∷ later) (low_octet (n / 65536)) fourth in
+    let second = IsOctets-cons (n / 256 % 256) (n / 65536 % 256 ∷ n / 16777216 % 256 ∷ later) (low_octet (n / 256)) third in
+    IsOctets-cons (n % 256) (n / 256 % 256 ∷ n / 65536 % 256 ∷ n / 16777216 % 256 ∷ later) (low_octet n) second
 
 IsOctets-le16 : (n : ℕ) → IsOctets (le16_octets n)
-IsOctets-le16 n zero = omega arith
-IsOctets-le16 n (suc zero) = omega arith
-IsOctets-le16 n (suc (suc i)) = lit< tt
+IsOctets-le16 n = IsOctets-cons (n % 256) (n / 256 % 256 ∷ []) (low_octet n) (IsOctets-cons (n / 256 % 256) [] (low_octet (n / 256)) IsOctets-nil)
 
 -- information is octets
 pub IsOctets-information : (packet : PacketValue) → Fits packet → IsOctets (information packet)
 IsOctets-information (data_part octets) h = h.1
-IsOctets-information data_end h = IsOctets-none
-IsOctets-information (login_resp moment flags) h = IsOctets-le32 moment (flags ∷ []) (IsOctets-cons flags [] h.1 IsOctets-none)
-IsOctets-information (upload_cmd number file_length) h = IsOctets-le32 number (le32_octets file_length) (IsOctets-le32 file_length [] IsOctets-none)
-IsOctets-information (ul_go_resp number offset) h = IsOctets-le32 number (le32_octets offset) (IsOctets-le32 offset [] IsOctets-none)
-IsOctets-information (ul_error_resp code) h = IsOctets-cons code [] h IsOctets-none
-IsOctets-information ul_ack_resp h = IsOctets-none
-IsOctets-information (ul_nak_resp code) h = IsOctets-cons code [] h IsOctets-none
-IsOctets-information (download_cmd number offset lock) h = IsOctets-le32 number (le32_octets offset ++ lock ∷ []) (IsOctets-le32 offset (lock ∷ []) (IsOctets-cons lock [] h.2 IsOctets-none))
-IsOctets-information (dl_error_resp code) h = IsOctets-cons code [] h IsOctets-none
-IsOctets-information dl_aborted_resp h = IsOctets-none
-IsOctets-information dl_completed_resp h = IsOctets-none
-IsOctets-information dl_ack_cmd h = IsOctets-none
-IsOctets-information dl_nak_cmd h = IsOctets-none
-IsOctets-information (dir_short_cmd number) h = IsOctets-le32 number [] IsOctets-none
-IsOctets-information (dir_long_cmd number) h = IsOctets-le32 number [] IsOctets-none
+IsOctets-information data_end h = IsOctets-nil
+IsOctets-information (login_resp moment flags) h = IsOctets-le32 moment (flags ∷ []) (IsOctets-cons flags [] h.1 IsOctets-nil)
+IsOctets-information (upload_cmd number file_length) h = IsOctets-le32 number (le32_octets file_length) (IsOctets-le32 file_length [] IsOctets-nil)
+IsOctets-information (ul_go_resp number offset) h = IsOctets-le32 number (le32_octets offset) (IsOctets-le32 offset [] IsOctets-nil)
+IsOctets-information (ul_error_resp code) h = IsOctets-cons code [] h IsOctets-nil
+IsOctets-information ul_ack_resp h = IsOctets-nil
+IsOctets-information (ul_nak_resp code) h = IsOctets-cons code [] h IsOctets-nil
+IsOctets-information (download_cmd number offset lock) h = IsOctets-le32 number (le32_octets offset ++ lock ∷ []) (IsOctets-le32 offset (lock ∷ []) (IsOctets-cons lock [] h.2 IsOctets-nil))
+IsOctets-information (dl_error_resp code) h = IsOctets-cons code [] h IsOctets-nil
+IsOctets-information dl_aborted_resp h = IsOctets-nil
+IsOctets-information dl_completed_resp h = IsOctets-nil
+IsOctets-information dl_ack_cmd h = IsOctets-nil
+IsOctets-information dl_nak_cmd h = IsOctets-nil
+IsOctets-information (dir_short_cmd number) h = IsOctets-le32 number [] IsOctets-nil
+IsOctets-information (dir_long_cmd number) h = IsOctets-le32 number [] IsOctets-nil
 IsOctets-information (select_cmd tokens) h = h.1
 IsOctets-information (select_resp count) h = IsOctets-le16 count
 
 -- a number below 2 ^ 32 from four octets
 le32-below : (octets : List ℕ) (at : ℕ) → IsOctets octets → le32 octets at < 2 ^ 32
-le32-below octets at h = omega (arith, h at, h (at + 1), h (at + 2), h (at + 3))
+le32-below octets at h = let octet = octet_at octets h in omega (arith, octet at, octet (at + 1), octet (at + 2), octet (at + 3))
 
 four_octets : (a b c d : ℕ) → a < 256 → b < 256 → c < 256 → d < 256
     → le32_octets (a + 256 * b + 65536 * c + 16777216 * d) ≡ a ∷ b ∷ c ∷ d ∷ []
@@ -166,7 +162,7 @@ four_octets a b c d ha hb hc hd =
 -- the octets of the number in four octets are these
 le32_octets-le32 : (octets : List ℕ) (at : ℕ) → IsOctets octets
     → le32_octets (le32 octets at) ≡ slice_index octets at ∷ slice_index octets (at + 1) ∷ slice_index octets (at + 2) ∷ slice_index octets (at + 3) ∷ []
-le32_octets-le32 octets at h = four_octets _ _ _ _ (h at) (h (at + 1)) (h (at + 2)) (h (at + 3))
+le32_octets-le32 octets at h = let octet = octet_at octets h in four_octets _ _ _ _ (octet at) (octet (at + 1)) (octet (at + 2)) (octet (at + 3))
 
 two_octets : (a b : ℕ) → a < 256 → b < 256 → le16_octets (a + 256 * b) ≡ a ∷ b ∷ []
 two_octets a b ha hb =
@@ -216,7 +212,7 @@ made_1 : IsMade 1
 made_1 info len octets = record { fits = tt; same_kind = refl; same_information = sym (nil_from_length info (eqb-true _ _ len)) }
 
 made_2 : IsMade 2
-made_2 info len octets = record { fits = (le32-below info 0 octets, octets 4); same_kind = refl; same_information = ap (λ (x : List ℕ). x ++ slice_index info 4 ∷ []) (le32_octets-le32 info 0 octets) ∙ sym (five info (eqb-true _ _ len)) }
+made_2 info len octets = record { fits = (le32-below info 0 octets, octet_at info octets 4); same_kind = refl; same_information = ap (λ (x : List ℕ). x ++ slice_index info 4 ∷ []) (le32_octets-le32 info 0 octets) ∙ sym (five info (eqb-true _ _ len)) }
 
 made_3 : IsMade 3
 made_3 info len octets = record { fits = (le32-below info 0 octets, le32-below info 4 octets); same_kind = refl; same_information = ap (λ (x : List ℕ). x ++ le32_octets (le32 info 4)) (le32_octets-le32 info 0 octets) ∙ ap (λ (y : List ℕ). (slice_index info 0 ∷ slice_index info 1 ∷ slice_index info 2 ∷ slice_index info 3 ∷ []) ++ y) (le32_octets-le32 info 4 octets) ∙ sym (eight info (eqb-true _ _ len)) }
@@ -225,19 +221,19 @@ made_4 : IsMade 4
 made_4 info len octets = record { fits = (le32-below info 0 octets, le32-below info 4 octets); same_kind = refl; same_information = ap (λ (x : List ℕ). x ++ le32_octets (le32 info 4)) (le32_octets-le32 info 0 octets) ∙ ap (λ (y : List ℕ). (slice_index info 0 ∷ slice_index info 1 ∷ slice_index info 2 ∷ slice_index info 3 ∷ []) ++ y) (le32_octets-le32 info 4 octets) ∙ sym (eight info (eqb-true _ _ len)) }
 
 made_5 : IsMade 5
-made_5 info len octets = record { fits = octets 0; same_kind = refl; same_information = sym (one info (eqb-true _ _ len)) }
+made_5 info len octets = record { fits = octet_at info octets 0; same_kind = refl; same_information = sym (one info (eqb-true _ _ len)) }
 
 made_6 : IsMade 6
 made_6 info len octets = record { fits = tt; same_kind = refl; same_information = sym (nil_from_length info (eqb-true _ _ len)) }
 
 made_7 : IsMade 7
-made_7 info len octets = record { fits = octets 0; same_kind = refl; same_information = sym (one info (eqb-true _ _ len)) }
+made_7 info len octets = record { fits = octet_at info octets 0; same_kind = refl; same_information = sym (one info (eqb-true _ _ len)) }
 
 made_8 : IsMade 8
-made_8 info len octets = record { fits = (le32-below info 0 octets, le32-below info 4 octets, octets 8); same_kind = refl; same_information = ap (λ (x : List ℕ). x ++ le32_octets (le32 info 4) ++ slice_index info 8 ∷ []) (le32_octets-le32 info 0 octets) ∙ ap (λ (y : List ℕ). (slice_index info 0 ∷ slice_index info 1 ∷ slice_index info 2 ∷ slice_index info 3 ∷ []) ++ y ++ slice_index info 8 ∷ []) (le32_octets-le32 info 4 octets) ∙ sym (nine info (eqb-true _ _ len)) }
+made_8 info len octets = record { fits = (le32-below info 0 octets, le32-below info 4 octets, octet_at info octets 8); same_kind = refl; same_information = ap (λ (x : List ℕ). x ++ le32_octets (le32 info 4) ++ slice_index info 8 ∷ []) (le32_octets-le32 info 0 octets) ∙ ap (λ (y : List ℕ). (slice_index info 0 ∷ slice_index info 1 ∷ slice_index info 2 ∷ slice_index info 3 ∷ []) ++ y ++ slice_index info 8 ∷ []) (le32_octets-le32 info 4 octets) ∙ sym (nine info (eqb-true _ _ len)) }
 
 made_9 : IsMade 9
-made_9 info len octets = record { fits = octets 0; same_kind = refl; same_information = sym (one info (eqb-true _ _ len)) }
+made_9 info len octets = record { fits = octet_at info octets 0; same_kind = refl; same_information = sym (one info (eqb-true _ _ len)) }
 
 made_10 : IsMade 10
 made_10 info len octets = record { fits = tt; same_kind = refl; same_information = sym (nil_from_length info (eqb-true _ _ len)) }
@@ -261,7 +257,7 @@ made_16 : IsMade 16
 made_16 info len octets = record { fits = (ltb-true _ _ len, octets); same_kind = refl; same_information = refl }
 
 made_17 : IsMade 17
-made_17 info len octets = record { fits = omega (arith, octets 0, octets 1); same_kind = refl; same_information = two_octets _ _ (octets 0) (octets 1) ∙ sym (two info (eqb-true _ _ len)) }
+made_17 info len octets = record { fits = omega (arith, octet_at info octets 0, octet_at info octets 1); same_kind = refl; same_information = two_octets _ _ (octet_at info octets 0) (octet_at info octets 1) ∙ sym (two info (eqb-true _ _ len)) }
 
 no_length : (kind len : ℕ) → 18 ≤ kind → has_length kind len ≡ true → ⊥
 no_length kind len above h =

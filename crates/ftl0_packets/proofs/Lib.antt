@@ -1,4 +1,5 @@
 pub mod InformationLemmas
+pub mod OctetLemmas
 pub mod ReaderLemmas
 pub mod StreamLemmas
 pub mod TextLemmas

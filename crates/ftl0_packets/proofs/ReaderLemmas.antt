@@ -1,61 +1,65 @@
 -- The reader's buffer: what it holds after octets are put to it, and what that says of the stream.
-use Rattle.std.proofs.Common.{◌≡◌, ℕ, zero, suc, ◌+◌, ◌-◌, min, ◌<◌, ◌≤◌, ◌↔◌, ◌⊎◌, List, [], ◌∷◌, ◌++◌, length, take, drop, Bool, true, false, cond, refl, inl, inr, sym, ap, ◌∙◌, arith, lit<, length-append, length-take, length-drop, append_assoc}
+use Rattle.std.proofs.Common.{◌≡◌, ℕ, ◌+◌, ◌-◌, min, ◌<◌, ◌≤◌, ◌↔◌, ◌⊎◌, List, [], ◌∷◌, ◌++◌, length, take, drop, Bool, true, false, cond, refl, inl, inr, sym, ap, ◌∙◌, subst, arith, length-append, length-take, append_assoc}
 use Rattle.std.proofs.lemmas.Bool.{cases_lt, eqb-false}
-use Rattle.std.proofs.lemmas.List.{take-append-drop, take-take}
+use Rattle.std.proofs.lemmas.List.{take-append-drop, take-take, take_all}
 use Rattle.ftl0_packets.specs.declared.reader.PacketFed.{PacketFed}
 use Rattle.ftl0_packets.specs.declared.reader.PacketFed.TheVariants.{More, Whole}
-use Rattle.ftl0_packets.specs.Layout.{IsOctets, Item, PacketText}
+use Rattle.px_base.specs.Octets.{IsOctets}
+use Rattle.ftl0_packets.specs.Layout.{Item, PacketText}
 use Rattle.ftl0_packets.specs.Reading.{text_len, is_whole, under_way, read_item, packets_of, rest_of}
-use Rattle.ftl0_packets.specs.Filling.{IsFilling}
+use Rattle.ftl0_packets.specs.Filling.{IsBuffer, IsFilling}
 use Rattle.ftl0_packets.specs.Stream.{IsPartial}
-use Rattle.ftl0_packets.proofs.TextLemmas.{text_len-append, text_len-whole, length-whole, IsOctets-take, IsOctets-drop, IsText-PacketText, PacketText-whole}
+use Rattle.ftl0_packets.proofs.OctetLemmas.{IsOctets-append, IsOctets-take, IsOctets-nil, octet_at}
+use Rattle.ftl0_packets.proofs.TextLemmas.{text_len-append, text_len-whole, length-whole, IsText-PacketText, PacketText-whole}
 use Rattle.ftl0_packets.proofs.StreamLemmas.{packets_of-whole, rest_of-whole, IsPartial-less, less-IsPartial}
 
-pub IsOctets-append : (xs ys : List ℕ) → IsOctets xs → IsOctets ys → IsOctets (xs ++ ys)
-IsOctets-append [] ys hx hy i = hy i
-IsOctets-append (x ∷ xs) ys hx hy zero = hx zero
-IsOctets-append (x ∷ xs) ys hx hy (suc i) = IsOctets-append xs ys (λ k. hx (suc k)) hy i
+-- no packet has more than 2,049 octets
+text_len-most : (text : List ℕ) → IsOctets text → text_len text ≤ 2049
+text_len-most text octets = let octet = octet_at text octets in omega (arith, octet 0, octet 1)
 
--- the buffer after the header was filled up, and then the rest of the packet
-pub IsFilling-filled : (text bytes : List ℕ) (a b : ℕ) → IsFilling text → IsOctets bytes → a ≡ min (2 - length text) (length bytes)
-    → b ≡ min (text_len (text ++ take a bytes) - length (text ++ take a bytes)) (length (drop a bytes))
-    → IsFilling ((text ++ take a bytes) ++ take b (drop a bytes))
-IsFilling-filled text bytes a b filling octets ea eb =
-    let head : List ℕ = text ++ take a bytes in
-    let len_head : length head ≡ length text + min a (length bytes) = omega (arith, length-append text (take a bytes), length-take a bytes) in
-    let len_left : length (drop a bytes) ≡ length bytes - a = length-drop a bytes in
-    let len_all : length (head ++ take b (drop a bytes)) ≡ length head + min b (length (drop a bytes)) =
-    omega (arith, length-append head (take b (drop a bytes)), length-take b (drop a bytes)) in
-    record {
-      within =
-          elim (cases_lt (length head) 2) [
-            | inl short ↦ omega arith
-            | inr long ↦
-                let same : text_len (head ++ take b (drop a bytes)) ≡ text_len head = text_len-append head (take b (drop a bytes)) long in
-                let fits : length head ≤ text_len head =
-                elim (cases_lt (length text) 2) [
-                  | inl short ↦ omega arith
-                  | inr long_text ↦
-                      let same_text : text_len head ≡ text_len text = text_len-append text (take a bytes) long_text in
-                      let within = filling.within in
-                      omega arith
-                ] in
-                omega arith
-          ];
-      octets = IsOctets-append head (take b (drop a bytes)) (IsOctets-append text (take a bytes) filling.octets (IsOctets-take a bytes octets)) (IsOctets-take b (drop a bytes) (IsOctets-drop a bytes octets));
-    }
+-- a packet that isn't whole yet doesn't end where it is, whatever follows
+pub text_len-more : (front more : List ℕ) → length front < text_len front → length front < text_len (front ++ more)
+text_len-more front more less =
+    elim (cases_lt (length front) 2) [
+      | inl short ↦ omega arith
+      | inr long ↦ rw (text_len-append front more long) less
+    ]
+
+-- the buffer after octets were put to the packet under way, up to its end
+module _ (front bytes : List ℕ) (taken : ℕ) (less : length front < text_len front)
+    (is : taken ≡ min (text_len (front ++ bytes) - length front) (length bytes)) where
+  length-filled : length (front ++ take taken bytes) ≡ length front + taken
+  length-filled = omega (arith, length-append front (take taken bytes), length-take taken bytes)
+
+  -- they say where it ends as well as all octets do
+  pub text_len-filled : text_len (front ++ take taken bytes) ≡ text_len (front ++ bytes)
+  text_len-filled =
+      let len = length-filled in
+      elim (cases_lt (length (front ++ take taken bytes)) 2) [
+        | inl short ↦ ap (λ (xs : List ℕ). text_len (front ++ xs)) (take_all taken bytes (omega arith))
+        | inr long ↦
+            sym (text_len-append (front ++ take taken bytes) (drop taken bytes) long)
+            ∙ ap text_len (append_assoc front (take taken bytes) (drop taken bytes))
+            ∙ ap (λ (xs : List ℕ). text_len (front ++ xs)) (take-append-drop taken bytes)
+      ]
+
+  pub IsFilling-filled : IsOctets front → IsOctets bytes → IsFilling (front ++ take taken bytes)
+  IsFilling-filled octets more =
+      let len = length-filled in
+      let end = text_len-filled in
+      let below = text_len-more front bytes less in
+      record {
+        within = omega arith;
+        octets = IsOctets-append front (take taken bytes) octets (IsOctets-take taken bytes more);
+      }
 
 -- what is under way fills the buffer no more than what is there
 pub IsFilling-under_way : (text : List ℕ) → IsFilling text → IsFilling (under_way text)
 IsFilling-under_way text filling =
     elim (is_whole text) as (λ (b : Bool). IsFilling (cond b [] text)) [
-      | true ↦ record { within = omega arith; octets = λ i. lit< tt }
+      | true ↦ record { within = omega arith; octets = IsOctets-nil }
       | false ↦ filling
     ]
-
--- the answer for what the buffer holds
-abbrev pub IsAnswer : List ℕ → PacketFed → Type 0
-IsAnswer text fed = ((fed ≡ Whole) × (is_whole text ≡ true)) ⊎ ((fed ≡ More) × (is_whole text ≡ false))
 
 -- less than a whole packet, where the buffer holds no whole one
 pub less-not_whole : (text : List ℕ) → IsFilling text → is_whole text ≡ false → length text < text_len text
@@ -63,6 +67,54 @@ less-not_whole text filling w =
     let not_same = eqb-false _ _ w in
     let within = filling.within in
     elim (cases_lt (length text) (text_len text)) [ inl less ↦ less | inr enough ↦ absurd (not_same (omega arith)) ]
+
+-- what is under way is less than a whole packet
+pub under_way-less : (text : List ℕ) → IsFilling text → length (under_way text) < text_len (under_way text)
+under_way-less text filling = under_way-less-at text filling (is_whole text) refl
+  where
+    under_way-less-at : (text : List ℕ) → IsFilling text → (b : Bool) → is_whole text ≡ b → length (cond b [] text) < text_len (cond b [] text)
+    under_way-less-at text filling true e = omega arith
+    under_way-less-at text filling false e = less-not_whole text filling e
+
+-- what of the buffer is kept before more octets are put to it
+pub under_way-kept : (buffer text : List ℕ) (len begun : ℕ) (whole : Bool) → text ≡ take len buffer → len ≤ length buffer → is_whole text ≡ whole
+    → begun ≡ cond whole 0 len → (begun ≡ length (under_way text)) × (take begun buffer ≡ under_way text)
+under_way-kept buffer text len begun true is fits w none =
+    let front : under_way text ≡ [] = ap (λ (b : Bool). cond b [] text) w in
+    (none ∙ sym (ap length front), ap (λ (n : ℕ). take n buffer) none ∙ sym front)
+under_way-kept buffer text len begun false is fits w all =
+    let front : under_way text ≡ text = ap (λ (b : Bool). cond b [] text) w in
+    (omega (arith, ap length front, ap length is, length-take len buffer), ap (λ (n : ℕ). take n buffer) all ∙ sym is ∙ sym front)
+
+-- the buffer after octets were put to the text under way
+pub IsBuffer-filled : (text bytes before buffer : List ℕ) (begun taken end : ℕ) → IsFilling text → IsOctets bytes
+    → (begun ≡ length (under_way text)) × (take begun before ≡ under_way text) → end ≡ text_len (under_way text ++ bytes)
+    → taken ≡ min (end - begun) (length bytes) → take (begun + taken) buffer ≡ take begun before ++ take taken bytes → length buffer ≡ 2049
+    → IsBuffer buffer (begun + taken) end
+IsBuffer-filled text bytes before buffer begun taken end filling octets kept ends count put room =
+    let less = under_way-less text filling in
+    let number : taken ≡ min (text_len (under_way text ++ bytes) - length (under_way text)) (length bytes) = rw (sym kept.0, sym ends) count in
+    let all : take (begun + taken) buffer ≡ under_way text ++ take taken bytes = put ∙ ap (λ (xs : List ℕ). xs ++ take taken bytes) kept.1 in
+    let front = (IsFilling-under_way text filling).octets in
+    let most = text_len-most (under_way text ++ bytes) (IsOctets-append (under_way text) bytes front octets) in
+    let below = text_len-more (under_way text) bytes less in
+    let same = kept.0 in
+    record {
+      fits = omega arith;
+      filling = subst IsFilling (sym all) (IsFilling-filled (under_way text) bytes taken less number front octets);
+      ends = ends ∙ sym (text_len-filled (under_way text) bytes taken less number) ∙ ap text_len (sym all);
+    }
+
+-- the answer for what the buffer holds
+abbrev pub IsAnswer : List ℕ → PacketFed → Type 0
+IsAnswer text fed = ((fed ≡ Whole) × (is_whole text ≡ true)) ⊎ ((fed ≡ More) × (is_whole text ≡ false))
+
+pub answer_of : (text : List ℕ) (fed : PacketFed) → fed ≡ cond (is_whole text) Whole More → IsAnswer text fed
+answer_of text fed is = answer_at text fed (is_whole text) refl is
+  where
+    answer_at : (text : List ℕ) (fed : PacketFed) (b : Bool) → is_whole text ≡ b → fed ≡ cond b Whole More → IsAnswer text fed
+    answer_at text fed true w is = inl (is, w)
+    answer_at text fed false w is = inr (is, w)
 
 module _ (text : List ℕ) (fed : PacketFed) (filling : IsFilling text) (answer : IsAnswer text fed) where
   pub Whole-is : (fed ≡ Whole) ↔ ((item : Item) × PacketText item text)
@@ -119,14 +171,6 @@ module _ (text : List ℕ) (fed : PacketFed) (filling : IsFilling text) (answer 
             let all : under_way text ≡ text = ap (λ (b : Bool). cond b [] text) m.1 in
             ap (λ (front : List ℕ). rest_of (front ++ later)) (sym all)
       ]
-
--- what is under way is less than a whole packet
-pub under_way-less : (text : List ℕ) → IsFilling text → length (under_way text) < text_len (under_way text)
-under_way-less text filling = under_way-less-at text filling (is_whole text) refl
-  where
-    under_way-less-at : (text : List ℕ) → IsFilling text → (b : Bool) → is_whole text ≡ b → length (cond b [] text) < text_len (cond b [] text)
-    under_way-less-at text filling true e = omega arith
-    under_way-less-at text filling false e = less-not_whole text filling e
 
 -- octets that are put to the front of what comes
 pub resplit : (front bytes later : List ℕ) (n : ℕ) → front ++ (bytes ++ later) ≡ (front ++ take n bytes) ++ (drop n bytes ++ later)

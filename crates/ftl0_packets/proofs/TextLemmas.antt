@@ -1,10 +1,12 @@
 -- The text of one packet: where it ends, and what it says.
-use Rattle.std.proofs.Common.{◌≡◌, ℕ, zero, suc, ◌+◌, ◌*◌, ◌/◌, ◌%◌, ◌<◌, ◌≤◌, List, [], ◌∷◌, ◌++◌, length, take, drop, slice_index, Bool, true, false, cond, ◌&&◌, Ok, Err, refl, inl, inr, sym, ap, ◌∙◌, subst, arith, lit<}
-use Rattle.std.proofs.lemmas.Bool.{eqb-true, eq-eqb, and_parts, and_from, cond-true, cond-false, cases_lt, false≢true}
-use Rattle.std.proofs.lemmas.List.{get_or_append_left, take_at, get_or-take, get_or-drop, get_or_past, length-take}
+use Rattle.std.proofs.Common.{◌≡◌, ℕ, ◌+◌, ◌*◌, ◌/◌, ◌%◌, ◌<◌, ◌≤◌, List, [], ◌∷◌, ◌++◌, length, take, slice_index, Bool, true, false, cond, ◌&&◌, Ok, Err, refl, sym, ap, ◌∙◌, subst, arith}
+use Rattle.std.proofs.lemmas.Bool.{eqb-true, eq-eqb, and_parts, and_from, cond-true, cond-false, false≢true}
+use Rattle.std.proofs.lemmas.List.{get_or_append_left, take_at}
 use Rattle.ftl0_packets.specs.declared.packet.Malformed.{Malformed}
-use Rattle.ftl0_packets.specs.Layout.{PacketValue, kind_of, information, Fits, IsOctets, has_length, is_built, text_of, packet_text, Item, PacketText}
+use Rattle.px_base.specs.Octets.{IsOctets}
+use Rattle.ftl0_packets.specs.Layout.{PacketValue, kind_of, information, Fits, has_length, is_built, text_of, packet_text, Item, PacketText}
 use Rattle.ftl0_packets.specs.Reading.{text_len, is_whole, packet_from, item_from, read_item}
+use Rattle.ftl0_packets.proofs.OctetLemmas.{IsOctets-cons, IsOctets-drop, octet_at}
 use Rattle.ftl0_packets.proofs.InformationLemmas.{packet_from-information, has_length-information, kind_of-below, length-information, IsOctets-information, packet_from-made}
 
 -- what follows a header doesn't change where the packet ends
@@ -24,17 +26,6 @@ pub text_len-whole : (text more : List ℕ) → is_whole text ≡ true → text_
 text_len-whole text more w =
     let len = length-whole text w in text_len-append text more (omega arith) ∙ sym len
 
--- the octets of a front, and of what is left
-pub IsOctets-take : (n : ℕ) (octets : List ℕ) → IsOctets octets → IsOctets (take n octets)
-IsOctets-take n octets h i =
-    elim (cases_lt i n) [
-      | inl below ↦ rw (get_or-take n octets i 0 below) (h i)
-      | inr past ↦ rw (get_or_past (take n octets) i 0 (omega (arith, length-take n octets))) (lit< tt)
-    ]
-
-pub IsOctets-drop : (n : ℕ) (octets : List ℕ) → IsOctets octets → IsOctets (drop n octets)
-IsOctets-drop n octets h i = rw (get_or-drop n octets i 0) (h (n + i))
-
 -- a header and information
 module _ (kind : ℕ) (info : List ℕ) (below : kind < 32) (short : length info < 2048) where
   pub whole-text_of : is_whole (text_of kind info) ≡ true
@@ -46,9 +37,10 @@ module _ (kind : ℕ) (info : List ℕ) (below : kind < 32) (short : length info
       let same : (32 * (length info / 256) + kind) % 32 ≡ kind = omega arith in ap (λ (k : ℕ). item_from k info) same
 
   pub IsOctets-text_of : IsOctets info → IsOctets (text_of kind info)
-  IsOctets-text_of h zero = omega arith
-  IsOctets-text_of h (suc zero) = omega arith
-  IsOctets-text_of h (suc (suc i)) = h i
+  IsOctets-text_of h =
+      let low : length info % 256 < 256 = omega arith in
+      let high : 32 * (length info / 256) + kind < 256 = omega arith in
+      IsOctets-cons (length info % 256) ((32 * (length info / 256) + kind) ∷ info) low (IsOctets-cons (32 * (length info / 256) + kind) info high h)
 
 -- what a packet's text is, by its octets alone
 pub record IsText (item : Item) (text : List ℕ) : Type 0 where
@@ -126,10 +118,11 @@ PacketText-whole (low ∷ []) w octets =
     let len = length-whole (low ∷ []) w in absurd (omega arith)
 PacketText-whole (low ∷ high ∷ info) w octets =
     let len = length-whole (low ∷ high ∷ info) w in
-    let hl : low < 256 = octets 0 in
-    let hh : high < 256 = octets 1 in
+    let octet = octet_at (low ∷ high ∷ info) octets in
+    let hl : low < 256 = octet 0 in
+    let hh : high < 256 = octet 1 in
     let size : length info ≡ low + 256 * (high / 32) = omega arith in
-    item-text (high % 32) info _ _ refl (omega arith) (omega arith) (λ i. octets (suc (suc i))) (header-again low high info hl hh size)
+    item-text (high % 32) info _ _ refl (omega arith) (omega arith) (IsOctets-drop 2 (low ∷ high ∷ info) octets) (header-again low high info hl hh size)
 
 -- no text begins another, and a text says one packet
 pub one_text : (a b : Item) (x y p q : List ℕ) → PacketText a x → PacketText b y → x ++ p ≡ y ++ q → (x ≡ y) × (a ≡ b)

@@ -1,6 +1,7 @@
 -- Laws of packets and their stream.
 use Rattle.std.specs.Prelude.{◌≡◌, ℕ, List, ◌∷◌, ◌++◌, Ok, IsTrue}
-use Rattle.ftl0_packets.specs.Layout.{PacketValue, kind_of, Fits, IsOctets, is_built, packet_text, Item, PacketText}
+use Rattle.px_base.specs.Octets.{IsOctets}
+use Rattle.ftl0_packets.specs.Layout.{PacketValue, kind_of, Fits, is_built, packet_text, Item, PacketText}
 use Rattle.ftl0_packets.specs.Reading.{packets_of, rest_of}
 use Rattle.ftl0_packets.specs.Stream.{Stream}
 

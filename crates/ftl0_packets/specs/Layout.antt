@@ -1,6 +1,7 @@
 -- The layout of FTL0 packets (FTL0 1990, packet format): two octets of header, then the information.
-use Rattle.std.specs.Prelude.{◌≡◌, ℕ, ◌+◌, ◌*◌, ◌/◌, ◌%◌, ◌^◌, ◌<◌, ◌==◌, List, [], ◌∷◌, ◌++◌, length, slice_index, Bool, false, ◌&&◌, ◌||◌, nat_le, nat_lt, if◌then◌else◌, Result, Ok, Err, IsTrue, ⊤}
+use Rattle.std.specs.Prelude.{◌≡◌, ℕ, ◌+◌, ◌*◌, ◌/◌, ◌%◌, ◌^◌, ◌<◌, ◌==◌, List, [], ◌∷◌, ◌++◌, length, Bool, false, ◌&&◌, ◌||◌, nat_le, nat_lt, if◌then◌else◌, Result, Ok, Err, IsTrue, ⊤}
 use Rattle.px_base.specs.Numbers.{le16_octets, le32_octets}
+use Rattle.px_base.specs.Octets.{IsOctets}
 use Rattle.ftl0_packets.specs.declared.packet.Malformed.{Malformed}
 
 -- a packet without where its octets lie
@@ -65,10 +66,6 @@ information (dir_short_cmd number) = le32_octets number
 information (dir_long_cmd number) = le32_octets number
 information (select_cmd tokens) = tokens
 information (select_resp count) = le16_octets count
-
--- each is an octet
-abbrev pub IsOctets : List ℕ → Type 0
-IsOctets octets = (i : ℕ) → slice_index octets i < 256
 
 -- each field has its range
 abbrev pub Fits : PacketValue → Type 0

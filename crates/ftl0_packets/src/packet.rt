@@ -2,6 +2,8 @@
 
 ghost use Rattle.std.specs.Prelude.{◌≡◌, ◌<◌};
 
+use thiserror::Error;
+
 /// A packet, its fields by name. Octets are borrowed from where the packet was read, or is to be written from.
 #[derive(Clone, Copy, Debug, PartialEq, Eq)]
 pub enum Packet<'a> {
@@ -77,7 +79,8 @@ impl Packet<'_> {
 }
 
 /// A packet of a type that isn't read, or of a length that its type doesn't have.
-#[derive(Clone, Copy, Debug, PartialEq, Eq)]
+#[derive(Clone, Copy, Debug, PartialEq, Eq, Error)]
+#[error("a packet of type {kind} with {len} octets of information is malformed")]
 pub struct Malformed {
     /// The type, 0 to 31.
     pub kind: u8,

@@ -1,7 +1,8 @@
 //! A whole run of the reader, over pieces.
 
 ghost use Rattle.std.specs.Prelude.{◌≡◌, ◌++◌, [], ℕ, List, flat_map};
-ghost use Rattle.ftl0_packets.specs.Layout.{IsOctets, Item};
+ghost use Rattle.px_base.specs.Octets.{IsOctets};
+ghost use Rattle.ftl0_packets.specs.Layout.{Item};
 ghost use Rattle.ftl0_packets.specs.Pieces.{TakesAll};
 ghost use Rattle.ftl0_packets.specs.Reading.{packets_of, rest_of, under_way};
 ghost use Rattle.ftl0_packets.specs.Stream.{Stream};

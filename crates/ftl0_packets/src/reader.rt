@@ -1,15 +1,14 @@
 //! Packets from octets that come in any pieces.
 
-ghost use Rattle.std.specs.Prelude.{◌≡◌, ◌+◌, ◌-◌, min, ◌≤◌, ◌<◌, ◌↔◌, ℕ, List, [], ◌∷◌, ◌++◌, length, take, drop, IfErr, IsErr, IsTrue};
+ghost use Rattle.std.specs.Prelude.{◌≡◌, ◌+◌, ◌-◌, min, ◌≤◌, ◌<◌, ◌↔◌, ℕ, List, [], ◌∷◌, ◌++◌, length, take, drop, IfErr, IsErr, IsTrue, if◌then◌else◌};
 ghost use Rattle.ftl0_packets.specs.Layout.{Item, PacketText};
 ghost use Rattle.ftl0_packets.specs.Reading.{is_malformed, malformed_in, is_whole as is_whole_text, packets_of, read_item, rest_of, text_len as octets_of_text, under_way};
 ghost use Rattle.ftl0_packets.specs.Filling.{IsFilling};
 ghost use Rattle.ftl0_packets.specs.Stream.{IsPartial};
 ghost use Rattle.ftl0_packets.specs.Values.{item_of};
 
-use crate::text::{HEADER_LEN, is_whole, read_text, text_len};
+use crate::text::{HEADER_LEN, MOST_OCTETS, header_text_len, read_text, text_len};
 use crate::{Malformed, Packet};
-use arrayvec::ArrayVec;
 use std::marker::Model;
 
 /// Whether a packet is whole now.
@@ -25,19 +24,23 @@ pub enum PacketFed {
 /// octets ended.
 #[derive(Debug, Drop)]
 pub struct PacketReader {
-    /// A whole packet, or a part from its front.
-    text: ArrayVec<u8, 2049>,
+    /// The octets of a whole packet, or of a part from its front, and after them what is left of earlier ones.
+    buffer: [u8; MOST_OCTETS],
+    /// How many octets of the packet are there.
+    len: usize,
+    /// How many octets the packet has that begins so. An octet that isn't there yet counts as 0.
+    end: usize,
 }
 
 impl Model for PacketReader {
-    ghost use Rattle.std.specs.Prelude.{List, ℕ};
-    ghost use Rattle.ftl0_packets.specs.Filling.{IsFilling};
+    ghost use Rattle.std.specs.Prelude.{List, ℕ, take};
+    ghost use Rattle.ftl0_packets.specs.Filling.{IsBuffer};
 
     ghost Value = { List ℕ };
 
-    ghost view = { λ a. a.text.items };
+    ghost view = { λ a. take a.len a.buffer };
 
-    ghost invariant = { λ a. IsFilling a.text.items };
+    ghost invariant = { λ a. IsBuffer a.buffer a.len a.end };
 }
 
 impl PacketReader {
@@ -48,7 +51,9 @@ impl PacketReader {
         ensures left { rest_of (under_way result) ≡ [] }
     {
         PacketReader {
-            text: ArrayVec::new(),
+            buffer: [0; MOST_OCTETS],
+            len: 0,
+            end: HEADER_LEN,
         }
     }
 
@@ -82,13 +87,8 @@ impl PacketReader {
         ensures none { packets_of (under_way self.new) ≡ [] }
         ensures left { rest_of (under_way self.new) ≡ under_way self.new }
     {
-        let taken = take_octets(&mut self.text, bytes);
-        let fed = if is_whole(self.text.as_slice()) {
-            PacketFed::Whole
-        } else {
-            PacketFed::More
-        };
-        (taken, fed)
+        let taken = self.take_octets(bytes);
+        (taken, self.fed())
     }
 
     /// The packet that is whole since the last `feed`, or `Malformed` exactly where its type isn't read, or its length
@@ -100,41 +100,61 @@ impl PacketReader {
         ensures malformed { IsErr result ↔ IsTrue (is_malformed self.now) }
         ensures fault { IfErr result (λ fault. fault ≡ malformed_in self.now) }
     {
-        read_text(self.text.as_slice())
+        read_text(&self.buffer[..self.len])
+    }
+
+    /// Whether the packet is whole.
+    fn is_whole(&self) -> bool
+        ensures { result ≡ is_whole_text self.now }
+    {
+        self.len == self.end
+    }
+
+    /// Whether the packet is whole, as `feed` says it.
+    fn fed(&self) -> PacketFed
+        ensures { result ≡ (if is_whole_text self.now then PacketFed.Whole else PacketFed.More) }
+    {
+        if self.is_whole() {
+            PacketFed::Whole
+        } else {
+            PacketFed::More
+        }
+    }
+
+    /// Puts octets to the packet under way up to its end, and says how many.
+    fn take_octets(&mut self, bytes: &[u8]) -> usize
+        ensures taken { result ≤ length bytes.now }
+        ensures octets { self.new ≡ under_way self.old ++ take result bytes.now }
+        ensures progress { 0 < length bytes.now → 0 < result }
+        ensures filling { IsFilling self.new }
+        ensures all { length self.new < octets_of_text self.new → result ≡ length bytes.now }
+    {
+        let begun = if self.is_whole() { 0 } else { self.len };
+        let end = self.end_with(begun, bytes);
+        let taken = (end - begun).min(bytes.len());
+        put_at(&mut self.buffer, begun, &bytes[..taken]);
+        self.len = begun + taken;
+        self.end = end;
+        taken
+    }
+
+    /// How many octets the packet has that begins with the first `begun` octets of the buffer, and then these.
+    fn end_with(&self, begun: usize, bytes: &[u8]) -> usize
+        requires { begun ≡ length (under_way self.now) }
+        ensures { result ≡ octets_of_text (under_way self.now ++ bytes.now) }
+    {
+        match begun {
+            0 => text_len(bytes),
+            1 => header_text_len(self.buffer[0], bytes.first().copied().unwrap_or(0)),
+            _ => self.end,
+        }
     }
 }
 
-/// Puts octets to the packet under way up to its end, and says how many.
-fn take_octets(text: &mut ArrayVec<u8, 2049>, bytes: &[u8]) -> usize
-    requires { IsFilling text.old.items }
-    ensures taken { result ≤ length bytes.now }
-    ensures octets { text.new.items ≡ under_way text.old.items ++ take result bytes.now }
-    ensures progress { 0 < length bytes.now → 0 < result }
-    ensures filling { IsFilling text.new.items }
-    ensures all { length text.new.items < octets_of_text text.new.items → result ≡ length bytes.now }
+/// Writes octets over those of the buffer from this place on.
+fn put_at(buffer: &mut [u8; MOST_OCTETS], at: usize, octets: &[u8])
+    requires { at + length octets.now ≤ 2049 }
+    ensures { take (at + length octets.now) buffer.new ≡ take at buffer.old ++ octets.now }
 {
-    leave_whole(text);
-    let of_header = fill_to(text, HEADER_LEN, bytes);
-    let len = text_len(text.as_slice());
-    of_header + fill_to(text, len, &bytes[of_header..])
-}
-
-/// Lets the packet go, if it is whole.
-fn leave_whole(text: &mut ArrayVec<u8, 2049>)
-    ensures { text.new.items ≡ under_way text.old.items }
-{
-    if is_whole(text.as_slice()) {
-        text.clear();
-    }
-}
-
-/// Puts octets at the end until there are `len`, or no more octets, and says how many.
-fn fill_to(text: &mut ArrayVec<u8, 2049>, len: usize, bytes: &[u8]) -> usize
-    requires { len ≤ 2049 }
-    ensures taken { result ≡ min (len - length text.old.items) (length bytes.now) }
-    ensures octets { text.new.items ≡ text.old.items ++ take result bytes.now }
-{
-    let taken = len.saturating_sub(text.len()).min(bytes.len());
-    text.try_extend_from_slice(&bytes[..taken]).unwrap();
-    taken
+    buffer[at..at + octets.len()].copy_from_slice(octets);
 }

@@ -1,7 +1,7 @@
 //! Packets with their octets, worked out by hand from the layout.
 
 ghost use Rattle.std.specs.Prelude.{◌<◌, ◌+◌, ◌≤◌, length, IsTrue};
-ghost use Rattle.ftl0_packets.specs.Layout.{information};
+ghost use Rattle.ftl0_packets.specs.Layout.{packet_text};
 ghost use Rattle.ftl0_packets.specs.Values.{value_of};
 
 use super::*;
@@ -10,12 +10,12 @@ use px_base::FileBytes;
 use std::process::Abort;
 use std::test::Fail;
 
-/// Whether the packet's information is at most 2,047 octets.
-fn fits(packet: &Packet<'_>) -> bool
-    ensures { IsTrue result → length (information (value_of packet.now)) < 2048 }
+/// Whether the packet has at most 32 octets.
+fn is_short(packet: &Packet<'_>) -> bool
+    ensures { IsTrue result → length (packet_text (value_of packet.now)) ≤ 32 }
 {
     match packet {
-        Packet::DataPart(octets) | Packet::SelectCmd(octets) => octets.len() < 2048,
+        Packet::DataPart(octets) | Packet::SelectCmd(octets) => octets.len() <= 30,
         _ => true,
     }
 }
@@ -128,8 +128,8 @@ fn check_read(rt: &impl Abort, octets: &[u8], size: usize, expected: Result<Pack
 #[test]
 fn packets_are_written_and_read_again(rt: HostRuntime) -> Result<(), Fail> {
     for (packet, octets) in TABLE {
-        assert!(rt; fits(&packet));
-        let mut out = ArrayVec::new();
+        assert!(rt; is_short(&packet));
+        let mut out: ArrayVec<u8, 32> = ArrayVec::new();
         write_packet(&packet, &mut out);
         assert_eq!(rt; out.as_slice(), octets);
         check_read(&rt, octets, 1, Ok(packet));
@@ -147,7 +147,7 @@ fn data_has_its_length_in_eleven_bits(rt: HostRuntime) {
     let octets = [0xA5; 2047];
     for (len, header) in [(0, [0x00, 0x00]), (256, [0x00, 0x20]), (2047, [0xFF, 0xE0])] {
         let packet = Packet::DataPart(&octets[..len]);
-        let mut out = ArrayVec::new();
+        let mut out: ArrayVec<u8, 2049> = ArrayVec::new();
         write_packet(&packet, &mut out);
         assert_eq!(rt; out.as_slice().split_at(2).0, header.as_slice());
         assert_eq!(rt; out.as_slice().split_at(2).1, &octets[..len]);
@@ -174,6 +174,19 @@ fn other_types_and_lengths_are_malformed(rt: HostRuntime) {
     long[0] = 0x08;
     long[1] = 0x23;
     check_read(&rt, &long, 100, Err(Malformed { kind: 3, len: 264 }));
+}
+
+#[test]
+fn a_malformed_packet_is_told(rt: HostRuntime) -> Result<(), Fail> {
+    let malformed = Malformed {
+        kind: 12,
+        len: 2047,
+    };
+    assert_eq!(rt;
+        malformed.to_string(rt.alloc())?.as_str(),
+        "a packet of type 12 with 2047 octets of information is malformed"
+    );
+    Ok(())
 }
 
 /// The types of the packets that were taken.

@@ -1,6 +1,6 @@
 //! The octets of one packet, read (FTL0 1990, packet format).
 
-ghost use Rattle.std.specs.Prelude.{◌≡◌, ◌+◌, ◌≤◌, ◌<◌, length, false, IfErr, IsErr, IsTrue, ◌↔◌};
+ghost use Rattle.std.specs.Prelude.{◌≡◌, ◌+◌, ◌≤◌, ◌<◌, [], ◌∷◌, length, false, IfErr, IsErr, IsTrue, ◌↔◌};
 ghost use Rattle.ftl0_packets.specs.Layout.{has_length as fits_type, is_built as type_is_read, PacketText};
 ghost use Rattle.ftl0_packets.specs.Reading.{text_len as octets_of_text, is_whole as is_whole_text, is_malformed, is_read, item_from, malformed_in, packet_from, read_item};
 ghost use Rattle.ftl0_packets.specs.Values.{item_of, value_of};
@@ -10,6 +10,9 @@ use px_base::{le16, le32};
 
 /// How many octets of header a packet has.
 pub(crate) const HEADER_LEN: usize = 2;
+
+/// How many octets a packet has at most.
+pub(crate) const MOST_OCTETS: usize = 2_049;
 
 /// The greatest type that is read so far.
 const LAST_BUILT: u8 = 7;
@@ -21,14 +24,15 @@ pub(crate) fn text_len(octets: &[u8]) -> usize
 {
     let low = octets.first().copied().unwrap_or(0);
     let high = octets.get(1).copied().unwrap_or(0);
-    HEADER_LEN + usize::from(low) + 256 * usize::from(high / 32)
+    header_text_len(low, high)
 }
 
-/// Whether the octets are as many as the packet has that begins so.
-pub(crate) fn is_whole(octets: &[u8]) -> bool
-    ensures { result ≡ is_whole_text octets.now }
+/// How many octets the packet has with these two octets of header, 2 to 2,049.
+pub(crate) fn header_text_len(low: u8, high: u8) -> usize
+    ensures len { result ≡ octets_of_text (low ∷ high ∷ []) }
+    ensures bound { result ≤ 2049 }
 {
-    octets.len() == text_len(octets)
+    HEADER_LEN + usize::from(low) + 256 * usize::from(high / 32)
 }
 
 /// What the octets of a whole packet say.

@@ -9,10 +9,11 @@ use crate::Packet;
 use arrayvec::ArrayVec;
 use byteorder::{ByteOrder, LittleEndian};
 
-/// Writes a packet's octets in place of what `out` holds. DATA and SELECT_CMD have at most 2,047 octets of information.
-/// Takes no memory.
-pub fn write_packet(packet: &Packet<'_>, out: &mut ArrayVec<u8, 2049>)
-    requires { length (information (value_of packet.now)) < 2048 }
+/// Writes a packet's octets in place of what `out` holds, which has room for them. DATA and SELECT_CMD have at most 2,047
+/// octets of information. Takes no memory.
+pub fn write_packet<const N: usize>(packet: &Packet<'_>, out: &mut ArrayVec<u8, N>)
+    requires information { length (information (value_of packet.now)) < 2048 }
+    requires room { length (packet_text (value_of packet.now)) ≤ N }
     ensures text { out.new.items ≡ packet_text (value_of packet.now) }
     // Only DATA and SELECT_CMD have more than 11 octets.
     ensures short { type_of (value_of packet.now) ≢ 0 → type_of (value_of packet.now) ≢ 16 → length out.new.items ≤ 11 }
@@ -44,10 +45,10 @@ fn information_len(packet: &Packet<'_>) -> usize
 }
 
 /// Puts the two octets of header at the end.
-fn put_header(out: &mut ArrayVec<u8, 2049>, kind: u8, len: usize)
+fn put_header<const N: usize>(out: &mut ArrayVec<u8, N>, kind: u8, len: usize)
     requires kind { kind < 32 }
     requires len { len < 2048 }
-    requires room { length out.old.items ≤ 2047 }
+    requires room { length out.old.items + 2 ≤ N }
     ensures { out.new.items ≡ out.old.items ++ header kind len }
 {
     let octets = [(len % 256) as u8, (32 * (len / 256)) as u8 + kind];
@@ -55,8 +56,8 @@ fn put_header(out: &mut ArrayVec<u8, 2049>, kind: u8, len: usize)
 }
 
 /// Puts the packet's information at the end.
-fn put_information(out: &mut ArrayVec<u8, 2049>, packet: &Packet<'_>)
-    requires { length out.old.items + length (information (value_of packet.now)) ≤ 2049 }
+fn put_information<const N: usize>(out: &mut ArrayVec<u8, N>, packet: &Packet<'_>)
+    requires { length out.old.items + length (information (value_of packet.now)) ≤ N }
     ensures { out.new.items ≡ out.old.items ++ information (value_of packet.now) }
 {
     match *packet {
@@ -101,8 +102,8 @@ fn put_information(out: &mut ArrayVec<u8, 2049>, packet: &Packet<'_>)
 }
 
 /// Puts the four octets of a number at the end, least significant first.
-fn put_number(out: &mut ArrayVec<u8, 2049>, number: u32)
-    requires { length out.old.items + 4 ≤ 2049 }
+fn put_number<const N: usize>(out: &mut ArrayVec<u8, N>, number: u32)
+    requires { length out.old.items + 4 ≤ N }
     ensures { out.new.items ≡ out.old.items ++ le32_octets number }
 {
     let mut octets = [0; 4];
@@ -111,8 +112,8 @@ fn put_number(out: &mut ArrayVec<u8, 2049>, number: u32)
 }
 
 /// Puts octets at the end.
-fn put_octets(out: &mut ArrayVec<u8, 2049>, octets: &[u8])
-    requires { length out.old.items + length octets.now ≤ 2049 }
+fn put_octets<const N: usize>(out: &mut ArrayVec<u8, N>, octets: &[u8])
+    requires { length out.old.items + length octets.now ≤ N }
     ensures { out.new.items ≡ out.old.items ++ octets.now }
 {
     out.try_extend_from_slice(octets).unwrap();

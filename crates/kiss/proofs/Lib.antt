@@ -2,3 +2,4 @@ pub mod Splitting
 pub mod Escapes
 pub mod Steps
 pub mod LawProofs
+pub mod FrameOctets

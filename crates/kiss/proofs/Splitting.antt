@@ -67,10 +67,10 @@ kiss_parts-before x later other =
 pub one_piece : (u : List ℕ) → HasNoFend u → slice_split is_fend u ≡ u ∷ []
 one_piece u none = ap (slice_split is_fend) (sym (append-nil u)) ∙ split_front u [] [] [] none refl ∙ ap (λ (piece : List ℕ). piece ∷ []) (append-nil u)
 
--- what was told is all there is, where nothing is kept back
-pub ends_with : (told : List Part) (heard all : List ℕ) → kiss_parts heard ≡ [] → told ++ kiss_parts (heard ++ []) ≡ kiss_parts (all ++ []) → told ≡ kiss_parts all
-ends_with told heard all none e =
-    sym (ap (λ (rest : List Part). told ++ rest) (ap kiss_parts (append-nil heard) ∙ none) ∙ append-nil told) ∙ e ∙ ap kiss_parts (append-nil all)
+-- what was ended is all there is, where nothing is kept back
+pub ends_with : (parts : List Part) (heard all : List ℕ) → kiss_parts heard ≡ [] → parts ++ kiss_parts (heard ++ []) ≡ kiss_parts (all ++ []) → parts ≡ kiss_parts all
+ends_with parts heard all none e =
+    sym (ap (λ (rest : List Part). parts ++ rest) (ap kiss_parts (append-nil heard) ∙ none) ∙ append-nil parts) ∙ e ∙ ap kiss_parts (append-nil all)
 
 -- octets without a FEND have no part
 pub no_part : (u : List ℕ) → HasNoFend u → kiss_parts u ≡ []

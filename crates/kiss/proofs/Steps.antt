@@ -9,8 +9,8 @@ use Rattle.kiss.specs.declared.whole.Part.TheVariants.{Frame, Dropped}
 use Rattle.kiss.specs.KissText.{fend, fesc, tfend, tfesc, most_octets, escape_octet, escape, unescape, part_of, frame_of, kiss_parts, kiss_frames, HasNoFend}
 use Rattle.kiss.specs.declared.reader.State.{State}
 use Rattle.kiss.specs.declared.reader.State.TheVariants as state
-use Rattle.kiss.specs.Hearing.{Hearing, told, frames_told}
-use Rattle.kiss.specs.ReaderMemory.{heard_in, parts_of_text}
+use Rattle.kiss.specs.Hearing.{Hearing, parts_ended, frames_ended}
+use Rattle.kiss.specs.ReaderMemory.{heard_in, hearing, parts_of_text, IsStep}
 use Rattle.kiss.proofs.Splitting.{split_form, one_piece, kiss_parts-fend, after_fend-piece, after_fend-swap}
 use Rattle.kiss.proofs.Escapes.{escape-form, escape-no_fend, escape-push, escape-push_itself, unescape-whole, ill-dropped, open-dropped, long-dropped, HasNoFend-append}
 
@@ -132,7 +132,7 @@ heard_in-no_part state.Framed text = refl
 
 -- where the parts go on, so do the frames
 pub frames_go_on : (fed : KissFed) (hearing : Hearing) (before after : List ℕ)
-    → kiss_parts before ≡ told fed hearing ++ kiss_parts after → kiss_frames before ≡ frames_told fed hearing ++ kiss_frames after
+    → kiss_parts before ≡ parts_ended fed hearing ++ kiss_parts after → kiss_frames before ≡ frames_ended fed hearing ++ kiss_frames after
 unfolding kiss_frames
 frames_go_on fed.More hearing before after e = ap (filter_map frame_of) e
 frames_go_on fed.Frame hearing before after e = ap (filter_map frame_of) e ∙ with_frame hearing.frame
@@ -147,27 +147,36 @@ pub no_frame : (octets : List ℕ) → kiss_parts octets ≡ [] → kiss_frames 
 unfolding kiss_frames
 no_frame octets e = rw e refl
 
--- at the end of what came, only what was told is there
-pub told_alone : (s : State) (text : List ℕ) (parts : List Part) → parts ++ kiss_parts (heard_in s text ++ []) ≡ parts
-told_alone s text parts =
-    ap (λ (rest : List Part). parts ++ rest) (ap kiss_parts (append-nil (heard_in s text)) ∙ heard_in-no_part s text) ∙ append-nil parts
+-- what an octet ended is what there is now
+pub step_verdict : (before : State) (text : List ℕ) (octet : ℕ) (now : State) (text_now : List ℕ) (answer : KissFed) → IsStep before text octet now text_now answer
+    → parts_ended answer (hearing now text_now) ≡ kiss_parts (heard_in before text ++ octet ∷ [])
+step_verdict before text octet now text_now answer h =
+    sym (
+    h.parts []
+    ∙ ap (λ (rest : List Part). parts_ended answer (hearing now text_now) ++ rest) (ap kiss_parts (append-nil (heard_in now text_now)) ∙ heard_in-no_part now text_now)
+    ∙ append-nil (parts_ended answer (hearing now text_now)))
+
+-- and the frame among it
+pub step_frames : (before : State) (text : List ℕ) (octet : ℕ) (now : State) (text_now : List ℕ) (answer : KissFed) → IsStep before text octet now text_now answer
+    → (later : List ℕ) → kiss_frames (heard_in before text ++ octet ∷ later) ≡ frames_ended answer (hearing now text_now) ++ kiss_frames (heard_in now text_now ++ later)
+step_frames before text octet now text_now answer h later = frames_go_on answer (hearing now text_now) _ _ (h.parts later)
 
 -- a loop that goes from FEND to FEND, one piece further
-pub piece_more : (told new all : List Part) (rest piece after : List ℕ) (part : Part)
-    → told ++ kiss_parts (fend ∷ rest) ≡ all → HasNoFend piece → rest ≡ piece ++ fend ∷ after → 0 < length piece
-    → part ≡ part_of (unescape piece) → new ≡ told ++ part ∷ [] → new ++ kiss_parts (fend ∷ after) ≡ all
-piece_more told new all rest [] after part so_far none cut some is more = absurd (omega arith)
-piece_more told new all rest (x ∷ piece) after part so_far none cut some is more =
+pub piece_more : (parts new all : List Part) (rest piece after : List ℕ) (part : Part)
+    → parts ++ kiss_parts (fend ∷ rest) ≡ all → HasNoFend piece → rest ≡ piece ++ fend ∷ after → 0 < length piece
+    → part ≡ part_of (unescape piece) → new ≡ parts ++ part ∷ [] → new ++ kiss_parts (fend ∷ after) ≡ all
+piece_more parts new all rest [] after part so_far none cut some is more = absurd (omega arith)
+piece_more parts new all rest (x ∷ piece) after part so_far none cut some is more =
     ap (λ (front : List Part). front ++ kiss_parts (fend ∷ after)) more
-    ∙ append_assoc told (part ∷ []) (kiss_parts (fend ∷ after))
-    ∙ ap (λ (next : Part). told ++ next ∷ kiss_parts (fend ∷ after)) is
-    ∙ ap (λ (back : List Part). told ++ back) (sym (ended (x ∷ piece) after (x, piece, refl) none))
-    ∙ ap (λ (octets : List ℕ). told ++ kiss_parts (fend ∷ octets)) (sym cut)
+    ∙ append_assoc parts (part ∷ []) (kiss_parts (fend ∷ after))
+    ∙ ap (λ (next : Part). parts ++ next ∷ kiss_parts (fend ∷ after)) is
+    ∙ ap (λ (back : List Part). parts ++ back) (sym (ended (x ∷ piece) after (x, piece, refl) none))
+    ∙ ap (λ (octets : List ℕ). parts ++ kiss_parts (fend ∷ octets)) (sym cut)
     ∙ so_far
 
 -- a piece without octets has no part
-pub piece_empty : (told all : List Part) (rest piece after : List ℕ)
-    → told ++ kiss_parts (fend ∷ rest) ≡ all → rest ≡ piece ++ fend ∷ after → length piece ≡ 0 → told ++ kiss_parts (fend ∷ after) ≡ all
-piece_empty told all rest [] after so_far cut none =
-    ap (λ (back : List Part). told ++ back) (sym (fend_again after) ∙ ap (λ (octets : List ℕ). kiss_parts (fend ∷ octets)) (sym cut)) ∙ so_far
-piece_empty told all rest (x ∷ piece) after so_far cut none = absurd (omega arith)
+pub piece_empty : (parts all : List Part) (rest piece after : List ℕ)
+    → parts ++ kiss_parts (fend ∷ rest) ≡ all → rest ≡ piece ++ fend ∷ after → length piece ≡ 0 → parts ++ kiss_parts (fend ∷ after) ≡ all
+piece_empty parts all rest [] after so_far cut none =
+    ap (λ (back : List Part). parts ++ back) (sym (fend_again after) ∙ ap (λ (octets : List ℕ). kiss_parts (fend ∷ octets)) (sym cut)) ∙ so_far
+piece_empty parts all rest (x ∷ piece) after so_far cut none = absurd (omega arith)

@@ -1,7 +1,9 @@
 -- Laws of KISS text.
-use Rattle.std.specs.Prelude.{◌≡◌, ◌≤◌, ◌↔◌, ℕ, List, [], ◌∷◌, ◌++◌, length, map, Some}
+use Rattle.std.specs.Prelude.{◌≡◌, ◌≤◌, ◌↔◌, ℕ, List, [], ◌∷◌, ◌++◌, length, map, Some, All, ⊤}
 use Rattle.std.specs.List.{flat_map, AllByRecursion}
-use Rattle.kiss.specs.declared.whole.Part.TheVariants.{Frame}
+use Rattle.px_base.specs.Octets.{IsOctets}
+use Rattle.kiss.specs.declared.whole.Part.{Part}
+use Rattle.kiss.specs.declared.whole.Part.TheVariants.{Frame, Dropped, Passed}
 use Rattle.kiss.specs.KissText.{most_octets, escape, unescape, kiss_text, kiss_parts, kiss_frames, from_last_fend, HasNoFend}
 
 -- what is written for a frame is that frame and nothing else, whatever stands before its first FEND
@@ -29,3 +31,13 @@ PartsGoOn = (octets later : List ℕ) → kiss_parts (octets ++ later) ≡ kiss_
 -- so do the frames
 abbrev pub FramesGoOn : Type 0
 FramesGoOn = (octets later : List ℕ) → kiss_frames (octets ++ later) ≡ kiss_frames octets ++ kiss_frames (from_last_fend octets ++ later)
+
+-- a frame of octets, or another part
+abbrev pub HasOctets : Part → Type 0
+HasOctets (Frame octets) = IsOctets octets
+HasOctets Dropped = ⊤
+HasOctets Passed = ⊤
+
+-- the frames in octets are of octets
+abbrev pub FramesHaveOctets : Type 0
+FramesHaveOctets = (octets : List ℕ) → IsOctets octets → All HasOctets (kiss_parts octets)

@@ -1,13 +1,13 @@
 -- What the memory of a reader of KISS text stands for.
-use Rattle.std.specs.Prelude.{ℕ, List, [], ◌∷◌, ◌++◌, Option, Some, None, drop, length, ◌<◌}
+use Rattle.std.specs.Prelude.{◌≡◌, ◌≢◌, ◌↔◌, ℕ, List, [], ◌∷◌, ◌++◌, Option, Some, None, IsSome, drop, length, ◌<◌}
 use Rattle.kiss.specs.declared.reader.KissFed.{KissFed}
 use Rattle.kiss.specs.declared.reader.KissFed.TheVariants as fed
 use Rattle.kiss.specs.declared.reader.State.{State}
 use Rattle.kiss.specs.declared.reader.State.TheVariants as state
 use Rattle.kiss.specs.declared.whole.Part.{Part}
 use Rattle.kiss.specs.declared.whole.Part.TheVariants as part
-use Rattle.kiss.specs.KissText.{fend, fesc, escape, part_of_text}
-use Rattle.kiss.specs.Hearing.{Hearing}
+use Rattle.kiss.specs.KissText.{fend, fesc, escape, part_of_text, kiss_parts}
+use Rattle.kiss.specs.Hearing.{Hearing, parts_ended}
 
 -- the octets that came, or some that are as good: a part that will be dropped is as good as one that begins with an ill escape
 abbrev pub heard_in : State → List ℕ → List ℕ
@@ -29,12 +29,12 @@ frame_in state.Framed text = Some (drop 1 text)
 abbrev pub hearing : State → List ℕ → Hearing
 hearing s text = record { heard = heard_in s text; frame = frame_in s text }
 
--- the parts that an answer tells, by the reader's memory
-abbrev pub told_in : KissFed → List ℕ → List Part
-told_in fed.More text = []
-told_in fed.Frame text = part.Frame (drop 1 text) ∷ []
-told_in fed.Dropped text = part.Dropped ∷ []
-told_in fed.Passed text = part.Passed ∷ []
+-- the parts that an answer says were ended, by the reader's memory
+abbrev pub parts_ended_in : KissFed → List ℕ → List Part
+parts_ended_in fed.More text = []
+parts_ended_in fed.Frame text = part.Frame (drop 1 text) ∷ []
+parts_ended_in fed.Dropped text = part.Dropped ∷ []
+parts_ended_in fed.Passed text = part.Passed ∷ []
 
 -- the part that unescaped octets are, where there are octets
 abbrev pub parts_of_text : List ℕ → List Part
@@ -48,3 +48,11 @@ HasTypeOctet state.Within text = Unit {0}
 HasTypeOctet state.Escaped text = Unit {0}
 HasTypeOctet state.Spoilt text = Unit {0}
 HasTypeOctet state.Framed text = 0 < length text
+
+-- one octet takes a reader's memory to this state and text, and ends what the answer says
+pub record IsStep (before : State) (text : List ℕ) (octet : ℕ) (now : State) (text_now : List ℕ) (answer : KissFed) : Type 0 where
+  pub parts : (later : List ℕ) → kiss_parts (heard_in before text ++ octet ∷ later)
+      ≡ parts_ended answer (hearing now text_now) ++ kiss_parts (heard_in now text_now ++ later)
+  pub frame : (answer ≡ fed.Frame) ↔ IsSome (frame_in now text_now)
+  pub inside : octet ≢ fend → answer ≡ fed.More
+  pub type_octet : HasTypeOctet now text_now

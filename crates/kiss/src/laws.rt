@@ -1,6 +1,6 @@
 //! Laws of KISS text. Each function's contract is a law, and its body is empty.
 
-ghost use Rattle.kiss.specs.Laws.{ReadsBack, AllReadBack, AllFramesReadBack, EscapesOneWay, PartsGoOn, FramesGoOn};
+ghost use Rattle.kiss.specs.Laws.{ReadsBack, AllReadBack, AllFramesReadBack, EscapesOneWay, FramesHaveOctets, PartsGoOn, FramesGoOn};
 
 /// What [`write_frame`](crate::write_frame) writes for a frame of at most 400 octets has exactly
 /// one part, that frame, whatever octets stand before its first FEND.
@@ -26,4 +26,9 @@ pub fn escapes_one_way()
 pub fn parts_go_on()
     ensures parts { PartsGoOn }
     ensures frames { FramesGoOn }
+{}
+
+/// The frames in a list of octets, numbers below 256, are lists of octets too.
+pub fn frames_have_octets()
+    ensures { FramesHaveOctets }
 {}

@@ -6,16 +6,15 @@
 //! `specs/KissText.antt` says what the parts of a list of octets are.
 #![tactic(auto)]
 
-mod laws;
+pub mod laws;
 mod octets;
 mod reader;
 mod whole;
 mod writer;
 
-pub use laws::{escapes_one_way, frame_reads_back, frames_read_back, parts_go_on};
 pub use octets::MOST_OCTETS;
 pub use reader::{KissFed, KissReader};
-pub use whole::{Content, Part, parts, parts_of_pieces};
+pub use whole::{Part, parts, parts_of_pieces};
 pub use writer::{TooLong, write_frame};
 
 #[cfg(test)]

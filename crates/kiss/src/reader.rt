@@ -1,9 +1,9 @@
 //! Reading KISS text an octet at a time.
 
 ghost use Rattle.std.specs.Prelude.{◌≡◌, ◌≢◌, ◌↔◌, ℕ, List, [], ◌∷◌, ◌++◌, length, ◌<◌, ◌≤◌, IsSome, Some, None};
-ghost use Rattle.kiss.specs.KissText.{fend, kiss_parts, kiss_frames, escape};
-ghost use Rattle.kiss.specs.Hearing.{told, frames_told};
-ghost use Rattle.kiss.specs.ReaderMemory.{heard_in, frame_in, hearing, told_in, parts_of_text, HasTypeOctet};
+ghost use Rattle.kiss.specs.KissText.{fend, fesc, kiss_parts, kiss_frames, escape};
+ghost use Rattle.kiss.specs.Hearing.{parts_ended, frames_ended};
+ghost use Rattle.kiss.specs.ReaderMemory.{heard_in, frame_in, hearing, parts_ended_in, parts_of_text, IsStep};
 
 use crate::octets::{DATA_ON_PORT_0, FEND, FESC, TFEND, TFESC};
 use arrayvec::ArrayVec;
@@ -77,22 +77,27 @@ impl KissReader {
     /// Takes one octet, and says what it ended. All answers but `More` come exactly at a FEND that
     /// ends a part which isn't empty and isn't what stood before the first FEND ("Asynchronous
     /// Frame Format"). After each of them the reader is ready for the next part. Takes no memory.
+    #[inline]
     pub fn feed(&mut self, byte: u8) -> KissFed
         // What it says is what the definition says of the octets so far and this one.
-        ensures verdict { told result self.new ≡ kiss_parts (self.old.heard ++ byte ∷ []) }
+        ensures verdict { parts_ended result self.new ≡ kiss_parts (self.old.heard ++ byte ∷ []) }
         ensures frame { (result ≡ KissFed.Frame) ↔ IsSome self.new.frame }
         ensures inside { byte ≢ fend → result ≡ KissFed.More }
 
-        // Whatever comes later, the parts are this one and those that the reader will tell.
+        // Whatever comes later, the parts are this one and those that come after it.
         ensures parts { (later : List ℕ) → kiss_parts (self.old.heard ++ byte ∷ later)
-            ≡ told result self.new ++ kiss_parts (self.new.heard ++ later) }
+            ≡ parts_ended result self.new ++ kiss_parts (self.new.heard ++ later) }
         ensures frames { (later : List ℕ) → kiss_frames (self.old.heard ++ byte ∷ later)
-            ≡ frames_told result self.new ++ kiss_frames (self.new.heard ++ later) }
+            ≡ frames_ended result self.new ++ kiss_frames (self.new.heard ++ later) }
 
         // No part is kept back that is ended.
         ensures no_part { kiss_parts self.new.heard ≡ [] }
         ensures no_frame { kiss_frames self.new.heard ≡ [] }
     {
+        if self.state == State::Within && byte != FEND && byte != FESC && !self.text.is_full() {
+            push_itself(&mut self.text, byte);
+            return KissFed::More;
+        }
         let (state, fed) = step(self.state, &mut self.text, byte);
         self.state = state;
         fed
@@ -109,13 +114,21 @@ impl KissReader {
     }
 }
 
+/// Keeps an octet of a part that stands for itself. Most octets do, so `feed` looks at them first.
+#[inline]
+fn push_itself(text: &mut ArrayVec<u8, MOST_TEXT>, octet: u8)
+    requires room { length text.old.items < MOST_TEXT }
+    requires no_end { octet ≢ fend }
+    requires no_escape { octet ≢ fesc }
+    ensures { IsStep State.Within text.old.items octet State.Within text.new.items KissFed.More }
+{
+    text.push(octet);
+}
+
 /// Where a reader stands after an octet, and what that octet ended.
+#[inline(never)]
 fn step(state: State, text: &mut ArrayVec<u8, MOST_TEXT>, octet: u8) -> (State, KissFed)
-    ensures parts { (later : List ℕ) → kiss_parts (heard_in state text.old.items ++ octet ∷ later)
-        ≡ told result.1 (hearing result.0 text.new.items) ++ kiss_parts (heard_in result.0 text.new.items ++ later) }
-    ensures frame { (result.1 ≡ KissFed.Frame) ↔ IsSome (frame_in result.0 text.new.items) }
-    ensures inside { octet ≢ fend → result.1 ≡ KissFed.More }
-    ensures type_octet { HasTypeOctet result.0 text.new.items }
+    ensures { IsStep state text.old.items octet result.0 text.new.items result.1 }
 {
     if octet != FEND {
         return (advance(state, text, octet), KissFed::More);
@@ -191,7 +204,7 @@ fn keep(text: &mut ArrayVec<u8, MOST_TEXT>, octet: u8) -> State
 /// What a FEND ends.
 fn verdict(state: State, text: &ArrayVec<u8, MOST_TEXT>) -> KissFed
     ensures parts { (later : List ℕ) → kiss_parts (heard_in state text.now.items ++ fend ∷ later)
-        ≡ told_in result text.now.items ++ kiss_parts (fend ∷ later) }
+        ≡ parts_ended_in result text.now.items ++ kiss_parts (fend ∷ later) }
     ensures frame { result ≡ KissFed.Frame → 0 < length text.now.items }
 {
     match state {
@@ -206,7 +219,7 @@ fn verdict(state: State, text: &ArrayVec<u8, MOST_TEXT>) -> KissFed
 /// What the unescaped octets between two FENDs are ("Control of the KISS TNC").
 fn verdict_on(text: &[u8]) -> KissFed
     requires { length text.now ≤ 401 }
-    ensures parts { told_in result text.now ≡ parts_of_text text.now }
+    ensures parts { parts_ended_in result text.now ≡ parts_of_text text.now }
     ensures frame { result ≡ KissFed.Frame → 0 < length text.now }
 {
     match text {

@@ -4,41 +4,18 @@ ghost use Rattle.std.specs.Prelude.{◌≡◌, ℕ, List, [], ◌∷◌, ◌++�
 ghost use Rattle.std.specs.Option.{option_map};
 ghost use Rattle.std.specs.List.{flat_map};
 ghost use Rattle.kiss.specs.KissText.{fend, HasNoFend, part_of, part_of_text, with_front, unescape, kiss_parts, kiss_frames};
-ghost use Rattle.kiss.specs.Hearing.{told};
+ghost use Rattle.kiss.specs.Hearing.{parts_ended};
 
 use crate::octets::{DATA_ON_PORT_0, FEND, FESC, MOST_OCTETS, TFEND, TFESC};
 use crate::reader::{KissFed, KissReader};
-use std::alloc::{AllocError, Global};
-use std::marker::Model;
-
-/// The octets of a frame after its type octet.
-#[derive(Debug, Drop)]
-pub struct Content {
-    octets: Vec<u8>,
-}
-
-impl Model for Content {
-    ghost use Rattle.std.specs.Prelude.{List, ℕ};
-
-    ghost Value = { List ℕ };
-
-    ghost view = { λ content. content.octets.items };
-}
-
-impl Content {
-    /// The octets. Takes no memory.
-    pub fn as_slice(&self) -> &[u8]
-        ensures { result.now ≡ self.now }
-    {
-        self.octets.as_slice()
-    }
-}
+use px_base::{FileBytes, OutOfMemory};
+use std::alloc::Global;
 
 /// What stands between two FENDs ("Asynchronous Frame Format").
 #[derive(Debug, Drop)]
 pub enum Part {
     /// A frame on port 0, of at most 400 octets after its type octet.
-    Frame(Content),
+    Frame(FileBytes),
     /// A part with an ill escape, or with more than 400 octets after its type octet.
     Dropped,
     /// A part that isn't dropped and whose type octet isn't data on port 0.
@@ -47,7 +24,7 @@ pub enum Part {
 
 /// The parts of a list of octets, in order. This is the definition as a plain and slow program: it
 /// looks for each FEND, and copies each frame. `Err` only where memory runs out.
-pub fn parts(alloc: Global, octets: &[u8]) -> Result<Vec<Part>, AllocError>
+pub fn parts(alloc: Global, octets: &[u8]) -> Result<Vec<Part>, OutOfMemory>
     ensures { IfOk result (λ parts. parts.items ≡ kiss_parts octets.now) }
 {
     let mut parts = Vec::new(alloc);
@@ -63,15 +40,15 @@ pub fn parts(alloc: Global, octets: &[u8]) -> Result<Vec<Part>, AllocError>
     Ok(parts)
 }
 
-/// The parts of octets that come in these pieces, in order, as a [`KissReader`] tells them. It
+/// The parts of octets that come in these pieces, in order, as a [`KissReader`] gives them. It
 /// doesn't matter where the octets are cut. `Err` only where memory runs out.
-pub fn parts_of_pieces(alloc: Global, pieces: &[Vec<u8>]) -> Result<Vec<Part>, AllocError>
-    ensures { IfOk result (λ parts. parts.items ≡ kiss_parts (flat_map (λ piece. piece.items) pieces.now)) }
+pub fn parts_of_pieces(alloc: Global, pieces: &[FileBytes]) -> Result<Vec<Part>, OutOfMemory>
+    ensures { IfOk result (λ parts. parts.items ≡ kiss_parts (flat_map (λ piece. piece) pieces.now)) }
 {
     let mut reader = KissReader::new();
     let mut parts = Vec::new(alloc);
     for piece in pieces {
-        hear(alloc, &mut reader, piece, &mut parts)?;
+        hear(alloc, &mut reader, piece.as_slice(), &mut parts)?;
     }
     Ok(parts)
 }
@@ -82,7 +59,7 @@ fn hear(
     reader: &mut KissReader,
     piece: &[u8],
     parts: &mut Vec<Part>,
-) -> Result<(), AllocError>
+) -> Result<(), OutOfMemory>
     requires { kiss_parts reader.old.heard ≡ [] }
     ensures parts { OnOk result ((later : List ℕ) → parts.new.items ++ kiss_parts (reader.new.heard ++ later)
         ≡ parts.old.items ++ kiss_parts (reader.old.heard ++ (piece.now ++ later))) }
@@ -90,20 +67,20 @@ fn hear(
 {
     for &octet in piece {
         let fed = reader.feed(octet);
-        add_told(alloc, fed, reader, parts)?;
+        add_ended(alloc, fed, reader, parts)?;
     }
     Ok(())
 }
 
-/// Adds the part that a reader's answer tells.
-fn add_told(
+/// Adds the part that a reader's answer says was ended.
+fn add_ended(
     alloc: Global,
     fed: KissFed,
     reader: &KissReader,
     parts: &mut Vec<Part>,
-) -> Result<(), AllocError>
+) -> Result<(), OutOfMemory>
     requires { fed ≡ KissFed.Frame → IsSome reader.now.frame }
-    ensures { OnOk result (parts.new.items ≡ parts.old.items ++ told fed reader.now) }
+    ensures { OnOk result (parts.new.items ≡ parts.old.items ++ parts_ended fed reader.now) }
 {
     match fed {
         KissFed::More => {}
@@ -115,11 +92,10 @@ fn add_told(
 }
 
 /// A frame with these octets.
-fn frame_part(alloc: Global, octets: &[u8]) -> Result<Part, AllocError>
+fn frame_part(alloc: Global, octets: &[u8]) -> Result<Part, OutOfMemory>
     ensures { IfOk result (λ part. part ≡ Part.Frame octets.now) }
 {
-    let octets = Vec::from_slice(alloc, octets)?;
-    Ok(Part::Frame(Content { octets }))
+    Ok(Part::Frame(FileBytes::copy_of(alloc, octets)?))
 }
 
 /// What stands before the first FEND, and after it.
@@ -136,7 +112,7 @@ fn at_fend(octets: &[u8]) -> Option<(&[u8], &[u8])>
 }
 
 /// What a piece between two FENDs is.
-fn part_between(alloc: Global, piece: &[u8]) -> Result<Part, AllocError>
+fn part_between(alloc: Global, piece: &[u8]) -> Result<Part, OutOfMemory>
     ensures { IfOk result (λ part. part ≡ part_of (unescape piece.now)) }
 {
     match unescaped(alloc, piece)? {
@@ -146,7 +122,7 @@ fn part_between(alloc: Global, piece: &[u8]) -> Result<Part, AllocError>
 }
 
 /// What unescaped octets are ("Control of the KISS TNC").
-fn part_with_text(alloc: Global, text: &[u8]) -> Result<Part, AllocError>
+fn part_with_text(alloc: Global, text: &[u8]) -> Result<Part, OutOfMemory>
     ensures { IfOk result (λ part. part ≡ part_of_text text.now) }
 {
     match text {
@@ -158,7 +134,7 @@ fn part_with_text(alloc: Global, text: &[u8]) -> Result<Part, AllocError>
 }
 
 /// The octets that a piece was sent for, `None` where it has an ill escape ("Transparency").
-fn unescaped(alloc: Global, piece: &[u8]) -> Result<Option<Vec<u8>>, AllocError>
+fn unescaped(alloc: Global, piece: &[u8]) -> Result<Option<Vec<u8>>, OutOfMemory>
     ensures { IfOk result (λ text. option_map (λ octets. octets.items) text ≡ unescape piece.now) }
 {
     let mut text = Vec::new(alloc);

@@ -4,24 +4,11 @@ use Rattle.std.specs.List.{AllByRecursion}
 use Rattle.px_base.specs.declared.air.Turn.{Turn}
 use Rattle.px_base.specs.Polling.{octets_heard, octets_of_turn}
 use Rattle.ftl0_packets.specs.Laws.{IsOneStream}
-use Rattle.ftl0_packets.specs.Layout.{IsOctets, Item}
+use Rattle.px_base.specs.Octets.{IsOctets}
+use Rattle.ftl0_packets.specs.Layout.{Item}
 use Rattle.ftl0_packets.specs.Stream.{IsPartial, Stream}
 use Rattle.pacsat_cli.specs.Events.{Brings, Event, at_moment, packets_in}
-
--- an octet before octets
-octets_at : (x : ℕ) (xs : List ℕ) → x < 256 → IsOctets xs → (i : ℕ) → get_or (x ∷ xs) i 0 < 256
-octets_at x xs h k zero = h
-octets_at x xs h k (suc i) = k i
-
--- octets joined are octets
-pub octets_append : (xs ys : List ℕ) → IsOctets xs → IsOctets ys → IsOctets (xs ++ ys)
-octets_append [] ys h k = k
-octets_append (x ∷ xs) ys h k = λ i. octets_at x (xs ++ ys) (h 0) (octets_append xs ys (λ j. h (suc j)) k) i
-
--- and so is what follows a front of them
-octets_back : (xs ys : List ℕ) → IsOctets (xs ++ ys) → IsOctets ys
-octets_back [] ys h = h
-octets_back (x ∷ xs) ys h = octets_back xs ys (λ i. h (suc i))
+use Rattle.pacsat_cli.proofs.OctetLemmas.{octets_back}
 
 -- the rest of a stream is less than a whole packet
 pub stream-partial : (octets : List ℕ) (items : List Item) (rest : List ℕ) → Stream octets items rest → IsPartial rest

@@ -1,47 +1,46 @@
--- What the node's loops keep.
-use Rattle.std.proofs.Common.{◌≡◌, ◌≤◌, ◌++◌, ◌∷◌, length, List, [], ℕ, Option}
-use Rattle.std.specs.Prelude.{IsSome, ◌⊎◌}
-use Rattle.px_base.specs.declared.air.Turn.{Turn}
+-- What the server's loops keep.
+use Rattle.std.proofs.Common.{◌≡◌, ◌++◌, ◌∷◌, length, List, [], ℕ, max, Option}
+use Rattle.std.specs.List.{AllByRecursion}
+use Rattle.std.specs.Prelude.{IsSome}
+use Rattle.px_base.specs.CallSign.{CallSign}
+use Rattle.px_base.specs.Moments.{MomentsOf}
 use Rattle.px_base.specs.Outside.{Gains}
-use Rattle.ftl0_packets.specs.Layout.{IsOctets}
-use Rattle.ftl0_packets.specs.Reading.{packets_of, rest_of, under_way}
-use Rattle.file_store.specs.Store.{Store}
-use Rattle.pacsat_cli.specs.declared.session.Session.{Session}
-use Rattle.pacsat_cli.specs.Node.{GoesOn, HearsAll, TurnsRan, point_of}
-use Rattle.pacsat_cli.specs.Run.{MomentsOf}
-use Rattle.pacsat_cli.specs.Taking.{IsHeld}
+use Rattle.px_base.specs.Polling.{HearsAll, IsOpen}
+use Rattle.px_base.specs.declared.air.Turn.{Turn}
+use Rattle.ftl0_packets.specs.Layout.{packet_text}
+use Rattle.file_store.specs.Store.{empty_store}
+use Rattle.pacsat_cli.specs.declared.node.SessionTerms.{SessionTerms}
+use Rattle.pacsat_cli.specs.Events.{Brings, Event}
+use Rattle.pacsat_cli.specs.Node.{GoesOn, RunsOver}
+use Rattle.pacsat_cli.specs.ServerState.{ServerState, with_octets}
+use Rattle.pacsat_cli.specs.Session.{command, greeting}
+use Rattle.pacsat_cli.specs.SessionRan.{IsPrompt}
 
 -- the loop over octets that were heard: from old to now
-pub record IsHearing {A : Type 0} (said : A → Option (List ℕ)) (heard : A → Option (List Turn)) (reads writes : A → ℕ) (moment : ℕ) (old : A) (store : Store) (session : Session) (reader piece : List ℕ) (now : A) (store_now : Store) (session_now : Session) (reader_now piece_now : List ℕ) : Type 0 where
-  pub held : IsHeld store_now session_now
-  pub idle : packets_of (under_way reader_now) ≡ []
-  pub left : rest_of (under_way reader_now) ≡ under_way reader_now
-  pub caller : session_now.caller ≡ session.caller
+pub record IsHearing {A : Type 0} (said : A → Option (List ℕ)) (heard : A → Option (List Turn)) (reads writes : A → ℕ) (moment : ℕ) (old : A) (server : ServerState) (octets : List ℕ) (now : A) (server_now : ServerState) (left : List ℕ) : Type 0 where
   pub nothing_heard : heard now ≡ heard old
   pub same_reads : reads now ≡ reads old
-  pub no_fewer_writes : writes old ≤ writes now
+  pub same_writes : writes now ≡ writes old
   pub text : List ℕ
   pub text_said : Gains (said old) (said now) text
-  pub goes_on : GoesOn session.caller moment (point_of store session (under_way reader ++ piece)) (point_of store_now session_now (under_way reader_now ++ piece_now)) text
+  pub goes_on : GoesOn moment (with_octets server octets) (with_octets server_now left) text
 
--- the loop over turns: from old to now, with the moments that were asked since, and those of the turns
-pub record IsListening {A C : Type 0} (said : A → Option (List ℕ)) (heard : A → Option (List Turn)) (reads writes : A → ℕ) (told : C → Option (List ℕ)) (first : ℕ) (given : Option ℕ) (old : A) (clock : C) (store : Store) (session : Session) (now : A) (clock_now : C) (store_now : Store) (session_now : Session) (reader_now : List ℕ) (count : ℕ) : Type 0 where
-  pub held : IsHeld store_now session_now
-  pub idle : packets_of (under_way reader_now) ≡ []
-  pub left : rest_of (under_way reader_now) ≡ under_way reader_now
-  pub octets : IsOctets (under_way reader_now)
-  pub caller : session_now.caller ≡ session.caller
-  pub no_fewer_reads : reads old ≤ reads now
-  pub no_fewer_writes : writes old ≤ writes now
-  pub same_clock : IsSome given → clock_now ≡ clock
+-- the loop over turns, all of them open ones: from old to now, with the moments that were given since
+pub record IsListening {A C : Type 0} (said : A → Option (List ℕ)) (heard : A → Option (List Turn)) (reads writes : A → ℕ) (given : C → Option (List ℕ)) (first : ℕ) (terms : SessionTerms) (old : A) (clock : C) (now : A) (clock_now : C) (server : ServerState) (count : ℕ) : Type 0 where
+  pub same_reads : reads now ≡ reads old
+  pub same_writes : writes now ≡ writes old
+  pub same_clock : IsSome terms.moment → clock_now ≡ clock
   pub turns : List Turn
-  pub moments : List ℕ
   pub later : List ℕ
   pub text : List ℕ
+  pub events : List Event
   pub turns_heard : HearsAll (heard old) (heard now) turns
-  pub moments_told : MomentsOf given (told clock) (told clock_now) later
+  pub moments_given : MomentsOf terms.moment (given clock) (given clock_now) later
   pub text_said : Gains (said old) (said now) text
+  pub all_open : AllByRecursion IsOpen turns
   pub counted : length turns ≡ count
-  pub as_many : length moments ≡ count
-  pub taken : ((count ≡ 0) × (moments ≡ []) × (later ≡ [])) ⊎ (moments ≡ first ∷ later)
-  pub ran : TurnsRan session.caller moments (point_of store session []) (point_of store_now session_now (under_way reader_now)) turns text
+  pub one_each : length (first ∷ later) ≡ max 1 count
+  pub brings : Brings [] turns (first ∷ later) events server.octets
+  pub caller : server.caller ≡ terms.caller
+  pub runs : RunsOver terms.caller (empty_store terms.limits.blocks) command events text server.store server.state
+  pub prompt : IsPrompt terms.caller (first ∷ later) terms.limits.blocks turns (packet_text (greeting first) ++ text)

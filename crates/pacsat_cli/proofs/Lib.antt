@@ -1,11 +1,13 @@
 pub mod EventLemmas
 pub mod FramesEnds
-pub mod Hearing
 pub mod Invariants
 pub mod Listening
+pub mod Moments
 pub mod NodeLemmas
-pub mod Outcome
-pub mod Ran
+pub mod OctetLemmas
 pub mod Rows
+pub mod RunFrames
+pub mod RunRefused
+pub mod RunSession
+pub mod Serving
 pub mod Six
-pub mod Turns

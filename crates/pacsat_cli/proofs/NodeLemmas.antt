@@ -1,9 +1,7 @@
--- How what a session takes and says goes on.
-use Rattle.std.proofs.Common.{◌≡◌, ℕ, List, [], ◌∷◌, ◌++◌, refl, ap, sym, subst, ◌∙◌, append_assoc, append-nil, arith, length, take, drop, false}
-use Rattle.std.proofs.lemmas.List.{take-append-drop}
+-- How what a session takes and says goes on, and how it stops.
+use Rattle.std.proofs.Common.{◌≡◌, ℕ, List, [], ◌∷◌, ◌++◌, refl, ap, sym, subst, ◌∙◌, append_assoc, append-nil}
 use Rattle.std.specs.Prelude.{Option, Some, None, Result, Ok, Err, MatchResult, ⊤}
 use Rattle.px_base.specs.CallSign.{CallSign}
-use Rattle.px_base.specs.Outside.{Gains, GainsPrefix}
 use Rattle.ftl0_packets.specs.Layout.{Item, PacketValue, packet_text}
 use Rattle.ftl0_packets.specs.Reading.{packets_of, rest_of}
 use Rattle.file_store.specs.Command.{after_all}
@@ -11,8 +9,9 @@ use Rattle.file_store.specs.Store.{Store}
 use Rattle.pacsat_cli.specs.declared.node.NodeStop.{NodeStop}
 use Rattle.pacsat_cli.specs.declared.node.NodeStop.TheVariants as stop
 use Rattle.pacsat_cli.specs.Events.{Event, at_moment}
-use Rattle.pacsat_cli.specs.Node.{AnswerSaid, GoesOn, IsFront, Point, RunsOver, Stops, events_at, stops_from, text_from}
-use Rattle.pacsat_cli.specs.Session.{Row, State, meets_unbuilt, replies_to, session_row, texts}
+use Rattle.pacsat_cli.specs.Node.{AnswerSaid, GoesOn, RunsOver, SaidUntil, Stops, StopsOver, events_at}
+use Rattle.pacsat_cli.specs.ServerState.{ServerState}
+use Rattle.pacsat_cli.specs.Session.{Row, State, first_unbuilt, replies_to, session_row, texts}
 use Rattle.pacsat_cli.specs.Taking.{Gives}
 
 -- texts of packets joined are joined texts
@@ -35,11 +34,11 @@ module _ (caller : CallSign) where
       ∙ ap (λ t. texts h.0.replies ++ t) (runs-said (after_all store h.0.commands) h.0.state events h.1 now next later h.5)
       ∙ sym (append_assoc (texts h.0.replies) h.1 (texts (replies_to caller now next later))))
 
-  -- and one of them all meets a row that isn't built where a later one does
-  pub runs-stops : (store : Store) (state : State) (events : List Event) (text : List ℕ) (now : Store) (next : State) (later : List Event) → RunsOver caller store state events text now next → meets_unbuilt caller store state (events ++ later) ≡ meets_unbuilt caller now next later
-  runs-stops store state [] text now next later h = rw (h.1, h.2) refl
-  runs-stops store state (e ∷ events) text now next later h =
-      rw h.2 (runs-stops (after_all store h.0.commands) h.0.state events h.1 now next later h.5)
+  -- and the first of them all whose row isn't built is that of the later ones
+  pub runs-unbuilt : (store : Store) (state : State) (events : List Event) (text : List ℕ) (now : Store) (next : State) (later : List Event) → RunsOver caller store state events text now next → first_unbuilt caller store state (events ++ later) ≡ first_unbuilt caller now next later
+  runs-unbuilt store state [] text now next later h = rw (h.1, h.2) refl
+  runs-unbuilt store state (e ∷ events) text now next later h =
+      rw h.2 (runs-unbuilt (after_all store h.0.commands) h.0.state events h.1 now next later h.5)
 
   -- events and then others
   pub runs-trans : (store : Store) (state : State) (events : List Event) (text : List ℕ) (mid : Store) (between : State) (others : List Event) (more : List ℕ) (now : Store) (next : State) → RunsOver caller store state events text mid between → RunsOver caller mid between others more now next → RunsOver caller store state (events ++ others) (text ++ more) now next
@@ -61,110 +60,79 @@ module _ (caller : CallSign) where
       (ap (λ t. texts h.0.replies ++ t) (runs-all (after_all store h.0.commands) h.0.state events h.1 now next h.5)
       ∙ sym (texts-append h.0.replies (replies_to caller (after_all store h.0.commands) h.0.state events)))
 
-  pub runs-built : (store : Store) (state : State) (events : List Event) (text : List ℕ) (now : Store) (next : State) → RunsOver caller store state events text now next → meets_unbuilt caller store state events ≡ false
+  pub runs-built : (store : Store) (state : State) (events : List Event) (text : List ℕ) (now : Store) (next : State) → RunsOver caller store state events text now next → first_unbuilt caller store state events ≡ None
   runs-built store state [] text now next h = refl
   runs-built store state (e ∷ events) text now next h = rw h.2 (runs-built (after_all store h.0.commands) h.0.state events h.1 now next h.5)
 
-  module _ (moment : ℕ) where
-    -- a session that goes on from a to b and from b to c goes on from a to c
-    pub goes_on-trans : (a b c : Point) (s t : List ℕ) → GoesOn caller moment a b s → GoesOn caller moment b c t → GoesOn caller moment a c (s ++ t)
-    goes_on-trans a b c s t h k =
-        let P : List Event → Type 0 = λ events. RunsOver caller a.store a.state events (s ++ t) c.store c.state in
-        record {
-          done = h.done ++ k.done;
-          packets = h.packets ∙ ap (λ items. h.done ++ items) k.packets ∙ sym (append_assoc h.done k.done (packets_of c.octets));
-          rest = h.rest ∙ k.rest;
-          runs =
-              subst P (sym (at_moment-append moment h.done k.done))
-              (runs-trans a.store a.state (at_moment moment h.done) s b.store b.state (at_moment moment k.done) t c.store c.state h.runs k.runs);
-        }
+-- What was said before a stop, after events that were taken and what was said to them.
+pub said_until-trans : (why : NodeStop) (all others : List Event → List ℕ) (unbuilt other : List Event → Option Item) (done : List Event) (said : List ℕ) → ((more : List Event) → all (done ++ more) ≡ said ++ others more) → ((more : List Event) → unbuilt (done ++ more) ≡ other more) → (later : List Event) (text : List ℕ) → SaidUntil why others other later text → SaidUntil why all unbuilt (done ++ later) (said ++ text)
+said_until-trans (stop.NotBuilt kind) all others unbuilt other done said f g later text h =
+    (h.0, g later ∙ h.1, h.2, ap (λ t. said ++ t) h.3 ∙ sym (f later))
+said_until-trans stop.AirWrite all others unbuilt other done said f g later text h =
+    (h.0, f later ∙ ap (λ t. said ++ t) h.1 ∙ sym (append_assoc said text h.0))
+said_until-trans stop.OutOfMemory all others unbuilt other done said f g later text h =
+    (done ++ h.0, h.1, ap (λ es. done ++ es) h.2 ∙ sym (append_assoc done h.0 h.1), ap (λ t. said ++ t) h.3 ∙ sym (f h.0))
+said_until-trans stop.AirRead all others unbuilt other done said f g later text h = (g later ∙ h.0, ap (λ t. said ++ t) h.1 ∙ sym (f later))
+said_until-trans stop.Spent all others unbuilt other done said f g later text h = (g later ∙ h.0, ap (λ t. said ++ t) h.1 ∙ sym (f later))
 
-    -- the events at hand are those that were taken, and those at hand then
-    pub events_at-goes_on : (a b : Point) (s : List ℕ) → (h : GoesOn caller moment a b s) → events_at moment a ≡ at_moment moment h.done ++ events_at moment b
-    events_at-goes_on a b s h = ap (at_moment moment) h.packets ∙ at_moment-append moment h.done (packets_of b.octets)
+module _ (moment : ℕ) where
+  -- a server that goes on from a to b and from b to c goes on from a to c
+  pub goes_on-trans : (a b c : ServerState) (s t : List ℕ) → GoesOn moment a b s → GoesOn moment b c t → GoesOn moment a c (s ++ t)
+  goes_on-trans a b c s t h k =
+      let at_caller : CallSign → Type 0 = λ call. RunsOver call b.store b.state (at_moment moment k.done) t c.store c.state in
+      let at_events : List Event → Type 0 = λ events. RunsOver a.caller a.store a.state events (s ++ t) c.store c.state in
+      record {
+        caller = k.caller ∙ h.caller;
+        done = h.done ++ k.done;
+        packets = h.packets ∙ ap (λ items. h.done ++ items) k.packets ∙ sym (append_assoc h.done k.done (packets_of c.octets));
+        rest = h.rest ∙ k.rest;
+        runs =
+            subst at_events (sym (at_moment-append moment h.done k.done))
+            (runs-trans a.caller a.store a.state (at_moment moment h.done) s b.store b.state (at_moment moment k.done) t c.store c.state h.runs (subst at_caller h.caller k.runs));
+      }
 
-    pub text_from-goes_on : (a b : Point) (s : List ℕ) → GoesOn caller moment a b s → text_from caller moment a ≡ s ++ text_from caller moment b
-    text_from-goes_on a b s h =
-        ap (λ events. texts (replies_to caller a.store a.state events)) (events_at-goes_on a b s h)
-        ∙ runs-said a.store a.state (at_moment moment h.done) s b.store b.state (events_at moment b) h.runs
+  -- a server that goes on and then stops, stops so from the beginning on
+  pub stops-trans : (a b : ServerState) (s t : List ℕ) (why : NodeStop) → GoesOn moment a b s → Stops moment b t why → Stops moment a (s ++ t) why
+  stops-trans a b s t why h k =
+      let at_caller : CallSign → Type 0 = λ call. StopsOver call b.store b.state (events_at moment b) t why in
+      let at_events : List Event → Type 0 = λ events. StopsOver a.caller a.store a.state events (s ++ t) why in
+      let stops = subst at_caller h.caller k in
+      subst at_events (sym (ap (at_moment moment) h.packets ∙ at_moment-append moment h.done (packets_of b.octets))) (
+        stops.0,
+        said_until-trans why (λ es. texts (replies_to a.caller a.store a.state es)) (λ es. texts (replies_to a.caller b.store b.state es)) (first_unbuilt a.caller a.store a.state) (first_unbuilt a.caller b.store b.state)
+            (at_moment moment h.done) s (λ more. runs-said a.caller a.store a.state (at_moment moment h.done) s b.store b.state more h.runs)
+            (λ more. runs-unbuilt a.caller a.store a.state (at_moment moment h.done) s b.store b.state more h.runs) (events_at moment b) t stops.1,
+      )
 
-    pub stops_from-goes_on : (a b : Point) (s : List ℕ) → GoesOn caller moment a b s → stops_from caller moment a ≡ stops_from caller moment b
-    stops_from-goes_on a b s h =
-        ap (λ events. meets_unbuilt caller a.store a.state events) (events_at-goes_on a b s h)
-        ∙ runs-stops a.store a.state (at_moment moment h.done) s b.store b.state (events_at moment b) h.runs
+  module _ (caller : CallSign) (store : Store) (state : State) (octets left : List ℕ) where
+    -- The packets and what is left are those of the octets that are left: nothing is said.
+    pub goes_on-waits : packets_of octets ≡ packets_of left → rest_of octets ≡ rest_of left → GoesOn moment (record { caller = caller; store = store; state = state; octets = octets }) (record { caller = caller; store = store; state = state; octets = left }) []
+    goes_on-waits packets rest = record { caller = refl; done = []; packets = packets; rest = rest; runs = (refl, refl, refl) }
 
-    -- a session that goes on and then stops, stops so from the beginning on
-    pub stops-trans : (a b : Point) (s t : List ℕ) (why : NodeStop) → GoesOn caller moment a b s → Stops caller moment b t why → Stops caller moment a (s ++ t) why
-    stops-trans a b s t (stop.NotBuilt kind) h k =
-        (ap (λ text. s ++ text) k.0 ∙ sym (text_from-goes_on a b s h), stops_from-goes_on a b s h ∙ k.1)
-    stops-trans a b s t stop.AirWrite h k =
-        (k.0, text_from-goes_on a b s h ∙ ap (λ text. s ++ text) k.1 ∙ sym (append_assoc s t k.0))
-    stops-trans a b s t stop.OutOfMemory h k = (
-      h.done ++ k.0,
-      k.1,
-      h.packets ∙ ap (λ items. h.done ++ items) k.2 ∙ sym (append_assoc h.done k.0 k.1),
-      ap (λ text. s ++ text) k.3
-          ∙ sym (ap (λ events. texts (replies_to caller a.store a.state events)) (at_moment-append moment h.done k.0)
-          ∙ runs-said a.store a.state (at_moment moment h.done) s b.store b.state (at_moment moment k.0) h.runs),
-    )
-    stops-trans a b s t stop.AirRead h k = absurd k
-    stops-trans a b s t stop.Spent h k = absurd k
+    module _ (item : Item) (found : packets_of octets ≡ item ∷ packets_of left) where
+      -- what is said to a packet whose row is built, and to those after it
+      text-row : (row : Row) → session_row caller moment store state item ≡ Some row → texts (replies_to caller store state (at_moment moment (packets_of octets))) ≡ texts row.replies ++ texts (replies_to caller (after_all store row.commands) row.state (at_moment moment (packets_of left)))
+      text-row row built = rw (found, built) (texts-append row.replies (replies_to caller (after_all store row.commands) row.state (at_moment moment (packets_of left))))
 
-    module _ (store : Store) (state : State) (octets : List ℕ) where
-      -- The packets and what is left are those of the octets that are left: the session goes on without a word.
-      pub goes_on-waits : (left : List ℕ) → packets_of octets ≡ packets_of left → rest_of octets ≡ rest_of left → GoesOn caller moment (record { store = store; state = state; octets = octets }) (record { store = store; state = state; octets = left }) []
-      goes_on-waits left packets rest = record { done = []; packets = packets; rest = rest; runs = (refl, refl, refl) }
-
-      module _ (left : List ℕ) (item : Item) (found : packets_of octets ≡ item ∷ packets_of left) where
-        -- a packet is found whose row is built: the session says its replies and goes on
-        pub goes_on-row : (row : Row) (now : Store) (next : State) (text : List ℕ) → rest_of octets ≡ rest_of left → session_row caller moment store state item ≡ Some row → Gives store row now next text → GoesOn caller moment (record { store = store; state = state; octets = octets }) (record { store = now; state = next; octets = left }) text
-        goes_on-row row now next text rest built gives =
-            record {
-              done = item ∷ [];
-              packets = found;
-              rest = rest;
-              runs = (row, [], built, gives.0.0, gives.2 ∙ sym (append-nil (texts row.replies)), (refl, gives.0.1, gives.1));
-            }
-
-        -- what is said to it and to the others
-        text_from-row : (row : Row) → session_row caller moment store state item ≡ Some row → text_from caller moment (record { store = store; state = state; octets = octets }) ≡ texts row.replies ++ texts (replies_to caller (after_all store row.commands) row.state (at_moment moment (packets_of left)))
-        text_from-row row built = rw (found, built) (texts-append row.replies (replies_to caller (after_all store row.commands) row.state (at_moment moment (packets_of left))))
-
-        -- the answer to it, as the session goes on or stops
-        pub answer_runs : (now : Store) (next : State) (text : List ℕ) (result : Result ⊤ NodeStop) → rest_of octets ≡ rest_of left → AnswerSaid caller moment store state item now next text result → MatchResult result (λ _. GoesOn caller moment (record { store = store; state = state; octets = octets }) (record { store = now; state = next; octets = left }) text) (Stops caller moment (record { store = store; state = state; octets = octets }) text)
-        answer_runs now next text (Ok done) rest said = goes_on-row said.0 now next text rest said.1 said.2
-        answer_runs now next text (Err (stop.NotBuilt kind)) rest said = (rw (found, said.0) said.1, rw (found, said.0) refl)
-        answer_runs now next text (Err stop.AirWrite) rest said =
-            let later : List ℕ = texts (replies_to caller (after_all store said.0.commands) said.0.state (at_moment moment (packets_of left))) in (
-              said.2.0 ++ later,
-              text_from-row said.0 said.1 ∙ ap (λ t. t ++ later) said.2.1 ∙ append_assoc text said.2.0 later,
-            )
-        answer_runs now next text (Err stop.OutOfMemory) rest said = ([], packets_of octets, refl, said.2)
-        answer_runs now next text (Err stop.AirRead) rest said = absurd said
-        answer_runs now next text (Err stop.Spent) rest said = absurd said
+      -- the answer to it, as the server goes on or stops
+      pub answer_runs : (call : CallSign) → call ≡ caller → (now : Store) (next : State) (text : List ℕ) (result : Result ⊤ NodeStop) → rest_of octets ≡ rest_of left → AnswerSaid caller moment store state item now next text result → MatchResult result (λ _. GoesOn moment (record { caller = caller; store = store; state = state; octets = octets }) (record { caller = call; store = now; state = next; octets = left }) text) (Stops moment (record { caller = caller; store = store; state = state; octets = octets }) text)
+      answer_runs call same now next text (Ok done) rest said =
+          let row = said.0 in
+          record {
+            caller = same;
+            done = item ∷ [];
+            packets = found;
+            rest = rest;
+            runs = (row, [], said.1, said.2.0.0, said.2.2 ∙ sym (append-nil (texts row.replies)), (refl, said.2.0.1, said.2.1));
+          }
+      answer_runs call same now next text (Err (stop.NotBuilt kind)) rest said = (refl, (item, rw (found, said.0) refl, said.1, rw (found, said.0) said.2))
+      answer_runs call same now next text (Err stop.AirWrite) rest said =
+          let later : List ℕ = texts (replies_to caller (after_all store said.0.commands) said.0.state (at_moment moment (packets_of left))) in
+          (refl, (said.2.0 ++ later, text-row said.0 said.1 ∙ ap (λ t. t ++ later) said.2.1 ∙ append_assoc text said.2.0 later))
+      answer_runs call same now next text (Err stop.OutOfMemory) rest said = (refl, ([], at_moment moment (packets_of octets), refl, said.2))
+      answer_runs call same now next text (Err stop.AirRead) rest said = absurd said
+      answer_runs call same now next text (Err stop.Spent) rest said = absurd said
 
 -- what holds of octets whatever comes later holds where nothing does
 pub with_none : {X : Type 0} (f g : List ℕ → X) (u p v q : List ℕ) → ((later : List ℕ) → f (u ++ (p ++ later)) ≡ g (v ++ (q ++ later))) → f (u ++ p) ≡ g (v ++ q)
 with_none f g u p v q h = ap (λ octets. f (u ++ octets)) (sym (append-nil p)) ∙ h [] ∙ ap (λ octets. g (v ++ octets)) (append-nil q)
-
--- where some prefix of these octets was said, a text that is their front was
-pub gains_front : (before now : Option (List ℕ)) (octets : List ℕ) → GainsPrefix before now octets → (text : List ℕ) × Gains before now text × IsFront text octets
-gains_front None now octets gains = ([], tt, (octets, refl))
-gains_front (Some said) now octets gains = (take gains.0 octets, gains.1, (drop gains.0 octets, sym (take-append-drop gains.0 octets)))
-
--- where nothing is said, the content gains nothing
-pub gains_none : (said : Option (List ℕ)) → Gains said said []
-gains_none None = tt
-gains_none (Some text) = ap Some (sym (append-nil text))
-
--- what is said first and what is said then is said together
-pub gains-trans : (a b c : Option (List ℕ)) (s t : List ℕ) → Gains a b s → Gains b c t → Gains a c (s ++ t)
-gains-trans None b c s t h k = tt
-gains-trans (Some said) b c s t h k =
-    let then_is : Gains (Some (said ++ s)) c t = (let P : Option (List ℕ) → Type 0 = λ x. Gains x c t in subst P h k) in
-    then_is ∙ ap Some (append_assoc said s t)
-
--- where there are no octets, the content gains nothing
-pub gains_empty : (said : Option (List ℕ)) (octets : List ℕ) → length octets ≡ 0 → Gains said said octets
-gains_empty said [] none = gains_none said
-gains_empty said (octet ∷ octets) none = absurd (omega arith)

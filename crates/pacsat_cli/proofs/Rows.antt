@@ -14,7 +14,7 @@ use Rattle.ftl0_packets.specs.declared.packet.Packet.TheVariants as packet
 use Rattle.file_store.specs.Answers.{Tells}
 use Rattle.file_store.specs.declared.refusals.BeginRefusal.{BeginRefusal}
 use Rattle.file_store.specs.declared.refusals.BeginRefusal.TheVariants as refusal
-use Rattle.file_store.specs.Command.{AreAllowed, begin, can_begin, rest_of, whole_grows}
+use Rattle.file_store.specs.Command.{AreAllowed, begin, can_begin, unfilled_block, whole_grows}
 use Rattle.file_store.specs.Header.{fault_of}
 use Rattle.file_store.specs.Store.{Store, entry_of, octets_at}
 use Rattle.file_store.specs.Upload.{Holds, Upload}
@@ -60,7 +60,7 @@ pub error-other : (state : State) (item : Item) → is_upload_kind (kind_of_item
 error-other state item other = rw other refl
 
 -- Receiving, DATA that the file has room for
-pub row-data : (caller : CallSign) (moment : ℕ) (store : Store) (up : Upload) (octets : List ℕ) → Holds store up → up.held + (length up.rest + length octets) ≤ up.length → session_row caller moment store (receiving up.number up.rest) (Ok (data_part octets)) ≡ Some (record { state = receiving up.number (rest_of (up.rest ++ octets)); commands = whole_grows up.number (up.rest ++ octets); replies = [] })
+pub row-data : (caller : CallSign) (moment : ℕ) (store : Store) (up : Upload) (octets : List ℕ) → Holds store up → up.held + (length up.rest + length octets) ≤ up.length → session_row caller moment store (receiving up.number up.rest) (Ok (data_part octets)) ≡ Some (record { state = receiving up.number (unfilled_block (up.rest ++ octets)); commands = whole_grows up.number (up.rest ++ octets); replies = [] })
 unfolding session_row
 row-data caller moment store up octets holds room =
     let enough : nat_le (length holds.held + length (up.rest ++ octets)) up.length ≡ true = grind (arith, length-append, holds.count, le-leb) in

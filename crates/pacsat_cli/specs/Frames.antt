@@ -1,12 +1,13 @@
 -- What the command `frames` shows, and why it ends.
-use Rattle.std.specs.Prelude.{◌≡◌, ◌⊎◌, ℕ, ◌<◌, ◌≤◌, List, [], length, Bool, true, false, Option, None, Some, IfSome, ⊤}
+use Rattle.std.specs.Prelude.{◌≡◌, ◌⊎◌, ℕ, ◌<◌, ◌≤◌, List, [], ◌∷◌, length, Bool, true, false, Option, None, Some, IfSome, IsTrue, ⊤}
+use Rattle.px_base.specs.Octets.{IsFront}
 use Rattle.px_base.specs.Outside.{Gains, Rose}
 use Rattle.px_base.specs.Shelves.{Holding, content_of}
 use Rattle.frame_lines.specs.FramesText.{FramesText}
+use Rattle.command_words.specs.Words.{IsFrames}
 use Rattle.pacsat_cli.specs.declared.status.Status.{Status}
 use Rattle.pacsat_cli.specs.declared.status.Status.TheVariants.{Done, Usage, AirRead, AirWrite, NoSuch, OutOfMemory, Spent, Out, Shelf, TooLong, NotBuilt}
-use Rattle.pacsat_cli.specs.Node.{IsFront}
-use Rattle.pacsat_cli.specs.Run.{Shows}
+use Rattle.pacsat_cli.specs.Run.{HasStatusCause, IsUnless, Shows}
 use Rattle.pacsat_cli.specs.Status.{line_of}
 
 -- the most octets of recorded KISS text
@@ -37,25 +38,18 @@ FramesEnd content text Spent = ⊥
 FramesEnd content text NotBuilt = ⊥
 
 -- whether `frames` can end with this status
-abbrev pub IsFramesStatus : Status → Type 0
-IsFramesStatus Done = ⊤
-IsFramesStatus NoSuch = ⊤
-IsFramesStatus TooLong = ⊤
-IsFramesStatus Out = ⊤
-IsFramesStatus Shelf = ⊤
-IsFramesStatus OutOfMemory = ⊤
-IsFramesStatus Usage = ⊥
-IsFramesStatus AirRead = ⊥
-IsFramesStatus AirWrite = ⊥
-IsFramesStatus Spent = ⊥
-IsFramesStatus NotBuilt = ⊥
-
--- `frames` of this name showed some text and ended with this status; its line isn't shown yet.
-pub record FramesPlayed (held : Option Holding) (name : List ℕ) (before now : Option (List ℕ)) (status : Status) : Type 0 where
-  pub text : List ℕ
-  pub shown : Gains before now text
-  pub possible : IsFramesStatus status
-  pub ends : IfSome held (λ shelf. FramesEnd (content_of shelf name) text status)
+abbrev pub is_frames_status : Status → Bool
+is_frames_status Done = true
+is_frames_status NoSuch = true
+is_frames_status TooLong = true
+is_frames_status Out = true
+is_frames_status Shelf = true
+is_frames_status OutOfMemory = true
+is_frames_status Usage = false
+is_frames_status AirRead = false
+is_frames_status AirWrite = false
+is_frames_status Spent = false
+is_frames_status NotBuilt = false
 
 -- whether `frames` can end with this status before it shows anything
 abbrev pub is_unshown : Status → Bool
@@ -65,23 +59,42 @@ is_unshown Shelf = true
 is_unshown OutOfMemory = true
 is_unshown status = false
 
--- `frames` of this name showed some text, ended with this status, and then showed its line, or the output's count of
--- faults rose over what it was before that line; it had risen before where showing the text failed, and was as at the
--- start where nothing was to be shown.
-pub record FramesRan (held : Option Holding) (name : List ℕ) (before now : Option (List ℕ)) (faults_before faults_now : ℕ) (status : Status) : Type 0 where
-  pub mid : Option (List ℕ)
-  pub faults : ℕ
-  pub played : FramesPlayed held name before mid status
-  pub line : Shows mid now faults faults_now (line_of status)
-  pub no_less : faults_before ≤ faults
-  pub no_more : faults ≤ faults_now
-  pub rose : status ≡ Out → Rose faults_before faults
-  pub unshown : is_unshown status ≡ true → (mid ≡ before) × (faults ≡ faults_before)
+-- `frames` of this name showed some text and ended with this status; its line isn't shown yet. The output's count of faults
+-- rose where showing failed, and stayed where it didn't; where nothing was to be shown the output wasn't touched.
+pub record FramesShown {O : Type 0} (shown : O → Option (List ℕ)) (faults : O → ℕ) (held : Option Holding) (name : List ℕ) (before now : O) (status : Status) : Type 0 where
+  pub text : List ℕ
+  pub gains : Gains (shown before) (shown now) text
+  pub possible : IsTrue (is_frames_status status)
+  pub ends : IfSome held (λ shelf. FramesEnd (content_of shelf name) text status)
+  pub cause : HasStatusCause Out (faults before) (faults now) status
+  pub unshown : IsTrue (is_unshown status) → now ≡ before
 
--- this status, or one that is owed to a fault of the shelf or to want of memory
-abbrev pub IsUnlessShelfDown : Status → Status → Type 0
-IsUnlessShelfDown result status = (result ≡ status) ⊎ (result ≡ Shelf) ⊎ (result ≡ OutOfMemory)
+-- `frames` of this name showed some text, ended with this status, and then showed its line, if it has one.
+pub record FramesRan {O : Type 0} (shown : O → Option (List ℕ)) (faults : O → ℕ) (held : Option Holding) (name : List ℕ) (before now : O) (status : Status) : Type 0 where
+  pub mid : O
+  pub text : FramesShown shown faults held name before mid status
+  pub line : Shows shown faults mid now (line_of status)
+  pub done : status ≡ Done → now ≡ mid
 
--- what is told of the shelf says this of the content of the name
-abbrev pub HasContent : Option Holding → List ℕ → (Option (List ℕ) → Type 0) → Type 0
-HasContent held name P = (shelf : Holding) × (held ≡ Some shelf) × P (content_of shelf name)
+-- where the words ask for the frames of a name, its content is shown so
+abbrev pub RunsFrames : {S O : Type 0} → List (List ℕ) → (S → Option Holding) → (O → Option (List ℕ)) → (O → ℕ) → S → O → O → Status → Type 0
+RunsFrames words held shown faults shelf before now status =
+    (name : List ℕ) → IsFrames words name → FramesRan shown faults (held shelf) name before now status
+
+-- Where the words ask for the frames of a name, and it is told what the shelf holds, this holds of the content of the name.
+abbrev pub WhereHeld : List (List ℕ) → Option Holding → (Option (List ℕ) → Type 0) → Type 0
+WhereHeld words held P = (name : List ℕ) (shelf : Holding) → IsFrames words name → held ≡ Some shelf → P (content_of shelf name)
+
+-- where there is no content, the status is NoSuch
+abbrev pub IsNoSuchBy : Status → Option (List ℕ) → Type 0
+IsNoSuchBy status content = content ≡ None → IsUnless status NoSuch (Shelf ∷ OutOfMemory ∷ [])
+
+-- where the content is longer than may be, it is TooLong
+abbrev pub IsTooLongBy : Status → Option (List ℕ) → Type 0
+IsTooLongBy status content =
+    (octets : List ℕ) → content ≡ Some octets → most_recorded < length octets → IsUnless status TooLong (Shelf ∷ OutOfMemory ∷ [])
+
+-- where the content may be shown, it is Done
+abbrev pub IsShownBy : Status → Option (List ℕ) → Type 0
+IsShownBy status content =
+    (octets : List ℕ) → content ≡ Some octets → length octets ≤ most_recorded → IsUnless status Done (Shelf ∷ Out ∷ OutOfMemory ∷ [])

@@ -3,9 +3,11 @@ pub mod Events
 pub mod Frames
 pub mod Laws
 pub mod Node
-pub mod Played
 pub mod Run
+pub mod Server
+pub mod ServerState
 pub mod Session
+pub mod SessionRan
 pub mod Status
 pub mod Stops
 pub mod Taking

@@ -1,8 +1,11 @@
--- How a node's run goes on, turn by turn: what its session takes and says.
-use Rattle.std.specs.Prelude.{◌≡◌, ℕ, List, [], ◌∷◌, ◌++◌, length, Bool, true, Option, None, Some, IfSome, Result, Ok, Err, ⊤}
-use Rattle.std.specs.List.{AllByRecursion}
+-- How a session's server goes on: what it takes and says, packet by packet and turn by turn.
+use Rattle.std.specs.Prelude.{◌≡◌, ℕ, ◌<◌, ◌≤◌, List, [], ◌∷◌, ◌++◌, drop, length, Bool, true, false, IsTrue, Option, None, Some, Result, Ok, Err, MatchResult, ⊤}
 use Rattle.px_base.specs.CallSign.{CallSign}
-use Rattle.px_base.specs.Polling.{octets_of_turn}
+use Rattle.px_base.specs.Octets.{IsFront}
+use Rattle.px_base.specs.Outside.{Gains, GainsPrefix, Rose}
+use Rattle.px_base.specs.Polling.{Hears, IsOpen, octets_of_turn}
+use Rattle.px_base.specs.declared.air.Polled.{Polled}
+use Rattle.px_base.specs.declared.air.Polled.TheVariants as polled
 use Rattle.px_base.specs.declared.air.Turn.{Turn}
 use Rattle.px_base.specs.declared.air.Turn.TheVariants as turn
 use Rattle.ftl0_packets.specs.Layout.{Item}
@@ -10,29 +13,33 @@ use Rattle.ftl0_packets.specs.Reading.{packets_of, rest_of}
 use Rattle.ftl0_packets.specs.Stream.{Stream}
 use Rattle.file_store.specs.Command.{AreAllowed, after_all}
 use Rattle.file_store.specs.Store.{Store}
-use Rattle.pacsat_cli.specs.declared.node.AirState.{AirState}
-use Rattle.pacsat_cli.specs.declared.node.AirState.TheVariants as air
 use Rattle.pacsat_cli.specs.declared.node.NodeStop.{NodeStop}
 use Rattle.pacsat_cli.specs.declared.node.NodeStop.TheVariants as stop
-use Rattle.pacsat_cli.specs.declared.node.Served.{Served}
-use Rattle.pacsat_cli.specs.Events.{Brings, Event, at_moment}
-use Rattle.pacsat_cli.specs.Session.{Row, State, meets_unbuilt, replies_to, session_row, texts}
-use Rattle.pacsat_cli.specs.Taking.{Gives, state_of}
-use Rattle.pacsat_cli.specs.declared.session.Session.{Session}
+use Rattle.pacsat_cli.specs.declared.session.SessionStop.{SessionStop}
+use Rattle.pacsat_cli.specs.declared.session.SessionStop.TheVariants as session_stop
+use Rattle.pacsat_cli.specs.Events.{Event, at_moment}
+use Rattle.pacsat_cli.specs.ServerState.{ServerState, with_octets}
+use Rattle.pacsat_cli.specs.Session.{Row, State, first_unbuilt, kind_of_item, replies_to, session_row, texts}
+use Rattle.pacsat_cli.specs.Taking.{Gives}
 
--- a store, a session's state, and octets that were heard and of which no packet was taken yet
-pub record Point : Type 0 where
-  pub store : Store
-  pub state : State
-  pub octets : List ℕ
+-- how a session's stop stops its server
+abbrev pub node_stop_of : SessionStop → NodeStop
+node_stop_of (session_stop.NotBuilt kind) = stop.NotBuilt kind
+node_stop_of session_stop.OutOfMemory = stop.OutOfMemory
 
--- the point of a store, a session, and octets that were heard
-abbrev pub point_of : Store → Session → List ℕ → Point
-point_of store session octets = record { store = store; state = state_of session.phase; octets = octets }
+-- The air's counts of faults by how a call over it ended: where hearing or saying failed that count rose, and each other is
+-- as it was.
+abbrev pub CountsBy : {T : Type 0} → Result T NodeStop → ℕ → ℕ → ℕ → ℕ → Type 0
+CountsBy (Ok value) reads reads_now writes writes_now = (reads_now ≡ reads) × (writes_now ≡ writes)
+CountsBy (Err stop.AirRead) reads reads_now writes writes_now = Rose reads reads_now × (writes_now ≡ writes)
+CountsBy (Err stop.AirWrite) reads reads_now writes writes_now = (reads_now ≡ reads) × Rose writes writes_now
+CountsBy (Err stop.Spent) reads reads_now writes writes_now = (reads_now ≡ reads) × (writes_now ≡ writes)
+CountsBy (Err (stop.NotBuilt kind)) reads reads_now writes writes_now = (reads_now ≡ reads) × (writes_now ≡ writes)
+CountsBy (Err stop.OutOfMemory) reads reads_now writes writes_now = (reads_now ≡ reads) × (writes_now ≡ writes)
 
--- a point with the octets of a turn more
-abbrev pub with_turn : Point → Turn → Point
-with_turn p next = record p { octets = p.octets ++ octets_of_turn next }
+-- the same of an air, before the call and now, by what it counts
+abbrev pub HasAirCause : {A T : Type 0} → (A → ℕ) → (A → ℕ) → A → A → Result T NodeStop → Type 0
+HasAirCause reads writes before now result = CountsBy result (reads before) (reads now) (writes before) (writes now)
 
 -- Over these events, each of whose rows is built, the session comes from one store and state to another, and says this. The
 -- condition of each command holds in its turn.
@@ -42,49 +49,43 @@ RunsOver caller store state (event ∷ events) text now next =
     (row : Row) × (more : List ℕ) × (session_row caller event.moment store state event.packet ≡ Some row)
     × AreAllowed store row.commands × (text ≡ texts row.replies ++ more) × RunsOver caller (after_all store row.commands) row.state events more now next
 
--- From old to new the session takes the first packets of the octets heard, all at this moment, and says this text.
-pub record GoesOn (caller : CallSign) (moment : ℕ) (old new : Point) (text : List ℕ) : Type 0 where
-  pub done : List Item
-  pub packets : packets_of old.octets ≡ done ++ packets_of new.octets
-  pub rest : rest_of old.octets ≡ rest_of new.octets
-  pub runs : RunsOver caller old.store old.state (at_moment moment done) text new.store new.state
+-- What was said to these events before a stop, where one function gives the text of all replies to events, and another the
+-- first packet of events whose row isn't built. Where it stops at such a packet, it names the packet's type. Where saying
+-- failed, a front of the replies was said; where there was no memory, all replies to the first of the events.
+abbrev pub SaidUntil : NodeStop → (List Event → List ℕ) → (List Event → Option Item) → List Event → List ℕ → Type 0
+SaidUntil (stop.NotBuilt kind) all unbuilt events text =
+    (item : Item) × (unbuilt events ≡ Some item) × (kind ≡ kind_of_item item) × (text ≡ all events)
+SaidUntil stop.AirWrite all unbuilt events text = IsFront text (all events)
+SaidUntil stop.OutOfMemory all unbuilt events text =
+    (done : List Event) × (more : List Event) × (events ≡ done ++ more) × (text ≡ all done)
+SaidUntil stop.AirRead all unbuilt events text = (unbuilt events ≡ None) × (text ≡ all events)
+SaidUntil stop.Spent all unbuilt events text = (unbuilt events ≡ None) × (text ≡ all events)
 
--- the packets of the octets heard, all at this moment
-abbrev pub events_at : ℕ → Point → List Event
-events_at moment p = at_moment moment (packets_of p.octets)
+-- whether it stops a session at a packet
+abbrev pub is_at_packet : NodeStop → Bool
+is_at_packet (stop.NotBuilt kind) = true
+is_at_packet stop.AirWrite = true
+is_at_packet stop.OutOfMemory = true
+is_at_packet stop.AirRead = false
+is_at_packet stop.Spent = false
 
--- the text that the session says to them
-abbrev pub text_from : CallSign → ℕ → Point → List ℕ
-text_from caller moment p = texts (replies_to caller p.store p.state (events_at moment p))
+-- a stop at one of these events, from one store and state on
+abbrev pub StopsOver : CallSign → Store → State → List Event → List ℕ → NodeStop → Type 0
+StopsOver caller store state events text why =
+    IsTrue (is_at_packet why)
+    × SaidUntil why (λ es. texts (replies_to caller store state es)) (first_unbuilt caller store state) events text
 
--- whether one of them meets a row that isn't built
-abbrev pub stops_from : CallSign → ℕ → Point → Bool
-stops_from caller moment p = meets_unbuilt caller p.store p.state (events_at moment p)
-
--- this text is the front of the other
-abbrev pub IsFront : List ℕ → List ℕ → Type 0
-IsFront text all = (more : List ℕ) × (all ≡ text ++ more)
-
--- the session said this text to the first packets of the octets heard in full
-abbrev pub SaidWhole : CallSign → ℕ → Point → List ℕ → Type 0
-SaidWhole caller moment p text =
-    (done : List Item) × (more : List Item) × (packets_of p.octets ≡ done ++ more)
-    × (text ≡ texts (replies_to caller p.store p.state (at_moment moment done)))
-
--- why a session stopped after this text, over the packets of the octets heard, all at this moment
-abbrev pub Stops : CallSign → ℕ → Point → List ℕ → NodeStop → Type 0
-Stops caller moment old text (stop.NotBuilt kind) = (text ≡ text_from caller moment old) × (stops_from caller moment old ≡ true)
-Stops caller moment old text stop.AirWrite = IsFront text (text_from caller moment old)
-Stops caller moment old text stop.OutOfMemory = SaidWhole caller moment old text
-Stops caller moment old text stop.AirRead = ⊥
-Stops caller moment old text stop.Spent = ⊥
+-- this text was said, or a front of it where saying failed
+abbrev pub SaysText : {A : Type 0} → (A → Option (List ℕ)) → A → A → List ℕ → Result ⊤ NodeStop → Type 0
+SaysText said before now text (Ok done) = Gains (said before) (said now) text
+SaysText said before now text (Err why) = (why ≡ stop.AirWrite) × GainsPrefix (said before) (said now) text
 
 -- what the packet gave, of which this text was said
 abbrev pub AnswerSaid : CallSign → ℕ → Store → State → Item → Store → State → List ℕ → Result ⊤ NodeStop → Type 0
 AnswerSaid caller moment before state item now next text (Ok done) =
     (row : Row) × (session_row caller moment before state item ≡ Some row) × Gives before row now next text
 AnswerSaid caller moment before state item now next text (Err (stop.NotBuilt kind)) =
-    (session_row caller moment before state item ≡ None) × (text ≡ [])
+    (session_row caller moment before state item ≡ None) × (kind ≡ kind_of_item item) × (text ≡ [])
 AnswerSaid caller moment before state item now next text (Err stop.AirWrite) =
     (row : Row) × (session_row caller moment before state item ≡ Some row) × IsFront text (texts row.replies)
 AnswerSaid caller moment before state item now next text (Err stop.OutOfMemory) =
@@ -92,65 +93,68 @@ AnswerSaid caller moment before state item now next text (Err stop.OutOfMemory) 
 AnswerSaid caller moment before state item now next text (Err stop.AirRead) = ⊥
 AnswerSaid caller moment before state item now next text (Err stop.Spent) = ⊥
 
--- the turn left the air open
-abbrev pub IsOpen : Turn → Type 0
-IsOpen (turn.Bytes octets) = ⊤
-IsOpen turn.Quiet = ⊤
-IsOpen turn.Fail = ⊥
-IsOpen turn.End = ⊥
+-- the packet was taken, and this said of its replies, by an air that tells what it says
+abbrev pub AnswersOver : {A : Type 0} → (A → Option (List ℕ)) → A → A → CallSign → ℕ → Store → State → Item → Store → State → Result ⊤ NodeStop → Type 0
+AnswersOver said before now caller moment store state item store_now next result =
+    (text : List ℕ) × Gains (said before) (said now) text × AnswerSaid caller moment store state item store_now next text result
 
--- What one turn brought, from the point with its octets to the one after it, with this text said.
-abbrev pub TurnRuns : CallSign → ℕ → Point → Point → Turn → List ℕ → Result AirState NodeStop → Type 0
-TurnRuns caller moment old new next text (Ok air.Open) = IsOpen next × GoesOn caller moment old new text
-TurnRuns caller moment old new next text (Ok air.Closed) = (next ≡ turn.End) × GoesOn caller moment old new text
-TurnRuns caller moment old new next text (Err stop.AirRead) = (next ≡ turn.Fail) × GoesOn caller moment old new text
-TurnRuns caller moment old new next text (Err (stop.NotBuilt kind)) = IsOpen next × Stops caller moment old text (stop.NotBuilt kind)
-TurnRuns caller moment old new next text (Err stop.AirWrite) = IsOpen next × Stops caller moment old text stop.AirWrite
-TurnRuns caller moment old new next text (Err stop.OutOfMemory) = IsOpen next × Stops caller moment old text stop.OutOfMemory
-TurnRuns caller moment old new next text (Err stop.Spent) = ⊥
+-- From one state to another the server takes the first packets of the octets heard, all at this moment, and says this text.
+pub record GoesOn (moment : ℕ) (old new : ServerState) (text : List ℕ) : Type 0 where
+  pub caller : new.caller ≡ old.caller
+  pub done : List Item
+  pub packets : packets_of old.octets ≡ done ++ packets_of new.octets
+  pub rest : rest_of old.octets ≡ rest_of new.octets
+  pub runs : RunsOver old.caller old.store old.state (at_moment moment done) text new.store new.state
 
--- where all that is heard now is told, what was heard before was told too, and these turns are all that came since
-abbrev pub HearsAll : Option (List Turn) → Option (List Turn) → List Turn → Type 0
-HearsAll before now turns = IfSome now (λ all. (earlier : List Turn) × (before ≡ Some earlier) × (all ≡ earlier ++ turns))
+-- the packets of the octets heard, all at this moment
+abbrev pub events_at : ℕ → ServerState → List Event
+events_at moment server = at_moment moment (packets_of server.octets)
 
--- the turns are open ones, and then this last one
-abbrev pub EndsWith : List Turn → Turn → Type 0
-EndsWith turns last = (earlier : List Turn) × (turns ≡ earlier ++ last ∷ []) × AllByRecursion IsOpen earlier
+-- why a server stopped after this text, over the packets of the octets heard, all at this moment
+abbrev pub Stops : ℕ → ServerState → List ℕ → NodeStop → Type 0
+Stops moment old text why = StopsOver old.caller old.store old.state (events_at moment old) text why
 
--- From one point to another the session took all that these turns at these moments brought, and said this text.
-pub record TurnsRan (caller : CallSign) (moments : List ℕ) (start now : Point) (turns : List Turn) (text : List ℕ) : Type 0 where
-  pub events : List Event
-  pub brings : Brings start.octets turns moments events now.octets
-  pub runs : RunsOver caller start.store start.state events text now.store now.state
+-- The server took octets from the front of a piece that was heard, at least one; or it stopped.
+abbrev pub FeedsPiece : {A : Type 0} → (A → Option (List ℕ)) → A → A → ℕ → ServerState → ServerState → List ℕ → Result ℕ NodeStop → Type 0
+FeedsPiece said before now moment old new piece result =
+    (text : List ℕ) × Gains (said before) (said now) text
+    × MatchResult result
+    (λ taken. (0 < taken) × (taken ≤ length piece) × GoesOn moment (with_octets old piece) (with_octets new (drop taken piece)) text)
+    (Stops moment (with_octets old piece) text)
 
--- Open turns at these moments, in the last of which the session stopped, so that nothing was heard after that: it took all
--- that those before it brought, and of this text the front was said to that.
-pub record StopsIn (caller : CallSign) (moments : List ℕ) (start : Point) (turns : List Turn) (text : List ℕ) (why : NodeStop) : Type 0 where
-  pub earlier : List Turn
-  pub last : Turn
-  pub before : List ℕ
-  pub moment : ℕ
-  pub between : Point
-  pub front : List ℕ
-  pub more : List ℕ
+-- Octets of one turn were heard, all at this moment. With those heard before they are a stream of packets; the server took
+-- all of these, and what is left waits; or it stopped at one of them.
+pub record Serves (moment : ℕ) (old new : ServerState) (octets text : List ℕ) (result : Result ⊤ NodeStop) : Type 0 where
+  pub packets : List Item
   pub rest : List ℕ
-  pub all_turns : turns ≡ earlier ++ last ∷ []
-  pub all_moments : moments ≡ before ++ moment ∷ []
-  pub as_many : length before ≡ length earlier
-  pub all_open : AllByRecursion IsOpen turns
-  pub ran : TurnsRan caller before start between earlier front
-  pub said : text ≡ front ++ more
-  pub stream : Stream (with_turn between last).octets (packets_of (with_turn between last).octets) rest
-  pub stops : Stops caller moment (with_turn between last) more why
+  pub stream : Stream (old.octets ++ octets) packets rest
+  pub ends :
+      MatchResult result
+      (λ _. (new.caller ≡ old.caller) × (new.octets ≡ rest)
+      × RunsOver old.caller old.store old.state (at_moment moment packets) text new.store new.state)
+      (StopsOver old.caller old.store old.state (at_moment moment packets) text)
 
--- how the turns of a node ended, from one point to another, with this text said
-abbrev pub Listened : CallSign → ℕ → Point → Point → List Turn → List ℕ → List ℕ → Result Served NodeStop → Type 0
-Listened caller polls start now turns moments text (Ok served) =
-    EndsWith turns turn.End × TurnsRan caller moments start now turns text × (served.turns ≡ length turns)
-Listened caller polls start now turns moments text (Err stop.AirRead) =
-    EndsWith turns turn.Fail × TurnsRan caller moments start now turns text
-Listened caller polls start now turns moments text (Err stop.Spent) =
-    (length turns ≡ polls) × AllByRecursion IsOpen turns × TurnsRan caller moments start now turns text
-Listened caller polls start now turns moments text (Err (stop.NotBuilt kind)) = StopsIn caller moments start turns text (stop.NotBuilt kind)
-Listened caller polls start now turns moments text (Err stop.AirWrite) = StopsIn caller moments start turns text stop.AirWrite
-Listened caller polls start now turns moments text (Err stop.OutOfMemory) = StopsIn caller moments start turns text stop.OutOfMemory
+-- octets were heard, and this said
+abbrev pub ServesOctets : {A : Type 0} → (A → Option (List ℕ)) → A → A → ℕ → ServerState → ServerState → List ℕ → Result ⊤ NodeStop → Type 0
+ServesOctets said before now moment old new octets result =
+    (text : List ℕ) × Gains (said before) (said now) text × Serves moment old new octets text result
+
+-- How a turn ended: its octets were all taken, at the end of the air none, and none where the poll failed; or the session
+-- stopped at a packet that they finish.
+abbrev pub TurnEnds : ℕ → ServerState → ServerState → Turn → List ℕ → Result Polled NodeStop → Type 0
+TurnEnds moment old new next text (Ok (polled.Bytes count)) = IsOpen next × Serves moment old new (octets_of_turn next) text (Ok tt)
+TurnEnds moment old new next text (Ok polled.Quiet) = IsOpen next × Serves moment old new (octets_of_turn next) text (Ok tt)
+TurnEnds moment old new next text (Ok polled.End) = (next ≡ turn.End) × Serves moment old new (octets_of_turn next) text (Ok tt)
+TurnEnds moment old new next text (Err stop.AirRead) = (next ≡ turn.Fail) × Serves moment old new (octets_of_turn next) text (Ok tt)
+TurnEnds moment old new next text (Err stop.AirWrite) = IsOpen next × Serves moment old new (octets_of_turn next) text (Err stop.AirWrite)
+TurnEnds moment old new next text (Err (stop.NotBuilt kind)) = IsOpen next × Serves moment old new (octets_of_turn next) text (Err (stop.NotBuilt kind))
+TurnEnds moment old new next text (Err stop.OutOfMemory) = IsOpen next × Serves moment old new (octets_of_turn next) text (Err stop.OutOfMemory)
+TurnEnds moment old new next text (Err stop.Spent) = ⊥
+
+-- One turn: a poll, and what was made of the octets that it heard.
+pub record TakesTurn {A : Type 0} (heard : A → Option (List Turn)) (said : A → Option (List ℕ)) (before now : A) (moment : ℕ) (old new : ServerState) (result : Result Polled NodeStop) : Type 0 where
+  pub next : Turn
+  pub text : List ℕ
+  pub turn_heard : Hears (heard before) (heard now) next
+  pub text_said : Gains (said before) (said now) text
+  pub ends : TurnEnds moment old new next text result

@@ -1,19 +1,23 @@
--- What a run of the program says and why it ends.
-use Rattle.std.specs.Prelude.{◌≡◌, ℕ, ◌≤◌, max, List, [], ◌∷◌, ◌++◌, length, slice_index, Bool, true, false, Option, None, Some, IfSome, ◌⊎◌, IsTrue, ⊤}
+-- What a run of the program did for a session, by its words and by what was heard.
+use Rattle.std.specs.Prelude.{◌≡◌, ◌⊎◌, ℕ, ◌+◌, ◌++◌, List, [], ◌∷◌, length, Contains, Option, None, Some, IsSome, Result}
 use Rattle.std.specs.List.{AllByRecursion}
 use Rattle.px_base.specs.CallSign.{CallSign}
+use Rattle.px_base.specs.Moments.{TellsMoments}
 use Rattle.px_base.specs.Outside.{Gains, GainsPrefix, Rose}
-use Rattle.px_base.specs.Polling.{octets_heard}
+use Rattle.px_base.specs.Polling.{EndsWith, HasEnd, HearsAll, IsOpen}
 use Rattle.px_base.specs.declared.air.Turn.{Turn}
 use Rattle.px_base.specs.declared.air.Turn.TheVariants as turn
-use Rattle.ftl0_packets.specs.Stream.{Stream}
-use Rattle.file_store.specs.Store.{empty_store}
-use Rattle.command_words.specs.Words.{IsSession}
+use Rattle.ftl0_packets.specs.Layout.{Item}
+use Rattle.command_words.specs.Laws.{AsksSession}
+use Rattle.command_words.specs.Words.{IsSession, IsUnbuilt, IsUsage}
+use Rattle.pacsat_cli.specs.declared.node.NodeStop.{NodeStop}
+use Rattle.pacsat_cli.specs.declared.node.Served.{Served}
+use Rattle.pacsat_cli.specs.declared.node.SessionTerms.{SessionTerms}
 use Rattle.pacsat_cli.specs.declared.status.Status.{Status}
-use Rattle.pacsat_cli.specs.declared.status.Status.TheVariants.{Done, AirRead, AirWrite, OutOfMemory, Spent, NotBuilt}
-use Rattle.pacsat_cli.specs.Events.{Brings, Event, packets_in}
-use Rattle.pacsat_cli.specs.Node.{EndsWith, IsFront, IsOpen}
-use Rattle.pacsat_cli.specs.Session.{command, greeting, meets_unbuilt, replies_to, texts}
+use Rattle.pacsat_cli.specs.declared.status.Status.TheVariants.{AirWrite, Done, NotBuilt, OutOfMemory, Shelf, Spent}
+use Rattle.pacsat_cli.specs.Events.{Brings, Event}
+use Rattle.pacsat_cli.specs.SessionRan.{SessionServed, session_unbuilt}
+use Rattle.pacsat_cli.specs.Stops.{status_of}
 
 -- how many blocks of 512 octets the store of a session has
 abbrev pub store_blocks : ℕ
@@ -23,105 +27,95 @@ store_blocks = 65536
 abbrev pub most_polls : ℕ
 most_polls = 1000000000000
 
--- the end of the air is among the turns
-abbrev pub HasEnd : List Turn → Type 0
-HasEnd [] = ⊥
-HasEnd ((turn.Bytes octets) ∷ turns) = HasEnd turns
-HasEnd (turn.Quiet ∷ turns) = HasEnd turns
-HasEnd (turn.Fail ∷ turns) = HasEnd turns
-HasEnd (turn.End ∷ turns) = ⊤
+-- this status, or one of the others, each of which has a cause of its own
+abbrev pub IsUnless : Status → Status → List Status → Type 0
+IsUnless result status others = (result ≡ status) ⊎ Contains others result
 
--- How a run of at most so many polls ended, by its turns, by whether a packet met a row that isn't built, and by the text
--- said beside the text of all replies: each status that a session has has its cause, and all is said but where saying
--- failed or there was no memory; what is said then without memory SessionRan says.
-abbrev pub Ends : Status → ℕ → List Turn → Bool → List ℕ → List ℕ → Type 0
-Ends Done polls turns unbuilt text all = EndsWith turns turn.End × (unbuilt ≡ false) × (text ≡ all)
-Ends AirRead polls turns unbuilt text all = EndsWith turns turn.Fail × (unbuilt ≡ false) × (text ≡ all)
-Ends AirWrite polls turns unbuilt text all = AllByRecursion IsOpen turns × IsFront text all
-Ends OutOfMemory polls turns unbuilt text all = AllByRecursion IsOpen turns
-Ends Spent polls turns unbuilt text all =
-    (length turns ≡ polls) × AllByRecursion IsOpen turns × (unbuilt ≡ false) × (text ≡ all)
-Ends NotBuilt polls turns unbuilt text all = AllByRecursion IsOpen turns × (unbuilt ≡ true) × (text ≡ all)
-Ends status polls turns unbuilt text all = ⊥
+-- A count of faults rose where this status is answered, and stayed where it isn't.
+pub record HasStatusCause (fault : Status) (before now : ℕ) (status : Status) : Type 0 where
+  pub rose : status ≡ fault → Rose before now
+  pub same : (status ≡ fault → ⊥) → now ≡ before
 
--- The text of all replies to these events: LOGIN_RESP at the first of the moments, then those that the session's table
--- gives, over a fresh store of so many blocks, up to the first packet whose row isn't built.
-abbrev pub session_text : CallSign → List ℕ → ℕ → List Event → List ℕ
-session_text caller moments blocks events =
-    texts (greeting (slice_index moments 0) ∷ replies_to caller (empty_store blocks) command events)
+-- The same of the shelf, which may count a fault where it finds no memory.
+pub record HasShelfCause (before now : ℕ) (status : Status) : Type 0 where
+  pub rose : status ≡ Shelf → Rose before now
+  pub same : (status ≡ Shelf → ⊥) → (status ≡ OutOfMemory → ⊥) → now ≡ before
 
--- whether one of these events meets a row that isn't built
-abbrev pub session_stops : CallSign → ℕ → List Event → Bool
-session_stops caller blocks events = meets_unbuilt caller (empty_store blocks) command events
+-- The words aren't in the command set, or ask for what isn't built yet.
+abbrev pub AreRefused : List (List ℕ) → Type 0
+AreRefused words = IsUsage words ⊎ IsUnbuilt words
 
--- whether the status is of a run that something stopped before the end of the air or of the polls
-abbrev pub is_stopped : Status → Bool
-is_stopped AirWrite = true
-is_stopped OutOfMemory = true
-is_stopped NotBuilt = true
-is_stopped status = false
+-- the words ask for a session at a given moment
+abbrev pub AsksMoment : List (List ℕ) → Type 0
+AsksMoment words = (caller : CallSign) × (moment : ℕ) × IsSession words caller (Some moment)
 
--- Nothing was heard after what stopped the run: nothing at all; or for the packets of what was heard before the last turn
--- each row was built, and the text said begins with that of all replies to them.
-abbrev pub IsPrompt : CallSign → List ℕ → ℕ → List Turn → List ℕ → Type 0
-IsPrompt caller moments blocks turns text =
-    (turns ≡ [])
-    ⊎ ((earlier : List Turn) × (last : Turn) × (before : List Event) × (left : List ℕ) × (turns ≡ earlier ++ last ∷ [])
-    × Brings [] earlier moments before left × (session_stops caller blocks before ≡ false)
-    × IsFront (session_text caller moments blocks before) text)
+-- what a run serves a session with
+abbrev pub run_terms : CallSign → Option ℕ → SessionTerms
+run_terms caller moment = record { caller = caller; moment = moment; limits = record { blocks = store_blocks }; polls = most_polls }
 
--- A session over these turns at these moments said this text and ended with this status.
-pub record SessionRan (caller : CallSign) (moments : List ℕ) (blocks polls : ℕ) (turns : List Turn) (text : List ℕ) (status : Status) : Type 0 where
-  -- one moment for each turn; one for LOGIN_RESP where there is no turn
-  pub one_each : length moments ≡ max 1 (length turns)
-  -- the packets of all octets heard, each with the moment of the turn that brought its last octet, and less than a whole one
-  pub events : List Event
-  pub rest : List ℕ
-  pub brings : Brings [] turns moments events rest
-  pub stream : Stream (octets_heard turns) (packets_in events) rest
-  pub bound : length turns ≤ polls
-  pub ends : Ends status polls turns (session_stops caller blocks events) text (session_text caller moments blocks events)
-  pub prompt : IsTrue (is_stopped status) → IsPrompt caller moments blocks turns text
-  -- where there was no memory, all replies to the first packets were said, and no part of another
-  pub whole : status ≡ OutOfMemory → (done : List Event) × (more : List Event) × (events ≡ done ++ more) × (text ≡ session_text caller moments blocks done)
+-- a session of this caller, with this moment or the clock's, was served, and the status says how it ended
+abbrev pub SessionEnded : {A C : Type 0} → (A → Option (List Turn)) → (A → Option (List ℕ)) → (C → Option (List ℕ)) → A → A → C → C → CallSign → Option ℕ → Status → Type 0
+SessionEnded heard said given before now clock clock_now caller moment status =
+    (ended : Result Served NodeStop) × SessionServed heard said given before now clock clock_now (run_terms caller moment) ended
+    × (status ≡ status_of ended)
 
--- Each of these moments is the one that was given, and the clock wasn't asked; or, where none was given, they are the
--- clock's: where all that it gave till now is told, what it gave before was told too, and these are all that came since.
-abbrev pub MomentsOf : Option ℕ → Option (List ℕ) → Option (List ℕ) → List ℕ → Type 0
-MomentsOf (Some given) before now moments = AllByRecursion (λ moment. moment ≡ given) moments × (now ≡ before)
-MomentsOf None before now moments =
-    IfSome now (λ all. (earlier : List ℕ) × (before ≡ Some earlier) × (all ≡ earlier ++ moments))
+-- Where the words ask for a session, it is served, and the status says how it ended; or there was no memory to read the
+-- words, and neither air nor clock was touched.
+abbrev pub RunsSession : {A C : Type 0} → List (List ℕ) → (A → Option (List Turn)) → (A → Option (List ℕ)) → (C → Option (List ℕ)) → A → A → C → C → Status → Type 0
+RunsSession words heard said given before now clock clock_now status =
+    (caller : CallSign) (moment : Option ℕ) → IsSession words caller moment
+    → ((status ≡ OutOfMemory) × (now ≡ before) × (clock_now ≡ clock))
+    ⊎ SessionEnded heard said given before now clock clock_now caller moment status
 
--- the moments are told: each is the one that was given, or they are all that the clock gave since
-abbrev pub TellsMoments : Option ℕ → Option (List ℕ) → Option (List ℕ) → List ℕ → Type 0
-TellsMoments (Some given) before now moments = AllByRecursion (λ moment. moment ≡ given) moments
-TellsMoments None before now moments = (earlier : List ℕ) × (before ≡ Some earlier) × (now ≡ Some (earlier ++ moments))
+-- the end of the air was read, after turns that left it open
+abbrev pub ReadsEnd : Option (List Turn) → Option (List Turn) → Type 0
+ReadsEnd before now = (turns : List Turn) × HearsAll before now turns × EndsWith turns turn.End
+
+-- A session that is done read the end of the air, and no count of the air rose.
+abbrev pub IsDoneAtEnd : {A : Type 0} → List (List ℕ) → (A → Option (List Turn)) → (A → ℕ) → (A → ℕ) → A → A → Status → Type 0
+IsDoneAtEnd words heard reads writes before now status =
+    AsksSession words → status ≡ Done
+    → ReadsEnd (heard before) (heard now) × (reads now ≡ reads before) × (writes now ≡ writes before)
 
 -- The words ask for a session, and what is told of the air and of the clock, before and now, gives the turns of the run,
 -- their moments, and the events in them.
-pub record SessionHeard (words : List (List ℕ)) (before now : Option (List Turn)) (given given_now : Option (List ℕ)) : Type 0 where
+pub record SessionHeard {A C : Type 0} (words : List (List ℕ)) (heard : A → Option (List Turn)) (given : C → Option (List ℕ)) (before now : A) (clock clock_now : C) : Type 0 where
   pub caller : CallSign
   pub moment : Option ℕ
   pub asks : IsSession words caller moment
   pub earlier : List Turn
   pub turns : List Turn
-  pub told_before : before ≡ Some earlier
-  pub told_now : now ≡ Some (earlier ++ turns)
+  pub told_before : heard before ≡ Some earlier
+  pub told_now : heard now ≡ Some (earlier ++ turns)
   pub moments : List ℕ
-  pub told_moments : TellsMoments moment given given_now moments
+  pub told_moments : TellsMoments moment (given clock) (given clock_now) moments
   pub events : List Event
   pub rest : List ℕ
   pub brings : Brings [] turns moments events rest
 
--- whether one of the packets heard meets a row that isn't built
-abbrev pub heard_unbuilt : {words : List (List ℕ)} {before now : Option (List Turn)} {given given_now : Option (List ℕ)} → SessionHeard words before now given given_now → Bool
-heard_unbuilt heard = session_stops heard.caller store_blocks heard.events
+-- Where the turns and moments of a session are told, this holds of the turns, and of the first packet heard whose row isn't
+-- built, if there is one.
+abbrev pub WhereHeard : {A C : Type 0} → List (List ℕ) → (A → Option (List Turn)) → (C → Option (List ℕ)) → A → A → C → C → (List Turn → Option Item → Type 0) → Type 0
+WhereHeard words heard given before now clock clock_now P =
+    (told : SessionHeard words heard given before now clock clock_now)
+    → P told.turns (session_unbuilt told.caller store_blocks told.events)
 
--- this status, or one that is owed to a fault of saying or to want of memory
-abbrev pub IsUnlessDown : Status → Status → Type 0
-IsUnlessDown result status = (result ≡ status) ⊎ (result ≡ AirWrite) ⊎ (result ≡ OutOfMemory)
+-- where the end of the air was heard, the run is done
+abbrev pub IsDoneBy : Status → List Turn → Option Item → Type 0
+IsDoneBy status turns unbuilt = HasEnd turns → status ≡ Done
 
--- These octets are shown; or the output's count of faults rose, and some prefix of them is shown.
-abbrev pub Shows : Option (List ℕ) → Option (List ℕ) → ℕ → ℕ → List ℕ → Type 0
-Shows before now faults faults_now octets =
-    Gains before now octets ⊎ (Rose faults faults_now × GainsPrefix before now octets)
+-- where a packet's row isn't built, the run is not built
+abbrev pub IsNotBuiltBy : Status → List Turn → Option Item → Type 0
+IsNotBuiltBy status turns unbuilt = IsSome unbuilt → IsUnless status NotBuilt (AirWrite ∷ OutOfMemory ∷ [])
+
+-- where all polls were made, none was the end or failed, and each row is built, the run is spent
+abbrev pub IsSpentBy : Status → List Turn → Option Item → Type 0
+IsSpentBy status turns unbuilt =
+    length turns ≡ most_polls → AllByRecursion IsOpen turns → unbuilt ≡ None → IsUnless status Spent (AirWrite ∷ OutOfMemory ∷ [])
+
+-- These octets were shown, and the output's count of faults is as it was; or the count rose, and some prefix of them was
+-- shown.
+abbrev pub Shows : {O : Type 0} → (O → Option (List ℕ)) → (O → ℕ) → O → O → List ℕ → Type 0
+Shows shown faults before now octets =
+    (Gains (shown before) (shown now) octets × (faults now ≡ faults before))
+    ⊎ (GainsPrefix (shown before) (shown now) octets × Rose (faults before) (faults now))

@@ -2,7 +2,7 @@
 use Rattle.std.specs.Prelude.{ℕ, ◌+◌, ◌==◌, List, [], ◌∷◌, ◌++◌, length, flat_map, Bool, true, false, ◌&&◌, ◌||◌, if◌then◌else◌, Option, None, Some, Ok, Err}
 use Rattle.px_base.specs.CallSign.{CallSign}
 use Rattle.ftl0_packets.specs.Layout.{Item, PacketValue, data_part, data_end, kind_of, login_resp, packet_text, ul_ack_resp, ul_error_resp, ul_go_resp, ul_nak_resp, upload_cmd}
-use Rattle.file_store.specs.Command.{Command, begin, drop_entry, seal, after_all, can_begin, has_room, last_grow, passes, rest_of, whole_grows}
+use Rattle.file_store.specs.Command.{Command, begin, drop_entry, seal, after_all, can_begin, has_room, last_grow, passes, unfilled_block, whole_grows}
 use Rattle.file_store.specs.Header.{fault_of}
 use Rattle.file_store.specs.Store.{Entry, Store, entry_of, octets_at, octets_of}
 use Rattle.pacsat_cli.specs.Events.{Event}
@@ -43,7 +43,7 @@ begin_row caller moment store file_length =
 abbrev pub data_row : Store → ℕ → List ℕ → List ℕ → Row
 data_row store number rest octets =
     if passes (λ e. has_room e.holding e.length (length (rest ++ octets))) (entry_of store number)
-    then record { state = receiving number (rest_of (rest ++ octets)); commands = whole_grows number (rest ++ octets); replies = [] }
+    then record { state = receiving number (unfilled_block (rest ++ octets)); commands = whole_grows number (rest ++ octets); replies = [] }
     else record { state = aborting; commands = []; replies = ul_nak_resp 1 ∷ [] }
 
 -- whether the octets held and these are all of the entry's
@@ -96,12 +96,12 @@ replies_to caller store state (event ∷ events) =
     on_row (session_row caller event.moment store state event.packet) []
     (λ row. row.replies ++ replies_to caller (after_all store row.commands) row.state events)
 
--- whether one of these events meets a row that isn't built
-abbrev pub meets_unbuilt : CallSign → Store → State → List Event → Bool
-meets_unbuilt caller store state [] = false
-meets_unbuilt caller store state (event ∷ events) =
-    on_row (session_row caller event.moment store state event.packet) true
-    (λ row. meets_unbuilt caller (after_all store row.commands) row.state events)
+-- the first packet of these events whose row isn't built, if there is one
+abbrev pub first_unbuilt : CallSign → Store → State → List Event → Option Item
+first_unbuilt caller store state [] = None
+first_unbuilt caller store state (event ∷ events) =
+    on_row (session_row caller event.moment store state event.packet) (Some event.packet)
+    (λ row. first_unbuilt caller (after_all store row.commands) row.state events)
 
 -- The reply to the connection (FTL0 1990, LOGIN_RESP): the moment; version 0, and file headers in use.
 abbrev pub greeting : ℕ → PacketValue

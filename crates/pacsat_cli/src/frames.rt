@@ -1,8 +1,8 @@
 //! The command `frames`.
 
-ghost use Rattle.std.specs.Prelude.{◌≡◌, ◌≤◌, true};
-ghost use Rattle.px_base.specs.Outside.{Rose};
-ghost use Rattle.pacsat_cli.specs.Frames.{FramesPlayed, is_unshown};
+ghost use Rattle.std.specs.Prelude.{◌≡◌};
+ghost use Rattle.pacsat_cli.specs.Frames.{FramesShown};
+ghost use Rattle.pacsat_cli.specs.Run.{HasShelfCause};
 
 use crate::Status;
 use frame_lines::show_frames;
@@ -14,18 +14,15 @@ const MOST_RECORDED: usize = 4_194_304;
 
 /// Shows one line for each part of the recorded KISS text that the shelf has under this name. Takes memory for that text
 /// alone, and time that grows with its length.
-pub(crate) fn frames<S: Shelf, O: Out>(
+pub(crate) fn run_frames<S: Shelf, O: Out>(
     alloc: Global,
     name: &str,
     shelf: &mut S,
     out: &mut O,
 ) -> Status
-    ensures played { FramesPlayed (S.held shelf.old) name.now (O.shown out.old) (O.shown out.new) result }
+    ensures shown { FramesShown O.shown O.faults (S.held shelf.old) name.now out.old out.new result }
     ensures held { S.held shelf.new ≡ S.held shelf.old }
-    ensures shelf { result ≡ Status.Shelf → Rose (S.faults shelf.old) (S.faults shelf.new) }
-    ensures out { result ≡ Status.Out → Rose (O.faults out.old) (O.faults out.new) }
-    ensures no_fewer_faults { O.faults out.old ≤ O.faults out.new }
-    ensures unshown { is_unshown result ≡ true → out.new ≡ out.old }
+    ensures shelf { HasShelfCause (S.faults shelf.old) (S.faults shelf.new) result }
 {
     match shelf.load(alloc, name, MOST_RECORDED) {
         Ok(recorded) => match show_frames(recorded.as_slice(), out) {

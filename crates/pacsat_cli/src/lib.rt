@@ -1,4 +1,4 @@
-//! The program's one top call, `run`, and what it is made of: the words, the session of one caller, and its loop.
+//! The program's one top call, `run`, and what it is made of: the session of one caller, its server, and `frames`.
 #![tactic(auto)]
 
 mod frames;
@@ -7,11 +7,10 @@ mod node;
 mod session;
 mod status;
 mod top_call;
-mod words;
 
+pub use command_words::Words;
 pub use status::Status;
 pub use top_call::{BLOCKS, POLLS, end_with, run};
-pub use words::Words;
 
 #[cfg(test)]
 mod tests;

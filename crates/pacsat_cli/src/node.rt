@@ -1,96 +1,98 @@
-//! A node's loop over one session: octets in from the air, replies out to it.
+//! The server of one session: octets in from the air, replies out to it.
 
-ghost use Rattle.std.specs.Prelude.{◌≡◌, ℕ, List, [], ◌∷◌, ◌++◌, ◌≤◌, ◌<◌, length, drop, max, IsSome, IsTrue, IfOk, OnOk, OnErr, IsErrOf, MatchResult};
-ghost use Rattle.px_base.specs.declared.air.Turn.{Turn};
-ghost use Rattle.px_base.specs.Outside.{Gains, GainsPrefix, HasCause, Rose};
-ghost use Rattle.px_base.specs.Polling.{octets_of_turn};
-ghost use Rattle.ftl0_packets.specs.Layout.{IsOctets};
-ghost use Rattle.ftl0_packets.specs.Reading.{is_whole, packets_of, read_item, rest_of, under_way};
-ghost use Rattle.pacsat_cli.specs.Node.{AnswerSaid, GoesOn, HearsAll, Listened, Stops, TurnRuns, point_of};
-ghost use Rattle.pacsat_cli.specs.Run.{MomentsOf, SessionRan};
-ghost use Rattle.pacsat_cli.specs.Stops.{status_of};
+ghost use Rattle.std.specs.Prelude.{◌≡◌, ◌≤◌, ◌<◌, [], ◌∷◌, length, IsSome, IsTrue};
+ghost use Rattle.px_base.specs.Moments.{MomentsOf};
+ghost use Rattle.ftl0_packets.specs.Layout.{packet_text};
+ghost use Rattle.ftl0_packets.specs.Reading.{is_whole, read_item};
+ghost use Rattle.pacsat_cli.specs.Node.{AnswersOver, FeedsPiece, HasAirCause, SaysText, ServesOctets, TakesTurn, node_stop_of};
+ghost use Rattle.pacsat_cli.specs.ServerState.{new_server};
+ghost use Rattle.pacsat_cli.specs.Session.{greeting};
+ghost use Rattle.pacsat_cli.specs.SessionRan.{ListenedBy, SessionServed};
 ghost use Rattle.pacsat_cli.specs.Taking.{IsHeld, state_of};
 
-use crate::session::{Replies, Session, SessionStop};
+use crate::session::{Replies, Session, SessionStop, write_greeting};
 use file_store::{FileStore, Limits};
 use ftl0_packets::laws::stream_law;
 use ftl0_packets::{PacketFed, PacketReader};
-use px_base::{Air, AirDown, Call, Clock, Polled, ROOM};
+use px_base::{Air, Call, Clock, Polled, ROOM};
 use std::alloc::Global;
+use std::marker::Model;
+use thiserror::Error;
 
-/// A node read the end of the air.
+/// A session came to the end of the air.
 #[derive(Clone, Copy, Debug, PartialEq, Eq)]
 pub(crate) struct Served {
     /// How many polls were made, the one that found the end included.
     pub turns: u64,
 }
 
-/// Why a node stopped before the end of the air.
-#[derive(Clone, Copy, Debug, PartialEq, Eq)]
+/// Why a session stopped before the end of the air.
+#[derive(Clone, Copy, Debug, PartialEq, Eq, Error)]
 pub(crate) enum NodeStop {
     /// A poll failed.
+    #[error("hearing failed")]
     AirRead,
     /// A reply could not be said whole.
+    #[error("saying failed")]
     AirWrite,
     /// As many polls were made as may be.
+    #[error("as many polls were made as may be")]
     Spent,
     /// A packet came whose row of the session's table isn't built yet.
+    #[error("a packet of type {kind} asks for what is not built yet")]
     NotBuilt {
         /// The packet's type.
         kind: u8,
     },
     /// There was no memory.
+    #[error("out of memory")]
     OutOfMemory,
 }
 
-/// How a turn left the air.
-#[derive(Clone, Copy)]
-pub(crate) enum AirState {
-    /// Octets may follow.
-    Open,
-    /// Its end was read.
-    Closed,
+impl From<SessionStop> for NodeStop {
+    ghost from_gives = { λ stop result. result ≡ node_stop_of stop };
+
+    fn from(stop: SessionStop) -> NodeStop {
+        match stop {
+            SessionStop::NotBuilt { kind } => NodeStop::NotBuilt { kind },
+            SessionStop::OutOfMemory => NodeStop::OutOfMemory,
+        }
+    }
 }
 
-/// One session over FTL0 octets without a link: LOGIN_RESP first, then the replies to each packet, up to the end of the
-/// air or `polls` polls. Each turn has the moment that is given, or takes one of the clock before its poll; the first
-/// turn's is taken before LOGIN_RESP, which has it. The store is a fresh one in memory; a place for a disk stands before
-/// `air`. Takes memory.
-pub(crate) fn session<A: Air, C: Clock>(
+/// What a session is served with.
+#[derive(Clone, Copy)]
+pub(crate) struct SessionTerms {
+    /// Whose session it is.
+    pub caller: Call,
+    /// The moment of each turn; where none is given each turn takes one of the clock.
+    pub moment: Option<u32>,
+    /// What the store may take.
+    pub limits: Limits,
+    /// How many polls may be made.
+    pub polls: u64,
+}
+
+/// Serves one session over FTL0 octets without a link: LOGIN_RESP first, then the replies to each packet, up to the end of
+/// the air or as many polls as may be made. Each turn has the moment that is given, or takes one of the clock before its
+/// poll; the first turn's is taken before LOGIN_RESP, which has it. The store is a fresh one in memory; a place for a disk
+/// stands before `air`. Takes memory.
+pub(crate) fn serve_session<A: Air, C: Clock>(
     alloc: Global,
     air: &mut A,
     clock: &mut C,
-    caller: Call,
-    moment: Option<u32>,
-    limits: Limits,
-    polls: u64,
+    terms: &SessionTerms,
 ) -> Result<Served, NodeStop>
-    requires some { 1 ≤ limits.blocks }
-    requires most { limits.blocks ≤ 65536 }
-    ensures ran { (turns : List Turn) × (moments : List ℕ) × (text : List ℕ) × HearsAll (A.heard air.old) (A.heard air.new) turns
-        × MomentsOf moment (C.given clock.old) (C.given clock.new) moments
-        × Gains (A.said air.old) (A.said air.new) text × SessionRan caller moments limits.blocks polls turns text (status_of result) }
-    ensures clock { IsSome moment → clock.new ≡ clock.old }
-    ensures air_read { IsErrOf result NodeStop.AirRead → Rose (A.read_faults air.old) (A.read_faults air.new) }
-    ensures air_write { IsErrOf result NodeStop.AirWrite → Rose (A.write_faults air.old) (A.write_faults air.new) }
+    requires some { 1 ≤ terms.now.limits.blocks }
+    requires most { terms.now.limits.blocks ≤ 65536 }
+    ensures served { SessionServed A.heard A.said C.given air.old air.new clock.old clock.new terms.now result }
+    ensures clock { IsSome terms.now.moment → clock.new ≡ clock.old }
+    ensures counts { HasAirCause A.read_faults A.write_faults air.old air.new result }
 {
-    // Whatever is heard is a stream of packets.
-    stream_law();
-    let mut store = FileStore::plain(alloc, limits);
-    let mut replies = Replies::new();
-    let first = moment_of(moment, clock);
-    let mut session = Session::new(caller, first, &mut replies);
-    match air.put(replies.as_slice()) {
-        Ok(()) => {
-            let ended = listen(air, clock, &mut session, first, moment, &mut store, polls);
-            session.end(&mut store);
-            ended
-        }
-        Err(_down) => {
-            session.end(&mut store);
-            Err(NodeStop::AirWrite)
-        }
-    }
+    let mut server = SessionServer::new(alloc, terms);
+    let ended = server.serve(air, clock, terms);
+    server.end();
+    ended
 }
 
 /// The moment of a turn: the one that is given, or the clock's.
@@ -116,189 +118,200 @@ fn moment_of_turn<C: Clock>(turn: u64, first: u32, given: Option<u32>, clock: &m
     moment_of(given, clock)
 }
 
-/// Takes turns up to the end of the air. The first turn's moment was taken already.
-fn listen<A: Air, C: Clock>(
-    air: &mut A,
-    clock: &mut C,
-    session: &mut Session,
-    first: u32,
-    given: Option<u32>,
-    store: &mut FileStore,
-    polls: u64,
-) -> Result<Served, NodeStop>
-    requires { IsHeld store.old session.old }
-    ensures held { IsHeld store.new session.new }
-    ensures listened { (turns : List Turn) × (later : List ℕ) × (text : List ℕ) × (rest : List ℕ) × HearsAll (A.heard air.old) (A.heard air.new) turns
-        × MomentsOf given (C.given clock.old) (C.given clock.new) later × Gains (A.said air.old) (A.said air.new) text
-        × (length (first ∷ later) ≡ max 1 (length turns)) × (length turns ≤ polls)
-        × Listened session.old.caller polls (point_of store.old session.old []) (point_of store.new session.new rest) turns (first ∷ later) text result }
-    ensures clock { IsSome given → clock.new ≡ clock.old }
-    ensures no_fewer_reads { A.read_faults air.old ≤ A.read_faults air.new }
-    ensures no_fewer_writes { A.write_faults air.old ≤ A.write_faults air.new }
-    ensures air_read { IsErrOf result NodeStop.AirRead → Rose (A.read_faults air.old) (A.read_faults air.new) }
-    ensures air_write { IsErrOf result NodeStop.AirWrite → Rose (A.write_faults air.old) (A.write_faults air.new) }
-{
-    // Whatever is heard is a stream of packets.
-    stream_law();
-    let mut reader = PacketReader::new();
-    for turn in 0..polls {
-        let moment = moment_of_turn(turn, first, given, clock);
-        match take_turn(air, &mut reader, session, moment, store) {
-            Ok(AirState::Closed) => return Ok(Served { turns: turn + 1 }),
-            Ok(AirState::Open) => {}
-            Err(stop) => return Err(stop),
-        }
-    }
-    Err(NodeStop::Spent)
-}
-
-/// Takes one turn: a poll, and the replies to the packets that it finishes, all at this moment.
-fn take_turn<A: Air>(
-    air: &mut A,
-    reader: &mut PacketReader,
-    session: &mut Session,
-    moment: u32,
-    store: &mut FileStore,
-) -> Result<AirState, NodeStop>
-    requires held { IsHeld store.old session.old }
-    requires idle { packets_of (under_way reader.old) ≡ [] }
-    requires left { rest_of (under_way reader.old) ≡ under_way reader.old }
-    ensures held { IsHeld store.new session.new }
-    ensures idle { packets_of (under_way reader.new) ≡ [] }
-    ensures left { rest_of (under_way reader.new) ≡ under_way reader.new }
-    ensures caller { session.new.caller ≡ session.old.caller }
-    ensures turn { (turn : Turn) × (text : List ℕ) × HearsAll (A.heard air.old) (A.heard air.new) (turn ∷ [])
-        × Gains (A.said air.old) (A.said air.new) text × IsOctets (octets_of_turn turn)
-        × TurnRuns session.old.caller moment (point_of store.old session.old (under_way reader.old ++ octets_of_turn turn)) (point_of store.new session.new (under_way reader.new)) turn text result }
-    ensures no_fewer_reads { A.read_faults air.old ≤ A.read_faults air.new }
-    ensures no_fewer_writes { A.write_faults air.old ≤ A.write_faults air.new }
-    ensures air_read { IsErrOf result NodeStop.AirRead → Rose (A.read_faults air.old) (A.read_faults air.new) }
-    ensures air_write { IsErrOf result NodeStop.AirWrite → Rose (A.write_faults air.old) (A.write_faults air.new) }
-{
-    let mut room = [0; ROOM];
-    match air.poll(&mut room) {
-        Ok(Polled::Bytes(count)) => {
-            let octets = room.split_at(count).0;
-            match hear(octets, air, reader, session, moment, store) {
-                Ok(()) => Ok(AirState::Open),
-                Err(stop) => Err(stop),
-            }
-        }
-        Ok(Polled::Quiet) => Ok(AirState::Open),
-        Ok(Polled::End) => Ok(AirState::Closed),
-        Err(_down) => Err(NodeStop::AirRead),
-    }
-}
-
-/// Feeds octets that were heard, and says the replies to each packet that they finish.
-fn hear<A: Air>(
-    octets: &[u8],
-    air: &mut A,
-    reader: &mut PacketReader,
-    session: &mut Session,
-    moment: u32,
-    store: &mut FileStore,
-) -> Result<(), NodeStop>
-    requires held { IsHeld store.old session.old }
-    requires idle { packets_of (under_way reader.old) ≡ [] }
-    requires left { rest_of (under_way reader.old) ≡ under_way reader.old }
-    ensures held { IsHeld store.new session.new }
-    ensures idle { packets_of (under_way reader.new) ≡ [] }
-    ensures left { rest_of (under_way reader.new) ≡ under_way reader.new }
-    ensures caller { session.new.caller ≡ session.old.caller }
-    ensures octets { IsOctets octets.now }
-    ensures heard { A.heard air.new ≡ A.heard air.old }
-    ensures said { (text : List ℕ) × Gains (A.said air.old) (A.said air.new) text
-        × MatchResult result (λ _. GoesOn session.old.caller moment (point_of store.old session.old (under_way reader.old ++ octets.now)) (point_of store.new session.new (under_way reader.new)) text)
-        (Stops session.old.caller moment (point_of store.old session.old (under_way reader.old ++ octets.now)) text) }
-    ensures reads { A.read_faults air.new ≡ A.read_faults air.old }
-    ensures no_fewer_writes { A.write_faults air.old ≤ A.write_faults air.new }
-    ensures air_write { IsErrOf result NodeStop.AirWrite → Rose (A.write_faults air.old) (A.write_faults air.new) }
-{
-    let mut piece = octets;
-    while !piece.is_empty() {
-        match feed(piece, air, reader, session, moment, store) {
-            Ok(taken) => piece = piece.split_at(taken).1,
-            Err(stop) => return Err(stop),
-        }
-    }
-    Ok(())
-}
-
-/// Feeds octets up to the end of the packet under way, says the replies to it, and tells how many octets were taken.
-fn feed<A: Air>(
-    piece: &[u8],
-    air: &mut A,
-    reader: &mut PacketReader,
-    session: &mut Session,
-    moment: u32,
-    store: &mut FileStore,
-) -> Result<usize, NodeStop>
-    requires held { IsHeld store.old session.old }
-    requires some { 0 < length piece.now }
-    ensures held { IsHeld store.new session.new }
-    ensures idle { packets_of (under_way reader.new) ≡ [] }
-    ensures left { rest_of (under_way reader.new) ≡ under_way reader.new }
-    ensures caller { session.new.caller ≡ session.old.caller }
-    ensures heard { A.heard air.new ≡ A.heard air.old }
-    ensures taken { IfOk result (λ taken. (0 < taken) × (taken ≤ length piece.now)) }
-    ensures said { (text : List ℕ) × Gains (A.said air.old) (A.said air.new) text
-        × MatchResult result (λ taken. GoesOn session.old.caller moment (point_of store.old session.old (under_way reader.old ++ piece.now)) (point_of store.new session.new (under_way reader.new ++ drop taken piece.now)) text)
-        (Stops session.old.caller moment (point_of store.old session.old (under_way reader.old ++ piece.now)) text) }
-    ensures reads { A.read_faults air.new ≡ A.read_faults air.old }
-    ensures no_fewer_writes { A.write_faults air.old ≤ A.write_faults air.new }
-    ensures air_write { IsErrOf result NodeStop.AirWrite → Rose (A.write_faults air.old) (A.write_faults air.new) }
-{
-    let (taken, fed) = reader.feed(piece);
-    match fed {
-        PacketFed::More => Ok(taken),
-        PacketFed::Whole => match answer(reader, air, session, moment, store) {
-            Ok(()) => Ok(taken),
-            Err(stop) => Err(stop),
-        },
-    }
-}
-
-/// Takes the packet that is whole, and says the replies to it.
+/// Takes a whole packet, and says the replies to it.
 fn answer<A: Air>(
     reader: &PacketReader,
-    air: &mut A,
     session: &mut Session,
-    moment: u32,
     store: &mut FileStore,
+    air: &mut A,
+    moment: u32,
 ) -> Result<(), NodeStop>
     requires held { IsHeld store.old session.old }
     requires whole { IsTrue (is_whole reader.now) }
     ensures held { IsHeld store.new session.new }
     ensures caller { session.new.caller ≡ session.old.caller }
+    ensures answers { AnswersOver A.said air.old air.new session.old.caller moment store.old (state_of session.old.phase) (read_item reader.now) store.new (state_of session.new.phase) result }
     ensures heard { A.heard air.new ≡ A.heard air.old }
-    ensures said { (text : List ℕ) × Gains (A.said air.old) (A.said air.new) text
-        × AnswerSaid session.old.caller moment store.old (state_of session.old.phase) (read_item reader.now) store.new (state_of session.new.phase) text result }
-    ensures reads { A.read_faults air.new ≡ A.read_faults air.old }
-    ensures no_fewer_writes { A.write_faults air.old ≤ A.write_faults air.new }
-    ensures air_write { IsErrOf result NodeStop.AirWrite → Rose (A.write_faults air.old) (A.write_faults air.new) }
+    ensures counts { HasAirCause A.read_faults A.write_faults air.old air.new result }
 {
     let mut replies = Replies::new();
-    match session.take(reader.packet(), moment, store, &mut replies) {
-        Ok(()) => match say(&replies, air) {
-            Ok(()) => Ok(()),
-            Err(_down) => Err(NodeStop::AirWrite),
-        },
-        Err(SessionStop::NotBuilt { kind }) => Err(NodeStop::NotBuilt { kind }),
-        Err(SessionStop::OutOfMemory) => Err(NodeStop::OutOfMemory),
+    session.take(reader.packet(), moment, store, &mut replies)?;
+    say(replies.as_slice(), air)
+}
+
+/// Says these octets, if there are any.
+fn say<A: Air>(text: &[u8], air: &mut A) -> Result<(), NodeStop>
+    ensures said { SaysText A.said air.old air.new text.now result }
+    ensures heard { A.heard air.new ≡ A.heard air.old }
+    ensures counts { HasAirCause A.read_faults A.write_faults air.old air.new result }
+{
+    if text.is_empty() {
+        return Ok(());
+    }
+    match air.put(text) {
+        Ok(()) => Ok(()),
+        Err(_down) => Err(NodeStop::AirWrite),
     }
 }
 
-/// Says the replies to a packet, if there are any.
-fn say<A: Air>(replies: &Replies, air: &mut A) -> Result<(), AirDown>
-    ensures ok { OnOk result (Gains (A.said air.old) (A.said air.new) replies.now.items) }
-    ensures err { OnErr result (GainsPrefix (A.said air.old) (A.said air.new) replies.now.items) }
+/// Says LOGIN_RESP with this moment.
+fn greet<A: Air>(moment: u32, air: &mut A) -> Result<(), NodeStop>
+    ensures said { SaysText A.said air.old air.new (packet_text (greeting moment)) result }
     ensures heard { A.heard air.new ≡ A.heard air.old }
-    ensures write_faults { HasCause (A.write_faults air.old) (A.write_faults air.new) result }
-    ensures read_faults { A.read_faults air.new ≡ A.read_faults air.old }
+    ensures counts { HasAirCause A.read_faults A.write_faults air.old air.new result }
 {
-    if replies.is_empty() {
-        return Ok(());
+    let mut text = Replies::new();
+    write_greeting(moment, &mut text);
+    say(text.as_slice(), air)
+}
+
+/// What serves one session: the reader of its packets, its state, and the store. It must be ended, which parks the session's
+/// upload. Contracts see it as a `ServerState`.
+pub(crate) struct SessionServer {
+    reader: PacketReader,
+    session: Session,
+    store: FileStore,
+}
+
+impl Model for SessionServer {
+    ghost use Rattle.pacsat_cli.specs.ServerState.{ServerState};
+
+    ghost Value = { ServerState };
+
+    ghost use Rattle.pacsat_cli.specs.Server.{IsServer, server_state};
+
+    ghost view = { server_state };
+
+    ghost invariant = { IsServer };
+}
+
+impl SessionServer {
+    /// Before the first packet, over a fresh store. Takes no memory yet.
+    fn new(alloc: Global, terms: &SessionTerms) -> SessionServer
+        requires some { 1 ≤ terms.now.limits.blocks }
+        requires most { terms.now.limits.blocks ≤ 65536 }
+        ensures { result ≡ new_server terms.now.caller terms.now.limits.blocks }
+    {
+        SessionServer {
+            reader: PacketReader::new(),
+            session: Session::new(terms.caller),
+            store: FileStore::plain(alloc, terms.limits),
+        }
     }
-    air.put(replies.as_slice())
+
+    /// Ends the session. Takes no memory.
+    fn end(self) {
+        let SessionServer {
+            reader: _,
+            session,
+            mut store,
+        } = self;
+        session.end(&mut store);
+    }
+
+    /// Says LOGIN_RESP and takes turns up to the end of the air.
+    fn serve<A: Air, C: Clock>(
+        &mut self,
+        air: &mut A,
+        clock: &mut C,
+        terms: &SessionTerms,
+    ) -> Result<Served, NodeStop>
+        requires { self.old ≡ new_server terms.now.caller terms.now.limits.blocks }
+        ensures served { SessionServed A.heard A.said C.given air.old air.new clock.old clock.new terms.now result }
+        ensures clock { IsSome terms.now.moment → clock.new ≡ clock.old }
+        ensures counts { HasAirCause A.read_faults A.write_faults air.old air.new result }
+    {
+        // Whatever is heard is a stream of packets.
+        stream_law();
+        let first = moment_of(terms.moment, clock);
+        greet(first, air)?;
+        self.listen(air, clock, first, terms)
+    }
+
+    /// Takes turns up to the end of the air. The first turn's moment was taken already, and LOGIN_RESP said.
+    fn listen<A: Air, C: Clock>(
+        &mut self,
+        air: &mut A,
+        clock: &mut C,
+        first: u32,
+        terms: &SessionTerms,
+    ) -> Result<Served, NodeStop>
+        requires { self.old ≡ new_server terms.now.caller terms.now.limits.blocks }
+        ensures listened { ListenedBy A.heard A.said C.given air.old air.new clock.old clock.new first terms.now result }
+        ensures clock { IsSome terms.now.moment → clock.new ≡ clock.old }
+        ensures counts { HasAirCause A.read_faults A.write_faults air.old air.new result }
+    {
+        // Whatever is heard is a stream of packets.
+        stream_law();
+        let mut room = [0; ROOM];
+        for turn in 0..terms.polls {
+            let moment = moment_of_turn(turn, first, terms.moment, clock);
+            if let Polled::End = self.take_turn(air, &mut room, moment)? {
+                return Ok(Served { turns: turn + 1 });
+            }
+        }
+        Err(NodeStop::Spent)
+    }
+
+    /// Takes one turn: a poll, and the replies to the packets that it finishes, all at this moment.
+    fn take_turn<A: Air>(
+        &mut self,
+        air: &mut A,
+        room: &mut [u8; ROOM],
+        moment: u32,
+    ) -> Result<Polled, NodeStop>
+        ensures turn { TakesTurn A.heard A.said air.old air.new moment self.old self.new result }
+        ensures counts { HasAirCause A.read_faults A.write_faults air.old air.new result }
+    {
+        // Whatever is heard is a stream of packets, and no packet is whole of what was heard before.
+        stream_law();
+        let _ = &self.reader;
+        match air.poll(room) {
+            Ok(Polled::Bytes(count)) => {
+                self.hear(&room[..count], air, moment)?;
+                Ok(Polled::Bytes(count))
+            }
+            Ok(Polled::Quiet) => Ok(Polled::Quiet),
+            Ok(Polled::End) => Ok(Polled::End),
+            Err(_down) => Err(NodeStop::AirRead),
+        }
+    }
+
+    /// Takes the packets that these octets finish, and says the replies to them.
+    fn hear<A: Air>(&mut self, octets: &[u8], air: &mut A, moment: u32) -> Result<(), NodeStop>
+        ensures serves { ServesOctets A.said air.old air.new moment self.old self.new octets.now result }
+        ensures heard { A.heard air.new ≡ A.heard air.old }
+        ensures counts { HasAirCause A.read_faults A.write_faults air.old air.new result }
+    {
+        // Whatever is heard is a stream of packets, and no packet is whole of what was heard before, or is left.
+        stream_law();
+        let _ = &self.reader;
+        let mut piece = octets;
+        while !piece.is_empty() {
+            let taken = self.feed(piece, air, moment)?;
+            piece = piece.split_at(taken).1;
+        }
+        let _ = &self.reader;
+        Ok(())
+    }
+
+    /// Takes octets up to the end of the packet under way, says the replies to it, and tells how many octets were taken.
+    fn feed<A: Air>(&mut self, piece: &[u8], air: &mut A, moment: u32) -> Result<usize, NodeStop>
+        requires { 0 < length piece.now }
+        ensures fed { FeedsPiece A.said air.old air.new moment self.old self.new piece.now result }
+        ensures heard { A.heard air.new ≡ A.heard air.old }
+        ensures counts { HasAirCause A.read_faults A.write_faults air.old air.new result }
+    {
+        let (taken, fed) = self.reader.feed(piece);
+        if let PacketFed::Whole = fed {
+            answer(
+                &self.reader,
+                &mut self.session,
+                &mut self.store,
+                air,
+                moment,
+            )?;
+        }
+        Ok(taken)
+    }
 }

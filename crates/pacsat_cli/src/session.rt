@@ -15,6 +15,7 @@ use file_store::{AppendRefusal, BeginRefusal, FileStore, OpenUpload, Receipt, Se
 use ftl0_packets::{Malformed, Packet, write_packet};
 use px_base::Call;
 use std::mem;
+use thiserror::Error;
 
 /// Bit 2 of LOGIN_RESP's flags: file headers are in use. Bits 1 and 0 are the version, 0.
 const FLAGS: u8 = 4;
@@ -48,30 +49,26 @@ pub(crate) struct Session {
 }
 
 /// Why a session goes on no further. The packet gave nothing: the session and the store are as they were.
-#[derive(Clone, Copy, Debug, PartialEq, Eq)]
+#[derive(Clone, Copy, Debug, PartialEq, Eq, Error)]
 pub(crate) enum SessionStop {
     /// The packet's row isn't built yet.
+    #[error("a packet of type {kind} asks for what is not built yet")]
     NotBuilt {
         /// The packet's type.
         kind: u8,
     },
     /// There was no memory.
+    #[error("out of memory")]
     OutOfMemory,
 }
 
 impl Session {
-    /// The session of this caller, in the state Command, with the reply to the connection, LOGIN_RESP. Takes no memory.
-    pub(crate) fn new(caller: Call, moment: u32, replies: &mut Replies) -> Session
-        requires { replies.old.items ≡ [] }
+    /// The session of this caller, in the state Command. Takes no memory.
+    pub(crate) fn new(caller: Call) -> Session
         ensures caller { result.caller ≡ caller }
         ensures state { state_of result.phase ≡ in_command }
-        ensures greeting { replies.new.items ≡ packet_text (greeting moment) }
+        ensures held { (store : Store) → IsHeld store result }
     {
-        let greeting = Packet::LoginResp {
-            moment,
-            flags: FLAGS,
-        };
-        put_reply(&greeting, replies);
         Session {
             caller,
             phase: Phase::Command,
@@ -112,6 +109,17 @@ impl Session {
             Phase::Command | Phase::Aborting => {}
         }
     }
+}
+
+/// Writes the reply to the connection, LOGIN_RESP, in place of what the replies hold.
+pub(crate) fn write_greeting(moment: u32, replies: &mut Replies)
+    ensures { replies.new.items ≡ packet_text (greeting moment) }
+{
+    let greeting = Packet::LoginResp {
+        moment,
+        flags: FLAGS,
+    };
+    write_packet(&greeting, replies);
 }
 
 /// What a packet asks of the session, as far as it may have a row of its own.
@@ -235,7 +243,7 @@ fn begin(
                 number: up.number(),
                 offset: 0,
             };
-            put_reply(&go, replies);
+            write_packet(&go, replies);
             (Phase::Receiving(up), Ok(()))
         }
         Err(refusal) => (Phase::Command, Err(stop_of(refusal))),
@@ -286,7 +294,7 @@ fn take_data(up: OpenUpload, octets: &[u8], store: &mut FileStore, replies: &mut
         Ok(up) => (Phase::Receiving(up), Ok(())),
         Err(AppendRefusal::TooMuch(up)) => {
             store.park(up);
-            put_reply(&Packet::UlNakResp(ILL_FORMED), replies);
+            write_packet(&Packet::UlNakResp(ILL_FORMED), replies);
             (Phase::Aborting, Ok(()))
         }
         Err(AppendRefusal::OutOfMemory(up)) => {
@@ -309,11 +317,11 @@ fn take_end(up: OpenUpload, moment: u32, store: &mut FileStore, replies: &mut Re
         }
         Err(SealRefusal::Short(up)) => {
             store.park(up);
-            put_reply(&Packet::UlNakResp(BODY_CHECK), replies);
+            write_packet(&Packet::UlNakResp(BODY_CHECK), replies);
             (Phase::Command, Ok(()))
         }
         Err(SealRefusal::Header { code }) => {
-            put_reply(&Packet::UlNakResp(code), replies);
+            write_packet(&Packet::UlNakResp(code), replies);
             (Phase::Command, Ok(()))
         }
         Err(SealRefusal::OutOfMemory(up)) => {
@@ -344,7 +352,7 @@ fn refuse(kind: u8, replies: &mut Replies) -> Result<(), SessionStop>
     if !matches!(kind, 0 | 1 | UPLOAD_CMD) {
         return Err(SessionStop::NotBuilt { kind });
     }
-    put_reply(&Packet::UlErrorResp(ILL_FORMED), replies);
+    write_packet(&Packet::UlErrorResp(ILL_FORMED), replies);
     Ok(())
 }
 
@@ -354,16 +362,5 @@ fn acknowledge(receipt: Receipt, replies: &mut Replies)
     ensures { replies.new.items ≡ packet_text ul_ack_resp }
 {
     receipt.spend();
-    put_reply(&Packet::UlAckResp, replies);
-}
-
-/// Puts the text of a reply into the empty replies.
-fn put_reply(reply: &Packet<'_>, replies: &mut Replies)
-    requires empty { replies.old.items ≡ [] }
-    requires short { length (packet_text (value_of reply.now)) ≤ 32 }
-    ensures { replies.new.items ≡ packet_text (value_of reply.now) }
-{
-    let mut text = ArrayVec::new();
-    write_packet(reply, &mut text);
-    replies.try_extend_from_slice(text.as_slice()).unwrap();
+    write_packet(&Packet::UlAckResp, replies);
 }

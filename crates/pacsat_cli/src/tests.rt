@@ -1,6 +1,8 @@
-//! Each status as it is shown: its line on the output, and its number.
+//! Each status as it is shown: its line on the output, and its number; and the texts of a session's ends.
 
 use super::*;
+use crate::node::NodeStop;
+use crate::session::SessionStop;
 use px_base::MemoryOut;
 use std::process::Abort;
 use std::test::Fail;
@@ -27,6 +29,32 @@ fn statuses_are_shown(rt: HostRuntime) -> Result<(), Fail> {
         assert!(rt; ended == *status, "{line}");
         assert_eq!(rt; ended.number(), *number);
         assert_eq!(rt; out.shown(), line.as_bytes());
+    }
+    Ok(())
+}
+
+#[test]
+fn stops_have_texts(rt: HostRuntime) -> Result<(), Fail> {
+    for (stop, text) in [
+        (NodeStop::AirRead, "hearing failed"),
+        (NodeStop::AirWrite, "saying failed"),
+        (NodeStop::Spent, "as many polls were made as may be"),
+        (
+            NodeStop::NotBuilt { kind: 8 },
+            "a packet of type 8 asks for what is not built yet",
+        ),
+        (NodeStop::OutOfMemory, "out of memory"),
+    ] {
+        assert_eq!(rt; stop.to_string(rt.alloc())?.as_str(), text);
+    }
+    for (stop, text) in [
+        (
+            SessionStop::NotBuilt { kind: 16 },
+            "a packet of type 16 asks for what is not built yet",
+        ),
+        (SessionStop::OutOfMemory, "out of memory"),
+    ] {
+        assert_eq!(rt; stop.to_string(rt.alloc())?.as_str(), text);
     }
     Ok(())
 }

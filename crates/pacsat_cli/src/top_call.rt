@@ -1,21 +1,16 @@
 //! The top call.
 
-ghost use Rattle.std.specs.List.{AllByRecursion};
-ghost use Rattle.std.specs.Prelude.{◌≡◌, ◌⊎◌, ◌<◌, ◌≤◌, ℕ, List, Option, None, Some, IsSome, Result, length, false, true};
-ghost use Rattle.px_base.specs.CallSign.{CallSign};
+ghost use Rattle.std.specs.Prelude.{◌≡◌, ◌≤◌, [], ◌∷◌, IsSome};
+ghost use Rattle.command_words.specs.Laws.{AsksFrames, AsksSession};
+ghost use Rattle.command_words.specs.Words.{IsUnbuilt, IsUsage, NamesBuilt};
 ghost use Rattle.px_base.specs.Outside.{Rose};
-ghost use Rattle.command_words.specs.Words.{IsFrames, IsSession, IsUnbuilt, IsUsage};
-ghost use Rattle.pacsat_cli.specs.Frames.{FramesPlayed, FramesRan, HasContent, IsUnlessShelfDown, is_unshown, most_recorded};
-ghost use Rattle.pacsat_cli.specs.declared.node.NodeStop.{NodeStop};
-ghost use Rattle.pacsat_cli.specs.declared.node.Served.{Served};
-ghost use Rattle.pacsat_cli.specs.Node.{IsOpen};
-ghost use Rattle.pacsat_cli.specs.Played.{IsUnlessNoMemory, IsUnlessUnread, SessionPlayed};
-ghost use Rattle.pacsat_cli.specs.Run.{HasEnd, IsUnlessDown, SessionHeard, Shows, heard_unbuilt, most_polls};
+ghost use Rattle.pacsat_cli.specs.Frames.{IsNoSuchBy, IsShownBy, IsTooLongBy, RunsFrames, WhereHeld};
+ghost use Rattle.pacsat_cli.specs.Run.{AreRefused, AsksMoment, HasShelfCause, HasStatusCause, IsDoneAtEnd, IsDoneBy, IsNotBuiltBy, IsSpentBy, IsUnless, RunsSession, SessionEnded, Shows, WhereHeard};
 ghost use Rattle.pacsat_cli.specs.Status.{line_of};
-ghost use Rattle.pacsat_cli.specs.Stops.{status_of as status_of_node};
+ghost use Rattle.pacsat_cli.specs.Stops.{status_of as status_of_session, status_of_refusal};
 
-use crate::frames::frames;
-use crate::node::{self, NodeStop};
+use crate::frames::run_frames;
+use crate::node::{NodeStop, Served, SessionTerms, serve_session};
 use crate::{Status, Words};
 use command_words::laws::one_meaning;
 use command_words::{Refusal, Request, SessionRequest};
@@ -46,132 +41,116 @@ pub fn run<A: Air, S: Shelf, O: Out, C: Clock>(
     // Usage comes exactly by the words, and words that ask for what isn't built yet give NotBuilt, both but for want of
     // memory to read the words of a command that is built; then nothing is touched. What the shelf holds always stays.
     ensures usage { result ≡ Status.Usage → IsUsage words.now }
-    ensures usage_told { IsUsage words.now → IsUnlessUnread words.now result Status.Usage }
-    ensures unbuilt_words { IsUnbuilt words.now → IsUnlessUnread words.now result Status.NotBuilt }
-    ensures untouched { (IsUsage words.now ⊎ IsUnbuilt words.now) → (air.new ≡ air.old) × (shelf.new ≡ shelf.old) × (clock.new ≡ clock.old) }
+    ensures usage_told { IsUsage words.now → IsUnless result Status.Usage (Status.OutOfMemory ∷ []) }
+    ensures unbuilt_words { IsUnbuilt words.now → IsUnless result Status.NotBuilt (Status.OutOfMemory ∷ []) }
+    ensures unread { AreRefused words.now → result ≡ Status.OutOfMemory → NamesBuilt words.now }
+    ensures untouched { AreRefused words.now → (air.new ≡ air.old) × (shelf.new ≡ shelf.old) × (clock.new ≡ clock.old) }
     ensures held { S.held shelf.new ≡ S.held shelf.old }
 
     // A session says the replies of its table for the packets of the octets heard, LOGIN_RESP first, and ends with a
-    // status that has its cause; or there was no memory to read the words, and nothing was touched.
-    ensures session { (caller : CallSign) (moment : Option ℕ) → IsSession words.now caller moment → ((result ≡ Status.OutOfMemory) × (air.new ≡ air.old) × (clock.new ≡ clock.old))
-        ⊎ SessionPlayed caller moment (A.heard air.old) (A.heard air.new) (A.said air.old) (A.said air.new) (C.given clock.old) (C.given clock.new) result }
-    ensures session_alone { (caller : CallSign) (moment : Option ℕ) → IsSession words.now caller moment → shelf.new ≡ shelf.old }
-    ensures clock_unasked { (caller : CallSign) (moment : ℕ) → IsSession words.now caller (Some moment) → clock.new ≡ clock.old }
+    // status that has its cause; or there was no memory to read the words. With a moment given the clock isn't asked.
+    ensures session { RunsSession words.now A.heard A.said C.given air.old air.new clock.old clock.new result }
+    ensures session_alone { AsksSession words.now → shelf.new ≡ shelf.old }
+    ensures clock_unasked { AsksMoment words.now → clock.new ≡ clock.old }
 
-    // A fault of the air is answered only where its count rose.
-    ensures air_read { result ≡ Status.AirRead → Rose (A.read_faults air.old) (A.read_faults air.new) }
-    ensures air_write { result ≡ Status.AirWrite → Rose (A.write_faults air.old) (A.write_faults air.new) }
-
-    // Where nothing failed, the end was heard and each packet's row is built, the run is done. Where a packet's row isn't
-    // built, or all polls were made and none was the end or failed, only want of memory or a fault of saying comes before.
-    ensures complete { (heard : SessionHeard words.now (A.heard air.old) (A.heard air.new) (C.given clock.old) (C.given clock.new)) →
-        (Rose (A.read_faults air.old) (A.read_faults air.new) → ⊥) → (Rose (A.write_faults air.old) (A.write_faults air.new) → ⊥) →
-        HasEnd heard.turns → heard_unbuilt heard ≡ false → result ≡ Status.Done }
-    ensures not_built { (heard : SessionHeard words.now (A.heard air.old) (A.heard air.new) (C.given clock.old) (C.given clock.new)) →
-        heard_unbuilt heard ≡ true → IsUnlessDown result Status.NotBuilt }
-    ensures spent { (heard : SessionHeard words.now (A.heard air.old) (A.heard air.new) (C.given clock.old) (C.given clock.new)) →
-        AllByRecursion IsOpen heard.turns → length heard.turns ≡ most_polls → heard_unbuilt heard ≡ false → IsUnlessDown result Status.Spent }
+    // Where the end of the air was heard, the run is done. Where a packet's row isn't built, or all polls were made and none
+    // was the end or failed, only want of memory or a fault of saying comes before.
+    ensures complete { WhereHeard words.now A.heard C.given air.old air.new clock.old clock.new (IsDoneBy result) }
+    ensures not_built { WhereHeard words.now A.heard C.given air.old air.new clock.old clock.new (IsNotBuiltBy result) }
+    ensures spent { WhereHeard words.now A.heard C.given air.old air.new clock.old clock.new (IsSpentBy result) }
 
     // `frames` shows the text of what the shelf has under the name, then the status's line, and ends with a status that
     // has its cause; neither air nor clock is touched.
-    ensures frames { (name : List ℕ) → IsFrames words.now name → FramesRan (S.held shelf.old) name (O.shown out.old) (O.shown out.new) (O.faults out.old) (O.faults out.new) result }
-    ensures frames_alone { (name : List ℕ) → IsFrames words.now name → (air.new ≡ air.old) × (clock.new ≡ clock.old) }
-
-    // A fault of the shelf or of the output is answered only where its count rose.
-    ensures shelf { result ≡ Status.Shelf → Rose (S.faults shelf.old) (S.faults shelf.new) }
-    ensures out { result ≡ Status.Out → Rose (O.faults out.old) (O.faults out.new) }
+    ensures frames { RunsFrames words.now S.held O.shown O.faults shelf.old out.old out.new result }
+    ensures frames_alone { AsksFrames words.now → (air.new ≡ air.old) × (clock.new ≡ clock.old) }
 
     // No content of the name, content that is too long, and content that may be shown, each by its status.
-    ensures no_such { (name : List ℕ) → IsFrames words.now name → HasContent (S.held shelf.old) name (λ content. content ≡ None) → IsUnlessShelfDown result Status.NoSuch }
-    ensures too_long { (name : List ℕ) → IsFrames words.now name → HasContent (S.held shelf.old) name (λ content. (octets : List ℕ) × (content ≡ Some octets) × (most_recorded < length octets))
-        → IsUnlessShelfDown result Status.TooLong }
-    ensures frames_done { (name : List ℕ) → IsFrames words.now name → HasContent (S.held shelf.old) name (λ content. (octets : List ℕ) × (content ≡ Some octets) × (length octets ≤ most_recorded))
-        → (Rose (S.faults shelf.old) (S.faults shelf.new) → ⊥) → (Rose (O.faults out.old) (O.faults out.new) → ⊥) → IsUnlessNoMemory result Status.Done }
+    ensures no_such { WhereHeld words.now (S.held shelf.old) (IsNoSuchBy result) }
+    ensures too_long { WhereHeld words.now (S.held shelf.old) (IsTooLongBy result) }
+    ensures frames_done { WhereHeld words.now (S.held shelf.old) (IsShownBy result) }
+
+    // A fault is answered only where its count rose; and where it isn't answered, its count stayed, but for the status's
+    // line, and for a shelf that finds no memory.
+    ensures air_read { HasStatusCause Status.AirRead (A.read_faults air.old) (A.read_faults air.new) result }
+    ensures air_write { HasStatusCause Status.AirWrite (A.write_faults air.old) (A.write_faults air.new) result }
+    ensures shelf { HasShelfCause (S.faults shelf.old) (S.faults shelf.new) result }
+    ensures out { result ≡ Status.Out → Rose (O.faults out.old) (O.faults out.new) }
+
+    // Done says that no count rose, whatever is told, and of a session that the end of the air was read.
+    ensures session_done { IsDoneAtEnd words.now A.heard A.read_faults A.write_faults air.old air.new result }
+    ensures done { result ≡ Status.Done → (S.faults shelf.new ≡ S.faults shelf.old) × (O.faults out.new ≡ O.faults out.old) }
 
     // But for `frames` the status's line alone is shown, or the output's count of faults rose.
-    ensures done { result ≡ Status.Done → ((name : List ℕ) → IsFrames words.now name → ⊥) → out.new ≡ out.old }
-    ensures shown { ((name : List ℕ) → IsFrames words.now name → ⊥) → Shows (O.shown out.old) (O.shown out.new) (O.faults out.old) (O.faults out.new) (line_of result) }
+    ensures unshown { result ≡ Status.Done → (AsksFrames words.now → ⊥) → out.new ≡ out.old }
+    ensures shown { (AsksFrames words.now → ⊥) → Shows O.shown O.faults out.old out.new (line_of result) }
 {
     // Whatever is heard is one stream of packets, and the words ask for one thing.
     stream_law();
     one_meaning();
-    let status = play(alloc, words, air, shelf, out, clock);
-    end_with(status, out)
+    match command_words::read(alloc, words) {
+        Ok(Request::Session(request)) => {
+            let status = run_session(alloc, air, clock, request);
+            show_line(status, out);
+            status
+        }
+        Ok(Request::Frames { name }) => {
+            let status = run_frames(alloc, name, shelf, out);
+            show_line(status, out);
+            status
+        }
+        Err(refusal) => {
+            let status = status_of_refused(refusal);
+            show_line(status, out);
+            status
+        }
+    }
 }
 
 /// Ends a run with this status: shows its line, if it has one. Where that line can't be shown the status stays.
 pub fn end_with<O: Out>(status: Status, out: &mut O) -> Status
     ensures status { result ≡ status }
     ensures done { status ≡ Status.Done → out.new ≡ out.old }
-    ensures shown { Shows (O.shown out.old) (O.shown out.new) (O.faults out.old) (O.faults out.new) (line_of status) }
+    ensures shown { Shows O.shown O.faults out.old out.new (line_of status) }
+{
+    show_line(status, out);
+    status
+}
+
+/// Shows the status's line, if it has one, or passes over that it can't be shown.
+fn show_line<O: Out>(status: Status, out: &mut O)
+    ensures done { status ≡ Status.Done → out.new ≡ out.old }
+    ensures shown { Shows O.shown O.faults out.old out.new (line_of status) }
     ensures no_fewer_faults { O.faults out.old ≤ O.faults out.new }
 {
     if status != Status::Done {
         let _ = out.put(status.line().as_bytes());
     }
-    status
 }
 
-/// Does what the words ask for, but for the status's line.
-fn play<A: Air, S: Shelf, O: Out, C: Clock>(
-    alloc: Global,
-    words: &Words,
-    air: &mut A,
-    shelf: &mut S,
-    out: &mut O,
-    clock: &mut C,
-) -> Status
-    ensures usage { result ≡ Status.Usage → IsUsage words.now }
-    ensures usage_told { IsUsage words.now → IsUnlessUnread words.now result Status.Usage }
-    ensures unbuilt_words { IsUnbuilt words.now → IsUnlessUnread words.now result Status.NotBuilt }
-    ensures untouched { (IsUsage words.now ⊎ IsUnbuilt words.now) → (air.new ≡ air.old) × (shelf.new ≡ shelf.old) × (clock.new ≡ clock.old) }
-    ensures held { S.held shelf.new ≡ S.held shelf.old }
-    ensures session { (caller : CallSign) (moment : Option ℕ) → IsSession words.now caller moment → ((result ≡ Status.OutOfMemory) × (air.new ≡ air.old) × (clock.new ≡ clock.old))
-        ⊎ SessionPlayed caller moment (A.heard air.old) (A.heard air.new) (A.said air.old) (A.said air.new) (C.given clock.old) (C.given clock.new) result }
-    ensures session_alone { (caller : CallSign) (moment : Option ℕ) → IsSession words.now caller moment → shelf.new ≡ shelf.old }
-    ensures clock_unasked { (caller : CallSign) (moment : ℕ) → IsSession words.now caller (Some moment) → clock.new ≡ clock.old }
-    ensures air_read { result ≡ Status.AirRead → Rose (A.read_faults air.old) (A.read_faults air.new) }
-    ensures air_write { result ≡ Status.AirWrite → Rose (A.write_faults air.old) (A.write_faults air.new) }
-    ensures frames { (name : List ℕ) → IsFrames words.now name → FramesPlayed (S.held shelf.old) name (O.shown out.old) (O.shown out.new) result }
-    ensures frames_alone { (name : List ℕ) → IsFrames words.now name → (air.new ≡ air.old) × (clock.new ≡ clock.old) }
-    ensures shelf { result ≡ Status.Shelf → Rose (S.faults shelf.old) (S.faults shelf.new) }
-    ensures out { result ≡ Status.Out → Rose (O.faults out.old) (O.faults out.new) }
-    ensures no_fewer_faults { O.faults out.old ≤ O.faults out.new }
-    ensures unshown { is_unshown result ≡ true → out.new ≡ out.old }
-    ensures others { ((name : List ℕ) → IsFrames words.now name → ⊥) → out.new ≡ out.old }
-{
-    // The words ask for one thing.
-    one_meaning();
-    match command_words::read(alloc, words.as_slice()) {
-        Ok(Request::Session(request)) => session(alloc, air, clock, request),
-        Ok(Request::Frames { name }) => frames(alloc, name, shelf, out),
-        Err(Refusal::Usage) => Status::Usage,
-        Err(Refusal::NotBuilt) => Status::NotBuilt,
-        Err(Refusal::OutOfMemory) => Status::OutOfMemory,
-    }
-}
-
-/// Plays the session that is asked for.
-fn session<A: Air, C: Clock>(
+/// Serves the session that is asked for.
+fn run_session<A: Air, C: Clock>(
     alloc: Global,
     air: &mut A,
     clock: &mut C,
     request: SessionRequest,
 ) -> Status
-    ensures played { SessionPlayed request.caller request.moment (A.heard air.old) (A.heard air.new) (A.said air.old) (A.said air.new) (C.given clock.old) (C.given clock.new) result }
+    ensures ended { SessionEnded A.heard A.said C.given air.old air.new clock.old clock.new request.caller request.moment result }
     ensures clock { IsSome request.moment → clock.new ≡ clock.old }
-    ensures air_read { result ≡ Status.AirRead → Rose (A.read_faults air.old) (A.read_faults air.new) }
-    ensures air_write { result ≡ Status.AirWrite → Rose (A.write_faults air.old) (A.write_faults air.new) }
-    ensures node { (ended : Result Served NodeStop) × (result ≡ status_of_node ended) }
+    ensures air_read { HasStatusCause Status.AirRead (A.read_faults air.old) (A.read_faults air.new) result }
+    ensures air_write { HasStatusCause Status.AirWrite (A.write_faults air.old) (A.write_faults air.new) result }
 {
-    let limits = Limits { blocks: BLOCKS };
-    let (caller, moment) = (request.caller, request.moment);
-    status_of(&node::session(alloc, air, clock, caller, moment, limits, POLLS))
+    let terms = SessionTerms {
+        caller: request.caller,
+        moment: request.moment,
+        limits: Limits { blocks: BLOCKS },
+        polls: POLLS,
+    };
+    status_of_ended(serve_session(alloc, air, clock, &terms))
 }
 
-/// The status that a node's run ends with.
-fn status_of(ended: &Result<node::Served, NodeStop>) -> Status
-    ensures { result ≡ status_of_node ended.now }
+/// The status of a session that ended so.
+fn status_of_ended(ended: Result<Served, NodeStop>) -> Status
+    ensures { result ≡ status_of_session ended }
 {
     match ended {
         Ok(_) => Status::Done,
@@ -180,5 +159,16 @@ fn status_of(ended: &Result<node::Served, NodeStop>) -> Status
         Err(NodeStop::Spent) => Status::Spent,
         Err(NodeStop::NotBuilt { .. }) => Status::NotBuilt,
         Err(NodeStop::OutOfMemory) => Status::OutOfMemory,
+    }
+}
+
+/// The status of words that were refused.
+fn status_of_refused(refusal: Refusal) -> Status
+    ensures { result ≡ status_of_refusal refusal }
+{
+    match refusal {
+        Refusal::Usage => Status::Usage,
+        Refusal::NotBuilt => Status::NotBuilt,
+        Refusal::OutOfMemory => Status::OutOfMemory,
     }
 }

@@ -2,12 +2,13 @@
 use Rattle.std.proofs.Common.{◌≡◌, ℕ, zero, suc, ◌+◌, ◌-◌, ◌≤◌, ◌<◌, Bool, true, false, cond, List, [], ◌∷◌, ◌++◌, length, take, drop, replicate, filter, refl, sym, ap, ◌∙◌, subst, inl, inr, arith, append_assoc, append-nil, length-drop, take-append-drop, length-take-le}
 use Rattle.std.specs.Prelude.{IsTrue, ◌==◌, if◌then◌else◌}
 use Rattle.std.specs.List.{AllByRecursion, prefix_len}
+use Rattle.std.specs.Str.{IsAscii}
 use Rattle.std.proofs.lemmas.Bool.Decides.{nat_tests}
 use Rattle.std.proofs.lemmas.Grind.{common_steps}
 use Rattle.std.proofs.lemmas.List.{take-take, drop-take}
 use Rattle.std.proofs.lemmas.List.Elements.{All-from_recursion, recursion_from_All, filter-append}
 use Rattle.px_base.proofs.Ssid.{one_ssid}
-use Rattle.px_base.specs.CallSign.{CallSign, IsCall, IsBase, CallText, BeginsCall, FailsAt, SsidText, BeginsSsid, ReachesInSsid, base_length, is_call_char, is_no_blank, call_text, padded, ssid_digits}
+use Rattle.px_base.specs.CallSign.{CallSign, IsCall, IsBase, CallText, BeginsCall, FailsAt, SsidText, BeginsSsid, ReachesInSsid, IsSpelled, base_length, is_call_char, is_no_blank, call_text, padded, ssid_digits, ssid_text}
 
 -- each of these characters may stand in a call
 abbrev AllChars : List ℕ → Type 0
@@ -270,25 +271,56 @@ base_of_padded base h =
     ∙ append-nil (filter is_no_blank base) ∙ no_blank_base base h
 
 -- what is written of an SSID
-ssid_written : (n : ℕ) → n ≤ 15 → SsidText n (if n == 0 then [] else 45 ∷ ssid_digits n)
+ssid_written : (n : ℕ) → n ≤ 15 → SsidText n (ssid_text n)
 ssid_written zero h = (h, inr (refl, refl))
 ssid_written (suc n) h = let e : (suc n == 0) ≡ false = grind (arith, nat_tests) in (h, inl (ap (λ b. if b then [] else 45 ∷ ssid_digits (suc n)) e))
 
-pub text_written : (call : CallSign) (base text : List ℕ) → base ≡ filter is_no_blank call.chars → (call.ssid ≡ 0 → text ≡ base)
-    → (1 ≤ call.ssid → text ≡ base ++ 45 ∷ ssid_digits call.ssid) → text ≡ call_text call
-text_written call base text e none more =
-    by_ssid call.ssid none more ∙ ap (λ t. t ++ (if call.ssid == 0 then [] else 45 ∷ ssid_digits call.ssid)) e
+-- the blanks of the padding end what no blank is in
+no_blank_run : (base : List ℕ) (n : ℕ) → AllChars base → prefix_len is_no_blank (base ++ replicate n 32) ≡ length base
+no_blank_run [] zero h = refl
+no_blank_run [] (suc n) h = refl
+no_blank_run (c ∷ base) n h =
+    let e = no_blank_run base n h.1 in
+    let yes : is_no_blank c ≡ true = char_no_blank c h.0 in
+    ap (λ b. cond b (1 + prefix_len is_no_blank (base ++ replicate n 32)) 0) yes ∙ ap (λ k. 1 + k) e ∙ omega arith
+
+-- the characters before the first blank are those that are no blank
+pub front_is_base : (chars : List ℕ) → IsSpelled chars → take (prefix_len is_no_blank chars) chars ≡ filter is_no_blank chars
+front_is_base chars (base, is_base, spelled) =
+    let all = recursion_from_All _ base is_base.2 in
+    let n = 6 - length base in
+    let run : prefix_len is_no_blank chars ≡ length base = ap (prefix_len is_no_blank) spelled ∙ no_blank_run base n all in
+    let front : take (length base) chars ≡ base = ap (take (length base)) spelled ∙ take_front base (replicate n 32) in
+    let none : filter is_no_blank chars ≡ base = ap (filter is_no_blank) spelled ∙ base_of_padded base all in
+    ap (λ k. take k chars) run ∙ front ∙ sym none
+
+-- they are ASCII
+pub front_is_ascii : (chars : List ℕ) → IsSpelled chars → IsAscii (take (prefix_len is_no_blank chars) chars)
+front_is_ascii chars (base, is_base, spelled) =
+    let all = recursion_from_All _ base is_base.2 in
+    let same = front_is_base chars (base, is_base, spelled) ∙ ap (filter is_no_blank) spelled ∙ base_of_padded base all in
+    subst IsAscii (sym same) (base_is_ascii base all)
   where
-    by_ssid : (n : ℕ) → (n ≡ 0 → text ≡ base) → (1 ≤ n → text ≡ base ++ 45 ∷ ssid_digits n) → text ≡ base ++ (if n == 0 then [] else 45 ∷ ssid_digits n)
-    by_ssid zero none more = none refl ∙ sym (append-nil base)
-    by_ssid (suc n) none more =
-        let no : (suc n == 0) ≡ false = grind (arith, nat_tests) in
-        more (omega arith) ∙ sym (ap (λ b. base ++ (if b then [] else 45 ∷ ssid_digits (suc n))) no)
+    char_is_ascii : (c : ℕ) → IsTrue (is_call_char c) → c < 128
+    char_is_ascii c h = grind (arith, nat_tests)
+
+    base_is_ascii : (base : List ℕ) → AllChars base → IsAscii base
+    base_is_ascii [] h i = omega arith
+    base_is_ascii (c ∷ base) h zero = char_is_ascii c h.0
+    base_is_ascii (c ∷ base) h (suc i) = base_is_ascii base h.1 i
+
+-- the characters and then the SSID are the text
+pub text_written :
+    (call : CallSign) (none base first ssid text : List ℕ) → none ≡ [] → base ≡ filter is_no_blank call.chars → first ≡ none ++ base
+    → ssid ≡ ssid_text call.ssid → text ≡ first ++ ssid → text ≡ call_text call
+text_written call none base first ssid text nothing chars then_base number then_ssid =
+    then_ssid ∙ ap (λ (t : List ℕ). t ++ ssid) (then_base ∙ ap (λ (t : List ℕ). t ++ base) nothing ∙ chars)
+    ∙ ap (λ (t : List ℕ). filter is_no_blank call.chars ++ t) number
 
 -- the text of a valid call is a text of it
 pub call_text_is : (call : CallSign) → IsCall call → CallText call (call_text call)
 call_text_is call valid =
     let (base, is_base, spelled) = valid.spelled in
     let e : filter is_no_blank call.chars ≡ base = ap (filter is_no_blank) spelled ∙ base_of_padded base (recursion_from_All _ base is_base.2) in
-    let tail = (if call.ssid == 0 then [] else 45 ∷ ssid_digits call.ssid) in
+    let tail = ssid_text call.ssid in
     subst (CallText call) (ap (λ t. t ++ tail) (sym e)) (call_of call base tail is_base spelled (ssid_written call.ssid valid.in_range))

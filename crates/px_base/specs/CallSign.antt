@@ -20,9 +20,13 @@ IsBase base = (1 ≤ length base) × (length base ≤ 6) × All (λ c. IsTrue (i
 abbrev pub padded : List ℕ → List ℕ
 padded base = base ++ replicate (6 - length base) 32
 
+-- these are the characters of a call
+abbrev pub IsSpelled : List ℕ → Type 0
+IsSpelled chars = (base : List ℕ) × IsBase base × (chars ≡ padded base)
+
 -- a valid call
 pub record IsCall (call : CallSign) : Type 0 where
-  pub spelled : (base : List ℕ) × IsBase base × (call.chars ≡ padded base)
+  pub spelled : IsSpelled call.chars
   pub in_range : call.ssid ≤ 15
 
 -- a number from 0 to 15 in decimal digits, without a leading zero
@@ -56,10 +60,13 @@ OneCall =
 abbrev pub is_no_blank : ℕ → Bool
 is_no_blank c = not (c == 32)
 
+-- a hyphen and the SSID, or nothing where it is 0
+abbrev pub ssid_text : ℕ → List ℕ
+ssid_text ssid = if ssid == 0 then [] else 45 ∷ ssid_digits ssid
+
 -- the text of a call in which an SSID of 0 is left out
 abbrev pub call_text : CallSign → List ℕ
-call_text call =
-    filter is_no_blank call.chars ++ (if call.ssid == 0 then [] else 45 ∷ ssid_digits call.ssid)
+call_text call = filter is_no_blank call.chars ++ ssid_text call.ssid
 
 -- how many letters and digits a text begins with, at most six
 abbrev pub base_length : List ℕ → ℕ

@@ -1,9 +1,13 @@
 pub mod CallSign
+pub mod Counter
+pub mod Folder
 pub mod Forms
 pub mod Moments
 pub mod Numbers
+pub mod Octets
 pub mod Outside
 pub mod Polling
 pub mod ShelfForms
 pub mod Shelves
 pub mod Streams
+pub mod Views

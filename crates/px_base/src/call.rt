@@ -1,11 +1,12 @@
 //! Calls of stations (AX.25 2.0, 2.2.13).
 
-ghost use Rattle.std.specs.Prelude.{◌≡◌, ℕ, ◌≤◌, [], ◌∷◌, ◌++◌, length, filter, All, IfOk, IfErr, IfSome, IfNone};
-ghost use Rattle.px_base.specs.CallSign.{CallText, FailsAt, ReachesInSsid, SsidText, base_length as length_of_base, call_text, is_call_char as is_char_of_call, is_no_blank, padded as padded_base, ssid_digits};
+ghost use Rattle.std.specs.Prelude.{◌≡◌, ℕ, ◌≤◌, length, filter, IfOk, IfErr, IfSome, IfNone};
+ghost use Rattle.std.specs.List.{prefix_len};
+ghost use Rattle.px_base.specs.CallSign.{CallText, FailsAt, IsSpelled, ReachesInSsid, SsidText, base_length as length_of_base, call_text, is_call_char as is_char_of_call, is_no_blank, padded as padded_base, ssid_text as text_of_ssid};
 
 use arrayvec::ArrayString;
-use std::fmt;
 use std::marker::Model;
+use std::{fmt, str};
 use thiserror::Error;
 
 /// The call of a station: its characters and its secondary station identifier.
@@ -67,8 +68,8 @@ impl Call {
         ensures call { CallText self.now result.bytes }
     {
         let mut text = ArrayString::new();
-        push_base(&mut text, &self.chars);
-        push_ssid(&mut text, self.ssid);
+        text.push_str(base_text(&self.chars));
+        text.push_str(ssid_text(self.ssid));
         text
     }
 }
@@ -136,33 +137,48 @@ fn reach_in_ssid(text: &[u8]) -> usize
     }
 }
 
-/// Writes the characters of a call without their padding.
-fn push_base(text: &mut ArrayString<9>, chars: &[u8; 6])
-    requires empty { text.old.bytes ≡ [] }
-    requires ascii { All (λ c. c ≤ 127) chars.now }
-    ensures base { text.new.bytes ≡ filter is_no_blank chars.now }
-    ensures fits { length text.new.bytes ≤ 6 }
+/// The characters of a call without their padding.
+fn base_text(chars: &[u8; 6]) -> &str
+    requires { IsSpelled chars.now }
+    ensures base { result.now ≡ filter is_no_blank chars.now }
+    ensures fits { length result.now ≤ 6 }
 {
-    for c in chars {
-        if *c != b' ' {
-            text.push(char::from(*c));
-        }
+    match str::from_utf8(&chars[..unpadded_length(chars)]) {
+        Ok(text) => text,
+        Err(_) => "",
     }
 }
 
-/// Writes a hyphen and the SSID, or nothing where it is 0.
-fn push_ssid(text: &mut ArrayString<9>, ssid: u8)
-    requires fits { length text.old.bytes ≤ 6 }
-    requires in_range { ssid ≤ 15 }
-    ensures zero { ssid ≡ 0 → text.new.bytes ≡ text.old.bytes }
-    ensures other { 1 ≤ ssid → text.new.bytes ≡ text.old.bytes ++ 45 ∷ ssid_digits ssid }
+/// How many characters there are before the first blank.
+fn unpadded_length(chars: &[u8; 6]) -> usize
+    ensures value { result ≡ prefix_len is_no_blank chars.now }
+    ensures within { result ≤ 6 }
 {
-    if ssid == 0 {
-        return;
+    chars.iter().take_while(|c| **c != b' ').count()
+}
+
+/// A hyphen and the SSID, or nothing where it is 0.
+fn ssid_text(ssid: u8) -> &'static str
+    requires { ssid ≤ 15 }
+    ensures ssid { result.now ≡ text_of_ssid ssid }
+    ensures fits { length result.now ≤ 3 }
+{
+    match ssid {
+        0 => "",
+        1 => "-1",
+        2 => "-2",
+        3 => "-3",
+        4 => "-4",
+        5 => "-5",
+        6 => "-6",
+        7 => "-7",
+        8 => "-8",
+        9 => "-9",
+        10 => "-10",
+        11 => "-11",
+        12 => "-12",
+        13 => "-13",
+        14 => "-14",
+        _ => "-15",
     }
-    text.push('-');
-    if ssid >= 10 {
-        text.push('1');
-    }
-    text.push(char::from(b'0' + ssid % 10));
 }

@@ -1,8 +1,8 @@
 //! The shelf: contents under names, as files in a folder.
 
-ghost use Rattle.std.specs.Prelude.{◌≡◌, ℕ, ◌≤◌, length, Option, IfOk, OnOk, OnErr};
+ghost use Rattle.std.specs.Prelude.{◌≡◌, ℕ, Option, OnOk, OnErr};
 ghost use Rattle.px_base.specs.Outside.{HasCause};
-ghost use Rattle.px_base.specs.Shelves.{HasLoadCause, Holding, Keeps, KeepsOthers, Loads};
+ghost use Rattle.px_base.specs.Shelves.{HasLoadCause, Holding, IsWithin, Keeps, KeepsOthers, Loads};
 
 use crate::FileBytes;
 use std::alloc::Global;
@@ -44,7 +44,7 @@ pub trait Shelf {
     /// The content of this name, of at most `most` octets. Takes memory. `NoSuch` exactly where the shelf has no such
     /// name, `TooLong` exactly where its content is longer, but for a fault and want of memory. What is held stays.
     fn load(&mut self, alloc: Global, name: &str, most: usize) -> Result<FileBytes, ShelfRefusal>
-        ensures most { IfOk result (λ content. length content ≤ most) }
+        ensures most { IsWithin most result }
         ensures answer { Loads (held self.old) name.now most result }
         ensures held { held self.new ≡ held self.old }
         ensures faults { HasLoadCause (faults self.old) (faults self.new) result };

@@ -1,14 +1,15 @@
 //! The standard streams as an air and as an output. They tell nothing of their content; they count their faults.
 
-ghost use Rattle.std.specs.Prelude.{◌≡◌, None, IfOk, OnOk};
+ghost use Rattle.std.specs.Prelude.{◌≡◌, ◌==◌, ◌↔◌, None, IfOk, IsErr, IsOk, OnErr, OnOk, if◌then◌else◌};
 ghost use Rattle.std.specs.Io.KnownBytes.{Appends};
-ghost use Rattle.px_base.specs.Outside.{HasCause};
+ghost use Rattle.px_base.specs.Outside.{HasCause, counted_after};
 ghost use Rattle.px_base.specs.Polling.{IsPolled, turn_of};
-ghost use Rattle.px_base.specs.Streams.{HearsFrom, counted_after};
+ghost use Rattle.px_base.specs.Streams.{HearsFrom};
 
 use crate::air::{Air, AirDown, Polled};
+use crate::fault_count::FaultCount;
 use crate::out::{Out, OutDown};
-use std::io::{Read, Write};
+use std::io::{self, Read, Write};
 use std::marker::Model;
 
 /// An air over a reader and a writer, as standard input and standard output. It is never quiet, and is closed
@@ -16,9 +17,8 @@ use std::marker::Model;
 #[derive(Drop)]
 pub struct StdAir<R, W> {
     input: R,
-    output: W,
-    read_faults: u64,
-    write_faults: u64,
+    output: StdOut<W>,
+    read_faults: FaultCount,
 }
 
 impl<R, W> Model for StdAir<R, W> {
@@ -26,7 +26,12 @@ impl<R, W> Model for StdAir<R, W> {
 
     ghost Value = { AirStreams R W };
 
-    ghost view = { λ a. record { input = a.input; output = a.output; read_faults = a.read_faults; write_faults = a.write_faults } };
+    ghost view = { λ a. record {
+      input = a.input;
+      output = a.output.output;
+      read_faults = a.read_faults;
+      write_faults = a.output.faults;
+    } };
 }
 
 impl<R: Read, W: Write> StdAir<R, W> {
@@ -36,9 +41,8 @@ impl<R: Read, W: Write> StdAir<R, W> {
     {
         StdAir {
             input,
-            output,
-            read_faults: 0,
-            write_faults: 0,
+            output: StdOut::new(output),
+            read_faults: FaultCount::new(),
         }
     }
 }
@@ -61,14 +65,8 @@ impl<R: Read, W: Write> Air for StdAir<R, W> {
         ensures counted { self.new.read_faults ≡ counted_after result self.old.read_faults }
         ensures output { self.new.output ≡ self.old.output }
     {
-        match self.input.read(room) {
-            Ok(0) => Ok(Polled::End),
-            Ok(count) => Ok(Polled::Bytes(count)),
-            Err(_) => {
-                self.read_faults = self.read_faults.saturating_add(1);
-                Err(AirDown)
-            }
-        }
+        let polled = poll_answer(self.input.read(room));
+        self.read_faults.count_err(polled)
     }
 
     /// Writes all of these octets, and flushes the writer. It fails where either does.
@@ -79,11 +77,7 @@ impl<R: Read, W: Write> Air for StdAir<R, W> {
         ensures counted { self.new.write_faults ≡ counted_after result self.old.write_faults }
         ensures input { self.new.input ≡ self.old.input }
     {
-        if self.output.write_all(bytes).is_err() || self.output.flush().is_err() {
-            self.write_faults = self.write_faults.saturating_add(1);
-            return Err(AirDown);
-        }
-        Ok(())
+        self.output.put(bytes).map_err(|_| AirDown)
     }
 }
 
@@ -91,7 +85,7 @@ impl<R: Read, W: Write> Air for StdAir<R, W> {
 #[derive(Drop)]
 pub struct StdOut<W> {
     output: W,
-    faults: u64,
+    faults: FaultCount,
 }
 
 impl<W> Model for StdOut<W> {
@@ -107,7 +101,10 @@ impl<W: Write> StdOut<W> {
     pub fn new(output: W) -> StdOut<W>
         ensures { result ≡ record { output = output; faults = 0 } }
     {
-        StdOut { output, faults: 0 }
+        StdOut {
+            output,
+            faults: FaultCount::new(),
+        }
     }
 }
 
@@ -122,10 +119,31 @@ impl<W: Write> Out for StdOut<W> {
         ensures shows { OnOk result (Appends (W.contents self.old.output) (W.contents self.new.output) bytes.now) }
         ensures counted { self.new.faults ≡ counted_after result self.old.faults }
     {
-        if self.output.write_all(bytes).is_err() || self.output.flush().is_err() {
-            self.faults = self.faults.saturating_add(1);
-            return Err(OutDown);
-        }
+        let wrote = self.output.write_all(bytes);
+        let flushed = self.output.flush();
+        self.faults.count_err(put_answer(wrote, flushed))
+    }
+}
+
+/// What a poll found, where reading answered so: the end exactly where it gave no octet.
+fn poll_answer(read: io::Result<usize>) -> Result<Polled, AirDown>
+    ensures ok { IfOk read (λ count. result ≡ Ok (if count == 0 then Polled.End else Polled.Bytes count)) }
+    ensures err { OnErr read (IsErr result) }
+{
+    match read {
+        Ok(0) => Ok(Polled::End),
+        Ok(count) => Ok(Polled::Bytes(count)),
+        Err(_) => Err(AirDown),
+    }
+}
+
+/// Octets were put exactly where both writing them and flushing answered so.
+fn put_answer(wrote: io::Result<()>, flushed: io::Result<()>) -> Result<(), OutDown>
+    ensures { IsOk result ↔ (IsOk wrote × IsOk flushed) }
+{
+    if wrote.is_ok() && flushed.is_ok() {
         Ok(())
+    } else {
+        Err(OutDown)
     }
 }

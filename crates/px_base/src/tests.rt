@@ -8,8 +8,7 @@ use crate::{
 };
 use std::io::{ErrorKind, Read, Write};
 use std::test::Fail;
-use std::time::Duration;
-use std::{fs, io, rt as runtime};
+use std::{fs, io};
 
 #[test]
 fn calls(rt: HostRuntime) -> Result<(), Fail> {
@@ -51,38 +50,28 @@ fn calls(rt: HostRuntime) -> Result<(), Fail> {
 
 #[test]
 fn texts_of_errors(rt: HostRuntime) -> Result<(), Fail> {
-    let texts = [
-        (format!(in rt.alloc(); "{}", OutOfMemory)?, "out of memory"),
-        (format!(in rt.alloc(); "{}", AirDown)?, "the air is down"),
-        (format!(in rt.alloc(); "{}", OutDown)?, "the output is down"),
+    let down = format!(in rt.alloc(); "{OutOfMemory}; {AirDown}; {OutDown}; {ShelfDown}")?;
+    assert_eq!(rt;
+        down.as_str(),
+        "out of memory; the air is down; the output is down; the shelf is down"
+    );
+    let refusals = [
+        (ShelfRefusal::NoSuch, "the shelf has no such name"),
         (
-            format!(in rt.alloc(); "{}", ShelfDown)?,
-            "the shelf is down",
-        ),
-        (
-            format!(in rt.alloc(); "{}", ShelfRefusal::NoSuch)?,
-            "the shelf has no such name",
-        ),
-        (
-            format!(in rt.alloc(); "{}", ShelfRefusal::TooLong)?,
+            ShelfRefusal::TooLong,
             "the content is longer than asked for",
         ),
-        (
-            format!(in rt.alloc(); "{}", ShelfRefusal::Fault)?,
-            "the shelf is down",
-        ),
-        (
-            format!(in rt.alloc(); "{}", ShelfRefusal::OutOfMemory)?,
-            "out of memory",
-        ),
-        (
-            format!(in rt.alloc(); "{}", BadCall { at: 8 })?,
-            "the text is no call: only its first 8 octets begin one",
-        ),
+        (ShelfRefusal::Fault, "the shelf is down"),
+        (ShelfRefusal::OutOfMemory, "out of memory"),
     ];
-    for (text, wanted) in &texts {
-        assert_eq!(rt; text.as_str(), *wanted);
+    for (refusal, wanted) in refusals {
+        assert_eq!(rt; format!(in rt.alloc(); "{refusal}")?.as_str(), wanted);
     }
+    let bad = format!(in rt.alloc(); "{}", BadCall { at: 8 })?;
+    assert_eq!(rt;
+        bad.as_str(),
+        "the text is no call: only its first 8 octets begin one"
+    );
     Ok(())
 }
 
@@ -153,27 +142,27 @@ fn output_in_memory(rt: HostRuntime) -> Result<(), Fail> {
     Ok(())
 }
 
-/// A stream whose call of this number fails.
+/// A stream whose call of this number fails for this reason.
 #[derive(Drop)]
 struct Failing<T> {
     inner: T,
-    calls: u8,
     failing: u8,
+    reason: ErrorKind,
 }
 
 impl<T> Failing<T> {
-    fn new(inner: T, failing: u8) -> Failing<T> {
+    fn new(inner: T, failing: u8, reason: ErrorKind) -> Failing<T> {
         Failing {
             inner,
-            calls: 0,
             failing,
+            reason,
         }
     }
 
     fn count(&mut self) -> io::Result<()> {
-        self.calls = self.calls.saturating_add(1);
-        if self.calls == self.failing {
-            return Err(io::Error::from(io::ErrorKind::BrokenPipe));
+        self.failing = self.failing.wrapping_sub(1);
+        if self.failing == 0 {
+            return Err(io::Error::from(self.reason));
         }
         Ok(())
     }
@@ -200,9 +189,9 @@ impl<T: Write> Write for Failing<T> {
 #[test]
 fn air_over_streams(rt: HostRuntime) -> Result<(), Fail> {
     let long = [7; 600];
-    let mut input = Failing::new(long.as_slice(), 2);
+    let mut input = Failing::new(long.as_slice(), 2, ErrorKind::BrokenPipe);
     // each saying writes once and flushes once, and the second fails to write
-    let mut output = Failing::new(Vec::new(rt.alloc()), 3);
+    let mut output = Failing::new(Vec::new(rt.alloc()), 3, ErrorKind::BrokenPipe);
     let mut air = StdAir::new(&mut input, &mut output);
     let mut room = [0; 512];
     let answers = [
@@ -223,7 +212,7 @@ fn air_over_streams(rt: HostRuntime) -> Result<(), Fail> {
 
 #[test]
 fn output_over_a_stream(rt: HostRuntime) -> Result<(), Fail> {
-    let mut output = Failing::new(Vec::new(rt.alloc()), 4);
+    let mut output = Failing::new(Vec::new(rt.alloc()), 4, ErrorKind::BrokenPipe);
     let mut out = StdOut::new(&mut output);
     assert_eq!(rt; out.put(b"one"), Ok(()));
     assert_eq!(rt; out.put(b"two"), Err(OutDown), "the flush fails");
@@ -289,56 +278,42 @@ fn shelf_over_a_folder(rt: HostRuntime) -> Result<(), Fail> {
     let name = "px_base.shelf.test";
     assert_eq!(rt; shelf.keep(name, b"longer"), Ok(()));
     assert_eq!(rt; shelf.keep(name, b"long"), Ok(()));
-    // the name, the most octets, and what is loaded; the folder itself can be opened, and not read
+    // the name, the most octets, and what is loaded; the folder itself can be opened, and not read, and a path through a
+    // file is none, which isn't that nothing is there
     let loaded = [
         (name, 4, Ok(b"long".as_slice())),
         (name, 3, Err(ShelfRefusal::TooLong)),
         (name, usize::MAX, Ok(b"long".as_slice())),
         ("px_base.no.such.test", 4, Err(ShelfRefusal::NoSuch)),
+        ("px_base.no.such.test/name", 4, Err(ShelfRefusal::NoSuch)),
+        ("px_base.shelf.test/name", 4, Err(ShelfRefusal::Fault)),
         (".", 4, Err(ShelfRefusal::Fault)),
     ];
     for (name, most, wanted) in loaded {
         let content = shelf.load(rt.alloc(), name, most);
         assert_eq!(rt; octets_of(&content), wanted, "{name}");
     }
-    assert_eq!(rt; shelf.keep(".", b"no file"), Err(ShelfDown));
+    for name in [".", "px_base.shelf.test/name"] {
+        assert_eq!(rt; shelf.keep(name, b"no file"), Err(ShelfDown), "{name}");
+    }
     fs::remove_file(&rt, name)?;
     Ok(())
-}
-
-/// A reader that fails at once, for this reason.
-#[derive(Drop)]
-struct Refusing(ErrorKind);
-
-impl Read for Refusing {
-    fn read(&mut self, _buf: &mut [u8]) -> io::Result<usize> {
-        Err(io::Error::from(self.0))
-    }
 }
 
 #[test]
 fn whole_readers(rt: HostRuntime) {
     let endless = read_whole(io::repeat(7), rt.alloc(), 600);
     assert_eq!(rt; octets_of(&endless), Err(ShelfRefusal::TooLong));
-    let cut = read_whole(Failing::new([7; 600].as_slice(), 2), rt.alloc(), 600);
-    assert_eq!(rt; octets_of(&cut), Err(ShelfRefusal::Fault));
-    let gone = read_whole(Refusing(ErrorKind::NotFound), rt.alloc(), 600);
-    assert_eq!(rt; octets_of(&gone), Err(ShelfRefusal::Fault));
-    let wanting = read_whole(Refusing(ErrorKind::OutOfMemory), rt.alloc(), 600);
-    assert_eq!(rt; octets_of(&wanting), Err(ShelfRefusal::OutOfMemory));
-}
-
-/// A clock that stands still, or can't be read.
-#[derive(Drop)]
-struct Standing(Option<Duration>);
-
-impl runtime::Clock for Standing {
-    fn monotonic(&self) -> io::Result<Duration> {
-        self.since_1970()
-    }
-
-    fn since_1970(&self) -> io::Result<Duration> {
-        self.0.ok_or(io::Error::from(ErrorKind::InvalidData))
+    // why the second read fails, and what is loaded: a name that is gone by then isn't none
+    let cut = [
+        (ErrorKind::BrokenPipe, ShelfRefusal::Fault),
+        (ErrorKind::NotFound, ShelfRefusal::Fault),
+        (ErrorKind::OutOfMemory, ShelfRefusal::OutOfMemory),
+    ];
+    for (reason, wanted) in cut {
+        let reader = Failing::new([7; 600].as_slice(), 2, reason);
+        let loaded = read_whole(reader, rt.alloc(), 600);
+        assert_eq!(rt; octets_of(&loaded), Err(wanted));
     }
 }
 
@@ -346,14 +321,4 @@ impl runtime::Clock for Standing {
 fn clock_of_the_system(rt: HostRuntime) {
     // 1 January 2024
     assert!(rt; SystemClock::new(&rt).now() > 1_704_067_200);
-    let moments = [
-        (Some(Duration::new(0, 999_999_999)), 0),
-        (Some(Duration::new(1, 0)), 1),
-        (Some(Duration::from_secs(4_294_967_295)), 4_294_967_295),
-        (Some(Duration::from_secs(4_294_967_296)), 4_294_967_295),
-        (None, 0),
-    ];
-    for (since, wanted) in moments {
-        assert_eq!(rt; SystemClock::new(Standing(since)).now(), wanted);
-    }
 }

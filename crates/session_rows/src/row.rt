@@ -4,46 +4,38 @@ use crate::turns::turns_of;
 use anyhow::{Context, Result, ensure};
 use pacsat_cli::{Words, run};
 use px_base::{MemoryAir, MemoryClock, MemoryOut, MemoryShelf};
+use row_words::{read_numbers, read_words};
 use std::alloc::Global;
 
 /// Plays a row at the constant moment 1, and gives the octets said in hexadecimal, the status's number, and the line that was shown.
 pub fn play(alloc: Global, row: &str) -> Result<String> {
     let (words, rest) = row.split_once(';').context("no words")?;
-    let (failing, rest) = rest.split_once(';').context("no failing calls")?;
-    let (poll, heard) = rest.split_once(';').context("no size of a poll")?;
+    let (failing, heard) = rest.split_once(';').context("no failing calls")?;
     let words = read_words(alloc, words)?;
+    let mut air = read_air(alloc, failing, heard)?;
+    let mut out = MemoryOut::new(alloc, &[])?;
+    let number = run_over(alloc, &words, &mut air, &mut out)?;
+    let said = hex::encode(alloc, air.said())?;
+    let shown = shown_text(alloc, out.shown())?;
+    Ok(format!(in alloc; "{said};{number};{shown}")?)
+}
+
+/// The air of a row: the numbers of its calls that fail, and the octets of a poll and those heard, parted by `;`.
+fn read_air(alloc: Global, failing: &str, heard: &str) -> Result<MemoryAir> {
+    let (poll, heard) = heard.split_once(';').context("no size of a poll")?;
     let failing = read_numbers(alloc, failing)?;
     let poll = poll.parse::<usize>()?;
     ensure!(poll >= 1 && poll <= 512, "a poll of {poll} octets");
     let heard = hex::decode(alloc, heard)?;
     let turns = turns_of(alloc, heard.as_slice(), poll)?;
-    let mut air = MemoryAir::new(alloc, turns, failing.as_slice())?;
-    let mut out = MemoryOut::new(alloc, &[])?;
+    Ok(MemoryAir::new(alloc, turns, failing.as_slice())?)
+}
+
+/// Runs the words over this air and output, and gives the status's number.
+fn run_over(alloc: Global, words: &Words, air: &mut MemoryAir, out: &mut MemoryOut) -> Result<u8> {
     let mut shelf = MemoryShelf::new(alloc, &[])?;
     let mut clock = MemoryClock::new(alloc, &[1])?;
-    let status = run(alloc, &words, &mut air, &mut shelf, &mut out, &mut clock);
-    let said = hex::encode(alloc, air.said())?;
-    let shown = shown_text(alloc, out.shown())?;
-    let number = status.number();
-    Ok(format!(in alloc; "{said};{number};{shown}")?)
-}
-
-/// The words of a row, parted by blanks.
-fn read_words(alloc: Global, text: &str) -> Result<Words> {
-    let mut words = Words::new(alloc);
-    for word in text.split_whitespace() {
-        words.add(word)?;
-    }
-    Ok(words)
-}
-
-/// Numbers parted by blanks.
-fn read_numbers(alloc: Global, text: &str) -> Result<Vec<u64>> {
-    let mut numbers = Vec::new(alloc);
-    for word in text.split_whitespace() {
-        numbers.push(word.parse::<u64>()?)?;
-    }
-    Ok(numbers)
+    Ok(run(alloc, words, air, &mut shelf, out, &mut clock).number())
 }
 
 /// The text that was shown, without its line feed.

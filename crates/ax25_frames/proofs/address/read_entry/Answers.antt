@@ -1,6 +1,8 @@
 -- An entry that was read, or its fault.
-use Rattle.std.proofs.Common.{◌*◌, arith}
-use Rattle.ax25_frames.proofs.ReadLemmas.{unended_within, bad_entry, short_of_entry, call_was_read, entry_was_read, octets_after}
+use Rattle.std.proofs.Common.{ℕ, ◌*◌, ◌<◌, arith}
+use Rattle.std.proofs.lemmas.List.Elements.{All-from_get_or}
+use Rattle.ax25_frames.proofs.FaultLemmas.{bad_entry, short_entry}
+use Rattle.ax25_frames.proofs.ReadLemmas.{unended_within, call_read, entry_read, octets_after}
 use Rattle.ax25_frames.proofs.address.read_entry.Goals as goal
 
 pub split_at-requires : goal.split_at-requires
@@ -13,15 +15,15 @@ returns-then-begun-min-clause-fault c =
 
 pub returns-then-octets-lt-ENTRY_LEN-clause-fault : goal.returns-then-octets-lt-ENTRY_LEN-clause-fault
 returns-then-octets-lt-ENTRY_LEN-clause-fault c =
-    short_of_entry c.args.bytes.now c.split_at.result.1.now c.args.before c.characters_begun-begun.result c.split_at.ensures.back c.characters_begun-begun.ensures
+    short_entry c.args.bytes.now c.split_at.result.1.now c.args.before c.characters_begun-begun.result c.split_at.ensures.back c.characters_begun-begun.ensures
     c.requires.unended c.requires.few (omega arith) (omega arith)
 
 pub invariant_of-result : goal.invariant_of-result
 invariant_of-result c =
-    call_was_read c.split_at.result.1.now c.characters.result c.characters_begun-begun.result c.characters.ensures c.characters_begun-begun.ensures (omega arith) (omega arith)
+    call_read c.split_at.result.1.now c.characters.result c.characters_begun-begun.result c.characters.ensures c.characters_begun-begun.ensures (omega arith) (omega arith)
 
 pub returns-clause-entry : goal.returns-clause-entry
 returns-clause-entry c =
-    entry_was_read c.args.bytes.now c.split_at.result.1.now c.characters.result c.args.before c.characters_begun-begun.result c.split_at.ensures.back c.characters.ensures
+    entry_read c.args.bytes.now c.split_at.result.1.now c.characters.result c.args.before c.characters_begun-begun.result c.split_at.ensures.back c.characters.ensures
     c.characters_begun-begun.ensures (omega arith) (omega arith)
-    (octets_after (7 * c.args.before) c.args.bytes.now c.split_at.result.1.now c.split_at.ensures.back (λ i. omega (arith, c.type_inv.bytes i)) 6)
+    (octets_after (7 * c.args.before) c.args.bytes.now c.split_at.result.1.now c.split_at.ensures.back (All-from_get_or (λ (octet : ℕ). octet < 256) c.args.bytes.now 0 (λ i below. omega (arith, c.type_inv.bytes i))) 6 0 (omega arith))

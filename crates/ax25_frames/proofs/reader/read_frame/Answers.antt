@@ -1,5 +1,6 @@
 -- The frame that was read, or the first fault.
-use Rattle.std.proofs.Common.{rules, ◌≡◌, ◌+◌, ◌*◌, ℕ, Bool, arith, sym, ap, ◌∙◌, subst, drop, slice_index}
+use Rattle.std.proofs.Common.{rules, ◌<◌, ◌≡◌, ◌+◌, ◌*◌, ℕ, Bool, arith, sym, ap, ◌∙◌, subst, drop, slice_index}
+use Rattle.std.proofs.lemmas.List.Elements.{All-from_get_or}
 use Rattle.ax25_frames.specs.declared.frame.FrameFault.TheVariants.{BadControl}
 use Rattle.ax25_frames.specs.FrameText.{FrameValue, FrameText}
 use Rattle.ax25_frames.specs.Faults.{FaultAt}
@@ -43,7 +44,8 @@ kind_fault c =
     rest_fault_at c.args.bytes.now a.dest a.src a.via a.command (14 + 7 * a.via) c.in_ok-addresses.ensures.addresses c.in-Some.octet.now
     c.in-Some-read_control.control (poll_bit c.in-Some.octet.now) c.split_at.result.1.now c.in_err-kind.field-0.0 is (omega (arith, c.in-Some.ensures.lookup.3.0))
     c.in-Some-read_control.ensures.some.1 rest c.in-Some-read_control.ensures.some.0
-    (octets_after (14 + 7 * a.via + 1) c.args.bytes.now c.split_at.result.1.now rest (λ i. omega (arith, c.type_inv.bytes i)))
+    (octets_after (14 + 7 * a.via + 1) c.args.bytes.now c.split_at.result.1.now rest
+    (All-from_get_or (λ (octet : ℕ). octet < 256) c.args.bytes.now 0 (λ i below. omega (arith, c.type_inv.bytes i))))
     c.in_err-kind.ensures.fault
 
 pub returns-in_err-kind-clause-fault : goal.returns-in_err-kind-clause-fault

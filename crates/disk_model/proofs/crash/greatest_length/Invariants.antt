@@ -5,6 +5,6 @@ use Rattle.disk_model.proofs.crash.greatest_length.Given as goal
 abbrev pub invariant-loop-call : goal.invariant-loop-call
 invariant-loop-call l =
     record {
-      most : l.most ≡ min (surface_after l.at_rest (take l.call-index l.calls)).most 18446744073709551615;
-      least : length l.at_rest ≤ l.most;
+      most : l.most ≡ min (surface_after l.synced (take l.call-index l.calls)).most 18446744073709551615;
+      least : length l.synced ≤ l.most;
     }

@@ -1,6 +1,6 @@
 use Rattle.std.proofs.Common.{◌≡◌, length, take}
+use Rattle.px_base.specs.Octets.{IsOctets}
 use Rattle.disk_model.proofs.Crashes.{IsTorn}
-use Rattle.disk_model.specs.Disk.{IsOctets}
 use Rattle.disk_model.specs.Surface.{surface_after}
 use Rattle.disk_model.proofs.crash.torn.Given as goal
 
@@ -9,7 +9,7 @@ invariant-loop-call l =
     record {
       size : length l.image.items ≡ l.length;
       octets : IsOctets l.image.items;
-      style : l.pick.style ≡ l.fn.pick.style;
-      synced : (surface_after l.fn.at_rest.items (take l.call-index l.calls)).synced ≡ l.fn.at_rest.items;
-      torn : IsTorn (surface_after l.fn.at_rest.items (take l.call-index l.calls)) l.fn.pick.style l.image.items;
+      same : l.pick.octet ≡ l.fn.pick.octet;
+      synced : (surface_after l.fn.synced.items (take l.call-index l.calls)).synced ≡ l.fn.synced.items;
+      torn : IsTorn (surface_after l.fn.synced.items (take l.call-index l.calls)) l.fn.pick.octet l.image.items;
     }

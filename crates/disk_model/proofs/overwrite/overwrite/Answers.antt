@@ -12,3 +12,6 @@ returns-clause-ok c =
     let written : c.replace.new.octets ≡ write_over c.args.octets.now.items at bytes =
     c.replace.ensures ∙ ap (λ (l : List ℕ). take at l ++ bytes ++ drop (at + length bytes) l) padded ∙ padded_write c.args.octets.now.items at bytes in
     grind (arith, common_steps, written)
+
+pub returns-clause-octets : goal.returns-clause-octets
+returns-clause-octets c = λ k d below. omega (arith, c.type_inv.octets k d below)

@@ -1,82 +1,39 @@
-use Rattle.std.proofs.Common.{List, ℕ, [], ◌∷◌, ◌∙◌, subst}
-use Rattle.std.proofs.lemmas.Result.{on_ok_weaker}
-use Rattle.disk_model.specs.Disk.{Writes, Only}
-use Rattle.file_journal.specs.Steps.{IsMakingGates}
-use Rattle.file_journal.proofs.FormatLemmas.{torn_only, one_gate_by, gates_by, first_gate_crash, second_gate_crash}
-use Rattle.file_journal.proofs.MomentLemmas.{if_told, at_told, once, goes_on}
+use Rattle.std.proofs.Common.{◌≡◌, ℕ, List, [], ◌∷◌, length, Some, IsErr, rules, subst, Ok}
+use Rattle.disk_model.specs.Disk.{Torn, Writes}
+use Rattle.file_journal.specs.Appending.{IsTornFrom}
+use Rattle.file_journal.specs.Formatting.{IsMakingGates, MakesGates}
+use Rattle.file_journal.proofs.CallLemmas.{makes_failed, makes_on, quiet_images}
+use Rattle.file_journal.proofs.FormatLemmas.{first_gate_crash, gates_by, one_gate, one_gate_by, second_gate_crash, torn_only}
+use Rattle.file_journal.proofs.ToldLemmas.{at_told}
 use Rattle.file_journal.proofs.format.format_gates.Goals as goal
 
-pub returns-in_err-write_at-clause-since : goal.returns-in_err-write_at-clause-since
-returns-in_err-write_at-clause-since g c =
+pub returns-in_err-write_synced : goal.returns-in_err-write_synced
+returns-in_err-write_synced g c =
     let D = g.D.Disk in
-    if_told (D.content c.args.disk.now) _ (λ before told.
-    let P = IsMakingGates before in
-    let long = at_told _ before told c.requires.header in
-    let quiet = at_told (λ octets. Only (D.images c.args.disk.now) octets) before told c.requires.quiet in
-    let first : (image : List ℕ) → D.images c.write_at.new.self image → P image =
-    λ image now. first_gate_crash before long.0 long.1 image (torn_only 16 1 before _ _ quiet c.write_at.ensures.torn image now) in
-    let put = once D.moment D.images_since c.args.disk.now c.write_at.new.self P _ c.write_at.ensures.past first in
-    put)
+    let old = c.args.disk.now in
+    let failed : IsErr c.from_residual.result = search rules in
+    let was : IsErr c.write_synced.result = search rules in
+    makes_failed D c.write_synced.result c.from_residual.result old c.write_synced.new.disk _ _ MakesGates IsMakingGates failed
+    (λ before image told torn.
+    first_gate_crash before (at_told _ before told c.requires.long) (at_told _ before told c.requires.short) image (torn_only 16 1 before _ (quiet_images D old (g.met.D.Disk.counts_now old) c.requires.quiet before told) image torn))
+    c.write_synced.ensures.makes was
 
-pub returns-in_err-sync-clause-since : goal.returns-in_err-sync-clause-since
-returns-in_err-sync-clause-since g c =
+pub returns : goal.returns
+returns g c =
     let D = g.D.Disk in
-    if_told (D.content c.args.disk.now) _ (λ before told.
-    let P = IsMakingGates before in
-    let long = at_told _ before told c.requires.header in
-    let quiet = at_told (λ octets. Only (D.images c.args.disk.now) octets) before told c.requires.quiet in
-    let first : (image : List ℕ) → D.images c.write_at.new.self image → P image =
-    λ image now. first_gate_crash before long.0 long.1 image (torn_only 16 1 before _ _ quiet c.write_at.ensures.torn image now) in
-    let put = once D.moment D.images_since c.args.disk.now c.write_at.new.self P _ c.write_at.ensures.past first in
-    let kept = goes_on D.moment D.images_since c.args.disk.now c.write_at.new.self c.sync.new.self P _ put c.sync.ensures.past (λ image now. first image (c.sync.ensures.images image now)) in
-    kept)
-
-pub returns-in_err-write_at-2-clause-since : goal.returns-in_err-write_at-2-clause-since
-returns-in_err-write_at-2-clause-since g c =
-    let D = g.D.Disk in
-    if_told (D.content c.args.disk.now) _ (λ before told.
-    let P = IsMakingGates before in
-    let long = at_told _ before told c.requires.header in
-    let quiet = at_told (λ octets. Only (D.images c.args.disk.now) octets) before told c.requires.quiet in
-    let first : (image : List ℕ) → D.images c.write_at.new.self image → P image =
-    λ image now. first_gate_crash before long.0 long.1 image (torn_only 16 1 before _ _ quiet c.write_at.ensures.torn image now) in
-    let put = once D.moment D.images_since c.args.disk.now c.write_at.new.self P _ c.write_at.ensures.past first in
-    let kept = goes_on D.moment D.images_since c.args.disk.now c.write_at.new.self c.sync.new.self P _ put c.sync.ensures.past (λ image now. first image (c.sync.ensures.images image now)) in
-    let gate = at_told _ before told c.in_ok-write_at.ensures.written in
-    let is_gate = one_gate_by before long.0 long.1 gate.0 gate.2 in
-    let only = subst (λ (l : List ℕ). Only (D.images c.sync.new.self) l) is_gate (at_told (λ octets. Only (D.images c.sync.new.self) octets) gate.0 gate.1 c.in_ok-sync.ensures.durable) in
-    let second : (image : List ℕ) → D.images c.write_at-2.new.self image → P image =
-    λ image now. second_gate_crash before long.0 long.1 image (torn_only 17 1 _ _ _ only c.write_at-2.ensures.torn image now) in
-    let shut = goes_on D.moment D.images_since c.args.disk.now c.sync.new.self c.write_at-2.new.self P _ kept c.write_at-2.ensures.past second in
-    shut)
-
-pub returns-clause-since : goal.returns-clause-since
-returns-clause-since g c =
-    let D = g.D.Disk in
-    if_told (D.content c.args.disk.now) _ (λ before told.
-    let P = IsMakingGates before in
-    let long = at_told _ before told c.requires.header in
-    let quiet = at_told (λ octets. Only (D.images c.args.disk.now) octets) before told c.requires.quiet in
-    let first : (image : List ℕ) → D.images c.write_at.new.self image → P image =
-    λ image now. first_gate_crash before long.0 long.1 image (torn_only 16 1 before _ _ quiet c.write_at.ensures.torn image now) in
-    let put = once D.moment D.images_since c.args.disk.now c.write_at.new.self P _ c.write_at.ensures.past first in
-    let kept = goes_on D.moment D.images_since c.args.disk.now c.write_at.new.self c.sync.new.self P _ put c.sync.ensures.past (λ image now. first image (c.sync.ensures.images image now)) in
-    let gate = at_told _ before told c.in_ok-write_at.ensures.written in
-    let is_gate = one_gate_by before long.0 long.1 gate.0 gate.2 in
-    let only = subst (λ (l : List ℕ). Only (D.images c.sync.new.self) l) is_gate (at_told (λ octets. Only (D.images c.sync.new.self) octets) gate.0 gate.1 c.in_ok-sync.ensures.durable) in
-    let second : (image : List ℕ) → D.images c.write_at-2.new.self image → P image =
-    λ image now. second_gate_crash before long.0 long.1 image (torn_only 17 1 _ _ _ only c.write_at-2.ensures.torn image now) in
-    let shut = goes_on D.moment D.images_since c.args.disk.now c.sync.new.self c.write_at-2.new.self P _ kept c.write_at-2.ensures.past second in
-    goes_on D.moment D.images_since c.args.disk.now c.write_at-2.new.self c.sync-2.new.self P _ shut c.sync-2.ensures.past (λ image now. second image (c.sync-2.ensures.images image now)))
-
-pub returns-clause-ok : goal.returns-clause-ok
-returns-clause-ok g c =
-    let D = g.D.Disk in
-    on_ok_weaker c.sync-2.result (λ durable. if_told (D.content c.args.disk.now) _ (λ before told.
-    let long = at_told _ before told c.requires.header in
-    let gate = at_told _ before told c.in_ok-write_at.ensures.written in
-    let is_gate = one_gate_by before long.0 long.1 gate.0 gate.2 in
-    let gates = at_told _ gate.0 (c.sync.ensures.content ∙ gate.1) c.in_ok-write_at-2.ensures.written in
-    let are_gates = gates_by before long.0 long.1 gates.0 (subst (λ (l : List ℕ). Writes 17 (0 ∷ []) l gates.0) is_gate gates.2) in
-    (gates.0, c.sync-2.ensures.content ∙ gates.1, (are_gates, at_told (λ octets. Only (D.images c.sync-2.new.self) octets) gates.0 gates.1 durable))))
-    c.sync-2.ensures.durable
+    let old = c.args.disk.now in
+    let mid = c.write_synced.new.disk in
+    let first = c.in_ok-write_synced.ensures.makes in
+    makes_on D g.met.D.Disk.lasts_on _ c.write_synced-2.result old mid c.write_synced-2.new.disk _ _ _ _ MakesGates IsMakingGates first c.write_synced-2.ensures.makes
+    (λ before middle now told put opened.
+    let long = at_told _ before told c.requires.long in
+    let short = at_told _ before told c.requires.short in
+    gates_by before long short now (subst (λ (l : List ℕ). Writes 17 (0 ∷ []) l now) (one_gate_by before long short middle put) opened))
+    (λ before image told torn.
+    first_gate_crash before (at_told _ before told c.requires.long) (at_told _ before told c.requires.short) image (torn_only 16 1 before _ (quiet_images D old (g.met.D.Disk.counts_now old) c.requires.quiet before told) image torn))
+    (λ before middle image told told_mid put torn.
+    let long = at_told _ before told c.requires.long in
+    let short = at_told _ before told c.requires.short in
+    second_gate_crash before long short image
+    (subst (λ (l : List ℕ). Torn 17 1 l image) (one_gate_by before long short middle put)
+    (torn_only 17 1 middle _ (quiet_images D mid (g.met.D.Disk.counts_now mid) first.quiet middle told_mid) image torn)))

@@ -1,48 +1,53 @@
-use Rattle.std.proofs.Common.{◌≡◌, length, rules, List, ℕ, [], ◌∷◌, ◌++◌, take, None, inl, ◌∙◌, ap, subst, take_all, arith}
-use Rattle.std.proofs.lemmas.Result.{on_ok_weaker}
-use Rattle.file_journal.specs.Journal.{IsSameStore, store, journal_of, header}
-use Rattle.file_journal.specs.Steps.{IsMakingGates}
-use Rattle.file_journal.proofs.JournalLemmas.{of_short, new_gates, header_length}
-use Rattle.file_journal.proofs.MomentLemmas.{if_told, at_told, quiet_now, weaker, joined}
+use Rattle.std.proofs.Common.{◌≡◌, ◌≤◌, ℕ, List, [], ◌∷◌, ◌++◌, length, take, Some, IsErr, rules, sym, ◌∙◌, ap, subst, arith, take_all}
+use Rattle.std.proofs.lemmas.Bool.{cond-true, le-leb}
+use Rattle.disk_model.specs.Disk.{Torn, Writes}
+use Rattle.file_journal.specs.Calls.{Becomes}
+use Rattle.file_journal.specs.Formatting.{IsMakingGates}
+use Rattle.file_journal.specs.Journal.{after_recovery, header_text}
+use Rattle.file_journal.specs.Recovery.{IsRecovering}
+use Rattle.file_journal.proofs.CallLemmas.{makes_failed, makes_on, quiet_images}
+use Rattle.file_journal.proofs.FormatLemmas.{all_by, torn_only}
+use Rattle.file_journal.proofs.JournalLemmas.{header_length}
+use Rattle.file_journal.proofs.RecoverLemmas.{new_after, recovering_gates, recovering_short}
+use Rattle.file_journal.proofs.ToldLemmas.{at_told}
 use Rattle.file_journal.proofs.format.format_new.Goals as goal
 
-pub returns-in_err-format_header-clause-since : goal.returns-in_err-format_header-clause-since
-returns-in_err-format_header-clause-since g c =
+pub returns-in_err-write_synced : goal.returns-in_err-write_synced
+returns-in_err-write_synced g c =
     let D = g.D.Disk in
-    if_told (D.content c.args.disk.now) _ (λ before told.
-    weaker D.moment D.images_since c.args.disk.now c.format_header.new.disk _ _
-    (λ image short. inl (of_short c.args.magic image short)) (at_told _ before told c.format_header.ensures.since))
-
-pub format_gates-requires-clause-quiet : goal.format_gates-requires-clause-quiet
-format_gates-requires-clause-quiet g c = quiet_now (g.D.Disk.content c.args.disk.now) (g.D.Disk.content c.format_header.new.disk) _ _ c.format_header.ensures.untold c.in_ok-format_header.ensures.ok
-
-pub returns-clause-ok : goal.returns-clause-ok
-returns-clause-ok g c =
-    let D = g.D.Disk in
+    let old = c.args.disk.now in
+    let failed : IsErr c.from_residual.result = search rules in
+    let was : IsErr c.write_synced.result = search rules in
     let eight : length c.args.magic ≡ 8 = search rules in
-    on_ok_weaker c.format_gates.result (λ gates. if_told (D.content c.args.disk.now) _ (λ before told.
-    let headed = at_told _ before told c.in_ok-format_header.ensures.ok in
-    let now = at_told _ headed.0 headed.1 gates in (
-      now.0,
-      now.1,
-      (
-        now.2.0 ∙ ap (λ (l : List ℕ). take 16 l ++ 0 ∷ 0 ∷ []) headed.2.0
-            ∙ ap (λ (l : List ℕ). l ++ 0 ∷ 0 ∷ []) (take_all 16 (header c.args.magic c.args.blocks) (omega (arith, header_length c.args.magic c.args.blocks eight))),
-        now.2.1,
-      ),
-    )))
-    c.format_gates.ensures.ok
+    let text : c.as_slice.result.now ≡ header_text c.args.magic c.args.blocks = c.as_slice.ensures.value ∙ c.encode_header.ensures in
+    let size : length c.as_slice.result.now ≡ 16 = ap length text ∙ header_length c.args.magic c.args.blocks eight in
+    makes_failed D c.write_synced.result c.from_residual.result old c.write_synced.new.disk _ _ _ _ failed
+    (λ before image told torn.
+    let short = at_told _ before told c.requires.short in
+    let left = torn_only 0 _ before _ (quiet_images D old (g.met.D.Disk.counts_now old) c.requires.quiet before told) image torn in
+    recovering_short c.args.magic c.args.blocks before short image (omega (arith, left.no_longer, size, short)))
+    c.write_synced.ensures.makes was
 
-pub returns-clause-since : goal.returns-clause-since
-returns-clause-since g c =
+pub returns : goal.returns
+returns g c =
     let D = g.D.Disk in
+    let old = c.args.disk.now in
+    let mid = c.write_synced.new.disk in
     let eight : length c.args.magic ≡ 8 = search rules in
-    if_told (D.content c.args.disk.now) _ (λ before told.
-    let P = λ (image : List ℕ). IsSameStore c.args.blocks (store None []) (journal_of c.args.magic image) in
-    let headed = at_told _ before told c.in_ok-format_header.ensures.ok in
-    let first = weaker D.moment D.images_since c.args.disk.now c.format_header.new.disk _ P
-    (λ image short. inl (of_short c.args.magic image short)) (at_told _ before told c.format_header.ensures.since) in
-    let second = weaker D.moment D.images_since c.format_header.new.disk c.format_gates.new.disk _ P
-    (λ image making. new_gates c.args.magic c.args.blocks image eight c.requires.some c.requires.most (subst (λ (l : List ℕ). IsMakingGates l image) headed.2.0 making))
-    (at_told _ headed.0 headed.1 c.format_gates.ensures.since) in
-    joined D.moment D.images_since c.args.disk.now c.format_header.new.disk c.format_gates.new.disk P first second)
+    let text : c.as_slice.result.now ≡ header_text c.args.magic c.args.blocks = c.as_slice.ensures.value ∙ c.encode_header.ensures in
+    let size : length c.as_slice.result.now ≡ 16 = ap length text ∙ header_length c.args.magic c.args.blocks eight in
+    let header : (before middle : List ℕ) → length before ≤ 16 → Writes 0 c.as_slice.result.now before middle → middle ≡ header_text c.args.magic c.args.blocks =
+    λ before middle short put. all_by c.as_slice.result.now before middle (omega (arith, size, short)) put ∙ text in
+    makes_on D g.met.D.Disk.lasts_on _ c.format_gates.result old mid c.format_gates.new.disk _ _ _ _ (Becomes (after_recovery c.args.magic c.args.blocks)) (IsRecovering c.args.magic c.args.blocks)
+    c.in_ok-write_synced.ensures.makes c.format_gates.ensures
+    (λ before middle now told put gates.
+    let short = at_told _ before told c.requires.short in
+    gates ∙ ap (λ (l : List ℕ). l ++ 0 ∷ 0 ∷ []) (ap (λ (l : List ℕ). take 16 l) (header before middle short put) ∙ take_all 16 (header_text c.args.magic c.args.blocks) (omega (arith, header_length c.args.magic c.args.blocks eight)))
+    ∙ sym (new_after c.args.magic c.args.blocks before short))
+    (λ before image told torn.
+    let short = at_told _ before told c.requires.short in
+    let left = torn_only 0 _ before _ (quiet_images D old (g.met.D.Disk.counts_now old) c.requires.quiet before told) image torn in
+    recovering_short c.args.magic c.args.blocks before short image (omega (arith, left.no_longer, size, short)))
+    (λ before middle image told told_mid put making.
+    let short = at_told _ before told c.requires.short in
+    recovering_gates c.args.magic c.args.blocks before short image eight c.requires.some c.requires.most (subst (λ (l : List ℕ). IsMakingGates l image) (header before middle short put) making))

@@ -1,15 +1,14 @@
 use Rattle.std.proofs.Common.{get_or, ◌∙◌, arith}
 use Rattle.std.proofs.lemmas.Bool.{eqb-false}
-use Rattle.file_journal.proofs.MomentLemmas.{if_told, at_told}
+use Rattle.file_journal.proofs.NextLemmas.{refuses_at}
 use Rattle.file_journal.proofs.ReadingLemmas.{read_past, read_closed, gate_read}
+use Rattle.file_journal.proofs.ToldLemmas.{at_told, if_told}
 use Rattle.file_journal.proofs.record.is_open.Goals as goal
 
-pub returns-then-place-end-clause-damaged : goal.returns-then-place-end-clause-damaged
-returns-then-place-end-clause-damaged g c at is = (
-  cc is,
-  if_told (g.D.Disk.content c.args.disk.now) _ (λ octets told.
-      read_past c.args.place octets (omega (arith, at_told _ octets told c.requires, c.if-place-end.true))),
-)
+pub returns-then-place-end-clause-refuses : goal.returns-then-place-end-clause-refuses
+returns-then-place-end-clause-refuses g c =
+    refuses_at c.args.place _ (if_told (g.D.Disk.content c.args.disk.now) _ (λ octets told.
+    read_past c.args.place octets (omega (arith, at_told _ octets told c.requires, c.if-place-end.true))))
 
 pub returns-clause-closed : goal.returns-clause-closed
 returns-clause-closed g c is =

@@ -7,4 +7,4 @@ pub returns-clause-at_most : goal.returns-clause-at_most
 returns-clause-at_most c = λ recorded. text_one c.one_frame.ensures c.one_fault.ensures c.no_frame_at_a_fault.ensures (kiss_parts recorded)
 
 pub returns-clause-some : goal.returns-clause-some
-returns-clause-some c = each_text c.frame_or_fault.ensures
+returns-clause-some c = each_text c.frame_or_fault.ensures c.frames_have_octets.ensures

@@ -1,5 +1,5 @@
 use Rattle.std.proofs.Common.{◌≡◌, ℕ, List, [], ◌++◌, take, flat_map}
-use Rattle.ftl0_packets.specs.Layout.{IsOctets}
+use Rattle.px_base.specs.Octets.{IsOctets}
 use Rattle.ftl0_packets.specs.Pieces.{TakesAll}
 use Rattle.ftl0_packets.specs.Reading.{packets_of, rest_of, under_way}
 use Rattle.ftl0_packets.proofs.pieces.feed_pieces.Given as goal

@@ -3,6 +3,7 @@ use Rattle.std.proofs.Common.{◌≡◌, rules, arith, sym, subst}
 use Rattle.ftl0_packets.specs.Reading.{is_malformed, malformed_in, read_item}
 use Rattle.ftl0_packets.specs.Layout.{Item, PacketText}
 use Rattle.ftl0_packets.specs.Values.{item_of}
+use Rattle.ftl0_packets.proofs.OctetLemmas.{octets_from}
 use Rattle.ftl0_packets.proofs.TextLemmas.{PacketText-whole}
 use Rattle.ftl0_packets.proofs.text.read_text.Goals as goal
 
@@ -23,4 +24,4 @@ unfolding read_item
 returns-clause-text c =
     let says : item_of c.read_information.result ≡ read_item c.args.octets.now = search rules in
     subst (λ (item : Item). PacketText item c.args.octets.now) (sym says)
-    (PacketText-whole c.args.octets.now c.requires (λ i. omega (arith, c.type_inv.octets i)))
+    (PacketText-whole c.args.octets.now c.requires (octets_from c.args.octets.now (λ i. omega (arith, c.type_inv.octets i))))

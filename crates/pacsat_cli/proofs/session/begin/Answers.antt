@@ -10,7 +10,7 @@ pub returns-in-Ok-clause-answers : goal.returns-in-Ok-clause-answers
 returns-in-Ok-clause-answers c = (
   begin_row c.args.caller c.args.moment c.args.store.now c.args.length,
   row-begin _ _ _ _ c.in-Ok.ensures.can,
-  ((begin-allowed c.args.caller c.args.moment c.args.store.now c.args.length c.in-Ok.ensures.can, c.in-Ok.ensures.ok), ap (λ (u : Upload). receiving u.number u.rest) c.in-Ok.ensures.upload, c.put_reply.ensures ∙ ap (λ n. packet_text (ul_go_resp n 0)) (c.number.ensures ∙ ap (λ (u : Upload). u.number) c.in-Ok.ensures.upload)),
+  ((begin-allowed c.args.caller c.args.moment c.args.store.now c.args.length c.in-Ok.ensures.can, c.in-Ok.ensures.ok), ap (λ (u : Upload). receiving u.number u.rest) c.in-Ok.ensures.upload, c.write_packet.ensures.text ∙ ap (λ n. packet_text (ul_go_resp n 0)) (c.number.ensures ∙ ap (λ (u : Upload). u.number) c.in-Ok.ensures.upload)),
 )
 
 pub returns-in-Err-clause-answers : goal.returns-in-Err-clause-answers

@@ -19,7 +19,7 @@ returns-in-Err-Short-clause-answers c =
     let back = rw c.in-Err-Short.field-0-is at c.in-Err-Short.ensures.refused in (
       record { state = command; commands = []; replies = ul_nak_resp 16 ∷ [] },
       row-short c.args.up.caller c.args.moment c.args.store.now c.args.up c.requires.holds (short.0 refl),
-      ((tt, c.park.ensures ∙ back.1), refl, c.put_reply.ensures),
+      ((tt, c.park.ensures ∙ back.1), refl, c.write_packet.ensures.text),
     )
 
 pub returns-in-Err-Header-clause-answers : goal.returns-in-Err-Header-clause-answers
@@ -27,7 +27,7 @@ returns-in-Err-Header-clause-answers c =
     let header = rw c.in-Err-Header.field-0-is at c.in-Err-Header.ensures.header in (
       whole_row c.args.moment c.args.up.number c.args.up.rest (Some c.in-Err-Header.code),
       row-whole c.args.up.caller c.args.moment c.args.store.now c.args.up (Some c.in-Err-Header.code) c.requires.holds header.0 header.1,
-      (header.2, refl, c.put_reply-in-Err-Header.ensures),
+      (header.2, refl, c.write_packet-in-Err-Header.ensures.text),
     )
 
 pub returns-in-Err-OutOfMemory-clause-answers : goal.returns-in-Err-OutOfMemory-clause-answers

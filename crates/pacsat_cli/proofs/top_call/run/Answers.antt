@@ -1,73 +1,131 @@
--- What is played is what is run, and what was heard says how it ended.
-use Rattle.std.proofs.Common.{ap, inl, inr, ◌∙◌, arith}
-use Rattle.pacsat_cli.proofs.Outcome.{complete_end, ends_heard, not_built_end, spent_end, untouched-no_end}
-use Rattle.pacsat_cli.proofs.FramesEnds.{frames-done, frames-no_such, frames-too_long}
-use Rattle.pacsat_cli.specs.Run.{heard_unbuilt, most_polls}
+-- Each command by what it did, and refused words by why they were.
+use Rattle.std.proofs.Common.{refl, ap, sym, inl, inr, Err}
+use Rattle.std.specs.Prelude.{Some}
+use Rattle.std.specs.Option.{IsSome}
+use Rattle.pacsat_cli.specs.declared.status.Status.TheVariants as status
+use Rattle.pacsat_cli.proofs.RunFrames.{frames-done, frames-no_such, frames-not, frames-rose, frames-runs, frames-shown, frames-too_long}
+use Rattle.pacsat_cli.proofs.RunRefused.{means, refused-complete, refused-frames, refused-no_such, refused-not, refused-not_built, refused-session, refused-shown, refused-spent, refused-too_long, refused-unbuilt, refused-unread, refused-usage, refused-usage_told}
+use Rattle.pacsat_cli.proofs.RunSession.{asked_moment, session-complete, session-done, session-not, session-not_built, session-runs, session-spent}
 use Rattle.pacsat_cli.proofs.top_call.run.Goals as goal
 
-pub returns-clause-session : goal.returns-clause-session
-returns-clause-session g c = λ caller moment session. rw c.end_with.ensures.status (c.play-status.ensures.session caller moment session)
-
-pub returns-clause-complete : goal.returns-clause-complete
-returns-clause-complete g c = λ heard no_read no_write end built.
-    let played = c.play-status.ensures.session heard.caller heard.moment heard.asks in
-    elim played [
-      | inl none ↦ absurd (untouched-no_end (g.A.Air.heard c.args.air.now) (g.A.Air.heard c.play-status.new.air) heard.earlier heard.turns heard.told_before heard.told_now (ap g.A.Air.heard none.1) end)
-      | inr ran ↦ let ends = ends_heard c.stream_law.ensures.only c.args.words.now (g.A.Air.heard c.args.air.now) (g.A.Air.heard c.play-status.new.air) (g.C.Clock.given c.args.clock.now) (g.C.Clock.given c.play-status.new.clock) heard ran.0 ran.1 ran.2 c.play-status.result ran.3 ran.4 ran.6 in
-          rw c.end_with.ensures.status
-          (complete_end c.play-status.result most_polls heard.turns (heard_unbuilt heard) ran.2 ends.0 ends.1 end built
-          (λ q. no_read (c.play-status.ensures.air_read q)) (λ q. no_write (c.play-status.ensures.air_write q)))
-    ]
-
-pub returns-clause-not_built : goal.returns-clause-not_built
-returns-clause-not_built g c = λ heard stops.
-    let played = c.play-status.ensures.session heard.caller heard.moment heard.asks in
-    elim played [
-      | inl none ↦ inr (inr (c.end_with.ensures.status ∙ none.0))
-      | inr ran ↦ let ends = ends_heard c.stream_law.ensures.only c.args.words.now (g.A.Air.heard c.args.air.now) (g.A.Air.heard c.play-status.new.air) (g.C.Clock.given c.args.clock.now) (g.C.Clock.given c.play-status.new.clock) heard ran.0 ran.1 ran.2 c.play-status.result ran.3 ran.4 ran.6 in
-          rw c.end_with.ensures.status (not_built_end c.play-status.result most_polls heard.turns (heard_unbuilt heard) ran.2 ends.0 ends.1 stops)
-    ]
-
-pub returns-clause-spent : goal.returns-clause-spent
-returns-clause-spent g c = λ heard all_open counted built.
-    let played = c.play-status.ensures.session heard.caller heard.moment heard.asks in
-    elim played [
-      | inl none ↦ inr (inr (c.end_with.ensures.status ∙ none.0))
-      | inr ran ↦ let ends = ends_heard c.stream_law.ensures.only c.args.words.now (g.A.Air.heard c.args.air.now) (g.A.Air.heard c.play-status.new.air) (g.C.Clock.given c.args.clock.now) (g.C.Clock.given c.play-status.new.clock) heard ran.0 ran.1 ran.2 c.play-status.result ran.3 ran.4 ran.6 in
-          rw c.end_with.ensures.status (spent_end c.play-status.result most_polls heard.turns (heard_unbuilt heard) ran.2 ends.0 ends.1 all_open built)
-    ]
-
-pub returns-clause-unbuilt_words : goal.returns-clause-unbuilt_words
-returns-clause-unbuilt_words g c = λ unbuilt. rw c.end_with.ensures.status (c.play-status.ensures.unbuilt_words unbuilt)
-
-pub returns-clause-frames : goal.returns-clause-frames
-returns-clause-frames g c = λ name frames.
+pub returns-in-Ok-Session : goal.returns-in-Ok-Session
+returns-in-Ok-Session g c =
+    let caller = c.in-Ok-Session.request.caller in
+    let moment = c.in-Ok-Session.request.moment in
+    let words = c.args.words.now in
+    let asks = rw c.in-Ok-Session.field-0-is at c.in-Ok-Session.ensures.asks in
+    let only = c.one_meaning.ensures.only_one words in
+    let determined = c.one_meaning.ensures.determined words in
+    let ran = c.run_session-status in
+    let line = c.show_line.ensures in
+    let isnt = session-not g.A.Air.heard g.A.Air.said g.C.Clock.given c.args.air.now ran.new.air c.args.clock.now ran.new.clock caller moment ran.result ran.ensures.ended in
     record {
-      mid = g.O.Out.shown c.play-status.new.out;
-      faults = g.O.Out.faults c.play-status.new.out;
-      played = rw c.end_with.ensures.status (c.play-status.ensures.frames name frames);
-      line = rw c.end_with.ensures.status c.end_with.ensures.shown;
-      no_less = c.play-status.ensures.no_fewer_faults;
-      no_more = c.end_with.ensures.no_fewer_faults;
-      rose = rw c.end_with.ensures.status c.play-status.ensures.out;
-      unshown = rw c.end_with.ensures.status (λ e. let same = c.play-status.ensures.unshown e in (ap g.O.Out.shown same, ap g.O.Out.faults same));
+      usage = λ e. absurd (isnt status.Usage refl e);
+      usage_told = λ usage. absurd (only.usage_session usage (caller, moment, asks));
+      unbuilt_words = λ unbuilt. absurd (only.unbuilt_session unbuilt (caller, moment, asks));
+      unread = λ refused. absurd (elim refused [ inl usage ↦ only.usage_session usage (caller, moment, asks) | inr unbuilt ↦ only.unbuilt_session unbuilt (caller, moment, asks) ]);
+      untouched = λ refused. absurd (elim refused [ inl usage ↦ only.usage_session usage (caller, moment, asks) | inr unbuilt ↦ only.unbuilt_session unbuilt (caller, moment, asks) ]);
+      held = refl;
+      session = session-runs g.A.Air.heard g.A.Air.said g.C.Clock.given c.args.air.now ran.new.air c.args.clock.now ran.new.clock caller moment ran.result ran.ensures.ended words asks determined;
+      session_alone = λ _. refl;
+      clock_unasked = λ given. ran.ensures.clock (asked_moment words caller moment asks determined given);
+      complete = session-complete g.A.Air.heard g.A.Air.said g.C.Clock.given c.args.air.now ran.new.air c.args.clock.now ran.new.clock caller moment ran.result ran.ensures.ended words asks determined c.stream_law.ensures.only;
+      not_built = session-not_built g.A.Air.heard g.A.Air.said g.C.Clock.given c.args.air.now ran.new.air c.args.clock.now ran.new.clock caller moment ran.result ran.ensures.ended words asks determined c.stream_law.ensures.only;
+      spent = session-spent g.A.Air.heard g.A.Air.said g.C.Clock.given c.args.air.now ran.new.air c.args.clock.now ran.new.clock caller moment ran.result ran.ensures.ended words asks determined c.stream_law.ensures.only;
+      frames = λ name is. absurd (only.session_frames (caller, moment, asks) (name, is));
+      frames_alone = λ frames. absurd (only.session_frames (caller, moment, asks) frames);
+      no_such = λ name shelf is. absurd (only.session_frames (caller, moment, asks) (name, is));
+      too_long = λ name shelf is. absurd (only.session_frames (caller, moment, asks) (name, is));
+      frames_done = λ name shelf is. absurd (only.session_frames (caller, moment, asks) (name, is));
+      air_read = ran.ensures.air_read;
+      air_write = ran.ensures.air_write;
+      shelf = record { rose = λ e. absurd (isnt status.Shelf refl e); same = λ _ _. refl };
+      out = λ e. absurd (isnt status.Out refl e);
+      session_done =
+          session-done g.A.Air.heard g.A.Air.said g.C.Clock.given c.args.air.now ran.new.air c.args.clock.now ran.new.clock caller moment ran.result ran.ensures.ended words g.A.Air.read_faults g.A.Air.write_faults ran.ensures.air_read ran.ensures.air_write;
+      done = λ e. (refl, ap g.O.Out.faults (line.done e));
+      unshown = λ e _. line.done e;
+      shown = λ _. line.shown;
     }
 
-pub returns-clause-no_such : goal.returns-clause-no_such
-returns-clause-no_such g c = λ name frames has.
-    rw c.end_with.ensures.status (frames-no_such _ name _ _ c.play-status.result (c.play-status.ensures.frames name frames) has)
+pub returns-in-Ok-Frames : goal.returns-in-Ok-Frames
+returns-in-Ok-Frames g c =
+    let name = c.in-Ok-Frames.name.now in
+    let words = c.args.words.now in
+    let asks = rw c.in-Ok-Frames.field-0-is at c.in-Ok-Frames.ensures.asks in
+    let only = c.one_meaning.ensures.only_one words in
+    let determined = c.one_meaning.ensures.determined words in
+    let ran = c.run_frames-status in
+    let line = c.show_line-in-Ok-Frames.ensures in
+    let held = g.S.Shelf.held c.args.shelf.now in
+    let isnt = frames-not g.O.Out.shown g.O.Out.faults held name c.args.out.now ran.new.out ran.result ran.ensures.shown in
+    record {
+      usage = λ e. absurd (isnt status.Usage refl e);
+      usage_told = λ usage. absurd (only.usage_frames usage (name, asks));
+      unbuilt_words = λ unbuilt. absurd (only.unbuilt_frames unbuilt (name, asks));
+      unread = λ refused. absurd (elim refused [ inl usage ↦ only.usage_frames usage (name, asks) | inr unbuilt ↦ only.unbuilt_frames unbuilt (name, asks) ]);
+      untouched = λ refused. absurd (elim refused [ inl usage ↦ only.usage_frames usage (name, asks) | inr unbuilt ↦ only.unbuilt_frames unbuilt (name, asks) ]);
+      held = ran.ensures.held;
+      session = λ caller moment is. absurd (only.session_frames (caller, moment, is) (name, asks));
+      session_alone = λ session. absurd (only.session_frames session (name, asks));
+      clock_unasked = λ _. refl;
+      complete = λ told. absurd (only.session_frames (told.caller, told.moment, told.asks) (name, asks));
+      not_built = λ told. absurd (only.session_frames (told.caller, told.moment, told.asks) (name, asks));
+      spent = λ told. absurd (only.session_frames (told.caller, told.moment, told.asks) (name, asks));
+      frames =
+          frames-runs g.O.Out.shown g.O.Out.faults held name c.args.out.now ran.new.out ran.result ran.ensures.shown words asks determined g.S.Shelf.held c.args.shelf.now refl
+          c.show_line-in-Ok-Frames.new.out line.shown line.done;
+      frames_alone = λ _. (refl, refl);
+      no_such = frames-no_such g.O.Out.shown g.O.Out.faults held name c.args.out.now ran.new.out ran.result ran.ensures.shown words asks determined;
+      too_long = frames-too_long g.O.Out.shown g.O.Out.faults held name c.args.out.now ran.new.out ran.result ran.ensures.shown words asks determined;
+      frames_done = frames-shown g.O.Out.shown g.O.Out.faults held name c.args.out.now ran.new.out ran.result ran.ensures.shown words asks determined;
+      air_read = record { rose = λ e. absurd (isnt status.AirRead refl e); same = λ _. refl };
+      air_write = record { rose = λ e. absurd (isnt status.AirWrite refl e); same = λ _. refl };
+      shelf = ran.ensures.shelf;
+      out = frames-rose g.O.Out.shown g.O.Out.faults held name c.args.out.now ran.new.out ran.result ran.ensures.shown c.show_line-in-Ok-Frames.new.out line.no_fewer_faults;
+      session_done = λ session. absurd (only.session_frames session (name, asks));
+      done = λ e. (
+        ran.ensures.shelf.same (λ f. let other = sym e in cc) (λ f. let other = sym e in cc),
+        frames-done g.O.Out.shown g.O.Out.faults held name c.args.out.now ran.new.out ran.result ran.ensures.shown c.show_line-in-Ok-Frames.new.out line.done e,
+      );
+      unshown = λ _ others. absurd (others (name, asks));
+      shown = λ others. absurd (others (name, asks));
+    }
 
-pub returns-clause-too_long : goal.returns-clause-too_long
-returns-clause-too_long g c = λ name frames has.
-    rw c.end_with.ensures.status (frames-too_long _ name _ _ c.play-status.result (c.play-status.ensures.frames name frames) has)
-
-pub returns-clause-frames_done : goal.returns-clause-frames_done
-returns-clause-frames_done g c = λ name frames has no_shelf no_out.
-    rw c.end_with.ensures.status
-    (frames-done _ name _ _ c.play-status.result (c.play-status.ensures.frames name frames) has (λ e. no_shelf (c.play-status.ensures.shelf e))
-    (λ e. no_out (λ few. let rose = c.play-status.ensures.out e few in omega (arith, rose, c.end_with.ensures.no_fewer_faults))))
-
-pub returns-clause-shown : goal.returns-clause-shown
-returns-clause-shown g c = λ others.
-    let same = c.play-status.ensures.others others in
-    rw (c.end_with.ensures.status, ← same) c.end_with.ensures.shown
+pub returns-in-Err : goal.returns-in-Err
+returns-in-Err g c =
+    let why = c.in-Err.refusal in
+    let words = c.args.words.now in
+    let only = c.one_meaning.ensures.only_one words in
+    let refused = c.in-Err.ensures in
+    let h = means words why (Err why) refl refused.usage refused.unbuilt refused.memory in
+    let line = rw c.status_of_refused-status.ensures at c.show_line-in-Err.ensures in
+    let held = g.S.Shelf.held c.args.shelf.now in
+    rw c.status_of_refused-status.ensures
+    (record {
+      usage = refused-usage words only why h;
+      usage_told = refused-usage_told words only why h;
+      unbuilt_words = refused-unbuilt words only why h;
+      unread = λ _. refused-unread words only why h;
+      untouched = λ _. (refl, refl, refl);
+      held = refl;
+      session = refused-session words only why h g.A.Air.heard g.A.Air.said g.C.Clock.given c.args.air.now c.args.clock.now;
+      session_alone = λ _. refl;
+      clock_unasked = λ _. refl;
+      complete = refused-complete words only why h g.A.Air.heard g.A.Air.said g.C.Clock.given c.args.air.now c.args.clock.now;
+      not_built = refused-not_built words only why h g.A.Air.heard g.A.Air.said g.C.Clock.given c.args.air.now c.args.clock.now;
+      spent = refused-spent words only why h g.A.Air.heard g.A.Air.said g.C.Clock.given c.args.air.now c.args.clock.now;
+      frames = refused-frames words only why h g.S.Shelf.held g.O.Out.shown g.O.Out.faults c.args.shelf.now c.args.out.now c.show_line-in-Err.new.out line.shown;
+      frames_alone = λ _. (refl, refl);
+      no_such = refused-no_such words only why h held;
+      too_long = refused-too_long words only why h held;
+      frames_done = refused-shown words only why h held;
+      air_read = record { rose = λ e. absurd (refused-not why status.AirRead refl e); same = λ _. refl };
+      air_write = record { rose = λ e. absurd (refused-not why status.AirWrite refl e); same = λ _. refl };
+      shelf = record { rose = λ e. absurd (refused-not why status.Shelf refl e); same = λ _ _. refl };
+      out = λ e. absurd (refused-not why status.Out refl e);
+      session_done = λ _ e. absurd (refused-not why status.Done refl e);
+      done = λ e. absurd (refused-not why status.Done refl e);
+      unshown = λ e. absurd (refused-not why status.Done refl e);
+      shown = λ _. line.shown;
+    })

@@ -1,6 +1,6 @@
-use Rattle.std.proofs.Common.{◌≡◌, [], ◌∷◌, ◌++◌, List, ℕ, ◌∙◌, ap, sym, subst, arith}
+use Rattle.std.proofs.Common.{◌≡◌, [], ◌∷◌, ◌++◌, List, ℕ, length, ◌∙◌, ap, sym, subst, arith}
 use Rattle.std.proofs.lemmas.Grind.{common_steps}
-use Rattle.disk_model.specs.Surface.{IsImage, Surface, opened, surface_after, surface_after_call, write_over}
+use Rattle.disk_model.specs.Surface.{IsImage, Surface, with_range, surface_after, surface_after_call, write_over}
 use Rattle.disk_model.specs.declared.disk_call.DiskCall.TheVariants as call
 use Rattle.disk_model.proofs.Surfaces.{surface_after-push, images_of_other_content, written_leaves}
 use Rattle.disk_model.proofs.Writes.{octets_from_fits}
@@ -17,9 +17,10 @@ invariant_of-self-2 c =
     let after : surface_after was.first c.push.new.self.items ≡ surface_after_call before (call.Write at bytes) =
     ap (surface_after was.first) pushed ∙ surface_after-push was.first was.calls.items (call.Write at bytes) in
     let left = written_leaves before at bytes was.present.items (octets_from_fits bytes c.type_inv.bytes) was.image in
-    let image = images_of_other_content (opened before at bytes) (write_over before.content at bytes) (write_over was.present.items at bytes) left in
+    let image = images_of_other_content (with_range before at (length bytes)) (write_over before.content at bytes) (write_over was.present.items at bytes) left in
     record {
       content = present ∙ ap (λ (l : List ℕ). write_over l at bytes) was.content ∙ sym (ap (λ (s : Surface). s.content) after);
       image = subst (λ (s : Surface). IsImage s c.overwrite.new.octets.items) (sym after) (subst (IsImage (surface_after_call before (call.Write at bytes))) (sym present) image);
+      room = λ up. grind (arith, common_steps);
       most = let e = ap (λ (s : Surface). s.most) after in omega (arith, e, was.most, c.in_ok-overwrite.ensures.ends);
     }

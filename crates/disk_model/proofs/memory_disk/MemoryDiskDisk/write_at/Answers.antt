@@ -1,6 +1,7 @@
+use Rattle.std.proofs.Common.{⊎_elim, arith}
 use Rattle.disk_model.specs.Memory.{state}
 use Rattle.disk_model.specs.MemoryLaws.{content_is_image}
-use Rattle.disk_model.proofs.Steps.{writing_elapses, writing_opens, writing_tears, writing_writes}
+use Rattle.disk_model.proofs.Steps.{elapses_either, follows_either, leaves_open_either, writing_opens, writing_writes}
 use Rattle.disk_model.proofs.memory_disk.MemoryDiskDisk.write_at.Goals as goal
 
 pub returns-clause-written : goal.returns-clause-written
@@ -8,10 +9,13 @@ returns-clause-written c = writing_writes (state c.args.self.now) (state c.recor
 
 pub returns-clause-torn : goal.returns-clause-torn
 returns-clause-torn c =
-    writing_tears (state c.args.self.now) (state c.record_write.new.self) c.args.at c.args.bytes.now c.record_write.result c.record_write.ensures.writing (content_is_image c.args.self.now)
+    follows_either _ _ _ _ _ (writing_opens (state c.args.self.now) (state c.record_write.new.self) c.args.at c.args.bytes.now c.record_write.result c.record_write.ensures.writing) (content_is_image c.args.self.now)
 
 pub returns-clause-open : goal.returns-clause-open
-returns-clause-open c = writing_opens (state c.args.self.now) (state c.record_write.new.self) c.args.at c.args.bytes.now c.record_write.result c.record_write.ensures.writing
+returns-clause-open c = λ up within.
+    leaves_open_either _ _ _ _ _ (writing_opens (state c.args.self.now) (state c.record_write.new.self) c.args.at c.args.bytes.now c.record_write.result c.record_write.ensures.writing)
+    (⊎_elim up (λ far. omega (arith, far, within)))
 
 pub returns-clause-past : goal.returns-clause-past
-returns-clause-past c = writing_elapses (state c.args.self.now) (state c.record_write.new.self) c.args.at c.args.bytes.now c.record_write.result c.record_write.ensures.writing
+returns-clause-past c =
+    elapses_either _ _ _ _ _ (writing_opens (state c.args.self.now) (state c.record_write.new.self) c.args.at c.args.bytes.now c.record_write.result c.record_write.ensures.writing)

@@ -1,29 +1,29 @@
-use Rattle.std.proofs.Common.{◌≡◌, ◌↔◌, inl, ⊎_elim, ℕ, ◌+◌, List, Err, Option, IfSome, sym, ◌∙◌, ap, subst, arith}
+use Rattle.std.proofs.Common.{◌≡◌, inl, ⊎_elim, ℕ, ◌+◌, List, sym, ◌∙◌, subst, arith}
+use Rattle.file_journal.specs.Calls.{images_now}
+use Rattle.file_journal.specs.Recovery.{IsRecovering}
 use Rattle.disk_model.specs.Disk.{Only}
-use Rattle.file_journal.specs.declared.faults.RecoverFault.TheVariants as fault
-use Rattle.file_journal.specs.Journal.{journal_of, not_a_store}
-use Rattle.file_journal.proofs.MomentLemmas.{if_told, at_told}
+use Rattle.file_journal.proofs.CallLemmas.{reads_now, quiet_by_sync}
+use Rattle.file_journal.proofs.RecoverLemmas.{recovering_same}
+use Rattle.file_journal.proofs.ToldLemmas.{at_told, if_told}
 use Rattle.file_journal.proofs.journal.Journal.recover.Goals as goal
-
-pub returns-clause-not_a_store : goal.returns-clause-not_a_store
-returns-clause-not_a_store g c found =
-    subst (λ (content : Option (List ℕ)). IfSome content (λ before. ((c.recover_synced.result ≡ Err fault.Disk) → ⊥) → (c.recover_synced.result ≡ Err (fault.NotAStore found)) ↔ (journal_of c.args.magic before ≡ not_a_store found)))
-    (c.len.ensures.content ∙ c.sync.ensures.content) (c.recover_synced.ensures.not_a_store found)
 
 pub returns-clause-since_sync : goal.returns-clause-since_sync
 returns-clause-since_sync g c =
     let D = g.D.Disk in
-    if_told (D.content c.args.disk.now) _ (λ before told.
-    let mid = c.len.ensures.content ∙ c.sync.ensures.content ∙ told in
-    let one = at_told _ before told c.in_ok-sync.ensures.moment.one in
-    let first : D.moment c.args.disk.now + 1 ≡ D.moment c.len.new.self = sym one ∙ sym c.len.ensures.moment in
-    let quiet = at_told (λ octets. Only (D.images c.sync.new.self) octets) before told c.in_ok-sync.ensures.durable in
-    let leaves = at_told _ before mid c.recover_synced.ensures.since in
-    inl (
-      omega (arith, first, leaves.later),
-      λ image since. ⊎_elim
-          (λ past. inl (ap (journal_of c.args.magic) (quiet image ((c.len.ensures.images image).0 (g.met.D.Disk.only_now c.len.new.self image past)))))
+    let old = c.args.disk.now in
+    let synced = c.sync.new.self in
+    let mid = c.len.new.self in
+    let only = c.len.ensures.only_reads in
+    let rest = quiet_by_sync D old synced c.sync.ensures.content c.in_ok-sync.ensures.durable c.in_ok-sync.ensures.moment.one c.sync.ensures.since_now in
+    if_told (D.content old) _ (λ before told.
+    let P = IsRecovering c.args.magic c.args.blocks before in
+    let first : D.moment old + 1 ≡ D.moment mid = sym (at_told _ before told c.in_ok-sync.ensures.moment.one) ∙ sym only.same_moment in
+    let leaves = at_told _ before (only.same_content ∙ c.sync.ensures.content ∙ told) c.recover_synced.ensures.since in
+    let quiet = at_told (Only (images_now D synced)) before (c.sync.ensures.content ∙ told) rest in
+    inl (record {
+      later = omega (arith, first, leaves.later);
+      each = λ image since. ⊎_elim
+          (λ past. subst P (sym (quiet image (reads_now D synced mid only image past))) (recovering_same c.args.magic c.args.blocks before))
           (λ here. here)
-          (leaves.each (D.moment c.len.new.self) image (omega arith)
-          (subst (λ (t : ℕ). D.images_since c.recover_synced.new.disk t image) first since)),
-    ))
+          (leaves.each (D.moment mid) image (omega arith) (subst (λ (t : ℕ). D.images_since c.recover_synced.new.disk t image) first since));
+    }))

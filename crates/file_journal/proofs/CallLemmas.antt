@@ -1,0 +1,169 @@
+-- How a run of disk calls is put together of others.
+use Rattle.std.proofs.Common.{◌≡◌, ◌⊎◌, inl, inr, ⊎_elim, ℕ, ◌+◌, ◌≤◌, true≢false, List, Option, Some, IfSome, Result, Ok, Err, IsErr, OnOk, refl, sym, ◌∙◌, ap, subst, arith}
+use Rattle.std.proofs.lemmas.Result.{on_ok_weaker}
+use Rattle.px_base.specs.Outside.{HasCause, Rose}
+use Rattle.disk_model.specs.Disk.{HasContent, Only}
+use Rattle.disk_model.specs.Moments.{SinceNow, TimePasses}
+use Rattle.disk_model.specs.declared.disk.Disk.{Ghosts}
+use Rattle.file_journal.specs.Calls.{ChangesReads, CountsFault, CountsFaults, IsQuietNow, IsLastCall, Leaves, Makes, Puts, Reads, Runs, StopsAtFault, TellsAlike, images_now}
+use Rattle.file_journal.proofs.MomentLemmas.{joined, reads, weaker}
+use Rattle.file_journal.proofs.ToldLemmas.{alike_on, alike_same, at_told, content_now, if_told, told_weaker}
+
+-- from two facts of an `Ok`
+pub on_ok_both : {T E P Q R : Type 0} (result : Result T E) → (P → Q → R) → OnOk result P → OnOk result Q → OnOk result R
+on_ok_both (Ok x) step p q = step p q
+on_ok_both (Err e) step p q = tt
+
+-- One count.
+pub counts_of : {T E : Type 0} (before now : ℕ) (result : Result T E) → HasCause before now result → CountsFault before now (IsErr result)
+counts_of before now (Ok x) cause = record { no_less = cause.no_less; rose = λ e. absurd (true≢false (sym e)); same = λ fine. cause.same }
+counts_of before now (Err e) cause = record { no_less = cause.no_less; rose = λ failed. cause.rose; same = λ fine. absurd (fine refl) }
+
+pub counts_none : (count : ℕ) (P : Type 0) → ¬ P → CountsFault count count P
+counts_none count P fine = record { no_less = omega arith; rose = λ failed. absurd (fine failed); same = λ still. refl }
+
+pub counts_same : (before now : ℕ) (P Q : Type 0) → (P → Q) → (Q → P) → CountsFault before now P → CountsFault before now Q
+counts_same before now P Q there back counts = record { no_less = counts.no_less; rose = λ q. counts.rose (back q); same = λ fine. counts.same (λ p. fine (there p)) }
+
+-- behind calls that didn't fail
+pub counts_on : (before mid now : ℕ) (P : Type 0) → mid ≡ before → CountsFault mid now P → CountsFault before now P
+counts_on before mid now P same counts = subst (λ (n : ℕ). CountsFault n now P) same counts
+
+module _ {D : Type 0} (g : Ghosts D) where
+  still : (disk : D) → TimePasses g.moment g.images g.images_since disk disk
+  still disk = record { later = omega arith; nothing_else = λ t image le since. inl since; keeps = λ t image le past. past }
+
+  -- no call
+  pub stops_none : (disk : D) → g.lasts disk disk → StopsAtFault g disk disk
+  stops_none disk same = record { last = disk; lasts = same; reads = refl; writes = refl; since = inl (refl, omega arith, still disk) }
+
+  -- one write or sync
+  pub stops_once : (old new : D) → g.lasts old old → g.read_faults new ≡ g.read_faults old → g.moment new ≤ g.moment old + 1
+      → TimePasses g.moment g.images g.images_since old new → StopsAtFault g old new
+  stops_once old new same same_reads one time = record { last = old; lasts = same; reads = refl; writes = refl; since = inl (same_reads, one, time) }
+
+  -- reads alone
+  pub stops_reads : (old new : D) → g.lasts old old → ChangesReads g old new → StopsAtFault g old new
+  stops_reads old new same only = record { last = old; lasts = same; reads = refl; writes = refl; since = inr only }
+
+  module _ (on : (first second third : D) → g.lasts first second → g.lasts second third → g.lasts first third) where
+    -- behind calls that didn't fail
+    pub stops_on : (old mid new : D) → g.lasts old mid → g.read_faults mid ≡ g.read_faults old → g.write_faults mid ≡ g.write_faults old
+        → StopsAtFault g mid new → StopsAtFault g old new
+    stops_on old mid new lasts reads writes stops = record {
+      last = stops.last;
+      lasts = on old mid stops.last lasts stops.lasts;
+      reads = stops.reads ∙ reads;
+      writes = stops.writes ∙ writes;
+      since = stops.since;
+    }
+
+    pub puts_on : (old mid new : D) (P Q : Type 0) → ¬ P → Puts g P old mid → Puts g Q mid new → Puts g Q old new
+    puts_on old mid new P Q fine first second = record {
+      told = alike_on _ _ _ first.told second.told;
+      reads = second.reads ∙ first.reads;
+      faults = counts_on _ _ _ Q (first.faults.same fine) second.faults;
+      stops = stops_on old mid new first.lasts first.reads (first.faults.same fine) second.stops;
+      lasts = on old mid new first.lasts second.lasts;
+    }
+
+    pub reads_on : (old mid new : D) (P Q : Type 0) → ¬ P → Reads g P old mid → Reads g Q mid new → Reads g Q old new
+    reads_on old mid new P Q fine first second = record {
+      only = record {
+        same_content = second.only.same_content ∙ first.only.same_content;
+        same_images = λ image. (λ now. (first.only.same_images image).0 ((second.only.same_images image).0 now), λ was. (second.only.same_images image).1 ((first.only.same_images image).1 was));
+        same_moment = second.only.same_moment ∙ first.only.same_moment;
+        same_past = λ t image. (λ now. (first.only.same_past t image).0 ((second.only.same_past t image).0 now), λ was. (second.only.same_past t image).1 ((first.only.same_past t image).1 was));
+        same_write_faults = second.only.same_write_faults ∙ first.only.same_write_faults;
+      };
+      faults = counts_on _ _ _ Q (first.faults.same fine) second.faults;
+      lasts = on old mid new first.lasts second.lasts;
+    }
+
+  -- one call of `write_at` or `sync`
+  pub puts_once : {T E : Type 0} (result : Result T E) (old new : D) → g.lasts old old → TellsAlike (g.content old) (g.content new) → g.read_faults new ≡ g.read_faults old
+      → HasCause (g.write_faults old) (g.write_faults new) result → g.moment new ≤ g.moment old + 1
+      → TimePasses g.moment g.images g.images_since old new → g.lasts old new → Puts g (IsErr result) old new
+  puts_once result old new same told reads cause one time lasts = record {
+    told = told;
+    reads = reads;
+    faults = counts_of _ _ result cause;
+    stops = stops_once old new same reads one time;
+    lasts = lasts;
+  }
+
+  pub puts_none : (disk : D) (P : Type 0) → ¬ P → g.lasts disk disk → Puts g P disk disk
+  puts_none disk P fine same = record { told = alike_same _ _ refl; reads = refl; faults = counts_none _ P fine; stops = stops_none disk same; lasts = same }
+
+  pub puts_same : (old new : D) (P Q : Type 0) → (P → Q) → (Q → P) → Puts g P old new → Puts g Q old new
+  puts_same old new P Q there back puts = record {
+    told = puts.told;
+    reads = puts.reads;
+    faults = counts_same _ _ P Q there back puts.faults;
+    stops = puts.stops;
+    lasts = puts.lasts;
+  }
+
+  -- after a sync that passed
+  pub quiet_by_sync : (old new : D) → g.content new ≡ g.content old → IfSome (g.content old) (Only (g.images new)) → IfSome (g.content old) (λ octets. g.moment new ≡ g.moment old + 1)
+      → SinceNow g.moment g.images g.images_since old new → IsQuietNow g new
+  quiet_by_sync old new same durable one since_now =
+      if_told (g.content new) _ (λ now told image since.
+      let was = sym same ∙ told in
+      let later : g.moment new ≡ g.moment old + 1 = at_told _ now was one in
+      at_told (Only (g.images new)) now was durable image (since_now (omega (arith, later)) image since))
+
+  -- what a crash leaves of a quiet disk
+  pub quiet_images : (disk : D) → ((t : ℕ) (image : List ℕ) → t ≤ g.moment disk → g.images disk image → g.images_since disk t image) → IsQuietNow g disk
+      → (before : List ℕ) → g.content disk ≡ Some before → Only (g.images disk) before
+  quiet_images disk counts_now rest before told image here = at_told (Only (images_now g disk)) before told rest image (counts_now (g.moment disk) image (omega arith) here)
+
+  -- what a run makes and leaves is what is asked
+  pub makes_weaker : {T E : Type 0} (result : Result T E) (old new : D) (step leaves other_step other_leaves : List ℕ → List ℕ → Type 0)
+      → ((before now : List ℕ) → g.content old ≡ Some before → step before now → other_step before now)
+      → ((before image : List ℕ) → g.content old ≡ Some before → leaves before image → other_leaves before image)
+      → Makes g result old new step leaves → Makes g result old new other_step other_leaves
+  makes_weaker result old new step leaves other_step other_leaves steps more makes = record {
+    ok = on_ok_weaker result (λ has. told_weaker (g.content old) _ _ (λ before told now. (now.0, now.1, steps before now.0 told now.2)) has) makes.ok;
+    quiet = makes.quiet;
+    since = told_weaker (g.content old) _ _ (λ before told left. weaker g.moment g.images_since old new _ _ (λ image here. more before image told here) left) makes.since;
+    puts = makes.puts;
+  }
+
+  -- A run that failed, of which more may be left than is asked.
+  pub makes_failed : {T U E F : Type 0} (result : Result T E) (other : Result U F) (old new : D) (step leaves other_step other_leaves : List ℕ → List ℕ → Type 0) → IsErr other
+      → ((before image : List ℕ) → g.content old ≡ Some before → leaves before image → other_leaves before image)
+      → Makes g result old new step leaves → IsErr result → Makes g other old new other_step other_leaves
+  makes_failed result (Ok x) old new step leaves other_step other_leaves failed more makes was = absurd (true≢false (sym failed))
+  makes_failed result (Err e) old new step leaves other_step other_leaves failed more makes was = record {
+    ok = tt;
+    quiet = tt;
+    since = told_weaker (g.content old) _ _ (λ before told left. weaker g.moment g.images_since old new _ _ (λ image here. more before image told here) left) makes.since;
+    puts = puts_same old new (IsErr result) _ (λ p. failed) (λ p. was) makes.puts;
+  }
+
+  -- Two runs, one after the other, of which the first didn't fail.
+  module _ (on : (first second third : D) → g.lasts first second → g.lasts second third → g.lasts first third) {T U E F : Type 0} (x : T) (result : Result U F) (old mid new : D)
+      (first_step first_leaves second_step second_leaves step leaves : List ℕ → List ℕ → Type 0) where
+    pub makes_on : Makes {E = E} g (Ok x) old mid first_step first_leaves → Makes g result mid new second_step second_leaves
+        → ((before middle now : List ℕ) → g.content old ≡ Some before → first_step before middle → second_step middle now → step before now)
+        → ((before image : List ℕ) → g.content old ≡ Some before → first_leaves before image → leaves before image)
+        → ((before middle image : List ℕ) → g.content old ≡ Some before → g.content mid ≡ Some middle → first_step before middle → second_leaves middle image → leaves before image)
+        → Makes g result old new step leaves
+    makes_on first second steps early late = record {
+      ok = on_ok_weaker result (λ has. if_told (g.content old) _ (λ before told.
+          let m = at_told (λ before. (now : List ℕ) × (g.content mid ≡ Some now) × first_step before now) before told first.ok in
+          let n = at_told (λ before. (now : List ℕ) × (g.content new ≡ Some now) × second_step before now) m.0 m.1 has in
+          (n.0, n.1, steps before m.0 n.0 told m.2 n.2))) second.ok;
+      quiet = second.quiet;
+      since = if_told (g.content old) _ (λ before told.
+          let m = at_told (λ before. (now : List ℕ) × (g.content mid ≡ Some now) × first_step before now) before told first.ok in
+          joined g.moment g.images_since old mid new (leaves before)
+          (weaker g.moment g.images_since old mid (first_leaves before) (leaves before) (λ image here. early before image told here) (at_told _ before told first.since))
+          (weaker g.moment g.images_since mid new (second_leaves m.0) (leaves before) (λ image here. late before m.0 image told m.1 m.2 here) (at_told _ m.0 m.1 second.since)));
+      puts = puts_on on old mid new _ _ (λ e. true≢false (sym e)) first.puts second.puts;
+    }
+
+  -- reads change nothing of what a crash since this moment might have left
+  pub reads_now : (old new : D) → ChangesReads g old new → (image : List ℕ) → images_now g new image → images_now g old image
+  reads_now old new only image now = subst (λ (t : ℕ). g.images_since old t image) only.same_moment ((only.same_past (g.moment new) image).0 now)

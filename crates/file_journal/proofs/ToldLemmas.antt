@@ -1,0 +1,43 @@
+-- What holds where content is told.
+use Rattle.std.proofs.Common.{◌≡◌, ◌↔◌, ℕ, List, Option, None, Some, IfSome, is_some, Result, Ok, IfOk, refl, sym, ◌∙◌, ap, subst, true, true≢false}
+use Rattle.disk_model.specs.Disk.{HasContent}
+use Rattle.file_journal.specs.Calls.{TellsAlike}
+
+-- to show a fact of what is told, and to use one
+pub if_told : {A : Type 0} (o : Option A) (P : A → Type 0) → ((x : A) → o ≡ Some x → P x) → IfSome o P
+if_told None P shows = tt
+if_told (Some x) P shows = shows x refl
+
+pub at_told : {A : Type 0} {o : Option A} (P : A → Type 0) (x : A) → o ≡ Some x → IfSome o P → P x
+at_told P x is holds = subst (λ o. IfSome o P) is holds
+
+-- the same of what is answered
+pub at_ok : {T E : Type 0} {result : Result T E} (P : T → Type 0) (x : T) → result ≡ Ok x → IfOk result P → P x
+at_ok P x is holds = subst (λ result. IfOk result P) is holds
+
+-- a fact of what is told becomes another
+pub told_weaker : {A : Type 0} (o : Option A) (P Q : A → Type 0) → ((x : A) → o ≡ Some x → P x → Q x) → IfSome o P → IfSome o Q
+told_weaker None P Q step holds = tt
+told_weaker (Some x) P Q step holds = step x refl holds
+
+-- what is told after a call was told before it
+pub told_before : (before now : Option (List ℕ)) (x : List ℕ) → TellsAlike before now → now ≡ Some x → (y : List ℕ) × (before ≡ Some y)
+told_before None now x alike is = absurd (true≢false (sym (alike.0 (ap is_some is))))
+told_before (Some y) now x alike is = (y, refl)
+
+-- so it is of what stood before
+pub content_now : (before now : Option (List ℕ)) (step : List ℕ → List ℕ → Type 0) (x : List ℕ) → TellsAlike before now → HasContent before now step → now ≡ Some x
+    → (y : List ℕ) × (before ≡ Some y) × step y x
+content_now before now step x alike has is =
+    let was = told_before before now x alike is in
+    let new = at_told _ was.0 was.1 has in
+    (was.0, was.1, subst (λ (l : List ℕ). step was.0 l) (some_same new.0 x (sym new.1 ∙ is)) new.2)
+  where
+    some_same : (a b : List ℕ) → Some a ≡ Some b → a ≡ b
+    some_same a b same = cc same
+
+pub alike_same : (before now : Option (List ℕ)) → now ≡ before → TellsAlike before now
+alike_same before now same = (λ told. subst (λ (o : Option (List ℕ)). is_some o ≡ true) same told, λ told. subst (λ (o : Option (List ℕ)). is_some o ≡ true) (sym same) told)
+
+pub alike_on : (before mid now : Option (List ℕ)) → TellsAlike before mid → TellsAlike mid now → TellsAlike before now
+alike_on before mid now first second = (λ told. first.0 (second.0 told), λ told. second.1 (first.1 told))

@@ -1,0 +1,17 @@
+use Rattle.std.proofs.Common.{◌≡◌, ℕ, ◌%◌, List, get_or, sym, ◌∙◌, ap, arith}
+use Rattle.file_journal.specs.Formatting.{IsMakingEven, MakesEven}
+use Rattle.file_journal.proofs.CallLemmas.{makes_weaker, quiet_images}
+use Rattle.file_journal.proofs.FormatLemmas.{even_before, even_by, even_crash, torn_only}
+use Rattle.file_journal.proofs.ToldLemmas.{at_told}
+use Rattle.file_journal.proofs.format.make_selector_even.Goals as goal
+
+pub returns : goal.returns
+returns g c =
+    let D = g.D.Disk in
+    let old = c.args.disk.now in
+    makes_weaker D c.write_synced.result old c.write_synced.new.disk _ _ MakesEven IsMakingEven
+    (λ before now told writes.
+    even_by before now (at_told _ before told c.requires.long) (omega (arith, at_told _ before told c.requires.selector)) writes)
+    (λ before image told torn.
+    even_crash before image (at_told _ before told c.requires.long) (torn_only 15 1 before _ (quiet_images D old (g.met.D.Disk.counts_now old) c.requires.quiet before told) image torn))
+    c.write_synced.ensures.makes

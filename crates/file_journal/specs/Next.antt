@@ -1,0 +1,34 @@
+-- What a journal answers of the record at its place.
+use Rattle.std.specs.Prelude.{◌≡◌, ◌↔◌, ℕ, List, [], Option, None, IfOk, IfSome, Result, Ok, IsErrOf}
+use Rattle.file_journal.specs.Position.{Position, left_to_read}
+use Rattle.file_journal.specs.Records.{HasRecord, Reading, broken, reading_at, record_of, whole, with_record}
+use Rattle.file_journal.specs.declared.faults.RecoverFault.{RecoverFault}
+use Rattle.file_journal.specs.declared.faults.RecoverFault.TheVariants as fault
+
+-- What is left is this record and then what is left afterwards; `None` comes exactly where no record is left before the
+-- first gate that isn't open, and `Damaged` exactly where none is left before damage.
+pub record ReadsNext (old new : Position) (room octets : List ℕ) (result : Result (Option ℕ) RecoverFault)
+    : Type 0 where
+  pub found :
+      IfOk result (λ next. IfSome next (λ kind.
+      left_to_read old octets ≡ with_record (record_of kind room) (left_to_read new octets)))
+  pub none : (result ≡ Ok None) ↔ (left_to_read old octets ≡ whole [])
+  pub damaged :
+      (at : ℕ) → IsErrOf result (fault.Damaged at) ↔ ((at ≡ old.place) × (left_to_read old octets ≡ broken [] at))
+
+-- but for a fault of the disk, and where the content is told
+abbrev pub AnswersNext : Position → Position → List ℕ → Option (List ℕ) → Result (Option ℕ) RecoverFault → Type 0
+AnswersNext old new room content result =
+    ¬ IsErrOf result fault.Disk → IfSome content (λ octets. ReadsNext old new room octets result)
+
+-- where a record was found behind the gate at this place, it is one of this kind with what is in the room
+abbrev pub FindsRecord : ℕ → List ℕ → Option (List ℕ) → Option ℕ → Type 0
+FindsRecord place room content next = IfSome next (λ kind. IfSome content (HasRecord place (record_of kind room)))
+
+-- A refusal is for damage at this place.
+pub record RefusesAt {T : Type 0} (place : ℕ) (content : Option (List ℕ)) (result : Result T RecoverFault)
+    : Type 0 where
+  pub damaged :
+      (at : ℕ) → IsErrOf result (fault.Damaged at)
+      → (at ≡ place) × IfSome content (λ octets. reading_at place octets ≡ broken [] place)
+  pub is_store : (found : List ℕ) → ¬ IsErrOf result (fault.NotAStore found)

@@ -1,0 +1,126 @@
+-- What a run did, where the words were refused.
+use Rattle.std.proofs.Common.{◌≡◌, ℕ, List, [], ◌∷◌, ◌++◌, refl, ap, sym, subst, ◌∙◌, inl, inr, append-nil, arith, Bool, true, false, Err}
+use Rattle.std.proofs.lemmas.List.{append_cancel_left}
+use Rattle.std.specs.Prelude.{Option, None, Some, IfSome, Result, ◌⊎◌}
+use Rattle.px_base.specs.CallSign.{CallSign}
+use Rattle.px_base.specs.Polling.{HasEnd}
+use Rattle.px_base.specs.Shelves.{Holding, content_of}
+use Rattle.px_base.specs.declared.air.Turn.{Turn}
+use Rattle.px_base.proofs.Told.{Gains-none}
+use Rattle.command_words.specs.Laws.{OnlyOne}
+use Rattle.command_words.specs.Words.{IsFrames, IsSession, IsUnbuilt, IsUsage, NamesBuilt}
+use Rattle.command_words.specs.declared.request.Refusal.{Refusal}
+use Rattle.command_words.specs.declared.request.Refusal.TheVariants as refusal
+use Rattle.pacsat_cli.specs.declared.status.Status.{Status}
+use Rattle.pacsat_cli.specs.declared.status.Status.TheVariants as status
+use Rattle.pacsat_cli.specs.Frames.{FramesEnd, FramesShown, IsNoSuchBy, IsShownBy, IsTooLongBy, RunsFrames, WhereHeld}
+use Rattle.pacsat_cli.specs.Run.{AreRefused, IsDoneBy, IsNotBuiltBy, IsSpentBy, IsUnless, RunsSession, SessionHeard, Shows, WhereHeard}
+use Rattle.pacsat_cli.specs.Status.{line_of}
+use Rattle.pacsat_cli.specs.Stops.{status_of_refusal}
+
+-- why words were refused
+abbrev pub MeansOf : List (List ℕ) → Refusal → Type 0
+MeansOf words refusal.Usage = IsUsage words
+MeansOf words refusal.NotBuilt = IsUnbuilt words
+MeansOf words refusal.OutOfMemory = NamesBuilt words
+
+pub means : {R : Type 0} (words : List (List ℕ)) (why : Refusal) (result : Result R Refusal) → result ≡ Err why → (result ≡ Err refusal.Usage → IsUsage words) → (result ≡ Err refusal.NotBuilt → IsUnbuilt words) → (result ≡ Err refusal.OutOfMemory → NamesBuilt words) → MeansOf words why
+means words refusal.Usage result is a b c = a is
+means words refusal.NotBuilt result is a b c = b is
+means words refusal.OutOfMemory result is a b c = c is
+
+-- whether words can be refused with this status
+abbrev pub is_refusal_status : Status → Bool
+is_refusal_status status.Usage = true
+is_refusal_status status.NotBuilt = true
+is_refusal_status status.OutOfMemory = true
+is_refusal_status s = false
+
+pub refused-not : (why : Refusal) (other : Status) → is_refusal_status other ≡ false → status_of_refusal why ≡ other → ⊥
+refused-not refusal.Usage other isnt is = let same = ap is_refusal_status is in absurd (cc)
+refused-not refusal.NotBuilt other isnt is = let same = ap is_refusal_status is in absurd (cc)
+refused-not refusal.OutOfMemory other isnt is = let same = ap is_refusal_status is in absurd (cc)
+
+module _ (words : List (List ℕ)) (only : OnlyOne words) where
+  pub refused-usage : (why : Refusal) → MeansOf words why → status_of_refusal why ≡ status.Usage → IsUsage words
+  refused-usage refusal.Usage h is = h
+  refused-usage refusal.NotBuilt h is = absurd (cc)
+  refused-usage refusal.OutOfMemory h is = absurd (cc)
+
+  pub refused-usage_told : (why : Refusal) → MeansOf words why → IsUsage words → IsUnless (status_of_refusal why) status.Usage (status.OutOfMemory ∷ [])
+  refused-usage_told refusal.Usage h usage = inl refl
+  refused-usage_told refusal.NotBuilt h usage = absurd (only.usage_unbuilt usage h)
+  refused-usage_told refusal.OutOfMemory h usage = inr (0, omega arith, refl)
+
+  pub refused-unbuilt : (why : Refusal) → MeansOf words why → IsUnbuilt words → IsUnless (status_of_refusal why) status.NotBuilt (status.OutOfMemory ∷ [])
+  refused-unbuilt refusal.Usage h unbuilt = absurd (only.usage_unbuilt h unbuilt)
+  refused-unbuilt refusal.NotBuilt h unbuilt = inl refl
+  refused-unbuilt refusal.OutOfMemory h unbuilt = inr (0, omega arith, refl)
+
+  pub refused-unread : (why : Refusal) → MeansOf words why → status_of_refusal why ≡ status.OutOfMemory → NamesBuilt words
+  refused-unread refusal.Usage h is = absurd (cc)
+  refused-unread refusal.NotBuilt h is = absurd (cc)
+  refused-unread refusal.OutOfMemory h is = h
+
+  -- words of a session or of frames are refused only for want of memory
+  session-memory : (why : Refusal) → MeansOf words why → (caller : CallSign) (moment : Option ℕ) → IsSession words caller moment → status_of_refusal why ≡ status.OutOfMemory
+  session-memory refusal.Usage h caller moment is = absurd (only.usage_session h (caller, moment, is))
+  session-memory refusal.NotBuilt h caller moment is = absurd (only.unbuilt_session h (caller, moment, is))
+  session-memory refusal.OutOfMemory h caller moment is = refl
+
+  frames-memory : (why : Refusal) → MeansOf words why → (name : List ℕ) → IsFrames words name → status_of_refusal why ≡ status.OutOfMemory
+  frames-memory refusal.Usage h name is = absurd (only.usage_frames h (name, is))
+  frames-memory refusal.NotBuilt h name is = absurd (only.unbuilt_frames h (name, is))
+  frames-memory refusal.OutOfMemory h name is = refl
+
+  module _ (why : Refusal) (h : MeansOf words why) where
+    module _ {A C : Type 0} (heard : A → Option (List Turn)) (said : A → Option (List ℕ)) (given : C → Option (List ℕ)) (air : A) (clock : C) where
+      pub refused-session : RunsSession words heard said given air air clock clock (status_of_refusal why)
+      refused-session = λ caller moment is. inl (session-memory why h caller moment is, refl, refl)
+
+      -- where nothing was heard, there is no end
+      pub refused-complete : WhereHeard words heard given air air clock clock (IsDoneBy (status_of_refusal why))
+      refused-complete = λ told end.
+          let all : told.earlier ++ [] ≡ told.earlier ++ told.turns = (let same = sym told.told_before ∙ told.told_now in let nil = append-nil told.earlier in cc) in
+          let P : List Turn → Type 0 = λ x. HasEnd x in
+          absurd (subst P (sym (append_cancel_left told.earlier [] told.turns all)) end)
+
+      pub refused-not_built : WhereHeard words heard given air air clock clock (IsNotBuiltBy (status_of_refusal why))
+      refused-not_built = λ told some. inr (1, omega arith, sym (session-memory why h told.caller told.moment told.asks))
+
+      pub refused-spent : WhereHeard words heard given air air clock clock (IsSpentBy (status_of_refusal why))
+      refused-spent = λ told counted all_open built. inr (1, omega arith, sym (session-memory why h told.caller told.moment told.asks))
+
+    -- want of memory says nothing of the content
+    memory_end : (held : Option Holding) (name : List ℕ) → IfSome held (λ shelf. FramesEnd (content_of shelf name) [] status.OutOfMemory)
+    memory_end None name = tt
+    memory_end (Some shelf) name = refl
+
+    pub refused-frames : {S O : Type 0} (holds : S → Option Holding) (shown : O → Option (List ℕ)) (faults : O → ℕ) (shelf : S) (before now : O) → Shows shown faults before now (line_of (status_of_refusal why)) → RunsFrames words holds shown faults shelf before now (status_of_refusal why)
+    refused-frames holds shown faults shelf before now line = λ name is.
+        let memory = frames-memory why h name is in
+        let at_status : Status → Type 0 = λ s. FramesShown shown faults (holds shelf) name before before s in
+        record {
+          mid = before;
+          text =
+              subst at_status (sym memory)
+              (record {
+                text = [];
+                gains = Gains-none (shown before);
+                possible = refl;
+                ends = memory_end (holds shelf) name;
+                cause = record { rose = λ e. absurd (cc); same = λ _. refl };
+                unshown = λ _. refl;
+              });
+          line = line;
+          done = λ done. absurd (let other = sym memory ∙ done in cc);
+        }
+
+    pub refused-no_such : (held : Option Holding) → WhereHeld words held (IsNoSuchBy (status_of_refusal why))
+    refused-no_such held = λ name shelf is told none. inr (1, omega arith, sym (frames-memory why h name is))
+
+    pub refused-too_long : (held : Option Holding) → WhereHeld words held (IsTooLongBy (status_of_refusal why))
+    refused-too_long held = λ name shelf is told octets there long. inr (1, omega arith, sym (frames-memory why h name is))
+
+    pub refused-shown : (held : Option Holding) → WhereHeld words held (IsShownBy (status_of_refusal why))
+    refused-shown held = λ name shelf is told octets there short. inr (2, omega arith, sym (frames-memory why h name is))

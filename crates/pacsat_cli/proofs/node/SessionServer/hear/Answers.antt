@@ -1,0 +1,29 @@
+-- The loop goes on by what is fed, and stops where that stops.
+use Rattle.std.proofs.Common.{◌≡◌, [], ℕ, List, length, arith, Result, Err, ap, sym, ◌∙◌}
+use Rattle.std.specs.Prelude.{⊤}
+use Rattle.pacsat_cli.specs.declared.node.NodeStop.{NodeStop}
+use Rattle.pacsat_cli.specs.Node.{ServesOctets}
+use Rattle.pacsat_cli.proofs.Serving.{at_exit, hearing-ends, hearing-feed, hearing-stops, is_nil, waits_in}
+use Rattle.pacsat_cli.proofs.OctetLemmas.{octets_from}
+use Rattle.pacsat_cli.proofs.node.SessionServer.hear.Goals as goal
+
+pub returns-in_err-taken-clause-serves : goal.returns-in_err-taken-clause-serves
+returns-in_err-taken-clause-serves g c =
+    at_exit (λ (r : Result ⊤ NodeStop). ServesOctets g.A.Air.said c.args.air.now c.feed.new.air c.args.moment c.args.self.now c.feed.new.self c.args.octets.now r) c.from_residual.result c.in_err-taken.field-0.0 c.from_residual.ensures.1
+    (hearing-stops g.A.Air.said g.A.Air.heard g.A.Air.read_faults g.A.Air.write_faults c.args.moment c.args.air.now c.args.self.now c.args.octets.now
+    c.loop-piece.air c.loop-piece.self c.loop-piece.piece.now c.loop-piece.invariant c.feed.new.air c.feed.new.self c.in_err-taken.field-0.0
+    c.stream_law.ensures.read (waits_in c.self.inside c.args.self.now c.self.invariant c.self.view_is) (octets_from c.args.octets.now (λ i. omega (arith, c.type_inv.octets i))) c.in_err-taken.ensures.fed)
+
+pub loop-piece-preserved : goal.loop-piece-preserved
+loop-piece-preserved g c =
+    hearing-feed g.A.Air.said g.A.Air.heard g.A.Air.read_faults g.A.Air.write_faults c.args.moment c.args.air.now c.args.self.now c.args.octets.now
+    c.loop-piece.air c.loop-piece.self c.loop-piece.piece.now c.loop-piece.invariant c.feed.new.air c.feed.new.self c.in_ok-taken.taken _
+    c.in_ok-taken.ensures.fed c.split_at.ensures.back c.in_ok-taken.ensures.heard c.in_ok-taken.ensures.counts
+
+pub returns-clause-serves : goal.returns-clause-serves
+returns-clause-serves g c =
+    hearing-ends g.A.Air.said g.A.Air.heard g.A.Air.read_faults g.A.Air.write_faults c.args.moment c.args.air.now c.args.self.now c.args.octets.now
+    c.loop-piece.air c.loop-piece.self c.loop-piece.piece.now c.loop-piece.invariant
+    c.stream_law.ensures.read (waits_in c.self.inside c.args.self.now c.self.invariant c.self.view_is) (octets_from c.args.octets.now (λ i. omega (arith, c.type_inv.octets i)))
+    (waits_in c.self-2.inside c.loop-piece.self c.self-2.invariant c.self-2.view_is)
+    (is_nil c.loop-piece.piece.now (sym c.is_empty.ensures ∙ c.loop-piece-test.false))

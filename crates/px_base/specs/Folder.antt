@@ -1,0 +1,39 @@
+-- What contracts see of a shelf over a folder, and what it answers where the system answers so.
+use Rattle.std.specs.Prelude.{◌≡◌, ◌≢◌, ◌↔◌, ℕ, List, Some, Result, Ok, Err, OnOk, IfErr, IsErr}
+use Rattle.std.specs.IoError.{error_kind}
+use Rattle.std.specs.declared.io.Error.{Error}
+use Rattle.std.specs.declared.io.ErrorKind.{ErrorKind}
+use Rattle.std.specs.declared.io.ErrorKind.TheVariants as reason
+use Rattle.px_base.specs.declared.shelf.ShelfRefusal.{ShelfRefusal}
+use Rattle.px_base.specs.declared.shelf.ShelfRefusal.TheVariants as refusal
+use Rattle.px_base.specs.Outside.{counted}
+use Rattle.px_base.specs.Shelves.{LoadResult, load_answer}
+
+-- a shelf over a folder: what opens its files, and the count of faults
+pub record Folder (R : Type 0) : Type 0 where
+  pub files : R
+  pub faults : ℕ
+
+-- the count of faults after a load with this answer
+abbrev pub counted_after_load : LoadResult → ℕ → ℕ
+counted_after_load (Ok content) faults = faults
+counted_after_load (Err refusal.NoSuch) faults = faults
+counted_after_load (Err refusal.TooLong) faults = faults
+counted_after_load (Err refusal.Fault) faults = counted faults
+counted_after_load (Err refusal.OutOfMemory) faults = faults
+
+-- A file that can't be read for this reason is refused so.
+pub record RefusesReading (kind : ErrorKind) (result : ShelfRefusal) : Type 0 where
+  pub memory : (result ≡ refusal.OutOfMemory) ↔ (kind ≡ reason.OutOfMemory)
+  pub fault : kind ≢ reason.OutOfMemory → result ≡ refusal.Fault
+
+-- One that can't be opened for this reason is refused so: `NoSuch` exactly where the system says that nothing is there.
+pub record RefusesOpening (kind : ErrorKind) (result : ShelfRefusal) : Type 0 where
+  pub no_such : (result ≡ refusal.NoSuch) ↔ (kind ≡ reason.NotFound)
+  pub memory : (result ≡ refusal.OutOfMemory) ↔ (kind ≡ reason.OutOfMemory)
+  pub fault : kind ≢ reason.NotFound → kind ≢ reason.OutOfMemory → result ≡ refusal.Fault
+
+-- what a load of at most so many octets answers where reading one more answered so, and gave these octets
+pub record IsReadingAnswer (read : Result ℕ Error) (octets : List ℕ) (most : ℕ) (result : LoadResult) : Type 0 where
+  pub ok : OnOk read (result ≡ load_answer (Some octets) most)
+  pub err : IfErr read (λ error. IsErr result × IfErr result (RefusesReading (error_kind error)))
