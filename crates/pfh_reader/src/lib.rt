@@ -1,0 +1,19 @@
+//! The check of a file by its PACSAT file header (PFH 1990): the first rule of headers that it breaks, or none.
+//!
+//! [`check`] is over a file that lies in memory, [`Checker`] over one that comes in pieces of any lengths.
+#![tactic(auto)]
+
+mod check;
+mod checker;
+mod claims;
+mod fault;
+mod pieces;
+
+pub use check::check;
+pub use checker::Checker;
+pub use fault::HeaderFault;
+pub use pfh_items::{FileFault, Header, Sums};
+pub use pieces::check_pieces;
+
+#[cfg(test)]
+mod tests;
