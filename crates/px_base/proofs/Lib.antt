@@ -1,5 +1,6 @@
 pub mod Turns
 pub mod Ssid
 pub mod Calls
-pub mod Racks
+pub mod ShelfStates
+pub mod Told
 pub mod Wholes

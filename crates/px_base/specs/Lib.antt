@@ -1,9 +1,12 @@
 pub mod CallSign
+pub mod Counter
 pub mod Forms
 pub mod Moments
 pub mod Numbers
+pub mod Octets
 pub mod Outside
 pub mod Polling
 pub mod ShelfForms
 pub mod Shelves
 pub mod Streams
+pub mod Views

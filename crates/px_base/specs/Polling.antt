@@ -1,5 +1,7 @@
 -- The answers of an air's polls.
-use Rattle.std.specs.Prelude.{◌≡◌, ℕ, ◌≤◌, List, [], ◌∷◌, ◌++◌, length, take, Option, Some, IfSome, Result, Ok, Err, ⊤}
+use Rattle.std.specs.Prelude.{◌≡◌, ℕ, ◌≤◌, List, [], ◌∷◌, ◌++◌, length, take, Option, Result, Ok, Err, ⊤}
+use Rattle.std.specs.List.{AllByRecursion}
+use Rattle.px_base.specs.Outside.{Grows}
 use Rattle.px_base.specs.declared.air.Polled.{Polled}
 use Rattle.px_base.specs.declared.air.Polled.TheVariants as polled
 use Rattle.px_base.specs.declared.air.Turn.{Turn}
@@ -19,9 +21,13 @@ turn_of (Ok polled.Quiet) room = turn.Quiet
 turn_of (Ok polled.End) room = turn.End
 turn_of (Err down) room = turn.Fail
 
--- Where what is heard now is told, what was heard before was told too, and this turn is all that came since.
+-- one turn more was heard
 abbrev pub Hears : Option (List Turn) → Option (List Turn) → Turn → Type 0
-Hears before now next = IfSome now (λ turns. (earlier : List Turn) × (before ≡ Some earlier) × (turns ≡ earlier ++ next ∷ []))
+Hears before now next = Grows before now (next ∷ [])
+
+-- these turns more were heard
+abbrev pub HearsAll : Option (List Turn) → Option (List Turn) → List Turn → Type 0
+HearsAll before now turns = Grows before now turns
 
 -- the octets of a turn
 abbrev pub octets_of_turn : Turn → List ℕ
@@ -41,3 +47,22 @@ IsTurn (turn.Bytes octets) = (1 ≤ length octets) × (length octets ≤ 512)
 IsTurn turn.Quiet = ⊤
 IsTurn turn.Fail = ⊤
 IsTurn turn.End = ⊤
+
+-- the turn left the air open
+abbrev pub IsOpen : Turn → Type 0
+IsOpen (turn.Bytes octets) = ⊤
+IsOpen turn.Quiet = ⊤
+IsOpen turn.Fail = ⊥
+IsOpen turn.End = ⊥
+
+-- the turns are open ones, and then this last one
+abbrev pub EndsWith : List Turn → Turn → Type 0
+EndsWith turns last = (earlier : List Turn) × (turns ≡ earlier ++ last ∷ []) × AllByRecursion IsOpen earlier
+
+-- the end of the air is among the turns
+abbrev pub HasEnd : List Turn → Type 0
+HasEnd [] = ⊥
+HasEnd ((turn.Bytes octets) ∷ turns) = HasEnd turns
+HasEnd (turn.Quiet ∷ turns) = HasEnd turns
+HasEnd (turn.Fail ∷ turns) = HasEnd turns
+HasEnd (turn.End ∷ turns) = ⊤

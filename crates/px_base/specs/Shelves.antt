@@ -1,5 +1,5 @@
 -- What a shelf holds, and what its calls answer and change.
-use Rattle.std.specs.Prelude.{◌≡◌, ◌≢◌, ℕ, ◌≤◌, ◌⊎◌, List, length, nat_le, Option, None, Some, IfSome, Result, Ok, Err, if◌then◌else◌}
+use Rattle.std.specs.Prelude.{◌≡◌, ◌≢◌, ℕ, ◌≤◌, ◌⊎◌, List, length, nat_le, Bool, true, false, IsTrue, Option, None, Some, IfSome, MatchOption, Result, Ok, Err, if◌then◌else◌}
 use Rattle.std.specs.Map.{lookup}
 use Rattle.std.specs.Str.{bytes_eq}
 use Rattle.px_base.specs.declared.shelf.ShelfRefusal.{ShelfRefusal}
@@ -29,20 +29,32 @@ AnswersOf content most result =
 abbrev pub Loads : Option Holding → List ℕ → ℕ → Result (List ℕ) ShelfRefusal → Type 0
 Loads held name most result = IfSome held (λ shelf. AnswersOf (content_of shelf name) most result)
 
--- a count never falls, and a load answers `Fault` only where it rose in the call
+-- whether a load answers of the content: neither a fault nor want of memory
+abbrev pub is_of_content : Result (List ℕ) ShelfRefusal → Bool
+is_of_content (Ok content) = true
+is_of_content (Err refusal.NoSuch) = true
+is_of_content (Err refusal.TooLong) = true
+is_of_content (Err refusal.Fault) = false
+is_of_content (Err refusal.OutOfMemory) = false
+
+-- A count never falls; a load answers `Fault` only where it rose in the call, and of the content only where it stayed.
 pub record HasLoadCause (before now : ℕ) (result : Result (List ℕ) ShelfRefusal) : Type 0 where
   pub no_less : before ≤ now
   pub rose : result ≡ Err refusal.Fault → Rose before now
+  pub same : IsTrue (is_of_content result) → now ≡ before
 
 -- each name but this one has the content that it had
 abbrev pub SameOthers : Holding → Holding → List ℕ → Type 0
 SameOthers before now name = (other : List ℕ) → other ≢ name → content_of now other ≡ content_of before other
 
--- Where it is told what was held, it is told what is held now: this content under this name, all else as it was.
+-- Where it is told what was held, it is told what is held now: this content under this name, all else as it was. Where it
+-- isn't told, it isn't told now either.
 abbrev pub Keeps : Option Holding → Option Holding → List ℕ → List ℕ → Type 0
 Keeps before now name content =
-    IfSome before (λ old. (new : Holding) × (now ≡ Some new) × (content_of new name ≡ Some content) × SameOthers old new name)
+    MatchOption before (now ≡ None)
+    (λ old. (new : Holding) × (now ≡ Some new) × (content_of new name ≡ Some content) × SameOthers old new name)
 
 -- The same with any content, or none, under this name.
 abbrev pub KeepsOthers : Option Holding → Option Holding → List ℕ → Type 0
-KeepsOthers before now name = IfSome before (λ old. (new : Holding) × (now ≡ Some new) × SameOthers old new name)
+KeepsOthers before now name =
+    MatchOption before (now ≡ None) (λ old. (new : Holding) × (now ≡ Some new) × SameOthers old new name)

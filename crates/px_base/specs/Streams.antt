@@ -1,10 +1,8 @@
 -- What contracts see of the forms over streams.
-use Rattle.std.specs.Prelude.{ℕ, List, [], Option, Result}
-use Rattle.std.specs.Prelude.{if◌then◌else◌, is_err}
+use Rattle.std.specs.Prelude.{ℕ, List, [], Option}
 use Rattle.std.specs.Io.KnownBytes.{Consumes, IsAtEnd, Keeps}
 use Rattle.px_base.specs.declared.air.Turn.{Turn}
 use Rattle.px_base.specs.declared.air.Turn.TheVariants as turn
-use Rattle.px_base.specs.Forms.{counted}
 
 -- the streams of an air, and its counts of faults
 pub record AirStreams (R W : Type 0) : Type 0 where
@@ -25,7 +23,3 @@ HearsFrom before now (turn.Bytes octets) = Consumes before now octets
 HearsFrom before now turn.Quiet = ⊥
 HearsFrom before now turn.Fail = Keeps before now
 HearsFrom before now turn.End = Consumes before now [] × IsAtEnd now
-
--- the count of faults after a call with this answer
-abbrev pub counted_after : {T E : Type 0} → Result T E → ℕ → ℕ
-counted_after result faults = if is_err result then counted faults else faults

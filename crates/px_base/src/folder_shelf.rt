@@ -1,12 +1,12 @@
 //! The working folder as a shelf: a name is a path. It tells nothing of what it holds; it counts its faults.
 
 ghost use Rattle.std.specs.Prelude.{◌≡◌, ◌≤◌, length, None, Some, IfOk, IfSome};
-ghost use Rattle.px_base.specs.Outside.{HasCause};
+ghost use Rattle.px_base.specs.Outside.{HasCause, counted_after};
 ghost use Rattle.px_base.specs.ShelfForms.{counted_after_load};
 ghost use Rattle.px_base.specs.Shelves.{AnswersOf, HasLoadCause};
-ghost use Rattle.px_base.specs.Streams.{counted_after};
 
 use crate::FileBytes;
+use crate::fault_count::FaultCount;
 use crate::shelf::{Shelf, ShelfDown, ShelfRefusal};
 use std::alloc::Global;
 use std::fs::{self, File};
@@ -18,7 +18,7 @@ use std::rt::Files;
 #[derive(Drop)]
 pub struct FolderShelf<R> {
     files: R,
-    faults: u64,
+    faults: FaultCount,
 }
 
 impl<R> Model for FolderShelf<R> {
@@ -34,7 +34,10 @@ impl<R: Files> FolderShelf<R> {
     pub fn new(files: R) -> FolderShelf<R>
         ensures { result ≡ record { files = files; faults = 0 } }
     {
-        FolderShelf { files, faults: 0 }
+        FolderShelf {
+            files,
+            faults: FaultCount::new(),
+        }
     }
 }
 
@@ -52,7 +55,7 @@ impl<R: Files> Shelf for FolderShelf<R> {
     {
         let answer = load_file(&self.files, alloc, name, most);
         if let Err(ShelfRefusal::Fault) = &answer {
-            self.faults = self.faults.saturating_add(1);
+            self.faults.count();
         }
         answer
     }
@@ -63,7 +66,7 @@ impl<R: Files> Shelf for FolderShelf<R> {
         ensures counted { self.new ≡ record self.old { faults = counted_after result self.old.faults } }
     {
         if fs::write(&self.files, name, bytes).is_err() {
-            self.faults = self.faults.saturating_add(1);
+            self.faults.count();
             return Err(ShelfDown);
         }
         Ok(())

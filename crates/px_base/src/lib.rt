@@ -4,7 +4,9 @@
 
 mod air;
 mod call;
+mod call_counter;
 mod clock;
+mod fault_count;
 mod file_bytes;
 mod folder_shelf;
 pub mod laws;
@@ -21,7 +23,9 @@ mod system_clock;
 
 pub use air::{Air, AirDown, Polled, ROOM, Turn};
 pub use call::{BadCall, Call};
+pub use call_counter::CallCounter;
 pub use clock::Clock;
+pub use fault_count::FaultCount;
 pub use file_bytes::FileBytes;
 pub use folder_shelf::FolderShelf;
 pub use memory::OutOfMemory;

@@ -1,12 +1,15 @@
 //! An air in memory: a script of turns to hear, and a record of what was heard and said.
 
-ghost use Rattle.std.specs.Prelude.{◌≡◌, ◌↔◌, [], ◌∷◌, ◌++◌, true, false, drop, Some, Contains, IfOk, IsErr, OnOk, OnErr, IsTrue};
+ghost use Rattle.std.specs.Prelude.{◌≡◌, ◌↔◌, [], ◌∷◌, ◌++◌, true, false, drop, Some, IfOk, IsErr, OnOk, OnErr, IsTrue};
 ghost use Rattle.std.specs.List.{AllByRecursion};
-ghost use Rattle.px_base.specs.Forms.{IsPoll, IsSaying, has_fail, is_fail, new_tape, next_turn as next_of, told_heard};
+ghost use Rattle.px_base.specs.Counter.{HasCauses};
+ghost use Rattle.px_base.specs.Forms.{IsPoll, IsSaying, has_fail, is_fail, new_air_state, next_turn as next_of, told_heard};
 ghost use Rattle.px_base.specs.Outside.{Gains, GainsPrefix, HasCause};
 ghost use Rattle.px_base.specs.Polling.{Hears, IsPolled, IsTurn, turn_of};
 
 use crate::air::{Air, AirDown, Polled, Turn};
+use crate::call_counter::CallCounter;
+use crate::fault_count::FaultCount;
 use crate::memory::OutOfMemory;
 use std::alloc::Global;
 use std::collections::VecDeque;
@@ -20,39 +23,37 @@ pub struct MemoryAir {
     coming: VecDeque<Turn>,
     heard: Vec<Turn>,
     said: Vec<u8>,
-    calls: u64,
-    failing: Vec<u64>,
-    read_faults: u64,
-    write_faults: u64,
-    starved: bool,
+    calls: CallCounter,
+    read_faults: FaultCount,
+    write_faults: FaultCount,
     untold: bool,
 }
 
 impl Model for MemoryAir {
-    ghost use Rattle.px_base.specs.Forms.{Tape, IsTape};
+    ghost use Rattle.px_base.specs.Forms.{MemoryAirState, IsAirState};
 
-    ghost Value = { Tape };
+    ghost Value = { MemoryAirState };
 
-    ghost view = { λ a. record { coming = a.coming.items; heard = a.heard.items; said = a.said.items; calls = a.calls; failing = a.failing.items; read_faults = a.read_faults; write_faults = a.write_faults; starved = a.starved; untold = a.untold } };
+    ghost use Rattle.px_base.specs.Views.{air_state};
 
-    ghost invariant = { λ a. IsTape (record { coming = a.coming.items; heard = a.heard.items; said = a.said.items; calls = a.calls; failing = a.failing.items; read_faults = a.read_faults; write_faults = a.write_faults; starved = a.starved; untold = a.untold }) };
+    ghost view = { air_state };
+
+    ghost invariant = { λ a. IsAirState (air_state a) };
 }
 
 impl MemoryAir {
     /// An air that answers these turns in order, and whose calls of these numbers fail. Takes memory.
     pub fn new(alloc: Global, turns: Vec<Turn>, failing: &[u64]) -> Result<MemoryAir, OutOfMemory>
         requires { AllByRecursion IsTurn turns.items }
-        ensures { IfOk result (λ air. air ≡ new_tape turns.items failing.now) }
+        ensures { IfOk result (λ air. air ≡ new_air_state turns.items failing.now) }
     {
         Ok(MemoryAir {
             coming: VecDeque::from_vec(turns),
             heard: Vec::new(alloc),
             said: Vec::new(alloc),
-            calls: 0,
-            failing: Vec::from_slice(alloc, failing)?,
-            read_faults: 0,
-            write_faults: 0,
-            starved: false,
+            calls: CallCounter::new(alloc, failing)?,
+            read_faults: FaultCount::new(),
+            write_faults: FaultCount::new(),
             untold: false,
         })
     }
@@ -74,11 +75,11 @@ impl MemoryAir {
     /// Whether a call found no memory. While it is false, and no call is listed to fail, saying counts no fault,
     /// and hearing counts none where no turn fails.
     pub fn starved(&self) -> bool
-        ensures value { result ≡ self.now.starved }
-        ensures read { self.now.failing ≡ [] → result ≡ false → has_fail self.now.heard ≡ false → self.now.read_faults ≡ 0 }
-        ensures write { self.now.failing ≡ [] → result ≡ false → self.now.write_faults ≡ 0 }
+        ensures value { result ≡ self.now.calls.starved }
+        ensures read { has_fail self.now.heard ≡ false → HasCauses self.now.calls self.now.read_faults }
+        ensures write { HasCauses self.now.calls self.now.write_faults }
     {
-        self.starved
+        self.calls.starved()
     }
 }
 
@@ -103,20 +104,16 @@ impl Air for MemoryAir {
         ensures write_faults { self.new.write_faults ≡ self.old.write_faults }
         ensures turn { IsPoll self.old self.new (turn_of result room.new) }
     {
-        self.calls = self.calls.saturating_add(1);
-        let listed = is_listed(&self.failing, self.calls);
+        let listed = self.calls.count();
         let turn = next_turn(&mut self.coming, listed);
         let answer = answer_of(&turn, room);
         if !record(&mut self.heard, turn) {
-            self.starved = true;
+            self.calls.starve();
             self.untold = true;
-            self.read_faults = self.read_faults.saturating_add(1);
+            self.read_faults.count();
             return Err(AirDown);
         }
-        if answer.is_err() {
-            self.read_faults = self.read_faults.saturating_add(1);
-        }
-        answer
+        self.read_faults.count_err(answer)
     }
 
     /// Says all of these octets; a call that is listed, or finds no memory for them, fails and says none.
@@ -128,26 +125,17 @@ impl Air for MemoryAir {
         ensures read_faults { self.new.read_faults ≡ self.old.read_faults }
         ensures saying { IsSaying self.old self.new bytes.now result }
     {
-        self.calls = self.calls.saturating_add(1);
-        if is_listed(&self.failing, self.calls) {
-            self.write_faults = self.write_faults.saturating_add(1);
+        if self.calls.count() {
+            self.write_faults.count();
             return Err(AirDown);
         }
         if self.said.extend_from_slice(bytes).is_err() {
-            self.starved = true;
-            self.write_faults = self.write_faults.saturating_add(1);
+            self.calls.starve();
+            self.write_faults.count();
             return Err(AirDown);
         }
         Ok(())
     }
-}
-
-/// Whether the call of this number is listed to fail.
-pub(crate) fn is_listed(failing: &[u64], call: u64) -> bool
-    ensures listed { IsTrue result ↔ Contains failing.now call }
-    ensures none { failing.now ≡ [] → result ≡ false }
-{
-    failing.contains(&call)
 }
 
 /// Takes the next turn, which is `End` after the last one; or fails, and takes none.

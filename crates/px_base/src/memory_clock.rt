@@ -1,8 +1,8 @@
 //! A clock in memory: a list of moments, of which the last goes on.
 
 ghost use Rattle.std.specs.Prelude.{◌≡◌, ◌≤◌, length, IfOk};
-ghost use Rattle.px_base.specs.Forms.{counted};
 ghost use Rattle.px_base.specs.Moments.{Gives, moment_after, told_given};
+ghost use Rattle.px_base.specs.Outside.{counted};
 
 use crate::clock::Clock;
 use crate::memory::OutOfMemory;
@@ -18,9 +18,9 @@ pub struct MemoryClock {
 
 impl Model for MemoryClock {
     ghost use Rattle.std.specs.Prelude.{◌≤◌, vec_len};
-    ghost use Rattle.px_base.specs.Moments.{Dial};
+    ghost use Rattle.px_base.specs.Moments.{MemoryClockState};
 
-    ghost Value = { Dial };
+    ghost Value = { MemoryClockState };
 
     ghost view = { λ a. record { moments = a.moments.items; calls = a.calls } };
 

@@ -1,11 +1,13 @@
 //! An output in memory: a record of what was shown.
 
-ghost use Rattle.std.specs.Prelude.{◌≡◌, [], false, Some, IfOk, OnOk, OnErr};
-ghost use Rattle.px_base.specs.Forms.{IsShowing, new_page};
+ghost use Rattle.std.specs.Prelude.{◌≡◌, Some, IfOk, OnOk, OnErr};
+ghost use Rattle.px_base.specs.Counter.{HasCauses};
+ghost use Rattle.px_base.specs.Forms.{IsShowing, new_out_state};
 ghost use Rattle.px_base.specs.Outside.{Gains, GainsPrefix, HasCause};
 
+use crate::call_counter::CallCounter;
+use crate::fault_count::FaultCount;
 use crate::memory::OutOfMemory;
-use crate::memory_air::is_listed;
 use crate::out::{Out, OutDown};
 use std::alloc::Global;
 use std::marker::Model;
@@ -15,34 +17,30 @@ use std::marker::Model;
 #[derive(Drop)]
 pub struct MemoryOut {
     shown: Vec<u8>,
-    calls: u64,
-    failing: Vec<u64>,
-    faults: u64,
-    starved: bool,
+    calls: CallCounter,
+    faults: FaultCount,
 }
 
 impl Model for MemoryOut {
-    ghost use Rattle.std.specs.Prelude.{◌≡◌, [], false};
-    ghost use Rattle.px_base.specs.Forms.{Page};
+    ghost use Rattle.px_base.specs.Counter.{HasCauses};
+    ghost use Rattle.px_base.specs.Forms.{MemoryOutState};
 
-    ghost Value = { Page };
+    ghost Value = { MemoryOutState };
 
-    ghost view = { λ a. record { shown = a.shown.items; calls = a.calls; failing = a.failing.items; faults = a.faults; starved = a.starved } };
+    ghost view = { λ a. record { shown = a.shown.items; calls = a.calls; faults = a.faults } };
 
-    ghost invariant = { λ a. a.failing.items ≡ [] → a.starved ≡ false → a.faults ≡ 0 };
+    ghost invariant = { λ a. HasCauses a.calls a.faults };
 }
 
 impl MemoryOut {
     /// An output whose calls of these numbers fail. Takes memory.
     pub fn new(alloc: Global, failing: &[u64]) -> Result<MemoryOut, OutOfMemory>
-        ensures { IfOk result (λ out. out ≡ new_page failing.now) }
+        ensures { IfOk result (λ out. out ≡ new_out_state failing.now) }
     {
         Ok(MemoryOut {
             shown: Vec::new(alloc),
-            calls: 0,
-            failing: Vec::from_slice(alloc, failing)?,
-            faults: 0,
-            starved: false,
+            calls: CallCounter::new(alloc, failing)?,
+            faults: FaultCount::new(),
         })
     }
 
@@ -55,10 +53,10 @@ impl MemoryOut {
 
     /// Whether a call found no memory. While it is false, and no call is listed to fail, no fault is counted.
     pub fn starved(&self) -> bool
-        ensures value { result ≡ self.now.starved }
-        ensures faults { self.now.failing ≡ [] → result ≡ false → self.now.faults ≡ 0 }
+        ensures value { result ≡ self.now.calls.starved }
+        ensures faults { HasCauses self.now.calls self.now.faults }
     {
-        self.starved
+        self.calls.starved()
     }
 }
 
@@ -76,14 +74,13 @@ impl Out for MemoryOut {
         ensures faults { HasCause self.old.faults self.new.faults result }
         ensures showing { IsShowing self.old self.new bytes.now result }
     {
-        self.calls = self.calls.saturating_add(1);
-        if is_listed(&self.failing, self.calls) {
-            self.faults = self.faults.saturating_add(1);
+        if self.calls.count() {
+            self.faults.count();
             return Err(OutDown);
         }
         if self.shown.extend_from_slice(bytes).is_err() {
-            self.starved = true;
-            self.faults = self.faults.saturating_add(1);
+            self.calls.starve();
+            self.faults.count();
             return Err(OutDown);
         }
         Ok(())

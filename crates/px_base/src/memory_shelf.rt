@@ -1,54 +1,52 @@
 //! A shelf in memory: contents under names, and a count of calls.
 
-ghost use Rattle.std.specs.Prelude.{◌≡◌, ◌≤◌, ◌⊎◌, [], false, length, Err, Some, IfOk, OnOk, OnErr};
+ghost use Rattle.std.specs.Prelude.{◌≡◌, ◌≤◌, ◌⊎◌, length, Err, Some, IfOk, OnOk, OnErr};
+ghost use Rattle.px_base.specs.Counter.{HasCauses};
 ghost use Rattle.px_base.specs.Outside.{HasCause};
-ghost use Rattle.px_base.specs.ShelfForms.{IsKeeping, IsLoading, holding_of, new_rack};
+ghost use Rattle.px_base.specs.ShelfForms.{IsKeeping, IsLoading, holding_of, new_shelf_state};
 ghost use Rattle.px_base.specs.Shelves.{HasLoadCause, Keeps, KeepsOthers, Loads, SameOthers, content_of, load_answer};
 ghost use Rattle.std.specs.Option.{option_copied};
 
 use crate::FileBytes;
+use crate::call_counter::CallCounter;
+use crate::fault_count::FaultCount;
 use crate::memory::OutOfMemory;
-use crate::memory_air::is_listed;
 use crate::shelf::{Shelf, ShelfDown, ShelfRefusal};
 use std::alloc::Global;
 use std::collections::BTreeMap;
 use std::marker::Model;
 
 /// A shelf in memory. The calls of `load` and `keep` are numbered together from 1; a call whose number is listed
-/// fails, and changes nothing that is held. A call of `keep` that finds no memory fails too.
+/// fails, and changes nothing that is held. A call that finds no memory fails too.
 #[derive(Drop)]
 pub struct MemoryShelf {
     alloc: Global,
     held: BTreeMap<String, FileBytes>,
-    calls: u64,
-    failing: Vec<u64>,
-    faults: u64,
-    starved: bool,
+    calls: CallCounter,
+    faults: FaultCount,
 }
 
 impl Model for MemoryShelf {
-    ghost use Rattle.std.specs.Prelude.{◌≡◌, [], false};
-    ghost use Rattle.px_base.specs.ShelfForms.{Rack, holding_of};
+    ghost use Rattle.px_base.specs.Counter.{HasCauses};
+    ghost use Rattle.px_base.specs.ShelfForms.{MemoryShelfState, holding_of};
 
-    ghost Value = { Rack };
+    ghost Value = { MemoryShelfState };
 
-    ghost view = { λ a. record { held = holding_of a.held.entries; calls = a.calls; failing = a.failing.items; faults = a.faults; starved = a.starved } };
+    ghost view = { λ a. record { held = holding_of a.held.entries; calls = a.calls; faults = a.faults } };
 
-    ghost invariant = { λ a. a.failing.items ≡ [] → a.starved ≡ false → a.faults ≡ 0 };
+    ghost invariant = { λ a. HasCauses a.calls a.faults };
 }
 
 impl MemoryShelf {
     /// A shelf that has no names yet, and whose calls of these numbers fail. Takes memory.
     pub fn new(alloc: Global, failing: &[u64]) -> Result<MemoryShelf, OutOfMemory>
-        ensures { IfOk result (λ shelf. shelf ≡ new_rack failing.now) }
+        ensures { IfOk result (λ shelf. shelf ≡ new_shelf_state failing.now) }
     {
         Ok(MemoryShelf {
             alloc,
             held: BTreeMap::new(alloc),
-            calls: 0,
-            failing: Vec::from_slice(alloc, failing)?,
-            faults: 0,
-            starved: false,
+            calls: CallCounter::new(alloc, failing)?,
+            faults: FaultCount::new(),
         })
     }
 
@@ -59,12 +57,12 @@ impl MemoryShelf {
         content_in(&self.held, name)
     }
 
-    /// Whether a call of `keep` found no memory. While it is false, and no call is listed to fail, no fault is counted.
+    /// Whether a call found no memory. While it is false, and no call is listed to fail, no fault is counted.
     pub fn starved(&self) -> bool
-        ensures value { result ≡ self.now.starved }
-        ensures faults { self.now.failing ≡ [] → result ≡ false → self.now.faults ≡ 0 }
+        ensures value { result ≡ self.now.calls.starved }
+        ensures faults { HasCauses self.now.calls self.now.faults }
     {
-        self.starved
+        self.calls.starved()
     }
 }
 
@@ -75,7 +73,7 @@ impl Shelf for MemoryShelf {
 
     ghost faults = { λ a. a.faults };
 
-    /// The content of this name, of at most `most` octets; a call that is listed fails. Want of memory counts no fault.
+    /// The content of this name, of at most `most` octets; a call that is listed fails. Want of memory counts as a fault.
     fn load(&mut self, alloc: Global, name: &str, most: usize) -> Result<FileBytes, ShelfRefusal>
         ensures most { IfOk result (λ content. length content ≤ most) }
         ensures answer { Loads (Some self.old.held) name.now most result }
@@ -83,12 +81,16 @@ impl Shelf for MemoryShelf {
         ensures faults { HasLoadCause self.old.faults self.new.faults result }
         ensures loading { IsLoading self.old self.new name.now most result }
     {
-        self.calls = self.calls.saturating_add(1);
-        if is_listed(&self.failing, self.calls) {
-            self.faults = self.faults.saturating_add(1);
+        if self.calls.count() {
+            self.faults.count();
             return Err(ShelfRefusal::Fault);
         }
-        copy_of(alloc, content_in(&self.held, name), most)
+        let answer = copy_of(alloc, content_in(&self.held, name), most);
+        if let Err(ShelfRefusal::OutOfMemory) = &answer {
+            self.calls.starve();
+            self.faults.count();
+        }
+        answer
     }
 
     /// Sets the content of this name; a call that is listed, or finds no memory, fails and changes nothing that is held.
@@ -98,14 +100,13 @@ impl Shelf for MemoryShelf {
         ensures faults { HasCause self.old.faults self.new.faults result }
         ensures keeping { IsKeeping self.old self.new name.now bytes.now result }
     {
-        self.calls = self.calls.saturating_add(1);
-        if is_listed(&self.failing, self.calls) {
-            self.faults = self.faults.saturating_add(1);
+        if self.calls.count() {
+            self.faults.count();
             return Err(ShelfDown);
         }
         if put(self.alloc, &mut self.held, name, bytes).is_err() {
-            self.starved = true;
-            self.faults = self.faults.saturating_add(1);
+            self.calls.starve();
+            self.faults.count();
             return Err(ShelfDown);
         }
         Ok(())
@@ -113,7 +114,7 @@ impl Shelf for MemoryShelf {
 }
 
 /// The content of this name.
-#[tactic(auto, using(crate::proofs::Racks::held_names))]
+#[tactic(auto, using(crate::proofs::ShelfStates::held_names))]
 fn content_in<'a>(held: &'a BTreeMap<String, FileBytes>, name: &str) -> Option<&'a FileBytes>
     ensures { option_copied result ≡ content_of (holding_of held.now.entries) name.now }
 {

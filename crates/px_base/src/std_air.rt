@@ -2,11 +2,12 @@
 
 ghost use Rattle.std.specs.Prelude.{◌≡◌, None, IfOk, OnOk};
 ghost use Rattle.std.specs.Io.KnownBytes.{Appends};
-ghost use Rattle.px_base.specs.Outside.{HasCause};
+ghost use Rattle.px_base.specs.Outside.{HasCause, counted_after};
 ghost use Rattle.px_base.specs.Polling.{IsPolled, turn_of};
-ghost use Rattle.px_base.specs.Streams.{HearsFrom, counted_after};
+ghost use Rattle.px_base.specs.Streams.{HearsFrom};
 
 use crate::air::{Air, AirDown, Polled};
+use crate::fault_count::FaultCount;
 use crate::out::{Out, OutDown};
 use std::io::{Read, Write};
 use std::marker::Model;
@@ -17,8 +18,8 @@ use std::marker::Model;
 pub struct StdAir<R, W> {
     input: R,
     output: W,
-    read_faults: u64,
-    write_faults: u64,
+    read_faults: FaultCount,
+    write_faults: FaultCount,
 }
 
 impl<R, W> Model for StdAir<R, W> {
@@ -37,8 +38,8 @@ impl<R: Read, W: Write> StdAir<R, W> {
         StdAir {
             input,
             output,
-            read_faults: 0,
-            write_faults: 0,
+            read_faults: FaultCount::new(),
+            write_faults: FaultCount::new(),
         }
     }
 }
@@ -65,7 +66,7 @@ impl<R: Read, W: Write> Air for StdAir<R, W> {
             Ok(0) => Ok(Polled::End),
             Ok(count) => Ok(Polled::Bytes(count)),
             Err(_) => {
-                self.read_faults = self.read_faults.saturating_add(1);
+                self.read_faults.count();
                 Err(AirDown)
             }
         }
@@ -80,7 +81,7 @@ impl<R: Read, W: Write> Air for StdAir<R, W> {
         ensures input { self.new.input ≡ self.old.input }
     {
         if self.output.write_all(bytes).is_err() || self.output.flush().is_err() {
-            self.write_faults = self.write_faults.saturating_add(1);
+            self.write_faults.count();
             return Err(AirDown);
         }
         Ok(())
@@ -91,7 +92,7 @@ impl<R: Read, W: Write> Air for StdAir<R, W> {
 #[derive(Drop)]
 pub struct StdOut<W> {
     output: W,
-    faults: u64,
+    faults: FaultCount,
 }
 
 impl<W> Model for StdOut<W> {
@@ -107,7 +108,10 @@ impl<W: Write> StdOut<W> {
     pub fn new(output: W) -> StdOut<W>
         ensures { result ≡ record { output = output; faults = 0 } }
     {
-        StdOut { output, faults: 0 }
+        StdOut {
+            output,
+            faults: FaultCount::new(),
+        }
     }
 }
 
@@ -123,7 +127,7 @@ impl<W: Write> Out for StdOut<W> {
         ensures counted { self.new.faults ≡ counted_after result self.old.faults }
     {
         if self.output.write_all(bytes).is_err() || self.output.flush().is_err() {
-            self.faults = self.faults.saturating_add(1);
+            self.faults.count();
             return Err(OutDown);
         }
         Ok(())

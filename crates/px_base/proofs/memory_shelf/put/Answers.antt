@@ -1,5 +1,5 @@
 use Rattle.std.proofs.Common.{◌∙◌, ap, Some}
-use Rattle.px_base.proofs.Racks.{content_of-set_same, content_of-set_other}
+use Rattle.px_base.proofs.ShelfStates.{content_of-set_same, content_of-set_other}
 use Rattle.px_base.proofs.memory_shelf.put.Goals as goal
 
 pub returns-clause-this : goal.returns-clause-this
