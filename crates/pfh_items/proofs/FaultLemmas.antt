@@ -111,7 +111,7 @@ abbrev pub body_test : List ItemValue → List ℕ → Bool
 body_test items body = le16 (content_of 0x09 items) 0 == sum16 body
 
 -- What the tests of a file's parts choose is its first fault.
-abbrev IsChosen : List ItemValue → List ℕ → List ℕ → Option FileFault → Type 0
+abbrev pub IsChosen : List ItemValue → List ℕ → List ℕ → Option FileFault → Type 0
 IsChosen items body file found = MatchOption found (IsFaultless items body file) (λ fault. FirstFault fault file)
 
 no_by : {P : Type 0} (b : Bool) → (P → b ≡ true) → b ≡ false → P → ⊥

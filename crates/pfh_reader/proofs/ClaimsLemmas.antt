@@ -83,9 +83,9 @@ pub noted-from : (old new : List Standing) (rules : List MandatoryItem) (item : 
 noted-from old new rules item r lo ln each =
     same_lists new (noted old rules item) (ln ∙ sym (length-noted old rules item lo))
     (λ k d below.
-        get_or-any new k d Missing below
-        ∙ each k (omega arith)
-        ∙ sym (get_or-noted old rules item k d Missing r lo (omega arith)))
+    get_or-any new k d Missing below
+    ∙ each k (omega arith)
+    ∙ sym (get_or-noted old rules item k d Missing r lo (omega arith)))
   where
     get_or-any : (xs : List Standing) (k : ℕ) (d e : Standing) → k < length xs → get_or xs k d ≡ get_or xs k e
     get_or-any [] k d e below = absurd (omega arith)

@@ -1,17 +1,20 @@
 -- What is kept of a file's items and octets says its first fault.
-use Rattle.std.proofs.Common.{◌≡◌, ℕ, ◌+◌, ◌-◌, ◌%◌, ◌/◌, ◌==◌, ◌&&◌, List, [], ◌∷◌, ◌++◌, length, Bool, true, false, not, Option, Some, None, refl, sym, ap, ◌∙◌, subst}
+use Rattle.std.proofs.Common.{◌≡◌, ℕ, ◌+◌, ◌-◌, ◌%◌, ◌/◌, ◌==◌, ◌&&◌, List, [], ◌∷◌, ◌++◌, length, Bool, true, false, not, cond, Option, Some, None, option_map, refl, sym, ap, ◌∙◌, subst}
 use Rattle.std.specs.List.{list_all}
-use Rattle.std.proofs.lemmas.Bool.{and_parts}
+use Rattle.std.proofs.lemmas.Bool.{and_parts, false_from_ne_true}
 use Rattle.px_base.specs.Numbers.{le16, le32, sum16}
 use Rattle.pfh_items.specs.declared.fault.FileFault.{FileFault}
+use Rattle.pfh_items.specs.declared.fault.FileFault.TheVariants.{NoHeader, NoEndItem}
 use Rattle.pfh_items.specs.declared.table.MandatoryItem.{MandatoryItem}
-use Rattle.pfh_items.specs.Faults.{items_with, content_of, header_sum, StandsOnce, FitsFile, is_one_of_len, has_mandatory, fits_file, fault_of}
-use Rattle.pfh_items.specs.Layout.{ItemValue, AreItems, header_text}
+use Rattle.pfh_items.specs.Faults.{items_with, content_of, header_sum, BeginsHeader, FirstFault, IsFaultless, IsFound, code_of, fault_code, fault_of_parts, file_parts, first_fault, is_one_of_len, has_mandatory, fits_file, fault_of}
+use Rattle.pfh_items.specs.Layout.{ItemValue, AreItems, FileText, header_text}
 use Rattle.pfh_items.specs.Table.{mandatory_items}
-use Rattle.pfh_items.proofs.FaultLemmas.{chosen, chosen-by, header_test, body_test, once_each, fits_file-FitsFile}
+use Rattle.pfh_items.proofs.FaultLemmas.{FitsFile-fits_file, IsChosen, IsFound-chosen, fault_of-is, header_test, body_test, once_each}
+use Rattle.pfh_items.proofs.HeaderLemmas.{BeginsHeader-begins_header, begins_header-BeginsHeader, one_header}
 use Rattle.pfh_reader.specs.declared.claims.Claims.{Claims}
 use Rattle.pfh_reader.specs.declared.claims.Standing.{Standing}
 use Rattle.pfh_reader.specs.declared.measures.Measures.{Measures}
+use Rattle.pfh_reader.specs.Check.{IsSums}
 use Rattle.pfh_reader.specs.Claims.{IsClaims, is_missing, is_once}
 use Rattle.pfh_reader.specs.Measures.{IsMeasured}
 use Rattle.pfh_reader.proofs.ClaimsLemmas.{all_stand, all_once, content_of-items_with}
@@ -87,3 +90,43 @@ module _ (items : List ItemValue) (body : List ℕ) (claims : Claims) (measures 
   pub body_sum_test : fits_file items body ≡ true → (claims.body_sum == measures.body_sum) ≡ body_test items body
   body_sum_test fits =
       ap (λ (n : ℕ). n == measures.body_sum) (body_sum (fits_once fits)) ∙ ap (λ (n : ℕ). le16 (content_of 0x09 items) 0 == n) of.body_sum
+
+-- ---- the first fault of octets, by what is known of them
+
+pub first_fault-other : (file : List ℕ) → (BeginsHeader file → ⊥) → first_fault file ≡ Some NoHeader
+unfolding first_fault
+first_fault-other file other =
+    ap (λ (b : Bool). cond b (fault_of_parts (file_parts file)) (Some NoHeader)) (false_from_ne_true _ (λ begins. other (BeginsHeader-begins_header file begins)))
+
+pub first_fault-parts : (file : List ℕ) → BeginsHeader file → file_parts file ≡ None → first_fault file ≡ Some NoEndItem
+unfolding first_fault
+first_fault-parts file begins none =
+    ap (λ (b : Bool). cond b (fault_of_parts (file_parts file)) (Some NoHeader)) (begins_header-BeginsHeader file begins) ∙ ap fault_of_parts none
+
+pub faultless : (items : List ItemValue) (body file : List ℕ) → FileText items body file → fault_of items body ≡ None → IsFaultless items body file
+faultless items body file is none = subst (IsChosen items body file) none (fault_of-is items body file is)
+
+pub first : (items : List ItemValue) (body file : List ℕ) (fault : FileFault) → FileText items body file → fault_of items body ≡ Some fault → FirstFault fault file
+first items body file fault is some = subst (IsChosen items body file) some (fault_of-is items body file is)
+
+pub found : (items : List ItemValue) (body file : List ℕ) (fault : Option FileFault) → FileText items body file → fault ≡ fault_of items body → IsFound file fault
+found items body file fault is same = subst (IsFound file) (sym same) (IsFound-chosen items body file (fault_of items body) (fault_of-is items body file is))
+
+pub code : (file : List ℕ) (fault : FileFault) (n : ℕ) → first_fault file ≡ Some fault → n ≡ code_of fault → fault_code file ≡ Some n
+code file fault n some same = ap (option_map code_of) some ∙ ap (λ (m : ℕ). Some m) (sym same)
+
+-- the sums of a file without fault are those that are kept
+pub sums_of : (items others : List ItemValue) (body other file : List ℕ) (claims : Claims) (measures : Measures) (n : ℕ) → IsFaultless items body file
+    → FileText others other file → IsClaims others claims → IsMeasured others other measures → n ≡ claims.body_offset
+    → IsSums items body (record { header_len = n; body_sum = measures.body_sum; header_sum = claims.header_sum })
+sums_of items others body other file claims measures n is text kept of len =
+    let same = one_header file others items other body text is.file_text in
+    let claims_is : IsClaims items claims = subst (λ (x : List ItemValue). IsClaims x claims) same.0 kept in
+    let of_is : IsMeasured items other measures = subst (λ (x : List ItemValue). IsMeasured x other measures) same.0 of in
+    let once = fits_once items body claims measures claims_is (subst (λ (x : List ℕ). IsMeasured items x measures) same.1 of_is) (FitsFile-fits_file items body is.fits) in
+    let both = subst (λ (x : List ℕ). IsMeasured items x measures) same.1 of_is in
+    record {
+      header_len = len ∙ body_offset items body claims measures claims_is both once ∙ is.fits.body_offset;
+      body_sum = both.body_sum;
+      header_sum = header_sum_is items body claims measures claims_is both once ∙ is.header_sum;
+    }

@@ -42,6 +42,7 @@ sum-item_text id content =
 move : (low high len mine rest others all : ℕ) → len ≡ 2 → rest + others ≡ all
     → (low + (high + 2)) + rest + (mine + others) ≡ (low + (high + (len + mine))) + all
 move low high len mine rest others all two same = omega arith
+
 shift : (text rest others all : ℕ) → rest + others ≡ all → text + rest + others ≡ text + all
 shift text rest others all same = omega arith
 
@@ -125,5 +126,6 @@ header_sum-own items content are same two =
         let hb : b < 256 = h 1 0 (omega arith) in
         omega (arith, sum-cons a (b ∷ []), sum-cons b [])
     sum_two (a ∷ (b ∷ (c ∷ xs))) two h = absurd (omega arith)
+
     mod_less : (whole own part : ℕ) → part + own ≡ whole → own ≤ 510 → (whole % 65536 + 65536 - own) % 65536 ≡ part % 65536
     mod_less whole own part same below = omega arith

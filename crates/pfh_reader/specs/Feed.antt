@@ -1,6 +1,7 @@
 -- What a checker stands for: the octets that it was fed.
 use Rattle.std.specs.Prelude.{◌≡◌, ℕ, ◌<◌, ◌==◌, List, [], ◌∷◌, ◌++◌, length, if◌then◌else◌}
 use Rattle.px_base.specs.Numbers.{sum16}
+use Rattle.px_base.specs.Octets.{IsOctets}
 use Rattle.pfh_items.specs.Faults.{BeginsHeader}
 use Rattle.pfh_items.specs.Layout.{ItemValue, AreItems, items_text, end_item, header_start, FileText}
 use Rattle.pfh_items.specs.Walk.{item_len}
@@ -22,9 +23,10 @@ pub record CheckerValue : Type 0 where
 abbrev pub fed_len : CheckerValue → ℕ
 fed_len checker = checker.measures.file_len
 
--- less than the item has that begins so
-abbrev pub IsCutItem : List ℕ → Type 0
-IsCutItem held = length held < item_len held
+-- octets of an item that is cut: less than the item has that begins so
+pub record IsCutItem (held : List ℕ) : Type 0 where
+  pub short : length held < item_len held
+  pub octets : IsOctets held
 
 -- What is kept before the first item: of no items, and of these octets.
 pub record StandsBefore (checker : CheckerValue) (fed : List ℕ) : Type 0 where

@@ -227,7 +227,9 @@ impl Checker {
         ensures read { (fed : List ℕ) → HasFed self.now fed → result ≡ first_fault fed }
     {
         match self.stage {
-            Stage::Nothing | Stage::Begun | Stage::NoHeader => Some(FileFault::NoHeader),
+            Stage::Nothing => Some(FileFault::NoHeader),
+            Stage::Begun => Some(FileFault::NoHeader),
+            Stage::NoHeader => Some(FileFault::NoHeader),
             Stage::Items => Some(FileFault::NoEndItem),
             Stage::Body => self.claims.fault(&self.measures),
         }
@@ -280,8 +282,10 @@ fn take_octet(held: &mut ArrayVec<u8, 258>, claims: &mut Claims, octet: u8) -> b
             held.clear();
             true
         }
-        Stop::Ran { at: 0 } => false,
-        Stop::Ran { .. } => {
+        Stop::Ran { at } => {
+            if at == 0 {
+                return false;
+            }
             held.clear();
             false
         }

@@ -158,7 +158,10 @@ fn note_standing(standing: &mut [Standing; 11], item: &Item<'_>)
 fn noted16(number: u16, id: u16, item: &Item<'_>) -> u16
     ensures { (items : List ItemValue) → Says16 items id number → Says16 (items ++ item_value item.now ∷ []) id result }
 {
-    if item.id == id && item.bytes.len() == 2 {
+    if item.id != id {
+        return number;
+    }
+    if item.bytes.len() == 2 {
         le16(item.bytes, 0)
     } else {
         number
@@ -169,7 +172,10 @@ fn noted16(number: u16, id: u16, item: &Item<'_>) -> u16
 fn noted32(number: u32, id: u16, item: &Item<'_>) -> u32
     ensures { (items : List ItemValue) → Says32 items id number → Says32 (items ++ item_value item.now ∷ []) id result }
 {
-    if item.id == id && item.bytes.len() == 4 {
+    if item.id != id {
+        return number;
+    }
+    if item.bytes.len() == 4 {
         le32(item.bytes, 0)
     } else {
         number

@@ -3,18 +3,18 @@
 //! [`check`] is over a file that lies in memory, [`Checker`] over one that comes in pieces of any lengths.
 #![tactic(auto)]
 
-mod whole_file;
 mod checker;
 mod claims;
 mod fault;
 mod measures;
 mod pieces;
+mod whole_file;
 
-pub use whole_file::check;
 pub use checker::Checker;
 pub use fault::HeaderFault;
 pub use pfh_items::{FileFault, Header, Sums};
 pub use pieces::check_pieces;
+pub use whole_file::check;
 
 #[cfg(test)]
 mod tests;

@@ -1,4 +1,4 @@
-use Rattle.std.proofs.Common.{◌≡◌, ◌<◌, ◌≤◌, ℕ, get_or}
+use Rattle.std.proofs.Common.{◌≡◌, ◌<◌, ◌≤◌, ℕ, length, get_or}
 use Rattle.pfh_items.specs.Table.{mandatory_items}
 use Rattle.pfh_items.specs.Values.{item_value}
 use Rattle.pfh_items.specs.declared.table.MandatoryItem.{MandatoryItem}
@@ -10,6 +10,7 @@ use Rattle.pfh_reader.proofs.claims.note_standing.Given as goal
 abbrev pub invariant-loop-place : goal.invariant-loop-place
 invariant-loop-place l =
     record {
+      len : length l.standing ≡ 11;
       noted :
           (k : ℕ) (rule : MandatoryItem) → k < l.place
           → get_or l.standing k Missing ≡ standing_with (get_or l.initial.standing k Missing) (get_or mandatory_items k rule) (item_value l.item);
