@@ -1,7 +1,6 @@
 //! A whole header.
 
 ghost use Rattle.std.specs.Prelude.{◌≡◌, ℕ, List, [], IfSome, IfNone, option_copied};
-ghost use Rattle.pfh_items.specs.declared.items.Stop.TheVariants.{EndItem};
 ghost use Rattle.pfh_items.specs.Faults.{begins_header as begins_as_header, field_of, file_parts};
 ghost use Rattle.pfh_items.specs.Layout.{FileText, HeaderText, ItemValue};
 ghost use Rattle.pfh_items.specs.Values.{whole_items};

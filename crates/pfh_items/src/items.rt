@@ -1,6 +1,6 @@
 //! The items of octets, lent one after another.
 
-ghost use Rattle.std.specs.Prelude.{◌≡◌, ◌+◌, ◌∷◌, ℕ, List, length, take, drop, slice_index, IfSome, IfNone, IsTrue, ◌↔◌, ◌⊎◌, ◌&&◌, true, false};
+ghost use Rattle.std.specs.Prelude.{◌≡◌, ◌+◌, length, IfSome, IfNone, ◌⊎◌, ◌&&◌, true, false};
 ghost use Rattle.std.specs.Iterator.{item_count};
 ghost use Rattle.pfh_items.specs.Values.{GivesItem, item_value, items_left};
 ghost use Rattle.pfh_items.specs.Walk.{ItemsFrom, item_in, item_len, items_from, starts_end, starts_whole};

@@ -1,6 +1,6 @@
 //! What the check of a file keeps of its items.
 
-ghost use Rattle.std.specs.Prelude.{◌≡◌, ℕ, List, [], ◌∷◌, ◌++◌, ◌==◌, ◌&&◌, ◌%◌, ◌/◌, ◌+◌, ◌-◌, not, IsTrue, length};
+ghost use Rattle.std.specs.Prelude.{◌≡◌, ℕ, List, [], ◌∷◌, ◌++◌, ◌==◌, ◌&&◌, ◌%◌, ◌/◌, ◌+◌, ◌-◌, not};
 ghost use Rattle.std.specs.List.{list_all};
 ghost use Rattle.pfh_items.specs.Faults.{fault_of};
 ghost use Rattle.pfh_items.specs.Layout.{AreItems, ItemValue};

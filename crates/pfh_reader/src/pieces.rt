@@ -1,6 +1,6 @@
 //! A whole run of the checker, over pieces.
 
-ghost use Rattle.std.specs.Prelude.{◌≡◌, ◌≤◌, length, flat_map, None, Some, IfOk, IfErr, MatchResult};
+ghost use Rattle.std.specs.Prelude.{◌≡◌, ◌≤◌, length, None, Some, IfOk, IfErr, MatchResult};
 ghost use Rattle.pfh_items.specs.Faults.{fault_code};
 ghost use Rattle.pfh_reader.specs.Check.{HasFault, HasSums, joined};
 

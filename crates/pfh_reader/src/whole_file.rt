@@ -1,8 +1,7 @@
 //! The check of a file that lies in memory.
 
-ghost use Rattle.std.specs.Prelude.{◌≡◌, ◌++◌, List, [], ℕ, length, None, Some, IfOk, IfErr, MatchResult, MatchOption, option_map};
+ghost use Rattle.std.specs.Prelude.{◌≡◌, None, Some, IfOk, IfErr, MatchResult};
 ghost use Rattle.pfh_items.specs.Faults.{IsFaultless, fault_code, fault_of};
-ghost use Rattle.pfh_items.specs.Layout.{AreItems, header_text};
 ghost use Rattle.pfh_reader.specs.Check.{HasFault};
 ghost use Rattle.pfh_reader.specs.Claims.{IsClaims};
 
