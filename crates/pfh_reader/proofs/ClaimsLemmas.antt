@@ -1,14 +1,13 @@
 -- What is kept of items, with one more item, and what it says of the file's first fault.
-use Rattle.std.proofs.Common.{◌≡◌, ℕ, zero, suc, ◌+◌, ◌-◌, ◌*◌, ◌%◌, ◌/◌, ◌<◌, ◌≤◌, ◌==◌, ◌&&◌, List, [], ◌∷◌, ◌++◌, length, get_or, map, filter, find, Bool, true, false, not, cond, Option, Some, None, option_map, unwrap_or, refl, sym, ap, ◌∙◌, subst, arith, length-append}
+use Rattle.std.proofs.Common.{◌≡◌, ℕ, zero, suc, ◌<◌, ◌==◌, ◌&&◌, List, [], ◌∷◌, ◌++◌, length, get_or, find, Bool, true, false, not, cond, Some, option_map, unwrap_or, refl, sym, ap, ◌∙◌, arith, length-append}
 use Rattle.std.specs.List.{list_all}
-use Rattle.std.proofs.lemmas.Bool.{eqb-true, eq-eqb, both_ways, true≢false, false≢true}
-use Rattle.std.proofs.lemmas.List.{append-nil, same_lists, length-map, get_or-map}
+use Rattle.std.proofs.lemmas.Bool.{eq-eqb, both_ways}
+use Rattle.std.proofs.lemmas.List.{append-nil, same_lists}
 use Rattle.std.proofs.lemmas.List.Elements.{filter-append}
 use Rattle.px_base.specs.Numbers.{le16, le32}
 use Rattle.pfh_items.specs.declared.table.MandatoryItem.{MandatoryItem}
-use Rattle.pfh_items.specs.Faults.{items_with, content_of, has_none, is_one_of_len, has_mandatory}
+use Rattle.pfh_items.specs.Faults.{items_with, content_of, has_none, is_one_of_len}
 use Rattle.pfh_items.specs.Layout.{ItemValue}
-use Rattle.pfh_items.specs.Table.{mandatory_items}
 use Rattle.pfh_reader.specs.declared.claims.Standing.{Standing}
 use Rattle.pfh_reader.specs.declared.claims.Standing.TheVariants.{Missing, Once, Wrong}
 use Rattle.pfh_reader.specs.Claims.{standing_of, standings, standing_after, standing_with, noted, is_missing, is_once, Says16, Says32}

@@ -1,5 +1,5 @@
 -- What the check of a file keeps of its items.
-use Rattle.std.specs.Prelude.{◌≡◌, ℕ, ◌==◌, List, [], ◌∷◌, ◌++◌, length, map, Bool, true, false, if◌then◌else◌}
+use Rattle.std.specs.Prelude.{◌≡◌, ℕ, ◌==◌, List, [], ◌∷◌, length, map, Bool, true, false, if◌then◌else◌}
 use Rattle.px_base.specs.Numbers.{le16, le32}
 use Rattle.pfh_items.specs.Faults.{items_with}
 use Rattle.pfh_items.specs.Layout.{ItemValue}

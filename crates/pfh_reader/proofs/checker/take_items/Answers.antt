@@ -1,8 +1,8 @@
 -- One more item is taken, and then all are.
-use Rattle.std.proofs.Common.{◌≡◌, List, [], ◌∷◌, ◌++◌, refl, sym, ap, ◌∙◌, subst, append_assoc}
+use Rattle.std.proofs.Common.{List, [], ◌∷◌, ◌++◌, sym, ap, ◌∙◌, subst, append_assoc}
 use Rattle.std.proofs.lemmas.List.{append-nil}
 use Rattle.pfh_items.specs.Layout.{ItemValue}
-use Rattle.pfh_items.specs.Walk.{ItemList, items_from}
+use Rattle.pfh_items.specs.Walk.{ItemList}
 use Rattle.pfh_items.specs.Values.{item_value}
 use Rattle.pfh_reader.specs.Claims.{IsClaims}
 use Rattle.pfh_reader.proofs.checker.take_items.Goals as goal

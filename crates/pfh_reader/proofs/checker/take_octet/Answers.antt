@@ -1,5 +1,5 @@
 -- What one octet more makes of a cut item.
-use Rattle.std.proofs.Common.{◌≡◌, ℕ, suc, ◌++◌, ◌∷◌, [], List, sym, ap, ◌∙◌, subst, arith, lit<}
+use Rattle.std.proofs.Common.{ℕ, ◌++◌, ◌∷◌, [], List, sym, ap, ◌∙◌, subst, arith, lit<}
 use Rattle.pfh_items.specs.declared.items.Stop.TheVariants.{Ran}
 use Rattle.pfh_items.specs.Walk.{items_from}
 use Rattle.pfh_reader.specs.Feed.{IsCutItem, KeepsClaims, TakesItems}

@@ -1,6 +1,5 @@
 -- The sums of a file without fault are those that are kept.
-use Rattle.std.proofs.Common.{◌≡◌, List, ℕ, sym, refl, subst}
-use Rattle.pfh_reader.specs.Feed.{CheckerValue, HasFed}
+use Rattle.std.proofs.Common.{refl}
 use Rattle.pfh_reader.proofs.FaultLemmas.{sums_of}
 use Rattle.pfh_reader.proofs.FeedLemmas.{behind, stands_in, value}
 use Rattle.pfh_reader.proofs.checker.Checker.end.Goals as goal

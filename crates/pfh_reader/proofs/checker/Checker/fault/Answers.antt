@@ -1,5 +1,5 @@
 -- The first fault of what was fed, by how far it goes.
-use Rattle.std.proofs.Common.{◌≡◌, List, ℕ, sym, ◌∙◌}
+use Rattle.std.proofs.Common.{sym, ◌∙◌}
 use Rattle.pfh_reader.specs.declared.checker.Stage.TheVariants as stages
 use Rattle.pfh_reader.proofs.FaultLemmas.{first_fault-other, first_fault-parts, found}
 use Rattle.pfh_items.proofs.FaultLemmas.{first_fault-text}

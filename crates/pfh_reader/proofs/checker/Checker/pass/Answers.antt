@@ -1,5 +1,5 @@
 -- More octets where no header begins.
-use Rattle.std.proofs.Common.{◌≡◌, List, length, take, sym, ap, ◌∙◌, arith}
+use Rattle.std.proofs.Common.{length, take, sym, ap, ◌∙◌, arith}
 use Rattle.std.proofs.lemmas.List.{take_all}
 use Rattle.pfh_reader.specs.declared.checker.Stage.{Stage}
 use Rattle.pfh_reader.specs.declared.checker.Stage.TheVariants as stages

@@ -1,5 +1,5 @@
 -- One octet more of the item that is cut.
-use Rattle.std.proofs.Common.{◌≡◌, ℕ, List, [], ◌∷◌, ◌++◌, length, take, get_or, refl, sym, ap, ◌∙◌, subst}
+use Rattle.std.proofs.Common.{ℕ, List, ◌++◌, take, refl, sym, ap, ◌∙◌, subst}
 use Rattle.pfh_reader.specs.declared.checker.Stage.{Stage}
 use Rattle.pfh_reader.specs.declared.checker.Stage.TheVariants as stages
 use Rattle.pfh_reader.specs.declared.measures.Measures.{Measures}

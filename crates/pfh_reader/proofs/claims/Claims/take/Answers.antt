@@ -1,5 +1,5 @@
 -- What is kept of items and one more.
-use Rattle.std.proofs.Common.{◌≡◌, List, sym, ap, ◌∙◌}
+use Rattle.std.proofs.Common.{List, ap, ◌∙◌}
 use Rattle.pfh_items.specs.Table.{mandatory_items}
 use Rattle.pfh_items.specs.Values.{item_value}
 use Rattle.pfh_reader.specs.declared.claims.Standing.{Standing}
