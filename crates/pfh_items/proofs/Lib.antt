@@ -1,0 +1,6 @@
+pub mod ChainLemmas
+pub mod FaultLemmas
+pub mod HeaderLemmas
+pub mod StampLemmas
+pub mod TextLemmas
+pub mod WalkLemmas
