@@ -1,0 +1,4 @@
+pub mod Built
+pub mod Given
+pub mod Short
+pub mod Stamping

@@ -1,0 +1,55 @@
+//! The items that a server fills in.
+
+ghost use Rattle.std.specs.Prelude.{◌≡◌, ℕ, ◌+◌, ◌≤◌, ◌%◌, List, length, option_map, sum};
+ghost use Rattle.pfh_writer.specs.Stamping.{server_data, stamp_of};
+
+use crate::text::{octets32, push_octets};
+use arrayvec::ArrayVec;
+use pfh_items::{AX25_UPLOADER, FILE_NUMBER, Items, UPLOAD_TIME, sum16};
+use px_base::Call;
+
+/// What a server fills in: the file's number, the call of the station that uploaded it, and the moment of that.
+#[derive(Clone, Copy, Debug, PartialEq, Eq)]
+pub(crate) struct ServerItems {
+    pub(crate) number: u32,
+    pub(crate) by: Call,
+    /// Seconds since 1 January 1970.
+    pub(crate) moment: u32,
+}
+
+impl ServerItems {
+    /// The data that the server gives to an item of this id whose data has this length, where it gives any.
+    pub(crate) fn data(&self, id: u16, len: usize) -> Option<ArrayVec<u8, 6>>
+        ensures { option_map (λ octets. octets.items) result ≡ server_data (stamp_of self.now) id len }
+    {
+        match (id, len) {
+            (FILE_NUMBER, 4) => Some(few(&octets32(self.number))),
+            (AX25_UPLOADER, 6) => Some(few(&self.by.chars)),
+            (UPLOAD_TIME, 4) => Some(few(&octets32(self.moment))),
+            _ => None,
+        }
+    }
+
+    /// The sum of a header with these items once it is stamped, where this is its sum before.
+    pub(crate) fn renewed_sum(&self, header_sum: u16, items: Items<'_>) -> u16 {
+        let mut sum = header_sum;
+        for item in items {
+            if let Some(octets) = self.data(item.id, item.bytes.len()) {
+                sum = sum
+                    .wrapping_sub(sum16(item.bytes))
+                    .wrapping_add(sum16(octets.as_slice()));
+            }
+        }
+        sum
+    }
+}
+
+/// A copy of these octets, of which there are at most six.
+pub(crate) fn few(bytes: &[u8]) -> ArrayVec<u8, 6>
+    requires { length bytes.now ≤ 6 }
+    ensures { result.items ≡ bytes.now }
+{
+    let mut octets = ArrayVec::new();
+    push_octets(&mut octets, bytes);
+    octets
+}

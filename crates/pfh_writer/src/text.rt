@@ -1,0 +1,52 @@
+//! The octets of numbers and items.
+
+ghost use Rattle.std.specs.Prelude.{◌≡◌, ◌+◌, ◌≤◌, ◌++◌, length};
+ghost use Rattle.arrayvec.specs.ArrayVec.{array_vec_len};
+ghost use Rattle.px_base.specs.Numbers.{le16_octets, le32_octets};
+ghost use Rattle.pfh_items.specs.Layout.{item_text};
+ghost use Rattle.pfh_writer.specs.Built.{item as item_of};
+
+use arrayvec::ArrayVec;
+use byteorder::{ByteOrder, LittleEndian};
+
+/// What ends the items: id 0 without data (PFH 1990, header end).
+pub(crate) const END_ITEM: [u8; 3] = [0, 0, 0];
+
+/// The two octets of a number.
+pub(crate) fn octets16(number: u16) -> [u8; 2]
+    ensures { result ≡ le16_octets number }
+{
+    let mut octets = [0; 2];
+    LittleEndian::write_u16(&mut octets, number);
+    octets
+}
+
+/// The four octets of a number.
+pub(crate) fn octets32(number: u32) -> [u8; 4]
+    ensures { result ≡ le32_octets number }
+{
+    let mut octets = [0; 4];
+    LittleEndian::write_u32(&mut octets, number);
+    octets
+}
+
+/// Puts an item at the end of a text.
+pub(crate) fn push_item<const N: usize>(text: &mut ArrayVec<u8, N>, id: u16, bytes: &[u8])
+    requires fits { array_vec_len text.old + (3 + length bytes.now) ≤ N }
+    requires short { length bytes.now ≤ 255 }
+    ensures text { text.new.items ≡ text.old.items ++ item_text (item_of id bytes.now) }
+    ensures len { array_vec_len text.new ≡ array_vec_len text.old + (3 + length bytes.now) }
+{
+    push_octets(text, &octets16(id));
+    text.push(bytes.len() as u8);
+    push_octets(text, bytes);
+}
+
+/// Puts octets at the end of a text.
+pub(crate) fn push_octets<const N: usize>(text: &mut ArrayVec<u8, N>, bytes: &[u8])
+    requires { array_vec_len text.old + length bytes.now ≤ N }
+    ensures text { text.new.items ≡ text.old.items ++ bytes.now }
+    ensures len { array_vec_len text.new ≡ array_vec_len text.old + length bytes.now }
+{
+    text.try_extend_from_slice(bytes).unwrap();
+}
