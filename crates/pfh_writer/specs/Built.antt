@@ -1,6 +1,6 @@
 -- What a builder of headers makes (PFH 1990, mandatory header): the mandatory items in ascending order, then the others.
-use Rattle.std.specs.Prelude.{◌≡◌, ℕ, ◌+◌, ◌==◌, List, [], ◌∷◌, ◌++◌, length, All, Bool, false, not, ◌&&◌, nat_le, nat_lt, if◌then◌else◌, Option, Some, None}
-use Rattle.std.specs.List.{list_any}
+use Rattle.std.specs.Prelude.{◌≡◌, ℕ, ◌+◌, ◌==◌, List, [], ◌∷◌, ◌++◌, length, Bool, false, not, ◌&&◌, nat_le, nat_lt, if◌then◌else◌, Option, Some, None}
+use Rattle.std.specs.List.{AllByRecursion, list_any}
 use Rattle.px_base.specs.Numbers.{le16_octets, le32_octets, sum16}
 use Rattle.pfh_items.specs.Layout.{ItemValue, AreItems, items_text, header_text}
 use Rattle.pfh_items.specs.Stamp.{renewed}
@@ -22,7 +22,7 @@ pub record BuilderValue : Type 0 where
 pub record AreOthers (octets : List ℕ) (items : List ItemValue) : Type 0 where
   pub are_items : AreItems items
   pub text : octets ≡ items_text items
-  pub optional : All (λ item. is_mandatory item.id ≡ false) items
+  pub optional : AllByRecursion (λ item. is_mandatory item.id ≡ false) items
 
 -- the item of this id with this data
 abbrev pub item : ℕ → List ℕ → ItemValue

@@ -2,3 +2,5 @@ pub mod Built
 pub mod Given
 pub mod Short
 pub mod Stamping
+pub mod Steps
+pub mod Sums

@@ -1,5 +1,6 @@
 -- What a stamper stands for: the octets that it was fed, and those that it gave in their place.
 use Rattle.std.specs.Prelude.{◌≡◌, ℕ, ◌<◌, ◌^◌, ◌==◌, List, [], ◌∷◌, ◌++◌, length, map, take, ◌&&◌, if◌then◌else◌, Option, Some, None, unwrap_or}
+use Rattle.px_base.specs.CallSign.{IsCall}
 use Rattle.px_base.specs.Numbers.{le16_octets, le32_octets}
 use Rattle.px_base.specs.Octets.{IsOctets}
 use Rattle.pfh_items.specs.Faults.{IsFaultless}
@@ -8,7 +9,7 @@ use Rattle.pfh_items.specs.Stamp.{StampValue, stamped}
 use Rattle.pfh_writer.specs.declared.server.ServerItems.{ServerItems}
 use Rattle.pfh_writer.specs.declared.stamper.Stage.{Stage}
 use Rattle.pfh_writer.specs.declared.stamper.Stage.TheVariants.{Start, Begun, ItemStart, IdCut, IdRead, InData, Body}
-use Rattle.pfh_writer.specs.Given.{IsStampedSum}
+use Rattle.pfh_writer.specs.Given.{stamped_sum}
 
 -- what contracts see of a stamper: the stamp, the stamped header's sum, and how far it has come
 pub record StamperValue : Type 0 where
@@ -16,7 +17,7 @@ pub record StamperValue : Type 0 where
   pub sum : ℕ
   pub stage : Stage
 
--- the same of the code's record
+-- the stamp of the code's record
 abbrev pub stamp_of : ServerItems → StampValue
 stamp_of server = record { number = server.number; by = server.by; moment = server.moment }
 
@@ -28,47 +29,57 @@ server_data stamp id len =
     else if (id == 0x12) && (len == 4) then Some (le32_octets stamp.moment)
     else None
 
--- the data that a stamper gives in the place of this: the server's, or the sum, or the same
-abbrev pub given_data : StamperValue → ℕ → ℕ → List ℕ → List ℕ
-given_data stamper id len content =
-    if (id == 0x0A) && (len == 2) then le16_octets stamper.sum
-    else unwrap_or (server_data stamper.stamp id len) content
+-- the same, with the sum of the stamped header for header_checksum
+abbrev pub fixed_data : StampValue → ℕ → ℕ → ℕ → Option (List ℕ)
+fixed_data stamp sum id len = if (id == 0x0A) && (len == 2) then Some (le16_octets sum) else server_data stamp id len
 
--- the item as a stamper gives it
-abbrev pub given_item : StamperValue → ItemValue → ItemValue
-given_item stamper item = record { id = item.id; content = given_data stamper item.id (length item.content) item.content }
+-- the data that is given in the place of this
+abbrev pub given_data : StampValue → ℕ → ℕ → ℕ → List ℕ → List ℕ
+given_data stamp sum id len content = unwrap_or (fixed_data stamp sum id len) content
 
--- Two octets and the texts of items were fed, and then `cut`; the same two octets and the items as a stamper gives them
--- were given, and then `given_cut`.
-pub record PassesItems (stamper : StamperValue) (cut given_cut fed given : List ℕ) : Type 0 where
+-- the item that is given in the place of this
+abbrev pub given_item : StampValue → ℕ → ItemValue → ItemValue
+given_item stamp sum item = record { id = item.id; content = given_data stamp sum item.id (length item.content) item.content }
+
+-- Two octets and the texts of items were fed, and then `cut`; the same two octets and the items in their place were
+-- given, and then `given_cut`.
+pub record PassesItems (stamp : StampValue) (sum : ℕ) (cut given_cut fed given : List ℕ) : Type 0 where
   pub start : List ℕ
   pub items : List ItemValue
   pub two : length start ≡ 2
   pub are_items : AreItems items
   pub fed_text : fed ≡ start ++ (items_text items ++ cut)
-  pub given_text : given ≡ start ++ (items_text (map (given_item stamper) items) ++ given_cut)
+  pub given_text : given ≡ start ++ (items_text (map (given_item stamp sum) items) ++ given_cut)
+
+-- this much stands of an item's data: fewer octets than its length
+pub record IsCutData (id len at : ℕ) (content : List ℕ) : Type 0 where
+  pub id : id < 2 ^ 16
+  pub len : len < 256
+  pub at : at < len
+  pub octets : IsOctets content
+  pub content_len : length content ≡ at
 
 -- Where the octets end in each stage: before the first two; between them; after an item; after one octet of the next
 -- item's id; after two; after its length and a part of its data; after the end item, in the body.
-abbrev pub StandsAt : StamperValue → Stage → List ℕ → List ℕ → Type 0
-StandsAt stamper Start fed given = (fed ≡ []) × (given ≡ [])
-StandsAt stamper Begun fed given = (length fed ≡ 1) × (given ≡ fed)
-StandsAt stamper ItemStart fed given = PassesItems stamper [] [] fed given
-StandsAt stamper (IdCut low) fed given = (low < 256) × PassesItems stamper (low ∷ []) (low ∷ []) fed given
-StandsAt stamper (IdRead id) fed given =
-    (id < 2 ^ 16) × PassesItems stamper (le16_octets id) (le16_octets id) fed given
-StandsAt stamper (InData id len at) fed given =
-    (content : List ℕ) × (id < 2 ^ 16) × (len < 256) × (at < len) × IsOctets content × (length content ≡ at)
-    × PassesItems stamper (le16_octets id ++ len ∷ content) (le16_octets id ++ len ∷ take at (given_data stamper id len content)) fed given
-StandsAt stamper Body fed given =
-    (body : List ℕ) × PassesItems stamper (end_item ++ body) (end_item ++ body) fed given
+abbrev pub StandsAt : StampValue → ℕ → Stage → List ℕ → List ℕ → Type 0
+StandsAt stamp sum Start fed given = (fed ≡ []) × (given ≡ [])
+StandsAt stamp sum Begun fed given = (length fed ≡ 1) × (given ≡ fed)
+StandsAt stamp sum ItemStart fed given = PassesItems stamp sum [] [] fed given
+StandsAt stamp sum (IdCut low) fed given = (low < 256) × PassesItems stamp sum (low ∷ []) (low ∷ []) fed given
+StandsAt stamp sum (IdRead id) fed given = (id < 2 ^ 16) × PassesItems stamp sum (le16_octets id) (le16_octets id) fed given
+StandsAt stamp sum (InData id len at) fed given =
+    (content : List ℕ) × IsCutData id len at content
+    × PassesItems stamp sum (le16_octets id ++ len ∷ content)
+    (le16_octets id ++ len ∷ take at (given_data stamp sum id len content)) fed given
+StandsAt stamp sum Body fed given = (body : List ℕ) × PassesItems stamp sum (end_item ++ body) (end_item ++ body) fed given
 
 -- These octets were given in the place of those that were fed. For each file that keeps all rules and begins with the
 -- fed ones, and whose stamped header has the stamper's sum, they are as many octets of the stamped file; and where the
 -- fed ones are such a file, they are the stamped file.
 pub record HasStamped (stamper : StamperValue) (fed given : List ℕ) : Type 0 where
-  pub stands : StandsAt stamper stamper.stage fed given
+  pub call : IsCall stamper.stamp.by
+  pub stands : StandsAt stamper.stamp stamper.sum stamper.stage fed given
   pub front : (items : List ItemValue) (body more : List ℕ) → IsFaultless items body (fed ++ more)
-    → IsStampedSum stamper.stamp (fed ++ more) stamper.sum → given ≡ take (length fed) (stamped stamper.stamp (fed ++ more))
+    → stamper.sum ≡ stamped_sum stamper.stamp items → given ≡ take (length fed) (stamped stamper.stamp (fed ++ more))
   pub whole : (items : List ItemValue) (body : List ℕ) → IsFaultless items body fed
-    → IsStampedSum stamper.stamp fed stamper.sum → given ≡ stamped stamper.stamp fed
+    → stamper.sum ≡ stamped_sum stamper.stamp items → given ≡ stamped stamper.stamp fed

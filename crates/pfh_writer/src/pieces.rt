@@ -11,7 +11,8 @@ use px_base::Call;
 /// makes of all pieces joined. `sum` is the sum of the stamped header. Takes no memory.
 pub fn stamp_pieces(pieces: &mut [Vec<u8>], number: u32, by: Call, moment: u32, sum: u16)
     requires faultless { IsFaultlessFile (flat_map (λ piece. piece.items) pieces.old) }
-    requires sum { IsStampedSum (record { number = number; by = by; moment = moment }) (flat_map (λ piece. piece.items) pieces.old) sum }
+    requires sum { IsStampedSum (record { number = number; by = by; moment = moment })
+        (flat_map (λ piece. piece.items) pieces.old) sum }
     ensures { flat_map (λ piece. piece.items) pieces.new
         ≡ stamped (record { number = number; by = by; moment = moment }) (flat_map (λ piece. piece.items) pieces.old) }
 {

@@ -1,5 +1,6 @@
 //! Why a builder of headers refuses.
 
+ghost use Rattle.std.specs.Prelude.{◌≡◌};
 ghost use Rattle.pfh_writer.specs.declared.refusal.FinishRefusal.TheVariants.{OutOfMemory as finish_out_of_memory};
 ghost use Rattle.pfh_writer.specs.declared.refusal.PutRefusal.TheVariants.{OutOfMemory as put_out_of_memory};
 

@@ -1,7 +1,8 @@
 //! The items that a server fills in.
 
-ghost use Rattle.std.specs.Prelude.{◌≡◌, ℕ, ◌+◌, ◌≤◌, ◌%◌, List, length, option_map, sum};
+ghost use Rattle.std.specs.Prelude.{◌≡◌, ℕ, ◌+◌, ◌≤◌, ◌%◌, List, length, map, option_map};
 ghost use Rattle.pfh_writer.specs.Stamping.{server_data, stamp_of};
+ghost use Rattle.pfh_writer.specs.Sums.{data_sum, filled_item};
 
 use crate::text::{octets32, push_octets};
 use arrayvec::ArrayVec;
@@ -31,7 +32,10 @@ impl ServerItems {
     }
 
     /// The sum of a header with these items once it is stamped, where this is its sum before.
-    pub(crate) fn renewed_sum(&self, header_sum: u16, items: Items<'_>) -> u16 {
+    pub(crate) fn renewed_sum(&self, header_sum: u16, items: Items<'_>) -> u16
+        ensures { (result + data_sum items.items) % 65536
+            ≡ (header_sum + data_sum (map (filled_item (stamp_of self.now)) items.items)) % 65536 }
+    {
         let mut sum = header_sum;
         for item in items {
             if let Some(octets) = self.data(item.id, item.bytes.len()) {

@@ -1,7 +1,8 @@
 //! The stamping of a file that comes in pieces.
 
-ghost use Rattle.std.specs.Prelude.{◌≡◌, ◌<◌, ℕ, List, [], ◌∷◌, ◌++◌, length, slice_get, unwrap_or};
-ghost use Rattle.pfh_writer.specs.Stamping.{HasStamped, StandsAt, given_data};
+ghost use Rattle.std.specs.Prelude.{◌≡◌, ℕ, List, [], ◌++◌, option_map};
+ghost use Rattle.pfh_writer.specs.Stamping.{HasStamped, fixed_data};
+ghost use Rattle.pfh_writer.specs.Steps.{octet_given, octet_in, stage_after, stage_after_len};
 
 use crate::server::{ServerItems, few};
 use crate::text::octets16;
@@ -98,8 +99,8 @@ impl Stamper {
     fn take(&mut self, octet: u8) -> u8
         ensures stamp { self.new.stamp ≡ self.old.stamp }
         ensures sum { self.new.sum ≡ self.old.sum }
-        ensures stands { (fed given : List ℕ) → StandsAt self.old self.old.stage fed given
-            → StandsAt self.new self.new.stage (fed ++ octet ∷ []) (given ++ result ∷ []) }
+        ensures stage { self.new.stage ≡ stage_after self.old.stage octet }
+        ensures octet { result ≡ octet_given self.old.stamp self.old.sum self.old.stage octet }
     {
         let given = match self.stage {
             Stage::InData { id, len, at } => self.given(id, len, at, octet),
@@ -111,6 +112,7 @@ impl Stamper {
 
     /// The octet that comes in the place of this one at place `at` of an item's data.
     fn given(&self, id: u16, len: u8, at: u8, octet: u8) -> u8
+        ensures { result ≡ octet_in (fixed_data self.now.stamp self.now.sum id len) at octet }
     {
         match self.data(id, len) {
             Some(octets) => octets.get(usize::from(at)).copied().unwrap_or(octet),
@@ -119,7 +121,9 @@ impl Stamper {
     }
 
     /// The data that comes in the place of an item's own, if any does.
-    fn data(&self, id: u16, len: u8) -> Option<ArrayVec<u8, 6>> {
+    fn data(&self, id: u16, len: u8) -> Option<ArrayVec<u8, 6>>
+        ensures { option_map (λ octets. octets.items) result ≡ fixed_data self.now.stamp self.now.sum id len }
+    {
         match (id, len) {
             (HEADER_CHECKSUM, 2) => Some(few(&octets16(self.sum))),
             _ => self.server.data(id, usize::from(len)),
@@ -129,7 +133,9 @@ impl Stamper {
 
 impl Stage {
     /// How far it has come after one octet more.
-    fn after(self, octet: u8) -> Stage {
+    fn after(self, octet: u8) -> Stage
+        ensures { result ≡ stage_after self octet }
+    {
         match self {
             Stage::Start => Stage::Begun,
             Stage::Begun => Stage::ItemStart,
@@ -155,7 +161,9 @@ impl Stage {
 }
 
 /// How far it has come after an item's id and its length.
-fn after_len(id: u16, len: u8) -> Stage {
+fn after_len(id: u16, len: u8) -> Stage
+    ensures { result ≡ stage_after_len id len }
+{
     match (id, len) {
         (0, 0) => Stage::Body,
         (_, 0) => Stage::ItemStart,
