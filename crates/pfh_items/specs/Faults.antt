@@ -1,16 +1,15 @@
 -- The first rule of file headers that a file breaks (PFH 1990), and its code (FTL0 1990, error codes).
 use Rattle.std.specs.Prelude.{◌≡◌, ◌≢◌, ℕ, ◌+◌, ◌==◌, List, [], ◌∷◌, ◌++◌, length, drop, slice_index, map, filter, find, Bool, true, false, not, ◌&&◌, if◌then◌else◌, Option, Some, None, option_map, unwrap_or}
 use Rattle.std.specs.List.{AllByRecursion, list_all}
-use Rattle.px_base.specs.Numbers.{le16, le32}
+use Rattle.px_base.specs.Numbers.{le16, le32, sum16}
 use Rattle.pfh_items.specs.declared.fault.FileFault.{FileFault}
 use Rattle.pfh_items.specs.declared.fault.FileFault.TheVariants.{NoHeader, NoEndItem, MissingItem, BadHeader, HeaderSum, BodySum}
 use Rattle.pfh_items.specs.declared.items.Stop.{Stop}
 use Rattle.pfh_items.specs.declared.items.Stop.TheVariants.{EndItem, Ran}
 use Rattle.pfh_items.specs.declared.table.MandatoryItem.{MandatoryItem}
 use Rattle.pfh_items.specs.Layout.{ItemValue, HeaderValue, header_start, header_text, FileText}
-use Rattle.pfh_items.specs.Octets.{sum16}
 use Rattle.pfh_items.specs.Table.{mandatory_items}
-use Rattle.pfh_items.specs.Walk.{ItemList, items_from}
+use Rattle.pfh_items.specs.Walk.{items_from}
 
 -- the items of this id
 abbrev pub items_with : ℕ → List ItemValue → List ItemValue
@@ -116,9 +115,10 @@ file_parts file =
     then header_before (drop 2 file) (items_from 0 (drop 2 file)).items (items_from 0 (drop 2 file)).stop
     else None
 
-abbrev is_none_of : List ItemValue → Bool
-is_none_of [] = true
-is_none_of (item ∷ items) = false
+-- whether there is no item
+abbrev pub has_none : List ItemValue → Bool
+has_none [] = true
+has_none (item ∷ items) = false
 
 -- whether this is one item, whose data has this length
 abbrev pub is_one_of_len : ℕ → List ItemValue → Bool
@@ -127,7 +127,7 @@ is_one_of_len len (item ∷ []) = length item.content == len
 is_one_of_len len (item ∷ (other ∷ items)) = false
 
 abbrev pub has_mandatory : List ItemValue → Bool
-has_mandatory items = list_all (λ rule. not (is_none_of (items_with rule.id items))) mandatory_items
+has_mandatory items = list_all (λ rule. not (has_none (items_with rule.id items))) mandatory_items
 
 abbrev pub fits_file : List ItemValue → List ℕ → Bool
 fits_file items body =
@@ -144,7 +144,8 @@ fault_of items body =
     else if not (le16 (content_of 0x09 items) 0 == sum16 body) then Some BodySum
     else None
 
-abbrev fault_of_parts : Option HeaderValue → Option FileFault
+-- no parts, or their first fault
+abbrev pub fault_of_parts : Option HeaderValue → Option FileFault
 fault_of_parts None = Some NoEndItem
 fault_of_parts (Some parts) = fault_of parts.items parts.body
 

@@ -1,10 +1,10 @@
 -- Laws of headers: what is said by a relation is the same as what is computed.
-use Rattle.std.specs.Prelude.{◌≡◌, ◌↔◌, ℕ, ◌<◌, ◌^◌, List, ◌++◌, Option, Some, None}
+use Rattle.std.specs.Prelude.{◌≡◌, ◌↔◌, ℕ, List, Some, None}
 use Rattle.px_base.specs.CallSign.{IsCall}
 use Rattle.pfh_items.specs.declared.fault.FileFault.{FileFault}
 use Rattle.pfh_items.specs.Faults.{FirstFault, IsFaultless, first_fault}
-use Rattle.pfh_items.specs.Layout.{ItemValue, HeaderText, FileText}
-use Rattle.pfh_items.specs.Octets.{IsOctets}
+use Rattle.pfh_items.specs.Layout.{ItemValue, FileText}
+use Rattle.px_base.specs.Octets.{IsOctets}
 use Rattle.pfh_items.specs.Stamp.{StampValue, Stamped, stamped}
 use Rattle.pfh_items.specs.Walk.{ItemList, ItemsFrom, items_from}
 
@@ -31,9 +31,8 @@ HasNoFault =
     (file : List ℕ) → IsOctets file
     → ((items : List ItemValue) × (body : List ℕ) × IsFaultless items body file) ↔ (first_fault file ≡ None)
 
--- a file without fault is stamped to what is computed, and to nothing else
+-- a file that is a header and a body is stamped to what is computed, and to nothing else
 abbrev pub IsOneStamp : Type 0
 IsOneStamp =
-    (stamp : StampValue) (old new : List ℕ) (items : List ItemValue) (body : List ℕ) → IsOctets old → IsFaultless items body old
-    → stamp.number < 2 ^ 32 → IsCall stamp.by → stamp.moment < 2 ^ 32
+    (stamp : StampValue) (old new : List ℕ) (items : List ItemValue) (body : List ℕ) → FileText items body old → IsCall stamp.by
     → (Stamped stamp old new) ↔ (new ≡ stamped stamp old)

@@ -2,7 +2,7 @@
 use Rattle.std.specs.Prelude.{◌≡◌, ℕ, ◌^◌, ◌<◌, ◌≤◌, List, [], ◌∷◌, ◌++◌, length}
 use Rattle.std.specs.List.{AllByRecursion}
 use Rattle.px_base.specs.Numbers.{le16_octets}
-use Rattle.pfh_items.specs.Octets.{IsOctets}
+use Rattle.px_base.specs.Octets.{IsOctets}
 
 -- an item without where its octets lie: its id and its data
 pub record ItemValue : Type 0 where

@@ -1,7 +1,6 @@
 pub mod Faults
 pub mod Laws
 pub mod Layout
-pub mod Octets
 pub mod Stamp
 pub mod Table
 pub mod Values

@@ -1,5 +1,5 @@
 -- A file as a server keeps it, with the items that it fills in (PFH 1990: file_number, ax25_uploader, upload_time).
-use Rattle.std.specs.Prelude.{◌≡◌, ℕ, ◌==◌, List, ◌++◌, length, map, Bool, ◌&&◌, ◌||◌, if◌then◌else◌, Option, Some, None}
+use Rattle.std.specs.Prelude.{ℕ, ◌==◌, List, ◌++◌, length, map, Bool, ◌&&◌, ◌||◌, if◌then◌else◌, Option, Some, None}
 use Rattle.px_base.specs.CallSign.{CallSign}
 use Rattle.px_base.specs.Numbers.{le16_octets, le32_octets}
 use Rattle.pfh_items.specs.Layout.{ItemValue, HeaderValue, header_text, FileText}
@@ -48,7 +48,8 @@ Stamped stamp old new =
 
 -- The same, computed; a file of which no items reach an end item stays as it is.
 
-abbrev stamped_parts : StampValue → List ℕ → Option HeaderValue → List ℕ
+-- these parts, stamped
+abbrev pub stamped_parts : StampValue → List ℕ → Option HeaderValue → List ℕ
 stamped_parts stamp file (Some parts) = header_text (stamped_items stamp parts.items) ++ parts.body
 stamped_parts stamp file None = file
 

@@ -2,7 +2,7 @@
 
 ghost use Rattle.std.specs.Prelude.{◌≡◌, ℕ, List, [], IfSome, IfNone, option_copied};
 ghost use Rattle.pfh_items.specs.declared.items.Stop.TheVariants.{EndItem};
-ghost use Rattle.pfh_items.specs.Faults.{field_of, file_parts};
+ghost use Rattle.pfh_items.specs.Faults.{begins_header as begins_as_header, field_of, file_parts};
 ghost use Rattle.pfh_items.specs.Layout.{FileText, HeaderText, ItemValue};
 ghost use Rattle.pfh_items.specs.Values.{whole_items};
 
@@ -19,6 +19,13 @@ pub struct Header<'a> {
     header: &'a [u8],
     /// What follows.
     body: &'a [u8],
+}
+
+/// Whether a file begins as headers do, with AA 55. Takes no memory.
+pub fn begins_header(file: &[u8]) -> bool
+    ensures { result ≡ begins_as_header file.now }
+{
+    matches!(file, [0xAA, 0x55, ..])
 }
 
 impl<'a> Model for Header<'a> {
@@ -41,7 +48,7 @@ impl<'a> Header<'a> {
         ensures none { IfNone result ((items : List ItemValue) (body : List ℕ) → FileText items body file.now → ⊥) }
         ensures read { result ≡ file_parts file.now }
     {
-        if !file.starts_with(&HEADER_START) {
+        if !begins_header(file) {
             return None;
         }
         match Items::over(&file[2..]).stop() {
@@ -60,7 +67,9 @@ impl<'a> Header<'a> {
         ensures body { IfSome result (λ whole. whole.body ≡ []) }
         ensures none { IfNone result ((items : List ItemValue) → HeaderText items header.now → ⊥) }
     {
-        let whole = Header::of_file(header)?;
+        let Some(whole) = Header::of_file(header) else {
+            return None;
+        };
         if whole.body.is_empty() {
             Some(whole)
         } else {
@@ -93,8 +102,11 @@ impl<'a> Header<'a> {
     pub fn field(&self, id: u16) -> Option<&'a [u8]>
         ensures { option_copied result ≡ field_of id self.now.items }
     {
-        self.items()
-            .find(|item| item.id == id)
-            .map(|item| item.bytes)
+        for item in self.items() {
+            if item.id == id {
+                return Some(item.bytes);
+            }
+        }
+        None
     }
 }

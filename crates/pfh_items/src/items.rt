@@ -1,15 +1,12 @@
 //! The items of octets, lent one after another.
 
-ghost use Rattle.std.specs.Prelude.{◌≡◌, ◌+◌, ◌∷◌, ℕ, List, length, take, drop, slice_index, IfSome, IfNone, IsTrue, ◌↔◌, ◌⊎◌, ◌≢◌, true, false};
-ghost use Rattle.std.specs.Iterator.{YieldsFirstBy, item_count};
+ghost use Rattle.std.specs.Prelude.{◌≡◌, ◌+◌, ◌∷◌, ℕ, List, length, take, drop, slice_index, IfSome, IfNone, IsTrue, ◌↔◌, ◌⊎◌, ◌&&◌, true, false, ⊤};
+ghost use Rattle.std.specs.Iterator.{MakesProgress, YieldsFirstBy, item_count};
 ghost use Rattle.pfh_items.specs.Values.{item_value, items_left};
 ghost use Rattle.pfh_items.specs.Walk.{ItemsFrom, item_in, item_len, items_from, starts_end, starts_whole};
 
 use px_base::le16;
 use std::marker::Model;
-
-/// The end item: id 0, and no data.
-const END_ITEM: [u8; 3] = [0, 0, 0];
 
 /// An item, lent from the octets that it stands in.
 #[derive(Clone, Copy, Debug, PartialEq, Eq)]
@@ -74,7 +71,7 @@ impl<'a> Items<'a> {
             at: self.at,
         };
         while left.next().is_some() {}
-        if left.rest.starts_with(&END_ITEM) {
+        if starts_with_end(left.rest) {
             Stop::EndItem { at: left.at }
         } else {
             Stop::Ran { at: left.at }
@@ -91,10 +88,13 @@ impl<'a> Iterator for Items<'a> {
 
     /// The next item, whose octets aren't copied; the stop is left as it is. Takes no memory.
     fn next(&mut self) -> Option<Item<'a>>
-        ensures item { YieldsFirstBy item_value items_left self.old result self.new }
+        ensures steps { YieldsFirstBy item_value items_left self.old result self.new }
+        ensures goes { MakesProgress (λ _. ⊤) (item_count items_left) self.old result self.new }
         ensures stop { self.new.stop ≡ self.old.stop }
     {
-        let item = first_item(self.rest)?;
+        let Some(item) = first_item(self.rest) else {
+            return None;
+        };
         let len = 3 + item.bytes.len();
         self.rest = &self.rest[len..];
         self.at += len;
@@ -113,11 +113,18 @@ fn first_item(bytes: &[u8]) -> Option<Item<'_>>
     let [_, _, len, rest @ ..] = bytes else {
         return None;
     };
-    if bytes.starts_with(&END_ITEM) {
+    if starts_with_end(bytes) {
         return None;
     }
     Some(Item {
         id: le16(bytes, 0),
         bytes: rest.get(..usize::from(*len))?,
     })
+}
+
+/// Whether the end item stands at the front: id 0, and no data.
+fn starts_with_end(bytes: &[u8]) -> bool
+    ensures { result ≡ (starts_whole bytes.now && starts_end bytes.now) }
+{
+    matches!(bytes, [0, 0, 0, ..])
 }

@@ -7,19 +7,26 @@
 
 mod fault;
 mod header;
+mod ids;
 mod items;
 pub mod laws;
 mod sums;
 mod table;
 
 pub use fault::FileFault;
-pub use header::{HEADER_START, Header};
+pub use header::{HEADER_START, Header, begins_header};
+pub use ids::{
+    AX25_DOWNLOADER, AX25_UPLOADER, BBS_MESSAGE_TYPE, BODY_CHECKSUM, BODY_OFFSET, BULLETIN_ID,
+    COMPRESSION_DESCRIPTION, COMPRESSION_TYPE, CREATE_TIME, DESTINATION, DOWNLOAD_COUNT,
+    DOWNLOAD_TIME, EXPIRE_TIME, FILE_DESCRIPTION, FILE_EXT, FILE_NAME, FILE_NUMBER, FILE_SIZE,
+    FILE_TYPE, HEADER_CHECKSUM, KEYWORDS, LAST_MODIFIED_TIME, PRIORITY, SEU_FLAG, SOURCE, TITLE,
+    UPLOAD_TIME, USER_FILE_NAME,
+};
 pub use items::{Item, Items, Stop};
 pub use sums::{Sums, sum16};
 pub use table::{
-    AX25_UPLOADER, BODY_CHECKSUM, BODY_OFFSET, EXTENDED_ITEMS, ExtendedItem, FILE_NUMBER,
-    FILE_SIZE, Form, HEADER_CHECKSUM, MANDATORY_ITEMS, MandatoryItem, UPLOAD_TIME, fixed_len,
-    is_mandatory, is_number, is_single,
+    EXTENDED_ITEMS, ExtendedItem, Form, MANDATORY_ITEMS, MandatoryItem, fixed_len, is_mandatory,
+    is_number, is_single,
 };
 
 #[cfg(test)]

@@ -1,8 +1,15 @@
 //! The table of item ids (PFH 1990, mandatory and extended header), written once: the check of a header, its builder and
 //! its short form all go by it.
 
-ghost use Rattle.std.specs.Prelude.{◌≡◌};
-ghost use Rattle.pfh_items.specs.Table.{fixed_len as fixed_len_of, is_mandatory as is_mandatory_id, is_number as is_number_id, is_number_form, is_single as is_single_id};
+ghost use Rattle.std.specs.Prelude.{◌≡◌, ◌==◌, ◌&&◌, not, find, option_copied};
+ghost use Rattle.std.specs.List.{list_any};
+ghost use Rattle.pfh_items.specs.Table.{extended_items, fixed_len as fixed_len_of, is_mandatory as is_mandatory_id, is_number as is_number_id, is_number_form, is_single as is_single_id, mandatory_items};
+
+use crate::ids::{
+    AX25_DOWNLOADER, AX25_UPLOADER, BODY_CHECKSUM, BODY_OFFSET, CREATE_TIME, DESTINATION,
+    DOWNLOAD_COUNT, DOWNLOAD_TIME, EXPIRE_TIME, FILE_EXT, FILE_NAME, FILE_NUMBER, FILE_SIZE,
+    FILE_TYPE, HEADER_CHECKSUM, LAST_MODIFIED_TIME, PRIORITY, SEU_FLAG, SOURCE, UPLOAD_TIME,
+};
 
 /// How the data of an item is read.
 #[derive(Clone, Copy, Debug, PartialEq, Eq)]
@@ -46,27 +53,6 @@ pub struct ExtendedItem {
     pub repeats: bool,
 }
 
-/// The id of file_number, by which a server knows the file.
-pub const FILE_NUMBER: u16 = 0x01;
-
-/// The id of file_size, the length of header and body in octets.
-pub const FILE_SIZE: u16 = 0x04;
-
-/// The id of body_checksum, the sum of the body's octets modulo 65,536.
-pub const BODY_CHECKSUM: u16 = 0x09;
-
-/// The id of header_checksum, the sum of the header's octets, its own two taken as zero, modulo 65,536.
-pub const HEADER_CHECKSUM: u16 = 0x0A;
-
-/// The id of body_offset, the length of the header in octets.
-pub const BODY_OFFSET: u16 = 0x0B;
-
-/// The id of ax25_uploader, the call of the station that uploaded the file.
-pub const AX25_UPLOADER: u16 = 0x11;
-
-/// The id of upload_time, when the upload was complete.
-pub const UPLOAD_TIME: u16 = 0x12;
-
 macro_rules! mandatory {
     ($id:expr, $len:expr, $form:ident) => {
         MandatoryItem {
@@ -100,31 +86,32 @@ macro_rules! repeated {
 }
 
 /// The mandatory items, in ascending order.
-pub const MANDATORY_ITEMS: [MandatoryItem; 11] = [
+pub static MANDATORY_ITEMS: [MandatoryItem; 11] = [
     mandatory!(FILE_NUMBER, 4, Number),
-    mandatory!(0x02, 8, Text), // file_name
-    mandatory!(0x03, 3, Text), // file_ext
+    mandatory!(FILE_NAME, 8, Text),
+    mandatory!(FILE_EXT, 3, Text),
     mandatory!(FILE_SIZE, 4, Number),
-    mandatory!(0x05, 4, Number), // create_time
-    mandatory!(0x06, 4, Number), // last_modified_time
-    mandatory!(0x07, 1, Number), // seu_flag
-    mandatory!(0x08, 1, Number), // file_type
+    mandatory!(CREATE_TIME, 4, Number),
+    mandatory!(LAST_MODIFIED_TIME, 4, Number),
+    mandatory!(SEU_FLAG, 1, Number),
+    mandatory!(FILE_TYPE, 1, Number),
     mandatory!(BODY_CHECKSUM, 2, Number),
     mandatory!(HEADER_CHECKSUM, 2, Number),
     mandatory!(BODY_OFFSET, 2, Number),
 ];
 
-/// The extended items of which the standard fixes something, in ascending order.
-pub const EXTENDED_ITEMS: [ExtendedItem; 9] = [
-    once!(0x10, None, Text), // source
+/// The extended items, in ascending order. The optional ones, and all others, have any length, are read as octets and may
+/// stand more than once.
+pub static EXTENDED_ITEMS: [ExtendedItem; 9] = [
+    once!(SOURCE, None, Text),
     once!(AX25_UPLOADER, Some(6), Text),
     once!(UPLOAD_TIME, Some(4), Number),
-    once!(0x13, Some(1), Number), // download_count
-    repeated!(0x14, None, Text), // destination
-    repeated!(0x15, Some(6), Text), // ax25_downloader
-    repeated!(0x16, Some(4), Number), // download_time
-    once!(0x17, Some(4), Number), // expire_time
-    once!(0x18, Some(1), Number), // priority
+    once!(DOWNLOAD_COUNT, Some(1), Number),
+    repeated!(DESTINATION, None, Text),
+    repeated!(AX25_DOWNLOADER, Some(6), Text),
+    repeated!(DOWNLOAD_TIME, Some(4), Number),
+    once!(EXPIRE_TIME, Some(4), Number),
+    once!(PRIORITY, Some(1), Number),
 ];
 
 /// Whether every header has an item of this id. Takes no memory.
@@ -138,30 +125,66 @@ pub fn is_mandatory(id: u16) -> bool
 pub fn is_number(id: u16) -> bool
     ensures { result ≡ is_number_id id }
 {
+    is_mandatory_number(id) || is_extended_number(id)
+}
+
+/// Whether it is the id of a mandatory item whose data is a number.
+fn is_mandatory_number(id: u16) -> bool
+    ensures { result ≡ list_any (λ rule. (rule.id == id) && is_number_form rule.form) mandatory_items }
+{
     MANDATORY_ITEMS
         .iter()
         .any(|rule| rule.id == id && rule.form.is_number())
-        || EXTENDED_ITEMS
-            .iter()
-            .any(|rule| rule.id == id && rule.form.is_number())
+}
+
+/// Whether it is the id of an extended item whose data is a number.
+fn is_extended_number(id: u16) -> bool
+    ensures { result ≡ list_any (λ rule. (rule.id == id) && is_number_form rule.form) extended_items }
+{
+    EXTENDED_ITEMS
+        .iter()
+        .any(|rule| rule.id == id && rule.form.is_number())
 }
 
 /// The length in octets of the data of an item of this id, where it is fixed. Takes no memory.
 pub fn fixed_len(id: u16) -> Option<u8>
     ensures { result ≡ fixed_len_of id }
 {
-    match MANDATORY_ITEMS.iter().find(|rule| rule.id == id) {
+    match mandatory_item(id) {
         Some(rule) => Some(rule.len),
-        None => EXTENDED_ITEMS.iter().find(|rule| rule.id == id)?.len,
+        None => match extended_item(id) {
+            Some(rule) => rule.len,
+            None => None,
+        },
     }
+}
+
+/// The table's row of a mandatory item.
+fn mandatory_item(id: u16) -> Option<&'static MandatoryItem>
+    ensures { option_copied result ≡ find (λ rule. rule.id == id) mandatory_items }
+{
+    MANDATORY_ITEMS.iter().find(|rule| rule.id == id)
+}
+
+/// The table's row of an extended item.
+fn extended_item(id: u16) -> Option<&'static ExtendedItem>
+    ensures { option_copied result ≡ find (λ rule. rule.id == id) extended_items }
+{
+    EXTENDED_ITEMS.iter().find(|rule| rule.id == id)
 }
 
 /// Whether a header may have only one item of this id. Takes no memory.
 pub fn is_single(id: u16) -> bool
     ensures { result ≡ is_single_id id }
 {
-    is_mandatory(id)
-        || EXTENDED_ITEMS
-            .iter()
-            .any(|rule| rule.id == id && !rule.repeats)
+    is_mandatory(id) || is_single_extended(id)
+}
+
+/// Whether it is the id of an extended item that may stand only once.
+fn is_single_extended(id: u16) -> bool
+    ensures { result ≡ list_any (λ rule. (rule.id == id) && not rule.repeats) extended_items }
+{
+    EXTENDED_ITEMS
+        .iter()
+        .any(|rule| rule.id == id && !rule.repeats)
 }

@@ -1,6 +1,7 @@
 //! Headers worked out by hand from the standard's layout.
 
 use super::*;
+use std::test::Fail;
 
 /// A short header: the eleven mandatory items in ascending order, the name and the extension of blanks.
 const SHORT: [u8; 73] = [
@@ -59,10 +60,60 @@ fn stops_where_no_whole_item_follows(rt: HostRuntime) {
 #[test]
 fn reads_a_whole_header(rt: HostRuntime) {
     let header = Header::of(&SHORT).expect(&rt, "a header");
-    assert_eq!(rt; header.items().count(), 11);
+    assert_eq!(rt; header.items().stop(), Stop::EndItem { at: 68 });
     assert_eq!(rt; header.header(), SHORT.as_slice());
     assert_eq!(rt; header.body().len(), 0);
     assert_eq!(rt; header.field(0x0B), Some([0x49, 0x00].as_slice()));
     assert_eq!(rt; header.field(0x0C), None);
     assert!(rt; Header::of(&SHORT[..72]).is_none());
+}
+
+#[test]
+fn fault_texts_and_codes(rt: HostRuntime) -> Result<(), Fail> {
+    let faults = [
+        (FileFault::NoHeader, 7, "the file has no header"),
+        (FileFault::NoEndItem, 14, "the header has no end"),
+        (FileFault::MissingItem, 6, "a mandatory item is missing"),
+        (
+            FileFault::BadHeader,
+            14,
+            "a mandatory item stands twice, or has a wrong length or size",
+        ),
+        (FileFault::HeaderSum, 15, "the header's checksum is wrong"),
+        (FileFault::BodySum, 16, "the body's checksum is wrong"),
+    ];
+    for (fault, code, text) in faults {
+        assert_eq!(rt; fault.code(), code);
+        let shown = format!(in rt.alloc(); "{fault}")?;
+        assert_eq!(rt; shown.as_str(), text);
+    }
+    Ok(())
+}
+
+#[test]
+fn what_the_table_says(rt: HostRuntime) {
+    for id in [
+        FILE_NUMBER,
+        FILE_SIZE,
+        UPLOAD_TIME,
+        DOWNLOAD_COUNT,
+        PRIORITY,
+    ] {
+        assert!(rt; is_number(id), "id {id}");
+    }
+    for id in [FILE_NAME, SOURCE, AX25_UPLOADER, DESTINATION, TITLE, 0] {
+        assert!(rt; !is_number(id), "id {id}");
+    }
+    let lengths = [
+        (FILE_NAME, Some(8)),
+        (SEU_FLAG, Some(1)),
+        (AX25_UPLOADER, Some(6)),
+        (DESTINATION, None),
+        (TITLE, None),
+    ];
+    for (id, len) in lengths {
+        assert_eq!(rt; fixed_len(id), len, "id {id}");
+    }
+    assert!(rt; is_mandatory(BODY_OFFSET) && !is_mandatory(SOURCE));
+    assert!(rt; is_single(EXPIRE_TIME) && !is_single(DESTINATION) && !is_single(TITLE));
 }

@@ -1,9 +1,8 @@
 -- What the check of a file keeps of its items, and of its octets.
 use Rattle.std.specs.Prelude.{◌≡◌, ℕ, ◌==◌, List, [], ◌∷◌, ◌++◌, length, map, Bool, if◌then◌else◌}
-use Rattle.px_base.specs.Numbers.{le16, le32}
+use Rattle.px_base.specs.Numbers.{le16, le32, sum16}
 use Rattle.pfh_items.specs.Faults.{items_with}
 use Rattle.pfh_items.specs.Layout.{ItemValue, header_text}
-use Rattle.pfh_items.specs.Octets.{sum16}
 use Rattle.pfh_items.specs.Table.{mandatory_items}
 use Rattle.pfh_items.specs.declared.table.MandatoryItem.{MandatoryItem}
 use Rattle.pfh_reader.specs.declared.claims.Claims.{Claims}

@@ -2,7 +2,7 @@
 use Rattle.std.specs.Prelude.{◌≡◌, ℕ, ◌<◌, List, [], ◌∷◌, ◌++◌, length}
 use Rattle.pfh_items.specs.Faults.{BeginsHeader}
 use Rattle.pfh_items.specs.Layout.{ItemValue, AreItems, items_text, header_start, FileText}
-use Rattle.pfh_items.specs.Octets.{sum16}
+use Rattle.px_base.specs.Numbers.{sum16}
 use Rattle.pfh_items.specs.Walk.{item_len}
 use Rattle.pfh_reader.specs.declared.claims.Claims.{Claims}
 use Rattle.pfh_reader.specs.declared.claims.Measures.{Measures}

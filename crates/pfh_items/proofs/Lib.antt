@@ -1,0 +1,5 @@
+pub mod FaultLemmas
+pub mod HeaderLemmas
+pub mod StampLemmas
+pub mod TextLemmas
+pub mod WalkLemmas

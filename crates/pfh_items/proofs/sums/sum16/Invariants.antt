@@ -1,0 +1,7 @@
+use Rattle.std.proofs.Common.{◌≡◌, take}
+use Rattle.px_base.specs.Numbers.{sum16}
+use Rattle.pfh_items.proofs.sums.sum16.Given as goal
+
+-- the sum of the octets so far
+abbrev pub invariant-loop-byte : goal.invariant-loop-byte
+invariant-loop-byte l = l.sum ≡ sum16 (take l.byte-index l.bytes)
