@@ -53,9 +53,9 @@ pub record PassesItems (stamp : StampValue) (sum : ℕ) (cut given_cut fed given
 
 -- this much stands of an item's data: fewer octets than its length
 pub record IsCutData (id len at : ℕ) (content : List ℕ) : Type 0 where
-  pub id : id < 2 ^ 16
-  pub len : len < 256
-  pub at : at < len
+  pub id_below : id < 2 ^ 16
+  pub len_below : len < 256
+  pub at_below : at < len
   pub octets : IsOctets content
   pub content_len : length content ≡ at
 

@@ -33,8 +33,8 @@ impl ServerItems {
 
     /// The sum of a header with these items once it is stamped, where this is its sum before.
     pub(crate) fn renewed_sum(&self, header_sum: u16, items: Items<'_>) -> u16
-        ensures { (result + data_sum items.items) % 65536
-            ≡ (header_sum + data_sum (map (filled_item (stamp_of self.now)) items.items)) % 65536 }
+        ensures { (result + data_sum items.entry.items) % 65536
+            ≡ (header_sum + data_sum (map (filled_item (stamp_of self.now)) items.entry.items)) % 65536 }
     {
         let mut sum = header_sum;
         for item in items {

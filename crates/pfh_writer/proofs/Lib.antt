@@ -1,0 +1,4 @@
+pub mod FilledLemmas
+pub mod FrontLemmas
+pub mod ItemsLemmas
+pub mod StepLemmas
