@@ -15,6 +15,7 @@ use Rattle.pfh_writer.specs.declared.stamper.Stage.TheVariants.{Start, Begun, It
 use Rattle.pfh_writer.specs.Given.{stamped_sum}
 use Rattle.pfh_writer.specs.Stamping.{fixed_data, given_data, given_item, PassesItems, IsCutData, StandsAt, StamperValue, HasStamped}
 use Rattle.pfh_writer.proofs.ItemsLemmas.{items_text-append, Splits, splits, no_end_item}
+use Rattle.pfh_writer.proofs.StepLemmas.{passes_more, StampsOn}
 use Rattle.pfh_writer.proofs.FilledLemmas.{given_items, length-given_items, length-given_data}
 
 -- as many octets as a list has and some more, of that list and others
@@ -217,3 +218,22 @@ has_stamped stamper fed given call stands = record {
   front = front stamper.stamp stamper.sum stamper.stage fed given call stands;
   whole = whole stamper.stamp stamper.sum stamper.stage fed given call stands;
 }
+
+-- the state is after a run from an old one
+pub stamps_all : (old now : StamperValue) (fed given octets given_octets : List ℕ) → StampsOn old now octets given_octets → HasStamped old fed given
+    → HasStamped now (fed ++ octets) (given ++ given_octets)
+stamps_all old now fed given octets given_octets on h =
+    has_stamped now (fed ++ octets) (given ++ given_octets) (subst (λ (s : StampValue). IsCall s.by) (sym on.stamp) h.call)
+    (subst (λ (s : StampValue). StandsAt s now.sum now.stage (fed ++ octets) (given ++ given_octets)) (sym on.stamp)
+    (subst (λ (n : ℕ). StandsAt old.stamp n now.stage (fed ++ octets) (given ++ given_octets)) (sym on.sum) (on.stands fed given h.call h.stands)))
+
+-- in the body all octets stay
+pub stamps_body : (old : StamperValue) (fed given piece : List ℕ) → old.stage ≡ Body → HasStamped old fed given
+    → HasStamped old (fed ++ piece) (given ++ piece)
+stamps_body old fed given piece same h =
+    has_stamped old (fed ++ piece) (given ++ piece) h.call
+    (subst (λ (s : Stage). StandsAt old.stamp old.sum s (fed ++ piece) (given ++ piece)) (sym same)
+    (more (subst (λ (s : Stage). StandsAt old.stamp old.sum s fed given) same h.stands)))
+  where
+    more : StandsAt old.stamp old.sum Body fed given → StandsAt old.stamp old.sum Body (fed ++ piece) (given ++ piece)
+    more (body, p) = (body ++ piece, passes_more old.stamp old.sum (end_item ++ body) (end_item ++ body) fed given piece piece p)

@@ -1,8 +1,8 @@
 -- A stamper that goes on by one octet.
-use Rattle.std.proofs.Common.{◌≡◌, ℕ, ◌+◌, ◌*◌, ◌/◌, ◌%◌, ◌^◌, ◌<◌, ◌≤◌, ◌==◌, ◌&&◌, List, [], ◌∷◌, ◌++◌, length, map, take, get_or, Bool, true, false, cond, Option, Some, None, refl, sym, ap, ◌∙◌, subst, arith, append_assoc, length-append, nat_lt, replicate}
+use Rattle.std.proofs.Common.{◌≡◌, ℕ, ◌+◌, ◌*◌, ◌/◌, ◌%◌, ◌^◌, ◌<◌, ◌≤◌, ◌==◌, ◌&&◌, List, [], ◌∷◌, ◌++◌, length, map, take, drop, get_or, slice_set, Bool, true, false, cond, Option, Some, None, refl, sym, ap, ◌∙◌, subst, arith, append_assoc, length-append, nat_lt, replicate}
 use Rattle.std.specs.Option.{unwrap_or}
 use Rattle.std.proofs.lemmas.Bool.{eqb-true, eqb-false, ltb-true, ltb-false}
-use Rattle.std.proofs.lemmas.List.{append-nil, take_all, take_more, map-append, length_push, length-replicate, nil_from_length}
+use Rattle.std.proofs.lemmas.List.{append-nil, take_all, take_more, take_more_set, drop_more, drop-set-lt, map-append, length_push, length-replicate, nil_from_length}
 use Rattle.std.proofs.lemmas.List.Elements.{All-append, All-from_recursion}
 use Rattle.px_base.specs.CallSign.{IsCall}
 use Rattle.px_base.specs.Numbers.{le16_octets}
@@ -12,7 +12,7 @@ use Rattle.pfh_items.specs.Stamp.{StampValue}
 use Rattle.pfh_items.proofs.TextLemmas.{item_at}
 use Rattle.pfh_writer.specs.declared.stamper.Stage.{Stage}
 use Rattle.pfh_writer.specs.declared.stamper.Stage.TheVariants.{Start, Begun, ItemStart, IdCut, IdRead, InData, Body}
-use Rattle.pfh_writer.specs.Stamping.{fixed_data, given_data, given_item, PassesItems, IsCutData, StandsAt}
+use Rattle.pfh_writer.specs.Stamping.{fixed_data, given_data, given_item, PassesItems, IsCutData, StandsAt, StamperValue}
 use Rattle.pfh_writer.specs.Steps.{stage_after, stage_after_len, octet_in, octet_given}
 use Rattle.pfh_writer.proofs.ItemsLemmas.{items_text-append, AreItems-append}
 use Rattle.pfh_writer.proofs.FilledLemmas.{length-given_data}
@@ -25,7 +25,7 @@ regroup a b c d = append_assoc a (b ++ c) d ∙ ap (λ (t : List ℕ). a ++ t) (
 
 module _ (stamp : StampValue) (sum : ℕ) where
   -- more of what is cut
-  passes_more : (cut given_cut fed given more given_more : List ℕ) → PassesItems stamp sum cut given_cut fed given
+  pub passes_more : (cut given_cut fed given more given_more : List ℕ) → PassesItems stamp sum cut given_cut fed given
       → PassesItems stamp sum (cut ++ more) (given_cut ++ given_more) (fed ++ more) (given ++ given_more)
   passes_more cut given_cut fed given more given_more p = record {
     start = p.start;
@@ -221,3 +221,64 @@ module _ (stamp : StampValue) (sum : ℕ) where
     body ++ octet ∷ [],
     passes_more (end_item ++ body) (end_item ++ body) fed given (octet ∷ []) (octet ∷ []) p,
   )
+
+-- These octets were given in the place of those that were fed, from an old state to the one now.
+pub record StampsOn (old now : StamperValue) (octets given_octets : List ℕ) : Type 0 where
+  pub stamp : now.stamp ≡ old.stamp
+  pub sum : now.sum ≡ old.sum
+  pub stands : (fed given : List ℕ) → IsCall old.stamp.by → StandsAt old.stamp old.sum old.stage fed given
+    → StandsAt old.stamp old.sum now.stage (fed ++ octets) (given ++ given_octets)
+
+pub stamps_none : (old : StamperValue) → StampsOn old old [] []
+stamps_none old = record {
+  stamp = refl;
+  sum = refl;
+  stands = λ fed given call h.
+    subst (λ (t : List ℕ). StandsAt old.stamp old.sum old.stage t (given ++ [])) (sym (append-nil fed))
+    (subst (λ (t : List ℕ). StandsAt old.stamp old.sum old.stage fed t) (sym (append-nil given)) h);
+}
+
+pub stamps_more : (old now next : StamperValue) (octets given_octets : List ℕ) (octet given_octet : ℕ) → StampsOn old now octets given_octets
+    → octet < 256 → next.stamp ≡ now.stamp → next.sum ≡ now.sum → next.stage ≡ stage_after now.stage octet
+    → given_octet ≡ octet_given now.stamp now.sum now.stage octet → StampsOn old next (octets ++ octet ∷ []) (given_octets ++ given_octet ∷ [])
+stamps_more old now next octets given_octets octet given_octet on below same_stamp same_sum stage_is octet_is = record {
+  stamp = same_stamp ∙ on.stamp;
+  sum = same_sum ∙ on.sum;
+  stands = λ fed given call h.
+    let at : StandsAt old.stamp old.sum (stage_after now.stage octet) ((fed ++ octets) ++ octet ∷ [])
+        ((given ++ given_octets) ++ octet_given old.stamp old.sum now.stage octet ∷ []) =
+      step old.stamp old.sum now.stage octet (fed ++ octets) (given ++ given_octets) call below (on.stands fed given call h) in
+    let octet_same : octet_given old.stamp old.sum now.stage octet ≡ given_octet =
+      sym
+      (octet_is
+      ∙ ap (λ (s : StampValue). octet_given s now.sum now.stage octet) on.stamp
+      ∙ ap (λ (n : ℕ). octet_given old.stamp n now.stage octet) on.sum) in
+    subst (λ (t : Stage). StandsAt old.stamp old.sum t (fed ++ (octets ++ octet ∷ [])) (given ++ (given_octets ++ given_octet ∷ []))) (sym stage_is)
+    (subst (λ (t : List ℕ). StandsAt old.stamp old.sum (stage_after now.stage octet) t (given ++ (given_octets ++ given_octet ∷ [])))
+    (append_assoc fed octets (octet ∷ []))
+    (subst (λ (t : List ℕ). StandsAt old.stamp old.sum (stage_after now.stage octet) ((fed ++ octets) ++ octet ∷ []) t)
+    (append_assoc given given_octets (given_octet ∷ []))
+    (subst (λ (n : ℕ). StandsAt old.stamp old.sum (stage_after now.stage octet) ((fed ++ octets) ++ octet ∷ []) ((given ++ given_octets) ++ n ∷ []))
+    octet_same at)));
+}
+
+-- one octet of a piece more, which is written in its place
+module _ (old now next : StamperValue) (whole piece : List ℕ) (i given : ℕ) (within : i < length whole) (len : length piece ≡ length whole)
+    (rest : drop i piece ≡ drop i whole) where
+  pub same_octet : (get_or piece i 0 ≡ get_or whole i 0) × (drop (i + 1) piece ≡ drop (i + 1) whole)
+  same_octet =
+      let one : drop i piece ≡ get_or piece i 0 ∷ drop (i + 1) piece = drop_more piece i 0 (omega arith) in
+      let other : drop i whole ≡ get_or whole i 0 ∷ drop (i + 1) whole = drop_more whole i 0 within in
+      (cc, cc)
+
+  pub passed_more : StampsOn old now (take i whole) (take i piece) → get_or piece i 0 < 256 → next.stamp ≡ now.stamp → next.sum ≡ now.sum
+      → next.stage ≡ stage_after now.stage (get_or piece i 0) → given ≡ octet_given now.stamp now.sum now.stage (get_or piece i 0)
+      → StampsOn old next (take (i + 1) whole) (take (i + 1) (slice_set piece i given))
+  passed_more on below same_stamp same_sum stage_is given_is =
+      subst (λ (t : List ℕ). StampsOn old next t (take (i + 1) (slice_set piece i given)))
+      (ap (λ (n : ℕ). take i whole ++ n ∷ []) same_octet.0 ∙ sym (take_more whole i 0 within))
+      (subst (λ (t : List ℕ). StampsOn old next (take i whole ++ get_or piece i 0 ∷ []) t) (sym (take_more_set piece i given (omega arith)))
+      (stamps_more old now next (take i whole) (take i piece) (get_or piece i 0) given on below same_stamp same_sum stage_is given_is))
+
+  pub rest_more : drop (i + 1) (slice_set piece i given) ≡ drop (i + 1) whole
+  rest_more = drop-set-lt (i + 1) piece i given (omega arith) ∙ same_octet.1

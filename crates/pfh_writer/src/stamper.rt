@@ -87,7 +87,7 @@ impl Stamper {
         ensures fed { (fed given : List ℕ) → HasStamped self.old fed given
             → HasStamped self.new (fed ++ piece.old) (given ++ piece.new) }
     {
-        if self.stage == Stage::Body {
+        if let Stage::Body = self.stage {
             return;
         }
         for octet in piece.iter_mut() {
