@@ -58,7 +58,7 @@ module _ (stamp : StampValue) where
       by false false false = refl
 
   -- the server's data has the item's length
-  server_len : (id len : ℕ) (content : List ℕ) → IsCall stamp.by → length content ≡ len → length (unwrap_or (server_data stamp id len) content) ≡ len
+  pub server_len : (id len : ℕ) (content : List ℕ) → IsCall stamp.by → length content ≡ len → length (unwrap_or (server_data stamp id len) content) ≡ len
   server_len id len content call same =
       by (id == 0x01) (len == 4) (id == 0x11) (len == 6) (id == 0x12) refl refl
     where

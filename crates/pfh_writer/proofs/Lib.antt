@@ -2,3 +2,4 @@ pub mod FilledLemmas
 pub mod FrontLemmas
 pub mod ItemsLemmas
 pub mod StepLemmas
+pub mod SumLemmas

@@ -1,12 +1,13 @@
 //! The items that a server fills in.
 
-ghost use Rattle.std.specs.Prelude.{◌≡◌, ℕ, ◌+◌, ◌≤◌, ◌%◌, List, length, map, option_map};
+ghost use Rattle.std.specs.Prelude.{◌≡◌, ℕ, ◌+◌, ◌≤◌, ◌%◌, List, length, map, option_map, sum};
+ghost use Rattle.pfh_items.specs.Values.{item_value};
 ghost use Rattle.pfh_writer.specs.Stamping.{server_data, stamp_of};
 ghost use Rattle.pfh_writer.specs.Sums.{data_sum, filled_item};
 
 use crate::text::{octets32, push_octets};
 use arrayvec::ArrayVec;
-use pfh_items::{AX25_UPLOADER, FILE_NUMBER, Items, UPLOAD_TIME, sum16};
+use pfh_items::{AX25_UPLOADER, FILE_NUMBER, Item, Items, UPLOAD_TIME, sum16};
 use px_base::Call;
 
 /// What a server fills in: the file's number, the call of the station that uploaded it, and the moment of that.
@@ -38,13 +39,22 @@ impl ServerItems {
     {
         let mut sum = header_sum;
         for item in items {
-            if let Some(octets) = self.data(item.id, item.bytes.len()) {
-                sum = sum
-                    .wrapping_sub(sum16(item.bytes))
-                    .wrapping_add(sum16(octets.as_slice()));
-            }
+            sum = self.with_item(sum, &item);
         }
         sum
+    }
+
+    /// The sum of a header once this item of it is filled in, where this is its sum before.
+    fn with_item(&self, header_sum: u16, item: &Item<'_>) -> u16
+        ensures { (result + sum item.now.bytes.now) % 65536
+            ≡ (header_sum + sum (filled_item (stamp_of self.now) (item_value item.now)).content) % 65536 }
+    {
+        match self.data(item.id, item.bytes.len()) {
+            Some(octets) => header_sum
+                .wrapping_sub(sum16(item.bytes))
+                .wrapping_add(sum16(octets.as_slice())),
+            None => header_sum,
+        }
     }
 }
 
