@@ -7,7 +7,7 @@ use Rattle.px_base.specs.Octets.{IsOctets}
 use Rattle.pfh_items.specs.declared.fault.FileFault.{FileFault}
 use Rattle.pfh_items.specs.declared.fault.FileFault.TheVariants.{NoHeader, NoEndItem, MissingItem, BadHeader, HeaderSum, BodySum}
 use Rattle.pfh_items.specs.declared.table.MandatoryItem.{MandatoryItem}
-use Rattle.pfh_items.specs.Faults.{items_with, content_of, header_sum, Stands, StandsOnce, HasMandatory, FitsFile, FirstFault, IsFaultless, begins_header, file_parts, has_none, is_one_of_len, has_mandatory, fits_file, fault_of, fault_of_parts, first_fault}
+use Rattle.pfh_items.specs.Faults.{items_with, content_of, header_sum, Stands, StandsOnce, HasMandatory, FitsFile, FirstFault, IsFaultless, IsFound, begins_header, file_parts, has_none, is_one_of_len, has_mandatory, fits_file, fault_of, fault_of_parts, first_fault}
 use Rattle.pfh_items.specs.Laws.{IsOneFault, HasNoFault}
 use Rattle.pfh_items.specs.Layout.{ItemValue, HeaderValue, FileText}
 use Rattle.pfh_items.specs.Table.{mandatory_items}
@@ -75,12 +75,18 @@ once items rule t = one (items_with rule.id items) refl t
 once-test : (items : List ItemValue) (rule : MandatoryItem) → StandsOnce items rule → is_one_of_len rule.len (items_with rule.id items) ≡ true
 once-test items rule h = ap (is_one_of_len rule.len) h.1 ∙ eq-eqb _ _ h.2
 
+-- each mandatory item stands once, if the test of each says so
+pub once_each : (items : List ItemValue) → list_all (λ (rule : MandatoryItem). is_one_of_len rule.len (items_with rule.id items)) mandatory_items ≡ true
+    → AllByRecursion (StandsOnce items) mandatory_items
+once_each items t =
+    all_from_test (λ (rule : MandatoryItem). is_one_of_len rule.len (items_with rule.id items)) (StandsOnce items) (once items) mandatory_items t
+
 pub fits_file-FitsFile : (items : List ItemValue) (body : List ℕ) → fits_file items body ≡ true → FitsFile items body
 fits_file-FitsFile items body t =
     let both = and_parts _ _ t in
     let first = and_parts _ _ both.0 in
     record {
-      once = all_from_test (λ (rule : MandatoryItem). is_one_of_len rule.len (items_with rule.id items)) (StandsOnce items) (once items) mandatory_items first.0;
+      once = once_each items first.0;
       file_size = eqb-true _ _ first.1;
       body_offset = eqb-true _ _ both.1;
     }
@@ -94,14 +100,14 @@ FitsFile-fits_file items body h =
     (eq-eqb _ _ h.body_offset)
 
 -- the first of four tests that fails
-abbrev chosen : Bool → Bool → Bool → Bool → Option FileFault
+abbrev pub chosen : Bool → Bool → Bool → Bool → Option FileFault
 chosen mandatory fits header body =
     cond (not mandatory) (Some MissingItem) (cond (not fits) (Some BadHeader) (cond (not header) (Some HeaderSum) (cond (not body) (Some BodySum) None)))
 
-abbrev header_test : List ItemValue → Bool
+abbrev pub header_test : List ItemValue → Bool
 header_test items = le16 (content_of 0x0A items) 0 == header_sum items
 
-abbrev body_test : List ItemValue → List ℕ → Bool
+abbrev pub body_test : List ItemValue → List ℕ → Bool
 body_test items body = le16 (content_of 0x09 items) 0 == sum16 body
 
 -- What the tests of a file's parts choose is its first fault.
@@ -140,9 +146,10 @@ pub fault_of-is : (items : List ItemValue) (body file : List ℕ) → FileText i
 fault_of-is items body file is =
     chosen-is items body file is (has_mandatory items) (fits_file items body) (header_test items) (body_test items body) refl refl refl refl
 
--- This is the first fault of the file, or none where it keeps all rules.
-abbrev pub IsFound : List ℕ → Option FileFault → Type 0
-IsFound file found = MatchOption found ((items : List ItemValue) × (body : List ℕ) × IsFaultless items body file) (λ fault. FirstFault fault file)
+-- what is chosen is the first fault, or none
+pub IsFound-chosen : (items : List ItemValue) (body file : List ℕ) (found : Option FileFault) → IsChosen items body file found → IsFound file found
+IsFound-chosen items body file None is = (items, body, is)
+IsFound-chosen items body file (Some fault) is = is
 
 -- the fault of a file, by whether it begins with AA 55 and has parts
 by_parts : (file : List ℕ) → IsOctets file → (begins : Bool) → begins_header file ≡ begins → (parts : Option HeaderValue) → file_parts file ≡ parts
@@ -158,15 +165,8 @@ by_parts file h true b None p found same =
     none_some : {parts : HeaderValue} → None ≡ Some parts → ⊥
     none_some e = cc
 by_parts file h true b (Some parts) p found same =
-    whole (fault_of parts.items parts.body) same (fault_of-is parts.items parts.body file (FileText-file_parts file parts h p))
-  where
-    whole : (o : Option FileFault) → o ≡ found → IsChosen parts.items parts.body file o
-        → IsFound file found
-    whole None e is =
-        subst (IsFound file) e
-        (parts.items, parts.body, is)
-    whole (Some fault) e is =
-        subst (IsFound file) e is
+    subst (IsFound file) same
+    (IsFound-chosen parts.items parts.body file (fault_of parts.items parts.body) (fault_of-is parts.items parts.body file (FileText-file_parts file parts h p)))
 
 -- what is computed is the first fault, or the file keeps all rules
 pub first_fault-is : (file : List ℕ) → IsOctets file
@@ -181,7 +181,7 @@ first_fault-text items body file is =
     ap (λ (b : Bool). cond b (fault_of_parts (file_parts file)) (Some NoHeader)) (begins_header-BeginsHeader file (BeginsHeader-text items body file is))
     ∙ ap fault_of_parts (file_parts-text items body file is)
 
-chosen-by : (items : List ItemValue) (body : List ℕ) (m f h b : Bool) → has_mandatory items ≡ m → fits_file items body ≡ f
+pub chosen-by : (items : List ItemValue) (body : List ℕ) (m f h b : Bool) → has_mandatory items ≡ m → fits_file items body ≡ f
     → header_test items ≡ h → body_test items body ≡ b → fault_of items body ≡ chosen m f h b
 chosen-by items body m f h b tm tf th tb =
     ap (λ (t : Bool). chosen t (fits_file items body) (header_test items) (body_test items body)) tm

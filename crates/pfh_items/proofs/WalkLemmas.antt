@@ -189,7 +189,7 @@ items_from-whole (item ∷ items) place rest are =
     ∙ ap (λ (n : ℕ). list_at (item ∷ items) (EndItem n)) (len item items place)
 
 -- what is read of octets with these items before octets that begin with none
-items_from-ran : (items : List ItemValue) (place : ℕ) (rest : List ℕ) → AreItems items → starts_whole rest ≡ false
+pub items_from-ran : (items : List ItemValue) (place : ℕ) (rest : List ℕ) → AreItems items → starts_whole rest ≡ false
     → items_from place (items_text items ++ rest) ≡ record { items = items; stop = Ran (place + length (items_text items)) }
 unfolding none_at
 items_from-ran [] place rest are short = items_from-cut place rest short ∙ ap (λ (n : ℕ). none_at (Ran n)) (sym (add-zero place))

@@ -88,6 +88,11 @@ pub record IsFaultless (items : List ItemValue) (body file : List ℕ) : Type 0 
   pub header_sum : HasHeaderSum items
   pub body_sum : HasBodySum items body
 
+-- This is the first fault of the file, or none where it keeps all rules.
+abbrev pub IsFound : List ℕ → Option FileFault → Type 0
+IsFound file None = (items : List ItemValue) × (body : List ℕ) × IsFaultless items body file
+IsFound file (Some fault) = FirstFault fault file
+
 -- the code by which a peer is told (FTL0 1990: no PFH, bad header, mandatory field missing, header check, body check)
 abbrev pub code_of : FileFault → ℕ
 code_of NoHeader = 7

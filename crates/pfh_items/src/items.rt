@@ -1,8 +1,8 @@
 //! The items of octets, lent one after another.
 
-ghost use Rattle.std.specs.Prelude.{◌≡◌, ◌+◌, ◌∷◌, ℕ, List, length, take, drop, slice_index, IfSome, IfNone, IsTrue, ◌↔◌, ◌⊎◌, ◌&&◌, true, false, ⊤};
-ghost use Rattle.std.specs.Iterator.{MakesProgress, YieldsFirstBy, item_count};
-ghost use Rattle.pfh_items.specs.Values.{item_value, items_left};
+ghost use Rattle.std.specs.Prelude.{◌≡◌, ◌+◌, ◌∷◌, ℕ, List, length, take, drop, slice_index, IfSome, IfNone, IsTrue, ◌↔◌, ◌⊎◌, ◌&&◌, true, false};
+ghost use Rattle.std.specs.Iterator.{item_count};
+ghost use Rattle.pfh_items.specs.Values.{GivesItem, item_value, items_left};
 ghost use Rattle.pfh_items.specs.Walk.{ItemsFrom, item_in, item_len, items_from, starts_end, starts_whole};
 
 use px_base::le16;
@@ -82,16 +82,12 @@ impl<'a> Items<'a> {
 impl<'a> Iterator for Items<'a> {
     type Item = Item<'a>;
 
-    ghost next_gives = { YieldsFirstBy item_value items_left };
+    ghost next_gives = { GivesItem };
 
     ghost remaining = { item_count items_left };
 
     /// The next item, whose octets aren't copied; the stop is left as it is. Takes no memory.
-    fn next(&mut self) -> Option<Item<'a>>
-        ensures steps { YieldsFirstBy item_value items_left self.old result self.new }
-        ensures goes { MakesProgress (λ _. ⊤) (item_count items_left) self.old result self.new }
-        ensures stop { self.new.stop ≡ self.old.stop }
-    {
+    fn next(&mut self) -> Option<Item<'a>> {
         let Some(item) = first_item(self.rest) else {
             return None;
         };

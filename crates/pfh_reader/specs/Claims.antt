@@ -1,12 +1,11 @@
--- What the check of a file keeps of its items, and of its octets.
-use Rattle.std.specs.Prelude.{◌≡◌, ℕ, ◌==◌, List, [], ◌∷◌, ◌++◌, length, map, Bool, if◌then◌else◌}
-use Rattle.px_base.specs.Numbers.{le16, le32, sum16}
+-- What the check of a file keeps of its items.
+use Rattle.std.specs.Prelude.{◌≡◌, ℕ, ◌==◌, List, [], ◌∷◌, ◌++◌, length, map, Bool, true, false, if◌then◌else◌}
+use Rattle.px_base.specs.Numbers.{le16, le32}
 use Rattle.pfh_items.specs.Faults.{items_with}
-use Rattle.pfh_items.specs.Layout.{ItemValue, header_text}
+use Rattle.pfh_items.specs.Layout.{ItemValue}
 use Rattle.pfh_items.specs.Table.{mandatory_items}
 use Rattle.pfh_items.specs.declared.table.MandatoryItem.{MandatoryItem}
 use Rattle.pfh_reader.specs.declared.claims.Claims.{Claims}
-use Rattle.pfh_reader.specs.declared.claims.Measures.{Measures}
 use Rattle.pfh_reader.specs.declared.claims.Standing.{Standing}
 use Rattle.pfh_reader.specs.declared.claims.Standing.TheVariants.{Missing, Once, Wrong}
 
@@ -26,6 +25,27 @@ standing_after Missing fits = if fits then Once else Wrong
 standing_after Once fits = Wrong
 standing_after Wrong fits = Wrong
 
+-- how it stands after one more item, whatever its id
+abbrev pub standing_with : Standing → MandatoryItem → ItemValue → Standing
+standing_with standing rule item =
+    if item.id == rule.id then standing_after standing (length item.content == rule.len) else standing
+
+-- how each stands after one more item
+abbrev pub noted : List Standing → List MandatoryItem → ItemValue → List Standing
+noted [] rules item = []
+noted (standing ∷ standings) [] item = []
+noted (standing ∷ standings) (rule ∷ rules) item = standing_with standing rule item ∷ noted standings rules item
+
+abbrev pub is_missing : Standing → Bool
+is_missing Missing = true
+is_missing Once = false
+is_missing Wrong = false
+
+abbrev pub is_once : Standing → Bool
+is_once Missing = false
+is_once Once = true
+is_once Wrong = false
+
 -- where one item of this id stands and has two octets, they are this number
 abbrev pub Says16 : List ItemValue → ℕ → ℕ → Type 0
 Says16 items id number =
@@ -43,10 +63,3 @@ pub record IsClaims (items : List ItemValue) (claims : Claims) : Type 0 where
   pub body_sum : Says16 items 0x09 claims.body_sum
   pub header_sum : Says16 items 0x0A claims.header_sum
   pub body_offset : Says16 items 0x0B claims.body_offset
-
--- what is kept of the octets of a file with these items and this body
-pub record IsMeasured (items : List ItemValue) (body : List ℕ) (measures : Measures) : Type 0 where
-  pub file_len : measures.file_len ≡ length (header_text items ++ body)
-  pub header_len : measures.header_len ≡ length (header_text items)
-  pub header_sum : measures.header_sum ≡ sum16 (header_text items)
-  pub body_sum : measures.body_sum ≡ sum16 body

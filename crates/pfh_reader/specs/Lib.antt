@@ -1,3 +1,4 @@
 pub mod Check
 pub mod Claims
 pub mod Feed
+pub mod Measures

@@ -1,14 +1,17 @@
 //! The check of a file that comes in pieces.
 
-ghost use Rattle.std.specs.Prelude.{◌≡◌, ◌+◌, ◌≤◌, ℕ, List, [], ◌++◌, length, None, Some, IfOk, IfErr, MatchResult};
-ghost use Rattle.pfh_items.specs.Faults.{fault_code};
+ghost use Rattle.std.specs.Prelude.{◌≡◌, ◌+◌, ◌≤◌, ◌<◌, ℕ, List, [], ◌∷◌, ◌++◌, length, take, None, Some, IfOk, IfErr, MatchResult, ◌⊎◌, true, false};
+ghost use Rattle.pfh_items.specs.Faults.{IsFound, fault_code, first_fault};
+ghost use Rattle.pfh_items.specs.Walk.{items_from};
 ghost use Rattle.pfh_reader.specs.Check.{HasFault, HasSums};
-ghost use Rattle.pfh_reader.specs.Feed.{HasFed, fed_len};
+ghost use Rattle.pfh_reader.specs.Feed.{Extends, HasFed, IsCutItem, KeepsClaims, TakesEnd, TakesItems, fed_len, stage_after};
+ghost use Rattle.pfh_reader.specs.declared.checker.Stage.TheVariants as stages;
 
 use crate::HeaderFault;
-use crate::claims::{Claims, Measures};
+use crate::claims::Claims;
+use crate::measures::Measures;
 use arrayvec::ArrayVec;
-use pfh_items::{FileFault, HEADER_START, Items, Stop, Sums};
+use pfh_items::{FileFault, Items, Stop, Sums};
 use std::marker::Model;
 
 /// How far a checker has come.
@@ -31,7 +34,7 @@ enum Stage {
 #[derive(Debug, Drop)]
 pub struct Checker {
     stage: Stage,
-    /// The octets of the item under way.
+    /// The octets of the item that is cut.
     held: ArrayVec<u8, 258>,
     claims: Claims,
     /// The lengths and sums of the octets so far.
@@ -39,7 +42,6 @@ pub struct Checker {
 }
 
 impl Model for Checker {
-    ghost use Rattle.std.specs.Prelude.{◌≤◌, ◌×◌};
     ghost use Rattle.pfh_reader.specs.Feed.{CheckerValue, IsCutItem};
 
     ghost Value = { CheckerValue };
@@ -75,40 +77,130 @@ impl Checker {
         ensures fed { (fed : List ℕ) → HasFed self.old fed → HasFed self.new (fed ++ piece.now) }
         ensures len { fed_len self.new ≡ fed_len self.old + length piece.now }
     {
-        for octet in piece {
-            self.take(*octet);
+        let mut rest = piece;
+        while !rest.is_empty() {
+            let taken = self.take(rest);
+            rest = &rest[taken..];
         }
     }
 
-    /// Takes one octet.
-    fn take(&mut self, octet: u8) {
-        self.measures.file_len += 1;
+    /// Takes octets from the front, at least one, and says how many.
+    fn take(&mut self, octets: &[u8]) -> usize
+        requires some { 0 < length octets.now }
+        requires most { fed_len self.old + length octets.now ≤ 4194304 }
+        ensures taken { 0 < result }
+        ensures within { result ≤ length octets.now }
+        ensures fed { Extends self.old self.new (take result octets.now) }
+        ensures len { fed_len self.new ≡ fed_len self.old + result }
+    {
         match self.stage {
-            Stage::NoHeader => {}
-            Stage::Body => self.measures.body_sum = plus(self.measures.body_sum, octet),
-            Stage::Nothing | Stage::Begun | Stage::Items => {
-                self.measures.header_sum = plus(self.measures.header_sum, octet);
-                self.take_of_header(octet);
+            Stage::Nothing | Stage::Begun => self.take_of_start(octets),
+            Stage::NoHeader => self.pass(octets),
+            Stage::Items => self.take_of_items(octets),
+            Stage::Body => self.take_of_body(octets),
+        }
+    }
+
+    /// Takes one octet of AA 55, or of what stands in their place.
+    fn take_of_start(&mut self, octets: &[u8]) -> usize
+        requires stage { (self.old.stage ≡ stages.Nothing) ⊎ (self.old.stage ≡ stages.Begun) }
+        requires some { 0 < length octets.now }
+        requires most { fed_len self.old + length octets.now ≤ 4194304 }
+        ensures taken { result ≡ 1 }
+        ensures fed { Extends self.old self.new (take result octets.now) }
+        ensures len { fed_len self.new ≡ fed_len self.old + result }
+    {
+        let (first, _) = octets.split_at(1);
+        self.measures.add_header(first);
+        self.stage = begun(self.stage, octets[0]);
+        1
+    }
+
+    /// Takes octets of a file that doesn't begin with AA 55.
+    fn pass(&mut self, octets: &[u8]) -> usize
+        requires stage { self.old.stage ≡ stages.NoHeader }
+        requires most { fed_len self.old + length octets.now ≤ 4194304 }
+        ensures taken { result ≡ length octets.now }
+        ensures fed { Extends self.old self.new (take result octets.now) }
+        ensures len { fed_len self.new ≡ fed_len self.old + result }
+    {
+        self.measures.add_header(octets);
+        octets.len()
+    }
+
+    /// Takes octets of the body.
+    fn take_of_body(&mut self, octets: &[u8]) -> usize
+        requires stage { self.old.stage ≡ stages.Body }
+        requires most { fed_len self.old + length octets.now ≤ 4194304 }
+        ensures taken { result ≡ length octets.now }
+        ensures fed { Extends self.old self.new (take result octets.now) }
+        ensures len { fed_len self.new ≡ fed_len self.old + result }
+    {
+        self.measures.add_body(octets);
+        octets.len()
+    }
+
+    /// Takes octets of items: those that are whole where they stand, or the next octet of the one that is cut.
+    fn take_of_items(&mut self, octets: &[u8]) -> usize
+        requires stage { self.old.stage ≡ stages.Items }
+        requires some { 0 < length octets.now }
+        requires most { fed_len self.old + length octets.now ≤ 4194304 }
+        ensures taken { 0 < result }
+        ensures within { result ≤ length octets.now }
+        ensures fed { Extends self.old self.new (take result octets.now) }
+        ensures len { fed_len self.new ≡ fed_len self.old + result }
+    {
+        if self.held.is_empty() {
+            self.take_whole_items(octets)
+        } else {
+            self.take_of_cut_item(octets)
+        }
+    }
+
+    /// Takes the items that are whole in these octets, and holds what is left of a cut one.
+    fn take_whole_items(&mut self, octets: &[u8]) -> usize
+        requires stage { self.old.stage ≡ stages.Items }
+        requires none { self.old.held ≡ [] }
+        requires some { 0 < length octets.now }
+        requires most { fed_len self.old + length octets.now ≤ 4194304 }
+        ensures taken { 0 < result }
+        ensures within { result ≤ length octets.now }
+        ensures fed { Extends self.old self.new (take result octets.now) }
+        ensures len { fed_len self.new ≡ fed_len self.old + result }
+    {
+        match take_items(&mut self.claims, octets) {
+            Stop::EndItem { at } => {
+                let (header, _) = octets.split_at(at + 3);
+                self.measures.end_header(header);
+                self.stage = Stage::Body;
+                at + 3
+            }
+            Stop::Ran { at } => {
+                let (_, cut) = octets.split_at(at);
+                self.measures.add_header(octets);
+                self.held = held(cut);
+                octets.len()
             }
         }
     }
 
-    /// Takes one octet of the header.
-    fn take_of_header(&mut self, octet: u8) {
-        self.stage = match (self.stage, octet) {
-            (Stage::Nothing, 0xAA) => Stage::Begun,
-            (Stage::Begun, 0x55) => Stage::Items,
-            (Stage::Items, _) => {
-                self.held.push(octet);
-                if take_item(&mut self.held, &mut self.claims) {
-                    self.measures.header_len = self.measures.file_len;
-                    Stage::Body
-                } else {
-                    Stage::Items
-                }
-            }
-            _ => Stage::NoHeader,
-        };
+    /// Takes the next octet of the item that is cut.
+    fn take_of_cut_item(&mut self, octets: &[u8]) -> usize
+        requires stage { self.old.stage ≡ stages.Items }
+        requires some { 0 < length octets.now }
+        requires most { fed_len self.old + length octets.now ≤ 4194304 }
+        ensures taken { result ≡ 1 }
+        ensures fed { Extends self.old self.new (take result octets.now) }
+        ensures len { fed_len self.new ≡ fed_len self.old + result }
+    {
+        let (first, _) = octets.split_at(1);
+        if take_octet(&mut self.held, &mut self.claims, octets[0]) {
+            self.measures.end_header(first);
+            self.stage = Stage::Body;
+        } else {
+            self.measures.add_header(first);
+        }
+        1
     }
 
     /// The answer for all octets that were fed: the sums of a file that keeps all rules, or the first rule that it breaks,
@@ -119,12 +211,7 @@ impl Checker {
         ensures code { (fed : List ℕ) → HasFed self.now fed
             → MatchResult result (λ _. fault_code fed ≡ None) (λ fault. fault_code fed ≡ Some fault.code) }
     {
-        let fault = match self.stage {
-            Stage::Nothing | Stage::Begun | Stage::NoHeader => Some(FileFault::NoHeader),
-            Stage::Items => Some(FileFault::NoEndItem),
-            Stage::Body => self.claims.fault(&self.measures),
-        };
-        match fault {
+        match self.fault() {
             Some(fault) => Err(fault.into()),
             None => Ok(Sums {
                 header_len: u32::from(self.claims.body_offset),
@@ -133,26 +220,70 @@ impl Checker {
             }),
         }
     }
+
+    /// The first rule that the octets break which were fed.
+    fn fault(&self) -> Option<FileFault>
+        ensures found { (fed : List ℕ) → HasFed self.now fed → IsFound fed result }
+        ensures read { (fed : List ℕ) → HasFed self.now fed → result ≡ first_fault fed }
+    {
+        match self.stage {
+            Stage::Nothing | Stage::Begun | Stage::NoHeader => Some(FileFault::NoHeader),
+            Stage::Items => Some(FileFault::NoEndItem),
+            Stage::Body => self.claims.fault(&self.measures),
+        }
+    }
 }
 
-/// Lets the item go that is held, once it is whole, with what it says; `true` where it is the end item.
-fn take_item(held: &mut ArrayVec<u8, 258>, claims: &mut Claims) -> bool {
-    let mut items = Items::over(held.as_slice());
-    if let Some(item) = items.next() {
-        claims.take(&item);
-        held.clear();
-        return false;
+/// How far a checker has come after one octet more, where it had come to AA or not so far.
+fn begun(stage: Stage, octet: u8) -> Stage
+    ensures { result ≡ stage_after stage octet }
+{
+    match (stage, octet) {
+        (Stage::Nothing, 0xAA) => Stage::Begun,
+        (Stage::Begun, 0x55) => Stage::Items,
+        _ => Stage::NoHeader,
     }
-    match items.stop() {
+}
+
+/// Takes the items that are whole in these octets, and says what ends them.
+fn take_items(claims: &mut Claims, octets: &[u8]) -> Stop
+    ensures stop { result ≡ (items_from 0 octets.now).stop }
+    ensures claims { KeepsClaims (items_from 0 octets.now).items claims.old claims.new }
+{
+    let mut items = Items::over(octets);
+    while let Some(item) = items.next() {
+        claims.take(&item);
+    }
+    items.stop()
+}
+
+/// The octets of an item that is cut.
+fn held(octets: &[u8]) -> ArrayVec<u8, 258>
+    requires { IsCutItem octets.now }
+    ensures { result.items ≡ octets.now }
+{
+    let mut held = ArrayVec::new();
+    held.try_extend_from_slice(octets).unwrap();
+    held
+}
+
+/// Puts one octet to the item that is cut, and takes the item if it is whole now; `true` where it is the end item.
+fn take_octet(held: &mut ArrayVec<u8, 258>, claims: &mut Claims, octet: u8) -> bool
+    requires { IsCutItem held.old.items }
+    ensures cut { IsCutItem held.new.items }
+    ensures items { result ≡ false → TakesItems (held.old.items ++ octet ∷ []) held.new.items claims.old claims.new }
+    ensures end { result ≡ true → TakesEnd (held.old.items ++ octet ∷ []) claims.old claims.new }
+{
+    held.push(octet);
+    match take_items(claims, held.as_slice()) {
         Stop::EndItem { .. } => {
             held.clear();
             true
         }
-        Stop::Ran { .. } => false,
+        Stop::Ran { at: 0 } => false,
+        Stop::Ran { .. } => {
+            held.clear();
+            false
+        }
     }
-}
-
-/// The sum with one octet more, modulo 65,536.
-fn plus(sum: u16, octet: u8) -> u16 {
-    sum.wrapping_add(u16::from(octet))
 }

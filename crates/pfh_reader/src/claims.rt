@@ -1,13 +1,18 @@
-//! What the check of a file keeps of its items and its octets.
+//! What the check of a file keeps of its items.
 
-ghost use Rattle.std.specs.Prelude.{◌≡◌, ℕ, List, [], ◌∷◌, ◌++◌, Bool, Option};
+ghost use Rattle.std.specs.Prelude.{◌≡◌, ℕ, List, [], ◌∷◌, ◌++◌, ◌==◌, ◌&&◌, ◌%◌, ◌/◌, ◌+◌, ◌-◌, not, IsTrue, length};
+ghost use Rattle.std.specs.List.{list_all};
 ghost use Rattle.pfh_items.specs.Faults.{fault_of};
 ghost use Rattle.pfh_items.specs.Layout.{AreItems, ItemValue};
+ghost use Rattle.pfh_items.specs.Table.{mandatory_items};
 ghost use Rattle.pfh_items.specs.Values.{item_value};
-ghost use Rattle.pfh_reader.specs.Claims.{IsClaims, IsMeasured, standing_after};
+ghost use Rattle.pfh_reader.specs.Claims.{IsClaims, Says16, Says32, is_missing, is_once, noted, standing_after, standing_with};
+ghost use Rattle.pfh_reader.specs.Measures.{IsMeasured};
 
+use crate::measures::Measures;
 use pfh_items::{
     BODY_CHECKSUM, BODY_OFFSET, FILE_SIZE, FileFault, HEADER_CHECKSUM, Item, MANDATORY_ITEMS,
+    MandatoryItem,
 };
 use px_base::{le16, le32};
 
@@ -22,19 +27,8 @@ pub(crate) enum Standing {
     Wrong,
 }
 
-impl Standing {
-    /// How it stands after one more item of its id, whose data has its length or not.
-    fn after(self, fits: bool) -> Standing
-        ensures { result ≡ standing_after self fits }
-    {
-        match self {
-            Standing::Missing if fits => Standing::Once,
-            Standing::Missing | Standing::Once | Standing::Wrong => Standing::Wrong,
-        }
-    }
-}
-
-/// What the items of a header say of the file, and how its mandatory items stand. The numbers count where they do.
+/// What the items of a header say of the file, and how its mandatory items stand. A number counts where its item stands
+/// once.
 #[derive(Clone, Copy, Debug, PartialEq, Eq)]
 pub(crate) struct Claims {
     /// How each mandatory item stands, in the order of the table.
@@ -49,17 +43,27 @@ pub(crate) struct Claims {
     pub(crate) body_offset: u16,
 }
 
-/// The lengths and sums of a file's octets.
-#[derive(Clone, Copy, Debug, PartialEq, Eq)]
-pub(crate) struct Measures {
-    /// The octets of the file.
-    pub(crate) file_len: usize,
-    /// The octets of the header.
-    pub(crate) header_len: usize,
-    /// The sum of the header's octets, all of them.
-    pub(crate) header_sum: u16,
-    /// The sum of the body's octets.
-    pub(crate) body_sum: u16,
+impl Standing {
+    /// How it stands after one more item.
+    fn with(self, rule: &MandatoryItem, item: &Item<'_>) -> Standing
+        ensures { result ≡ standing_with self rule.now (item_value item.now) }
+    {
+        if item.id == rule.id {
+            self.after(item.bytes.len() == usize::from(rule.len))
+        } else {
+            self
+        }
+    }
+
+    /// How it stands after one more item of its id, whose data has its length or not.
+    fn after(self, fits: bool) -> Standing
+        ensures { result ≡ standing_after self fits }
+    {
+        match self {
+            Standing::Missing if fits => Standing::Once,
+            Standing::Missing | Standing::Once | Standing::Wrong => Standing::Wrong,
+        }
+    }
 }
 
 impl Claims {
@@ -80,29 +84,11 @@ impl Claims {
     pub(crate) fn take(&mut self, item: &Item<'_>)
         ensures { (items : List ItemValue) → IsClaims items self.old → IsClaims (items ++ item_value item.now ∷ []) self.new }
     {
-        self.note_standing(item);
-        self.note_number(item);
-    }
-
-    /// Notes how the mandatory items stand with one more item.
-    fn note_standing(&mut self, item: &Item<'_>) {
-        for (place, rule) in MANDATORY_ITEMS.iter().enumerate() {
-            if rule.id == item.id {
-                let fits = item.bytes.len() == usize::from(rule.len);
-                self.standing[place] = self.standing[place].after(fits);
-            }
-        }
-    }
-
-    /// Notes what the item says of the file, if it has the octets for it.
-    fn note_number(&mut self, item: &Item<'_>) {
-        match (item.id, item.bytes.len()) {
-            (FILE_SIZE, 4) => self.file_size = le32(item.bytes, 0),
-            (BODY_CHECKSUM, 2) => self.body_sum = le16(item.bytes, 0),
-            (HEADER_CHECKSUM, 2) => self.header_sum = le16(item.bytes, 0),
-            (BODY_OFFSET, 2) => self.body_offset = le16(item.bytes, 0),
-            _ => {}
-        }
+        note_standing(&mut self.standing, item);
+        self.file_size = noted32(self.file_size, FILE_SIZE, item);
+        self.body_sum = noted16(self.body_sum, BODY_CHECKSUM, item);
+        self.header_sum = noted16(self.header_sum, HEADER_CHECKSUM, item);
+        self.body_offset = noted16(self.body_offset, BODY_OFFSET, item);
     }
 
     /// The first rule that a file breaks whose items say this, and whose octets have these lengths and sums.
@@ -110,9 +96,9 @@ impl Claims {
         ensures { (items : List ItemValue) (body : List ℕ) → AreItems items → IsClaims items self.now
             → IsMeasured items body measures.now → result ≡ fault_of items body }
     {
-        if self.is_any(Standing::Missing) {
+        if !self.all_stand() {
             Some(FileFault::MissingItem)
-        } else if self.is_any(Standing::Wrong) || !self.fits(measures) {
+        } else if !self.fits(measures) {
             Some(FileFault::BadHeader)
         } else if self.header_sum != self.sum_without_own(measures.header_sum) {
             Some(FileFault::HeaderSum)
@@ -123,19 +109,69 @@ impl Claims {
         }
     }
 
-    /// Whether some mandatory item stands so.
-    fn is_any(&self, standing: Standing) -> bool {
-        self.standing.iter().any(|one| *one == standing)
+    /// Whether each mandatory item stands.
+    fn all_stand(&self) -> bool
+        ensures { result ≡ list_all (λ standing. not (is_missing standing)) self.now.standing }
+    {
+        self.standing
+            .iter()
+            .all(|standing| !matches!(standing, Standing::Missing))
     }
 
-    /// Whether file and header have the lengths that the items say.
-    fn fits(&self, measures: &Measures) -> bool {
-        self.file_size as usize == measures.file_len
+    /// Whether each stands once with its length, and file and header have the lengths that the items say.
+    fn fits(&self, measures: &Measures) -> bool
+        ensures { result ≡ (list_all is_once self.now.standing && (self.now.file_size == measures.now.file_len)
+            && (self.now.body_offset == measures.now.header_len)) }
+    {
+        self.all_stand_once()
+            && self.file_size as usize == measures.file_len
             && usize::from(self.body_offset) == measures.header_len
     }
 
+    /// Whether each mandatory item stands once with its length.
+    fn all_stand_once(&self) -> bool
+        ensures { result ≡ list_all is_once self.now.standing }
+    {
+        self.standing
+            .iter()
+            .all(|standing| matches!(standing, Standing::Once))
+    }
+
     /// The sum of the header without the two octets of the sum's own item.
-    fn sum_without_own(&self, header_sum: u16) -> u16 {
+    fn sum_without_own(&self, header_sum: u16) -> u16
+        ensures { result ≡ (header_sum + 65536 - (self.now.header_sum % 256 + self.now.header_sum / 256)) % 65536 }
+    {
         header_sum.wrapping_sub(self.header_sum % 256 + self.header_sum / 256)
+    }
+}
+
+/// Notes how the mandatory items stand with one more item.
+fn note_standing(standing: &mut [Standing; 11], item: &Item<'_>)
+    ensures { standing.new ≡ noted standing.old mandatory_items (item_value item.now) }
+{
+    for (place, rule) in MANDATORY_ITEMS.iter().enumerate() {
+        standing[place] = standing[place].with(rule, item);
+    }
+}
+
+/// The number of two octets that an item of this id says, with one more item.
+fn noted16(number: u16, id: u16, item: &Item<'_>) -> u16
+    ensures { (items : List ItemValue) → Says16 items id number → Says16 (items ++ item_value item.now ∷ []) id result }
+{
+    if item.id == id && item.bytes.len() == 2 {
+        le16(item.bytes, 0)
+    } else {
+        number
+    }
+}
+
+/// The number of four octets that an item of this id says, with one more item.
+fn noted32(number: u32, id: u16, item: &Item<'_>) -> u32
+    ensures { (items : List ItemValue) → Says32 items id number → Says32 (items ++ item_value item.now ∷ []) id result }
+{
+    if item.id == id && item.bytes.len() == 4 {
+        le32(item.bytes, 0)
+    } else {
+        number
     }
 }

@@ -3,13 +3,14 @@
 //! [`check`] is over a file that lies in memory, [`Checker`] over one that comes in pieces of any lengths.
 #![tactic(auto)]
 
-mod check;
+mod whole_file;
 mod checker;
 mod claims;
 mod fault;
+mod measures;
 mod pieces;
 
-pub use check::check;
+pub use whole_file::check;
 pub use checker::Checker;
 pub use fault::HeaderFault;
 pub use pfh_items::{FileFault, Header, Sums};

@@ -1,5 +1,5 @@
 -- One step of the walk: the items that are left are those that are read from the next place on.
-use Rattle.std.proofs.Common.{◌≡◌, ℕ, ◌+◌, ◌-◌, List, true, false, length, take, drop, sym, ap, ◌∙◌, arith}
+use Rattle.std.proofs.Common.{◌≡◌, ℕ, ◌+◌, ◌-◌, List, true, false, length, take, drop, refl, sym, ap, ◌∙◌, arith}
 use Rattle.std.proofs.lemmas.List.{take_rest}
 use Rattle.pfh_items.specs.declared.items.Item.{Item}
 use Rattle.pfh_items.specs.Values.{item_value, items_left}
@@ -9,7 +9,7 @@ use Rattle.pfh_items.proofs.items.ItemsIterator.next.Goals as goal
 
 pub returns-in_default-clause-steps : goal.returns-in_default-clause-steps
 returns-in_default-clause-steps c =
-    let none = ap items_left (sym c.self.view_is) ∙ items_from-none c.self.inside.at c.self.inside.rest.now c.in_default.ensures.none in (none, none)
+    let none = ap items_left (sym c.self.view_is) ∙ items_from-none c.self.inside.at c.self.inside.rest.now c.in_default.ensures.none in ((none, none), refl)
 
 -- the items that are left before and after an item
 walk : (now : ItemList) (place : ℕ) (octets : List ℕ) (item : Item) → items_from place octets ≡ now → starts_whole octets ≡ true
@@ -23,7 +23,9 @@ walk now place octets item view whole end same len =
     (item_value item) whole end same len (take_rest octets (3 + length item.bytes.now))
 
 pub returns-clause-steps : goal.returns-clause-steps
-returns-clause-steps c = ap items_left (walk c.args.self.now c.self.inside.at c.self.inside.rest.now c.in-Some.item c.self.view_is c.in-Some.ensures.whole c.in-Some.ensures.no_end c.in-Some.ensures.item c.in-Some.ensures.len)
+returns-clause-steps c =
+    let left = walk c.args.self.now c.self.inside.at c.self.inside.rest.now c.in-Some.item c.self.view_is c.in-Some.ensures.whole c.in-Some.ensures.no_end c.in-Some.ensures.item c.in-Some.ensures.len in
+    (ap items_left left, sym (ap (λ (left : ItemList). left.stop) left))
 
 pub returns-clause-goes : goal.returns-clause-goes
 returns-clause-goes c =
@@ -33,6 +35,3 @@ returns-clause-goes c =
       keeps = tt;
       rests = λ finite. tt;
     }
-
-pub returns-clause-stop : goal.returns-clause-stop
-returns-clause-stop c = sym (ap (λ (left : ItemList). left.stop) (walk c.args.self.now c.self.inside.at c.self.inside.rest.now c.in-Some.item c.self.view_is c.in-Some.ensures.whole c.in-Some.ensures.no_end c.in-Some.ensures.item c.in-Some.ensures.len))

@@ -1,0 +1,89 @@
+-- What is kept of a file's items and octets says its first fault.
+use Rattle.std.proofs.Common.{◌≡◌, ℕ, ◌+◌, ◌-◌, ◌%◌, ◌/◌, ◌==◌, ◌&&◌, List, [], ◌∷◌, ◌++◌, length, Bool, true, false, not, Option, Some, None, refl, sym, ap, ◌∙◌, subst}
+use Rattle.std.specs.List.{list_all}
+use Rattle.std.proofs.lemmas.Bool.{and_parts}
+use Rattle.px_base.specs.Numbers.{le16, le32, sum16}
+use Rattle.pfh_items.specs.declared.fault.FileFault.{FileFault}
+use Rattle.pfh_items.specs.declared.table.MandatoryItem.{MandatoryItem}
+use Rattle.pfh_items.specs.Faults.{items_with, content_of, header_sum, StandsOnce, FitsFile, is_one_of_len, has_mandatory, fits_file, fault_of}
+use Rattle.pfh_items.specs.Layout.{ItemValue, AreItems, header_text}
+use Rattle.pfh_items.specs.Table.{mandatory_items}
+use Rattle.pfh_items.proofs.FaultLemmas.{chosen, chosen-by, header_test, body_test, once_each, fits_file-FitsFile}
+use Rattle.pfh_reader.specs.declared.claims.Claims.{Claims}
+use Rattle.pfh_reader.specs.declared.claims.Standing.{Standing}
+use Rattle.pfh_reader.specs.declared.measures.Measures.{Measures}
+use Rattle.pfh_reader.specs.Claims.{IsClaims, is_missing, is_once}
+use Rattle.pfh_reader.specs.Measures.{IsMeasured}
+use Rattle.pfh_reader.proofs.ClaimsLemmas.{all_stand, all_once, content_of-items_with}
+use Rattle.pfh_reader.proofs.SumLemmas.{header_sum-own}
+
+-- what is kept of the items of a file, and of its octets
+module _ (items : List ItemValue) (body : List ℕ) (claims : Claims) (measures : Measures) (is : IsClaims items claims) (of : IsMeasured items body measures) where
+  -- whether each mandatory item stands
+  pub mandatory_test : list_all (λ (s : Standing). not (is_missing s)) claims.standing ≡ has_mandatory items
+  mandatory_test = ap (list_all (λ (s : Standing). not (is_missing s))) is.standing ∙ all_stand mandatory_items items
+
+  once_test : list_all is_once claims.standing ≡ list_all (λ (rule : MandatoryItem). is_one_of_len rule.len (items_with rule.id items)) mandatory_items
+  once_test = ap (list_all is_once) is.standing ∙ all_once mandatory_items items
+
+  -- the numbers that the items say, where each stands once
+  module _ (t : list_all (λ (rule : MandatoryItem). is_one_of_len rule.len (items_with rule.id items)) mandatory_items ≡ true) where
+    file_size : claims.file_size ≡ le32 (content_of 0x04 items) 0
+    file_size =
+        let once = (once_each items t).1.1.1.0 in
+        is.file_size once.0 once.1 once.2 ∙ ap (λ (c : List ℕ). le32 c 0) (sym (content_of-items_with 0x04 items once.0 [] once.1))
+
+    pub body_sum : claims.body_sum ≡ le16 (content_of 0x09 items) 0
+    body_sum =
+        let once = (once_each items t).1.1.1.1.1.1.1.1.0 in
+        is.body_sum once.0 once.1 once.2 ∙ ap (λ (c : List ℕ). le16 c 0) (sym (content_of-items_with 0x09 items once.0 [] once.1))
+
+    pub header_sum_is : claims.header_sum ≡ le16 (content_of 0x0A items) 0
+    header_sum_is =
+        let once = (once_each items t).1.1.1.1.1.1.1.1.1.0 in
+        is.header_sum once.0 once.1 once.2 ∙ ap (λ (c : List ℕ). le16 c 0) (sym (content_of-items_with 0x0A items once.0 [] once.1))
+
+    pub body_offset : claims.body_offset ≡ le16 (content_of 0x0B items) 0
+    body_offset =
+        let once = (once_each items t).1.1.1.1.1.1.1.1.1.1.0 in
+        is.body_offset once.0 once.1 once.2 ∙ ap (λ (c : List ℕ). le16 c 0) (sym (content_of-items_with 0x0B items once.0 [] once.1))
+
+    pub without_own : AreItems items → (measures.header_sum + 65536 - (claims.header_sum % 256 + claims.header_sum / 256)) % 65536 ≡ header_sum items
+    without_own are =
+        let once = (once_each items t).1.1.1.1.1.1.1.1.1.0 in
+        ap (λ (n : ℕ). (n + 65536 - (claims.header_sum % 256 + claims.header_sum / 256)) % 65536) of.header_sum
+        ∙ ap (λ (n : ℕ). (sum16 (header_text items) + 65536 - (n % 256 + n / 256)) % 65536) (is.header_sum once.0 once.1 once.2)
+        ∙ header_sum-own items once.0 are once.1 once.2
+
+  abbrev sizes : Bool → Bool
+  sizes once = once && (claims.file_size == measures.file_len) && (claims.body_offset == measures.header_len)
+
+  -- whether file and header have their lengths
+  pub fits_test : sizes (list_all is_once claims.standing) ≡ fits_file items body
+  fits_test = ap sizes once_test ∙ by (list_all (λ (rule : MandatoryItem). is_one_of_len rule.len (items_with rule.id items)) mandatory_items) refl
+    where
+      by : (b : Bool) → list_all (λ (rule : MandatoryItem). is_one_of_len rule.len (items_with rule.id items)) mandatory_items ≡ b
+          → sizes (list_all (λ (rule : MandatoryItem). is_one_of_len rule.len (items_with rule.id items)) mandatory_items) ≡ fits_file items body
+      by true t =
+          ap (λ (n : ℕ). list_all (λ (rule : MandatoryItem). is_one_of_len rule.len (items_with rule.id items)) mandatory_items && (n == measures.file_len) && (claims.body_offset == measures.header_len)) (file_size t)
+          ∙ ap (λ (n : ℕ). list_all (λ (rule : MandatoryItem). is_one_of_len rule.len (items_with rule.id items)) mandatory_items && (le32 (content_of 0x04 items) 0 == n) && (claims.body_offset == measures.header_len)) of.file_len
+          ∙ ap (λ (n : ℕ). list_all (λ (rule : MandatoryItem). is_one_of_len rule.len (items_with rule.id items)) mandatory_items && (le32 (content_of 0x04 items) 0 == length (header_text items ++ body)) && (n == measures.header_len)) (body_offset t)
+          ∙ ap (λ (n : ℕ). list_all (λ (rule : MandatoryItem). is_one_of_len rule.len (items_with rule.id items)) mandatory_items && (le32 (content_of 0x04 items) 0 == length (header_text items ++ body)) && (le16 (content_of 0x0B items) 0 == n)) of.header_len
+      by false t =
+          ap sizes t
+          ∙ ap (λ (b : Bool). b && (le32 (content_of 0x04 items) 0 == length (header_text items ++ body)) && (le16 (content_of 0x0B items) 0 == length (header_text items))) (sym t)
+
+  -- each stands once, if the file fits
+  fits_once : fits_file items body ≡ true → list_all (λ (rule : MandatoryItem). is_one_of_len rule.len (items_with rule.id items)) mandatory_items ≡ true
+  fits_once t = (and_parts _ _ (and_parts _ _ t).0).0
+
+  -- whether the header's sum is right, and the body's
+  pub header_sum_test : AreItems items → fits_file items body ≡ true
+      → (claims.header_sum == (measures.header_sum + 65536 - (claims.header_sum % 256 + claims.header_sum / 256)) % 65536) ≡ header_test items
+  header_sum_test are fits =
+      let t = fits_once fits in
+      ap (λ (n : ℕ). claims.header_sum == n) (without_own t are) ∙ ap (λ (n : ℕ). n == header_sum items) (header_sum_is t)
+
+  pub body_sum_test : fits_file items body ≡ true → (claims.body_sum == measures.body_sum) ≡ body_test items body
+  body_sum_test fits =
+      ap (λ (n : ℕ). n == measures.body_sum) (body_sum (fits_once fits)) ∙ ap (λ (n : ℕ). le16 (content_of 0x09 items) 0 == n) of.body_sum
