@@ -1,9 +1,10 @@
 -- Texts of items, one after another.
-use Rattle.std.proofs.Common.{◌≡◌, ℕ, ◌+◌, ◌==◌, List, [], ◌∷◌, ◌++◌, length, drop, filter, Bool, true, false, cond, refl, sym, ap, ◌∙◌, subst, append_assoc}
+use Rattle.std.proofs.Common.{◌≡◌, ℕ, ◌+◌, ◌==◌, List, [], ◌∷◌, ◌++◌, length, drop, filter, Bool, true, false, cond, Option, Some, None, find, refl, sym, ap, ◌∙◌, subst, append_assoc}
 use Rattle.std.specs.List.{AllByRecursion}
+use Rattle.std.specs.Option.{option_map}
 use Rattle.std.proofs.lemmas.Bool.{false≢true}
 use Rattle.std.proofs.lemmas.List.{take_at, drop_at}
-use Rattle.pfh_items.specs.Faults.{items_with, StandsOnce}
+use Rattle.pfh_items.specs.Faults.{items_with, field_of, StandsOnce}
 use Rattle.pfh_items.specs.Layout.{ItemValue, IsItem, AreItems, item_text, items_text, end_item}
 use Rattle.pfh_items.specs.Walk.{item_in, item_len, starts_end}
 use Rattle.pfh_items.specs.declared.table.MandatoryItem.{MandatoryItem}
@@ -72,3 +73,20 @@ pub len_of_once : (items : List ItemValue) (rule : MandatoryItem) → StandsOnce
 len_of_once items rule once =
     all_of_id rule.id (λ (i : ItemValue). length i.content ≡ rule.len) items
     (subst (AllByRecursion (λ (i : ItemValue). length i.content ≡ rule.len)) (sym once.1) (once.2, tt))
+
+-- the only item of an id is the first
+find-filter : (p : ItemValue → Bool) (items : List ItemValue) (item : ItemValue) → filter p items ≡ item ∷ [] → find p items ≡ Some item
+find-filter p [] item same = absurd (none same)
+  where
+    none : [] ≡ item ∷ [] → ⊥
+    none e = cc
+find-filter p (first ∷ items) item same = by (find-filter p items item) (p first) same
+  where
+    by : (filter p items ≡ item ∷ [] → find p items ≡ Some item) → (b : Bool) → cond b (first ∷ filter p items) (filter p items) ≡ item ∷ []
+        → cond b (Some first) (find p items) ≡ Some item
+    by later true e = let here : first ≡ item = cc in ap (λ (i : ItemValue). Some i) here
+    by later false e = later e
+
+pub field-once : (items : List ItemValue) (rule : MandatoryItem) (once : StandsOnce items rule) → field_of rule.id items ≡ Some once.0
+field-once items rule once =
+    ap (λ (found : Option ItemValue). option_map (λ (i : ItemValue). i.content) found) (find-filter (λ (i : ItemValue). i.id == rule.id) items _ once.1)

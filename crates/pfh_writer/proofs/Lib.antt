@@ -3,3 +3,4 @@ pub mod FrontLemmas
 pub mod ItemsLemmas
 pub mod StepLemmas
 pub mod SumLemmas
+pub mod WholeLemmas
