@@ -63,12 +63,13 @@ sum-header_text items =
     sum-append header_start (items_text items ++ end_item)
     ∙ ap (λ (n : ℕ). 255 + n) (sum-append (items_text items) end_item ∙ add-zero (sum (items_text items)))
 
--- the same of equal items
-pub same_walk : (stamp : StampValue) (walked items : List ItemValue) (old result : ℕ) → walked ≡ items
-    → (result + data_sum walked) % 65536 ≡ (old + data_sum (map (filled_item stamp) walked)) % 65536
+-- the same of an equal stamp and equal items
+pub same_walk : (filled stamp : StampValue) (walked items : List ItemValue) (old result : ℕ) → filled ≡ stamp → walked ≡ items
+    → (result + data_sum walked) % 65536 ≡ (old + data_sum (map (filled_item filled) walked)) % 65536
     → (result + data_sum items) % 65536 ≡ (old + data_sum (map (filled_item stamp) items)) % 65536
-same_walk stamp walked items old result same h =
-    subst (λ (l : List ItemValue). (result + data_sum l) % 65536 ≡ (old + data_sum (map (filled_item stamp) l)) % 65536) same h
+same_walk filled stamp walked items old result same_stamp same h =
+    subst (λ (s : StampValue). (result + data_sum items) % 65536 ≡ (old + data_sum (map (filled_item s) items)) % 65536) same_stamp
+    (subst (λ (l : List ItemValue). (result + data_sum l) % 65536 ≡ (old + data_sum (map (filled_item filled) l)) % 65536) same h)
 
 -- an item with two octets 0 as its data, if it is header_checksum
 abbrev blank : ItemValue → ItemValue

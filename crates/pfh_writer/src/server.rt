@@ -1,6 +1,7 @@
 //! The items that a server fills in.
 
 ghost use Rattle.std.specs.Prelude.{◌≡◌, ℕ, ◌+◌, ◌≤◌, ◌%◌, List, length, map, option_map, sum};
+ghost use Rattle.px_base.specs.CallSign.{IsCall};
 ghost use Rattle.pfh_items.specs.Values.{item_value};
 ghost use Rattle.pfh_writer.specs.Stamping.{server_data, stamp_of};
 ghost use Rattle.pfh_writer.specs.Sums.{data_sum, filled_item};
@@ -20,6 +21,14 @@ pub(crate) struct ServerItems {
 }
 
 impl ServerItems {
+    /// Those of this number, call and moment.
+    pub(crate) fn new(number: u32, by: Call, moment: u32) -> ServerItems
+        ensures items { stamp_of result ≡ record { number = number; by = by; moment = moment } }
+        ensures call { IsCall by }
+    {
+        ServerItems { number, by, moment }
+    }
+
     /// The data that the server gives to an item of this id whose data has this length, where it gives any.
     pub(crate) fn data(&self, id: u16, len: usize) -> Option<ArrayVec<u8, 6>>
         ensures { option_map (λ octets. octets.items) result ≡ server_data (stamp_of self.now) id len }

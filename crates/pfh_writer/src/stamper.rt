@@ -72,7 +72,7 @@ impl Stamper {
         ensures fed { HasStamped result [] [] }
     {
         Stamper {
-            server: ServerItems { number, by, moment },
+            server: ServerItems::new(number, by, moment),
             sum,
             stage: Stage::Start,
         }

@@ -23,7 +23,7 @@ pub fn stamp(file: &mut [u8], number: u32, by: Call, moment: u32)
     let Some((len, header_sum)) = header_of(file) else {
         return;
     };
-    let sum = ServerItems { number, by, moment }.renewed_sum(header_sum, items_of(file));
+    let sum = ServerItems::new(number, by, moment).renewed_sum(header_sum, items_of(file));
     Stamper::new(number, by, moment, sum).feed(&mut file[..len]);
 }
 
@@ -46,7 +46,7 @@ pub fn stamped_sum(sums: &Sums, old: &[u8], number: u32, by: Call, moment: u32) 
     ensures { (items : List ItemValue) → HeaderText items old.now
         → result ≡ sum_of_stamped (record { number = number; by = by; moment = moment }) items }
 {
-    ServerItems { number, by, moment }.renewed_sum(sums.header_sum, items_of(old))
+    ServerItems::new(number, by, moment).renewed_sum(sums.header_sum, items_of(old))
 }
 
 /// The items of a header, or of a file that begins with one.
