@@ -1,6 +1,6 @@
 //! The builder of a file's header.
 
-ghost use Rattle.std.specs.Prelude.{◌≡◌, ℕ, ◌+◌, ◌<◌, ◌≤◌, ◌^◌, ◌++◌, ◌∷◌, [], length, IfOk, OnOk, OnErr, IsOkUnless, MatchOption, None};
+ghost use Rattle.std.specs.Prelude.{◌≡◌, ℕ, ◌+◌, ◌<◌, ◌≤◌, ◌^◌, ◌++◌, ◌∷◌, [], length, IfOk, OnOk, OnErr, IsNone, IsOkUnless, IsTrue, MatchOption};
 ghost use Rattle.pfh_items.specs.Faults.{IsFaultless, with_content};
 ghost use Rattle.pfh_items.specs.Layout.{header_start, items_text};
 ghost use Rattle.pfh_items.specs.Table.{fixed_len as fixed_len_of};
@@ -8,7 +8,7 @@ ghost use Rattle.pfh_writer.specs.Built.{built_items, fits_len, item as item_of,
 ghost use Rattle.px_base.specs.Numbers.{le16_octets};
 
 use crate::refusal::{FinishRefusal, PutRefusal};
-use crate::text::{END_ITEM, octets16, octets32, push_item, push_octets};
+use crate::text::{END_ITEM, push_item, push_item16, push_item32, push_octets};
 use arrayvec::ArrayVec;
 use pfh_items::{
     BODY_CHECKSUM, BODY_OFFSET, CREATE_TIME, FILE_EXT, FILE_NAME, FILE_NUMBER, FILE_SIZE,
@@ -48,7 +48,7 @@ pub struct HeaderBuilder {
 
 impl Model for HeaderBuilder {
     ghost use Rattle.pfh_items.specs.Walk.{items_from};
-    ghost use Rattle.pfh_writer.specs.Built.{AreOthers, BuilderValue};
+    ghost use Rattle.pfh_writer.specs.Built.{BuilderValue, IsBuilder};
 
     ghost Value = { BuilderValue };
 
@@ -56,7 +56,7 @@ impl Model for HeaderBuilder {
         name = a.name; ext = a.ext; created = a.created; modified = a.modified; seu = a.seu; file_type = a.file_type;
         others = (items_from 0 a.others).items } };
 
-    ghost invariant = { λ a. AreOthers a.others (items_from 0 a.others).items };
+    ghost invariant = { λ a. IsBuilder a.name a.ext a.seu a.file_type a.others (items_from 0 a.others).items };
 }
 
 impl HeaderBuilder {
@@ -109,7 +109,8 @@ impl HeaderBuilder {
 
     /// Why this item isn't taken, if it isn't.
     fn refusal(&self, id: u16, bytes: &[u8]) -> Option<PutRefusal>
-        ensures { result ≡ put_refusal self.now.others id bytes.now }
+        ensures refusal { result ≡ put_refusal self.now.others id bytes.now }
+        ensures short { IsNone result → length bytes.now ≤ 255 }
     {
         if is_mandatory(id) {
             Some(PutRefusal::Mandatory { id })
@@ -168,17 +169,17 @@ impl HeaderBuilder {
     {
         let mut text = ArrayVec::new();
         push_octets(&mut text, &HEADER_START);
-        push_item(&mut text, FILE_NUMBER, &octets32(0));
+        push_item32(&mut text, FILE_NUMBER, 0);
         push_item(&mut text, FILE_NAME, &self.name);
         push_item(&mut text, FILE_EXT, &self.ext);
-        push_item(&mut text, FILE_SIZE, &octets32(says.file_size));
-        push_item(&mut text, CREATE_TIME, &octets32(self.created));
-        push_item(&mut text, LAST_MODIFIED_TIME, &octets32(self.modified));
+        push_item32(&mut text, FILE_SIZE, says.file_size);
+        push_item32(&mut text, CREATE_TIME, self.created);
+        push_item32(&mut text, LAST_MODIFIED_TIME, self.modified);
         push_item(&mut text, SEU_FLAG, &[self.seu]);
         push_item(&mut text, FILE_TYPE, &[self.file_type]);
-        push_item(&mut text, BODY_CHECKSUM, &octets16(says.body_sum));
-        push_item(&mut text, HEADER_CHECKSUM, &octets16(header_sum));
-        push_item(&mut text, BODY_OFFSET, &octets16(says.body_offset));
+        push_item16(&mut text, BODY_CHECKSUM, says.body_sum);
+        push_item16(&mut text, HEADER_CHECKSUM, header_sum);
+        push_item16(&mut text, BODY_OFFSET, says.body_offset);
         text
     }
 }
@@ -196,7 +197,8 @@ struct Says {
 
 /// Whether an item of this id may have data of this length.
 fn may_have_len(id: u16, len: usize) -> bool
-    ensures { result ≡ fits_len (fixed_len_of id) id len }
+    ensures fits { result ≡ fits_len (fixed_len_of id) id len }
+    ensures short { IsTrue result → len ≤ 255 }
 {
     match fixed_len(id) {
         Some(fixed) => len == usize::from(fixed),

@@ -42,6 +42,24 @@ pub(crate) fn push_item<const N: usize>(text: &mut ArrayVec<u8, N>, id: u16, byt
     push_octets(text, bytes);
 }
 
+/// Puts an item at the end of a text, whose data is a number of two octets.
+pub(crate) fn push_item16<const N: usize>(text: &mut ArrayVec<u8, N>, id: u16, number: u16)
+    requires { array_vec_len text.old + 5 ≤ N }
+    ensures text { text.new.items ≡ text.old.items ++ item_text (item_of id (le16_octets number)) }
+    ensures len { array_vec_len text.new ≡ array_vec_len text.old + 5 }
+{
+    push_item(text, id, &octets16(number));
+}
+
+/// Puts an item at the end of a text, whose data is a number of four octets.
+pub(crate) fn push_item32<const N: usize>(text: &mut ArrayVec<u8, N>, id: u16, number: u32)
+    requires { array_vec_len text.old + 7 ≤ N }
+    ensures text { text.new.items ≡ text.old.items ++ item_text (item_of id (le32_octets number)) }
+    ensures len { array_vec_len text.new ≡ array_vec_len text.old + 7 }
+{
+    push_item(text, id, &octets32(number));
+}
+
 /// Puts octets at the end of a text.
 pub(crate) fn push_octets<const N: usize>(text: &mut ArrayVec<u8, N>, bytes: &[u8])
     requires { array_vec_len text.old + length bytes.now ≤ N }

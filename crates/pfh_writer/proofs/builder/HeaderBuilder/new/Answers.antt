@@ -1,17 +1,10 @@
-use Rattle.std.proofs.Common.{rules, ◌≡◌, ℕ, ◌+◌, ◌<◌, ◌≤◌, ◌^◌, ◌++◌, ◌∷◌, [], length, IfOk, OnOk, OnErr, IsOkUnless, MatchOption, None, ◌-◌, ◌*◌, ◌/◌, ◌%◌, Bool, true, false, nat_eq, nat_lt, List, slice_index_or, slice_set, bit_and, bit_or, Fits, w8, w32, w64, Bor, MutBor}
-use Rattle.pfh_items.specs.Faults.{IsFaultless, with_content}
-use Rattle.pfh_items.specs.Layout.{header_start, items_text}
-use Rattle.pfh_items.specs.Table.{fixed_len as fixed_len_of}
-use Rattle.pfh_writer.specs.Built.{built_items, fits_len}
-use Rattle.pfh_writer.specs.Built.{item as item_of}
-use Rattle.pfh_writer.specs.Built.{mandatory_saying, passing_len, put_refusal, stands}
-use Rattle.px_base.specs.Numbers.{le16_octets}
+use Rattle.std.proofs.Common.{◌≡◌, ℕ, List, [], arith, ap}
+use Rattle.pfh_items.specs.Layout.{ItemValue}
+use Rattle.pfh_writer.proofs.OthersLemmas.{IsOctets-of, empty_builder, read_back}
 use Rattle.pfh_writer.proofs.builder.HeaderBuilder.new.Goals as goal
 
--- src/builder.rt:79:9
 pub invariant_of-result : goal.invariant_of-result
 invariant_of-result c = ?
 
--- src/builder.rt:66:5
 pub returns : goal.returns
-returns c = ?
+returns c = ap (λ (l : List ItemValue). record { name = c.args.name; ext = c.args.ext; created = c.args.created; modified = c.args.modified; seu = c.args.seu; file_type = c.args.file_type; others = l }) (read_back [] c.in_ok-others.others tt c.in_ok-others.ensures)
