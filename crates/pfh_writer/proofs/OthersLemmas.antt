@@ -11,7 +11,7 @@ use Rattle.pfh_items.specs.Walk.{ItemList, items_from}
 use Rattle.pfh_items.proofs.WalkLemmas.{items_from-ran}
 use Rattle.pfh_writer.specs.declared.refusal.PutRefusal.{PutRefusal}
 use Rattle.pfh_writer.specs.declared.refusal.PutRefusal.TheVariants.{Mandatory, BadLength, Twice}
-use Rattle.pfh_writer.specs.Built.{IsBuilder, item, fits_len, stands, put_refusal}
+use Rattle.pfh_writer.specs.Built.{AreOthers, item, fits_len, stands, put_refusal}
 use Rattle.pfh_writer.proofs.ItemsLemmas.{items_text-append, AreItems-append}
 
 pub IsOctets-of : (octets : List ℕ) → ((i : ℕ) → get_or octets i 0 < 256) → IsOctets octets
@@ -23,22 +23,12 @@ read_back items octets are same =
     ap (λ (t : List ℕ). (items_from 0 t).items) (same ∙ sym (append-nil (items_text items)))
     ∙ ap (λ (walk : ItemList). walk.items) (items_from-ran items 0 [] are refl)
 
--- no item was put
-pub empty_builder : (name ext : List ℕ) (seu file_type : ℕ) (octets : List ℕ) → IsOctets name → length name ≡ 8 → IsOctets ext → length ext ≡ 3
-    → seu < 256 → file_type < 256 → octets ≡ [] → IsBuilder name ext seu file_type octets (items_from 0 octets).items
-empty_builder name ext seu file_type octets name_octets name_len ext_octets ext_len seu_octet type_octet none =
-    subst (λ (l : List ItemValue). IsBuilder name ext seu file_type octets l) (sym (read_back [] octets tt none))
-    (record {
-      name_octets = name_octets;
-      name_len = name_len;
-      ext_octets = ext_octets;
-      ext_len = ext_len;
-      seu_octet = seu_octet;
-      type_octet = type_octet;
-      are_items = tt;
-      text = none;
-      optional = tt;
-    })
+-- as they are read from the texts
+pub others_read : (octets : List ℕ) (items : List ItemValue) → AreOthers octets items → AreOthers octets (items_from 0 octets).items
+others_read octets items is = subst (λ (l : List ItemValue). AreOthers octets l) (sym (read_back items octets is.are_items is.text)) is
+
+pub no_others : (octets : List ℕ) → octets ≡ [] → AreOthers octets (items_from 0 octets).items
+no_others octets none = others_read octets [] (record { are_items = tt; text = none; optional = tt })
 
 -- what isn't refused
 put_causes : (others : List ItemValue) (id : ℕ) (content : List ℕ) → put_refusal others id content ≡ None
@@ -75,16 +65,9 @@ put_item others id content none below octets most = record {
 }
 
 -- one item more
-pub more_builder : (name ext : List ℕ) (seu file_type : ℕ) (octets next : List ℕ) (items : List ItemValue) (one : ItemValue)
-    → IsBuilder name ext seu file_type octets items → IsItem one → is_mandatory one.id ≡ false → next ≡ octets ++ item_text one
-    → IsBuilder name ext seu file_type next (items ++ one ∷ [])
-more_builder name ext seu file_type octets next items one is is_item optional same = record {
-  name_octets = is.name_octets;
-  name_len = is.name_len;
-  ext_octets = is.ext_octets;
-  ext_len = is.ext_len;
-  seu_octet = is.seu_octet;
-  type_octet = is.type_octet;
+pub more_others : (octets next : List ℕ) (items : List ItemValue) (one : ItemValue) → AreOthers octets items → IsItem one → is_mandatory one.id ≡ false
+    → next ≡ octets ++ item_text one → AreOthers next (items ++ one ∷ [])
+more_others octets next items one is is_item optional same = record {
   are_items = AreItems-append items (one ∷ []) is.are_items (is_item, tt);
   text =
     same
@@ -98,12 +81,6 @@ more_builder name ext seu file_type octets next items one is is_item optional sa
         → AllByRecursion (λ (i : ItemValue). is_mandatory i.id ≡ false) (items ++ one ∷ [])
     optional_more [] h last = (last, tt)
     optional_more (first ∷ items) h last = (h.0, optional_more items h.1 last)
-
--- as it is read from the texts
-pub builder_read : (name ext : List ℕ) (seu file_type : ℕ) (octets : List ℕ) (items : List ItemValue) → IsBuilder name ext seu file_type octets items
-    → IsBuilder name ext seu file_type octets (items_from 0 octets).items
-builder_read name ext seu file_type octets items is =
-    subst (λ (l : List ItemValue). IsBuilder name ext seu file_type octets l) (sym (read_back items octets is.are_items is.text)) is
 
 -- no other item has the id of a mandatory one
 not_id : (id mandatory : ℕ) → is_mandatory mandatory ≡ true → is_mandatory id ≡ false → (id == mandatory) ≡ false

@@ -1,7 +1,6 @@
 -- What a builder of headers makes (PFH 1990, mandatory header): the mandatory items in ascending order, then the others.
-use Rattle.std.specs.Prelude.{◌≡◌, ℕ, ◌+◌, ◌<◌, ◌==◌, List, [], ◌∷◌, ◌++◌, length, Bool, false, not, ◌&&◌, nat_le, nat_lt, if◌then◌else◌, Option, Some, None}
+use Rattle.std.specs.Prelude.{◌≡◌, ℕ, ◌+◌, ◌==◌, List, [], ◌∷◌, ◌++◌, length, Bool, false, not, ◌&&◌, nat_le, nat_lt, if◌then◌else◌, Option, Some, None}
 use Rattle.std.specs.List.{AllByRecursion, list_any}
-use Rattle.px_base.specs.Octets.{IsOctets}
 use Rattle.px_base.specs.Numbers.{le16_octets, le32_octets, sum16}
 use Rattle.pfh_items.specs.Layout.{ItemValue, AreItems, items_text, header_text}
 use Rattle.pfh_items.specs.Stamp.{renewed}
@@ -19,15 +18,8 @@ pub record BuilderValue : Type 0 where
   pub file_type : ℕ
   pub others : List ItemValue
 
--- The parts of a builder: a name of eight octets, an extension of three, two octets, and the texts of items of which none
--- is mandatory.
-pub record IsBuilder (name ext : List ℕ) (seu file_type : ℕ) (octets : List ℕ) (items : List ItemValue) : Type 0 where
-  pub name_octets : IsOctets name
-  pub name_len : length name ≡ 8
-  pub ext_octets : IsOctets ext
-  pub ext_len : length ext ≡ 3
-  pub seu_octet : seu < 256
-  pub type_octet : file_type < 256
+-- These octets are the texts of the items, none of which is mandatory.
+pub record AreOthers (octets : List ℕ) (items : List ItemValue) : Type 0 where
   pub are_items : AreItems items
   pub text : octets ≡ items_text items
   pub optional : AllByRecursion (λ item. is_mandatory item.id ≡ false) items

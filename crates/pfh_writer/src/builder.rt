@@ -1,10 +1,10 @@
 //! The builder of a file's header.
 
 ghost use Rattle.std.specs.Prelude.{◌≡◌, ℕ, ◌+◌, ◌<◌, ◌≤◌, ◌^◌, ◌++◌, ◌∷◌, [], length, IfOk, OnOk, OnErr, IsNone, IsOkUnless, IsTrue, MatchOption};
-ghost use Rattle.pfh_items.specs.Faults.{IsFaultless, with_content};
-ghost use Rattle.pfh_items.specs.Layout.{header_start, items_text};
+ghost use Rattle.pfh_items.specs.Faults.{IsFaultless, header_sum as sum_of_header, with_content};
+ghost use Rattle.pfh_items.specs.Layout.{AreItems, header_start, items_text};
 ghost use Rattle.pfh_items.specs.Table.{fixed_len as fixed_len_of};
-ghost use Rattle.pfh_writer.specs.Built.{built_items, fits_len, item as item_of, mandatory_saying, passing_len, put_refusal, stands};
+ghost use Rattle.pfh_writer.specs.Built.{built_file_len, built_items, built_len, fits_len, item as item_of, items_saying, mandatory_saying, passing_len, put_refusal, stands};
 ghost use Rattle.px_base.specs.Numbers.{le16_octets};
 
 use crate::refusal::{FinishRefusal, PutRefusal};
@@ -21,6 +21,9 @@ use std::marker::Model;
 
 /// The length of AA 55 and the mandatory items in octets.
 const FIRST_LEN: usize = 70;
+
+/// The same without the data of file_name and file_ext.
+const FIXED_LEN: usize = 59;
 
 /// The most octets that a header may have.
 const MAX_HEADER: usize = 65_535;
@@ -48,7 +51,7 @@ pub struct HeaderBuilder {
 
 impl Model for HeaderBuilder {
     ghost use Rattle.pfh_items.specs.Walk.{items_from};
-    ghost use Rattle.pfh_writer.specs.Built.{BuilderValue, IsBuilder};
+    ghost use Rattle.pfh_writer.specs.Built.{AreOthers, BuilderValue};
 
     ghost Value = { BuilderValue };
 
@@ -56,7 +59,7 @@ impl Model for HeaderBuilder {
         name = a.name; ext = a.ext; created = a.created; modified = a.modified; seu = a.seu; file_type = a.file_type;
         others = (items_from 0 a.others).items } };
 
-    ghost invariant = { λ a. IsBuilder a.name a.ext a.seu a.file_type a.others (items_from 0 a.others).items };
+    ghost invariant = { λ a. AreOthers a.others (items_from 0 a.others).items };
 }
 
 impl HeaderBuilder {
@@ -139,33 +142,75 @@ impl HeaderBuilder {
         ensures refused { MatchOption (passing_len self body.now)
             (IsOkUnless result FinishRefusal.OutOfMemory) (λ len. result ≡ Err (FinishRefusal.TooLong len)) }
     {
-        let header_len = FIRST_LEN + self.others.as_slice().len() + END_ITEM.len();
+        if let Some(len) = self.long_len(body) {
+            return Err(FinishRefusal::TooLong { len });
+        }
+        Ok(self.file(body)?)
+    }
+
+    /// The length of the header.
+    fn header_len(&self) -> usize
+        ensures { result ≡ built_len self.now }
+    {
+        let first_len = FIXED_LEN + self.name.len() + self.ext.len();
+        first_len + self.others.as_slice().len() + END_ITEM.len()
+    }
+
+    /// The length of the header or the file with this body, if it is more than that may have.
+    fn long_len(&self, body: &[u8]) -> Option<usize>
+        ensures len { result ≡ passing_len self.now body.now }
+        ensures header { IsNone result → built_len self.now ≤ 65535 }
+        ensures file { IsNone result → built_file_len self.now body.now ≤ 4194304 }
+    {
+        let header_len = self.header_len();
         if header_len > MAX_HEADER {
-            return Err(FinishRefusal::TooLong { len: header_len });
+            return Some(header_len);
         }
         let file_len = header_len + body.len();
         if file_len > MAX_FILE {
-            return Err(FinishRefusal::TooLong { len: file_len });
+            return Some(file_len);
         }
+        None
+    }
+
+    /// The file with this body.
+    fn file(&self, body: &[u8]) -> Result<FileBytes, OutOfMemory>
+        requires header { built_len self.now ≤ 65535 }
+        requires file { built_file_len self.now body.now ≤ 4194304 }
+        ensures { IfOk result (IsFaultless (built_items self.now body.now) body.now) }
+    {
+        let header_len = self.header_len();
+        let file_len = header_len + body.len();
         let says = Says {
             file_size: file_len as u32,
             body_sum: sum16(body),
             body_offset: header_len as u16,
         };
-        let others_sum = sum16(self.others.as_slice());
-        let header_sum = sum16(self.first(says, 0).as_slice()).wrapping_add(others_sum);
+        let first = self.first(says, self.header_sum(says));
         let mut file = with_room(self.alloc, file_len)?;
-        file.append(self.first(says, header_sum).as_slice())?;
+        file.append(first.as_slice())?;
         file.append(self.others.as_slice())?;
         file.append(&END_ITEM)?;
         file.append(body)?;
         Ok(file)
     }
 
+    /// The sum of the header that says this.
+    fn header_sum(&self, says: Says) -> u16
+        ensures { result ≡ sum_of_header (items_saying self.now says.file_size says.body_sum says.body_offset) }
+    {
+        let first = self.first(says, 0);
+        sum16(first.as_slice()).wrapping_add(sum16(self.others.as_slice()))
+    }
+
     /// AA 55 and the mandatory items.
     fn first(&self, says: Says, header_sum: u16) -> ArrayVec<u8, FIRST_LEN>
-        ensures { result.items ≡ header_start ++ items_text (with_content 0x0A (le16_octets header_sum)
+        ensures text { result.items ≡ header_start ++ items_text (with_content 0x0A (le16_octets header_sum)
             (mandatory_saying self.now says.file_size says.body_sum says.body_offset)) }
+        ensures items { AreItems (with_content 0x0A (le16_octets header_sum)
+            (mandatory_saying self.now says.file_size says.body_sum says.body_offset)) }
+        ensures name { length self.now.name ≡ 8 }
+        ensures ext { length self.now.ext ≡ 3 }
     {
         let mut text = ArrayVec::new();
         push_octets(&mut text, &HEADER_START);

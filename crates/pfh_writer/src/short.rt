@@ -1,12 +1,15 @@
 //! The header with which a directory lists a file.
 
-ghost use Rattle.std.specs.Prelude.{◌≡◌};
-ghost use Rattle.pfh_items.specs.Layout.{HeaderText};
-ghost use Rattle.pfh_writer.specs.Short.{HasEachOnce, short_items};
+ghost use Rattle.std.specs.Prelude.{◌≡◌, ◌+◌, ◌≤◌, ◌++◌, map};
+ghost use Rattle.arrayvec.specs.ArrayVec.{array_vec_len};
+ghost use Rattle.pfh_items.specs.Faults.{StandsOnce};
+ghost use Rattle.pfh_items.specs.Layout.{HeaderText, IsItem, item_text};
+ghost use Rattle.pfh_items.specs.Table.{mandatory_items};
+ghost use Rattle.pfh_writer.specs.Short.{HasEachOnce, short_item, short_items};
 
-use crate::text::{END_ITEM, octets16, push_item, push_octets};
+use crate::text::{END_ITEM, push_item, push_item16, push_octets};
 use arrayvec::ArrayVec;
-use pfh_items::{HEADER_CHECKSUM, HEADER_START, Header, MANDATORY_ITEMS, sum16};
+use pfh_items::{HEADER_CHECKSUM, HEADER_START, Header, MANDATORY_ITEMS, MandatoryItem, sum16};
 
 /// The length of a short form in octets.
 const SHORT_LEN: usize = 73;
@@ -25,16 +28,40 @@ pub fn short_form(header: &Header<'_>) -> [u8; 73]
 }
 
 /// The short form with this sum.
-fn form_of(header: &Header<'_>, header_sum: u16) -> ArrayVec<u8, SHORT_LEN> {
+fn form_of(header: &Header<'_>, header_sum: u16) -> ArrayVec<u8, SHORT_LEN>
+    requires { HasEachOnce header.now.items }
+    ensures text { HeaderText (map (short_item header.now.items header_sum) mandatory_items) result.items }
+    ensures len { array_vec_len result ≡ 73 }
+{
     let mut form = ArrayVec::new();
     push_octets(&mut form, &HEADER_START);
     for rule in &MANDATORY_ITEMS {
-        if rule.id == HEADER_CHECKSUM {
-            push_item(&mut form, rule.id, &octets16(header_sum));
-        } else if let Some(bytes) = header.field(rule.id) {
-            push_item(&mut form, rule.id, bytes);
-        }
+        push_rule(&mut form, header, rule, header_sum);
     }
     push_octets(&mut form, &END_ITEM);
     form
+}
+
+/// Puts a mandatory item at the end of a short form: header_checksum with this sum, any other as the header has it.
+fn push_rule(
+    form: &mut ArrayVec<u8, SHORT_LEN>,
+    header: &Header<'_>,
+    rule: &MandatoryItem,
+    header_sum: u16,
+)
+    requires once { StandsOnce header.now.items rule.now }
+    requires sum { rule.now.id ≡ 0x0A → rule.now.len ≡ 2 }
+    requires room { array_vec_len form.old + (3 + rule.now.len) ≤ SHORT_LEN }
+    ensures text { form.new.items ≡ form.old.items ++ item_text (short_item header.now.items header_sum rule.now) }
+    ensures len { array_vec_len form.new ≡ array_vec_len form.old + (3 + rule.now.len) }
+    ensures item { (rule.now.id ≡ 0 → ⊥) → IsItem (short_item header.now.items header_sum rule.now) }
+{
+    if rule.id == HEADER_CHECKSUM {
+        push_item16(form, rule.id, header_sum);
+        return;
+    }
+    let Some(bytes) = header.field(rule.id) else {
+        return;
+    };
+    push_item(form, rule.id, bytes);
 }

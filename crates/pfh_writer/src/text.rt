@@ -3,7 +3,7 @@
 ghost use Rattle.std.specs.Prelude.{◌≡◌, ◌+◌, ◌≤◌, ◌++◌, length};
 ghost use Rattle.arrayvec.specs.ArrayVec.{array_vec_len};
 ghost use Rattle.px_base.specs.Numbers.{le16_octets, le32_octets};
-ghost use Rattle.pfh_items.specs.Layout.{item_text};
+ghost use Rattle.pfh_items.specs.Layout.{IsItem, item_text};
 ghost use Rattle.pfh_writer.specs.Built.{item as item_of};
 
 use arrayvec::ArrayVec;
@@ -36,6 +36,7 @@ pub(crate) fn push_item<const N: usize>(text: &mut ArrayVec<u8, N>, id: u16, byt
     requires short { length bytes.now ≤ 255 }
     ensures text { text.new.items ≡ text.old.items ++ item_text (item_of id bytes.now) }
     ensures len { array_vec_len text.new ≡ array_vec_len text.old + (3 + length bytes.now) }
+    ensures item { (id ≡ 0 → ⊥) → IsItem (item_of id bytes.now) }
 {
     push_octets(text, &octets16(id));
     text.push(bytes.len() as u8);
@@ -47,6 +48,7 @@ pub(crate) fn push_item16<const N: usize>(text: &mut ArrayVec<u8, N>, id: u16, n
     requires { array_vec_len text.old + 5 ≤ N }
     ensures text { text.new.items ≡ text.old.items ++ item_text (item_of id (le16_octets number)) }
     ensures len { array_vec_len text.new ≡ array_vec_len text.old + 5 }
+    ensures item { (id ≡ 0 → ⊥) → IsItem (item_of id (le16_octets number)) }
 {
     push_item(text, id, &octets16(number));
 }
@@ -56,6 +58,7 @@ pub(crate) fn push_item32<const N: usize>(text: &mut ArrayVec<u8, N>, id: u16, n
     requires { array_vec_len text.old + 7 ≤ N }
     ensures text { text.new.items ≡ text.old.items ++ item_text (item_of id (le32_octets number)) }
     ensures len { array_vec_len text.new ≡ array_vec_len text.old + 7 }
+    ensures item { (id ≡ 0 → ⊥) → IsItem (item_of id (le32_octets number)) }
 {
     push_item(text, id, &octets32(number));
 }
