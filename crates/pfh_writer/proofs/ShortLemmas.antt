@@ -6,11 +6,6 @@ use Rattle.pfh_items.specs.Layout.{ItemValue, IsItem, AreItems, item_text, items
 use Rattle.pfh_items.specs.declared.table.MandatoryItem.{MandatoryItem}
 use Rattle.pfh_writer.proofs.ItemsLemmas.{items_text-append, AreItems-append}
 
--- header_checksum has two octets, and no id is 0
-pub record IsRule (rule : MandatoryItem) : Type 0 where
-  pub sum : rule.id ≡ 0x0A → rule.len ≡ 2
-  pub some : rule.id ≡ 0 → ⊥
-
 -- the length of these items' texts
 abbrev pub rules_len : List MandatoryItem → ℕ
 rules_len [] = 0
@@ -22,6 +17,10 @@ module _ (f : MandatoryItem → ItemValue) (rules : List MandatoryItem) (i : ℕ
 
   pub rules_len_now : rules_len (drop i rules) ≡ (3 + (get_or rules i d).len) + rules_len (drop (i + 1) rules)
   rules_len_now = ap rules_len (drop_more rules i d within)
+
+  pub room_more : (before after : ℕ) → before + rules_len (drop i rules) ≡ 70 → after ≡ before + (3 + (get_or rules i d).len)
+      → after + rules_len (drop (i + 1) rules) ≡ 70
+  room_more before after was now = let one = rules_len_now in omega arith
 
   items_more : map f (take (i + 1) rules) ≡ map f (take i rules) ++ f (get_or rules i d) ∷ []
   items_more = ap (λ (l : List MandatoryItem). map f l) (take_more rules i d within) ∙ map_push f (take i rules) (get_or rules i d)

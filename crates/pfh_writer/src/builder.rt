@@ -8,7 +8,7 @@ ghost use Rattle.pfh_writer.specs.Built.{built_file_len, built_items, built_len,
 ghost use Rattle.px_base.specs.Numbers.{le16_octets};
 
 use crate::refusal::{FinishRefusal, PutRefusal};
-use crate::text::{END_ITEM, push_item, push_item16, push_item32, push_octets};
+use crate::text::{END_ITEM, item_len, push_item, push_item16, push_item32, push_octets};
 use arrayvec::ArrayVec;
 use pfh_items::{
     BODY_CHECKSUM, BODY_OFFSET, CREATE_TIME, FILE_EXT, FILE_NAME, FILE_NUMBER, FILE_SIZE,
@@ -22,8 +22,8 @@ use std::marker::Model;
 /// The length of AA 55 and the mandatory items in octets.
 const FIRST_LEN: usize = 70;
 
-/// The same without the data of file_name and file_ext.
-const FIXED_LEN: usize = 59;
+/// The same without file_name and file_ext.
+const FIXED_LEN: usize = 53;
 
 /// The most octets that a header may have.
 const MAX_HEADER: usize = 65_535;
@@ -152,8 +152,16 @@ impl HeaderBuilder {
     fn header_len(&self) -> usize
         ensures { result ≡ built_len self.now }
     {
-        let first_len = FIXED_LEN + self.name.len() + self.ext.len();
-        first_len + self.others.as_slice().len() + END_ITEM.len()
+        self.first_len() + self.others.as_slice().len() + END_ITEM.len()
+    }
+
+    /// The length of AA 55 and the mandatory items.
+    fn first_len(&self) -> usize
+        ensures len { result ≡ 70 }
+        ensures name { length self.now.name ≡ 8 }
+        ensures ext { length self.now.ext ≡ 3 }
+    {
+        FIXED_LEN + item_len(&self.name) + item_len(&self.ext)
     }
 
     /// The length of the header or the file with this body, if it is more than that may have.

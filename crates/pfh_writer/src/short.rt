@@ -5,7 +5,7 @@ ghost use Rattle.arrayvec.specs.ArrayVec.{array_vec_len};
 ghost use Rattle.pfh_items.specs.Faults.{StandsOnce};
 ghost use Rattle.pfh_items.specs.Layout.{HeaderText, IsItem, item_text};
 ghost use Rattle.pfh_items.specs.Table.{mandatory_items};
-ghost use Rattle.pfh_writer.specs.Short.{HasEachOnce, short_item, short_items};
+ghost use Rattle.pfh_writer.specs.Short.{HasEachOnce, IsRule, short_item, short_items};
 
 use crate::text::{END_ITEM, push_item, push_item16, push_octets};
 use arrayvec::ArrayVec;
@@ -50,11 +50,11 @@ fn push_rule(
     header_sum: u16,
 )
     requires once { StandsOnce header.now.items rule.now }
-    requires sum { rule.now.id ≡ 0x0A → rule.now.len ≡ 2 }
+    requires rule { IsRule rule.now }
     requires room { array_vec_len form.old + (3 + rule.now.len) ≤ SHORT_LEN }
     ensures text { form.new.items ≡ form.old.items ++ item_text (short_item header.now.items header_sum rule.now) }
     ensures len { array_vec_len form.new ≡ array_vec_len form.old + (3 + rule.now.len) }
-    ensures item { (rule.now.id ≡ 0 → ⊥) → IsItem (short_item header.now.items header_sum rule.now) }
+    ensures item { IsItem (short_item header.now.items header_sum rule.now) }
 {
     if rule.id == HEADER_CHECKSUM {
         push_item16(form, rule.id, header_sum);

@@ -30,6 +30,13 @@ pub(crate) fn octets32(number: u32) -> [u8; 4]
     octets
 }
 
+/// The length of an item with this data.
+pub(crate) fn item_len(bytes: &[u8]) -> usize
+    ensures { result ≡ 3 + length bytes.now }
+{
+    3 + bytes.len()
+}
+
 /// Puts an item at the end of a text.
 pub(crate) fn push_item<const N: usize>(text: &mut ArrayVec<u8, N>, id: u16, bytes: &[u8])
     requires fits { array_vec_len text.old + (3 + length bytes.now) ≤ N }

@@ -4,8 +4,8 @@ use Rattle.arrayvec.specs.ArrayVec.{array_vec_len}
 use Rattle.pfh_items.specs.Faults.{StandsOnce}
 use Rattle.pfh_items.specs.Layout.{AreItems, header_start, items_text}
 use Rattle.pfh_items.specs.Table.{mandatory_items}
-use Rattle.pfh_writer.specs.Short.{short_item}
-use Rattle.pfh_writer.proofs.ShortLemmas.{IsRule, rules_len}
+use Rattle.pfh_writer.specs.Short.{IsRule, short_item}
+use Rattle.pfh_writer.proofs.ShortLemmas.{rules_len}
 use Rattle.pfh_writer.proofs.short.form_of.Given as goal
 
 -- so many rules were put, and there is room for those that are left
