@@ -1,9 +1,13 @@
 //! Files and headers worked out by hand from the standard's layout.
 
+ghost use Rattle.std.specs.Prelude.{◌<◌, IfOk};
+ghost use Rattle.pfh_writer.specs.Given.{IsFaultlessFile};
+
 use super::*;
+use crate::stamping::header_of;
 use pfh_items::{
     AX25_DOWNLOADER, AX25_UPLOADER, DESTINATION, DOWNLOAD_COUNT, DOWNLOAD_TIME, EXPIRE_TIME,
-    HEADER_CHECKSUM, Header, PRIORITY, SOURCE, TITLE, UPLOAD_TIME,
+    HEADER_CHECKSUM, Header, PRIORITY, SOURCE, Sums, TITLE, UPLOAD_TIME,
 };
 use px_base::{Call, FileBytes};
 use std::alloc::Global;
@@ -105,7 +109,9 @@ fn call(rt: &impl Abort, text: &str) -> Call {
 }
 
 /// The message's file.
-fn message(rt: &impl Abort, alloc: Global) -> Result<FileBytes, Fail> {
+fn message(rt: &impl Abort, alloc: Global) -> Result<FileBytes, Fail>
+    ensures { IfOk result IsFaultlessFile }
+{
     let items: [(u16, &[u8]); 10] = [
         (SOURCE, b"KA9XYZ"),
         (AX25_UPLOADER, &BLANKS),
@@ -123,7 +129,8 @@ fn message(rt: &impl Abort, alloc: Global) -> Result<FileBytes, Fail> {
         header.put(id, bytes)?;
     }
     let body = vec![in alloc; 0x55; 4300]?;
-    Ok(header.finish(&body)?)
+    let file = header.finish(&body)?;
+    Ok(file)
 }
 
 #[test]
@@ -173,25 +180,24 @@ fn builds_files(rt: HostRuntime) -> Result<(), Fail> {
 
 #[test]
 fn refuses_long_files(rt: HostRuntime) -> Result<(), Fail> {
-    let octets = [0; 255];
     for (last, wanted) in [
         (185, Ok(65_535)),
         (186, Err(FinishRefusal::TooLong { len: 65_536 })),
     ] {
         let mut header = builder(&rt, rt.alloc(), [0x20; 8], [0x20; 3]);
         for _ in 0..253 {
-            header.put(TITLE, &octets)?;
+            header.put(TITLE, &[0; 255])?;
         }
-        header.put(TITLE, &octets[..last])?;
+        header.put(TITLE, &vec![in rt.alloc(); 0; last]?)?;
         assert_eq!(rt; header.finish(&[]).map(|file| file.len()), wanted);
     }
-    let body = vec![in rt.alloc(); 1; 4_194_232]?;
     for (len, wanted) in [
         (4_194_231, Ok(4_194_304)),
         (4_194_232, Err(FinishRefusal::TooLong { len: 4_194_305 })),
     ] {
         let header = builder(&rt, rt.alloc(), [0x20; 8], [0x20; 3]);
-        assert_eq!(rt; header.finish(&body[..len]).map(|file| file.len()), wanted);
+        let body = vec![in rt.alloc(); 1; len]?;
+        assert_eq!(rt; header.finish(&body).map(|file| file.len()), wanted);
     }
     Ok(())
 }
@@ -215,7 +221,9 @@ fn stamps_built_files(rt: HostRuntime) -> Result<(), Fail> {
 }
 
 /// Stamps these octets in pieces of this length.
-fn stamp_in_pieces(rt: &impl Abort, octets: &mut [u8], len: usize) {
+fn stamp_in_pieces(rt: &impl Abort, octets: &mut [u8], len: usize)
+    requires { 0 < len }
+{
     let mut stamper = Stamper::new(0x0102_0304, call(rt, "N0CALL"), 0x0506_0708, 0x0AE8);
     for piece in octets.chunks_mut(len) {
         stamper.feed(piece);
@@ -232,9 +240,39 @@ fn stamps_pieces(rt: HostRuntime) {
 }
 
 #[test]
+fn stamps_items_in_any_order(rt: HostRuntime) {
+    let mut file = FREE;
+    stamp(&mut file, 0x0102_0304, call(&rt, "N0CALL"), 0x0506_0708);
+    assert_eq!(rt; file, FREE_STAMPED);
+}
+
+#[test]
+fn stamps_a_list_of_pieces(rt: HostRuntime) -> Result<(), Fail> {
+    let file = message(&rt, rt.alloc())?;
+    let by = call(&rt, "KA9XYZ");
+    let (len, header_sum) = header_of(file.as_slice()).expect(&rt, "a header");
+    let sums = Sums {
+        header_len: 146,
+        body_sum: 37_820,
+        header_sum,
+    };
+    let (header, body) = file.as_slice().split_at(len);
+    let sum = stamped_sum(&sums, header, 2, by, 1000);
+    assert_eq!(rt; sum, 0x1000);
+    let mut pieces = [
+        Vec::from_slice(rt.alloc(), header)?,
+        Vec::from_slice(rt.alloc(), body)?,
+    ];
+    stamp_pieces(&mut pieces, 2, by, 1000, sum);
+    assert_eq!(rt; pieces[0].as_slice(), MESSAGE_STAMPED.as_slice());
+    assert_eq!(rt; pieces[1].as_slice(), &file.as_slice()[len..]);
+    Ok(())
+}
+
+#[test]
 fn short_forms(rt: HostRuntime) -> Result<(), Fail> {
     let file = message(&rt, rt.alloc())?;
-    let header = Header::of_file(file.as_slice()).ok_or("no header")?;
+    let header = Header::of_file(file.as_slice()).expect(&rt, "a header");
     assert_eq!(rt; short_form(&header), MESSAGE_SHORT);
     Ok(())
 }
