@@ -28,7 +28,7 @@ pub fn stamp(file: &mut [u8], number: u32, by: Call, moment: u32)
 }
 
 /// The length of the header of a file that keeps all rules, and its sum.
-pub(crate) fn header_of(file: &[u8]) -> Option<(usize, u16)>
+fn header_of(file: &[u8]) -> Option<(usize, u16)>
     requires { IsFaultlessFile file.now }
     ensures some { IsSome result }
     ensures header { IfSome result (λ header. (items : List ItemValue) (body : List ℕ) → IsFaultless items body file.now

@@ -4,10 +4,9 @@ ghost use Rattle.std.specs.Prelude.{◌<◌, IfOk};
 ghost use Rattle.pfh_writer.specs.Given.{IsFaultlessFile};
 
 use super::*;
-use crate::stamping::header_of;
 use pfh_items::{
     AX25_DOWNLOADER, AX25_UPLOADER, DESTINATION, DOWNLOAD_COUNT, DOWNLOAD_TIME, EXPIRE_TIME,
-    HEADER_CHECKSUM, Header, PRIORITY, SOURCE, Sums, TITLE, UPLOAD_TIME,
+    HEADER_CHECKSUM, Header, PRIORITY, SOURCE, TITLE, UPLOAD_TIME,
 };
 use px_base::{Call, FileBytes};
 use std::alloc::Global;
@@ -237,36 +236,6 @@ fn stamps_pieces(rt: HostRuntime) {
         stamp_in_pieces(&rt, &mut file, len);
         assert_eq!(rt; file, FREE_STAMPED, "in pieces of {len} octets");
     }
-}
-
-#[test]
-fn stamps_items_in_any_order(rt: HostRuntime) {
-    let mut file = FREE;
-    stamp(&mut file, 0x0102_0304, call(&rt, "N0CALL"), 0x0506_0708);
-    assert_eq!(rt; file, FREE_STAMPED);
-}
-
-#[test]
-fn stamps_a_list_of_pieces(rt: HostRuntime) -> Result<(), Fail> {
-    let file = message(&rt, rt.alloc())?;
-    let by = call(&rt, "KA9XYZ");
-    let (len, header_sum) = header_of(file.as_slice()).expect(&rt, "a header");
-    let sums = Sums {
-        header_len: 146,
-        body_sum: 37_820,
-        header_sum,
-    };
-    let (header, body) = file.as_slice().split_at(len);
-    let sum = stamped_sum(&sums, header, 2, by, 1000);
-    assert_eq!(rt; sum, 0x1000);
-    let mut pieces = [
-        Vec::from_slice(rt.alloc(), header)?,
-        Vec::from_slice(rt.alloc(), body)?,
-    ];
-    stamp_pieces(&mut pieces, 2, by, 1000, sum);
-    assert_eq!(rt; pieces[0].as_slice(), MESSAGE_STAMPED.as_slice());
-    assert_eq!(rt; pieces[1].as_slice(), &file.as_slice()[len..]);
-    Ok(())
 }
 
 #[test]
