@@ -1,0 +1,10 @@
+pub mod BuiltLemmas
+pub mod FilledLemmas
+pub mod FrontLemmas
+pub mod ItemsLemmas
+pub mod OthersLemmas
+pub mod PieceLemmas
+pub mod ShortLemmas
+pub mod StepLemmas
+pub mod SumLemmas
+pub mod WholeLemmas

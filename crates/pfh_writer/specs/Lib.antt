@@ -1,0 +1,6 @@
+pub mod Built
+pub mod Given
+pub mod Short
+pub mod Stamping
+pub mod Steps
+pub mod Sums
