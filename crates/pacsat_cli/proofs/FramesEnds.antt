@@ -4,7 +4,7 @@ use Rattle.std.proofs.lemmas.Bool.Decides.{leb_tells}
 use Rattle.std.specs.Prelude.{Option, None, Some, IfSome, Ok, Err, nat_le, if◌then◌else◌}
 use Rattle.px_base.specs.declared.shelf.ShelfRefusal.TheVariants as refusal
 use Rattle.px_base.specs.Octets.{IsFront}
-use Rattle.px_base.specs.Outside.{GainsPrefix, Rose}
+use Rattle.px_base.specs.Outside.{Gains, GainsPrefix, Rose}
 use Rattle.px_base.specs.Shelves.{AnswersOf, Holding, Loads, content_of}
 use Rattle.px_base.proofs.Told.{Gains-front, Gains-none}
 use Rattle.frame_lines.specs.FramesText.{FramesText}
@@ -101,6 +101,27 @@ long_end : (held : Option Holding) (name : List ℕ) → Loads held name most_re
 long_end None name loads = tt
 long_end (Some shelf) name loads = long (content_of shelf name) loads
 
+-- a name of which a load says that there is none has no content
+none-some : (b : Bool) (content : List ℕ) → Err refusal.NoSuch ≡ (if b then Ok content else Err refusal.TooLong) → ⊥
+none-some true content e = cc
+none-some false content e = cc
+
+none : (content : Option (List ℕ)) → AnswersOf content most_recorded (Err refusal.NoSuch) → FramesEnd content [] NoSuch
+none None answer = (refl, refl)
+none (Some content) answer = absurd (elim answer [
+  | inl e ↦ none-some _ content e
+  | inr hindered ↦ elim hindered [ inl e ↦ cc | inr e ↦ cc ]
+])
+
+none_end : (held : Option Holding) (name : List ℕ) → Loads held name most_recorded (Err refusal.NoSuch) → IfSome held (λ shelf. FramesEnd (content_of shelf name) [] NoSuch)
+none_end None name loads = tt
+none_end (Some shelf) name loads = none (content_of shelf name) loads
+
+-- a fault and want of memory say nothing of the content
+stopped_end : (held : Option Holding) (name : List ℕ) → IfSome held (λ shelf. FramesEnd (content_of shelf name) [] Shelf) × IfSome held (λ shelf. FramesEnd (content_of shelf name) [] OutOfMemory)
+stopped_end None name = (tt, tt)
+stopped_end (Some shelf) name = (refl, refl)
+
 module _ {O : Type 0} (shown : O → Option (List ℕ)) (faults : O → ℕ) (held : Option Holding) (name : List ℕ) (before : O) where
   -- a front of the text of what was loaded was shown
   pub frames-out : (now : O) (octets all : List ℕ) → length octets ≤ most_recorded → Loads held name most_recorded (Ok octets) → FramesText octets all → GainsPrefix (shown before) (shown now) all → Rose (faults before) (faults now) → FramesShown shown faults held name before now Out
@@ -125,4 +146,49 @@ module _ {O : Type 0} (shown : O → Option (List ℕ)) (faults : O → ℕ) (he
         ends = long_end held name loads;
         cause = record { rose = λ e. absurd (cc); same = λ _. refl };
         unshown = λ _. refl;
+      }
+
+  -- a name that has no content
+  pub frames-none : Loads held name most_recorded (Err refusal.NoSuch) → FramesShown shown faults held name before before NoSuch
+  frames-none loads =
+      record {
+        text = [];
+        gains = Gains-none (shown before);
+        possible = refl;
+        ends = none_end held name loads;
+        cause = record { rose = λ e. absurd (cc); same = λ _. refl };
+        unshown = λ _. refl;
+      }
+
+  -- the shelf failed, or there was no memory
+  pub frames-stopped : FramesShown shown faults held name before before Shelf × FramesShown shown faults held name before before OutOfMemory
+  frames-stopped = (
+    record {
+      text = [];
+      gains = Gains-none (shown before);
+      possible = refl;
+      ends = (stopped_end held name).0;
+      cause = record { rose = λ e. absurd (cc); same = λ _. refl };
+      unshown = λ _. refl;
+    },
+    record {
+      text = [];
+      gains = Gains-none (shown before);
+      possible = refl;
+      ends = (stopped_end held name).1;
+      cause = record { rose = λ e. absurd (cc); same = λ _. refl };
+      unshown = λ _. refl;
+    },
+  )
+
+  -- the text of what was loaded was shown
+  pub frames-all : (now : O) (octets all : List ℕ) → length octets ≤ most_recorded → Loads held name most_recorded (Ok octets) → FramesText octets all → Gains (shown before) (shown now) all → faults now ≡ faults before → FramesShown shown faults held name before now Done
+  frames-all now octets all short loads text gains same =
+      record {
+        text = all;
+        gains = gains;
+        possible = refl;
+        ends = recorded-loaded held name octets all short loads text;
+        cause = record { rose = λ e. absurd (cc); same = λ _. same };
+        unshown = λ e. absurd (cc);
       }

@@ -30,7 +30,7 @@ use Rattle.pacsat_cli.proofs.EventLemmas.{brings-stream, stream-partial}
 use Rattle.pacsat_cli.proofs.Invariants.{IsListening}
 use Rattle.pacsat_cli.proofs.Moments.{NextMoments, moments-trans, moments_none, next_moments}
 use Rattle.pacsat_cli.proofs.NodeLemmas.{runs-all, runs-built, runs-said, runs-trans, runs-unbuilt, said_until-trans}
-use Rattle.pacsat_cli.proofs.OctetLemmas.{octets_none}
+use Rattle.ftl0_packets.proofs.OctetLemmas.{IsOctets-nil}
 
 -- open turns and one more
 open_append : (turns : List Turn) (next : Turn) → AllByRecursion IsOpen turns → IsOpen next → AllByRecursion IsOpen (turns ++ next ∷ [])
@@ -40,7 +40,7 @@ open_append (t ∷ turns) next h k = (h.0, open_append turns next h.1 k)
 -- no octets are less than a whole packet
 nothing_partial : IsReadAsStream → IsPartial []
 unfolding rest_of
-nothing_partial law = stream-partial [] (packets_of []) (rest_of []) (law [] octets_none)
+nothing_partial law = stream-partial [] (packets_of []) (rest_of []) (law [] IsOctets-nil)
 
 -- an answer of a poll that isn't the end leaves the air open
 pub turn-open : (moment : ℕ) (old new : ServerState) (next : Turn) (text : List ℕ) (answer : Polled) → (answer ≡ polled.End → ⊥) → TurnEnds moment old new next text (Ok answer) → IsOpen next × Serves moment old new (octets_of_turn next) text (Ok tt)
@@ -289,3 +289,17 @@ greeting-failed {A} {C} said heard given old now clock clock_n terms first why l
             prompt = inl refl;
           };
     })
+
+-- LOGIN_RESP was said, and then the turns were taken
+pub greeting-listened : {A C : Type 0} (said : A → Option (List ℕ)) (heard : A → Option (List Turn)) (given : C → Option (List ℕ)) (old mid now : A) (clock clock_m clock_n : C) (terms : SessionTerms) (first : ℕ) (result : Result Served NodeStop) → MomentsOf terms.moment (given clock) (given clock_m) (first ∷ []) → heard mid ≡ heard old → Gains (said old) (said mid) (packet_text (greeting first)) → ListenedBy heard said given mid now clock_m clock_n first terms result → SessionServed heard said given old now clock clock_n terms result
+greeting-listened said heard given old mid now clock clock_m clock_n terms first result told same_heard greeted h =
+    let at_heard : Option (List Turn) → Type 0 = λ x. Grows x (heard now) h.turns in
+    record {
+      turns = h.turns;
+      moments = first ∷ h.later;
+      text = packet_text (greeting first) ++ h.text;
+      turns_heard = subst at_heard same_heard h.turns_heard;
+      moments_given = moments-trans terms.moment (given clock) (given clock_m) (given clock_n) (first ∷ []) h.later told h.moments_given;
+      text_said = Gains-trans (said old) (said mid) (said now) (packet_text (greeting first)) h.text greeted h.text_said;
+      ran = h.ran;
+    }

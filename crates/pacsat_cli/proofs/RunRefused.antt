@@ -76,7 +76,7 @@ module _ (words : List (List ℕ)) (only : OnlyOne words) where
   module _ (why : Refusal) (h : MeansOf words why) where
     module _ {A C : Type 0} (heard : A → Option (List Turn)) (said : A → Option (List ℕ)) (given : C → Option (List ℕ)) (air : A) (clock : C) where
       pub refused-session : RunsSession words heard said given air air clock clock (status_of_refusal why)
-      refused-session = λ caller moment is. inl (session-memory why h caller moment is, refl, refl)
+      refused-session = λ request is. inl (session-memory why h request.caller request.moment is, refl, refl)
 
       -- where nothing was heard, there is no end
       pub refused-complete : WhereHeard words heard given air air clock clock (IsDoneBy (status_of_refusal why))

@@ -13,6 +13,7 @@ use Rattle.ftl0_packets.specs.Laws.{IsOneStream}
 use Rattle.ftl0_packets.specs.Layout.{Item}
 use Rattle.command_words.specs.Laws.{Determined}
 use Rattle.command_words.specs.Words.{IsSession}
+use Rattle.command_words.specs.declared.request.SessionRequest.{SessionRequest}
 use Rattle.pacsat_cli.specs.declared.node.NodeStop.{NodeStop}
 use Rattle.pacsat_cli.specs.declared.node.NodeStop.TheVariants as stop
 use Rattle.pacsat_cli.specs.declared.node.Served.{Served}
@@ -132,7 +133,7 @@ reads_end (Err stop.Spent) polls turns h done = absurd (cc)
 reads_end (Err (stop.NotBuilt kind)) polls turns h done = absurd (cc)
 reads_end (Err stop.OutOfMemory) polls turns h done = absurd (cc)
 
-module _ {A C : Type 0} (heard : A → Option (List Turn)) (said : A → Option (List ℕ)) (given : C → Option (List ℕ)) (before now : A) (clock clock_n : C) (caller : CallSign) (moment : Option ℕ) (s : Status) (ended : SessionEnded heard said given before now clock clock_n caller moment s) where
+module _ {A C : Type 0} (heard : A → Option (List Turn)) (said : A → Option (List ℕ)) (given : C → Option (List ℕ)) (before now : A) (clock clock_n : C) (request : SessionRequest) (s : Status) (ended : SessionEnded heard said given before now clock clock_n request s) where
   -- no session ends with another command's status
   pub session-not : (other : Status) → is_session_status other ≡ false → s ≡ other → ⊥
   session-not other isnt is = let yes = status_of-session ended.0 in let same = ap is_session_status (sym is ∙ ended.2) in absurd (cc)
@@ -145,13 +146,13 @@ module _ {A C : Type 0} (heard : A → Option (List Turn)) (said : A → Option 
     write.same (λ e. let other = sym done ∙ e in cc),
   )
 
-  module _ (words : List (List ℕ)) (asks : IsSession words caller moment) (determined : Determined words) where
+  module _ (words : List (List ℕ)) (asks : IsSession words request.caller request.moment) (determined : Determined words) where
     -- the words ask for this session alone
     pub session-runs : RunsSession words heard said given before now clock clock_n s
-    session-runs = λ call m other.
-        let same = determined.session caller call moment m asks other in
-        let at_caller : CallSign → Type 0 = λ x. SessionEnded heard said given before now clock clock_n x moment s in
-        let at_moment : Option ℕ → Type 0 = λ x. SessionEnded heard said given before now clock clock_n call x s in
+    session-runs = λ other is.
+        let same = determined.session request.caller other.caller request.moment other.moment asks is in
+        let at_caller : CallSign → Type 0 = λ x. SessionEnded heard said given before now clock clock_n (record { caller = x; moment = request.moment }) s in
+        let at_moment : Option ℕ → Type 0 = λ x. SessionEnded heard said given before now clock clock_n (record { caller = other.caller; moment = x }) s in
         inr (subst at_moment same.1 (subst at_caller same.0 ended))
 
     module _ (law : IsOneStream) (told : SessionHeard words heard given before now clock clock_n) where
@@ -159,9 +160,9 @@ module _ {A C : Type 0} (heard : A → Option (List Turn)) (said : A → Option 
       turns_told : ended.1.turns ≡ told.turns
       turns_told = told-same (heard before) (heard now) told.earlier told.turns ended.1.turns told.told_before told.told_now ended.1.turns_heard
 
-      unbuilt_told : session_unbuilt caller store_blocks ended.1.ran.events ≡ session_unbuilt told.caller store_blocks told.events
+      unbuilt_told : session_unbuilt request.caller store_blocks ended.1.ran.events ≡ session_unbuilt told.caller store_blocks told.events
       unbuilt_told =
-          let same = determined.session caller told.caller moment told.moment asks told.asks in
+          let same = determined.session request.caller told.caller request.moment told.moment asks told.asks in
           let at_turns : List Turn → Type 0 = λ x. Brings [] x ended.1.moments ended.1.ran.events ended.1.ran.rest in
           let at_moment : Option ℕ → Type 0 = λ m. MomentsOf m (given clock) (given clock_n) ended.1.moments in
           ap (λ call. session_unbuilt call store_blocks ended.1.ran.events) same.0
@@ -170,7 +171,7 @@ module _ {A C : Type 0} (heard : A → Option (List Turn)) (said : A → Option 
           told.told_moments (subst at_moment same.1 ended.1.moments_given) told.brings (subst at_turns turns_told ended.1.ran.brings))
 
       -- what holds of the session's end holds of the status, by what is told
-      by_told : (P : Status → List Turn → Option Item → Type 0) → P (status_of ended.0) ended.1.turns (session_unbuilt caller store_blocks ended.1.ran.events) → P s told.turns (session_unbuilt told.caller store_blocks told.events)
+      by_told : (P : Status → List Turn → Option Item → Type 0) → P (status_of ended.0) ended.1.turns (session_unbuilt request.caller store_blocks ended.1.ran.events) → P s told.turns (session_unbuilt told.caller store_blocks told.events)
       by_told P h =
           let at_status : Status → Type 0 = λ x. P x told.turns (session_unbuilt told.caller store_blocks told.events) in
           let at_turns : List Turn → Type 0 = λ x. P (status_of ended.0) x (session_unbuilt told.caller store_blocks told.events) in
@@ -179,14 +180,14 @@ module _ {A C : Type 0} (heard : A → Option (List Turn)) (said : A → Option 
 
     pub session-complete : IsOneStream → WhereHeard words heard given before now clock clock_n (IsDoneBy s)
     session-complete law = λ told.
-        by_told law told IsDoneBy (done_by ended.0 most_polls ended.1.turns (session_unbuilt caller store_blocks ended.1.ran.events) ended.1.ran.ends)
+        by_told law told IsDoneBy (done_by ended.0 most_polls ended.1.turns (session_unbuilt request.caller store_blocks ended.1.ran.events) ended.1.ran.ends)
 
     pub session-not_built : IsOneStream → WhereHeard words heard given before now clock clock_n (IsNotBuiltBy s)
     session-not_built law = λ told.
         by_told law told IsNotBuiltBy
-        (not_built_by ended.0 (session_text caller ended.1.moments store_blocks) (session_unbuilt caller store_blocks) ended.1.ran.events ended.1.turns ended.1.text ended.1.ran.said)
+        (not_built_by ended.0 (session_text request.caller ended.1.moments store_blocks) (session_unbuilt request.caller store_blocks) ended.1.ran.events ended.1.turns ended.1.text ended.1.ran.said)
 
     pub session-spent : IsOneStream → WhereHeard words heard given before now clock clock_n (IsSpentBy s)
     session-spent law = λ told.
         by_told law told IsSpentBy
-        (spent_by ended.0 most_polls (session_text caller ended.1.moments store_blocks) (session_unbuilt caller store_blocks) ended.1.ran.events ended.1.turns ended.1.text ended.1.ran.ends ended.1.ran.said)
+        (spent_by ended.0 most_polls (session_text request.caller ended.1.moments store_blocks) (session_unbuilt request.caller store_blocks) ended.1.ran.events ended.1.turns ended.1.text ended.1.ran.ends ended.1.ran.said)

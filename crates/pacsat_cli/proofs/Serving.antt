@@ -14,32 +14,46 @@ use Rattle.px_base.proofs.Told.{Gains-front, Gains-none, Gains-trans}
 use Rattle.ftl0_packets.specs.Laws.{IsReadAsStream}
 use Rattle.px_base.specs.Octets.{IsOctets}
 use Rattle.ftl0_packets.specs.Layout.{Item}
-use Rattle.ftl0_packets.specs.Reading.{packets_of, rest_of, under_way}
+use Rattle.ftl0_packets.specs.Reading.{packets_of, read_item, rest_of, under_way}
 use Rattle.ftl0_packets.specs.Stream.{Stream}
+use Rattle.ftl0_packets.specs.Values.{item_of}
+use Rattle.ftl0_packets.specs.declared.packet.Malformed.{Malformed}
+use Rattle.ftl0_packets.specs.declared.packet.Packet.{Packet}
 use Rattle.file_store.specs.Store.{Store}
 use Rattle.pacsat_cli.specs.declared.node.NodeStop.{NodeStop}
 use Rattle.pacsat_cli.specs.declared.node.NodeStop.TheVariants as stop
 use Rattle.pacsat_cli.specs.declared.node.SessionServer.TheInside.{Inside}
-use Rattle.pacsat_cli.specs.Node.{AnswersOver, FeedsPiece, GoesOn, SaysText, Serves, ServesOctets, Stops, TakesTurn, TurnEnds}
+use Rattle.pacsat_cli.specs.declared.session.Session.{Session}
+use Rattle.pacsat_cli.specs.declared.session.SessionStop.{SessionStop}
+use Rattle.pacsat_cli.specs.declared.session.SessionStop.TheVariants as session_stop
+use Rattle.pacsat_cli.specs.Node.{Replied, FeedsPiece, GoesOn, SaysText, Serves, ServesOctets, Stops, TakesTurn, TurnEnds, node_stop_of}
 use Rattle.pacsat_cli.specs.Server.{IsServer, IsWaiting, server_state}
 use Rattle.pacsat_cli.specs.ServerState.{ServerState, with_octets}
-use Rattle.pacsat_cli.specs.Session.{Row, State, session_row, texts}
-use Rattle.pacsat_cli.specs.Taking.{Gives}
+use Rattle.pacsat_cli.specs.Session.{Row, kind_of_item, session_row, texts}
+use Rattle.pacsat_cli.specs.Taking.{Gives, TakesPacket, state_of}
 use Rattle.pacsat_cli.proofs.Invariants.{IsHearing}
 use Rattle.pacsat_cli.proofs.NodeLemmas.{goes_on-trans, stops-trans}
-use Rattle.pacsat_cli.proofs.OctetLemmas.{octets_append, octets_take, octets_under_way}
+use Rattle.ftl0_packets.proofs.OctetLemmas.{IsOctets-append, IsOctets-take}
+use Rattle.pacsat_cli.proofs.OctetLemmas.{octets_under_way}
 
 -- a packet that has a row was taken, and its replies were said, or a front of them
-pub answered : {A : Type 0} (said : A → Option (List ℕ)) (before now : A) (caller : CallSign) (moment : ℕ) (store : Store) (state : State) (item read : Item) (store_n : Store) (next : State) (replies text : List ℕ) (result : Result ⊤ NodeStop) → item ≡ read → text ≡ replies → ((row : Row) × (session_row caller moment store state item ≡ Some row) × Gives store row store_n next replies) → SaysText said before now text result → AnswersOver said before now caller moment store state read store_n next result
-answered said before now caller moment store state item read store_n next replies text (Ok done) same is row says =
-    (text, says, (row.0, ap (session_row caller moment store state) (sym same) ∙ row.1, (row.2.0, row.2.1, is ∙ row.2.2)))
-answered said before now caller moment store state item read store_n next replies text (Err stop.AirWrite) same is row says =
+pub answered : {A : Type 0} (said : A → Option (List ℕ)) (before now : A) (moment : ℕ) (old : Session) (store : Store) (item : Item) (octets : List ℕ) (new : Session) (store_n : Store) (replies text : List ℕ) (result : Result ⊤ NodeStop) → item ≡ read_item octets → text ≡ replies → ((row : Row) × (session_row old.caller moment store (state_of old.phase) item ≡ Some row) × Gives store row store_n (state_of new.phase) replies) → SaysText said before now text result → Replied said before now moment old store octets new store_n result
+answered said before now moment old store item octets new store_n replies text (Ok done) same is row says =
+    (text, says, (row.0, ap (session_row old.caller moment store (state_of old.phase)) (sym same) ∙ row.1, (row.2.0, row.2.1, is ∙ row.2.2)))
+answered said before now moment old store item octets new store_n replies text (Err stop.AirWrite) same is row says =
     let front = Gains-front (said before) (said now) text says.1 in
-    (front.0, front.1, (row.0, ap (session_row caller moment store state) (sym same) ∙ row.1, (front.2.0, sym (is ∙ row.2.2) ∙ front.2.1)))
-answered said before now caller moment store state item read store_n next replies text (Err stop.AirRead) same is row says = absurd (let e = says.0 in cc)
-answered said before now caller moment store state item read store_n next replies text (Err stop.Spent) same is row says = absurd (let e = says.0 in cc)
-answered said before now caller moment store state item read store_n next replies text (Err (stop.NotBuilt kind)) same is row says = absurd (let e = says.0 in cc)
-answered said before now caller moment store state item read store_n next replies text (Err stop.OutOfMemory) same is row says = absurd (let e = says.0 in cc)
+    (front.0, front.1, (row.0, ap (session_row old.caller moment store (state_of old.phase)) (sym same) ∙ row.1, (front.2.0, sym (is ∙ row.2.2) ∙ front.2.1)))
+answered said before now moment old store item octets new store_n replies text (Err stop.AirRead) same is row says = absurd (let e = says.0 in cc)
+answered said before now moment old store item octets new store_n replies text (Err stop.Spent) same is row says = absurd (let e = says.0 in cc)
+answered said before now moment old store item octets new store_n replies text (Err (stop.NotBuilt kind)) same is row says = absurd (let e = says.0 in cc)
+answered said before now moment old store item octets new store_n replies text (Err stop.OutOfMemory) same is row says = absurd (let e = says.0 in cc)
+
+-- the session stopped at the packet
+pub answer-stops : {A : Type 0} (said : A → Option (List ℕ)) (air : A) (moment : ℕ) (old : Session) (store : Store) (packet : Result Packet Malformed) (octets : List ℕ) (new : Session) (store_n : Store) (replies : List ℕ) (stop : SessionStop) → item_of packet ≡ read_item octets → TakesPacket moment old store packet new store_n replies (Err stop) → Replied said air air moment old store octets new store_n (Err (node_stop_of stop))
+answer-stops said air moment old store packet octets new store_n replies (session_stop.NotBuilt kind) same takes =
+    ([], Gains-none (said air), (ap (session_row old.caller moment store (state_of old.phase)) (sym same) ∙ takes.0, takes.1 ∙ ap kind_of_item same, refl))
+answer-stops said air moment old store packet octets new store_n replies session_stop.OutOfMemory same takes =
+    ([], Gains-none (said air), (takes.0, ap (session_row old.caller moment store (state_of old.phase)) (sym same) ∙ takes.1, refl))
 
 -- no items are none
 pub is_nil : {X : Type 0} (xs : List X) → nat_eq (length xs) 0 ≡ true → xs ≡ []
@@ -67,7 +81,7 @@ waits_after reader now piece taken waiting octets is none left =
     record {
       none = none;
       left = left;
-      are_octets = octets_under_way now (subst P (sym is) (octets_append (under_way reader) (take taken piece) waiting.are_octets (octets_take taken piece octets)));
+      are_octets = octets_under_way now (subst P (sym is) (IsOctets-append (under_way reader) (take taken piece) waiting.are_octets (IsOctets-take taken piece octets)));
     }
 
 module _ {A : Type 0} (said : A → Option (List ℕ)) (heard : A → Option (List Turn)) (reads writes : A → ℕ) (moment : ℕ) (old : A) (server : ServerState) (octets : List ℕ) (mid : A) (server_m : ServerState) (left : List ℕ) (h : IsHearing said heard reads writes moment old server octets mid server_m left) (now : A) where
@@ -92,7 +106,7 @@ module _ {A : Type 0} (said : A → Option (List ℕ)) (heard : A → Option (Li
     record {
       packets = packets_of (server.octets ++ octets);
       rest = rest_of (server.octets ++ octets);
-      stream = law (server.octets ++ octets) (octets_append server.octets octets waiting.are_octets is_octets);
+      stream = law (server.octets ++ octets) (IsOctets-append server.octets octets waiting.are_octets is_octets);
       ends = stops-trans moment _ _ h.text fed.0 why h.goes_on fed.2;
     },
   )
@@ -112,7 +126,7 @@ hearing-ends said heard reads writes moment old server octets now server_n left 
       record {
         packets = h.goes_on.done;
         rest = server_n.octets;
-        stream = subst at_rest rest (subst at_packets packets (law all (octets_append server.octets octets waiting.are_octets is_octets)));
+        stream = subst at_rest rest (subst at_packets packets (law all (IsOctets-append server.octets octets waiting.are_octets is_octets)));
         ends = (h.goes_on.caller, refl, h.goes_on.runs);
       },
     )

@@ -9,7 +9,7 @@ use Rattle.px_base.specs.declared.air.Polled.TheVariants as polled
 use Rattle.px_base.specs.declared.air.Turn.{Turn}
 use Rattle.px_base.specs.declared.air.Turn.TheVariants as turn
 use Rattle.ftl0_packets.specs.Layout.{Item}
-use Rattle.ftl0_packets.specs.Reading.{packets_of, rest_of}
+use Rattle.ftl0_packets.specs.Reading.{packets_of, read_item, rest_of}
 use Rattle.ftl0_packets.specs.Stream.{Stream}
 use Rattle.file_store.specs.Command.{AreAllowed, after_all}
 use Rattle.file_store.specs.Store.{Store}
@@ -20,7 +20,8 @@ use Rattle.pacsat_cli.specs.declared.session.SessionStop.TheVariants as session_
 use Rattle.pacsat_cli.specs.Events.{Event, at_moment}
 use Rattle.pacsat_cli.specs.ServerState.{ServerState, with_octets}
 use Rattle.pacsat_cli.specs.Session.{Row, State, first_unbuilt, kind_of_item, replies_to, session_row, texts}
-use Rattle.pacsat_cli.specs.Taking.{Gives}
+use Rattle.pacsat_cli.specs.declared.session.Session.{Session}
+use Rattle.pacsat_cli.specs.Taking.{Gives, state_of}
 
 -- how a session's stop stops its server
 abbrev pub node_stop_of : SessionStop → NodeStop
@@ -93,10 +94,11 @@ AnswerSaid caller moment before state item now next text (Err stop.OutOfMemory) 
 AnswerSaid caller moment before state item now next text (Err stop.AirRead) = ⊥
 AnswerSaid caller moment before state item now next text (Err stop.Spent) = ⊥
 
--- the packet was taken, and this said of its replies, by an air that tells what it says
-abbrev pub AnswersOver : {A : Type 0} → (A → Option (List ℕ)) → A → A → CallSign → ℕ → Store → State → Item → Store → State → Result ⊤ NodeStop → Type 0
-AnswersOver said before now caller moment store state item store_now next result =
-    (text : List ℕ) × Gains (said before) (said now) text × AnswerSaid caller moment store state item store_now next text result
+-- the session took the packet that these octets are, and its replies were said
+abbrev pub Replied : {A : Type 0} → (A → Option (List ℕ)) → A → A → ℕ → Session → Store → List ℕ → Session → Store → Result ⊤ NodeStop → Type 0
+Replied said before now moment old store octets new store_now result =
+    (text : List ℕ) × Gains (said before) (said now) text
+    × AnswerSaid old.caller moment store (state_of old.phase) (read_item octets) store_now (state_of new.phase) text result
 
 -- From one state to another the server takes the first packets of the octets heard, all at this moment, and says this text.
 pub record GoesOn (moment : ℕ) (old new : ServerState) (text : List ℕ) : Type 0 where

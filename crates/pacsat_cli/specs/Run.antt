@@ -9,6 +9,7 @@ use Rattle.px_base.specs.declared.air.Turn.{Turn}
 use Rattle.px_base.specs.declared.air.Turn.TheVariants as turn
 use Rattle.ftl0_packets.specs.Layout.{Item}
 use Rattle.command_words.specs.Laws.{AsksSession}
+use Rattle.command_words.specs.declared.request.SessionRequest.{SessionRequest}
 use Rattle.command_words.specs.Words.{IsSession, IsUnbuilt, IsUsage}
 use Rattle.pacsat_cli.specs.declared.node.NodeStop.{NodeStop}
 use Rattle.pacsat_cli.specs.declared.node.Served.{Served}
@@ -26,6 +27,10 @@ store_blocks = 65536
 -- how many polls a run makes at most
 abbrev pub most_polls : ℕ
 most_polls = 1000000000000
+
+-- what is seen so of an object stayed
+abbrev pub Stays : {A X : Type 0} → (A → X) → A → A → Type 0
+Stays seen before now = seen now ≡ seen before
 
 -- this status, or one of the others, each of which has a cause of its own
 abbrev pub IsUnless : Status → Status → List Status → Type 0
@@ -50,22 +55,27 @@ abbrev pub AsksMoment : List (List ℕ) → Type 0
 AsksMoment words = (caller : CallSign) × (moment : ℕ) × IsSession words caller (Some moment)
 
 -- what a run serves a session with
-abbrev pub run_terms : CallSign → Option ℕ → SessionTerms
-run_terms caller moment = record { caller = caller; moment = moment; limits = record { blocks = store_blocks }; polls = most_polls }
+abbrev pub run_terms : SessionRequest → SessionTerms
+run_terms request =
+    record { caller = request.caller; moment = request.moment; limits = record { blocks = store_blocks }; polls = most_polls }
 
--- a session of this caller, with this moment or the clock's, was served, and the status says how it ended
-abbrev pub SessionEnded : {A C : Type 0} → (A → Option (List Turn)) → (A → Option (List ℕ)) → (C → Option (List ℕ)) → A → A → C → C → CallSign → Option ℕ → Status → Type 0
-SessionEnded heard said given before now clock clock_now caller moment status =
-    (ended : Result Served NodeStop) × SessionServed heard said given before now clock clock_now (run_terms caller moment) ended
+-- the session that was asked for was served, and the status says how it ended
+abbrev pub SessionEnded :
+    {A C : Type 0} → (A → Option (List Turn)) → (A → Option (List ℕ)) → (C → Option (List ℕ)) → A → A → C → C → SessionRequest
+    → Status → Type 0
+SessionEnded heard said given before now clock clock_now request status =
+    (ended : Result Served NodeStop) × SessionServed heard said given before now clock clock_now (run_terms request) ended
     × (status ≡ status_of ended)
 
 -- Where the words ask for a session, it is served, and the status says how it ended; or there was no memory to read the
 -- words, and neither air nor clock was touched.
-abbrev pub RunsSession : {A C : Type 0} → List (List ℕ) → (A → Option (List Turn)) → (A → Option (List ℕ)) → (C → Option (List ℕ)) → A → A → C → C → Status → Type 0
+abbrev pub RunsSession :
+    {A C : Type 0} → List (List ℕ) → (A → Option (List Turn)) → (A → Option (List ℕ)) → (C → Option (List ℕ)) → A → A → C → C
+    → Status → Type 0
 RunsSession words heard said given before now clock clock_now status =
-    (caller : CallSign) (moment : Option ℕ) → IsSession words caller moment
+    (request : SessionRequest) → IsSession words request.caller request.moment
     → ((status ≡ OutOfMemory) × (now ≡ before) × (clock_now ≡ clock))
-    ⊎ SessionEnded heard said given before now clock clock_now caller moment status
+    ⊎ SessionEnded heard said given before now clock clock_now request status
 
 -- the end of the air was read, after turns that left it open
 abbrev pub ReadsEnd : Option (List Turn) → Option (List Turn) → Type 0

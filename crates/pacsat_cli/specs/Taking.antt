@@ -1,12 +1,15 @@
 -- What the code's session is, and how it answers a packet.
 use Rattle.std.specs.Prelude.{◌≡◌, ℕ, List, [], ◌∷◌, true, false, None, Some, Result, Ok, Err, ⊤}
 use Rattle.px_base.specs.CallSign.{CallSign}
-use Rattle.ftl0_packets.specs.Layout.{Item, ul_error_resp}
+use Rattle.ftl0_packets.specs.Layout.{Item, data_end, data_part, ul_error_resp, upload_cmd}
+use Rattle.ftl0_packets.specs.Values.{item_of}
+use Rattle.ftl0_packets.specs.declared.packet.Malformed.{Malformed}
+use Rattle.ftl0_packets.specs.declared.packet.Packet.{Packet}
 use Rattle.file_store.specs.Command.{DoesAll}
 use Rattle.file_store.specs.declared.refusals.BeginRefusal.{BeginRefusal}
 use Rattle.file_store.specs.declared.refusals.BeginRefusal.TheVariants as refusal
 use Rattle.file_store.specs.Store.{Store}
-use Rattle.file_store.specs.Upload.{Holds}
+use Rattle.file_store.specs.Upload.{Holds, Upload}
 use Rattle.pacsat_cli.specs.declared.session.Phase.{Phase}
 use Rattle.pacsat_cli.specs.declared.session.Phase.TheVariants as phase
 use Rattle.pacsat_cli.specs.declared.session.Session.{Session}
@@ -19,6 +22,10 @@ abbrev pub state_of : Phase → State
 state_of phase.Command = command
 state_of (phase.Receiving up) = receiving up.number up.rest
 state_of phase.Aborting = aborting
+
+-- the state in which this upload's octets come
+abbrev pub receiving_of : Upload → State
+receiving_of up = receiving up.number up.rest
 
 -- the store holds the upload, if there is one, and it is of this caller
 abbrev pub PhaseIsHeld : Store → CallSign → Phase → Type 0
@@ -61,3 +68,30 @@ stop_of_refusal refusal.TooLong = stop.NotBuilt 3
 stop_of_refusal refusal.TooMany = stop.NotBuilt 3
 stop_of_refusal refusal.NumbersGone = stop.NotBuilt 3
 stop_of_refusal (refusal.NoRoom blocks free) = stop.NotBuilt 3
+
+-- a session takes a packet, malformed or not: what it was, over one store, and what it is now, over another, with these
+-- replies
+abbrev pub TakesPacket :
+    ℕ → Session → Store → Result Packet Malformed → Session → Store → List ℕ → Result ⊤ SessionStop → Type 0
+TakesPacket moment old before packet new now replies result =
+    Answers old.caller moment before (state_of old.phase) (item_of packet) now (state_of new.phase) replies result
+
+-- what a packet gives in a state: the phase after it, and the answer
+abbrev pub AnswersBy : CallSign → ℕ → Store → State → Item → Store → List ℕ → (Phase × Result ⊤ SessionStop) → Type 0
+AnswersBy caller moment before state item now replies taken =
+    Answers caller moment before state item now (state_of taken.0) replies taken.1
+
+-- what UPLOAD_CMD for a new file of this length gives in Command
+abbrev pub AnswersBegin : CallSign → ℕ → Store → ℕ → Store → List ℕ → (Phase × Result ⊤ SessionStop) → Type 0
+AnswersBegin caller moment before file_length now replies taken =
+    AnswersBy caller moment before command (Ok (upload_cmd 0 file_length)) now replies taken
+
+-- what DATA with these octets gives, at any moment, in the state in which the upload's octets come
+abbrev pub AnswersData : Upload → Store → List ℕ → Store → List ℕ → (Phase × Result ⊤ SessionStop) → Type 0
+AnswersData up before octets now replies taken =
+    (moment : ℕ) → AnswersBy up.caller moment before (receiving_of up) (Ok (data_part octets)) now replies taken
+
+-- what DATA_END gives there
+abbrev pub AnswersEnd : Upload → ℕ → Store → Store → List ℕ → (Phase × Result ⊤ SessionStop) → Type 0
+AnswersEnd up moment before now replies taken =
+    AnswersBy up.caller moment before (receiving_of up) (Ok data_end) now replies taken

@@ -3,12 +3,13 @@
 ghost use Rattle.std.specs.Prelude.{◌≡◌, ◌≤◌, ◌<◌, [], ◌∷◌, length, IsSome, IsTrue};
 ghost use Rattle.px_base.specs.Moments.{MomentsOf};
 ghost use Rattle.ftl0_packets.specs.Layout.{packet_text};
-ghost use Rattle.ftl0_packets.specs.Reading.{is_whole, read_item};
-ghost use Rattle.pacsat_cli.specs.Node.{AnswersOver, FeedsPiece, HasAirCause, SaysText, ServesOctets, TakesTurn, node_stop_of};
+ghost use Rattle.ftl0_packets.specs.Reading.{is_whole};
+ghost use Rattle.pacsat_cli.specs.Node.{FeedsPiece, HasAirCause, Replied, SaysText, ServesOctets, TakesTurn};
+ghost use Rattle.pacsat_cli.specs.Node.{node_stop_of};
 ghost use Rattle.pacsat_cli.specs.ServerState.{new_server};
 ghost use Rattle.pacsat_cli.specs.Session.{greeting};
 ghost use Rattle.pacsat_cli.specs.SessionRan.{ListenedBy, SessionServed};
-ghost use Rattle.pacsat_cli.specs.Taking.{IsHeld, state_of};
+ghost use Rattle.pacsat_cli.specs.Taking.{IsHeld};
 
 use crate::session::{Replies, Session, SessionStop, write_greeting};
 use file_store::{FileStore, Limits};
@@ -20,14 +21,14 @@ use std::marker::Model;
 use thiserror::Error;
 
 /// A session came to the end of the air.
-#[derive(Clone, Copy, Debug, PartialEq, Eq)]
+#[derive(Clone, Copy)]
 pub(crate) struct Served {
     /// How many polls were made, the one that found the end included.
     pub turns: u64,
 }
 
 /// Why a session stopped before the end of the air.
-#[derive(Clone, Copy, Debug, PartialEq, Eq, Error)]
+#[derive(Clone, Copy, Debug, Error)]
 pub(crate) enum NodeStop {
     /// A poll failed.
     #[error("hearing failed")]
@@ -39,7 +40,7 @@ pub(crate) enum NodeStop {
     #[error("as many polls were made as may be")]
     Spent,
     /// A packet came whose row of the session's table isn't built yet.
-    #[error("a packet of type {kind} asks for what is not built yet")]
+    #[error("a packet asks for what is not built yet")]
     NotBuilt {
         /// The packet's type.
         kind: u8,
@@ -73,10 +74,10 @@ pub(crate) struct SessionTerms {
     pub polls: u64,
 }
 
-/// Serves one session over FTL0 octets without a link: LOGIN_RESP first, then the replies to each packet, up to the end of
-/// the air or as many polls as may be made. Each turn has the moment that is given, or takes one of the clock before its
-/// poll; the first turn's is taken before LOGIN_RESP, which has it. The store is a fresh one in memory; a place for a disk
-/// stands before `air`. Takes memory.
+/// Serves one session over FTL0 octets without a link: LOGIN_RESP first, then the replies to each packet, up to the end
+/// of the air or as many polls as may be made. Each turn has the moment that is given, or takes one of the clock before
+/// its poll; the first turn's is taken before LOGIN_RESP, which has it. The store is a fresh one in memory; a place for
+/// a disk stands before `air`. Takes memory.
 pub(crate) fn serve_session<A: Air, C: Clock>(
     alloc: Global,
     air: &mut A,
@@ -130,7 +131,7 @@ fn answer<A: Air>(
     requires whole { IsTrue (is_whole reader.now) }
     ensures held { IsHeld store.new session.new }
     ensures caller { session.new.caller ≡ session.old.caller }
-    ensures answers { AnswersOver A.said air.old air.new session.old.caller moment store.old (state_of session.old.phase) (read_item reader.now) store.new (state_of session.new.phase) result }
+    ensures said { Replied A.said air.old air.new moment session.old store.old reader.now session.new store.new result }
     ensures heard { A.heard air.new ≡ A.heard air.old }
     ensures counts { HasAirCause A.read_faults A.write_faults air.old air.new result }
 {
@@ -165,8 +166,8 @@ fn greet<A: Air>(moment: u32, air: &mut A) -> Result<(), NodeStop>
     say(text.as_slice(), air)
 }
 
-/// What serves one session: the reader of its packets, its state, and the store. It must be ended, which parks the session's
-/// upload. Contracts see it as a `ServerState`.
+/// What serves one session: the reader of its packets, its state, and the store. It must be ended, which parks the
+/// session's upload. Contracts see it as a `ServerState`.
 pub(crate) struct SessionServer {
     reader: PacketReader,
     session: Session,
@@ -237,7 +238,7 @@ impl SessionServer {
         terms: &SessionTerms,
     ) -> Result<Served, NodeStop>
         requires { self.old ≡ new_server terms.now.caller terms.now.limits.blocks }
-        ensures listened { ListenedBy A.heard A.said C.given air.old air.new clock.old clock.new first terms.now result }
+        ensures ran { ListenedBy A.heard A.said C.given air.old air.new clock.old clock.new first terms.now result }
         ensures clock { IsSome terms.now.moment → clock.new ≡ clock.old }
         ensures counts { HasAirCause A.read_faults A.write_faults air.old air.new result }
     {
@@ -295,7 +296,7 @@ impl SessionServer {
         Ok(())
     }
 
-    /// Takes octets up to the end of the packet under way, says the replies to it, and tells how many octets were taken.
+    /// Takes octets up to the end of the packet under way, says the replies to it, and tells how many it took.
     fn feed<A: Air>(&mut self, piece: &[u8], air: &mut A, moment: u32) -> Result<usize, NodeStop>
         requires { 0 < length piece.now }
         ensures fed { FeedsPiece A.said air.old air.new moment self.old self.new piece.now result }

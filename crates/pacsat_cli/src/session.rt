@@ -1,13 +1,15 @@
 //! The session of one caller: what each packet gives (FTL0 1990, uploading).
 
-ghost use Rattle.std.specs.Prelude.{◌≡◌, ℕ, ◌+◌, ◌≤◌, ◌<◌, [], ◌++◌, length};
+ghost use Rattle.std.specs.Prelude.{◌≡◌, []};
 ghost use Rattle.px_base.specs.CallSign.{CallSign};
-ghost use Rattle.ftl0_packets.specs.Layout.{Item, data_end, data_part, packet_text, ul_ack_resp, upload_cmd};
+ghost use Rattle.ftl0_packets.specs.Layout.{packet_text, ul_ack_resp};
 ghost use Rattle.ftl0_packets.specs.Values.{item_of, value_of};
 ghost use Rattle.file_store.specs.Store.{Store};
 ghost use Rattle.file_store.specs.Upload.{Holds};
-ghost use Rattle.pacsat_cli.specs.Session.{command as in_command, aborting as in_aborting, receiving as in_receiving, greeting};
-ghost use Rattle.pacsat_cli.specs.Taking.{Answers, IsHeld, PhaseIsHeld, Refuses, state_of, stop_of_refusal};
+ghost use Rattle.pacsat_cli.specs.Session.{command as in_command, greeting};
+ghost use Rattle.pacsat_cli.specs.Taking.{AnswersBegin, AnswersData, AnswersEnd, IsHeld, PhaseIsHeld};
+ghost use Rattle.pacsat_cli.specs.Taking.{Refuses, TakesPacket, state_of, stop_of_refusal};
+ghost use Rattle.pacsat_cli.specs.Asked.{AnswersAborting, AnswersAsked, AnswersPhase, AnswersReceiving};
 ghost use Rattle.pacsat_cli.specs.Asked.{IsAsked, kind_of_asked};
 
 use arrayvec::ArrayVec;
@@ -49,10 +51,10 @@ pub(crate) struct Session {
 }
 
 /// Why a session goes on no further. The packet gave nothing: the session and the store are as they were.
-#[derive(Clone, Copy, Debug, PartialEq, Eq, Error)]
+#[derive(Clone, Copy, Debug, Error)]
 pub(crate) enum SessionStop {
     /// The packet's row isn't built yet.
-    #[error("a packet of type {kind} asks for what is not built yet")]
+    #[error("the packet asks for what is not built yet")]
     NotBuilt {
         /// The packet's type.
         kind: u8,
@@ -85,7 +87,7 @@ impl Session {
     ) -> Result<(), SessionStop>
         requires empty { replies.old.items ≡ [] }
         requires held { IsHeld store.old self.old }
-        ensures answers { Answers self.old.caller moment store.old (state_of self.old.phase) (item_of packet.entry) store.new (state_of self.new.phase) replies.new.items result }
+        ensures takes { TakesPacket moment self.old store.old packet.entry self.new store.new replies.new.items result }
         ensures caller { self.new.caller ≡ self.old.caller }
         ensures held { IsHeld store.new self.new }
     {
@@ -189,7 +191,7 @@ fn take_asked(
 ) -> Taken
     requires empty { replies.old.items ≡ [] }
     requires held { PhaseIsHeld store.old caller phase }
-    ensures answers { (item : Item) → IsAsked item asked.entry → Answers caller moment store.old (state_of phase) item store.new (state_of result.0) replies.new.items result.1 }
+    ensures answers { AnswersPhase caller moment store.old phase asked.entry store.new replies.new.items result }
     ensures held { PhaseIsHeld store.new caller result.0 }
 {
     match phase {
@@ -208,7 +210,7 @@ fn take_command(
     replies: &mut Replies,
 ) -> Taken
     requires { replies.old.items ≡ [] }
-    ensures answers { (item : Item) → IsAsked item asked.entry → Answers caller moment store.old in_command item store.new (state_of result.0) replies.new.items result.1 }
+    ensures answers { AnswersAsked caller moment store.old in_command asked.entry store.new replies.new.items result }
     ensures held { PhaseIsHeld store.new caller result.0 }
 {
     match asked {
@@ -234,7 +236,7 @@ fn begin(
     replies: &mut Replies,
 ) -> Taken
     requires { replies.old.items ≡ [] }
-    ensures answers { Answers caller moment store.old in_command (Ok (upload_cmd 0 length)) store.new (state_of result.0) replies.new.items result.1 }
+    ensures answers { AnswersBegin caller moment store.old length store.new replies.new.items result }
     ensures held { PhaseIsHeld store.new caller result.0 }
 {
     match store.begin(caller, length, moment) {
@@ -273,7 +275,7 @@ fn take_receiving(
 ) -> Taken
     requires empty { replies.old.items ≡ [] }
     requires holds { Holds store.old up }
-    ensures answers { (item : Item) → IsAsked item asked.entry → Answers up.caller moment store.old (in_receiving up.number up.rest) item store.new (state_of result.0) replies.new.items result.1 }
+    ensures answers { AnswersReceiving up moment store.old asked.entry store.new replies.new.items result }
     ensures held { PhaseIsHeld store.new up.caller result.0 }
 {
     match asked {
@@ -287,7 +289,7 @@ fn take_receiving(
 fn take_data(up: OpenUpload, octets: &[u8], store: &mut FileStore, replies: &mut Replies) -> Taken
     requires empty { replies.old.items ≡ [] }
     requires holds { Holds store.old up }
-    ensures answers { (moment : ℕ) → Answers up.caller moment store.old (in_receiving up.number up.rest) (Ok (data_part octets.entry.now)) store.new (state_of result.0) replies.new.items result.1 }
+    ensures answers { AnswersData up store.old octets.entry.now store.new replies.new.items result }
     ensures held { PhaseIsHeld store.new up.caller result.0 }
 {
     match store.append(up, octets) {
@@ -307,7 +309,7 @@ fn take_data(up: OpenUpload, octets: &[u8], store: &mut FileStore, replies: &mut
 fn take_end(up: OpenUpload, moment: u32, store: &mut FileStore, replies: &mut Replies) -> Taken
     requires empty { replies.old.items ≡ [] }
     requires holds { Holds store.old up }
-    ensures answers { Answers up.caller moment store.old (in_receiving up.number up.rest) (Ok data_end) store.new (state_of result.0) replies.new.items result.1 }
+    ensures answers { AnswersEnd up moment store.old store.new replies.new.items result }
     ensures held { PhaseIsHeld store.new up.caller result.0 }
 {
     match store.seal(up, moment) {
@@ -333,7 +335,7 @@ fn take_end(up: OpenUpload, moment: u32, store: &mut FileStore, replies: &mut Re
 /// Aborting: what is left of the refused file is passed over, up to its end.
 fn take_aborting(asked: Asked<'_>, replies: &mut Replies) -> Taken
     requires { replies.old.items ≡ [] }
-    ensures answers { (caller : CallSign) (moment : ℕ) (store : Store) (item : Item) → IsAsked item asked.entry → Answers caller moment store in_aborting item store (state_of result.0) replies.new.items result.1 }
+    ensures answers { AnswersAborting asked.entry replies.new.items result }
     ensures held { (store : Store) (caller : CallSign) → PhaseIsHeld store caller result.0 }
 {
     match asked {

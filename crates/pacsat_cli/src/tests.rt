@@ -1,4 +1,4 @@
-//! Each status as it is shown: its line on the output, and its number; and the texts of a session's ends.
+//! Each status as it is shown: its line on the output, and its number; and each stop of a session.
 
 use super::*;
 use crate::node::NodeStop;
@@ -34,27 +34,27 @@ fn statuses_are_shown(rt: HostRuntime) -> Result<(), Fail> {
 }
 
 #[test]
-fn stops_have_texts(rt: HostRuntime) -> Result<(), Fail> {
+fn stops_are_shown(rt: HostRuntime) -> Result<(), Fail> {
+    for (stop, text) in [
+        (
+            SessionStop::NotBuilt { kind: 8 },
+            "the packet asks for what is not built yet",
+        ),
+        (SessionStop::OutOfMemory, "out of memory"),
+    ] {
+        assert_eq!(rt; format!(in rt.alloc(); "{stop}")?.as_str(), text);
+    }
     for (stop, text) in [
         (NodeStop::AirRead, "hearing failed"),
         (NodeStop::AirWrite, "saying failed"),
         (NodeStop::Spent, "as many polls were made as may be"),
         (
             NodeStop::NotBuilt { kind: 8 },
-            "a packet of type 8 asks for what is not built yet",
+            "a packet asks for what is not built yet",
         ),
         (NodeStop::OutOfMemory, "out of memory"),
     ] {
-        assert_eq!(rt; stop.to_string(rt.alloc())?.as_str(), text);
-    }
-    for (stop, text) in [
-        (
-            SessionStop::NotBuilt { kind: 16 },
-            "a packet of type 16 asks for what is not built yet",
-        ),
-        (SessionStop::OutOfMemory, "out of memory"),
-    ] {
-        assert_eq!(rt; stop.to_string(rt.alloc())?.as_str(), text);
+        assert_eq!(rt; format!(in rt.alloc(); "{stop}")?.as_str(), text);
     }
     Ok(())
 }

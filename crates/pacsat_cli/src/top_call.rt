@@ -5,7 +5,9 @@ ghost use Rattle.command_words.specs.Laws.{AsksFrames, AsksSession};
 ghost use Rattle.command_words.specs.Words.{IsUnbuilt, IsUsage, NamesBuilt};
 ghost use Rattle.px_base.specs.Outside.{Rose};
 ghost use Rattle.pacsat_cli.specs.Frames.{IsNoSuchBy, IsShownBy, IsTooLongBy, RunsFrames, WhereHeld};
-ghost use Rattle.pacsat_cli.specs.Run.{AreRefused, AsksMoment, HasShelfCause, HasStatusCause, IsDoneAtEnd, IsDoneBy, IsNotBuiltBy, IsSpentBy, IsUnless, RunsSession, SessionEnded, Shows, WhereHeard};
+ghost use Rattle.pacsat_cli.specs.Run.{AreRefused, AsksMoment, HasShelfCause, HasStatusCause, IsUnless, Shows, Stays};
+ghost use Rattle.pacsat_cli.specs.Run.{IsDoneAtEnd, IsDoneBy, IsNotBuiltBy, IsSpentBy, WhereHeard};
+ghost use Rattle.pacsat_cli.specs.Run.{RunsSession, SessionEnded};
 ghost use Rattle.pacsat_cli.specs.Status.{line_of};
 ghost use Rattle.pacsat_cli.specs.Stops.{status_of as status_of_session, status_of_refusal};
 
@@ -27,9 +29,9 @@ pub const BLOCKS: u32 = 65_536;
 
 /// Does what the words ask for, over this air, shelf, output and clock, and shows the status's line on the output.
 ///
-/// Two commands are built: `session`, one session over FTL0 octets on standard input and output, with a store in memory;
-/// and `frames`, which shows recorded KISS text. Places for a disk before the air and for a bench after the clock come
-/// with the commands that use them. Takes memory.
+/// Two commands are built: `session`, one session over FTL0 octets on standard input and output, with a store in
+/// memory; and `frames`, which shows recorded KISS text. Places for a disk before the air and for a bench after the
+/// clock come with the commands that use them. Takes memory.
 pub fn run<A: Air, S: Shelf, O: Out, C: Clock>(
     alloc: Global,
     words: &Words,
@@ -45,7 +47,7 @@ pub fn run<A: Air, S: Shelf, O: Out, C: Clock>(
     ensures unbuilt_words { IsUnbuilt words.now → IsUnless result Status.NotBuilt (Status.OutOfMemory ∷ []) }
     ensures unread { AreRefused words.now → result ≡ Status.OutOfMemory → NamesBuilt words.now }
     ensures untouched { AreRefused words.now → (air.new ≡ air.old) × (shelf.new ≡ shelf.old) × (clock.new ≡ clock.old) }
-    ensures held { S.held shelf.new ≡ S.held shelf.old }
+    ensures held { Stays S.held shelf.old shelf.new }
 
     // A session says the replies of its table for the packets of the octets heard, LOGIN_RESP first, and ends with a
     // status that has its cause; or there was no memory to read the words. With a moment given the clock isn't asked.
@@ -53,8 +55,8 @@ pub fn run<A: Air, S: Shelf, O: Out, C: Clock>(
     ensures session_alone { AsksSession words.now → shelf.new ≡ shelf.old }
     ensures clock_unasked { AsksMoment words.now → clock.new ≡ clock.old }
 
-    // Where the end of the air was heard, the run is done. Where a packet's row isn't built, or all polls were made and none
-    // was the end or failed, only want of memory or a fault of saying comes before.
+    // Where the end of the air was heard, the run is done. Where a packet's row isn't built, or all polls were made and
+    // none was the end or failed, only want of memory or a fault of saying comes before.
     ensures complete { WhereHeard words.now A.heard C.given air.old air.new clock.old clock.new (IsDoneBy result) }
     ensures not_built { WhereHeard words.now A.heard C.given air.old air.new clock.old clock.new (IsNotBuiltBy result) }
     ensures spent { WhereHeard words.now A.heard C.given air.old air.new clock.old clock.new (IsSpentBy result) }
@@ -69,8 +71,8 @@ pub fn run<A: Air, S: Shelf, O: Out, C: Clock>(
     ensures too_long { WhereHeld words.now (S.held shelf.old) (IsTooLongBy result) }
     ensures frames_done { WhereHeld words.now (S.held shelf.old) (IsShownBy result) }
 
-    // A fault is answered only where its count rose; and where it isn't answered, its count stayed, but for the status's
-    // line, and for a shelf that finds no memory.
+    // A fault is answered only where its count rose; and where it isn't answered, its count stayed, but for the
+    // status's line, and for a shelf that finds no memory.
     ensures air_read { HasStatusCause Status.AirRead (A.read_faults air.old) (A.read_faults air.new) result }
     ensures air_write { HasStatusCause Status.AirWrite (A.write_faults air.old) (A.write_faults air.new) result }
     ensures shelf { HasShelfCause (S.faults shelf.old) (S.faults shelf.new) result }
@@ -78,7 +80,7 @@ pub fn run<A: Air, S: Shelf, O: Out, C: Clock>(
 
     // Done says that no count rose, whatever is told, and of a session that the end of the air was read.
     ensures session_done { IsDoneAtEnd words.now A.heard A.read_faults A.write_faults air.old air.new result }
-    ensures done { result ≡ Status.Done → (S.faults shelf.new ≡ S.faults shelf.old) × (O.faults out.new ≡ O.faults out.old) }
+    ensures done { result ≡ Status.Done → Stays S.faults shelf.old shelf.new × Stays O.faults out.old out.new }
 
     // But for `frames` the status's line alone is shown, or the output's count of faults rose.
     ensures unshown { result ≡ Status.Done → (AsksFrames words.now → ⊥) → out.new ≡ out.old }
@@ -134,7 +136,7 @@ fn run_session<A: Air, C: Clock>(
     clock: &mut C,
     request: SessionRequest,
 ) -> Status
-    ensures ended { SessionEnded A.heard A.said C.given air.old air.new clock.old clock.new request.caller request.moment result }
+    ensures ended { SessionEnded A.heard A.said C.given air.old air.new clock.old clock.new request result }
     ensures clock { IsSome request.moment → clock.new ≡ clock.old }
     ensures air_read { HasStatusCause Status.AirRead (A.read_faults air.old) (A.read_faults air.new) result }
     ensures air_write { HasStatusCause Status.AirWrite (A.write_faults air.old) (A.write_faults air.new) result }

@@ -10,15 +10,16 @@ use Rattle.pacsat_cli.proofs.top_call.run.Goals as goal
 
 pub returns-in-Ok-Session : goal.returns-in-Ok-Session
 returns-in-Ok-Session g c =
-    let caller = c.in-Ok-Session.request.caller in
-    let moment = c.in-Ok-Session.request.moment in
+    let request = c.in-Ok-Session.request in
+    let caller = request.caller in
+    let moment = request.moment in
     let words = c.args.words.now in
     let asks = rw c.in-Ok-Session.field-0-is at c.in-Ok-Session.ensures.asks in
     let only = c.one_meaning.ensures.only_one words in
     let determined = c.one_meaning.ensures.determined words in
     let ran = c.run_session-status in
     let line = c.show_line.ensures in
-    let isnt = session-not g.A.Air.heard g.A.Air.said g.C.Clock.given c.args.air.now ran.new.air c.args.clock.now ran.new.clock caller moment ran.result ran.ensures.ended in
+    let isnt = session-not g.A.Air.heard g.A.Air.said g.C.Clock.given c.args.air.now ran.new.air c.args.clock.now ran.new.clock request ran.result ran.ensures.ended in
     record {
       usage = λ e. absurd (isnt status.Usage refl e);
       usage_told = λ usage. absurd (only.usage_session usage (caller, moment, asks));
@@ -26,12 +27,12 @@ returns-in-Ok-Session g c =
       unread = λ refused. absurd (elim refused [ inl usage ↦ only.usage_session usage (caller, moment, asks) | inr unbuilt ↦ only.unbuilt_session unbuilt (caller, moment, asks) ]);
       untouched = λ refused. absurd (elim refused [ inl usage ↦ only.usage_session usage (caller, moment, asks) | inr unbuilt ↦ only.unbuilt_session unbuilt (caller, moment, asks) ]);
       held = refl;
-      session = session-runs g.A.Air.heard g.A.Air.said g.C.Clock.given c.args.air.now ran.new.air c.args.clock.now ran.new.clock caller moment ran.result ran.ensures.ended words asks determined;
+      session = session-runs g.A.Air.heard g.A.Air.said g.C.Clock.given c.args.air.now ran.new.air c.args.clock.now ran.new.clock request ran.result ran.ensures.ended words asks determined;
       session_alone = λ _. refl;
       clock_unasked = λ given. ran.ensures.clock (asked_moment words caller moment asks determined given);
-      complete = session-complete g.A.Air.heard g.A.Air.said g.C.Clock.given c.args.air.now ran.new.air c.args.clock.now ran.new.clock caller moment ran.result ran.ensures.ended words asks determined c.stream_law.ensures.only;
-      not_built = session-not_built g.A.Air.heard g.A.Air.said g.C.Clock.given c.args.air.now ran.new.air c.args.clock.now ran.new.clock caller moment ran.result ran.ensures.ended words asks determined c.stream_law.ensures.only;
-      spent = session-spent g.A.Air.heard g.A.Air.said g.C.Clock.given c.args.air.now ran.new.air c.args.clock.now ran.new.clock caller moment ran.result ran.ensures.ended words asks determined c.stream_law.ensures.only;
+      complete = session-complete g.A.Air.heard g.A.Air.said g.C.Clock.given c.args.air.now ran.new.air c.args.clock.now ran.new.clock request ran.result ran.ensures.ended words asks determined c.stream_law.ensures.only;
+      not_built = session-not_built g.A.Air.heard g.A.Air.said g.C.Clock.given c.args.air.now ran.new.air c.args.clock.now ran.new.clock request ran.result ran.ensures.ended words asks determined c.stream_law.ensures.only;
+      spent = session-spent g.A.Air.heard g.A.Air.said g.C.Clock.given c.args.air.now ran.new.air c.args.clock.now ran.new.clock request ran.result ran.ensures.ended words asks determined c.stream_law.ensures.only;
       frames = λ name is. absurd (only.session_frames (caller, moment, asks) (name, is));
       frames_alone = λ frames. absurd (only.session_frames (caller, moment, asks) frames);
       no_such = λ name shelf is. absurd (only.session_frames (caller, moment, asks) (name, is));
@@ -42,7 +43,7 @@ returns-in-Ok-Session g c =
       shelf = record { rose = λ e. absurd (isnt status.Shelf refl e); same = λ _ _. refl };
       out = λ e. absurd (isnt status.Out refl e);
       session_done =
-          session-done g.A.Air.heard g.A.Air.said g.C.Clock.given c.args.air.now ran.new.air c.args.clock.now ran.new.clock caller moment ran.result ran.ensures.ended words g.A.Air.read_faults g.A.Air.write_faults ran.ensures.air_read ran.ensures.air_write;
+          session-done g.A.Air.heard g.A.Air.said g.C.Clock.given c.args.air.now ran.new.air c.args.clock.now ran.new.clock request ran.result ran.ensures.ended words g.A.Air.read_faults g.A.Air.write_faults ran.ensures.air_read ran.ensures.air_write;
       done = λ e. (refl, ap g.O.Out.faults (line.done e));
       unshown = λ e _. line.done e;
       shown = λ _. line.shown;
@@ -66,7 +67,7 @@ returns-in-Ok-Frames g c =
       unread = λ refused. absurd (elim refused [ inl usage ↦ only.usage_frames usage (name, asks) | inr unbuilt ↦ only.unbuilt_frames unbuilt (name, asks) ]);
       untouched = λ refused. absurd (elim refused [ inl usage ↦ only.usage_frames usage (name, asks) | inr unbuilt ↦ only.unbuilt_frames unbuilt (name, asks) ]);
       held = ran.ensures.held;
-      session = λ caller moment is. absurd (only.session_frames (caller, moment, is) (name, asks));
+      session = λ request is. absurd (only.session_frames (request.caller, request.moment, is) (name, asks));
       session_alone = λ session. absurd (only.session_frames session (name, asks));
       clock_unasked = λ _. refl;
       complete = λ told. absurd (only.session_frames (told.caller, told.moment, told.asks) (name, asks));

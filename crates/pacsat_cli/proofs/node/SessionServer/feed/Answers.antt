@@ -7,15 +7,15 @@ use Rattle.pacsat_cli.specs.Node.{FeedsPiece}
 use Rattle.pacsat_cli.specs.Server.{server_state}
 use Rattle.pacsat_cli.specs.ServerState.{ServerState}
 use Rattle.pacsat_cli.specs.Taking.{state_of}
+use Rattle.ftl0_packets.proofs.OctetLemmas.{octets_from}
 use Rattle.pacsat_cli.proofs.NodeLemmas.{answer_runs, goes_on-waits, with_none}
 use Rattle.pacsat_cli.proofs.Serving.{at_exit, waits_after}
-use Rattle.pacsat_cli.proofs.OctetLemmas.{octets_from}
 use Rattle.pacsat_cli.proofs.node.SessionServer.feed.Goals as goal
 
 pub returns-in_err-answer-clause-fed : goal.returns-in_err-answer-clause-fed
 returns-in_err-answer-clause-fed g c =
     let a = c.self.inside in
-    let said = c.in_err-answer.ensures.answers in
+    let said = c.in_err-answer.ensures.said in
     let server = server_state (record { reader = c.feed-taken.new.self; session = c.answer.new.session; store = c.answer.new.store }) in
     let at_old : ServerState → Type 0 = λ s. FeedsPiece g.A.Air.said c.args.air.now c.answer.new.air c.args.moment s server c.args.piece.now (Err c.in_err-answer.field-0.0) in
     let found = with_none packets_of (λ octets. read_item c.feed-taken.new.self ∷ packets_of octets) _ _ _ _ (c.feed-taken.ensures.found c.in-Whole.is) in
@@ -26,6 +26,24 @@ returns-in_err-answer-clause-fed g c =
       answer_runs c.args.moment a.session.caller a.store (state_of a.session.phase) _ _ (read_item c.feed-taken.new.self) found a.session.caller refl a.store (state_of a.session.phase) said.0 (Err c.in_err-answer.field-0.0)
           (with_none rest_of rest_of _ _ _ _ c.feed-taken.ensures.rest) said.2,
     ))
+
+pub invariant_of-self : goal.invariant_of-self
+invariant_of-self g c =
+    record {
+      held = c.in_ok-answer.ensures.held;
+      waiting =
+          waits_after c.self.inside.reader c.feed-taken.new.self c.args.piece.now c.feed-taken.result.0 c.self.invariant.waiting (octets_from c.args.piece.now (λ i. omega (arith, c.type_inv.piece i)))
+          c.feed-taken.ensures.octets c.feed-taken.ensures.none c.feed-taken.ensures.left;
+    }
+
+pub invariant_of-self-in_err-answer : goal.invariant_of-self-in_err-answer
+invariant_of-self-in_err-answer g c =
+    record {
+      held = c.in_err-answer.ensures.held;
+      waiting =
+          waits_after c.self.inside.reader c.feed-taken.new.self c.args.piece.now c.feed-taken.result.0 c.self.invariant.waiting (octets_from c.args.piece.now (λ i. omega (arith, c.type_inv.piece i)))
+          c.feed-taken.ensures.octets c.feed-taken.ensures.none c.feed-taken.ensures.left;
+    }
 
 pub invariant_of-self-in_default : goal.invariant_of-self-in_default
 invariant_of-self-in_default g c =
@@ -39,7 +57,7 @@ invariant_of-self-in_default g c =
 pub returns-in_ok-answer-clause-fed : goal.returns-in_ok-answer-clause-fed
 returns-in_ok-answer-clause-fed g c =
     let a = c.self.inside in
-    let said = c.in_ok-answer.ensures.answers in
+    let said = c.in_ok-answer.ensures.said in
     let server = server_state (record { reader = c.feed-taken.new.self; session = c.answer.new.session; store = c.answer.new.store }) in
     let at_old : ServerState → Type 0 = λ s. FeedsPiece g.A.Air.said c.args.air.now c.answer.new.air c.args.moment s server c.args.piece.now (Ok c.feed-taken.result.0) in
     let found = with_none packets_of (λ octets. read_item c.feed-taken.new.self ∷ packets_of octets) _ _ _ _ (c.feed-taken.ensures.found c.in-Whole.is) in

@@ -3,8 +3,8 @@ use Rattle.std.proofs.Common.{◌≡◌, [], ℕ, List, length, arith, Result, E
 use Rattle.std.specs.Prelude.{⊤}
 use Rattle.pacsat_cli.specs.declared.node.NodeStop.{NodeStop}
 use Rattle.pacsat_cli.specs.Node.{ServesOctets}
+use Rattle.ftl0_packets.proofs.OctetLemmas.{octets_from}
 use Rattle.pacsat_cli.proofs.Serving.{at_exit, hearing-ends, hearing-feed, hearing-stops, is_nil, waits_in}
-use Rattle.pacsat_cli.proofs.OctetLemmas.{octets_from}
 use Rattle.pacsat_cli.proofs.node.SessionServer.hear.Goals as goal
 
 pub returns-in_err-taken-clause-serves : goal.returns-in_err-taken-clause-serves

@@ -5,7 +5,7 @@ use Rattle.pacsat_cli.proofs.session.Session.take.Goals as goal
 pub returns : goal.returns
 returns c =
     record {
-      answers = rw (c.replace.ensures.after, ← c.replace-phase.ensures.value) (c.take_asked-phase.ensures.answers _ c.of-asked.ensures);
+      takes = rw (c.replace.ensures.after, ← c.replace-phase.ensures.value) (c.take_asked-phase.ensures.answers _ c.of-asked.ensures);
       caller = refl;
       held = rw c.replace.ensures.after c.take_asked-phase.ensures.held;
     }
