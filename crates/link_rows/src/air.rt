@@ -1,0 +1,189 @@
+//! A row of two links over an air that loses, repeats and displaces frames.
+
+ghost use Rattle.std.specs.Prelude.{◌≤◌};
+
+use crate::draws::Draws;
+use crate::frames::{CALLED, CALLER};
+use crate::row::window;
+use crate::side::{Found, Side};
+use anyhow::{Context, Result};
+use ax25_link::Link;
+use std::alloc::Global;
+
+/// How many steps are drawn.
+const STEPS: u32 = 8000;
+
+/// How many steps without loss there are at most after them.
+const MOST_LAST_STEPS: u32 = 20_000;
+
+/// Two stations, and the air between them.
+#[derive(Drop)]
+struct Air {
+    caller: Side,
+    called: Side,
+    draws: Draws,
+    /// How far back frames are drawn that are delivered again or late.
+    back: u64,
+    /// With how many later frames sent a frame may be delivered late.
+    most_later: usize,
+}
+
+/// Plays a row of a seed, a window, and how many later frames more than is lawful there may be.
+pub fn play(alloc: Global, numbers: &str) -> Result<String> {
+    let (seed, rest) = numbers.split_once(' ').context("no window")?;
+    let (k, late) = rest.split_once(' ').context("no later frames")?;
+    let k = window(k)?;
+    let mut air = Air {
+        caller: Side::new(
+            alloc,
+            CALLER,
+            CALLED,
+            Link::call(alloc, CALLER, CALLED, k)?,
+            0,
+        ),
+        called: Side::new(
+            alloc,
+            CALLED,
+            CALLER,
+            Link::answer(alloc, CALLED, CALLER, k, true)?,
+            1,
+        ),
+        draws: Draws::new(seed.parse::<u64>()?),
+        back: 11 - u64::from(k),
+        most_later: usize::from(7 - k).saturating_add(late.parse::<usize>()?),
+    };
+    air.open()?;
+    let step = air.run()?;
+    air.shown(alloc, step)
+}
+
+impl Air {
+    /// SABM and UA are sent, and UA is delivered.
+    fn open(&mut self) -> Result<()> {
+        self.caller.hand_out()?;
+        self.called.hand_out()?;
+        self.caller.hear(self.called.newest_octets(), 1)
+    }
+
+    /// Plays all steps, or those until something is found, and says how many were drawn.
+    fn run(&mut self) -> Result<u32> {
+        for number in 1..=STEPS {
+            self.step()?;
+            if self.found().is_some() {
+                return Ok(number);
+            }
+        }
+        self.settle()?;
+        Ok(STEPS)
+    }
+
+    /// What one of the stations found.
+    fn found(&self) -> Option<Found> {
+        self.caller.found.or(self.called.found)
+    }
+
+    /// A step that is drawn: a tick, a push, or a delivery.
+    fn step(&mut self) -> Result<()> {
+        match self.draws.below(16) {
+            0 => self.tick(),
+            what @ 1..=4 => self.push(what <= 2),
+            what => self.carry(what % 2 == 1),
+        }
+    }
+
+    /// Both stations get a tick.
+    fn tick(&mut self) -> Result<()> {
+        self.caller.tick()?;
+        self.called.tick()
+    }
+
+    /// A station pushes 1 to 300 octets.
+    fn push(&mut self, is_caller: bool) -> Result<()> {
+        let count = self.draws.below(300) as usize + 1;
+        if is_caller {
+            self.caller.push(count)
+        } else {
+            self.called.push(count)
+        }
+    }
+
+    /// A frame of a station is delivered or lost: in two of twelve cases one of the newest, once more or late; in one the
+    /// next one is lost; else the next one is delivered.
+    fn carry(&mut self, is_caller: bool) -> Result<()> {
+        let how = self.draws.below(12);
+        let back = if how <= 1 {
+            Some(self.draws.below(self.back))
+        } else {
+            None
+        };
+        let (from, to) = if is_caller {
+            (&mut self.caller, &mut self.called)
+        } else {
+            (&mut self.called, &mut self.caller)
+        };
+        let place = match back {
+            Some(later) => from.place_before_end(later as usize),
+            None => from.next_place().filter(|_| how > 2),
+        };
+        match place {
+            Some(place) => from.deliver(to, place, self.most_later),
+            None => Ok(()),
+        }
+    }
+
+    /// What is on the air is lost, and from then on nothing is, until each station has taken what the other pushed.
+    fn settle(&mut self) -> Result<()> {
+        self.caller.lose_all();
+        self.called.lose_all();
+        for _ in 0..MOST_LAST_STEPS {
+            if self.is_whole() || self.found().is_some() {
+                break;
+            }
+            self.carry_all()?;
+        }
+        Ok(())
+    }
+
+    /// Whether each station took as many octets as the other pushed.
+    fn is_whole(&self) -> bool {
+        self.caller.taken == self.called.pushed && self.called.taken == self.caller.pushed
+    }
+
+    /// The next frame of each station is delivered; where neither has one, both get a tick.
+    fn carry_all(&mut self) -> Result<()> {
+        let first = self.caller.next_place();
+        if let Some(place) = first {
+            self.caller
+                .deliver(&mut self.called, place, self.most_later)?;
+        }
+        let second = self.called.next_place();
+        if let Some(place) = second {
+            self.called
+                .deliver(&mut self.caller, place, self.most_later)?;
+        }
+        if first.is_none() && second.is_none() {
+            self.tick()?;
+        }
+        Ok(())
+    }
+
+    /// What the row prints after so many steps.
+    fn shown(&self, alloc: Global, step: u32) -> Result<String> {
+        if let Some(found) = self.found() {
+            return Ok(format!(in alloc; "step {step}: {found:?}")?);
+        }
+        let caller = shown_side(alloc, &self.caller, &self.called)?;
+        let called = shown_side(alloc, &self.called, &self.caller)?;
+        Ok(format!(in alloc; "caller {caller}; called {called}")?)
+    }
+}
+
+/// What a station took, and how its frames came.
+fn shown_side(alloc: Global, side: &Side, other: &Side) -> Result<String> {
+    let taken = side.taken;
+    let pushed = other.pushed;
+    let pieces = side.pieces;
+    let late = side.late;
+    let repeated = side.repeated;
+    Ok(format!(in alloc; "took {taken} of {pushed} in {pieces}, {late} late, {repeated} repeated")?)
+}

@@ -1,0 +1,83 @@
+//! The two stations of the rows, and the octets of frames between them.
+
+use anyhow::{Result, ensure};
+use ax25_frames::{Frame, Kind, read_frame};
+use ax25_link::{Heard, Link};
+use px_base::Call;
+use std::alloc::{AllocError, Global};
+
+/// The station that calls in the air's rows, and the peer in all others: NOCALL-9.
+pub const CALLER: Call = Call {
+    chars: *b"NOCALL",
+    ssid: 9,
+};
+
+/// The other one: PACSAT.
+pub const CALLED: Call = Call {
+    chars: *b"PACSAT",
+    ssid: 0,
+};
+
+/// How many octets the two addresses have.
+const ADDRESSES: usize = 14;
+
+/// The addresses of a command to NOCALL-9 (AX.25 2.0, 2.2.13).
+const COMMAND_TO_CALLER: [u8; ADDRESSES] = [
+    0x9C, 0x9E, 0x86, 0x82, 0x98, 0x98, 0xF2, 0xA0, 0x82, 0x86, 0xA6, 0x82, 0xA8, 0x61,
+];
+
+/// Those of a response.
+const RESPONSE_TO_CALLER: [u8; ADDRESSES] = [
+    0x9C, 0x9E, 0x86, 0x82, 0x98, 0x98, 0x72, 0xA0, 0x82, 0x86, 0xA6, 0x82, 0xA8, 0xE1,
+];
+
+/// The addresses of a command to PACSAT.
+const COMMAND_TO_CALLED: [u8; ADDRESSES] = [
+    0xA0, 0x82, 0x86, 0xA6, 0x82, 0xA8, 0xE0, 0x9C, 0x9E, 0x86, 0x82, 0x98, 0x98, 0x73,
+];
+
+/// Those of a response.
+const RESPONSE_TO_CALLED: [u8; ADDRESSES] = [
+    0xA0, 0x82, 0x86, 0xA6, 0x82, 0xA8, 0x60, 0x9C, 0x9E, 0x86, 0x82, 0x98, 0x98, 0xF3,
+];
+
+/// The octets of a frame to PACSAT that a row has: `c` for a command or `r` for a response, then its octets from the
+/// control octet on in hexadecimal.
+pub fn octets_of(alloc: Global, text: &str) -> Result<Vec<u8>> {
+    let (addresses, rest) = match text.strip_prefix('c') {
+        Some(rest) => (&COMMAND_TO_CALLED, rest),
+        None => (&RESPONSE_TO_CALLED, text.strip_prefix('r').unwrap_or("")),
+    };
+    let mut octets = Vec::from_slice(alloc, addresses.as_slice())?;
+    octets.extend_from_slice(hex::decode(alloc, rest)?.as_slice())?;
+    Ok(octets)
+}
+
+/// How a row shows a frame to NOCALL-9: as it would have it, or as all octets after `?` where the addresses are others.
+pub fn shown(alloc: Global, octets: &[u8]) -> Result<String, AllocError> {
+    if let Some(rest) = octets.strip_prefix(COMMAND_TO_CALLER.as_slice()) {
+        marked(alloc, "c", rest)
+    } else if let Some(rest) = octets.strip_prefix(RESPONSE_TO_CALLER.as_slice()) {
+        marked(alloc, "r", rest)
+    } else {
+        marked(alloc, "?", octets)
+    }
+}
+
+/// A mark, then these octets in hexadecimal.
+fn marked(alloc: Global, mark: &str, octets: &[u8]) -> Result<String, AllocError> {
+    let mut text = String::from_str(alloc, mark)?;
+    text.push_str(hex::encode(alloc, octets)?.as_str())?;
+    Ok(text)
+}
+
+/// Hands a frame's octets to the link of `me`, whose peer is the other station.
+pub fn take(link: &mut Link, me: Call, peer: Call, octets: &[u8]) -> Result<Heard> {
+    let frame = read_frame(octets)?;
+    ensure!(
+        frame.dest == me && frame.src == peer && frame.via == 0,
+        "a frame of others"
+    );
+    ensure!(!link.pending(), "a frame while others are pending");
+    Ok(link.take(&frame))
+}

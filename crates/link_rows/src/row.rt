@@ -1,0 +1,201 @@
+//! A row of one link.
+
+use crate::frames::{CALLED, CALLER, octets_of, shown, take};
+use crate::shown::Shown;
+use anyhow::{Context, Result, bail, ensure};
+use arrayvec::ArrayVec;
+use ax25_link::{Link, LinkState, good_k};
+use std::alloc::Global;
+
+/// More frames than can be pending at once: a reply, seven frames again, seven new ones, and DISC or DM.
+const MOST_PENDING: u8 = 17;
+
+/// The link of a row, and what it printed so far.
+#[derive(Drop)]
+struct Player {
+    alloc: Global,
+    link: Link,
+    /// How many octets were pushed.
+    pushed: usize,
+    shown: Shown,
+}
+
+/// Plays a row, and gives its outcome.
+pub fn play(alloc: Global, row: &str) -> Result<String> {
+    let (made, events) = row.split_once(';').unwrap_or((row, ""));
+    let (made, is_held) = held(made);
+    let mut player = Player::new(alloc, make(alloc, made)?);
+    player.end_event(is_held)?;
+    for event in events.split_terminator(';') {
+        player.play_event(event.trim())?;
+    }
+    player.end()
+}
+
+/// An event without its `+`, and whether it has one.
+fn held(event: &str) -> (&str, bool) {
+    match event.strip_suffix('+') {
+        Some(event) => (event, true),
+        None => (event, false),
+    }
+}
+
+/// Makes the link of PACSAT.
+fn make(alloc: Global, made: &str) -> Result<Link> {
+    if let Some(k) = made.strip_prefix("call ") {
+        let k = window(k)?;
+        return Ok(Link::call(alloc, CALLED, CALLER, k)?);
+    }
+    let numbers = made.strip_prefix("answer ").context("no link is made")?;
+    let (k, poll) = numbers.split_once(' ').context("no P bit")?;
+    let k = window(k)?;
+    Ok(Link::answer(alloc, CALLED, CALLER, k, poll == "1")?)
+}
+
+/// The window that a row has.
+pub fn window(text: &str) -> Result<u8> {
+    let k = text.parse::<u8>()?;
+    ensure!(good_k(k), "a window of {k}");
+    Ok(k)
+}
+
+impl Player {
+    /// Nothing happened so far.
+    fn new(alloc: Global, link: Link) -> Player {
+        Player {
+            alloc,
+            link,
+            pushed: 0,
+            shown: Shown::new(alloc),
+        }
+    }
+
+    /// Plays an event.
+    fn play_event(&mut self, event: &str) -> Result<()> {
+        let (event, is_held) = held(event);
+        if let Some(count) = event.strip_prefix("push ") {
+            self.push(count.parse::<usize>()?)?;
+        } else if let Some(count) = event.strip_prefix("tick ") {
+            self.play_ticks(count.parse::<u32>()?, is_held)?;
+        } else if event == "one" {
+            self.hand_out_one()?;
+            return Ok(self.shown.end_part()?);
+        } else {
+            self.play_bare(event)?;
+        }
+        self.end_event(is_held)
+    }
+
+    /// Plays an event without a number.
+    fn play_bare(&mut self, event: &str) -> Result<()> {
+        if event != "hang_up" && event != "abandon" {
+            return self.play_frame(event);
+        }
+        ensure!(self.link.state() == LinkState::Up, "{event} while not up");
+        if event == "hang_up" {
+            self.link.hang_up();
+        } else {
+            self.link.abandon();
+        }
+        Ok(())
+    }
+
+    /// Takes a frame, and shows what the link tells.
+    fn play_frame(&mut self, text: &str) -> Result<()> {
+        let octets = octets_of(self.alloc, text)?;
+        let heard = take(&mut self.link, CALLED, CALLER, octets.as_slice())?;
+        self.put(format!(in self.alloc; "{heard:?}")?)
+    }
+
+    /// Pushes so many octets of the stream, and shows how many were taken.
+    fn push(&mut self, count: usize) -> Result<()> {
+        ensure!(self.link.state() == LinkState::Up, "a push while not up");
+        let octets = stream(self.alloc, self.pushed, count)?;
+        let pushed = self.link.push(octets.as_slice());
+        self.pushed = self.pushed.saturating_add(pushed);
+        self.put(format!(in self.alloc; "{pushed}")?)
+    }
+
+    /// Lets so many ticks come. What is pending after the last one stays where the event is held.
+    fn play_ticks(&mut self, count: u32, is_held: bool) -> Result<()> {
+        for number in 1..=count {
+            self.play_tick(number, is_held && number == count)?;
+        }
+        Ok(())
+    }
+
+    /// Lets the tick of this number come, and shows it with what it told and made pending.
+    fn play_tick(&mut self, number: u32, is_held: bool) -> Result<()> {
+        ensure!(!self.link.pending(), "a tick while frames are pending");
+        let told = self.link.tick();
+        if told.is_some() || (self.link.pending() && !is_held) {
+            self.put(format!(in self.alloc; "@{number}")?)?;
+        }
+        if let Some(why) = told {
+            self.put(format!(in self.alloc; "{why:?}")?)?;
+        }
+        if is_held { Ok(()) } else { self.hand_out() }
+    }
+
+    /// Hands out all pending frames, unless the event is held, and ends its part.
+    fn end_event(&mut self, is_held: bool) -> Result<()> {
+        if !is_held {
+            self.hand_out()?;
+        }
+        Ok(self.shown.end_part()?)
+    }
+
+    /// Hands out all pending frames.
+    fn hand_out(&mut self) -> Result<()> {
+        for _ in 0..MOST_PENDING {
+            if !self.hand_out_one()? {
+                return Ok(());
+            }
+        }
+        bail!("more than {MOST_PENDING} frames are pending")
+    }
+
+    /// Hands out the next frame, and says whether there was one.
+    fn hand_out_one(&mut self) -> Result<bool> {
+        let mut out = ArrayVec::<u8, 400>::new();
+        let is_pending = self.link.pending();
+        let is_given = self.link.next_out(&mut out);
+        ensure!(is_given == is_pending, "pending says {is_pending}");
+        if is_given {
+            self.put(shown(self.alloc, out.as_slice())?)?;
+        }
+        Ok(is_given)
+    }
+
+    /// Puts a word.
+    fn put(&mut self, word: String) -> Result<()> {
+        Ok(self.shown.put(word.as_str())?)
+    }
+
+    /// Ends the row by the state.
+    fn end(self) -> Result<String> {
+        let Player {
+            alloc,
+            link,
+            pushed: _,
+            shown,
+        } = self;
+        let state = link.state();
+        let words = if state == LinkState::Up {
+            let free = link.free();
+            format!(in alloc; "Up {free}")?
+        } else {
+            format!(in alloc; "{state:?}")?
+        };
+        Ok(shown.end(words.as_str())?)
+    }
+}
+
+/// So many octets of a row's stream from a place on: the octet at a place is the place modulo 251.
+fn stream(alloc: Global, place: usize, count: usize) -> Result<Vec<u8>> {
+    let mut octets = Vec::new(alloc);
+    for i in 0..count {
+        octets.push((place.wrapping_add(i) % 251) as u8)?;
+    }
+    Ok(octets)
+}
