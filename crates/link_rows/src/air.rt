@@ -1,9 +1,9 @@
 //! A row of two links over an air that loses, repeats and displaces frames.
 
-ghost use Rattle.std.specs.Prelude.{◌≤◌};
+ghost use Rattle.ax25_link.specs.Window.{IsGoodK};
 
 use crate::draws::Draws;
-use crate::frames::{CALLED, CALLER};
+use crate::frames;
 use crate::row::window;
 use crate::side::{Found, Side};
 use anyhow::{Context, Result};
@@ -22,42 +22,42 @@ struct Air {
     caller: Side,
     called: Side,
     draws: Draws,
-    /// How far back frames are drawn that are delivered again or late.
-    back: u64,
+    /// The window.
+    k: u8,
     /// With how many later frames sent a frame may be delivered late.
     most_later: usize,
+    ghost window: { IsGoodK k },
 }
 
 /// Plays a row of a seed, a window, and how many later frames more than is lawful there may be.
 pub fn play(alloc: Global, numbers: &str) -> Result<String> {
     let (seed, rest) = numbers.split_once(' ').context("no window")?;
     let (k, late) = rest.split_once(' ').context("no later frames")?;
-    let k = window(k)?;
-    let mut air = Air {
-        caller: Side::new(
-            alloc,
-            CALLER,
-            CALLED,
-            Link::call(alloc, CALLER, CALLED, k)?,
-            0,
-        ),
-        called: Side::new(
-            alloc,
-            CALLED,
-            CALLER,
-            Link::answer(alloc, CALLED, CALLER, k, true)?,
-            1,
-        ),
-        draws: Draws::new(seed.parse::<u64>()?),
-        back: 11 - u64::from(k),
-        most_later: usize::from(7 - k).saturating_add(late.parse::<usize>()?),
-    };
+    let draws = Draws::new(seed.parse::<u64>()?);
+    let mut air = Air::new(alloc, draws, window(k)?, late.parse::<usize>()?)?;
     air.open()?;
     let step = air.run()?;
     air.shown(alloc, step)
 }
 
 impl Air {
+    /// Two new links with this window, and an air that delivers frames late while at most 7 - k + `late` later ones have
+    /// been sent.
+    fn new(alloc: Global, draws: Draws, k: u8, late: usize) -> Result<Air>
+        requires { IsGoodK k }
+    {
+        let (caller, called) = (frames::caller()?, frames::called()?);
+        let calling = Link::call(alloc, caller, called, k)?;
+        let answering = Link::answer(alloc, called, caller, k, true)?;
+        Ok(Air {
+            caller: Side::new(alloc, calling, 0),
+            called: Side::new(alloc, answering, 1),
+            draws,
+            k,
+            most_later: usize::from(7 - k).saturating_add(late),
+        })
+    }
+
     /// SABM and UA are sent, and UA is delivered.
     fn open(&mut self) -> Result<()> {
         self.caller.hand_out()?;
@@ -112,22 +112,26 @@ impl Air {
     fn carry(&mut self, is_caller: bool) -> Result<()> {
         let how = self.draws.below(12);
         let back = if how <= 1 {
-            Some(self.draws.below(self.back))
+            Some(self.draws.below(11 - u64::from(self.k)))
         } else {
             None
         };
-        let (from, to) = if is_caller {
-            (&mut self.caller, &mut self.called)
+        if is_caller {
+            carry_between(
+                &mut self.caller,
+                &mut self.called,
+                how,
+                back,
+                self.most_later,
+            )
         } else {
-            (&mut self.called, &mut self.caller)
-        };
-        let place = match back {
-            Some(later) => from.place_before_end(later as usize),
-            None => from.next_place().filter(|_| how > 2),
-        };
-        match place {
-            Some(place) => from.deliver(to, place, self.most_later),
-            None => Ok(()),
+            carry_between(
+                &mut self.called,
+                &mut self.caller,
+                how,
+                back,
+                self.most_later,
+            )
         }
     }
 
@@ -175,6 +179,25 @@ impl Air {
         let caller = shown_side(alloc, &self.caller, &self.called)?;
         let called = shown_side(alloc, &self.called, &self.caller)?;
         Ok(format!(in alloc; "caller {caller}; called {called}")?)
+    }
+}
+
+/// Delivers to a station the frame that is so far back among those that the other sent, or the next one, which is lost
+/// where `how` is 2.
+fn carry_between(
+    from: &mut Side,
+    to: &mut Side,
+    how: u64,
+    back: Option<u64>,
+    most_later: usize,
+) -> Result<()> {
+    let place = match back {
+        Some(later) => from.place_before_end(later as usize),
+        None => from.next_place(),
+    };
+    match place {
+        Some(place) if how != 2 => from.deliver(to, place, most_later),
+        _ => Ok(()),
     }
 }
 

@@ -1,22 +1,20 @@
 //! The two stations of the rows, and the octets of frames between them.
 
-use anyhow::{Result, ensure};
-use ax25_frames::{Frame, Kind, read_frame};
+use anyhow::{Result, bail, ensure};
+use ax25_frames::read_frame;
 use ax25_link::{Heard, Link};
-use px_base::Call;
+use px_base::{BadCall, Call};
 use std::alloc::{AllocError, Global};
 
-/// The station that calls in the air's rows, and the peer in all others: NOCALL-9.
-pub const CALLER: Call = Call {
-    chars: *b"NOCALL",
-    ssid: 9,
-};
+/// The station that calls in the air's rows, and the peer in all others.
+pub fn caller() -> Result<Call, BadCall> {
+    Call::read("NOCALL-9")
+}
 
-/// The other one: PACSAT.
-pub const CALLED: Call = Call {
-    chars: *b"PACSAT",
-    ssid: 0,
-};
+/// The other one.
+pub fn called() -> Result<Call, BadCall> {
+    Call::read("PACSAT")
+}
 
 /// How many octets the two addresses have.
 const ADDRESSES: usize = 14;
@@ -71,13 +69,13 @@ fn marked(alloc: Global, mark: &str, octets: &[u8]) -> Result<String, AllocError
     Ok(text)
 }
 
-/// Hands a frame's octets to the link of `me`, whose peer is the other station.
-pub fn take(link: &mut Link, me: Call, peer: Call, octets: &[u8]) -> Result<Heard> {
-    let frame = read_frame(octets)?;
-    ensure!(
-        frame.dest == me && frame.src == peer && frame.via == 0,
-        "a frame of others"
-    );
+/// Hands a frame's octets to a link.
+pub fn take(link: &mut Link, octets: &[u8]) -> Result<Heard> {
     ensure!(!link.pending(), "a frame while others are pending");
+    let frame = match read_frame(octets) {
+        Ok(frame) => frame,
+        Err(fault) => bail!("{fault}"),
+    };
+    ensure!(link.is_from_peer(&frame), "a frame of others");
     Ok(link.take(&frame))
 }

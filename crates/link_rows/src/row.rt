@@ -1,6 +1,9 @@
 //! A row of one link.
 
-use crate::frames::{CALLED, CALLER, octets_of, shown, take};
+ghost use Rattle.std.specs.Prelude.{IfOk};
+ghost use Rattle.ax25_link.specs.Window.{IsGoodK};
+
+use crate::frames::{called, caller, octets_of, shown, take};
 use crate::shown::Shown;
 use anyhow::{Context, Result, bail, ensure};
 use arrayvec::ArrayVec;
@@ -44,16 +47,18 @@ fn held(event: &str) -> (&str, bool) {
 fn make(alloc: Global, made: &str) -> Result<Link> {
     if let Some(k) = made.strip_prefix("call ") {
         let k = window(k)?;
-        return Ok(Link::call(alloc, CALLED, CALLER, k)?);
+        return Ok(Link::call(alloc, called()?, caller()?, k)?);
     }
     let numbers = made.strip_prefix("answer ").context("no link is made")?;
     let (k, poll) = numbers.split_once(' ').context("no P bit")?;
     let k = window(k)?;
-    Ok(Link::answer(alloc, CALLED, CALLER, k, poll == "1")?)
+    Ok(Link::answer(alloc, called()?, caller()?, k, poll == "1")?)
 }
 
 /// The window that a row has.
-pub fn window(text: &str) -> Result<u8> {
+pub fn window(text: &str) -> Result<u8>
+    ensures { IfOk result IsGoodK }
+{
     let k = text.parse::<u8>()?;
     ensure!(good_k(k), "a window of {k}");
     Ok(k)
@@ -103,7 +108,7 @@ impl Player {
     /// Takes a frame, and shows what the link tells.
     fn play_frame(&mut self, text: &str) -> Result<()> {
         let octets = octets_of(self.alloc, text)?;
-        let heard = take(&mut self.link, CALLED, CALLER, octets.as_slice())?;
+        let heard = take(&mut self.link, octets.as_slice())?;
         self.put(format!(in self.alloc; "{heard:?}")?)
     }
 

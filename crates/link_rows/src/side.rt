@@ -3,9 +3,8 @@
 use crate::frames::take;
 use anyhow::{Context, Result, bail};
 use arrayvec::ArrayVec;
-use ax25_frames::{Kind, read_frame};
+use ax25_frames::{Frame, Kind, read_frame};
 use ax25_link::{Heard, Link, LinkState, Why};
-use px_base::Call;
 use std::alloc::{AllocError, Global};
 
 /// More frames than can be pending at once.
@@ -34,8 +33,6 @@ pub enum Found {
 #[derive(Drop)]
 pub struct Side {
     alloc: Global,
-    me: Call,
-    peer: Call,
     link: Link,
     /// What the octets of its stream begin with. The two streams differ.
     first: usize,
@@ -60,11 +57,9 @@ pub struct Side {
 
 impl Side {
     /// A station with a new link.
-    pub fn new(alloc: Global, me: Call, peer: Call, link: Link, first: usize) -> Side {
+    pub fn new(alloc: Global, link: Link, first: usize) -> Side {
         Side {
             alloc,
-            me,
-            peer,
             link,
             first,
             sent: Vec::new(alloc),
@@ -187,7 +182,7 @@ impl Side {
 
     /// Hears a frame of the station whose stream begins with `first`.
     pub fn hear(&mut self, octets: &[u8], first: usize) -> Result<()> {
-        match take(&mut self.link, self.me, self.peer, octets)? {
+        match take(&mut self.link, octets)? {
             Heard::Bytes => self.take_piece(octets, first)?,
             Heard::Closed(why) => self.found = Some(Found::Closed(why)),
             _ => {}
@@ -197,9 +192,14 @@ impl Side {
 
     /// Compares the information of an I frame with the stream.
     fn take_piece(&mut self, octets: &[u8], first: usize) -> Result<()> {
-        let frame = read_frame(octets)?;
-        let Kind::I { info, .. } = frame.kind else {
-            bail!("Bytes without information");
+        let info = match read_frame(octets) {
+            Ok(
+                Frame {
+                    kind: Kind::I { info, .. },
+                    ..
+                },
+            ) => info,
+            _ => bail!("Bytes without information"),
         };
         for octet in info {
             if *octet != octet_of(first, self.taken) {
