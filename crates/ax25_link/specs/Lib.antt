@@ -1,0 +1,12 @@
+pub mod Acknowledging
+pub mod Calls
+pub mod Counting
+pub mod Ends
+pub mod Frames
+pub mod Kept
+pub mod Queue
+pub mod Rows
+pub mod Sending
+pub mod Timer
+pub mod Views
+pub mod Window
