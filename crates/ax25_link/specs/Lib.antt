@@ -1,0 +1,14 @@
+pub mod Acknowledging
+pub mod Acts
+pub mod Air
+pub mod Calls
+pub mod Ends
+pub mod Frames
+pub mod Laws
+pub mod LinkStep
+pub mod Linked
+pub mod Refinement
+pub mod Rows
+pub mod Sending
+pub mod Timer
+pub mod Window
