@@ -1,9 +1,14 @@
 pub mod Acknowledging
+pub mod Acts
+pub mod Air
 pub mod Calls
 pub mod Counting
 pub mod Ends
 pub mod Frames
 pub mod Kept
+pub mod Laws
+pub mod LinkStep
+pub mod Linked
 pub mod Queue
 pub mod Rows
 pub mod Sending

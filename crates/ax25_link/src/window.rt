@@ -2,13 +2,14 @@
 
 ghost use Rattle.std.specs.Prelude.{◌≡◌, ◌↔◌, ◌+◌, ◌-◌, ◌%◌, ◌<◌, ◌≤◌, IsTrue};
 ghost use Rattle.ax25_link.specs.Counting.{IsJudged};
+ghost use Rattle.ax25_link.specs.Window.{IsGoodK};
 
 use crate::number::{MODULUS, distance};
 
 /// Whether so many I frames may be outstanding, k of the standard: at least one, and fewer than there are sequence
 /// numbers, so 1 to 7 (2.4.7.4).
 pub fn good_k(k: u8) -> bool
-    ensures { IsTrue result ↔ ((1 ≤ k) × (k < 8)) }
+    ensures { IsTrue result ↔ IsGoodK k }
 {
     1 <= k && k < MODULUS
 }
