@@ -1,11 +1,12 @@
 -- Octets cut into pieces.
 use Rattle.std.proofs.Common.{◌≡◌, ℕ, zero, suc, ◌+◌, ◌-◌, ◌<◌, ◌≤◌, min, List, [], ◌∷◌, ◌++◌, length, take, drop, get_or, refl, ap, sym, ◌∙◌, subst, append_assoc, append-nil, ⊎_elim, length-append, length-drop, length-take, arith, rules}
-use Rattle.std.specs.Prelude.{slice_get, unwrap_or, sum}
+use Rattle.std.specs.Prelude.{slice_get, unwrap_or, sum, All}
 use Rattle.std.specs.List.{concat}
-use Rattle.std.proofs.lemmas.List.{take-append-drop, take-append-le, drop-append-le, drop-drop, drop_all, take_all, length-take-le}
+use Rattle.std.proofs.lemmas.List.{take-append-drop, take-append-le, drop-append-le, drop-drop, drop_all, take_all, take_min, drop_min, length-take-le}
 use Rattle.std.proofs.Math.Seq.{take-append-add, drop-append-add}
 use Rattle.std.proofs.lemmas.Bool.{cases_lt}
-use Rattle.std.proofs.lemmas.List.Sums.{sum_by-cons, sum_by-append, sum_by_push, sum_by-take-drop, sum_by-take-le}
+use Rattle.std.proofs.lemmas.List.Sums.{sum_by-cons, sum_by-le, sum_by_push, sum_by-take-drop, sum_by-take-le}
+use Rattle.std.proofs.lemmas.List.Elements.{All-drop}
 use Rattle.ax25_link.specs.Queue.{Queue, AreSizes, cut, queue_of, octets_of}
 
 pub sum-cons : (size : ℕ) (sizes : List ℕ) → sum (size ∷ sizes) ≡ size + sum sizes
@@ -130,3 +131,33 @@ range-two front back start size =
     ap (λ (xs : List ℕ). take size xs) (drop-two start front back)
     ∙ take-two size (drop start front) (drop (start - length front) back)
     ∙ ap (λ (n : ℕ). take size (drop start front) ++ take (size - n) (drop (start - length front) back)) (length-drop start front)
+
+-- a range of two lists in two parts, each cut off where its list ends
+pub range-parts : (front back : List ℕ) (start end first last first2 last2 : ℕ) → start ≤ end
+    → first ≡ min start (length front) → last ≡ min end (length front) → first2 ≡ start - length front → last2 ≡ end - length front
+    → take (last - first) (drop first front) ++ take (last2 - first2) (drop first2 back) ≡ take (end - start) (drop start (front ++ back))
+range-parts front back start end first last first2 last2 order is_first is_last is_first2 is_last2 =
+    let size : last - first ≡ min (end - start) (length (drop start front)) = omega (arith, length-drop start front) in
+    let size2 : last2 - first2 ≡ (end - start) - (length front - start) = omega arith in
+    ap (λ (n : ℕ). take (last - first) (drop n front) ++ take (last2 - first2) (drop first2 back)) is_first
+    ∙ ap (λ (xs : List ℕ). take (last - first) xs ++ take (last2 - first2) (drop first2 back)) (drop_min start front)
+    ∙ ap (λ (n : ℕ). take n (drop start front) ++ take (last2 - first2) (drop first2 back)) size
+    ∙ ap (λ (xs : List ℕ). xs ++ take (last2 - first2) (drop first2 back)) (take_min (end - start) (drop start front))
+    ∙ ap (λ (n : ℕ). take (end - start) (drop start front) ++ take n (drop first2 back)) size2
+    ∙ ap (λ (n : ℕ). take (end - start) (drop start front) ++ take ((end - start) - (length front - start)) (drop n back)) is_first2
+    ∙ sym (range-two front back start (end - start))
+
+-- the outstanding pieces have few octets
+pub few : (sizes : List ℕ) → All (λ size. size ≤ 256) sizes → length sizes ≤ 7 → sum sizes ≤ 1792
+few sizes most seven = omega (arith, sum_by-le (λ x. x) 256 sizes most)
+
+pub few-take : (sizes : List ℕ) (n : ℕ) → All (λ size. size ≤ 256) sizes → length sizes ≤ 7 → sum (take n sizes) ≤ 1792
+few-take sizes n most seven = omega (arith, few sizes most seven, sum_by-take-le (λ x. x) sizes n)
+
+pub drop-AreSizes : (n : ℕ) (sizes octets : List ℕ) (capacity : ℕ) → AreSizes sizes octets capacity
+    → AreSizes (drop n sizes) (drop (sum (take n sizes)) octets) capacity
+drop-AreSizes n sizes octets capacity are = record {
+  inside = omega (arith, are.inside, sum_by-take-drop (λ x. x) sizes n, length-drop (sum (take n sizes)) octets);
+  most = All-drop (λ (size : ℕ). size ≤ 256) n sizes are.most;
+  room = are.room;
+}

@@ -69,7 +69,7 @@ impl SendQueue {
     pub(crate) fn has_unsent(&self) -> bool
         ensures { result ≡ not (length self.now.unsent == 0) }
     {
-        total(&self.sizes) < self.octets.len()
+        self.octets.len() > total(&self.sizes)
     }
 
     /// Queues as many octets as there is room for, and says how many.
