@@ -1,8 +1,18 @@
-//! How pending frames are written (AX.25 2.0, 2.3, 2.4.4).
+//! How pending frames are sent (AX.25 2.0, 2.3, 2.4.4).
+
+ghost use Rattle.std.specs.Prelude.{◌≡◌, ◌+◌, ◌<◌, ◌≤◌, not, length, Some, None, true, false};
+ghost use Rattle.ax25_frames.specs.FrameText.{canonical};
+ghost use Rattle.ax25_frames.specs.Kinds.{CanWrite};
+ghost use Rattle.ax25_frames.specs.Values.{kind_value};
+ghost use Rattle.ax25_link.specs.Ends.{oldest};
+ghost use Rattle.ax25_link.specs.Frames.{frame_of_farewell, frame_of_reply, frame_to_peer, information_again};
+ghost use Rattle.ax25_link.specs.Kept.{Steps, Tells, has_new_in, outstanding_in};
+ghost use Rattle.ax25_link.specs.Sending.{sends_again, sends_farewell, sends_new, sends_reply};
 
 use crate::link::Link;
 use crate::number;
-use crate::reply::{Farewell, Reply, Sent, command, response};
+use crate::reply::{Farewell, Reply};
+use crate::timer::ANEW;
 use arrayvec::ArrayVec;
 use ax25_frames::{Frame, Kind, write_frame};
 
@@ -10,73 +20,96 @@ use ax25_frames::{Frame, Kind, write_frame};
 const NO_PROTOCOL: u8 = 0xF0;
 
 impl Link {
-    /// Writes a reply or the timer's frame.
-    pub(crate) fn write_reply(&mut self, reply: Reply, out: &mut ArrayVec<u8, 400>) {
+    ghost use Rattle.ax25_link.specs.Views.{farewell_value, reply_value};
+
+    /// Sends the reply or the timer's frame.
+    pub(crate) fn send_reply(&mut self, reply: Reply, out: &mut ArrayVec<u8, 400>)
+        requires { self.old.reply ≡ Some (reply_value reply) }
+        ensures after { Steps self.old self.new (λ w end. (sends_reply w end (reply_value reply)).after) }
+        ensures frame { Tells self.old (λ w end. canonical (sends_reply w end (reply_value reply)).frame) out.new.items }
+    {
+        self.reply = None;
         let nr = self.taken;
-        let sent = match reply {
-            Reply::Ready { poll } => response(Kind::Rr { nr }, poll),
-            Reply::Reject { poll } => response(Kind::Rej { nr }, poll),
-            Reply::Accept { poll } => response(Kind::Ua, poll),
-            Reply::Refuse { poll } => response(Kind::Dm, poll),
-            Reply::FrameReject { octets, poll } => response(Kind::Frmr(octets), poll),
-            Reply::Call => command(Kind::Sabm, true),
-            Reply::Disconnect => command(Kind::Disc, true),
-            Reply::Enquiry => command(Kind::Rr { nr }, true),
-            Reply::Oldest => {
-                self.write_information(0, true, out);
-                return;
+        match reply {
+            Reply::Ready { poll } => self.write(Kind::Rr { nr }, poll, false, out),
+            Reply::Reject { poll } => self.write(Kind::Rej { nr }, poll, false, out),
+            Reply::Accept { poll } => self.write(Kind::Ua, poll, false, out),
+            Reply::Refuse { poll } => self.write(Kind::Dm, poll, false, out),
+            Reply::FrameReject { octets, poll } => {
+                self.write(Kind::Frmr(octets), poll, false, out)
             }
-        };
-        self.write(sent, out);
+            Reply::Call => self.write(Kind::Sabm, true, true, out),
+            Reply::Disconnect => self.write(Kind::Disc, true, true, out),
+            Reply::Enquiry => self.write(Kind::Rr { nr }, true, true, out),
+            Reply::Oldest => self.write_information(0, true, out),
+        }
     }
 
-    /// Writes the next of the outstanding frames that are to be sent again.
-    pub(crate) fn write_again(&mut self, out: &mut ArrayVec<u8, 400>) {
+    /// Sends the next of the outstanding frames that are to be sent again.
+    pub(crate) fn send_again(&mut self, out: &mut ArrayVec<u8, 400>)
+        requires { 0 < self.old.again }
+        ensures after { Steps self.old self.new (λ w end. (sends_again w end).after) }
+        ensures frame { Tells self.old (λ w end. canonical (sends_again w end).frame) out.new.items }
+    {
         let place = self.queue.outstanding() - self.again;
         self.again -= 1;
         self.write_information(place, false, out);
     }
 
-    /// Writes a new I frame, which is then outstanding.
-    pub(crate) fn write_new(&mut self, out: &mut ArrayVec<u8, 400>) {
+    /// Sends a new I frame, which is then outstanding.
+    pub(crate) fn send_new(&mut self, out: &mut ArrayVec<u8, 400>)
+        requires { has_new_in self.old ≡ true }
+        ensures after { Steps self.old self.new (λ w end. (sends_new w end).after) }
+        ensures frame { Tells self.old (λ w end. canonical (sends_new w end).frame) out.new.items }
+    {
         let place = self.queue.outstanding();
         if place == 0 {
-            self.timer.reset();
+            self.timer = ANEW;
         }
         self.queue.send();
         self.write_information(place, false, out);
     }
 
-    /// Writes the last frame of an end that hangs up.
-    pub(crate) fn write_farewell(&self, farewell: Farewell, out: &mut ArrayVec<u8, 400>) {
-        let sent = match farewell {
-            Farewell::Disconnect => command(Kind::Disc, true),
-            Farewell::Refuse => response(Kind::Dm, false),
-        };
-        self.write(sent, out);
+    /// Sends the last frame of an end that hangs up.
+    pub(crate) fn send_farewell(&mut self, farewell: Farewell, out: &mut ArrayVec<u8, 400>)
+        ensures after { Steps self.old self.new (λ w end. (sends_farewell end (farewell_value farewell)).after) }
+        ensures frame { Tells self.old (λ w end. canonical (sends_farewell end (farewell_value farewell)).frame) out.new.items }
+    {
+        self.farewell = None;
+        match farewell {
+            Farewell::Disconnect => self.write(Kind::Disc, true, true, out),
+            Farewell::Refuse => self.write(Kind::Dm, false, false, out),
+        }
     }
 
     /// Writes the outstanding I frame at this place, the oldest being at 0 (2.3.4.1).
-    fn write_information(&self, place: u8, poll: bool, out: &mut ArrayVec<u8, 400>) {
+    fn write_information(&self, place: u8, poll: bool, out: &mut ArrayVec<u8, 400>)
+        requires { place < outstanding_in self.now }
+        ensures { Tells self.now (λ w end. canonical (information_again w end (end.acked + place) poll)) out.new.items }
+    {
         let kind = Kind::I {
             ns: number::after(self.acked, place),
             nr: self.taken,
             pid: NO_PROTOCOL,
             info: &[],
         };
-        self.write(command(kind, poll), out);
+        self.write(kind, poll, true, out);
         self.queue.put_piece(place, out);
     }
 
     /// Writes a frame to the peer.
-    fn write(&self, sent: Sent, out: &mut ArrayVec<u8, 400>) {
+    fn write(&self, kind: Kind<'_>, poll: bool, command: bool, out: &mut ArrayVec<u8, 400>)
+        requires { CanWrite (kind_value kind) }
+        ensures { out.new.items ≡ canonical (record { dest = self.now.peer; src = self.now.me; via = 0;
+            kind = kind_value kind.entry; poll = poll; command = command }) }
+    {
         let frame = Frame {
             dest: self.peer,
             src: self.me,
             via: 0,
-            kind: sent.kind,
-            poll: sent.poll,
-            command: sent.command,
+            kind,
+            poll,
+            command,
         };
         write_frame(&frame, out);
     }

@@ -1,0 +1,114 @@
+-- What a link keeps of its end: not what was pushed, sent and taken, but the numbers modulo m, and the octets that are
+-- queued or unacknowledged.
+use Rattle.std.specs.Prelude.{◌≡◌, ℕ, ◌%◌, ◌<◌, ◌≤◌, List, length, drop, Bool, true, false, not, ◌&&◌, ◌||◌, nat_lt, Option, None, Some}
+use Rattle.px_base.specs.CallSign.{CallSign}
+use Rattle.ax25_frames.specs.Kinds.{FitsControl}
+use Rattle.ax25_frames.specs.FrameText.{FrameValue, canonical}
+use Rattle.ax25_link.specs.declared.state.LinkState.{LinkState}
+use Rattle.ax25_link.specs.Window.{Window, IsGoodK}
+use Rattle.ax25_link.specs.Ends.{LinkEnd, Reply, Farewell, oldest, high, taken_count}
+use Rattle.ax25_link.specs.Timer.{is_up}
+use Rattle.ax25_link.specs.Sending.{Sending, is_empty, next_sending}
+use Rattle.ax25_link.specs.Queue.{Queue}
+
+pub record Kept : Type 0 where
+  pub called : Bool
+  pub me : CallSign
+  pub peer : CallSign
+  -- how many I frames may be outstanding
+  pub k : ℕ
+  pub state : LinkState
+  -- V(A) and V(R)
+  pub acked : ℕ
+  pub taken : ℕ
+  pub queue : Queue
+  pub busy : Bool
+  pub rejecting : Bool
+  pub count : ℕ
+  pub tries : ℕ
+  pub reply : Option Reply
+  pub again : ℕ
+  pub farewell : Option Farewell
+
+-- how many I frames are outstanding
+abbrev pub outstanding_in : Kept → ℕ
+outstanding_in kept = length kept.queue.pieces
+
+-- what holds of each link
+pub record IsKept (kept : Kept) : Type 0 where
+  pub window : IsGoodK kept.k
+  pub acked : kept.acked < 8
+  pub taken : kept.taken < 8
+  pub outstanding : outstanding_in kept ≤ kept.k
+  pub again : kept.again ≤ outstanding_in kept
+  pub oldest : kept.reply ≡ Some oldest → 1 ≤ outstanding_in kept
+  pub count : kept.count < 60
+
+-- what a link keeps of this end
+abbrev pub kept_of : Window → LinkEnd → Kept
+kept_of w end =
+    record {
+      called = end.called;
+      me = end.me;
+      peer = end.peer;
+      k = w.size;
+      state = end.state;
+      acked = end.acked % w.modulus;
+      taken = taken_count end % w.modulus;
+      queue = record { pieces = drop end.acked end.sent; unsent = end.queued };
+      busy = end.busy;
+      rejecting = end.rejecting;
+      count = end.count;
+      tries = end.tries;
+      reply = end.reply;
+      again = end.again;
+      farewell = end.farewell;
+    }
+
+-- The link stands for this end. It may stand for many, since it keeps no history.
+pub record StandsFor (w : Window) (link : Kept) (end : LinkEnd) : Type 0 where
+  pub modulus : w.modulus ≡ 8
+  pub kept : link ≡ kept_of w end
+  pub acked : end.acked ≤ high end
+
+-- Whatever end the link stood for, it stands for that end's step now.
+abbrev pub Steps : Kept → Kept → (Window → LinkEnd → LinkEnd) → Type 0
+Steps before now step = (w : Window) (end : LinkEnd) → StandsFor w before end → StandsFor w now (step w end)
+
+-- whatever end the link stood for, this is what is told of it
+abbrev pub Tells : {X : Type 0} → Kept → (Window → LinkEnd → X) → X → Type 0
+Tells before told answer = (w : Window) (end : LinkEnd) → StandsFor w before end → answer ≡ told w end
+
+-- whether a value is there
+abbrev pub is_there : {X : Type 0} → Option X → Bool
+is_there None = false
+is_there (Some x) = true
+
+-- whether a new I frame is to be sent
+abbrev pub has_new_in : Kept → Bool
+has_new_in link =
+    is_up link.state && nat_lt (outstanding_in link) link.k && not link.busy && not (is_empty link.queue.unsent)
+
+-- whether a frame is to be sent
+abbrev pub is_pending : Kept → Bool
+is_pending link = is_there link.reply || nat_lt 0 link.again || has_new_in link || is_there link.farewell
+
+-- The frame is from the peer to this station, without repeaters, and its sequence numbers are below 8, as those of each
+-- frame that is read.
+pub record IsFromPeer (link : Kept) (frame : FrameValue) : Type 0 where
+  pub dest : frame.dest ≡ link.me
+  pub src : frame.src ≡ link.peer
+  pub via : frame.via ≡ 0
+  pub numbers : FitsControl frame.kind.control
+
+-- What is handed out where this is sent next: nothing, and nothing changes; or the octets of its frame in place of those
+-- that the buffer held.
+abbrev pub HandsOut : Option Sending → Window → Kept → Kept → List ℕ → List ℕ → Bool → Type 0
+HandsOut None w before now old new answer = (answer ≡ false) × (now ≡ before) × (new ≡ old)
+HandsOut (Some sending) w before now old new answer =
+    (answer ≡ true) × StandsFor w now sending.after × (new ≡ canonical sending.frame)
+
+-- the same of whatever end the link stood for
+abbrev pub GivesNext : Kept → Kept → List ℕ → List ℕ → Bool → Type 0
+GivesNext before now old new answer =
+    (w : Window) (end : LinkEnd) → StandsFor w before end → HandsOut (next_sending w end) w before now old new answer

@@ -1,0 +1,80 @@
+-- Laws of a link's ends.
+use Rattle.std.specs.Prelude.{◌≡◌, ℕ, List, [], Bool, false, Some, IsTrue}
+use Rattle.std.specs.List.{concat}
+use Rattle.px_base.specs.CallSign.{CallSign}
+use Rattle.px_base.specs.Octets.{IsFront}
+use Rattle.ax25_frames.specs.FrameText.{FrameValue}
+use Rattle.ax25_link.specs.Window.{Window, IsWindow}
+use Rattle.ax25_link.specs.Ends.{LinkEnd, IsEnd, oldest, answering_end}
+use Rattle.ax25_link.specs.Acknowledging.{Meaning, HasMeaning, meaning_of, is_bad}
+use Rattle.ax25_link.specs.Sending.{Drains}
+use Rattle.ax25_link.specs.Air.{Transmission, IsAt, IsLawful, control_of, is_numbered}
+use Rattle.ax25_link.specs.Linked.{Station, AreLinked, IsOpened, ack_number}
+use Rattle.ax25_link.specs.Acts.{Act, MayAct, acting, facing}
+
+-- Each N(R) has one meaning, which is the one computed.
+abbrev pub OneMeaningLaw : Type 0
+OneMeaningLaw =
+    (w : Window) (end : LinkEnd) (nr : ℕ) → IsWindow w → IsEnd w end
+    → HasMeaning w end nr (meaning_of w end nr) × ((meaning : Meaning) → HasMeaning w end nr meaning → meaning ≡ meaning_of w end nr)
+
+-- Each end comes to send nothing, after one list of frames.
+abbrev pub DrainsLaw : Type 0
+DrainsLaw =
+    (w : Window) (end : LinkEnd) → IsWindow w → IsEnd w end
+    → ((frames : List FrameValue) × (last : LinkEnd) × Drains w end frames last)
+    × ((frames others : List FrameValue) (last another : LinkEnd) → Drains w end frames last → Drains w end others another
+    → (frames ≡ others) × (last ≡ another))
+
+-- no I or S frame is among the transmissions, and each SABM was delivered
+pub record IsOpening (list : List Transmission) : Type 0 where
+  pub none : (place : ℕ) (t : Transmission) → IsAt list place t → is_numbered (control_of t) ≡ false
+  pub opened : IsOpened list
+
+-- nothing was pushed, sent, acknowledged or accepted at this end
+pub record IsUnused (end : LinkEnd) : Type 0 where
+  pub pushed : end.pushed ≡ []
+  pub queued : end.queued ≡ []
+  pub sent : end.sent ≡ []
+  pub acked : end.acked ≡ 0
+  pub taken : end.taken ≡ []
+  pub again : end.again ≡ 0
+  pub reply : end.reply ≡ Some oldest → ⊥
+
+-- When the SABM is answered, the two stations are linked: at the end that called nothing was sent or accepted yet, and
+-- neither has sent an I or S frame.
+abbrev pub OpeningLaw : Type 0
+OpeningLaw =
+    (w : Window) (caller : Station) (me peer : CallSign) (poll : Bool) (list : List Transmission)
+    → IsWindow w → IsUnused caller.end → IsOpening caller.transmissions → IsOpening list
+    → AreLinked w caller (record { end = answering_end me peer poll; transmissions = list })
+
+-- Linked stations stay linked, whatever either of them does.
+abbrev pub KeptLaw : Type 0
+KeptLaw =
+    (w : Window) (one other : Station) (act : Act) → IsWindow w → AreLinked w one other → MayAct w one other act
+    → AreLinked w (acting w one act) (facing other act)
+
+-- which of the two stations is which doesn't matter
+abbrev pub TurnedLaw : Type 0
+TurnedLaw = (w : Window) (one other : Station) → AreLinked w one other → AreLinked w other one
+
+-- What a linked station has accepted is a prefix of what the other one's layer above pushed.
+abbrev pub FrontLaw : Type 0
+FrontLaw =
+    (w : Window) (one other : Station) → AreLinked w one other → IsFront (concat other.end.taken) one.end.pushed
+
+-- No lawful delivery to a linked station shows a bad N(R).
+abbrev pub NoBadLaw : Type 0
+NoBadLaw =
+    (w : Window) (one other : Station) (place : ℕ) (t : Transmission) → IsWindow w → AreLinked w one other
+    → IsLawful w other.transmissions place t → IsTrue (is_numbered (control_of t))
+    → is_bad (meaning_of w one.end (ack_number (control_of t))) ≡ false
+
+-- The prefix law, for every modulus m and window k with 1 <= k < m.
+pub record PrefixLaw : Type 0 where
+  pub opening : OpeningLaw
+  pub kept : KeptLaw
+  pub turned : TurnedLaw
+  pub front : FrontLaw
+  pub no_bad : NoBadLaw

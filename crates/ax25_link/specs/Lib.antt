@@ -1,0 +1,17 @@
+pub mod Acknowledging
+pub mod Acts
+pub mod Air
+pub mod Calls
+pub mod Counting
+pub mod Ends
+pub mod Frames
+pub mod Kept
+pub mod Laws
+pub mod LinkStep
+pub mod Linked
+pub mod Queue
+pub mod Rows
+pub mod Sending
+pub mod Timer
+pub mod Views
+pub mod Window
