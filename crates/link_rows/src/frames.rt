@@ -16,6 +16,9 @@ pub fn called() -> Result<Call, BadCall> {
     Call::read("PACSAT")
 }
 
+/// More frames than can be pending at once: a reply, seven frames again, seven new ones, and DISC or DM.
+pub const MOST_PENDING: u8 = 17;
+
 /// How many octets the two addresses have.
 const ADDRESSES: usize = 14;
 

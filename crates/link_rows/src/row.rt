@@ -3,15 +3,12 @@
 ghost use Rattle.std.specs.Prelude.{IfOk};
 ghost use Rattle.ax25_link.specs.Window.{IsGoodK};
 
-use crate::frames::{called, caller, octets_of, shown, take};
+use crate::frames::{MOST_PENDING, called, caller, octets_of, shown, take};
 use crate::shown::Shown;
 use anyhow::{Context, Result, bail, ensure};
 use arrayvec::ArrayVec;
 use ax25_link::{Link, LinkState, good_k};
 use std::alloc::Global;
-
-/// More frames than can be pending at once: a reply, seven frames again, seven new ones, and DISC or DM.
-const MOST_PENDING: u8 = 17;
 
 /// The link of a row, and what it printed so far.
 #[derive(Drop)]

@@ -1,14 +1,11 @@
 //! One of the two stations of an air's row.
 
-use crate::frames::take;
+use crate::frames::{MOST_PENDING, take};
 use anyhow::{Context, Result, bail};
 use arrayvec::ArrayVec;
-use ax25_frames::{Frame, Kind, read_frame};
+use ax25_frames::{Kind, read_frame};
 use ax25_link::{Heard, Link, LinkState, Why};
 use std::alloc::{AllocError, Global};
-
-/// More frames than can be pending at once.
-const MOST_PENDING: u8 = 17;
 
 /// Where the control octet of a frame without repeaters stands.
 const CONTROL: usize = 14;
@@ -192,14 +189,11 @@ impl Side {
 
     /// Compares the information of an I frame with the stream.
     fn take_piece(&mut self, octets: &[u8], first: usize) -> Result<()> {
-        let info = match read_frame(octets) {
-            Ok(
-                Frame {
-                    kind: Kind::I { info, .. },
-                    ..
-                },
-            ) => info,
-            _ => bail!("Bytes without information"),
+        let Ok(frame) = read_frame(octets) else {
+            bail!("no frame");
+        };
+        let Kind::I { info, .. } = frame.kind else {
+            bail!("Bytes without information");
         };
         for octet in info {
             if *octet != octet_of(first, self.taken) {
