@@ -2,7 +2,7 @@
 -- queued or unacknowledged.
 use Rattle.std.specs.Prelude.{◌≡◌, ℕ, ◌%◌, ◌<◌, ◌≤◌, List, length, drop, Bool, true, false, not, ◌&&◌, ◌||◌, nat_lt, Option, None, Some}
 use Rattle.px_base.specs.CallSign.{CallSign}
-use Rattle.ax25_frames.specs.Kinds.{FitsControl}
+use Rattle.ax25_frames.specs.Kinds.{KindValue, FitsControl}
 use Rattle.ax25_frames.specs.FrameText.{FrameValue, canonical}
 use Rattle.ax25_link.specs.declared.state.LinkState.{LinkState}
 use Rattle.ax25_link.specs.Window.{Window, IsGoodK}
@@ -78,6 +78,11 @@ Steps before now step = (w : Window) (end : LinkEnd) → StandsFor w before end 
 -- whatever end the link stood for, this is what is told of it
 abbrev pub Tells : {X : Type 0} → Kept → (Window → LinkEnd → X) → X → Type 0
 Tells before told answer = (w : Window) (end : LinkEnd) → StandsFor w before end → answer ≡ told w end
+
+-- a frame from this station to the peer, without repeaters
+abbrev pub frame_between : Kept → KindValue → Bool → Bool → FrameValue
+frame_between link kind poll command =
+    record { dest = link.peer; src = link.me; via = 0; kind = kind; poll = poll; command = command }
 
 -- whether a value is there
 abbrev pub is_there : {X : Type 0} → Option X → Bool

@@ -1,19 +1,17 @@
 //! One end of a link in connected mode (AX.25 2.0, 2.4).
 
-ghost use Rattle.std.specs.Prelude.{◌≡◌, ◌-◌, ◌<◌, ◌≤◌, ◌==◌, nat_lt, not, length, IfOk, Some, None};
-ghost use Rattle.std.specs.Option.{option_map};
+ghost use Rattle.std.specs.Prelude.{◌≡◌, ◌≤◌, false, IfOk};
 ghost use Rattle.ax25_frames.specs.Values.{value_of};
-ghost use Rattle.ax25_link.specs.Acknowledging.{with_timer_anew};
 ghost use Rattle.ax25_link.specs.Calls.{after_abandon, after_hang_up, after_push, pushed_count};
 ghost use Rattle.ax25_link.specs.Ends.{answering_end, calling_end, free_octets, oldest};
 ghost use Rattle.ax25_link.specs.Kept.{GivesNext, IsFromPeer, StandsFor, Steps, Tells, has_new_in, is_pending, is_there, outstanding_in};
-ghost use Rattle.ax25_link.specs.Queue.{Queue, empty_queue, room_of};
-ghost use Rattle.ax25_link.specs.Rows.{after_frame, entering, heard_of, unless_oldest};
+ghost use Rattle.ax25_link.specs.Replies.{reply_value};
+ghost use Rattle.ax25_link.specs.Rows.{after_frame, entering, heard_of};
 ghost use Rattle.ax25_link.specs.Sending.{next_sending};
 ghost use Rattle.ax25_link.specs.Timer.{after_tick, limit, timer_reply, told_of_tick};
 ghost use Rattle.ax25_link.specs.Window.{IsGoodK, window_of};
 
-use crate::reply::{Farewell, Reply};
+use crate::reply::{Farewell, Reply, without_information};
 use crate::send_queue::SendQueue;
 use crate::timer::{ANEW, Expiry, T1, T3, Timer};
 use crate::{Heard, LinkState, Why};
@@ -66,8 +64,6 @@ impl Model for Link {
 }
 
 impl Link {
-    ghost use Rattle.ax25_link.specs.Views.{reply_value};
-
     /// The end that calls: state Calling, with a SABM with P = 1 pending (2.4.3.1). At most k I frames are outstanding at
     /// a time; `good_k(k)` holds. Takes memory.
     pub fn call(alloc: Global, me: Call, peer: Call, k: u8) -> Result<Link, OutOfMemory>
@@ -194,11 +190,12 @@ impl Link {
         if matches!(self.state, LinkState::Down) {
             return None;
         }
+        let reply = self.timer_frame();
         let limit = self.limit();
         match self.timer.tick(limit) {
             Expiry::Waits => None,
             Expiry::Asks => {
-                self.reply = Some(self.timer_frame());
+                self.reply = Some(reply);
                 None
             }
             Expiry::GivesUp => {
@@ -285,15 +282,5 @@ impl Link {
             && self.queue.outstanding() < self.k
             && !self.peer_busy
             && self.queue.has_unsent()
-    }
-}
-
-/// What is to be sent first, unless it is an I frame.
-fn without_information(reply: Option<Reply>) -> Option<Reply>
-    ensures { option_map reply_value result ≡ unless_oldest (option_map reply_value reply) }
-{
-    match reply {
-        Some(Reply::Oldest) => None,
-        other => other,
     }
 }

@@ -11,11 +11,10 @@ ghost use Rattle.ax25_link.specs.Rows.{called_again, calling_row, closing, closi
 ghost use Rattle.ax25_link.specs.Ends.{accept};
 
 use crate::link::Link;
-use crate::number;
 use crate::reply::{Reply, reject_octets};
 use crate::timer::ANEW;
 use crate::window::{Acknowledgement, judge};
-use crate::{Heard, LinkState, Why};
+use crate::{Heard, LinkState, Why, number};
 use ax25_frames::{Frame, Kind};
 
 impl Link {
@@ -68,6 +67,7 @@ impl Link {
 
     /// In state Up (2.4.4).
     pub(crate) fn take_up(&mut self, frame: &Frame<'_>) -> Heard
+        requires up { self.old.state ≡ LinkState.Up }
         requires quiet { is_pending self.old ≡ false }
         requires frame { IsFromPeer self.old (value_of frame.now) }
         ensures after { Steps self.old self.new
@@ -122,10 +122,10 @@ impl Link {
             ≡ control_octet (value_of frame.now).kind.control frame.now.poll }
         ensures after { Steps self.old self.new (λ w end. (numbered_row w end (value_of frame.now) nr
             (λ e. supervisory_row (with_busy is_busy
-                (if is_reject && is_good (meaning_of w end nr) then sending_again e else e)) (value_of frame.now))).after) }
+            (if is_reject && is_good (meaning_of w end nr) then sending_again e else e)) (value_of frame.now))).after) }
         ensures heard { Tells self.old (λ w end. (numbered_row w end (value_of frame.now) nr
             (λ e. supervisory_row (with_busy is_busy
-                (if is_reject && is_good (meaning_of w end nr) then sending_again e else e)) (value_of frame.now))).heard) result }
+            (if is_reject && is_good (meaning_of w end nr) then sending_again e else e)) (value_of frame.now))).heard) result }
     {
         match self.apply(nr) {
             Acknowledgement::Bad => self.reject(frame, control),
