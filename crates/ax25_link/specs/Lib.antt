@@ -7,7 +7,6 @@ pub mod Frames
 pub mod Laws
 pub mod LinkStep
 pub mod Linked
-pub mod Refinement
 pub mod Rows
 pub mod Sending
 pub mod Timer
