@@ -1,2 +1,4 @@
+pub mod EndLemmas
+pub mod HeardLemmas
 pub mod Modulus
 pub mod Places
