@@ -5,3 +5,4 @@ pub mod HeardLemmas
 pub mod MeaningLemmas
 pub mod Modulus
 pub mod Places
+pub mod SendLemmas
