@@ -1,5 +1,5 @@
 -- The numbers behind a station's transmissions, when a frame is sent and when one is delivered.
-use Rattle.std.proofs.Common.{◌≡◌, ℕ, ◌+◌, ◌-◌, ◌%◌, ◌<◌, ◌≤◌, ◌⊎◌, List, [], ◌∷◌, ◌++◌, length, Option, Some, None, Bool, true, false, refl, sym, ◌∙◌, ap, subst, arith, inl, inr, cond, length-append}
+use Rattle.std.proofs.Common.{◌≡◌, ℕ, ◌+◌, ◌-◌, ◌%◌, ◌<◌, ◌≤◌, ◌⊎◌, List, [], ◌∷◌, ◌++◌, length, take, Option, Some, None, Bool, true, false, refl, sym, ◌∙◌, ap, subst, arith, inl, inr, cond, length-append}
 use Rattle.std.specs.Prelude.{◌==◌, slice_get, IsTrue, if◌then◌else◌, ⊤}
 use Rattle.std.proofs.lemmas.Bool.{cond-true, cond-false, eq-eqb, ne_eqb, cases_lt, cases_eq}
 use Rattle.ax25_frames.specs.declared.control.Control.{Control}
@@ -144,6 +144,7 @@ pub record MorePieces (pieces more : List (List ℕ)) : Type 0 where
   pub keeps : (place : ℕ) (x : List ℕ) → slice_get pieces place ≡ Some x → slice_get more place ≡ Some x
   pub least : length pieces ≤ length more
   pub most : length more ≤ length pieces + 1
+  pub front : (n : ℕ) → n ≤ length pieces → take n more ≡ take n pieces
 
 -- A frame is sent.
 pub PiecesFit-send : (w : Window) (pieces more : List (List ℕ)) (taken : ℕ) (list : List Transmission) (piece : ℕ → ℕ) (f : FrameValue) (n : ℕ)

@@ -2,6 +2,7 @@ pub mod AirLemmas
 pub mod EndKept
 pub mod EndLemmas
 pub mod HeardLemmas
+pub mod LinkedLemmas
 pub mod MeaningLemmas
 pub mod Modulus
 pub mod Places

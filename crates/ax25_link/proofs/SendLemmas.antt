@@ -3,6 +3,7 @@ use Rattle.std.proofs.Common.{◌≡◌, ℕ, ◌+◌, ◌-◌, ◌%◌, ◌<◌
 use Rattle.std.specs.Prelude.{◌==◌, nat_le, nat_lt, ◌||◌, ◌&&◌, not, IsTrue, if◌then◌else◌, ⊤, slice_get, unwrap_or, zero, suc}
 use Rattle.std.specs.List.{concat}
 use Rattle.std.proofs.lemmas.Bool.{cond_both, cond-true, cond-false, cases_Bool, ltb-true, ltb-false, and_parts}
+use Rattle.std.proofs.lemmas.List.{take-append-le}
 use Rattle.std.proofs.lemmas.Option.{same_Some, slice_get_within}
 use Rattle.ax25_frames.specs.declared.control.Control.{Control}
 use Rattle.ax25_frames.specs.declared.control.Control.TheVariants.{I, Rr, Rnr, Rej, Sabm, Disc, Dm, Ua, Frmr, Ui}
@@ -56,7 +57,7 @@ pub record Sends (w : Window) (old : LinkEnd) (frame : FrameValue) (new : LinkEn
   pub calling : IsUnpushed old → IsUnpushed new
 
 same_pieces : (pieces : List (List ℕ)) → MorePieces pieces pieces
-same_pieces pieces = record { keeps = λ place x h. h; least = omega arith; most = omega arith }
+same_pieces pieces = record { keeps = λ place x h. h; least = omega arith; most = omega arith; front = λ n h. refl }
 
 pub owed_most : (reply : Option Reply) → owed_for reply ≤ 1
 owed_most None = omega arith
@@ -156,7 +157,7 @@ more_pieces pieces piece =
     let size : length (pieces ++ piece ∷ []) ≡ length pieces + 1 = length-append pieces (piece ∷ []) in
     record {
       keeps = λ place x h. slice_get-append_before pieces (piece ∷ []) place (slice_get_within pieces place x h) ∙ h;
-      least = omega (arith, size); most = omega (arith, size);
+      least = omega (arith, size); most = omega (arith, size); front = λ n h. take-append-le n pieces (piece ∷ []) h;
     }
 
 -- the octets of the new piece come from the front of those that are queued
