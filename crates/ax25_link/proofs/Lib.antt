@@ -1,4 +1,5 @@
 pub mod AirLemmas
+pub mod DeliveryLemmas
 pub mod EndKept
 pub mod EndLemmas
 pub mod HeardLemmas

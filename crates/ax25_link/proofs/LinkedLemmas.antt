@@ -26,11 +26,11 @@ use Rattle.ax25_link.proofs.HeardLemmas.{Hears, Accepts, Acknowledges, after_fra
 use Rattle.ax25_link.proofs.SendLemmas.{IsRest, Sends, SendsPiece, next_sending-Sends}
 
 -- the station with another end, and with other transmissions
-abbrev station : LinkEnd → List Transmission → Station
+abbrev pub station : LinkEnd → List Transmission → Station
 station end list = record { end = end; transmissions = list }
 
 -- the number of pieces follows the list
-count_of : (a b : List (List ℕ)) → a ≡ b → length a ≡ length b
+pub count_of : (a b : List (List ℕ)) → a ≡ b → length a ≡ length b
 count_of a b e = ap (λ (l : List (List ℕ)). length l) e
 
 -- a step that changes no number: ticks, and what the layer above does
@@ -115,7 +115,7 @@ owed-unless_oldest (Some enquire) = refl
 owed-unless_oldest (Some oldest) = refl
 
 -- a quiet end owes no reply
-quiet-owed : (w : Window) (end : LinkEnd) → IsQuiet w end → owed end ≡ 0
+pub quiet-owed : (w : Window) (end : LinkEnd) → IsQuiet w end → owed end ≡ 0
 quiet-owed w end q = ap owed_for (quiet w end q).reply
 
 -- what the layer above does is a steady step
