@@ -3,6 +3,7 @@ pub mod DeliveryLemmas
 pub mod EndKept
 pub mod EndLemmas
 pub mod HeardLemmas
+pub mod LawLemmas
 pub mod LinkedLemmas
 pub mod MeaningLemmas
 pub mod Modulus

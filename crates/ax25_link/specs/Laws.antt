@@ -103,7 +103,7 @@ FrontLaw =
 -- No lawful delivery to a linked station shows a bad N(R).
 abbrev pub NoBadLaw : Type 0
 NoBadLaw =
-    (w : Window) (one other : Station) (place : ℕ) (t : Transmission) → IsWindow w → AreLinked w one other
+    (w : Window) (one other : Station) (place : ℕ) (t : Transmission) → IsWindow w → AreLinked w one other → IsQuiet w other.end
     → IsLawful w other.transmissions place t → IsTrue (is_numbered (control_of t))
     → is_bad (meaning_of w one.end (ack_number (control_of t))) ≡ false
 
