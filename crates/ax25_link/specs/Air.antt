@@ -64,7 +64,7 @@ pub record IsLawful (w : Window) (list : List Transmission) (place : ℕ) (t : T
   pub sent : IsAt list place t
   pub call : IsTrue (is_call (control_of t)) → t.delivered ≡ false
   pub overtaken :
-      IsTrue (is_numbered (control_of t)) → NoneLater list place ⊎ (later_count list place ≤ w.modulus - 1 - w.size)
+    IsTrue (is_numbered (control_of t)) → NoneLater list place ⊎ (later_count list place ≤ w.modulus - 1 - w.size)
 
 -- the transmissions after the one at this place is delivered
 abbrev pub delivering : List Transmission → ℕ → Transmission → List Transmission

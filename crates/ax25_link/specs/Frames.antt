@@ -34,7 +34,7 @@ piece_at end place = unwrap_or (slice_get end.sent place) []
 abbrev pub information_of : Window → LinkEnd → ℕ → List ℕ → Bool → FrameValue
 information_of w end place piece poll =
     command_to_peer end
-    (record { control = control.I (place % w.modulus) (receive_number w end); pid = no_protocol ∷ []; information = piece }) poll
+      (record { control = control.I (place % w.modulus) (receive_number w end); pid = no_protocol ∷ []; information = piece }) poll
 
 -- the I frame of a piece that was sent
 abbrev pub information_again : Window → LinkEnd → ℕ → Bool → FrameValue

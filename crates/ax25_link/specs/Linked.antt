@@ -1,10 +1,10 @@
 -- What holds of the two ends of an attempt and of all that they sent, in every lawful run. Between events nothing is to be
 -- sent; the definitions hold also in between, while frames are still to be sent.
-use Rattle.std.specs.Prelude.{◌≡◌, ℕ, ◌+◌, ◌%◌, ◌<◌, ◌≤◌, List, ◌++◌, length, take, slice_get, true, Option, None, Some, if◌then◌else◌, IsTrue}
+use Rattle.std.specs.Prelude.{◌≡◌, ℕ, ◌+◌, ◌%◌, ◌<◌, ◌≤◌, List, [], ◌++◌, length, take, slice_get, true, Option, None, Some, if◌then◌else◌, IsTrue}
 use Rattle.std.specs.List.{concat}
 use Rattle.ax25_frames.specs.declared.control.Control.{Control}
 use Rattle.ax25_frames.specs.declared.control.Control.TheVariants.{I, Rr, Rnr, Rej, Sabm, Disc, Dm, Ua, Frmr, Ui}
-use Rattle.ax25_link.specs.declared.state.LinkState.TheVariants.{Up}
+use Rattle.ax25_link.specs.declared.state.LinkState.TheVariants.{Calling, Up}
 use Rattle.ax25_link.specs.Window.{Window}
 use Rattle.ax25_link.specs.Ends.{LinkEnd, Reply, IsEnd, high, taken_count}
 use Rattle.ax25_link.specs.Rows.{is_oldest, is_call}
@@ -56,10 +56,10 @@ pub record PiecesFit (w : Window) (pieces : List (List ℕ)) (peer_taken : ℕ) 
   pub sent : (place : ℕ) (t : Transmission) → IsInformationAt list place t → piece place < length pieces
   pub recent : (place : ℕ) (t : Transmission) → IsInformationAt list place t → length pieces ≤ piece place + w.size + later_count list place
   pub earlier :
-      (before place : ℕ) (s t : Transmission) → before < place → IsInformationAt list before s → IsInformationAt list place t
-      → piece before < piece place + w.size
+    (before place : ℕ) (s t : Transmission) → before < place → IsInformationAt list before s → IsInformationAt list place t
+    → piece before < piece place + w.size
   pub accepted :
-      (place : ℕ) (t : Transmission) → IsInformationAt list place t → NoneLater list place → peer_taken ≤ piece place + w.size
+    (place : ℕ) (t : Transmission) → IsInformationAt list place t → NoneLater list place → peer_taken ≤ piece place + w.size
 
 -- The number behind each I or S frame: N(R) shows it. It is at most what the sender has accepted, and the frames that were
 -- sent since are at least as many as the pieces that were accepted since. No earlier I or S frame's number is above it.
@@ -70,10 +70,10 @@ pub record ShownFit (w : Window) (taken owed peer_acked : ℕ) (list : List Tran
   pub reached : (place : ℕ) (t : Transmission) → IsNumberedAt list place t → shown place ≤ taken
   pub recent : (place : ℕ) (t : Transmission) → IsNumberedAt list place t → taken ≤ shown place + later_count list place + owed
   pub earlier :
-      (before place : ℕ) (s t : Transmission) → before < place → IsNumberedAt list before s → IsNumberedAt list place t
-      → shown before ≤ shown place
+    (before place : ℕ) (s t : Transmission) → before < place → IsNumberedAt list before s → IsNumberedAt list place t
+    → shown before ≤ shown place
   pub acknowledged :
-      (place : ℕ) (t : Transmission) → IsNumberedAt list place t → NoneLater list place → peer_acked ≤ shown place
+    (place : ℕ) (t : Transmission) → IsNumberedAt list place t → NoneLater list place → peer_acked ≤ shown place
 
 -- 1 while a reply is to be sent that is no I frame
 abbrev pub owed_for : Option Reply → ℕ
@@ -96,7 +96,7 @@ pub record NumbersFit (w : Window) (sender peer : Station) : Type 0 where
   pub window : high sender.end ≤ sender.end.acked + w.size
   pub pieces : (piece : ℕ → ℕ) × PiecesFit w sender.end.sent (taken_count peer.end) sender.transmissions piece
   pub shown :
-      (shown : ℕ → ℕ) × ShownFit w (taken_count sender.end) (owed sender.end) peer.end.acked sender.transmissions shown
+    (shown : ℕ → ℕ) × ShownFit w (taken_count sender.end) (owed sender.end) peer.end.acked sender.transmissions shown
 
 -- What the peer has accepted are the first pieces that the sender sent. These pieces, joined, are the first octets that
 -- the sender's layer above pushed, and while its end is up the others are queued.
@@ -108,6 +108,10 @@ pub record OctetsFit (sender peer : LinkEnd) : Type 0 where
 abbrev pub IsOpened : List Transmission → Type 0
 IsOpened list = (place : ℕ) (t : Transmission) → IsAt list place t → IsTrue (is_call (control_of t)) → t.delivered ≡ true
 
+-- while an end is calling, nothing was pushed
+abbrev pub IsUnpushed : LinkEnd → Type 0
+IsUnpushed end = end.state ≡ Calling → (end.pushed ≡ []) × (end.queued ≡ [])
+
 -- all this of both stations
 pub record AreLinked (w : Window) (one other : Station) : Type 0 where
   pub one_end : IsEnd w one.end
@@ -116,5 +120,7 @@ pub record AreLinked (w : Window) (one other : Station) : Type 0 where
   pub other_numbers : NumbersFit w other one
   pub one_octets : OctetsFit one.end other.end
   pub other_octets : OctetsFit other.end one.end
+  pub one_calling : IsUnpushed one.end
+  pub other_calling : IsUnpushed other.end
   pub one_opened : IsOpened one.transmissions
   pub other_opened : IsOpened other.transmissions

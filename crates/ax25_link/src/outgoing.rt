@@ -5,7 +5,7 @@ ghost use Rattle.ax25_frames.specs.FrameText.{FrameText, canonical};
 ghost use Rattle.ax25_frames.specs.Kinds.{CanWrite};
 ghost use Rattle.ax25_frames.specs.Values.{kind_value};
 ghost use Rattle.ax25_link.specs.Frames.{frame_of_reply, information_again};
-ghost use Rattle.ax25_link.specs.Kept.{Steps, Tells, frame_between, has_new_in, outstanding_in};
+ghost use Rattle.ax25_link.specs.Kept.{SameStations, Steps, Tells, frame_between, has_new_in, most_pending, outstanding_in};
 ghost use Rattle.ax25_link.specs.Replies.{farewell_value, reply_value};
 ghost use Rattle.ax25_link.specs.Sending.{after_new, sends_again, sends_farewell, sends_new, sends_reply};
 
@@ -25,6 +25,8 @@ impl Link {
         requires { self.old.reply ≡ Some (reply_value reply) }
         ensures after { Steps self.old self.new (λ w end. (sends_reply w end (reply_value reply)).after) }
         ensures frame { Tells self.old (λ w end. canonical (sends_reply w end (reply_value reply)).frame) out.new.items }
+        ensures fewer { most_pending self.new < most_pending self.old }
+        ensures stations { SameStations self.old self.new }
     {
         self.write_reply(reply, out);
         self.reply = None;
@@ -35,6 +37,8 @@ impl Link {
         requires { 0 < self.old.again }
         ensures after { Steps self.old self.new (λ w end. (sends_again w end).after) }
         ensures frame { Tells self.old (λ w end. canonical (sends_again w end).frame) out.new.items }
+        ensures fewer { most_pending self.new < most_pending self.old }
+        ensures stations { SameStations self.old self.new }
     {
         let place = self.queue.outstanding() - self.again;
         self.write_information(place, false, out);
@@ -46,6 +50,8 @@ impl Link {
         requires { has_new_in self.old ≡ true }
         ensures after { Steps self.old self.new (λ w end. (sends_new w end).after) }
         ensures frame { Tells self.old (λ w end. canonical (sends_new w end).frame) out.new.items }
+        ensures fewer { most_pending self.new < most_pending self.old }
+        ensures stations { SameStations self.old self.new }
     {
         let place = self.cut_new();
         self.write_information(place, false, out);
@@ -53,8 +59,11 @@ impl Link {
 
     /// Sends the last frame of an end that hangs up.
     pub(crate) fn send_farewell(&mut self, farewell: Farewell, out: &mut ArrayVec<u8, 400>)
+        requires { self.old.farewell ≡ Some (farewell_value farewell) }
         ensures after { Steps self.old self.new (λ w end. (sends_farewell end (farewell_value farewell)).after) }
         ensures frame { Tells self.old (λ w end. canonical (sends_farewell end (farewell_value farewell)).frame) out.new.items }
+        ensures fewer { most_pending self.new < most_pending self.old }
+        ensures stations { SameStations self.old self.new }
     {
         self.farewell = None;
         match farewell {
@@ -70,6 +79,8 @@ impl Link {
         ensures after { Steps self.old self.new (λ w end. after_new end) }
         ensures place { result ≡ outstanding_in self.old }
         ensures inside { result < outstanding_in self.new }
+        ensures fewer { most_pending self.new < most_pending self.old }
+        ensures stations { SameStations self.old self.new }
     {
         let place = self.queue.outstanding();
         if place == 0 {
