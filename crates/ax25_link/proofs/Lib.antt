@@ -1,1 +1,13 @@
+pub mod AirLemmas
+pub mod DeliveryLemmas
+pub mod EndKept
+pub mod EndLemmas
+pub mod FrameLemmas
+pub mod HeardLemmas
+pub mod LawLemmas
+pub mod LinkedLemmas
+pub mod MeaningLemmas
+pub mod Modulus
+pub mod Places
 pub mod QueueLemmas
+pub mod SendLemmas

@@ -98,29 +98,29 @@ piece-cut (size ∷ sizes) octets (suc place) inside =
 pub take-two : (n : ℕ) (front back : List ℕ) → take n (front ++ back) ≡ take n front ++ take (n - length front) back
 take-two n front back = ⊎_elim {C = take n (front ++ back) ≡ take n front ++ take (n - length front) back}
     (λ (past : length front < n).
-      let whole : n ≡ length front + (n - length front) = omega arith in
-      ap (λ (k : ℕ). take k (front ++ back)) whole
-      ∙ take-append-add front back (n - length front)
-      ∙ ap (λ (xs : List ℕ). xs ++ take (n - length front) back) (sym (take_all n front (omega arith))))
+    let whole : n ≡ length front + (n - length front) = omega arith in
+    ap (λ (k : ℕ). take k (front ++ back)) whole
+    ∙ take-append-add front back (n - length front)
+    ∙ ap (λ (xs : List ℕ). xs ++ take (n - length front) back) (sym (take_all n front (omega arith))))
     (λ (within : n ≤ length front).
-      let none : n - length front ≡ 0 = omega arith in
-      take-append-le n front back within
-      ∙ sym (append-nil (take n front))
-      ∙ ap (λ (k : ℕ). take n front ++ take k back) (sym none))
+    let none : n - length front ≡ 0 = omega arith in
+    take-append-le n front back within
+    ∙ sym (append-nil (take n front))
+    ∙ ap (λ (k : ℕ). take n front ++ take k back) (sym none))
     (cases_lt (length front) n)
 
 -- what is left of two lists taken as one
 pub drop-two : (n : ℕ) (front back : List ℕ) → drop n (front ++ back) ≡ drop n front ++ drop (n - length front) back
 drop-two n front back = ⊎_elim {C = drop n (front ++ back) ≡ drop n front ++ drop (n - length front) back}
     (λ (past : length front < n).
-      let whole : n ≡ length front + (n - length front) = omega arith in
-      ap (λ (k : ℕ). drop k (front ++ back)) whole
-      ∙ drop-append-add front back (n - length front)
-      ∙ ap (λ (xs : List ℕ). xs ++ drop (n - length front) back) (sym (drop_all n front (omega arith))))
+    let whole : n ≡ length front + (n - length front) = omega arith in
+    ap (λ (k : ℕ). drop k (front ++ back)) whole
+    ∙ drop-append-add front back (n - length front)
+    ∙ ap (λ (xs : List ℕ). xs ++ drop (n - length front) back) (sym (drop_all n front (omega arith))))
     (λ (within : n ≤ length front).
-      let none : n - length front ≡ 0 = omega arith in
-      drop-append-le n front back within
-      ∙ ap (λ (k : ℕ). drop n front ++ drop k back) (sym none))
+    let none : n - length front ≡ 0 = omega arith in
+    drop-append-le n front back within
+    ∙ ap (λ (k : ℕ). drop n front ++ drop k back) (sym none))
     (cases_lt (length front) n)
 
 -- a range of two lists taken as one

@@ -1,8 +1,8 @@
 -- What a link keeps of its end: not what was pushed, sent and taken, but the numbers modulo m, and the octets that are
 -- queued or unacknowledged.
-use Rattle.std.specs.Prelude.{◌≡◌, ℕ, ◌%◌, ◌<◌, ◌≤◌, List, length, drop, Bool, true, false, not, ◌&&◌, ◌||◌, nat_lt, Option, None, Some}
+use Rattle.std.specs.Prelude.{◌≡◌, ℕ, ◌+◌, ◌-◌, ◌%◌, ◌<◌, ◌≤◌, List, length, drop, Bool, true, false, not, ◌&&◌, ◌||◌, nat_lt, Option, None, Some}
 use Rattle.px_base.specs.CallSign.{CallSign}
-use Rattle.ax25_frames.specs.Kinds.{FitsControl}
+use Rattle.ax25_frames.specs.Kinds.{KindValue, FitsControl}
 use Rattle.ax25_frames.specs.FrameText.{FrameValue, canonical}
 use Rattle.ax25_link.specs.declared.state.LinkState.{LinkState}
 use Rattle.ax25_link.specs.Window.{Window, IsGoodK}
@@ -65,6 +65,20 @@ kept_of w end =
       farewell = end.farewell;
     }
 
+-- the two stations of a link, which of them called, and its window, stay
+pub record SameStations (before now : Kept) : Type 0 where
+  pub called : now.called ≡ before.called
+  pub me : now.me ≡ before.me
+  pub peer : now.peer ≡ before.peer
+  pub k : now.k ≡ before.k
+
+-- the two stations of a link, which of them called, and its window
+pub record HasStations (link : Kept) (calls : Bool) (from to : CallSign) (size : ℕ) : Type 0 where
+  pub called : link.called ≡ calls
+  pub me : link.me ≡ from
+  pub peer : link.peer ≡ to
+  pub k : link.k ≡ size
+
 -- The link stands for this end. It may stand for many, since it keeps no history.
 pub record StandsFor (w : Window) (link : Kept) (end : LinkEnd) : Type 0 where
   pub modulus : w.modulus ≡ 8
@@ -78,6 +92,11 @@ Steps before now step = (w : Window) (end : LinkEnd) → StandsFor w before end 
 -- whatever end the link stood for, this is what is told of it
 abbrev pub Tells : {X : Type 0} → Kept → (Window → LinkEnd → X) → X → Type 0
 Tells before told answer = (w : Window) (end : LinkEnd) → StandsFor w before end → answer ≡ told w end
+
+-- a frame from this station to the peer, without repeaters
+abbrev pub frame_between : Kept → KindValue → Bool → Bool → FrameValue
+frame_between link kind poll command =
+    record { dest = link.peer; src = link.me; via = 0; kind = kind; poll = poll; command = command }
 
 -- whether a value is there
 abbrev pub is_there : {X : Type 0} → Option X → Bool
@@ -93,6 +112,19 @@ has_new_in link =
 abbrev pub is_pending : Kept → Bool
 is_pending link = is_there link.reply || nat_lt 0 link.again || has_new_in link || is_there link.farewell
 
+-- 1 where a value is there
+abbrev pub count_of : {X : Type 0} → Option X → ℕ
+count_of None = 0
+count_of (Some x) = 1
+
+-- no more frames than this are handed out one after another
+abbrev pub most_pending : Kept → ℕ
+most_pending link = count_of link.reply + link.again + (link.k - outstanding_in link) + count_of link.farewell
+
+-- nothing changed: neither the link nor the octets of the buffer
+abbrev pub IsUnchanged : Kept → Kept → List ℕ → List ℕ → Type 0
+IsUnchanged before now old new = (now ≡ before) × (new ≡ old)
+
 -- The frame is from the peer to this station, without repeaters, and its sequence numbers are below 8, as those of each
 -- frame that is read.
 pub record IsFromPeer (link : Kept) (frame : FrameValue) : Type 0 where
@@ -104,7 +136,7 @@ pub record IsFromPeer (link : Kept) (frame : FrameValue) : Type 0 where
 -- What is handed out where this is sent next: nothing, and nothing changes; or the octets of its frame in place of those
 -- that the buffer held.
 abbrev pub HandsOut : Option Sending → Window → Kept → Kept → List ℕ → List ℕ → Bool → Type 0
-HandsOut None w before now old new answer = (answer ≡ false) × (now ≡ before) × (new ≡ old)
+HandsOut None w before now old new answer = (answer ≡ false) × IsUnchanged before now old new
 HandsOut (Some sending) w before now old new answer =
     (answer ≡ true) × StandsFor w now sending.after × (new ≡ canonical sending.frame)
 

@@ -1,5 +1,5 @@
 -- Laws of a link's ends.
-use Rattle.std.specs.Prelude.{◌≡◌, ℕ, List, [], Bool, false, Some, IsTrue}
+use Rattle.std.specs.Prelude.{◌≡◌, ℕ, List, [], Bool, false, Some, IsTrue, ◌∷◌, ⊤}
 use Rattle.std.specs.List.{concat}
 use Rattle.px_base.specs.CallSign.{CallSign}
 use Rattle.px_base.specs.Octets.{IsFront}
@@ -7,10 +7,14 @@ use Rattle.ax25_frames.specs.FrameText.{FrameValue}
 use Rattle.ax25_link.specs.Window.{Window, IsWindow}
 use Rattle.ax25_link.specs.Ends.{LinkEnd, IsEnd, oldest, answering_end}
 use Rattle.ax25_link.specs.Acknowledging.{Meaning, HasMeaning, meaning_of, is_bad}
-use Rattle.ax25_link.specs.Sending.{Drains}
-use Rattle.ax25_link.specs.Air.{Transmission, IsAt, IsLawful, control_of, is_numbered}
+use Rattle.ax25_link.specs.declared.state.Heard.{Heard}
+use Rattle.ax25_link.specs.Rows.{is_call}
+use Rattle.ax25_link.specs.Calls.{Doing, DoesAll}
+use Rattle.ax25_link.specs.Sending.{IsQuiet, Drains}
+use Rattle.ax25_link.specs.LinkStep.{LinkStep, frame, tick}
+use Rattle.ax25_link.specs.Air.{Transmission, IsAt, IsLawful, control_of, is_numbered, sending_all}
 use Rattle.ax25_link.specs.Linked.{Station, AreLinked, IsOpened, ack_number}
-use Rattle.ax25_link.specs.Acts.{Act, MayAct, acting, facing}
+use Rattle.ax25_link.specs.Acts.{Act, hear, MayAct, acting, facing}
 
 -- Each N(R) has one meaning, which is the one computed.
 abbrev pub OneMeaningLaw : Type 0
@@ -55,6 +59,38 @@ KeptLaw =
     (w : Window) (one other : Station) (act : Act) → IsWindow w → AreLinked w one other → MayAct w one other act
     → AreLinked w (acting w one act) (facing other act)
 
+-- no SABM is among the frames, so that they belong to the attempt
+abbrev pub HasNoCall : List FrameValue → Type 0
+HasNoCall [] = ⊤
+HasNoCall (f ∷ frames) = (is_call f.kind.control ≡ false) × HasNoCall frames
+
+-- the station with this end, after it sent these frames
+abbrev pub having_sent : Station → LinkEnd → List FrameValue → Station
+having_sent station end frames = record { end = end; transmissions = sending_all station.transmissions frames }
+
+-- Linked stations stay linked when the layer above one of them does something and all its frames are sent.
+abbrev pub SentLaw : Type 0
+SentLaw =
+    (w : Window) (one other : Station) (doings : List Doing) (frames : List FrameValue) (end last : LinkEnd)
+    → IsWindow w → AreLinked w one other → DoesAll one.end doings end → Drains w end frames last → HasNoCall frames
+    → AreLinked w (having_sent one last frames) other
+
+-- They stay linked when one of them hears a frame of the other one by a lawful delivery, or a tick comes, and it makes its
+-- whole step.
+abbrev pub HeardLaw : Type 0
+HeardLaw =
+    (w : Window) (one other : Station) (place : ℕ) (t : Transmission) (heard : Heard) (doings : List Doing)
+    (frames : List FrameValue) (last : LinkEnd)
+    → IsWindow w → AreLinked w one other → IsQuiet w other.end → IsLawful w other.transmissions place t
+    → LinkStep w one.end (frame t.frame) heard doings frames last → HasNoCall frames
+    → AreLinked w (having_sent one last frames) (facing other (hear place t))
+
+abbrev pub TickedLaw : Type 0
+TickedLaw =
+    (w : Window) (one other : Station) (heard : Heard) (doings : List Doing) (frames : List FrameValue) (last : LinkEnd)
+    → IsWindow w → AreLinked w one other → LinkStep w one.end tick heard doings frames last → HasNoCall frames
+    → AreLinked w (having_sent one last frames) other
+
 -- which of the two stations is which doesn't matter
 abbrev pub TurnedLaw : Type 0
 TurnedLaw = (w : Window) (one other : Station) → AreLinked w one other → AreLinked w other one
@@ -67,7 +103,7 @@ FrontLaw =
 -- No lawful delivery to a linked station shows a bad N(R).
 abbrev pub NoBadLaw : Type 0
 NoBadLaw =
-    (w : Window) (one other : Station) (place : ℕ) (t : Transmission) → IsWindow w → AreLinked w one other
+    (w : Window) (one other : Station) (place : ℕ) (t : Transmission) → IsWindow w → AreLinked w one other → IsQuiet w other.end
     → IsLawful w other.transmissions place t → IsTrue (is_numbered (control_of t))
     → is_bad (meaning_of w one.end (ack_number (control_of t))) ≡ false
 
@@ -75,6 +111,9 @@ NoBadLaw =
 pub record PrefixLaw : Type 0 where
   pub opening : OpeningLaw
   pub kept : KeptLaw
+  pub sent : SentLaw
+  pub heard : HeardLaw
+  pub ticked : TickedLaw
   pub turned : TurnedLaw
   pub front : FrontLaw
   pub no_bad : NoBadLaw

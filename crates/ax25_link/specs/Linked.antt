@@ -1,10 +1,10 @@
 -- What holds of the two ends of an attempt and of all that they sent, in every lawful run. Between events nothing is to be
 -- sent; the definitions hold also in between, while frames are still to be sent.
-use Rattle.std.specs.Prelude.{◌≡◌, ℕ, ◌+◌, ◌%◌, ◌<◌, ◌≤◌, List, ◌++◌, length, take, slice_get, true, Option, None, Some, if◌then◌else◌, IsTrue}
+use Rattle.std.specs.Prelude.{◌≡◌, ℕ, ◌+◌, ◌%◌, ◌<◌, ◌≤◌, List, [], ◌++◌, length, take, slice_get, true, Option, None, Some, if◌then◌else◌, IsTrue}
 use Rattle.std.specs.List.{concat}
 use Rattle.ax25_frames.specs.declared.control.Control.{Control}
 use Rattle.ax25_frames.specs.declared.control.Control.TheVariants.{I, Rr, Rnr, Rej, Sabm, Disc, Dm, Ua, Frmr, Ui}
-use Rattle.ax25_link.specs.declared.state.LinkState.TheVariants.{Up}
+use Rattle.ax25_link.specs.declared.state.LinkState.TheVariants.{Calling, Up}
 use Rattle.ax25_link.specs.Window.{Window}
 use Rattle.ax25_link.specs.Ends.{LinkEnd, Reply, IsEnd, high, taken_count}
 use Rattle.ax25_link.specs.Rows.{is_oldest, is_call}
@@ -108,6 +108,10 @@ pub record OctetsFit (sender peer : LinkEnd) : Type 0 where
 abbrev pub IsOpened : List Transmission → Type 0
 IsOpened list = (place : ℕ) (t : Transmission) → IsAt list place t → IsTrue (is_call (control_of t)) → t.delivered ≡ true
 
+-- while an end is calling, nothing was pushed
+abbrev pub IsUnpushed : LinkEnd → Type 0
+IsUnpushed end = end.state ≡ Calling → (end.pushed ≡ []) × (end.queued ≡ [])
+
 -- all this of both stations
 pub record AreLinked (w : Window) (one other : Station) : Type 0 where
   pub one_end : IsEnd w one.end
@@ -116,5 +120,7 @@ pub record AreLinked (w : Window) (one other : Station) : Type 0 where
   pub other_numbers : NumbersFit w other one
   pub one_octets : OctetsFit one.end other.end
   pub other_octets : OctetsFit other.end one.end
+  pub one_calling : IsUnpushed one.end
+  pub other_calling : IsUnpushed other.end
   pub one_opened : IsOpened one.transmissions
   pub other_opened : IsOpened other.transmissions

@@ -2,6 +2,7 @@
 //! modem and no clock. Numbers of frames are counted modulo 8.
 #![tactic(auto)]
 
+pub mod laws;
 mod link;
 mod number;
 mod outgoing;

@@ -1,24 +1,24 @@
 //! One end of a link in connected mode (AX.25 2.0, 2.4).
 
-ghost use Rattle.std.specs.Prelude.{◌≡◌, ◌-◌, ◌<◌, ◌≤◌, ◌==◌, nat_lt, not, length, IfOk, Some, None};
-ghost use Rattle.std.specs.Option.{option_map};
-ghost use Rattle.ax25_frames.specs.Values.{value_of};
-ghost use Rattle.ax25_link.specs.Acknowledging.{with_timer_anew};
+ghost use Rattle.std.specs.Prelude.{◌≡◌, ◌↔◌, ◌<◌, ◌≤◌, IsTrue, true, false, IfOk};
+ghost use Rattle.ax25_frames.specs.Kinds.{FitsControl};
+ghost use Rattle.ax25_frames.specs.Values.{kind_value, value_of};
 ghost use Rattle.ax25_link.specs.Calls.{after_abandon, after_hang_up, after_push, pushed_count};
 ghost use Rattle.ax25_link.specs.Ends.{answering_end, calling_end, free_octets, oldest};
-ghost use Rattle.ax25_link.specs.Kept.{GivesNext, IsFromPeer, StandsFor, Steps, Tells, has_new_in, is_pending, is_there, outstanding_in};
-ghost use Rattle.ax25_link.specs.Queue.{Queue, empty_queue, room_of};
-ghost use Rattle.ax25_link.specs.Rows.{after_frame, entering, heard_of, unless_oldest};
+ghost use Rattle.ax25_link.specs.Kept.{GivesNext, HasStations, IsFromPeer, IsUnchanged, SameStations, StandsFor, Steps, Tells, has_new_in, is_pending, is_there, most_pending, outstanding_in};
+ghost use Rattle.ax25_link.specs.Replies.{reply_value};
+ghost use Rattle.ax25_link.specs.Rows.{after_frame, entering, heard_of};
 ghost use Rattle.ax25_link.specs.Sending.{next_sending};
 ghost use Rattle.ax25_link.specs.Timer.{after_tick, limit, timer_reply, told_of_tick};
 ghost use Rattle.ax25_link.specs.Window.{IsGoodK, window_of};
 
-use crate::reply::{Farewell, Reply};
+use crate::number::MODULUS;
+use crate::reply::{Farewell, Reply, without_information};
 use crate::send_queue::SendQueue;
 use crate::timer::{ANEW, Expiry, T1, T3, Timer};
 use crate::{Heard, LinkState, Why};
 use arrayvec::ArrayVec;
-use ax25_frames::Frame;
+use ax25_frames::{Frame, Kind};
 use px_base::{Call, OutOfMemory};
 use std::alloc::Global;
 use std::marker::Model;
@@ -66,13 +66,12 @@ impl Model for Link {
 }
 
 impl Link {
-    ghost use Rattle.ax25_link.specs.Views.{reply_value};
-
     /// The end that calls: state Calling, with a SABM with P = 1 pending (2.4.3.1). At most k I frames are outstanding at
     /// a time; `good_k(k)` holds. Takes memory.
     pub fn call(alloc: Global, me: Call, peer: Call, k: u8) -> Result<Link, OutOfMemory>
         requires { IsGoodK k }
-        ensures { IfOk result (λ link. StandsFor (window_of k) link (calling_end me peer)) }
+        ensures end { IfOk result (λ link. StandsFor (window_of k) link (calling_end me peer)) }
+        ensures stations { IfOk result (λ link. HasStations link true me peer k) }
     {
         let queue = SendQueue::new(alloc)?;
         Ok(Link {
@@ -103,7 +102,8 @@ impl Link {
         poll: bool,
     ) -> Result<Link, OutOfMemory>
         requires { IsGoodK k }
-        ensures { IfOk result (λ link. StandsFor (window_of k) link (answering_end me peer poll)) }
+        ensures end { IfOk result (λ link. StandsFor (window_of k) link (answering_end me peer poll)) }
+        ensures stations { IfOk result (λ link. HasStations link false me peer k) }
     {
         let queue = SendQueue::new(alloc)?;
         Ok(Link {
@@ -131,6 +131,7 @@ impl Link {
         requires frame { IsFromPeer self.old (value_of frame.now) }
         ensures after { Steps self.old self.new (λ w end. after_frame w end (value_of frame.now)) }
         ensures heard { Tells self.old (λ w end. heard_of w end (value_of frame.now)) result }
+        ensures stations { SameStations self.old self.new }
     {
         match self.state {
             LinkState::Calling => self.take_calling(frame),
@@ -140,11 +141,23 @@ impl Link {
         }
     }
 
+    /// Whether a frame is from the peer to this station, without repeaters and with sequence numbers below 8: what `take`
+    /// asks of it.
+    pub fn is_from_peer(&self, frame: &Frame<'_>) -> bool
+        ensures { IsTrue result ↔ IsFromPeer self.now (value_of frame.now) }
+    {
+        frame.dest == self.me
+            && frame.src == self.peer
+            && frame.via == 0
+            && has_low_numbers(&frame.kind)
+    }
+
     /// Queues the first octets of these, as many as `free` says, in state Up, and says how many. Takes no memory.
     pub fn push(&mut self, bytes: &[u8]) -> usize
         requires { self.old.state ≡ LinkState.Up }
         ensures count { Tells self.old (λ w end. pushed_count end bytes.now) result }
         ensures after { Steps self.old self.new (λ w end. after_push end bytes.now) }
+        ensures stations { SameStations self.old self.new }
     {
         self.queue.push(bytes)
     }
@@ -160,7 +173,10 @@ impl Link {
     /// exactly where nothing is pending. Takes no memory.
     pub fn next_out(&mut self, out: &mut ArrayVec<u8, 400>) -> bool
         ensures pending { result ≡ is_pending self.old }
+        ensures none { result ≡ false → IsUnchanged self.old self.new out.old.items out.new.items }
+        ensures fewer { result ≡ true → most_pending self.new < most_pending self.old }
         ensures next { GivesNext self.old self.new out.old.items out.new.items result }
+        ensures stations { SameStations self.old self.new }
     {
         if let Some(reply) = self.reply {
             self.send_reply(reply, out);
@@ -190,15 +206,17 @@ impl Link {
         requires { is_pending self.old ≡ false }
         ensures after { Steps self.old self.new (λ w end. after_tick end) }
         ensures told { Tells self.old (λ w end. told_of_tick end) result }
+        ensures stations { SameStations self.old self.new }
     {
         if matches!(self.state, LinkState::Down) {
             return None;
         }
+        let reply = self.timer_frame();
         let limit = self.limit();
         match self.timer.tick(limit) {
             Expiry::Waits => None,
             Expiry::Asks => {
-                self.reply = Some(self.timer_frame());
+                self.reply = Some(reply);
                 None
             }
             Expiry::GivesUp => {
@@ -212,7 +230,8 @@ impl Link {
     /// pending (2.4.3.3). Takes no memory.
     pub fn hang_up(&mut self)
         requires { self.old.state ≡ LinkState.Up }
-        ensures { Steps self.old self.new (λ w end. after_hang_up end) }
+        ensures after { Steps self.old self.new (λ w end. after_hang_up end) }
+        ensures stations { SameStations self.old self.new }
     {
         self.enter(LinkState::Ending);
         self.queue.drop_unsent();
@@ -222,7 +241,8 @@ impl Link {
     /// Gives the link up, in state Up: the state is Down, and a DM with F = 0 is pending (2.3.4.3.5). Takes no memory.
     pub fn abandon(&mut self)
         requires { self.old.state ≡ LinkState.Up }
-        ensures { Steps self.old self.new (λ w end. after_abandon end) }
+        ensures after { Steps self.old self.new (λ w end. after_abandon end) }
+        ensures stations { SameStations self.old self.new }
     {
         self.enter(LinkState::Down);
         self.farewell = Some(Farewell::Refuse);
@@ -240,6 +260,7 @@ impl Link {
     pub(crate) fn enter(&mut self, state: LinkState)
         ensures after { Steps self.old self.new (λ w end. entering end state) }
         ensures state { self.new.state ≡ state }
+        ensures stations { SameStations self.old self.new }
     {
         self.state = state;
         self.timer = ANEW;
@@ -288,12 +309,13 @@ impl Link {
     }
 }
 
-/// What is to be sent first, unless it is an I frame.
-fn without_information(reply: Option<Reply>) -> Option<Reply>
-    ensures { option_map reply_value result ≡ unless_oldest (option_map reply_value reply) }
+/// Whether its sequence numbers are below 8.
+fn has_low_numbers(kind: &Kind<'_>) -> bool
+    ensures { IsTrue result ↔ FitsControl (kind_value kind.now).control }
 {
-    match reply {
-        Some(Reply::Oldest) => None,
-        other => other,
+    match kind {
+        Kind::I { ns, nr, .. } => *ns < MODULUS && *nr < MODULUS,
+        Kind::Rr { nr } | Kind::Rnr { nr } | Kind::Rej { nr } => *nr < MODULUS,
+        _ => true,
     }
 }

@@ -1,7 +1,10 @@
 //! The frames that are pending beside I frames: replies, the timer's frames, and the last frame of an end that hangs up.
 
 ghost use Rattle.std.specs.Prelude.{◌≡◌, ◌+◌, ◌*◌, ◌<◌, [], ◌∷◌};
+ghost use Rattle.std.specs.Option.{option_map};
 ghost use Rattle.ax25_frames.specs.Kinds.{bit};
+ghost use Rattle.ax25_link.specs.Replies.{reply_value};
+ghost use Rattle.ax25_link.specs.Rows.{unless_oldest};
 
 /// A reply to a frame, or what the timer sends (AX.25 2.0, 2.4.4, 2.4.7.1). It goes out before all other frames.
 #[derive(Clone, Copy)]
@@ -50,6 +53,16 @@ pub(crate) enum Farewell {
     Disconnect,
     /// DM with F = 0 (2.3.4.3.5).
     Refuse,
+}
+
+/// What is to be sent first, unless it is an I frame.
+pub(crate) fn without_information(reply: Option<Reply>) -> Option<Reply>
+    ensures { option_map reply_value result ≡ unless_oldest (option_map reply_value reply) }
+{
+    match reply {
+        Some(Reply::Oldest) => None,
+        other => other,
+    }
 }
 
 /// The third octet of FRMR where N(R) is bad: bit Z (2.3.4.3.3).

@@ -155,7 +155,10 @@ fn put_range(out: &mut ArrayVec<u8, 400>, front: &[u8], back: &[u8], start: usiz
 {
     let cut = front.len();
     put(out, &front[start.min(cut)..end.min(cut)]);
-    put(out, &back[start.saturating_sub(cut)..end.saturating_sub(cut)]);
+    put(
+        out,
+        &back[start.saturating_sub(cut)..end.saturating_sub(cut)],
+    );
 }
 
 /// Puts octets at the end.

@@ -5,17 +5,16 @@ ghost use Rattle.ax25_frames.specs.Kinds.{bit, control_octet};
 ghost use Rattle.ax25_frames.specs.Values.{value_of};
 ghost use Rattle.ax25_link.specs.Acknowledging.{acknowledging, applying, is_bad, is_good, meaning_of};
 ghost use Rattle.ax25_link.specs.Counting.{is_bad_number, is_good_number};
-ghost use Rattle.ax25_link.specs.Kept.{IsFromPeer, Steps, Tells, is_pending, outstanding_in};
+ghost use Rattle.ax25_link.specs.Kept.{IsFromPeer, SameStations, Steps, Tells, is_pending, outstanding_in};
 ghost use Rattle.ax25_frames.specs.declared.control.Control.{Control};
 ghost use Rattle.ax25_link.specs.Rows.{called_again, calling_row, closing, closing_with, down_row, ending_row, information_row, numbered_row, refusing, sending_again, supervisory_row, up_row, with_busy};
 ghost use Rattle.ax25_link.specs.Ends.{accept};
 
 use crate::link::Link;
-use crate::number;
 use crate::reply::{Reply, reject_octets};
 use crate::timer::ANEW;
 use crate::window::{Acknowledgement, judge};
-use crate::{Heard, LinkState, Why};
+use crate::{Heard, LinkState, Why, number};
 use ax25_frames::{Frame, Kind};
 
 impl Link {
@@ -25,6 +24,7 @@ impl Link {
             (λ w end. (calling_row end (value_of frame.now) (value_of frame.now).kind.control).after) }
         ensures heard { Tells self.old
             (λ w end. (calling_row end (value_of frame.now) (value_of frame.now).kind.control).heard) result }
+        ensures stations { SameStations self.old self.new }
     {
         match frame.kind {
             Kind::Ua => {
@@ -46,6 +46,7 @@ impl Link {
             (λ w end. (ending_row end (value_of frame.now) (value_of frame.now).kind.control).after) }
         ensures heard { Tells self.old
             (λ w end. (ending_row end (value_of frame.now) (value_of frame.now).kind.control).heard) result }
+        ensures stations { SameStations self.old self.new }
     {
         match frame.kind {
             Kind::Ua => self.close(Why::Disc),
@@ -59,6 +60,7 @@ impl Link {
     pub(crate) fn take_down(&mut self, frame: &Frame<'_>) -> Heard
         ensures after { Steps self.old self.new (λ w end. (down_row end (value_of frame.now)).after) }
         ensures heard { Tells self.old (λ w end. (down_row end (value_of frame.now)).heard) result }
+        ensures stations { SameStations self.old self.new }
     {
         if matches!(frame.kind, Kind::Sabm) || frame.command && frame.poll {
             self.reply = Some(Reply::Refuse { poll: frame.poll });
@@ -68,12 +70,14 @@ impl Link {
 
     /// In state Up (2.4.4).
     pub(crate) fn take_up(&mut self, frame: &Frame<'_>) -> Heard
+        requires up { self.old.state ≡ LinkState.Up }
         requires quiet { is_pending self.old ≡ false }
         requires frame { IsFromPeer self.old (value_of frame.now) }
         ensures after { Steps self.old self.new
             (λ w end. (up_row w end (value_of frame.now) (value_of frame.now).kind.control).after) }
         ensures heard { Tells self.old
             (λ w end. (up_row w end (value_of frame.now) (value_of frame.now).kind.control).heard) result }
+        ensures stations { SameStations self.old self.new }
     {
         match frame.kind {
             Kind::I { ns, nr, .. } => self.take_information(frame, ns, nr),
@@ -98,6 +102,7 @@ impl Link {
             (λ e. information_row w e (value_of frame.now) ns)).after) }
         ensures heard { Tells self.old (λ w end. (numbered_row w end (value_of frame.now) nr
             (λ e. information_row w e (value_of frame.now) ns)).heard) result }
+        ensures stations { SameStations self.old self.new }
     {
         match self.apply(nr) {
             Acknowledgement::Bad => self.reject(frame, 2 * ns + 32 * nr),
@@ -122,10 +127,11 @@ impl Link {
             ≡ control_octet (value_of frame.now).kind.control frame.now.poll }
         ensures after { Steps self.old self.new (λ w end. (numbered_row w end (value_of frame.now) nr
             (λ e. supervisory_row (with_busy is_busy
-                (if is_reject && is_good (meaning_of w end nr) then sending_again e else e)) (value_of frame.now))).after) }
+            (if is_reject && is_good (meaning_of w end nr) then sending_again e else e)) (value_of frame.now))).after) }
         ensures heard { Tells self.old (λ w end. (numbered_row w end (value_of frame.now) nr
             (λ e. supervisory_row (with_busy is_busy
-                (if is_reject && is_good (meaning_of w end nr) then sending_again e else e)) (value_of frame.now))).heard) result }
+            (if is_reject && is_good (meaning_of w end nr) then sending_again e else e)) (value_of frame.now))).heard) result }
+        ensures stations { SameStations self.old self.new }
     {
         match self.apply(nr) {
             Acknowledgement::Bad => self.reject(frame, control),
@@ -144,6 +150,7 @@ impl Link {
         ensures after { Steps self.old self.new (λ w end. applying end (meaning_of w end nr)) }
         ensures bad { Tells self.old (λ w end. is_bad (meaning_of w end nr)) (is_bad_number result) }
         ensures good { Tells self.old (λ w end. is_good (meaning_of w end nr)) (is_good_number result) }
+        ensures stations { SameStations self.old self.new }
     {
         let meaning = judge(nr, self.acked, self.queue.outstanding(), self.k);
         match meaning {
@@ -160,7 +167,8 @@ impl Link {
         requires quiet { self.old.again ≡ 0 }
         requires reply { self.old.reply ≡ None }
         requires count { count ≤ outstanding_in self.old }
-        ensures { Steps self.old self.new (λ w end. acknowledging end (end.acked + count)) }
+        ensures after { Steps self.old self.new (λ w end. acknowledging end (end.acked + count)) }
+        ensures stations { SameStations self.old self.new }
     {
         self.queue.acknowledge(count);
         self.acked = number::after(self.acked, count);
@@ -173,6 +181,7 @@ impl Link {
     fn take_numbered(&mut self, frame: &Frame<'_>, ns: u8) -> Heard
         ensures after { Steps self.old self.new (λ w end. (information_row w end (value_of frame.now) ns).after) }
         ensures heard { Tells self.old (λ w end. (information_row w end (value_of frame.now) ns).heard) result }
+        ensures stations { SameStations self.old self.new }
     {
         let poll = frame.poll;
         if ns == self.taken {
@@ -196,6 +205,7 @@ impl Link {
         ensures after { Steps self.old self.new
             (λ w end. (supervisory_row (with_busy is_busy end) (value_of frame.now)).after) }
         ensures heard { result ≡ Heard.Nothing }
+        ensures stations { SameStations self.old self.new }
     {
         self.peer_busy = is_busy;
         if frame.command && frame.poll {
@@ -209,6 +219,7 @@ impl Link {
         requires { self.old.state ≡ LinkState.Up }
         ensures after { Steps self.old self.new (λ w end. (called_again end (value_of frame.now)).after) }
         ensures heard { Tells self.old (λ w end. (called_again end (value_of frame.now)).heard) result }
+        ensures stations { SameStations self.old self.new }
     {
         if self.called {
             return Heard::Nothing;
@@ -229,6 +240,7 @@ impl Link {
     fn take_disc(&mut self, poll: bool) -> Heard
         ensures after { Steps self.old self.new (λ w end. (closing_with end (accept poll) Why.Disc).after) }
         ensures heard { result ≡ Heard.Closed Why.Disc }
+        ensures stations { SameStations self.old self.new }
     {
         self.enter(LinkState::Down);
         self.reply = Some(Reply::Accept { poll });
@@ -242,6 +254,7 @@ impl Link {
             ≡ control_octet (value_of frame.now).kind.control frame.now.poll }
         ensures after { Steps self.old self.new (λ w end. (refusing w end (value_of frame.now)).after) }
         ensures heard { result ≡ Heard.Closed Why.BadNr }
+        ensures stations { SameStations self.old self.new }
     {
         let octets = reject_octets(
             control + 16 * u8::from(frame.poll),
@@ -261,6 +274,7 @@ impl Link {
     fn close(&mut self, why: Why) -> Heard
         ensures after { Steps self.old self.new (λ w end. (closing end why).after) }
         ensures heard { result ≡ Heard.Closed why }
+        ensures stations { SameStations self.old self.new }
     {
         self.enter(LinkState::Down);
         Heard::Closed(why)

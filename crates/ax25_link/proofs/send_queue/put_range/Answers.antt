@@ -11,4 +11,4 @@ returns c =
     ∙ append_assoc c.args.out.now.items first second
     ∙ ap (λ (xs : List ℕ). c.args.out.now.items ++ xs)
     (range-parts c.args.front.now c.args.back.now c.args.start c.args.end c.min.result c.min-2.result c.saturating_sub.result c.saturating_sub-2.result
-      c.requires.order c.min.ensures c.min-2.ensures c.saturating_sub.ensures c.saturating_sub-2.ensures)
+    c.requires.order c.min.ensures c.min-2.ensures c.saturating_sub.ensures c.saturating_sub-2.ensures)

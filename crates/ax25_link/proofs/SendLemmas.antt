@@ -1,0 +1,269 @@
+-- What an end sends, and what that leaves.
+use Rattle.std.proofs.Common.{◌≡◌, ℕ, ◌+◌, ◌-◌, ◌%◌, ◌<◌, ◌≤◌, ◌⊎◌, List, [], ◌∷◌, ◌++◌, length, take, drop, Option, Some, None, Bool, true, false, refl, sym, ◌∙◌, ap, subst, arith, inl, inr, cond, length-append, append_assoc, append-nil, take-append-drop}
+use Rattle.std.specs.Prelude.{◌==◌, nat_le, nat_lt, ◌||◌, ◌&&◌, not, IsTrue, if◌then◌else◌, ⊤, slice_get, unwrap_or, zero, suc}
+use Rattle.std.specs.List.{concat}
+use Rattle.std.proofs.lemmas.Bool.{cond_both, cond-true, cond-false, cases_Bool, ltb-true, ltb-false, and_parts}
+use Rattle.std.proofs.lemmas.List.{take-append-le}
+use Rattle.std.proofs.lemmas.Option.{same_Some, slice_get_within}
+use Rattle.ax25_frames.specs.declared.control.Control.{Control}
+use Rattle.ax25_frames.specs.declared.control.Control.TheVariants.{I, Rr, Rnr, Rej, Sabm, Disc, Dm, Ua, Frmr, Ui}
+use Rattle.ax25_frames.specs.FrameText.{FrameValue}
+use Rattle.ax25_link.specs.declared.state.LinkState.{LinkState}
+use Rattle.ax25_link.specs.declared.state.LinkState.TheVariants.{Calling, Up, Ending, Down}
+use Rattle.ax25_link.specs.Window.{Window, IsWindow}
+use Rattle.ax25_link.specs.Ends.{LinkEnd, Reply, Farewell, IsEnd, high, outstanding, taken_count, ready, reject, accept, refuse, refuse_frame, call, disconnect, enquire, oldest, goodbye, gone}
+use Rattle.ax25_link.specs.Frames.{piece_at, frame_of_reply, frame_of_farewell, information_of, information_again}
+use Rattle.ax25_link.specs.Timer.{is_up}
+use Rattle.ax25_link.specs.Sending.{Sending, IsQuiet, next_sending, sending_after, later_sending, last_sending, has_new, is_empty, next_piece, most_information, sends_reply, sends_again, sends_new, sends_farewell, with_piece, after_new}
+use Rattle.ax25_link.specs.Air.{is_information, is_numbered}
+use Rattle.ax25_link.specs.Linked.{send_number, ack_number, owed, owed_for, IsUnpushed}
+use Rattle.ax25_link.proofs.AirLemmas.{MorePieces}
+use Rattle.ax25_link.proofs.Places.{slice_get-append_before, slice_get-append_at}
+
+-- pieces, joined, with one more
+pub concat-append_one : (pieces : List (List ℕ)) (piece : List ℕ) → concat (pieces ++ piece ∷ []) ≡ concat pieces ++ piece
+concat-append_one [] piece = append-nil piece
+concat-append_one (x ∷ pieces) piece = ap (λ (l : List ℕ). x ++ l) (concat-append_one pieces piece) ∙ sym (append_assoc x (concat pieces) piece)
+
+-- a piece that was sent
+pub piece_there : (pieces : List (List ℕ)) (place : ℕ) → place < length pieces → slice_get pieces place ≡ Some (unwrap_or (slice_get pieces place) [])
+piece_there [] place h = absurd (let x : ⊥ = omega arith in x)
+piece_there (x ∷ pieces) zero h = refl
+piece_there (x ∷ pieces) (suc place) h = piece_there pieces place (omega arith)
+
+-- the octets that were pushed and not given to a piece
+abbrev pub IsRest : LinkEnd → List ℕ → Type 0
+IsRest end rest = (end.pushed ≡ concat end.sent ++ rest) × (end.state ≡ Up → end.queued ≡ rest)
+
+-- the piece of an I frame that is sent: it is outstanding then
+pub record SendsPiece (w : Window) (old : LinkEnd) (frame : FrameValue) (new : LinkEnd) (place : ℕ) : Type 0 where
+  pub shows : send_number frame.kind.control ≡ place % w.modulus
+  pub carries : slice_get new.sent place ≡ Some frame.kind.information
+  pub least : old.acked ≤ place
+  pub sent : place < high new
+
+-- what sending a frame does
+pub record Sends (w : Window) (old : LinkEnd) (frame : FrameValue) (new : LinkEnd) : Type 0 where
+  pub fits : IsEnd w new
+  pub state : new.state ≡ old.state
+  pub acked : new.acked ≡ old.acked
+  pub taken : new.taken ≡ old.taken
+  pub more : MorePieces old.sent new.sent
+  pub place : ℕ
+  pub piece : IsTrue (is_information frame.kind.control) → SendsPiece w old frame new place
+  pub shows : IsTrue (is_numbered frame.kind.control) → ack_number frame.kind.control ≡ taken_count old % w.modulus
+  pub owed : owed old ≤ owed new + 1
+  pub octets : (rest : List ℕ) → IsRest old rest → (left : List ℕ) × IsRest new left
+  pub calling : IsUnpushed old → IsUnpushed new
+
+same_pieces : (pieces : List (List ℕ)) → MorePieces pieces pieces
+same_pieces pieces = record { keeps = λ place x h. h; least = omega arith; most = omega arith; front = λ n h. refl }
+
+pub owed_most : (reply : Option Reply) → owed_for reply ≤ 1
+owed_most None = omega arith
+owed_most (Some (ready poll)) = omega arith
+owed_most (Some (reject poll)) = omega arith
+owed_most (Some (accept poll)) = omega arith
+owed_most (Some (refuse poll)) = omega arith
+owed_most (Some (refuse_frame octets poll)) = omega arith
+owed_most (Some call) = omega arith
+owed_most (Some disconnect) = omega arith
+owed_most (Some enquire) = omega arith
+owed_most (Some oldest) = omega arith
+
+-- the frame of a reply: the oldest outstanding frame, or no I frame
+reply_piece : (w : Window) (old : LinkEnd) (reply : Reply) → old.acked ≤ high old → (reply ≡ oldest → 1 ≤ outstanding old)
+    → IsTrue (is_information (frame_of_reply w old reply).kind.control)
+    → SendsPiece w old (frame_of_reply w old reply) (record old { reply = None }) old.acked
+reply_piece w old (ready poll) order some h = absurd (let x : ⊥ = cc in x)
+reply_piece w old (reject poll) order some h = absurd (let x : ⊥ = cc in x)
+reply_piece w old (accept poll) order some h = absurd (let x : ⊥ = cc in x)
+reply_piece w old (refuse poll) order some h = absurd (let x : ⊥ = cc in x)
+reply_piece w old (refuse_frame octets poll) order some h = absurd (let x : ⊥ = cc in x)
+reply_piece w old call order some h = absurd (let x : ⊥ = cc in x)
+reply_piece w old disconnect order some h = absurd (let x : ⊥ = cc in x)
+reply_piece w old enquire order some h = absurd (let x : ⊥ = cc in x)
+reply_piece w old oldest order some h =
+    let least = some refl in
+    record { shows = refl; carries = piece_there old.sent old.acked (omega arith); least = omega arith; sent = omega arith }
+
+reply_shows : (w : Window) (old : LinkEnd) (reply : Reply) → IsTrue (is_numbered (frame_of_reply w old reply).kind.control)
+    → ack_number (frame_of_reply w old reply).kind.control ≡ taken_count old % w.modulus
+reply_shows w old (ready poll) h = refl
+reply_shows w old (reject poll) h = refl
+reply_shows w old (accept poll) h = absurd (let x : ⊥ = cc in x)
+reply_shows w old (refuse poll) h = absurd (let x : ⊥ = cc in x)
+reply_shows w old (refuse_frame octets poll) h = absurd (let x : ⊥ = cc in x)
+reply_shows w old call h = absurd (let x : ⊥ = cc in x)
+reply_shows w old disconnect h = absurd (let x : ⊥ = cc in x)
+reply_shows w old enquire h = refl
+reply_shows w old oldest h = refl
+
+Sends_reply : (w : Window) (old : LinkEnd) (reply : Reply) → IsEnd w old → old.reply ≡ Some reply
+    → Sends w old (frame_of_reply w old reply) (record old { reply = None })
+Sends_reply w old reply fits e =
+    let few = owed_most old.reply in
+    record {
+      fits = record { acked = fits.acked; window = fits.window; again = fits.again; oldest = λ (n : None ≡ Some oldest). absurd (let x : ⊥ = cc in x) };
+      state = refl; acked = refl; taken = refl; more = same_pieces old.sent;
+      place = old.acked;
+      piece = reply_piece w old reply fits.acked (λ same. fits.oldest (e ∙ ap Some same));
+      shows = reply_shows w old reply;
+      owed = few;
+      octets = λ rest h. (rest, h);
+      calling = λ h. h;
+    }
+
+Sends_again : (w : Window) (old : LinkEnd) → IsEnd w old → 0 < old.again → Sends w old (sends_again w old).frame (sends_again w old).after
+Sends_again w old fits some =
+    let again = fits.again in
+    let order = fits.acked in
+    record {
+      fits = record { acked = fits.acked; window = fits.window; again = omega arith; oldest = fits.oldest };
+      state = refl; acked = refl; taken = refl; more = same_pieces old.sent;
+      place = high old - old.again;
+      piece = λ h. record { shows = refl; carries = piece_there old.sent (high old - old.again) (omega arith); least = omega arith; sent = omega arith };
+      shows = λ h. refl;
+      owed = omega arith;
+      octets = λ rest h. (rest, h);
+      calling = λ h. h;
+    }
+
+is_up-Up : (state : LinkState) → is_up state ≡ true → state ≡ Up
+is_up-Up Up h = refl
+is_up-Up Calling h = absurd (let x : ⊥ = cc in x)
+is_up-Up Ending h = absurd (let x : ⊥ = cc in x)
+is_up-Up Down h = absurd (let x : ⊥ = cc in x)
+
+-- an end that has given a piece to a new I frame, and may have begun the timer anew
+pub record HasPiece (old new : LinkEnd) : Type 0 where
+  pub state : new.state ≡ old.state
+  pub pushed : new.pushed ≡ old.pushed
+  pub queued : new.queued ≡ drop most_information old.queued
+  pub sent : new.sent ≡ old.sent ++ next_piece old ∷ []
+  pub acked : new.acked ≡ old.acked
+  pub taken : new.taken ≡ old.taken
+  pub again : new.again ≡ old.again
+  pub reply : new.reply ≡ old.reply
+
+after_new-HasPiece : (old : LinkEnd) → HasPiece old (after_new old)
+after_new-HasPiece old =
+    cond_both (outstanding old == 0) _ _ (λ (n : LinkEnd). HasPiece old n)
+      (λ e. record { state = refl; pushed = refl; queued = refl; sent = refl; acked = refl; taken = refl; again = refl; reply = refl })
+      (λ e. record { state = refl; pushed = refl; queued = refl; sent = refl; acked = refl; taken = refl; again = refl; reply = refl })
+
+more_pieces : (pieces : List (List ℕ)) (piece : List ℕ) → MorePieces pieces (pieces ++ piece ∷ [])
+more_pieces pieces piece =
+    let size : length (pieces ++ piece ∷ []) ≡ length pieces + 1 = length-append pieces (piece ∷ []) in
+    record {
+      keeps = λ place x h. slice_get-append_before pieces (piece ∷ []) place (slice_get_within pieces place x h) ∙ h;
+      least = omega (arith, size); most = omega (arith, size); front = λ n h. take-append-le n pieces (piece ∷ []) h;
+    }
+
+-- the octets of the new piece come from the front of those that are queued
+piece_rest : (old new : LinkEnd) → HasPiece old new → old.state ≡ Up → (rest : List ℕ) → IsRest old rest → (left : List ℕ) × IsRest new left
+piece_rest old new h up rest (pushed, queued) =
+    let all : old.queued ≡ rest = queued up in
+    let join : concat new.sent ++ drop most_information old.queued ≡ concat old.sent ++ old.queued =
+        ap (λ (l : List (List ℕ)). concat l ++ drop most_information old.queued) h.sent
+        ∙ ap (λ (l : List ℕ). l ++ drop most_information old.queued) (concat-append_one old.sent (next_piece old))
+        ∙ append_assoc (concat old.sent) (next_piece old) (drop most_information old.queued)
+        ∙ ap (λ (l : List ℕ). concat old.sent ++ l) (take-append-drop most_information old.queued) in
+    (drop most_information old.queued,
+      (h.pushed ∙ pushed ∙ ap (λ (l : List ℕ). concat old.sent ++ l) (sym all) ∙ sym join, λ e. h.queued))
+
+Sends_new : (w : Window) (old : LinkEnd) → IsEnd w old → has_new w old ≡ true → Sends w old (sends_new w old).frame (sends_new w old).after
+Sends_new w old fits has =
+    let all = and_parts (is_up old.state && nat_lt (outstanding old) w.size && not old.busy) (not (is_empty old.queued)) has in
+    let three = and_parts (is_up old.state && nat_lt (outstanding old) w.size) (not old.busy) all.0 in
+    let two = and_parts (is_up old.state) (nat_lt (outstanding old) w.size) three.0 in
+    let up : old.state ≡ Up = is_up-Up old.state two.0 in
+    let room : outstanding old < w.size = ltb-true (outstanding old) w.size two.1 in
+    let h = after_new-HasPiece old in
+    let new = after_new old in
+    let size : high new ≡ high old + 1 = ap (λ (l : List (List ℕ)). length l) h.sent ∙ length-append old.sent (next_piece old ∷ []) in
+    let acked = h.acked in
+    let again = h.again in
+    let order = fits.acked in
+    let least = fits.again in
+    record {
+      fits = record {
+        acked = omega (arith, size); window = omega (arith, size); again = omega (arith, size);
+        oldest = λ e. (let some = fits.oldest (sym h.reply ∙ e) in omega (arith, size, some));
+      };
+      state = h.state; acked = h.acked; taken = h.taken;
+      more = subst (λ (l : List (List ℕ)). MorePieces old.sent l) (sym h.sent) (more_pieces old.sent (next_piece old));
+      place = high old;
+      piece = λ kind. record {
+        shows = refl;
+        carries = ap (λ (l : List (List ℕ)). slice_get l (high old)) h.sent ∙ slice_get-append_at old.sent (next_piece old);
+        least = order; sent = omega (arith, size);
+      };
+      shows = λ kind. refl;
+      owed = (let same : owed new ≡ owed old = ap owed_for h.reply in omega (arith, same));
+      octets = λ rest o. piece_rest old new h up rest o;
+      calling = λ u e. absurd (let c : old.state ≡ Calling = sym h.state ∙ e in let x : ⊥ = cc in x);
+    }
+
+farewell_none : (old : LinkEnd) (farewell : Farewell) → IsTrue (is_numbered (frame_of_farewell old farewell).kind.control) → ⊥
+farewell_none old goodbye h = let x : ⊥ = cc in x
+farewell_none old gone h = let x : ⊥ = cc in x
+
+farewell_none_information : (old : LinkEnd) (farewell : Farewell) → IsTrue (is_information (frame_of_farewell old farewell).kind.control) → ⊥
+farewell_none_information old goodbye h = let x : ⊥ = cc in x
+farewell_none_information old gone h = let x : ⊥ = cc in x
+
+Sends_farewell : (w : Window) (old : LinkEnd) (farewell : Farewell) → IsEnd w old
+    → Sends w old (frame_of_farewell old farewell) (record old { farewell = None })
+Sends_farewell w old farewell fits =
+    record {
+      fits = record { acked = fits.acked; window = fits.window; again = fits.again; oldest = fits.oldest };
+      state = refl; acked = refl; taken = refl; more = same_pieces old.sent;
+      place = 0;
+      piece = λ h. absurd (farewell_none_information old farewell h);
+      shows = λ h. absurd (farewell_none old farewell h);
+      owed = omega arith;
+      octets = λ rest h. (rest, h);
+      calling = λ h. h;
+    }
+
+-- the cases of what is sent next
+abbrev SendsThis : Window → LinkEnd → Sending → Type 0
+SendsThis w old sending = Sends w old sending.frame sending.after
+
+sends_last : (w : Window) (old : LinkEnd) (farewell : Option Farewell) (sending : Sending) → IsEnd w old → last_sending old farewell ≡ Some sending
+    → SendsThis w old sending
+sends_last w old None sending fits h = absurd (let x : ⊥ = cc in x)
+sends_last w old (Some farewell) sending fits h =
+    subst (SendsThis w old) (same_Some (sends_farewell old farewell) sending h) (Sends_farewell w old farewell fits)
+
+sends_later : (w : Window) (old : LinkEnd) (sending : Sending) → IsEnd w old → later_sending w old ≡ Some sending → SendsThis w old sending
+sends_later w old sending fits h =
+    elim (cases_Bool (nat_lt 0 old.again)) [
+      | inl some ↦
+        subst (SendsThis w old) (same_Some (sends_again w old) sending (sym (cond-true (nat_lt 0 old.again) _ _ some) ∙ h))
+          (Sends_again w old fits (ltb-true 0 old.again some))
+      | inr none ↦
+        let next = sym (cond-false (nat_lt 0 old.again) (Some (sends_again w old)) _ none) ∙ h in
+        elim (cases_Bool (has_new w old)) [
+          | inl has ↦
+            subst (SendsThis w old) (same_Some (sends_new w old) sending (sym (cond-true (has_new w old) _ _ has) ∙ next))
+              (Sends_new w old fits has)
+          | inr no_new ↦
+            sends_last w old old.farewell sending fits (sym (cond-false (has_new w old) (Some (sends_new w old)) _ no_new) ∙ next)
+        ]
+    ]
+
+sends_first : (w : Window) (old : LinkEnd) (reply : Option Reply) (sending : Sending) → old.reply ≡ reply → IsEnd w old
+    → sending_after w old reply ≡ Some sending → SendsThis w old sending
+sends_first w old None sending e fits h = sends_later w old sending fits h
+sends_first w old (Some reply) sending e fits h =
+    subst (SendsThis w old) (same_Some (sends_reply w old reply) sending h) (Sends_reply w old reply fits e)
+
+-- what sending the next frame does
+pub next_sending-Sends : (w : Window) (old : LinkEnd) (sending : Sending) → IsEnd w old → next_sending w old ≡ Some sending
+    → Sends w old sending.frame sending.after
+next_sending-Sends w old sending fits h = sends_first w old old.reply sending refl fits h
+
+pub next_sending-IsEnd : (w : Window) (old : LinkEnd) (sending : Sending) → IsEnd w old → next_sending w old ≡ Some sending → IsEnd w sending.after
+next_sending-IsEnd w old sending fits h = (next_sending-Sends w old sending fits h).fits
