@@ -1,26 +1,23 @@
 -- Two linked stations stay linked when a transmission of one is delivered to the other.
-use Rattle.std.proofs.Common.{◌≡◌, ℕ, ◌+◌, ◌-◌, ◌%◌, ◌<◌, ◌≤◌, ◌⊎◌, List, [], ◌∷◌, ◌++◌, length, take, Option, Some, None, Bool, true, false, refl, sym, ◌∙◌, ap, subst, arith, inl, inr, length-append}
+use Rattle.std.proofs.Common.{◌≡◌, ℕ, ◌+◌, ◌-◌, ◌%◌, ◌<◌, ◌≤◌, ◌⊎◌, List, [], ◌∷◌, ◌++◌, take, Some, false, sym, ◌∙◌, ap, subst, arith, inl, inr, length-append}
 use Rattle.std.specs.Prelude.{IsTrue, slice_get, zero, suc}
 use Rattle.std.specs.List.{concat}
 use Rattle.std.proofs.lemmas.Bool.{cases_Bool, true≢false}
 use Rattle.std.proofs.lemmas.Option.{same_Some}
 use Rattle.ax25_frames.specs.declared.control.Control.{Control}
-use Rattle.ax25_frames.specs.FrameText.{FrameValue}
-use Rattle.ax25_link.specs.declared.state.LinkState.{LinkState}
-use Rattle.ax25_link.specs.declared.state.LinkState.TheVariants.{Calling, Up, Ending, Down}
 use Rattle.ax25_link.specs.Window.{Window, IsWindow}
-use Rattle.ax25_link.specs.Ends.{LinkEnd, Reply, IsEnd, high, taken_count}
-use Rattle.ax25_link.specs.Acknowledging.{Meaning, good, stale, bad, meaning_of, is_bad}
+use Rattle.ax25_link.specs.Ends.{LinkEnd, high, taken_count}
+use Rattle.ax25_link.specs.Acknowledging.{good, stale, meaning_of}
 use Rattle.ax25_link.specs.Rows.{after_frame, is_call}
 use Rattle.ax25_link.specs.Sending.{IsQuiet}
-use Rattle.ax25_link.specs.Air.{Transmission, IsAt, IsLawful, later_count, NoneLater, control_of, is_information, is_numbered, delivering}
-use Rattle.ax25_link.specs.Linked.{Station, AreLinked, NumbersFit, OctetsFit, PiecesFit, ShownFit, IsUnpushed, IsOpened, send_number, ack_number, owed}
+use Rattle.ax25_link.specs.Air.{Transmission, IsLawful, later_count, control_of, is_information, is_numbered, delivering}
+use Rattle.ax25_link.specs.Linked.{Station, AreLinked, PiecesFit, IsUnpushed, send_number, ack_number, owed}
 use Rattle.ax25_link.proofs.Modulus.{same_number}
 use Rattle.ax25_link.proofs.MeaningLemmas.{meaning_shown}
 use Rattle.ax25_link.proofs.AirLemmas.{information_numbered, ShownFit-grows, PiecesFit-deliver, ShownFit-deliver, IsOpened-deliver}
-use Rattle.ax25_link.proofs.EndLemmas.{Quiet, quiet}
+use Rattle.ax25_link.proofs.EndLemmas.{quiet}
 use Rattle.ax25_link.proofs.EndKept.{Hears-IsEnd}
-use Rattle.ax25_link.proofs.HeardLemmas.{Hears, Accepts, Acknowledges, after_frame-Hears}
+use Rattle.ax25_link.proofs.HeardLemmas.{Hears, Acknowledges, after_frame-Hears}
 use Rattle.ax25_link.proofs.SendLemmas.{IsRest}
 use Rattle.ax25_link.proofs.LinkedLemmas.{station, count_of, quiet-owed}
 

@@ -1,16 +1,12 @@
 -- What each step of an end keeps.
-use Rattle.std.proofs.Common.{◌≡◌, ℕ, ◌+◌, ◌-◌, ◌%◌, ◌<◌, ◌≤◌, ◌⊎◌, List, [], ◌∷◌, ◌++◌, length, Option, Some, None, Bool, true, false, refl, sym, ◌∙◌, ap, subst, arith, inl, inr, length-append, cond}
-use Rattle.std.specs.Prelude.{◌==◌, nat_le, nat_lt, ◌||◌, ◌&&◌, not, IsTrue, if◌then◌else◌, ⊤}
-use Rattle.std.proofs.lemmas.Grind.{common_steps}
-use Rattle.std.proofs.lemmas.Bool.{cond_both, cases_Bool, leb-true, leb-false, ltb-true, ltb-false, eqb-true, eqb-false, or_parts}
-use Rattle.std.proofs.lemmas.Bool.Decides.{nat_tests}
-use Rattle.ax25_frames.specs.FrameText.{FrameValue}
-use Rattle.ax25_link.specs.declared.state.LinkState.{LinkState}
-use Rattle.ax25_link.specs.Window.{Window, IsWindow}
-use Rattle.ax25_link.specs.Ends.{LinkEnd, Reply, Farewell, IsEnd, high, outstanding, ready, reject, accept, refuse, refuse_frame, call, disconnect, enquire, oldest}
-use Rattle.ax25_link.specs.Acknowledging.{Meaning, good, stale, bad, meaning_at, meaning_of, distance, acknowledging, applying, is_good, is_bad}
+use Rattle.std.proofs.Common.{◌≡◌, ℕ, ◌-◌, ◌≤◌, ◌⊎◌, Option, Some, None, refl, sym, ap, arith, inl, inr}
+use Rattle.std.specs.Prelude.{◌==◌, nat_le, nat_lt, ◌||◌, ⊤}
+use Rattle.std.proofs.lemmas.Bool.{cond_both, cases_Bool, leb-true, ltb-false, or_parts}
+use Rattle.ax25_link.specs.Window.{Window}
+use Rattle.ax25_link.specs.Ends.{LinkEnd, Reply, IsEnd, high, ready, reject, accept, refuse, refuse_frame, call, disconnect, enquire, oldest}
+use Rattle.ax25_link.specs.Acknowledging.{Meaning, good, stale, bad, meaning_at, meaning_of, distance, acknowledging, applying}
 use Rattle.ax25_link.specs.Rows.{unless_oldest}
-use Rattle.ax25_link.specs.Sending.{Sending, IsQuiet, next_sending, sending_after, later_sending, has_new, last_sending, sends_again, sends_new}
+use Rattle.ax25_link.specs.Sending.{IsQuiet, sending_after, later_sending, sends_again}
 
 -- what an end that has nothing to send has
 pub record Quiet (end : LinkEnd) : Type 0 where

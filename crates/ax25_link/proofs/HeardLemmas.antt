@@ -1,21 +1,20 @@
 -- What a frame does to an end that has nothing to send, row by row.
-use Rattle.std.proofs.Common.{◌≡◌, ℕ, ◌+◌, ◌-◌, ◌%◌, ◌<◌, ◌≤◌, ◌⊎◌, List, [], ◌∷◌, ◌++◌, length, Option, Some, None, Bool, true, false, refl, sym, ◌∙◌, ap, subst, arith, inl, inr, cond}
-use Rattle.std.specs.Prelude.{◌==◌, nat_le, nat_lt, ◌||◌, ◌&&◌, not, IsTrue, if◌then◌else◌, ⊤}
-use Rattle.std.proofs.lemmas.Bool.{cond_both, cases_Bool, eqb-true}
+use Rattle.std.proofs.Common.{◌≡◌, ℕ, ◌-◌, ◌%◌, ◌≤◌, ◌⊎◌, List, [], ◌∷◌, ◌++◌, length, Some, None, Bool, true, false, refl, sym, ◌∙◌, ap, subst, arith, inl, inr}
+use Rattle.std.specs.Prelude.{◌==◌, ◌||◌, ◌&&◌, IsTrue, if◌then◌else◌}
+use Rattle.std.proofs.lemmas.Bool.{cond_both, eqb-true}
 use Rattle.ax25_frames.specs.declared.control.Control.{Control}
 use Rattle.ax25_frames.specs.declared.control.Control.TheVariants.{I, Rr, Rnr, Rej, Sabm, Disc, Dm, Ua, Frmr, Ui}
 use Rattle.ax25_frames.specs.FrameText.{FrameValue}
 use Rattle.ax25_link.specs.declared.state.LinkState.{LinkState}
 use Rattle.ax25_link.specs.declared.state.LinkState.TheVariants.{Calling, Up, Ending, Down}
-use Rattle.ax25_link.specs.declared.state.Why.{Why}
 use Rattle.ax25_link.specs.Window.{Window}
-use Rattle.ax25_link.specs.Ends.{LinkEnd, Reply, IsEnd, high, outstanding, taken_count, ready, reject, accept, refuse, refuse_frame, call, disconnect, enquire, oldest}
-use Rattle.ax25_link.specs.Acknowledging.{Meaning, good, meaning_of, applying, is_good, is_bad, distance}
+use Rattle.ax25_link.specs.Ends.{LinkEnd, Reply, IsEnd, high, outstanding, taken_count, ready, reject, accept, refuse, oldest}
+use Rattle.ax25_link.specs.Acknowledging.{good, meaning_of, applying, is_good, is_bad, distance}
 use Rattle.ax25_link.specs.Frames.{receive_number}
-use Rattle.ax25_link.specs.Rows.{Outcome, passed_over, replying, entering, closing, closing_with, refusing, accepting, out_of_sequence, information_row, supervisory_row, with_busy, sending_again, numbered_row, called_again, up_row, calling_row, ending_row, down_row, row_of_state, is_call, is_oldest, after_frame}
+use Rattle.ax25_link.specs.Rows.{Outcome, replying, entering, information_row, supervisory_row, with_busy, sending_again, numbered_row, up_row, calling_row, ending_row, down_row, row_of_state, is_call, after_frame}
 use Rattle.ax25_link.specs.Linked.{send_number, ack_number, owed}
 use Rattle.ax25_link.specs.Air.{is_information, is_numbered}
-use Rattle.ax25_link.proofs.EndLemmas.{Quiet, Keeps, Applied, Fits, meaning-Fits, meaning-Applied, applying-acked, unless_oldest-no}
+use Rattle.ax25_link.proofs.EndLemmas.{Quiet, Applied, meaning-Fits, meaning-Applied, applying-acked, unless_oldest-no}
 
 -- the frame is an I frame that is next: its information is accepted, and it is replied to
 pub record Accepts (w : Window) (old : LinkEnd) (control : Control) (information : List ℕ) (new : LinkEnd) : Type 0 where

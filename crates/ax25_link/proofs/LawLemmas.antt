@@ -1,29 +1,25 @@
 -- The parts of the prefix law.
-use Rattle.std.proofs.Common.{◌≡◌, ℕ, ◌+◌, ◌-◌, ◌%◌, ◌<◌, ◌≤◌, ◌⊎◌, List, [], ◌∷◌, ◌++◌, length, take, map, Option, Some, None, Bool, true, false, refl, sym, ◌∙◌, ap, subst, arith, inl, inr, length-append, append_assoc, append-nil, take-append-drop}
-use Rattle.std.specs.Prelude.{IsTrue, slice_get, drop}
+use Rattle.std.proofs.Common.{◌≡◌, ℕ, List, [], ◌∷◌, ◌++◌, length, take, map, false, refl, sym, ◌∙◌, ap, subst, arith, inl, inr, append_assoc, append-nil, take-append-drop}
+use Rattle.std.specs.Prelude.{drop}
 use Rattle.std.specs.List.{concat}
 use Rattle.std.proofs.lemmas.Bool.{true≢false}
 use Rattle.std.proofs.lemmas.List.Folds.{concat-append}
-use Rattle.px_base.specs.CallSign.{CallSign}
-use Rattle.px_base.specs.Octets.{IsFront}
-use Rattle.ax25_frames.specs.declared.control.Control.{Control}
 use Rattle.ax25_frames.specs.FrameText.{FrameValue}
-use Rattle.ax25_link.specs.declared.state.LinkState.{LinkState}
 use Rattle.ax25_link.specs.declared.state.LinkState.TheVariants.{Calling, Up}
-use Rattle.ax25_link.specs.Window.{Window, IsWindow}
-use Rattle.ax25_link.specs.Ends.{LinkEnd, Reply, IsEnd, high, taken_count, oldest, answering_end}
-use Rattle.ax25_link.specs.Acknowledging.{Meaning, good, stale, bad, meaning_of, is_bad}
+use Rattle.ax25_link.specs.Window.{Window}
+use Rattle.ax25_link.specs.Ends.{LinkEnd, taken_count}
+use Rattle.ax25_link.specs.Acknowledging.{is_bad}
 use Rattle.ax25_link.specs.Rows.{is_call}
 use Rattle.ax25_link.specs.Calls.{Doing, after_doing, DoesAll}
-use Rattle.ax25_link.specs.Sending.{Sending, IsQuiet, next_sending, Drains}
-use Rattle.ax25_link.specs.Air.{Transmission, fresh, IsAt, IsLawful, control_of, is_information, is_numbered, sending_all}
-use Rattle.ax25_link.specs.Linked.{Station, AreLinked, NumbersFit, OctetsFit, PiecesFit, ShownFit, IsInformationAt, IsNumberedAt, ack_number}
-use Rattle.ax25_link.specs.Acts.{Act, hear, tick, does, send, MayAct, acting, facing}
-use Rattle.ax25_link.specs.Laws.{IsOpening, IsUnused, OpeningLaw, KeptLaw, SentLaw, HeardLaw, TickedLaw, TurnedLaw, FrontLaw, NoBadLaw, PrefixLaw, HasNoCall, having_sent}
+use Rattle.ax25_link.specs.Sending.{Drains}
+use Rattle.ax25_link.specs.Air.{Transmission, fresh, control_of}
+use Rattle.ax25_link.specs.Linked.{Station, AreLinked, PiecesFit, ShownFit, IsInformationAt, IsNumberedAt}
+use Rattle.ax25_link.specs.Acts.{hear, tick, does, send, acting, facing}
+use Rattle.ax25_link.specs.Laws.{IsOpening, OpeningLaw, KeptLaw, SentLaw, HeardLaw, TickedLaw, TurnedLaw, FrontLaw, NoBadLaw, PrefixLaw, HasNoCall, having_sent}
 use Rattle.ax25_link.proofs.AirLemmas.{information_numbered}
 use Rattle.ax25_link.proofs.EndKept.{answering_end-IsEnd}
 use Rattle.ax25_link.proofs.LinkedLemmas.{station, quiet-owed, kept-steady, does-Steady, tick-Steady, kept-send}
-use Rattle.ax25_link.proofs.DeliveryLemmas.{Reads, reads, kept-hear}
+use Rattle.ax25_link.proofs.DeliveryLemmas.{reads, kept-hear}
 
 turned : TurnedLaw
 turned w one other h =

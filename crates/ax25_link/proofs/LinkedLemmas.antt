@@ -1,29 +1,20 @@
 -- Two linked stations stay linked, step by step.
-use Rattle.std.proofs.Common.{◌≡◌, ℕ, ◌+◌, ◌-◌, ◌%◌, ◌<◌, ◌≤◌, ◌⊎◌, List, [], ◌∷◌, ◌++◌, length, take, drop, Option, Some, None, Bool, true, false, refl, sym, ◌∙◌, ap, subst, arith, inl, inr, cond, length-append, append_assoc}
-use Rattle.std.specs.Prelude.{IsTrue, slice_get, ⊤, zero, suc, if◌then◌else◌}
+use Rattle.std.proofs.Common.{◌≡◌, ℕ, ◌≤◌, List, [], ◌∷◌, ◌++◌, length, take, Option, Some, None, false, refl, sym, ◌∙◌, ap, subst, arith, append_assoc}
 use Rattle.std.specs.List.{concat}
-use Rattle.std.proofs.lemmas.Bool.{cond_both, cases_Bool, true≢false}
-use Rattle.std.proofs.lemmas.Option.{same_Some}
-use Rattle.ax25_frames.specs.declared.control.Control.{Control}
-use Rattle.ax25_frames.specs.FrameText.{FrameValue}
-use Rattle.ax25_link.specs.declared.state.LinkState.{LinkState}
+use Rattle.std.proofs.lemmas.Bool.{cond_both}
 use Rattle.ax25_link.specs.declared.state.LinkState.TheVariants.{Calling, Up, Ending, Down}
-use Rattle.ax25_link.specs.Window.{Window, IsWindow}
-use Rattle.ax25_link.specs.Ends.{LinkEnd, Reply, IsEnd, high, taken_count, free_octets, ready, reject, accept, refuse, refuse_frame, call, disconnect, enquire, oldest}
-use Rattle.ax25_link.specs.Acknowledging.{Meaning, good, stale, bad, meaning_of}
-use Rattle.ax25_link.specs.Rows.{after_frame, is_call, entering, unless_oldest}
-use Rattle.ax25_link.specs.Timer.{is_down, runs_out, is_spent, trying, after_tick}
+use Rattle.ax25_link.specs.Window.{Window}
+use Rattle.ax25_link.specs.Ends.{LinkEnd, Reply, IsEnd, taken_count, free_octets, ready, reject, accept, refuse, refuse_frame, call, disconnect, enquire, oldest}
+use Rattle.ax25_link.specs.Rows.{is_call, unless_oldest}
+use Rattle.ax25_link.specs.Timer.{is_down, runs_out, is_spent, after_tick}
 use Rattle.ax25_link.specs.Calls.{Doing, push, hang_up, abandon, after_doing}
 use Rattle.ax25_link.specs.Sending.{Sending, IsQuiet, next_sending}
-use Rattle.ax25_link.specs.Air.{Transmission, fresh, IsAt, IsLawful, later_count, NoneLater, control_of, is_information, is_numbered, delivering}
-use Rattle.ax25_link.specs.Linked.{Station, AreLinked, NumbersFit, OctetsFit, PiecesFit, ShownFit, IsUnpushed, IsOpened, send_number, ack_number, owed, owed_for}
-use Rattle.ax25_link.proofs.Modulus.{same_number}
-use Rattle.ax25_link.proofs.MeaningLemmas.{meaning_shown}
-use Rattle.ax25_link.proofs.AirLemmas.{ShownFit-grows, PiecesFit-deliver, ShownFit-deliver, IsOpened-deliver, MorePieces, NewPiece, updated, PiecesFit-send, ShownFit-send, IsOpened-send}
-use Rattle.ax25_link.proofs.EndLemmas.{Quiet, quiet}
-use Rattle.ax25_link.proofs.EndKept.{Hears-IsEnd, after_tick-IsEnd, after_doing-IsEnd}
-use Rattle.ax25_link.proofs.HeardLemmas.{Hears, Accepts, Acknowledges, after_frame-Hears}
-use Rattle.ax25_link.proofs.SendLemmas.{IsRest, Sends, SendsPiece, next_sending-Sends}
+use Rattle.ax25_link.specs.Air.{Transmission, fresh}
+use Rattle.ax25_link.specs.Linked.{Station, AreLinked, NumbersFit, PiecesFit, ShownFit, IsUnpushed, owed, owed_for}
+use Rattle.ax25_link.proofs.AirLemmas.{ShownFit-grows, updated, PiecesFit-send, ShownFit-send, IsOpened-send}
+use Rattle.ax25_link.proofs.EndLemmas.{quiet}
+use Rattle.ax25_link.proofs.EndKept.{after_tick-IsEnd, after_doing-IsEnd}
+use Rattle.ax25_link.proofs.SendLemmas.{IsRest, next_sending-Sends}
 
 -- the station with another end, and with other transmissions
 abbrev pub station : LinkEnd → List Transmission → Station
