@@ -21,17 +21,17 @@ drained zero w end fits few =
     elim (option_cases (next_sending w end)) [
       | inl none ↦ ([], end, (none, refl))
       | inr some ↦
-        let less = (next_sending-Sends w end some.0 fits some.1).less in
-        absurd (let x : ⊥ = omega (arith, less) in x)
+          let less = (next_sending-Sends w end some.0 fits some.1).less in
+          absurd (let x : ⊥ = omega (arith, less) in x)
     ]
 drained (suc fuel) w end fits few =
     elim (option_cases (next_sending w end)) [
       | inl none ↦ ([], end, (none, refl))
       | inr some ↦
-        let s = next_sending-Sends w end some.0 fits some.1 in
-        let less = s.less in
-        let rest = drained fuel w some.0.after s.fits (omega (arith, less)) in
-        (some.0.frame ∷ rest.0, rest.1, (some.0, some.1, refl, rest.2))
+          let s = next_sending-Sends w end some.0 fits some.1 in
+          let less = s.less in
+          let rest = drained fuel w some.0.after s.fits (omega (arith, less)) in
+          (some.0.frame ∷ rest.0, rest.1, (some.0, some.1, refl, rest.2))
     ]
 
 one_way : (w : Window) (end : LinkEnd) (frames others : List FrameValue) (last another : LinkEnd) → Drains w end frames last
@@ -43,10 +43,11 @@ one_way w end (f ∷ frames) (e ∷ others) last another h g =
     let same : g.0 ≡ h.0 = same_Some g.0 h.0 (sym g.1 ∙ h.1) in
     let first : f ≡ e = h.2 ∙ ap (λ (s : Sending). s.frame) (sym same) ∙ sym g.2 in
     let rest = one_way w h.0.after frames others last another h.3
-      (subst (λ (s : Sending). Drains w s.after others another) same g.3) in
+    (subst (λ (s : Sending). Drains w s.after others another) same g.3) in
     ((let both : f ∷ frames ≡ e ∷ others = ap (λ (x : FrameValue). x ∷ frames) first ∙ ap (λ (l : List FrameValue). e ∷ l) rest.0 in both), rest.1)
 
 pub drains : DrainsLaw
-drains w end window fits =
-    (drained (left_to_send end) w end fits (omega arith),
-      λ frames others last another h g. one_way w end frames others last another h g)
+drains w end window fits = (
+  drained (left_to_send end) w end fits (omega arith),
+  λ frames others last another h g. one_way w end frames others last another h g,
+)

@@ -38,7 +38,10 @@ Hears-IsEnd w old control information new fits h =
     let again = h.again in
     let window = fits.window in
     record {
-      acked = omega (arith, size); window = omega (arith, size); again = omega (arith, size); oldest = λ e. absurd (h.oldest e);
+      acked = omega (arith, size);
+      window = omega (arith, size);
+      again = omega (arith, size);
+      oldest = λ e. absurd (h.oldest e);
     }
 
 up-IsEnd : (w : Window) (old : LinkEnd) (frame : FrameValue) (control : Control) → IsEnd w old → Quiet old → old.state ≡ Up
@@ -91,8 +94,8 @@ after_doing-IsEnd w end abandon fits = after_abandon-IsEnd w end fits
 pub asking-oldest : (end : LinkEnd) → asking end ≡ oldest → 1 ≤ outstanding end
 asking-oldest end =
     cond_both (outstanding end == 0) enquire oldest (λ (reply : Reply). reply ≡ oldest → 1 ≤ outstanding end)
-      (λ e f. absurd (let x : ⊥ = cc in x))
-      (λ e f. (let some = eqb-false (outstanding end) 0 e in omega (arith, some)))
+    (λ e f. absurd (let x : ⊥ = cc in x))
+    (λ e f. (let some = eqb-false (outstanding end) 0 e in omega (arith, some)))
 
 pub timer_reply-oldest : (state : LinkState) (end : LinkEnd) → timer_reply state end ≡ oldest → 1 ≤ outstanding end
 timer_reply-oldest Calling end e = absurd (let x : ⊥ = cc in x)
@@ -103,13 +106,15 @@ timer_reply-oldest Down end e = absurd (let x : ⊥ = cc in x)
 pub trying-IsEnd : (w : Window) (end : LinkEnd) → IsEnd w end → IsEnd w (trying end)
 trying-IsEnd w end fits =
     record {
-      acked = fits.acked; window = fits.window; again = fits.again;
+      acked = fits.acked;
+      window = fits.window;
+      again = fits.again;
       oldest = λ e. timer_reply-oldest end.state end (let same : timer_reply end.state end ≡ oldest = cc in same);
     }
 
 pub after_tick-IsEnd : (w : Window) (end : LinkEnd) → IsEnd w end → IsEnd w (after_tick end)
 after_tick-IsEnd w end fits =
     cond_both (is_down end.state) _ _ (λ (n : LinkEnd). IsEnd w n) (λ e. fits)
-      (λ e. cond_both (runs_out end) _ _ (λ (n : LinkEnd). IsEnd w n)
-        (λ f. cond_both (is_spent end) _ _ (λ (n : LinkEnd). IsEnd w n) (λ g. entering-IsEnd w end Down fits) (λ g. trying-IsEnd w end fits))
-        (λ f. record { acked = fits.acked; window = fits.window; again = fits.again; oldest = fits.oldest }))
+    (λ e. cond_both (runs_out end) _ _ (λ (n : LinkEnd). IsEnd w n)
+    (λ f. cond_both (is_spent end) _ _ (λ (n : LinkEnd). IsEnd w n) (λ g. entering-IsEnd w end Down fits) (λ g. trying-IsEnd w end fits))
+    (λ f. record { acked = fits.acked; window = fits.window; again = fits.again; oldest = fits.oldest }))

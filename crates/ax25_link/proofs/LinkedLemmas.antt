@@ -49,11 +49,15 @@ steady_numbers w one other new s h =
       acked = omega arith;
       taken = omega (arith, size);
       window = omega (arith, size);
-      pieces = (h.pieces.0,
-        subst (λ (l : List (List ℕ)). PiecesFit w l (taken_count other.end) one.transmissions h.pieces.0) (sym s.sent) h.pieces.1);
-      shown = (h.shown.0,
+      pieces = (
+        h.pieces.0,
+        subst (λ (l : List (List ℕ)). PiecesFit w l (taken_count other.end) one.transmissions h.pieces.0) (sym s.sent) h.pieces.1,
+      );
+      shown = (
+        h.shown.0,
         ShownFit-grows w (taken_count one.end) (taken_count new) (owed one.end) (owed new) other.end.acked one.transmissions h.shown.0
-          (omega (arith, count)) (omega (arith, count)) h.shown.1);
+            (omega (arith, count)) (omega (arith, count)) h.shown.1,
+      );
     }
 
 steady_facing : (w : Window) (one other : Station) (new : LinkEnd) → Steady w one.end new → NumbersFit w other one
@@ -114,17 +118,27 @@ pub does-Steady : (w : Window) (end : LinkEnd) (doing : Doing) → IsEnd w end �
 does-Steady w end (push octets) fits up =
     record {
       fits = after_doing-IsEnd w end (push octets) fits;
-      sent = refl; acked = refl; taken = refl; owed = omega arith;
-      octets = λ rest h. (rest ++ take (free_octets end) octets,
-        (ap (λ (l : List ℕ). l ++ take (free_octets end) octets) h.0 ∙ append_assoc (concat end.sent) rest (take (free_octets end) octets),
-          λ e. ap (λ (l : List ℕ). l ++ take (free_octets end) octets) (h.1 e)));
+      sent = refl;
+      acked = refl;
+      taken = refl;
+      owed = omega arith;
+      octets = λ rest h. (
+        rest ++ take (free_octets end) octets,
+        (
+          ap (λ (l : List ℕ). l ++ take (free_octets end) octets) h.0 ∙ append_assoc (concat end.sent) rest (take (free_octets end) octets),
+          λ e. ap (λ (l : List ℕ). l ++ take (free_octets end) octets) (h.1 e),
+        ),
+      );
       calling = λ u e. absurd (let c : end.state ≡ Calling = e in let x : ⊥ = cc in x);
     }
 does-Steady w end hang_up fits up =
     let same = owed-unless_oldest end.reply in
     record {
       fits = after_doing-IsEnd w end hang_up fits;
-      sent = refl; acked = refl; taken = refl; owed = omega (arith, same);
+      sent = refl;
+      acked = refl;
+      taken = refl;
+      owed = omega (arith, same);
       octets = λ rest h. (rest, (h.0, λ (e : Ending ≡ Up). absurd (let x : ⊥ = cc in x)));
       calling = λ u (e : Ending ≡ Calling). absurd (let x : ⊥ = cc in x);
     }
@@ -132,7 +146,10 @@ does-Steady w end abandon fits up =
     let same = owed-unless_oldest end.reply in
     record {
       fits = after_doing-IsEnd w end abandon fits;
-      sent = refl; acked = refl; taken = refl; owed = omega (arith, same);
+      sent = refl;
+      acked = refl;
+      taken = refl;
+      owed = omega (arith, same);
       octets = λ rest h. (rest, (h.0, λ (e : Down ≡ Up). absurd (let x : ⊥ = cc in x)));
       calling = λ u (e : Down ≡ Calling). absurd (let x : ⊥ = cc in x);
     }
@@ -150,15 +167,20 @@ record Ticked (old new : LinkEnd) : Type 0 where
 ticked : (end : LinkEnd) → Ticked end (after_tick end)
 ticked end =
     cond_both (is_down end.state) _ _ (λ (n : LinkEnd). Ticked end n)
-      (λ e. record { sent = refl; acked = refl; taken = refl; pushed = refl; queued = refl; up = λ s. s; calling = λ s. s })
-      (λ e. cond_both (runs_out end) _ _ (λ (n : LinkEnd). Ticked end n)
-        (λ f. cond_both (is_spent end) _ _ (λ (n : LinkEnd). Ticked end n)
-          (λ g. record {
-            sent = refl; acked = refl; taken = refl; pushed = refl; queued = refl;
-            up = λ (s : Down ≡ Up). absurd (let x : ⊥ = cc in x); calling = λ (s : Down ≡ Calling). absurd (let x : ⊥ = cc in x);
-          })
-          (λ g. record { sent = refl; acked = refl; taken = refl; pushed = refl; queued = refl; up = λ s. s; calling = λ s. s }))
-        (λ f. record { sent = refl; acked = refl; taken = refl; pushed = refl; queued = refl; up = λ s. s; calling = λ s. s }))
+    (λ e. record { sent = refl; acked = refl; taken = refl; pushed = refl; queued = refl; up = λ s. s; calling = λ s. s })
+    (λ e. cond_both (runs_out end) _ _ (λ (n : LinkEnd). Ticked end n)
+    (λ f. cond_both (is_spent end) _ _ (λ (n : LinkEnd). Ticked end n)
+    (λ g. record {
+      sent = refl;
+      acked = refl;
+      taken = refl;
+      pushed = refl;
+      queued = refl;
+      up = λ (s : Down ≡ Up). absurd (let x : ⊥ = cc in x);
+      calling = λ (s : Down ≡ Calling). absurd (let x : ⊥ = cc in x);
+    })
+    (λ g. record { sent = refl; acked = refl; taken = refl; pushed = refl; queued = refl; up = λ s. s; calling = λ s. s }))
+    (λ f. record { sent = refl; acked = refl; taken = refl; pushed = refl; queued = refl; up = λ s. s; calling = λ s. s }))
 
 pub tick-Steady : (w : Window) (end : LinkEnd) → IsEnd w end → IsQuiet w end → Steady w end (after_tick end)
 tick-Steady w end fits q =
@@ -166,9 +188,14 @@ tick-Steady w end fits q =
     let none = quiet-owed w end q in
     record {
       fits = after_tick-IsEnd w end fits;
-      sent = t.sent; acked = t.acked; taken = t.taken; owed = omega (arith, none);
-      octets = λ rest h. (rest,
-        (t.pushed ∙ h.0 ∙ ap (λ (l : List (List ℕ)). concat l ++ rest) (sym t.sent), λ e. t.queued ∙ h.1 (t.up e)));
+      sent = t.sent;
+      acked = t.acked;
+      taken = t.taken;
+      owed = omega (arith, none);
+      octets = λ rest h. (
+        rest,
+        (t.pushed ∙ h.0 ∙ ap (λ (l : List (List ℕ)). concat l ++ rest) (sym t.sent), λ e. t.queued ∙ h.1 (t.up e)),
+      );
       calling = λ u e. (let before = u (t.calling e) in (t.pushed ∙ before.0, t.queued ∙ before.1));
     }
 
@@ -197,16 +224,20 @@ kept-send w one other sending h next none =
         acked = omega arith;
         taken = omega arith;
         window = s.fits.window;
-        pieces = (updated there.pieces.0 (length list) s.place,
+        pieces = (
+          updated there.pieces.0 (length list) s.place,
           PiecesFit-send w one.end.sent new.sent (taken_count other.end) list there.pieces.0 sending.frame s.place s.more
-            (λ kind. (let p = s.piece kind in let least = p.least in let below = p.sent in
+              (λ kind. (let p = s.piece kind in let least = p.least in let below = p.sent in
               record { shows = p.shows; carries = p.carries; sent = p.sent; recent = omega arith; accepted = omega arith }))
-            there.pieces.1);
-        shown = (updated there.shown.0 (length list) (taken_count one.end),
+              there.pieces.1,
+        );
+        shown = (
+          updated there.shown.0 (length list) (taken_count one.end),
           subst (λ n. ShownFit w n (owed new) other.end.acked (list ++ fresh sending.frame ∷ []) (updated there.shown.0 (length list) (taken_count one.end)))
-            (sym count)
-            (ShownFit-send w (taken_count one.end) (owed one.end) (owed new) other.end.acked list there.shown.0 sending.frame s.shows s.owed back_low
-              there.shown.1));
+              (sym count)
+              (ShownFit-send w (taken_count one.end) (owed one.end) (owed new) other.end.acked list there.shown.0 sending.frame s.shows s.owed back_low
+              there.shown.1),
+        );
       };
       other_numbers = record {
         acked = omega (arith, count);

@@ -51,10 +51,10 @@ meaning_shown w end nr x window fits shows most late =
     let size = fits.window in
     elim (cases_lt x end.acked) [
       | inl below ↦
-        let far = distance_below w end.acked nr x shows below (omega arith) in
-        inr (below, ap (meaning_at w end) far ∙ meaning_at-stale w end (w.modulus - (end.acked - x)) (omega arith) (omega arith))
+          let far = distance_below w end.acked nr x shows below (omega arith) in
+          inr (below, ap (meaning_at w end) far ∙ meaning_at-stale w end (w.modulus - (end.acked - x)) (omega arith) (omega arith))
       | inr above ↦
-        let far = distance_above w end.acked nr x shows above (omega arith) in
-        let same : end.acked + (x - end.acked) ≡ x = omega arith in
-        inl (above, ap (meaning_at w end) far ∙ meaning_at-good w end (x - end.acked) (omega arith) ∙ ap good same)
+          let far = distance_above w end.acked nr x shows above (omega arith) in
+          let same : end.acked + (x - end.acked) ≡ x = omega arith in
+          inl (above, ap (meaning_at w end) far ∙ meaning_at-good w end (x - end.acked) (omega arith) ∙ ap good same)
     ]

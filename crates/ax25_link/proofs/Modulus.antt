@@ -26,13 +26,13 @@ distance_up a d m h =
     let below : a % m < m = mod_below a m (omega arith) in
     elim (cases_lt (a % m + d) m) [
       | inl low ↦
-        let r : (a + d) % m ≡ a % m + d = mod_of (a + d) m (a / m) (a % m + d) (omega (arith, e)) low in
-        mod_of ((a + d) % m + (m - a % m)) m 1 d (omega (arith, r)) h
+          let r : (a + d) % m ≡ a % m + d = mod_of (a + d) m (a / m) (a % m + d) (omega (arith, e)) low in
+          mod_of ((a + d) % m + (m - a % m)) m 1 d (omega (arith, r)) h
       | inr high ↦
-        let more = one_more (a / m) m (a % m + d - m) in
-        let r : (a + d) % m ≡ a % m + d - m =
-            mod_of (a + d) m (a / m + 1) (a % m + d - m) (omega (arith, e, more)) (omega arith) in
-        mod_of ((a + d) % m + (m - a % m)) m 0 d (omega (arith, r)) h
+          let more = one_more (a / m) m (a % m + d - m) in
+          let r : (a + d) % m ≡ a % m + d - m =
+          mod_of (a + d) m (a / m + 1) (a % m + d - m) (omega (arith, e, more)) (omega arith) in
+          mod_of ((a + d) % m + (m - a % m)) m 0 d (omega (arith, r)) h
     ]
 
 -- the distance of a number that is less than m below another, counted modulo m
@@ -50,26 +50,26 @@ same_above a d m h same =
     let below : a % m < m = mod_below a m (omega arith) in
     elim (cases_lt (a % m + d) m) [
       | inl low ↦
-        let r : (a + d) % m ≡ a % m + d = mod_of (a + d) m (a / m) (a % m + d) (omega (arith, e)) low in
-        omega (arith, r)
+          let r : (a + d) % m ≡ a % m + d = mod_of (a + d) m (a / m) (a % m + d) (omega (arith, e)) low in
+          omega (arith, r)
       | inr high ↦
-        let more = one_more (a / m) m (a % m + d - m) in
-        let r : (a + d) % m ≡ a % m + d - m =
-            mod_of (a + d) m (a / m + 1) (a % m + d - m) (omega (arith, e, more)) (omega arith) in
-        omega (arith, r)
+          let more = one_more (a / m) m (a % m + d - m) in
+          let r : (a + d) % m ≡ a % m + d - m =
+          mod_of (a + d) m (a / m + 1) (a % m + d - m) (omega (arith, e, more)) (omega arith) in
+          omega (arith, r)
     ]
 
 pub same_number : (a b m : ℕ) → a % m ≡ b % m → a < b + m → b < a + m → a ≡ b
 same_number a b m same below above =
     elim (cases_lt a b) [
       | inl less ↦
-        let e : a + (b - a) ≡ b = omega arith in
-        let d : b - a ≡ 0 = same_above a (b - a) m (omega arith) (ap (λ n. n % m) e ∙ sym same) in
-        omega arith
+          let e : a + (b - a) ≡ b = omega arith in
+          let d : b - a ≡ 0 = same_above a (b - a) m (omega arith) (ap (λ n. n % m) e ∙ sym same) in
+          omega arith
       | inr more ↦
-        let e : b + (a - b) ≡ a = omega arith in
-        let d : a - b ≡ 0 = same_above b (a - b) m (omega arith) (ap (λ n. n % m) e ∙ same) in
-        omega arith
+          let e : b + (a - b) ≡ a = omega arith in
+          let d : a - b ≡ 0 = same_above b (a - b) m (omega arith) (ap (λ n. n % m) e ∙ same) in
+          omega arith
     ]
 
 -- some multiple of m added

@@ -15,7 +15,8 @@ stands_above : (w : Window) (end : LinkEnd) (nr : ℕ) → IsWindow w → distan
 stands_above w end nr window near =
     let fewer = window.fewer in
     record {
-      lowest = omega arith; highest = omega arith;
+      lowest = omega arith;
+      highest = omega arith;
       equal = mod_raised (end.acked + distance w end.acked nr) w.modulus (omega arith) ∙ distance_back end.acked nr w.modulus (omega arith);
     }
 
@@ -35,17 +36,17 @@ has_meaning w end nr window fits =
     let least : far < w.modulus = mod_below (nr + (w.modulus - end.acked % w.modulus)) w.modulus (omega arith) in
     elim (cases_lt (high end - end.acked) far) [
       | inr near ↦
-        subst (HasMeaning w end nr) (sym (meaning_at-good w end far near))
+          subst (HasMeaning w end nr) (sym (meaning_at-good w end far near))
           (end.acked + far + w.modulus, stands_above w end nr window (omega arith), (refl, omega arith, omega arith))
       | inl beyond ↦
-        elim (cases_lt w.size far) [
-          | inl above ↦
-            subst (HasMeaning w end nr) (sym (meaning_at-stale w end far beyond above))
-              (end.acked + far, stands_below w end nr window above, omega (arith, least))
-          | inr within ↦
-            subst (HasMeaning w end nr) (sym (meaning_at-bad w end far beyond within))
-              (end.acked + far + w.modulus, stands_above w end nr window within, omega arith)
-        ]
+          elim (cases_lt w.size far) [
+            | inl above ↦
+                subst (HasMeaning w end nr) (sym (meaning_at-stale w end far beyond above))
+                (end.acked + far, stands_below w end nr window above, omega (arith, least))
+            | inr within ↦
+                subst (HasMeaning w end nr) (sym (meaning_at-bad w end far beyond within))
+                (end.acked + far + w.modulus, stands_above w end nr window within, omega arith)
+          ]
     ]
 
 -- a number has one meaning
@@ -73,8 +74,10 @@ one_number w acked nr a b window h g =
 
 pub one_meaning : OneMeaningLaw
 one_meaning w end nr window fits =
-    let here = has_meaning w end nr window fits in
-    (here, λ meaning h.
-      (let same = one_number w end.acked nr h.0 here.0 window h.1 here.1 in
-      same_meaning w end here.0 meaning (meaning_of w end nr) fits.acked
-        (subst (λ n. Means w end n meaning) same h.2) here.2))
+    let here = has_meaning w end nr window fits in (
+      here,
+      λ meaning h.
+          (let same = one_number w end.acked nr h.0 here.0 window h.1 here.1 in
+          same_meaning w end here.0 meaning (meaning_of w end nr) fits.acked
+          (subst (λ n. Means w end n meaning) same h.2) here.2),
+    )

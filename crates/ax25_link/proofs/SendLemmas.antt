@@ -114,7 +114,10 @@ Sends_reply w old reply fits e =
     let few = owed_most old.reply in
     record {
       fits = record { acked = fits.acked; window = fits.window; again = fits.again; oldest = λ (n : None ≡ Some oldest). absurd (let x : ⊥ = cc in x) };
-      state = refl; acked = refl; taken = refl; more = same_pieces old.sent;
+      state = refl;
+      acked = refl;
+      taken = refl;
+      more = same_pieces old.sent;
       place = old.acked;
       piece = reply_piece w old reply fits.acked (λ same. fits.oldest (e ∙ ap Some same));
       shows = reply_shows w old reply;
@@ -131,7 +134,10 @@ Sends_again w old fits some =
     let order = fits.acked in
     record {
       fits = record { acked = fits.acked; window = fits.window; again = omega arith; oldest = fits.oldest };
-      state = refl; acked = refl; taken = refl; more = same_pieces old.sent;
+      state = refl;
+      acked = refl;
+      taken = refl;
+      more = same_pieces old.sent;
       place = high old - old.again;
       piece = λ h. record { shows = refl; carries = piece_there old.sent (high old - old.again) (omega arith); least = omega arith; sent = omega arith };
       shows = λ h. refl;
@@ -162,15 +168,17 @@ pub record HasPiece (old new : LinkEnd) : Type 0 where
 after_new-HasPiece : (old : LinkEnd) → HasPiece old (after_new old)
 after_new-HasPiece old =
     cond_both (outstanding old == 0) _ _ (λ (n : LinkEnd). HasPiece old n)
-      (λ e. record { state = refl; pushed = refl; queued = refl; sent = refl; acked = refl; taken = refl; again = refl; reply = refl; farewell = refl })
-      (λ e. record { state = refl; pushed = refl; queued = refl; sent = refl; acked = refl; taken = refl; again = refl; reply = refl; farewell = refl })
+    (λ e. record { state = refl; pushed = refl; queued = refl; sent = refl; acked = refl; taken = refl; again = refl; reply = refl; farewell = refl })
+    (λ e. record { state = refl; pushed = refl; queued = refl; sent = refl; acked = refl; taken = refl; again = refl; reply = refl; farewell = refl })
 
 more_pieces : (pieces : List (List ℕ)) (piece : List ℕ) → MorePieces pieces (pieces ++ piece ∷ [])
 more_pieces pieces piece =
     let size : length (pieces ++ piece ∷ []) ≡ length pieces + 1 = length-append pieces (piece ∷ []) in
     record {
       keeps = λ place x h. slice_get-append_before pieces (piece ∷ []) place (slice_get_within pieces place x h) ∙ h;
-      least = omega (arith, size); most = omega (arith, size); front = λ n h. take-append-le n pieces (piece ∷ []) h;
+      least = omega (arith, size);
+      most = omega (arith, size);
+      front = λ n h. take-append-le n pieces (piece ∷ []) h;
     }
 
 -- the octets of the new piece come from the front of those that are queued
@@ -178,12 +186,13 @@ piece_rest : (old new : LinkEnd) → HasPiece old new → old.state ≡ Up → (
 piece_rest old new h up rest (pushed, queued) =
     let all : old.queued ≡ rest = queued up in
     let join : concat new.sent ++ drop most_information old.queued ≡ concat old.sent ++ old.queued =
-        ap (λ (l : List (List ℕ)). concat l ++ drop most_information old.queued) h.sent
-        ∙ ap (λ (l : List ℕ). l ++ drop most_information old.queued) (concat-append_one old.sent (next_piece old))
-        ∙ append_assoc (concat old.sent) (next_piece old) (drop most_information old.queued)
-        ∙ ap (λ (l : List ℕ). concat old.sent ++ l) (take-append-drop most_information old.queued) in
-    (drop most_information old.queued,
-      (h.pushed ∙ pushed ∙ ap (λ (l : List ℕ). concat old.sent ++ l) (sym all) ∙ sym join, λ e. h.queued))
+    ap (λ (l : List (List ℕ)). concat l ++ drop most_information old.queued) h.sent
+    ∙ ap (λ (l : List ℕ). l ++ drop most_information old.queued) (concat-append_one old.sent (next_piece old))
+    ∙ append_assoc (concat old.sent) (next_piece old) (drop most_information old.queued)
+    ∙ ap (λ (l : List ℕ). concat old.sent ++ l) (take-append-drop most_information old.queued) in (
+      drop most_information old.queued,
+      (h.pushed ∙ pushed ∙ ap (λ (l : List ℕ). concat old.sent ++ l) (sym all) ∙ sym join, λ e. h.queued),
+    )
 
 Sends_new : (w : Window) (old : LinkEnd) → IsEnd w old → has_new w old ≡ true → Sends w old (sends_new w old).frame (sends_new w old).after
 unfolding left_to_send
@@ -202,28 +211,33 @@ Sends_new w old fits has =
     let least = fits.again in
     record {
       fits = record {
-        acked = omega (arith, size); window = omega (arith, size); again = omega (arith, size);
+        acked = omega (arith, size);
+        window = omega (arith, size);
+        again = omega (arith, size);
         oldest = λ e. (let some = fits.oldest (sym h.reply ∙ e) in omega (arith, size, some));
       };
-      state = h.state; acked = h.acked; taken = h.taken;
+      state = h.state;
+      acked = h.acked;
+      taken = h.taken;
       more = subst (λ (l : List (List ℕ)). MorePieces old.sent l) (sym h.sent) (more_pieces old.sent (next_piece old));
       place = high old;
       piece = λ kind. record {
         shows = refl;
         carries = ap (λ (l : List (List ℕ)). slice_get l (high old)) h.sent ∙ slice_get-append_at old.sent (next_piece old);
-        least = order; sent = omega (arith, size);
+        least = order;
+        sent = omega (arith, size);
       };
       shows = λ kind. refl;
       owed = (let same : owed new ≡ owed old = ap owed_for h.reply in omega (arith, same));
       octets = λ rest o. piece_rest old new h up rest o;
       calling = λ u e. absurd (let c : old.state ≡ Calling = sym h.state ∙ e in let x : ⊥ = cc in x);
       less =
-        (let replies : present new.reply ≡ present old.reply = ap (λ (o : Option Reply). present o) h.reply in
-        let farewells : present new.farewell ≡ present old.farewell = ap (λ (o : Option Farewell). present o) h.farewell in
-        let size_left : length new.queued ≡ length old.queued - most_information =
+          (let replies : present new.reply ≡ present old.reply = ap (λ (o : Option Reply). present o) h.reply in
+          let farewells : present new.farewell ≡ present old.farewell = ap (λ (o : Option Farewell). present o) h.farewell in
+          let size_left : length new.queued ≡ length old.queued - most_information =
           ap (λ (l : List ℕ). length l) h.queued ∙ length-drop most_information old.queued in
-        let some = eqb-false (length old.queued) 0 (not-true (is_empty old.queued) all.1) in
-        omega (arith, replies, farewells, size_left, some));
+          let some = eqb-false (length old.queued) 0 (not-true (is_empty old.queued) all.1) in
+          omega (arith, replies, farewells, size_left, some));
     }
 
 farewell_none : (old : LinkEnd) (farewell : Farewell) → IsTrue (is_numbered (frame_of_farewell old farewell).kind.control) → ⊥
@@ -241,7 +255,10 @@ Sends_farewell w old farewell fits e =
     let one : present old.farewell ≡ 1 = ap (λ (o : Option Farewell). present o) e in
     record {
       fits = record { acked = fits.acked; window = fits.window; again = fits.again; oldest = fits.oldest };
-      state = refl; acked = refl; taken = refl; more = same_pieces old.sent;
+      state = refl;
+      acked = refl;
+      taken = refl;
+      more = same_pieces old.sent;
       place = 0;
       piece = λ h. absurd (farewell_none_information old farewell h);
       shows = λ h. absurd (farewell_none old farewell h);
@@ -266,17 +283,17 @@ sends_later : (w : Window) (old : LinkEnd) (sending : Sending) → IsEnd w old �
 sends_later w old sending fits h =
     elim (cases_Bool (nat_lt 0 old.again)) [
       | inl some ↦
-        subst (SendsThis w old) (same_Some (sends_again w old) sending (sym (cond-true (nat_lt 0 old.again) _ _ some) ∙ h))
+          subst (SendsThis w old) (same_Some (sends_again w old) sending (sym (cond-true (nat_lt 0 old.again) _ _ some) ∙ h))
           (Sends_again w old fits (ltb-true 0 old.again some))
       | inr none ↦
-        let next = sym (cond-false (nat_lt 0 old.again) (Some (sends_again w old)) _ none) ∙ h in
-        elim (cases_Bool (has_new w old)) [
-          | inl has ↦
-            subst (SendsThis w old) (same_Some (sends_new w old) sending (sym (cond-true (has_new w old) _ _ has) ∙ next))
-              (Sends_new w old fits has)
-          | inr no_new ↦
-            sends_last w old old.farewell sending refl fits (sym (cond-false (has_new w old) (Some (sends_new w old)) _ no_new) ∙ next)
-        ]
+          let next = sym (cond-false (nat_lt 0 old.again) (Some (sends_again w old)) _ none) ∙ h in
+          elim (cases_Bool (has_new w old)) [
+            | inl has ↦
+                subst (SendsThis w old) (same_Some (sends_new w old) sending (sym (cond-true (has_new w old) _ _ has) ∙ next))
+                (Sends_new w old fits has)
+            | inr no_new ↦
+                sends_last w old old.farewell sending refl fits (sym (cond-false (has_new w old) (Some (sends_new w old)) _ no_new) ∙ next)
+          ]
     ]
 
 sends_first : (w : Window) (old : LinkEnd) (reply : Option Reply) (sending : Sending) → old.reply ≡ reply → IsEnd w old
