@@ -1,15 +1,15 @@
 -- The numbers behind a station's transmissions, when a frame is sent and when one is delivered.
-use Rattle.std.proofs.Common.{◌≡◌, ℕ, ◌+◌, ◌-◌, ◌%◌, ◌<◌, ◌≤◌, ◌⊎◌, List, [], ◌∷◌, ◌++◌, length, take, Option, Some, None, Bool, true, false, refl, sym, ◌∙◌, ap, subst, arith, inl, inr, cond, length-append}
-use Rattle.std.specs.Prelude.{◌==◌, slice_get, IsTrue, if◌then◌else◌, ⊤}
+use Rattle.std.proofs.Common.{◌≡◌, ℕ, ◌+◌, ◌%◌, ◌<◌, ◌≤◌, ◌⊎◌, List, [], ◌∷◌, ◌++◌, length, take, Some, false, refl, sym, ◌∙◌, ap, arith, inl, inr}
+use Rattle.std.specs.Prelude.{◌==◌, slice_get, IsTrue, if◌then◌else◌}
 use Rattle.std.proofs.lemmas.Bool.{cond-true, cond-false, eq-eqb, ne_eqb, cases_lt, cases_eq}
 use Rattle.ax25_frames.specs.declared.control.Control.{Control}
 use Rattle.ax25_frames.specs.declared.control.Control.TheVariants.{I, Rr, Rnr, Rej, Sabm, Disc, Dm, Ua, Frmr, Ui}
 use Rattle.ax25_frames.specs.FrameText.{FrameValue}
-use Rattle.ax25_link.specs.Window.{Window, IsWindow}
+use Rattle.ax25_link.specs.Window.{Window}
 use Rattle.ax25_link.specs.Rows.{is_call}
-use Rattle.ax25_link.specs.Air.{Transmission, fresh, IsAt, NoneLater, later_count, control_of, is_information, is_numbered, delivering}
+use Rattle.ax25_link.specs.Air.{Transmission, fresh, IsAt, control_of, is_information, is_numbered, delivering}
 use Rattle.ax25_link.specs.Linked.{send_number, ack_number, IsInformationAt, IsNumberedAt, PiecesFit, ShownFit, IsOpened}
-use Rattle.ax25_link.proofs.Places.{at-append, later_count-append, NoneLater-append, WasAt, was_at, later_count-deliver, NoneLater-deliver, NoneLater-overtaken, delivered_same, unchanged_at}
+use Rattle.ax25_link.proofs.Places.{at-append, later_count-append, NoneLater-append, was_at, later_count-deliver, NoneLater-deliver, NoneLater-overtaken, delivered_same, unchanged_at}
 
 -- an I frame has an N(R)
 pub information_numbered : (control : Control) → IsTrue (is_information control) → IsTrue (is_numbered control)
@@ -56,29 +56,29 @@ pub PiecesFit-deliver : (w : Window) (pieces : List (List ℕ)) (taken more : �
 PiecesFit-deliver w pieces taken more list piece place t some at cause h =
     record {
       shows = λ p u here. (let v = was_information list place t p u at here in
-        ap (λ (f : FrameValue). send_number f.kind.control) v.2 ∙ h.shows p v.0 v.1);
+          ap (λ (f : FrameValue). send_number f.kind.control) v.2 ∙ h.shows p v.0 v.1);
       carries = λ p u here. (let v = was_information list place t p u at here in
-        h.carries p v.0 v.1 ∙ ap (λ (f : FrameValue). Some f.kind.information) (sym v.2));
+          h.carries p v.0 v.1 ∙ ap (λ (f : FrameValue). Some f.kind.information) (sym v.2));
       sent = λ p u here. (let v = was_information list place t p u at here in h.sent p v.0 v.1);
       recent = λ p u here. (let v = was_information list place t p u at here in
-        let least = h.recent p v.0 v.1 in let same = later_count-deliver list place t p in omega (arith, least, same));
+          let least = h.recent p v.0 v.1 in let same = later_count-deliver list place t p in omega (arith, least, same));
       earlier = λ b p s u before sent here. (let v = was_information list place t p u at here in
-        let r = was_information list place t b s at sent in h.earlier b p r.0 v.0 before r.1 v.1);
+          let r = was_information list place t b s at sent in h.earlier b p r.0 v.0 before r.1 v.1);
       accepted = λ p u here none. (let v = was_information list place t p u at here in
-        elim cause [
-          | inl same ↦ let most = h.accepted p v.0 v.1 (NoneLater-deliver list place t p at none) in omega (arith, same, most)
-          | inr c ↦
-            elim (cases_lt p place) [
-              | inl before ↦ absurd (NoneLater-overtaken list place t p at (information_numbered (control_of t) c.0) none before)
-              | inr after ↦
-                elim (cases_eq p place) [
-                  | inl same ↦ let e : piece p ≡ piece place = ap piece same in omega (arith, c.1, e)
-                  | inr other ↦
-                    let less : place < p = omega arith in
-                    let most = h.earlier place p t v.0 less (at, c.0) v.1 in omega (arith, c.1, most)
+          elim cause [
+            | inl same ↦ let most = h.accepted p v.0 v.1 (NoneLater-deliver list place t p at none) in omega (arith, same, most)
+            | inr c ↦
+                elim (cases_lt p place) [
+                  | inl before ↦ absurd (NoneLater-overtaken list place t p at (information_numbered (control_of t) c.0) none before)
+                  | inr after ↦
+                      elim (cases_eq p place) [
+                        | inl same ↦ let e : piece p ≡ piece place = ap piece same in omega (arith, c.1, e)
+                        | inr other ↦
+                            let less : place < p = omega arith in
+                            let most = h.earlier place p t v.0 less (at, c.0) v.1 in omega (arith, c.1, most)
+                      ]
                 ]
-            ]
-        ]);
+          ]);
     }
 
 -- The I or S frame at a place is delivered, and its N(R) is applied, or nothing is.
@@ -88,27 +88,27 @@ pub ShownFit-deliver : (w : Window) (taken owed acked more : ℕ) (list : List T
 ShownFit-deliver w taken owed acked more list shown place t at cause h =
     record {
       shows = λ p u here. (let v = was_numbered list place t p u at here in
-        ap (λ (f : FrameValue). ack_number f.kind.control) v.2 ∙ h.shows p v.0 v.1);
+          ap (λ (f : FrameValue). ack_number f.kind.control) v.2 ∙ h.shows p v.0 v.1);
       reached = λ p u here. (let v = was_numbered list place t p u at here in h.reached p v.0 v.1);
       recent = λ p u here. (let v = was_numbered list place t p u at here in
-        let least = h.recent p v.0 v.1 in let same = later_count-deliver list place t p in omega (arith, least, same));
+          let least = h.recent p v.0 v.1 in let same = later_count-deliver list place t p in omega (arith, least, same));
       earlier = λ b p s u before sent here. (let v = was_numbered list place t p u at here in
-        let r = was_numbered list place t b s at sent in h.earlier b p r.0 v.0 before r.1 v.1);
+          let r = was_numbered list place t b s at sent in h.earlier b p r.0 v.0 before r.1 v.1);
       acknowledged = λ p u here none. (let v = was_numbered list place t p u at here in
-        elim cause [
-          | inl same ↦ let most = h.acknowledged p v.0 v.1 (NoneLater-deliver list place t p at none) in omega (arith, same, most)
-          | inr c ↦
-            elim (cases_lt p place) [
-              | inl before ↦ absurd (NoneLater-overtaken list place t p at c.0 none before)
-              | inr after ↦
-                elim (cases_eq p place) [
-                  | inl same ↦ let e : shown p ≡ shown place = ap shown same in omega (arith, c.1, e)
-                  | inr other ↦
-                    let less : place < p = omega arith in
-                    let most = h.earlier place p t v.0 less (at, c.0) v.1 in omega (arith, c.1, most)
+          elim cause [
+            | inl same ↦ let most = h.acknowledged p v.0 v.1 (NoneLater-deliver list place t p at none) in omega (arith, same, most)
+            | inr c ↦
+                elim (cases_lt p place) [
+                  | inl before ↦ absurd (NoneLater-overtaken list place t p at c.0 none before)
+                  | inr after ↦
+                      elim (cases_eq p place) [
+                        | inl same ↦ let e : shown p ≡ shown place = ap shown same in omega (arith, c.1, e)
+                        | inr other ↦
+                            let less : place < p = omega arith in
+                            let most = h.earlier place p t v.0 less (at, c.0) v.1 in omega (arith, c.1, most)
+                      ]
                 ]
-            ]
-        ]);
+          ]);
     }
 
 pub IsOpened-deliver : (list : List Transmission) (place : ℕ) (t : Transmission) → IsAt list place t → IsOpened list → IsOpened (delivering list place t)
@@ -153,66 +153,66 @@ pub PiecesFit-send : (w : Window) (pieces more : List (List ℕ)) (taken : ℕ) 
 PiecesFit-send w pieces more taken list piece f n grown made h =
     let number = updated piece (length list) n in
     let frame_kind = λ (u : Transmission) (e : u ≡ fresh f) (kind : IsTrue (is_information (control_of u))).
-      ap (λ (x : Transmission). is_information (control_of x)) (sym e) ∙ kind in
+    ap (λ (x : Transmission). is_information (control_of x)) (sym e) ∙ kind in
     record {
       shows = λ p u here. elim (at-append list f p u here.0) [
         | inl old ↦ h.shows p u (old.1, here.1) ∙ ap (λ x. x % w.modulus) (sym (updated_before piece (length list) n p old.0))
         | inr new ↦
-          let made_here = made (frame_kind u new.1 here.1) in
-          ap (λ (x : Transmission). send_number (control_of x)) new.1 ∙ made_here.shows ∙ ap (λ x. x % w.modulus) (sym (updated_here piece (length list) n p new.0))
+            let made_here = made (frame_kind u new.1 here.1) in
+            ap (λ (x : Transmission). send_number (control_of x)) new.1 ∙ made_here.shows ∙ ap (λ x. x % w.modulus) (sym (updated_here piece (length list) n p new.0))
       ];
       carries = λ p u here. elim (at-append list f p u here.0) [
         | inl old ↦ ap (λ x. slice_get more x) (updated_before piece (length list) n p old.0) ∙ grown.keeps (piece p) u.frame.kind.information (h.carries p u (old.1, here.1))
         | inr new ↦
-          let made_here = made (frame_kind u new.1 here.1) in
-          ap (λ x. slice_get more x) (updated_here piece (length list) n p new.0) ∙ made_here.carries ∙ ap (λ (x : Transmission). Some x.frame.kind.information) (sym new.1)
+            let made_here = made (frame_kind u new.1 here.1) in
+            ap (λ x. slice_get more x) (updated_here piece (length list) n p new.0) ∙ made_here.carries ∙ ap (λ (x : Transmission). Some x.frame.kind.information) (sym new.1)
       ];
       sent = λ p u here. elim (at-append list f p u here.0) [
         | inl old ↦
-          let e = updated_before piece (length list) n p old.0 in
-          let low = h.sent p u (old.1, here.1) in
-          let least = grown.least in omega (arith, e, low)
+            let e = updated_before piece (length list) n p old.0 in
+            let low = h.sent p u (old.1, here.1) in
+            let least = grown.least in omega (arith, e, low)
         | inr new ↦
-          let made_here = (made (frame_kind u new.1 here.1)).sent in
-          let e = updated_here piece (length list) n p new.0 in omega (arith, e, made_here)
+            let made_here = (made (frame_kind u new.1 here.1)).sent in
+            let e = updated_here piece (length list) n p new.0 in omega (arith, e, made_here)
       ];
       recent = λ p u here. elim (at-append list f p u here.0) [
         | inl old ↦
-          let e = updated_before piece (length list) n p old.0 in
-          let low = h.recent p u (old.1, here.1) in
-          let later = later_count-append list f p old.0 in
-          let most = grown.most in omega (arith, e, low, later)
+            let e = updated_before piece (length list) n p old.0 in
+            let low = h.recent p u (old.1, here.1) in
+            let later = later_count-append list f p old.0 in
+            let most = grown.most in omega (arith, e, low, later)
         | inr new ↦
-          let made_here = (made (frame_kind u new.1 here.1)).recent in
-          let e = updated_here piece (length list) n p new.0 in omega (arith, e, made_here)
+            let made_here = (made (frame_kind u new.1 here.1)).recent in
+            let e = updated_here piece (length list) n p new.0 in omega (arith, e, made_here)
       ];
       earlier = λ b p s u before sent here. elim (at-append list f p u here.0) [
         | inl old ↦
-          elim (at-append list f b s sent.0) [
-            | inl first ↦
-              let e = updated_before piece (length list) n p old.0 in
-              let d = updated_before piece (length list) n b first.0 in
-              let low = h.earlier b p s u before (first.1, sent.1) (old.1, here.1) in omega (arith, e, d, low)
-            | inr first ↦ absurd (let x : ⊥ = omega (arith, first.0, old.0) in x)
-          ]
+            elim (at-append list f b s sent.0) [
+              | inl first ↦
+                  let e = updated_before piece (length list) n p old.0 in
+                  let d = updated_before piece (length list) n b first.0 in
+                  let low = h.earlier b p s u before (first.1, sent.1) (old.1, here.1) in omega (arith, e, d, low)
+              | inr first ↦ absurd (let x : ⊥ = omega (arith, first.0, old.0) in x)
+            ]
         | inr new ↦
-          elim (at-append list f b s sent.0) [
-            | inl first ↦
-              let e = updated_here piece (length list) n p new.0 in
-              let d = updated_before piece (length list) n b first.0 in
-              let low = h.sent b s (first.1, sent.1) in
-              let least = grown.least in
-              let made_here = (made (frame_kind u new.1 here.1)).recent in omega (arith, e, d, low, made_here)
-            | inr first ↦ absurd (let x : ⊥ = omega (arith, first.0, new.0) in x)
-          ]
+            elim (at-append list f b s sent.0) [
+              | inl first ↦
+                  let e = updated_here piece (length list) n p new.0 in
+                  let d = updated_before piece (length list) n b first.0 in
+                  let low = h.sent b s (first.1, sent.1) in
+                  let least = grown.least in
+                  let made_here = (made (frame_kind u new.1 here.1)).recent in omega (arith, e, d, low, made_here)
+              | inr first ↦ absurd (let x : ⊥ = omega (arith, first.0, new.0) in x)
+            ]
       ];
       accepted = λ p u here none. elim (at-append list f p u here.0) [
         | inl old ↦
-          let e = updated_before piece (length list) n p old.0 in
-          let low = h.accepted p u (old.1, here.1) (NoneLater-append list f p none) in omega (arith, e, low)
+            let e = updated_before piece (length list) n p old.0 in
+            let low = h.accepted p u (old.1, here.1) (NoneLater-append list f p none) in omega (arith, e, low)
         | inr new ↦
-          let made_here = (made (frame_kind u new.1 here.1)).accepted in
-          let e = updated_here piece (length list) n p new.0 in omega (arith, e, made_here)
+            let made_here = (made (frame_kind u new.1 here.1)).accepted in
+            let e = updated_here piece (length list) n p new.0 in omega (arith, e, made_here)
       ];
     }
 
@@ -222,49 +222,49 @@ pub ShownFit-send : (w : Window) (taken owed less acked : ℕ) (list : List Tran
     → ShownFit w taken owed acked list shown → ShownFit w taken less acked (list ++ fresh f ∷ []) (updated shown (length list) taken)
 ShownFit-send w taken owed less acked list shown f made few known h =
     let frame_kind = λ (u : Transmission) (e : u ≡ fresh f) (kind : IsTrue (is_numbered (control_of u))).
-      ap (λ (x : Transmission). is_numbered (control_of x)) (sym e) ∙ kind in
+    ap (λ (x : Transmission). is_numbered (control_of x)) (sym e) ∙ kind in
     record {
       shows = λ p u here. elim (at-append list f p u here.0) [
         | inl old ↦ h.shows p u (old.1, here.1) ∙ ap (λ x. x % w.modulus) (sym (updated_before shown (length list) taken p old.0))
         | inr new ↦
-          ap (λ (x : Transmission). ack_number (control_of x)) new.1 ∙ made (frame_kind u new.1 here.1)
-          ∙ ap (λ x. x % w.modulus) (sym (updated_here shown (length list) taken p new.0))
+            ap (λ (x : Transmission). ack_number (control_of x)) new.1 ∙ made (frame_kind u new.1 here.1)
+            ∙ ap (λ x. x % w.modulus) (sym (updated_here shown (length list) taken p new.0))
       ];
       reached = λ p u here. elim (at-append list f p u here.0) [
         | inl old ↦
-          let e = updated_before shown (length list) taken p old.0 in
-          let low = h.reached p u (old.1, here.1) in omega (arith, e, low)
+            let e = updated_before shown (length list) taken p old.0 in
+            let low = h.reached p u (old.1, here.1) in omega (arith, e, low)
         | inr new ↦ let e = updated_here shown (length list) taken p new.0 in omega (arith, e)
       ];
       recent = λ p u here. elim (at-append list f p u here.0) [
         | inl old ↦
-          let e = updated_before shown (length list) taken p old.0 in
-          let low = h.recent p u (old.1, here.1) in
-          let later = later_count-append list f p old.0 in omega (arith, e, low, later)
+            let e = updated_before shown (length list) taken p old.0 in
+            let low = h.recent p u (old.1, here.1) in
+            let later = later_count-append list f p old.0 in omega (arith, e, low, later)
         | inr new ↦ let e = updated_here shown (length list) taken p new.0 in omega (arith, e)
       ];
       earlier = λ b p s u before sent here. elim (at-append list f p u here.0) [
         | inl old ↦
-          elim (at-append list f b s sent.0) [
-            | inl first ↦
-              let e = updated_before shown (length list) taken p old.0 in
-              let d = updated_before shown (length list) taken b first.0 in
-              let low = h.earlier b p s u before (first.1, sent.1) (old.1, here.1) in omega (arith, e, d, low)
-            | inr first ↦ absurd (let x : ⊥ = omega (arith, first.0, old.0) in x)
-          ]
+            elim (at-append list f b s sent.0) [
+              | inl first ↦
+                  let e = updated_before shown (length list) taken p old.0 in
+                  let d = updated_before shown (length list) taken b first.0 in
+                  let low = h.earlier b p s u before (first.1, sent.1) (old.1, here.1) in omega (arith, e, d, low)
+              | inr first ↦ absurd (let x : ⊥ = omega (arith, first.0, old.0) in x)
+            ]
         | inr new ↦
-          elim (at-append list f b s sent.0) [
-            | inl first ↦
-              let e = updated_here shown (length list) taken p new.0 in
-              let d = updated_before shown (length list) taken b first.0 in
-              let low = h.reached b s (first.1, sent.1) in omega (arith, e, d, low)
-            | inr first ↦ absurd (let x : ⊥ = omega (arith, first.0, new.0) in x)
-          ]
+            elim (at-append list f b s sent.0) [
+              | inl first ↦
+                  let e = updated_here shown (length list) taken p new.0 in
+                  let d = updated_before shown (length list) taken b first.0 in
+                  let low = h.reached b s (first.1, sent.1) in omega (arith, e, d, low)
+              | inr first ↦ absurd (let x : ⊥ = omega (arith, first.0, new.0) in x)
+            ]
       ];
       acknowledged = λ p u here none. elim (at-append list f p u here.0) [
         | inl old ↦
-          let e = updated_before shown (length list) taken p old.0 in
-          let low = h.acknowledged p u (old.1, here.1) (NoneLater-append list f p none) in omega (arith, e, low)
+            let e = updated_before shown (length list) taken p old.0 in
+            let low = h.acknowledged p u (old.1, here.1) (NoneLater-append list f p none) in omega (arith, e, low)
         | inr new ↦ let e = updated_here shown (length list) taken p new.0 in omega (arith, e)
       ];
     }
@@ -274,6 +274,6 @@ IsOpened-send list f none h p u here call =
     elim (at-append list f p u here) [
       | inl old ↦ h p u old.1 call
       | inr new ↦
-        let e : is_call (control_of u) ≡ is_call f.kind.control = ap (λ (x : Transmission). is_call (control_of x)) new.1 in
-        absurd (let x : ⊥ = cc in x)
+          let e : is_call (control_of u) ≡ is_call f.kind.control = ap (λ (x : Transmission). is_call (control_of x)) new.1 in
+          absurd (let x : ⊥ = cc in x)
     ]

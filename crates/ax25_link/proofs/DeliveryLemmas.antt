@@ -1,26 +1,23 @@
 -- Two linked stations stay linked when a transmission of one is delivered to the other.
-use Rattle.std.proofs.Common.{◌≡◌, ℕ, ◌+◌, ◌-◌, ◌%◌, ◌<◌, ◌≤◌, ◌⊎◌, List, [], ◌∷◌, ◌++◌, length, take, Option, Some, None, Bool, true, false, refl, sym, ◌∙◌, ap, subst, arith, inl, inr, length-append}
+use Rattle.std.proofs.Common.{◌≡◌, ℕ, ◌+◌, ◌-◌, ◌%◌, ◌<◌, ◌≤◌, ◌⊎◌, List, [], ◌∷◌, ◌++◌, take, Some, false, sym, ◌∙◌, ap, subst, arith, inl, inr, length-append}
 use Rattle.std.specs.Prelude.{IsTrue, slice_get, zero, suc}
 use Rattle.std.specs.List.{concat}
 use Rattle.std.proofs.lemmas.Bool.{cases_Bool, true≢false}
 use Rattle.std.proofs.lemmas.Option.{same_Some}
 use Rattle.ax25_frames.specs.declared.control.Control.{Control}
-use Rattle.ax25_frames.specs.FrameText.{FrameValue}
-use Rattle.ax25_link.specs.declared.state.LinkState.{LinkState}
-use Rattle.ax25_link.specs.declared.state.LinkState.TheVariants.{Calling, Up, Ending, Down}
 use Rattle.ax25_link.specs.Window.{Window, IsWindow}
-use Rattle.ax25_link.specs.Ends.{LinkEnd, Reply, IsEnd, high, taken_count}
-use Rattle.ax25_link.specs.Acknowledging.{Meaning, good, stale, bad, meaning_of, is_bad}
+use Rattle.ax25_link.specs.Ends.{LinkEnd, high, taken_count}
+use Rattle.ax25_link.specs.Acknowledging.{good, stale, meaning_of}
 use Rattle.ax25_link.specs.Rows.{after_frame, is_call}
 use Rattle.ax25_link.specs.Sending.{IsQuiet}
-use Rattle.ax25_link.specs.Air.{Transmission, IsAt, IsLawful, later_count, NoneLater, control_of, is_information, is_numbered, delivering}
-use Rattle.ax25_link.specs.Linked.{Station, AreLinked, NumbersFit, OctetsFit, PiecesFit, ShownFit, IsUnpushed, IsOpened, send_number, ack_number, owed}
+use Rattle.ax25_link.specs.Air.{Transmission, IsLawful, later_count, control_of, is_information, is_numbered, delivering}
+use Rattle.ax25_link.specs.Linked.{Station, AreLinked, PiecesFit, IsUnpushed, send_number, ack_number, owed}
 use Rattle.ax25_link.proofs.Modulus.{same_number}
 use Rattle.ax25_link.proofs.MeaningLemmas.{meaning_shown}
 use Rattle.ax25_link.proofs.AirLemmas.{information_numbered, ShownFit-grows, PiecesFit-deliver, ShownFit-deliver, IsOpened-deliver}
-use Rattle.ax25_link.proofs.EndLemmas.{Quiet, quiet}
+use Rattle.ax25_link.proofs.EndLemmas.{quiet}
 use Rattle.ax25_link.proofs.EndKept.{Hears-IsEnd}
-use Rattle.ax25_link.proofs.HeardLemmas.{Hears, Accepts, Acknowledges, after_frame-Hears}
+use Rattle.ax25_link.proofs.HeardLemmas.{Hears, Acknowledges, after_frame-Hears}
 use Rattle.ax25_link.proofs.SendLemmas.{IsRest}
 use Rattle.ax25_link.proofs.LinkedLemmas.{station, count_of, quiet-owed}
 
@@ -39,7 +36,7 @@ none_left (x ∷ front) rest h = absurd (let y : ⊥ = cc in y)
 pub record Reads (w : Window) (one other : Station) (t : Transmission) (shown : ℕ) : Type 0 where
   pub below : shown ≤ taken_count other.end
   pub meaning : ((one.end.acked ≤ shown) × (meaning_of w one.end (ack_number (control_of t)) ≡ good shown))
-    ⊎ ((shown < one.end.acked) × (meaning_of w one.end (ack_number (control_of t)) ≡ stale))
+      ⊎ ((shown < one.end.acked) × (meaning_of w one.end (ack_number (control_of t)) ≡ stale))
 
 pub reads : (w : Window) (one other : Station) (place : ℕ) (t : Transmission) → IsWindow w → (h : AreLinked w one other) → owed other.end ≡ 0
     → IsLawful w other.transmissions place t → IsTrue (is_numbered (control_of t)) → Reads w one other t (h.other_numbers.shown.0 place)
@@ -51,10 +48,10 @@ reads w one other place t window h none lawful kind =
     let high_fits = h.one_numbers.taken in
     let known = h.one_numbers.acked in
     let late : one.end.acked ≤ shown place + (w.modulus - 1 - w.size) =
-      elim (lawful.overtaken kind) [
-        | inl first ↦ let most = fits.acknowledged place t (lawful.sent, kind) first in omega (arith, most)
-        | inr few ↦ omega arith
-      ] in
+    elim (lawful.overtaken kind) [
+      | inl first ↦ let most = fits.acknowledged place t (lawful.sent, kind) first in omega (arith, most)
+      | inr few ↦ omega arith
+    ] in
     record {
       below = below;
       meaning = meaning_shown w one.end (ack_number (control_of t)) (shown place) window h.one_end (fits.shows place t (lawful.sent, kind)) (omega arith) late;
@@ -89,10 +86,10 @@ acked_fits w one other place t new window h none lawful heard =
     elim heard.acked [
       | inl same ↦ record { most = omega (arith, same); cause = inl same }
       | inr a ↦
-        let r = reads w one other place t window h none lawful a.kind in
-        let most = acked_cause w one other t (h.other_numbers.shown.0 place) new r a in
-        let below = r.below in
-        record { most = omega (arith, most, below); cause = inr (a.kind, most) }
+          let r = reads w one other place t window h none lawful a.kind in
+          let most = acked_cause w one other t (h.other_numbers.shown.0 place) new r a in
+          let below = r.below in
+          record { most = omega (arith, most, below); cause = inr (a.kind, most) }
     ]
 
 -- an I frame that is next carries the piece at the place of the next one
@@ -110,10 +107,10 @@ next_piece_here w one other place t window h lawful kind next =
     let size = h.other_numbers.window in
     let fewer = window.fewer in
     let late : taken_count one.end < piece place + w.modulus =
-      elim (lawful.overtaken (information_numbered (control_of t) kind)) [
-        | inl first ↦ let at_most = fits.accepted place t (lawful.sent, kind) first in omega (arith, at_most)
-        | inr few ↦ omega (arith, recent)
-      ] in
+    elim (lawful.overtaken (information_numbered (control_of t) kind)) [
+      | inl first ↦ let at_most = fits.accepted place t (lawful.sent, kind) first in omega (arith, at_most)
+      | inr few ↦ omega (arith, recent)
+    ] in
     same_number (piece place) (taken_count one.end) w.modulus (sym shows ∙ next) (omega (arith, sent)) late
 
 taken_fits : (w : Window) (one other : Station) (place : ℕ) (t : Transmission) (new : LinkEnd) → IsWindow w → (h : AreLinked w one other)
@@ -123,52 +120,57 @@ taken_fits w one other place t new window h lawful heard =
     let most = h.other_numbers.taken in
     elim heard.taken [
       | inl same ↦
-        let count = count_of new.taken one.end.taken same in
-        record {
-          least = omega (arith, count); most = omega (arith, count);
-          front = same ∙ h.other_octets.taken ∙ ap (λ n. take n other.end.sent) (sym count);
-          cause = inl count; owes = omega (arith, count);
-        }
+          let count = count_of new.taken one.end.taken same in
+          record {
+            least = omega (arith, count);
+            most = omega (arith, count);
+            front = same ∙ h.other_octets.taken ∙ ap (λ n. take n other.end.sent) (sym count);
+            cause = inl count;
+            owes = omega (arith, count);
+          }
       | inr a ↦
-        let piece = h.other_numbers.pieces.0 in
-        let fits = h.other_numbers.pieces.1 in
-        let same = next_piece_here w one other place t window h lawful a.kind a.next in
-        let sent = fits.sent place t (lawful.sent, a.kind) in
-        let carries = fits.carries place t (lawful.sent, a.kind) in
-        let count : taken_count new ≡ taken_count one.end + 1 =
+          let piece = h.other_numbers.pieces.0 in
+          let fits = h.other_numbers.pieces.1 in
+          let same = next_piece_here w one other place t window h lawful a.kind a.next in
+          let sent = fits.sent place t (lawful.sent, a.kind) in
+          let carries = fits.carries place t (lawful.sent, a.kind) in
+          let count : taken_count new ≡ taken_count one.end + 1 =
           count_of new.taken (one.end.taken ++ t.frame.kind.information ∷ []) a.taken ∙ length-append one.end.taken (t.frame.kind.information ∷ []) in
-        let owes = a.owed in
-        record {
-          least = omega (arith, count); most = omega (arith, count, same, sent);
-          front = a.taken
-            ∙ ap (λ (l : List (List ℕ)). l ++ t.frame.kind.information ∷ []) h.other_octets.taken
-            ∙ take_one_more other.end.sent (taken_count one.end) t.frame.kind.information (ap (λ n. slice_get other.end.sent n) (sym same) ∙ carries)
-            ∙ ap (λ n. take n other.end.sent) (let next : suc (taken_count one.end) ≡ taken_count new = omega (arith, count) in next);
-          cause = inr (a.kind, omega (arith, count, same)); owes = omega (arith, count, owes);
-        }
+          let owes = a.owed in
+          record {
+            least = omega (arith, count);
+            most = omega (arith, count, same, sent);
+            front = a.taken
+                ∙ ap (λ (l : List (List ℕ)). l ++ t.frame.kind.information ∷ []) h.other_octets.taken
+                ∙ take_one_more other.end.sent (taken_count one.end) t.frame.kind.information (ap (λ n. slice_get other.end.sent n) (sym same) ∙ carries)
+                ∙ ap (λ n. take n other.end.sent) (let next : suc (taken_count one.end) ≡ taken_count new = omega (arith, count) in next);
+            cause = inr (a.kind, omega (arith, count, same));
+            owes = omega (arith, count, owes);
+          }
     ]
 
 -- the octets of an end that heard a frame
 heard_octets : (w : Window) (old : LinkEnd) (control : Control) (information : List ℕ) (new : LinkEnd) → Hears w old control information new
     → IsUnpushed old → (rest : List ℕ) → IsRest old rest → IsRest new rest
-heard_octets w old control information new heard calling rest (pushed, queued) =
-    (heard.pushed ∙ pushed ∙ ap (λ (l : List (List ℕ)). concat l ++ rest) (sym heard.sent),
-      λ e. heard.queued ∙ elim (heard.up e) [
-        | inl up ↦ queued up
-        | inr c ↦
-          let empty = calling c in
-          empty.1 ∙ sym (none_left (concat old.sent) rest (sym empty.0 ∙ pushed))
-      ])
+heard_octets w old control information new heard calling rest (pushed, queued) = (
+  heard.pushed ∙ pushed ∙ ap (λ (l : List (List ℕ)). concat l ++ rest) (sym heard.sent),
+  λ e. heard.queued ∙ elim (heard.up e) [
+    | inl up ↦ queued up
+    | inr c ↦
+        let empty = calling c in
+        empty.1 ∙ sym (none_left (concat old.sent) rest (sym empty.0 ∙ pushed))
+  ],
+)
 
 pub kept-hear : (w : Window) (one other : Station) (place : ℕ) (t : Transmission) → IsWindow w → AreLinked w one other → IsQuiet w one.end → IsQuiet w other.end
     → IsLawful w other.transmissions place t
     → AreLinked w (station (after_frame w one.end t.frame) one.transmissions) (station other.end (delivering other.transmissions place t))
 kept-hear w one other place t window h q other_q lawful =
     let calls : is_call (control_of t) ≡ false =
-      elim (cases_Bool (is_call (control_of t))) [
-        | inl call ↦ absurd (true≢false (sym (h.other_opened place t lawful.sent call) ∙ lawful.call call))
-        | inr not_call ↦ not_call
-      ] in
+    elim (cases_Bool (is_call (control_of t))) [
+      | inl call ↦ absurd (true≢false (sym (h.other_opened place t lawful.sent call) ∙ lawful.call call))
+      | inr not_call ↦ not_call
+    ] in
     let new = after_frame w one.end t.frame in
     let heard = after_frame-Hears w one.end t.frame h.one_end (quiet w one.end q) calls in
     let none = quiet-owed w one.end q in
@@ -190,20 +192,28 @@ kept-hear w one other place t window h q other_q lawful =
         acked = a.most;
         taken = omega (arith, size);
         window = fits.window;
-        pieces = (there.pieces.0,
-          subst (λ (l : List (List ℕ)). PiecesFit w l (taken_count other.end) one.transmissions there.pieces.0) (sym heard.sent) there.pieces.1);
-        shown = (there.shown.0,
+        pieces = (
+          there.pieces.0,
+          subst (λ (l : List (List ℕ)). PiecesFit w l (taken_count other.end) one.transmissions there.pieces.0) (sym heard.sent) there.pieces.1,
+        );
+        shown = (
+          there.shown.0,
           ShownFit-grows w (taken_count one.end) (taken_count new) (owed one.end) (owed new) other.end.acked one.transmissions there.shown.0
-            k.least (omega (arith, none)) there.shown.1);
+              k.least (omega (arith, none)) there.shown.1,
+        );
       };
       other_numbers = record {
         acked = omega arith;
         taken = k.most;
         window = back.window;
-        pieces = (back.pieces.0,
-          PiecesFit-deliver w other.end.sent (taken_count one.end) (taken_count new) other.transmissions back.pieces.0 place t some lawful.sent k.cause back.pieces.1);
-        shown = (back.shown.0,
-          ShownFit-deliver w (taken_count other.end) (owed other.end) one.end.acked new.acked other.transmissions back.shown.0 place t lawful.sent a.cause back.shown.1);
+        pieces = (
+          back.pieces.0,
+          PiecesFit-deliver w other.end.sent (taken_count one.end) (taken_count new) other.transmissions back.pieces.0 place t some lawful.sent k.cause back.pieces.1,
+        );
+        shown = (
+          back.shown.0,
+          ShownFit-deliver w (taken_count other.end) (owed other.end) one.end.acked new.acked other.transmissions back.shown.0 place t lawful.sent a.cause back.shown.1,
+        );
       };
       one_octets = record {
         taken = h.one_octets.taken ∙ ap (λ (l : List (List ℕ)). take (taken_count other.end) l) (sym heard.sent);

@@ -1,19 +1,19 @@
 -- Each step keeps what holds of each end.
-use Rattle.std.proofs.Common.{◌≡◌, ℕ, ◌+◌, ◌-◌, ◌%◌, ◌<◌, ◌≤◌, ◌⊎◌, List, [], ◌∷◌, ◌++◌, length, Option, Some, None, Bool, true, false, refl, sym, ◌∙◌, ap, subst, arith, inl, inr, cond, length-append}
-use Rattle.std.specs.Prelude.{◌==◌, nat_le, nat_lt, ◌||◌, ◌&&◌, not, IsTrue, if◌then◌else◌, ⊤}
-use Rattle.std.proofs.lemmas.Bool.{cond_both, cases_Bool, eqb-true, eqb-false, ltb-true, ltb-false, and_parts}
+use Rattle.std.proofs.Common.{◌≡◌, ℕ, ◌≤◌, List, length, Some, Bool, true, false, refl, ap, arith}
+use Rattle.std.specs.Prelude.{◌==◌}
+use Rattle.std.proofs.lemmas.Bool.{cond_both, eqb-false}
 use Rattle.px_base.specs.CallSign.{CallSign}
 use Rattle.ax25_frames.specs.declared.control.Control.{Control}
 use Rattle.ax25_frames.specs.declared.control.Control.TheVariants.{I, Rr, Rnr, Rej, Sabm, Disc, Dm, Ua, Frmr, Ui}
 use Rattle.ax25_frames.specs.FrameText.{FrameValue}
 use Rattle.ax25_link.specs.declared.state.LinkState.{LinkState}
 use Rattle.ax25_link.specs.declared.state.LinkState.TheVariants.{Calling, Up, Ending, Down}
-use Rattle.ax25_link.specs.Window.{Window, IsWindow}
-use Rattle.ax25_link.specs.Ends.{LinkEnd, Reply, Farewell, IsEnd, high, outstanding, ready, reject, accept, refuse, refuse_frame, call, disconnect, enquire, oldest, begun, calling_end, answering_end}
-use Rattle.ax25_link.specs.Rows.{Outcome, passed_over, row_of_state, up_row, called_again, after_frame, entering, unless_oldest}
-use Rattle.ax25_link.specs.Timer.{is_down, runs_out, is_spent, asking, timer_reply, trying, after_count, after_tick}
+use Rattle.ax25_link.specs.Window.{Window}
+use Rattle.ax25_link.specs.Ends.{LinkEnd, Reply, IsEnd, high, outstanding, accept, call, enquire, oldest, begun, calling_end, answering_end}
+use Rattle.ax25_link.specs.Rows.{Outcome, row_of_state, up_row, after_frame, entering}
+use Rattle.ax25_link.specs.Timer.{is_down, runs_out, is_spent, asking, timer_reply, trying, after_tick}
 use Rattle.ax25_link.specs.Calls.{after_push, after_hang_up, after_abandon, Doing, push, hang_up, abandon, after_doing}
-use Rattle.ax25_link.specs.Sending.{Sending, IsQuiet, next_sending, sending_after, later_sending, last_sending, has_new, sends_reply, sends_again, sends_new, sends_farewell, with_piece, after_new}
+use Rattle.ax25_link.specs.Sending.{IsQuiet}
 use Rattle.ax25_link.proofs.EndLemmas.{Quiet, quiet, unless_oldest-no}
 use Rattle.ax25_link.proofs.HeardLemmas.{Hears, Hears_up, Hears_calling, Hears_ending, Hears_down}
 
@@ -38,7 +38,10 @@ Hears-IsEnd w old control information new fits h =
     let again = h.again in
     let window = fits.window in
     record {
-      acked = omega (arith, size); window = omega (arith, size); again = omega (arith, size); oldest = λ e. absurd (h.oldest e);
+      acked = omega (arith, size);
+      window = omega (arith, size);
+      again = omega (arith, size);
+      oldest = λ e. absurd (h.oldest e);
     }
 
 up-IsEnd : (w : Window) (old : LinkEnd) (frame : FrameValue) (control : Control) → IsEnd w old → Quiet old → old.state ≡ Up
@@ -91,8 +94,8 @@ after_doing-IsEnd w end abandon fits = after_abandon-IsEnd w end fits
 pub asking-oldest : (end : LinkEnd) → asking end ≡ oldest → 1 ≤ outstanding end
 asking-oldest end =
     cond_both (outstanding end == 0) enquire oldest (λ (reply : Reply). reply ≡ oldest → 1 ≤ outstanding end)
-      (λ e f. absurd (let x : ⊥ = cc in x))
-      (λ e f. (let some = eqb-false (outstanding end) 0 e in omega (arith, some)))
+    (λ e f. absurd (let x : ⊥ = cc in x))
+    (λ e f. (let some = eqb-false (outstanding end) 0 e in omega (arith, some)))
 
 pub timer_reply-oldest : (state : LinkState) (end : LinkEnd) → timer_reply state end ≡ oldest → 1 ≤ outstanding end
 timer_reply-oldest Calling end e = absurd (let x : ⊥ = cc in x)
@@ -103,13 +106,15 @@ timer_reply-oldest Down end e = absurd (let x : ⊥ = cc in x)
 pub trying-IsEnd : (w : Window) (end : LinkEnd) → IsEnd w end → IsEnd w (trying end)
 trying-IsEnd w end fits =
     record {
-      acked = fits.acked; window = fits.window; again = fits.again;
+      acked = fits.acked;
+      window = fits.window;
+      again = fits.again;
       oldest = λ e. timer_reply-oldest end.state end (let same : timer_reply end.state end ≡ oldest = cc in same);
     }
 
 pub after_tick-IsEnd : (w : Window) (end : LinkEnd) → IsEnd w end → IsEnd w (after_tick end)
 after_tick-IsEnd w end fits =
     cond_both (is_down end.state) _ _ (λ (n : LinkEnd). IsEnd w n) (λ e. fits)
-      (λ e. cond_both (runs_out end) _ _ (λ (n : LinkEnd). IsEnd w n)
-        (λ f. cond_both (is_spent end) _ _ (λ (n : LinkEnd). IsEnd w n) (λ g. entering-IsEnd w end Down fits) (λ g. trying-IsEnd w end fits))
-        (λ f. record { acked = fits.acked; window = fits.window; again = fits.again; oldest = fits.oldest }))
+    (λ e. cond_both (runs_out end) _ _ (λ (n : LinkEnd). IsEnd w n)
+    (λ f. cond_both (is_spent end) _ _ (λ (n : LinkEnd). IsEnd w n) (λ g. entering-IsEnd w end Down fits) (λ g. trying-IsEnd w end fits))
+    (λ f. record { acked = fits.acked; window = fits.window; again = fits.again; oldest = fits.oldest }))

@@ -1,16 +1,12 @@
 -- What each step of an end keeps.
-use Rattle.std.proofs.Common.{◌≡◌, ℕ, ◌+◌, ◌-◌, ◌%◌, ◌<◌, ◌≤◌, ◌⊎◌, List, [], ◌∷◌, ◌++◌, length, Option, Some, None, Bool, true, false, refl, sym, ◌∙◌, ap, subst, arith, inl, inr, length-append, cond}
-use Rattle.std.specs.Prelude.{◌==◌, nat_le, nat_lt, ◌||◌, ◌&&◌, not, IsTrue, if◌then◌else◌, ⊤}
-use Rattle.std.proofs.lemmas.Grind.{common_steps}
-use Rattle.std.proofs.lemmas.Bool.{cond_both, cases_Bool, leb-true, leb-false, ltb-true, ltb-false, eqb-true, eqb-false, or_parts}
-use Rattle.std.proofs.lemmas.Bool.Decides.{nat_tests}
-use Rattle.ax25_frames.specs.FrameText.{FrameValue}
-use Rattle.ax25_link.specs.declared.state.LinkState.{LinkState}
-use Rattle.ax25_link.specs.Window.{Window, IsWindow}
-use Rattle.ax25_link.specs.Ends.{LinkEnd, Reply, Farewell, IsEnd, high, outstanding, ready, reject, accept, refuse, refuse_frame, call, disconnect, enquire, oldest}
-use Rattle.ax25_link.specs.Acknowledging.{Meaning, good, stale, bad, meaning_at, meaning_of, distance, acknowledging, applying, is_good, is_bad}
+use Rattle.std.proofs.Common.{◌≡◌, ℕ, ◌-◌, ◌≤◌, ◌⊎◌, Option, Some, None, refl, sym, ap, arith, inl, inr}
+use Rattle.std.specs.Prelude.{◌==◌, nat_le, nat_lt, ◌||◌, ⊤}
+use Rattle.std.proofs.lemmas.Bool.{cond_both, cases_Bool, leb-true, ltb-false, or_parts}
+use Rattle.ax25_link.specs.Window.{Window}
+use Rattle.ax25_link.specs.Ends.{LinkEnd, Reply, IsEnd, high, ready, reject, accept, refuse, refuse_frame, call, disconnect, enquire, oldest}
+use Rattle.ax25_link.specs.Acknowledging.{Meaning, good, stale, bad, meaning_at, meaning_of, distance, acknowledging, applying}
 use Rattle.ax25_link.specs.Rows.{unless_oldest}
-use Rattle.ax25_link.specs.Sending.{Sending, IsQuiet, next_sending, sending_after, later_sending, has_new, last_sending, sends_again, sends_new}
+use Rattle.ax25_link.specs.Sending.{IsQuiet, sending_after, later_sending, sends_again}
 
 -- what an end that has nothing to send has
 pub record Quiet (end : LinkEnd) : Type 0 where
@@ -46,14 +42,14 @@ pub record Keeps (end after : LinkEnd) : Type 0 where
 pub acknowledging-keeps : (end : LinkEnd) (x : ℕ) → Keeps end (acknowledging end x)
 acknowledging-keeps end x =
     cond_both (nat_lt end.acked x || (x == high end)) _ _ (λ (after : LinkEnd). Keeps end after)
-      (λ e. record { state = refl; pushed = refl; queued = refl; sent = refl; taken = refl; reply = refl; again = refl })
-      (λ e. record { state = refl; pushed = refl; queued = refl; sent = refl; taken = refl; reply = refl; again = refl })
+    (λ e. record { state = refl; pushed = refl; queued = refl; sent = refl; taken = refl; reply = refl; again = refl })
+    (λ e. record { state = refl; pushed = refl; queued = refl; sent = refl; taken = refl; reply = refl; again = refl })
 
 pub acknowledging-acked : (end : LinkEnd) (x : ℕ) → end.acked ≤ x → (acknowledging end x).acked ≡ x
 acknowledging-acked end x least =
     cond_both (nat_lt end.acked x || (x == high end)) _ _ (λ (after : LinkEnd). after.acked ≡ x)
-      (λ e. refl)
-      (λ e. let low : x ≤ end.acked = ltb-false end.acked x (or_parts (nat_lt end.acked x) (x == high end) e).0 in omega arith)
+    (λ e. refl)
+    (λ e. let low : x ≤ end.acked = ltb-false end.acked x (or_parts (nat_lt end.acked x) (x == high end) e).0 in omega arith)
 
 -- what is acknowledged after an N(R) was applied
 pub record Applied (end after : LinkEnd) : Type 0 where
@@ -74,8 +70,8 @@ Fits end bad = ⊤
 pub meaning-Fits : (w : Window) (end : LinkEnd) (far : ℕ) → end.acked ≤ high end → Fits end (meaning_at w end far)
 meaning-Fits w end far order =
     cond_both (nat_le far (high end - end.acked)) _ _ (Fits end)
-      (λ e. let near : far ≤ high end - end.acked = leb-true far (high end - end.acked) e in record { least = omega arith; most = omega arith })
-      (λ e. cond_both (nat_lt w.size far) _ _ (Fits end) (λ f. tt) (λ f. tt))
+    (λ e. let near : far ≤ high end - end.acked = leb-true far (high end - end.acked) e in record { least = omega arith; most = omega arith })
+    (λ e. cond_both (nat_lt w.size far) _ _ (Fits end) (λ f. tt) (λ f. tt))
 
 pub acknowledging-Applied : (end : LinkEnd) (x : ℕ) → end.acked ≤ x → x ≤ high end → Applied end (acknowledging end x)
 acknowledging-Applied end x least most =
@@ -95,7 +91,6 @@ applying-Applied end bad fits order =
 pub meaning-Applied : (w : Window) (end : LinkEnd) (nr : ℕ) → IsEnd w end → Applied end (applying end (meaning_of w end nr))
 meaning-Applied w end nr h =
     applying-Applied end (meaning_of w end nr) (meaning-Fits w end (distance w end.acked nr) h.acked) h.acked
-
 
 -- what is acknowledged then is what was before, or what a good N(R) says
 pub applying-acked : (end : LinkEnd) (meaning : Meaning) → Fits end meaning

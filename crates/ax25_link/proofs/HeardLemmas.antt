@@ -1,21 +1,20 @@
 -- What a frame does to an end that has nothing to send, row by row.
-use Rattle.std.proofs.Common.{◌≡◌, ℕ, ◌+◌, ◌-◌, ◌%◌, ◌<◌, ◌≤◌, ◌⊎◌, List, [], ◌∷◌, ◌++◌, length, Option, Some, None, Bool, true, false, refl, sym, ◌∙◌, ap, subst, arith, inl, inr, cond}
-use Rattle.std.specs.Prelude.{◌==◌, nat_le, nat_lt, ◌||◌, ◌&&◌, not, IsTrue, if◌then◌else◌, ⊤}
-use Rattle.std.proofs.lemmas.Bool.{cond_both, cases_Bool, eqb-true}
+use Rattle.std.proofs.Common.{◌≡◌, ℕ, ◌-◌, ◌%◌, ◌≤◌, ◌⊎◌, List, [], ◌∷◌, ◌++◌, length, Some, None, Bool, true, false, refl, sym, ◌∙◌, ap, subst, arith, inl, inr}
+use Rattle.std.specs.Prelude.{◌==◌, ◌||◌, ◌&&◌, IsTrue, if◌then◌else◌}
+use Rattle.std.proofs.lemmas.Bool.{cond_both, eqb-true}
 use Rattle.ax25_frames.specs.declared.control.Control.{Control}
 use Rattle.ax25_frames.specs.declared.control.Control.TheVariants.{I, Rr, Rnr, Rej, Sabm, Disc, Dm, Ua, Frmr, Ui}
 use Rattle.ax25_frames.specs.FrameText.{FrameValue}
 use Rattle.ax25_link.specs.declared.state.LinkState.{LinkState}
 use Rattle.ax25_link.specs.declared.state.LinkState.TheVariants.{Calling, Up, Ending, Down}
-use Rattle.ax25_link.specs.declared.state.Why.{Why}
 use Rattle.ax25_link.specs.Window.{Window}
-use Rattle.ax25_link.specs.Ends.{LinkEnd, Reply, IsEnd, high, outstanding, taken_count, ready, reject, accept, refuse, refuse_frame, call, disconnect, enquire, oldest}
-use Rattle.ax25_link.specs.Acknowledging.{Meaning, good, meaning_of, applying, is_good, is_bad, distance}
+use Rattle.ax25_link.specs.Ends.{LinkEnd, Reply, IsEnd, high, outstanding, taken_count, ready, reject, accept, refuse, oldest}
+use Rattle.ax25_link.specs.Acknowledging.{good, meaning_of, applying, is_good, is_bad, distance}
 use Rattle.ax25_link.specs.Frames.{receive_number}
-use Rattle.ax25_link.specs.Rows.{Outcome, passed_over, replying, entering, closing, closing_with, refusing, accepting, out_of_sequence, information_row, supervisory_row, with_busy, sending_again, numbered_row, called_again, up_row, calling_row, ending_row, down_row, row_of_state, is_call, is_oldest, after_frame}
+use Rattle.ax25_link.specs.Rows.{Outcome, replying, entering, information_row, supervisory_row, with_busy, sending_again, numbered_row, up_row, calling_row, ending_row, down_row, row_of_state, is_call, after_frame}
 use Rattle.ax25_link.specs.Linked.{send_number, ack_number, owed}
 use Rattle.ax25_link.specs.Air.{is_information, is_numbered}
-use Rattle.ax25_link.proofs.EndLemmas.{Quiet, Keeps, Applied, Fits, meaning-Fits, meaning-Applied, applying-acked, unless_oldest-no}
+use Rattle.ax25_link.proofs.EndLemmas.{Quiet, Applied, meaning-Fits, meaning-Applied, applying-acked, unless_oldest-no}
 
 -- the frame is an I frame that is next: its information is accepted, and it is replied to
 pub record Accepts (w : Window) (old : LinkEnd) (control : Control) (information : List ℕ) (new : LinkEnd) : Type 0 where
@@ -52,8 +51,17 @@ pub Hears_nothing : (w : Window) (old : LinkEnd) (control : Control) (informatio
 Hears_nothing w old control information q order =
     let again = q.again in
     record {
-      sent = refl; pushed = refl; queued = refl; up = λ e. inl e; calling = λ e. e; least = omega arith; most = order;
-      again = omega arith; oldest = no_reply old q.reply; taken = inl refl; acked = inl refl;
+      sent = refl;
+      pushed = refl;
+      queued = refl;
+      up = λ e. inl e;
+      calling = λ e. e;
+      least = omega arith;
+      most = order;
+      again = omega arith;
+      oldest = no_reply old q.reply;
+      taken = inl refl;
+      acked = inl refl;
     }
 
 pub Hears_reply : (w : Window) (old : LinkEnd) (control : Control) (information : List ℕ) (reply : Reply) → Quiet old → old.acked ≤ high old
@@ -61,8 +69,17 @@ pub Hears_reply : (w : Window) (old : LinkEnd) (control : Control) (information 
 Hears_reply w old control information reply q order other =
     let again = q.again in
     record {
-      sent = refl; pushed = refl; queued = refl; up = λ e. inl e; calling = λ e. e; least = omega arith; most = order;
-      again = omega arith; oldest = other; taken = inl refl; acked = inl refl;
+      sent = refl;
+      pushed = refl;
+      queued = refl;
+      up = λ e. inl e;
+      calling = λ e. e;
+      least = omega arith;
+      most = order;
+      again = omega arith;
+      oldest = other;
+      taken = inl refl;
+      acked = inl refl;
     }
 
 -- the state changes to one that isn't Calling, and to Up only from Calling
@@ -70,17 +87,34 @@ pub Hears_enter : (w : Window) (old : LinkEnd) (control : Control) (information 
     → (state ≡ Up → (old.state ≡ Up) ⊎ (old.state ≡ Calling)) → (state ≡ Calling → ⊥) → Hears w old control information (entering old state)
 Hears_enter w old control information state order up calling =
     record {
-      sent = refl; pushed = refl; queued = refl; up = up; calling = λ e. absurd (calling e); least = omega arith; most = order;
-      again = omega arith; oldest = unless_oldest-no old.reply; taken = inl refl; acked = inl refl;
+      sent = refl;
+      pushed = refl;
+      queued = refl;
+      up = up;
+      calling = λ e. absurd (calling e);
+      least = omega arith;
+      most = order;
+      again = omega arith;
+      oldest = unless_oldest-no old.reply;
+      taken = inl refl;
+      acked = inl refl;
     }
 
 pub Hears_enter_with : (w : Window) (old : LinkEnd) (control : Control) (information : List ℕ) (reply : Reply) → old.acked ≤ high old
     → (Some reply ≡ Some oldest → ⊥) → Hears w old control information (replying (entering old Down) reply)
 Hears_enter_with w old control information reply order other =
     record {
-      sent = refl; pushed = refl; queued = refl; up = λ (e : Down ≡ Up). absurd (let x : ⊥ = cc in x);
-      calling = λ (e : Down ≡ Calling). absurd (let x : ⊥ = cc in x); least = omega arith; most = order;
-      again = omega arith; oldest = other; taken = inl refl; acked = inl refl;
+      sent = refl;
+      pushed = refl;
+      queued = refl;
+      up = λ (e : Down ≡ Up). absurd (let x : ⊥ = cc in x);
+      calling = λ (e : Down ≡ Calling). absurd (let x : ⊥ = cc in x);
+      least = omega arith;
+      most = order;
+      again = omega arith;
+      oldest = other;
+      taken = inl refl;
+      acked = inl refl;
     }
 
 -- the end after a good or stale N(R) was applied, and nothing else was done
@@ -92,7 +126,8 @@ pub record Applies (w : Window) (old : LinkEnd) (nr : ℕ) (e : LinkEnd) : Type 
 applies : (w : Window) (old : LinkEnd) (nr : ℕ) → IsEnd w old → Quiet old → Applies w old nr (applying old (meaning_of w old nr))
 applies w old nr fits q =
     record {
-      quiet = q; applied = meaning-Applied w old nr fits;
+      quiet = q;
+      applied = meaning-Applied w old nr fits;
       acked = applying-acked old (meaning_of w old nr) (meaning-Fits w old (distance w old.acked nr) fits.acked);
     }
 
@@ -123,11 +158,18 @@ Hears_applied w old control information e new up kind h f taken =
     let again = f.again in
     let size : high e ≡ high old = ap (λ (x : List (List ℕ)). length x) k.sent in
     record {
-      sent = f.sent ∙ k.sent; pushed = f.pushed ∙ k.pushed; queued = f.queued ∙ k.queued;
-      up = λ s. inl up; calling = λ s. (let o : old.state ≡ Calling = sym k.state ∙ sym f.state ∙ s in o);
-      least = omega arith; most = omega arith; again = omega (arith, size); oldest = f.oldest; taken = taken;
+      sent = f.sent ∙ k.sent;
+      pushed = f.pushed ∙ k.pushed;
+      queued = f.queued ∙ k.queued;
+      up = λ s. inl up;
+      calling = λ s. (let o : old.state ≡ Calling = sym k.state ∙ sym f.state ∙ s in o);
+      least = omega arith;
+      most = omega arith;
+      again = omega (arith, size);
+      oldest = f.oldest;
+      taken = taken;
       acked = acknowledged w old control new kind
-        (subst (λ (n : ℕ). (n ≡ old.acked) ⊎ (meaning_of w old (ack_number control) ≡ good n)) (sym f.acked) h.acked);
+          (subst (λ (n : ℕ). (n ≡ old.acked) ⊎ (meaning_of w old (ack_number control) ≡ good n)) (sym f.acked) h.acked);
     }
 
 -- the reply to an I frame out of sequence is no I frame
@@ -141,15 +183,17 @@ Hears_information : (w : Window) (old : LinkEnd) (frame : FrameValue) (ns nr : �
 Hears_information w old frame ns nr e up h =
     let k = h.applied.keeps in
     cond_both (ns == receive_number w e) _ _ (λ (o : Outcome). Hears w old (I ns nr) frame.kind.information o.after)
-      (λ same. Hears_applied w old (I ns nr) frame.kind.information e _ up refl h
-        (record { state = refl; pushed = refl; queued = refl; sent = refl; acked = refl; again = (let z = h.quiet.again in let y = k.again in omega arith); oldest = λ x. (let x' : ⊥ = cc in x') })
-        (inr (record {
-          kind = refl; next = (let s : ns ≡ receive_number w e = eqb-true ns (receive_number w e) same in s ∙ ap (λ (x : List (List ℕ)). length x % w.modulus) k.taken);
-          taken = ap (λ (x : List (List ℕ)). x ++ frame.kind.information ∷ []) k.taken; owed = refl;
-        })))
-      (λ other. Hears_applied w old (I ns nr) frame.kind.information e _ up refl h
-        (record { state = refl; pushed = refl; queued = refl; sent = refl; acked = refl; again = (let z = h.quiet.again in let y = k.again in omega arith); oldest = not_oldest e.rejecting frame.poll })
-        (inl k.taken))
+    (λ same. Hears_applied w old (I ns nr) frame.kind.information e _ up refl h
+    (record { state = refl; pushed = refl; queued = refl; sent = refl; acked = refl; again = (let z = h.quiet.again in let y = k.again in omega arith); oldest = λ x. (let x' : ⊥ = cc in x') })
+    (inr (record {
+      kind = refl;
+      next = (let s : ns ≡ receive_number w e = eqb-true ns (receive_number w e) same in s ∙ ap (λ (x : List (List ℕ)). length x % w.modulus) k.taken);
+      taken = ap (λ (x : List (List ℕ)). x ++ frame.kind.information ∷ []) k.taken;
+      owed = refl;
+    })))
+    (λ other. Hears_applied w old (I ns nr) frame.kind.information e _ up refl h
+    (record { state = refl; pushed = refl; queued = refl; sent = refl; acked = refl; again = (let z = h.quiet.again in let y = k.again in omega arith); oldest = not_oldest e.rejecting frame.poll })
+    (inl k.taken))
 
 -- an S frame whose N(R) was applied, at an end that follows that
 Hears_supervisory : (w : Window) (old : LinkEnd) (control : Control) (frame : FrameValue) (e next : LinkEnd) → old.state ≡ Up → IsTrue (is_numbered control)
@@ -157,16 +201,21 @@ Hears_supervisory : (w : Window) (old : LinkEnd) (control : Control) (frame : Fr
     → Hears w old control frame.kind.information (supervisory_row next frame).after
 Hears_supervisory w old control frame e next up kind h f taken =
     cond_both (frame.command && frame.poll) _ _ (λ (n : LinkEnd). Hears w old control frame.kind.information n)
-      (λ asks. Hears_applied w old control frame.kind.information e (replying next (ready true)) up kind h
-        (record { state = f.state; pushed = f.pushed; queued = f.queued; sent = f.sent; acked = f.acked; again = f.again; oldest = λ x. (let x' : ⊥ = cc in x') })
-        (inl taken))
-      (λ other. Hears_applied w old control frame.kind.information e next up kind h f (inl taken))
+    (λ asks. Hears_applied w old control frame.kind.information e (replying next (ready true)) up kind h
+    (record { state = f.state; pushed = f.pushed; queued = f.queued; sent = f.sent; acked = f.acked; again = f.again; oldest = λ x. (let x' : ⊥ = cc in x') })
+    (inl taken))
+    (λ other. Hears_applied w old control frame.kind.information e next up kind h f (inl taken))
 
 -- nothing is sent again
 follows : (w : Window) (old : LinkEnd) (nr : ℕ) (busy : Bool) (e : LinkEnd) → Applies w old nr e → Follows e (with_busy busy e)
 follows w old nr busy e h =
     record {
-      state = refl; pushed = refl; queued = refl; sent = refl; acked = refl; again = (let z = h.quiet.again in let y = h.applied.keeps.again in omega arith);
+      state = refl;
+      pushed = refl;
+      queued = refl;
+      sent = refl;
+      acked = refl;
+      again = (let z = h.quiet.again in let y = h.applied.keeps.again in omega arith);
       oldest = λ x. (let q = h.quiet.reply in let r = h.applied.keeps.reply in let x' : ⊥ = cc in x');
     }
 
@@ -174,7 +223,12 @@ follows w old nr busy e h =
 follows_again : (w : Window) (old : LinkEnd) (nr : ℕ) (e : LinkEnd) → Applies w old nr e → Follows e (with_busy false (sending_again e))
 follows_again w old nr e h =
     record {
-      state = refl; pushed = refl; queued = refl; sent = refl; acked = refl; again = omega arith;
+      state = refl;
+      pushed = refl;
+      queued = refl;
+      sent = refl;
+      acked = refl;
+      again = omega arith;
       oldest = λ x. (let q = h.quiet.reply in let r = h.applied.keeps.reply in let x' : ⊥ = cc in x');
     }
 
@@ -189,8 +243,8 @@ Hears_numbered : (w : Window) (old : LinkEnd) (frame : FrameValue) (control : Co
     → Hears w old control frame.kind.information (numbered_row w old frame nr row).after
 Hears_numbered w old frame control nr row fits h =
     cond_both (is_bad (meaning_of w old nr)) _ _ (λ (o : Outcome). Hears w old control frame.kind.information o.after)
-      (λ b. Hears_enter_with w old control frame.kind.information _ fits.acked (λ x. (let x' : ⊥ = cc in x')))
-      (λ g. h)
+    (λ b. Hears_enter_with w old control frame.kind.information _ fits.acked (λ x. (let x' : ⊥ = cc in x')))
+    (λ g. h)
 
 pub Hears_up : (w : Window) (old : LinkEnd) (frame : FrameValue) (control : Control) → IsEnd w old → Quiet old → old.state ≡ Up
     → is_call control ≡ false → Hears w old control frame.kind.information (up_row w old frame control).after
@@ -199,15 +253,15 @@ Hears_up w old frame (I ns nr) fits q up calls =
 Hears_up w old frame (Rr nr) fits q up calls =
     let h = applies w old nr fits q in
     Hears_numbered w old frame (Rr nr) nr (λ e. supervisory_row (with_busy false e) frame) fits
-      (Hears_supervisory w old (Rr nr) frame _ _ up refl h (follows w old nr false _ h) h.applied.keeps.taken)
+    (Hears_supervisory w old (Rr nr) frame _ _ up refl h (follows w old nr false _ h) h.applied.keeps.taken)
 Hears_up w old frame (Rnr nr) fits q up calls =
     let h = applies w old nr fits q in
     Hears_numbered w old frame (Rnr nr) nr (λ e. supervisory_row (with_busy true e) frame) fits
-      (Hears_supervisory w old (Rnr nr) frame _ _ up refl h (follows w old nr true _ h) h.applied.keeps.taken)
+    (Hears_supervisory w old (Rnr nr) frame _ _ up refl h (follows w old nr true _ h) h.applied.keeps.taken)
 Hears_up w old frame (Rej nr) fits q up calls =
     Hears_numbered w old frame (Rej nr) nr
-      (λ e. supervisory_row (with_busy false (if is_good (meaning_of w old nr) then sending_again e else e)) frame) fits
-      (Hears_rej w old frame nr (is_good (meaning_of w old nr)) _ up (applies w old nr fits q))
+    (λ e. supervisory_row (with_busy false (if is_good (meaning_of w old nr) then sending_again e else e)) frame) fits
+    (Hears_rej w old frame nr (is_good (meaning_of w old nr)) _ up (applies w old nr fits q))
 Hears_up w old frame Sabm fits q up calls = absurd (let x : ⊥ = cc in x)
 Hears_up w old frame Disc fits q up calls = Hears_enter_with w old Disc frame.kind.information _ fits.acked (λ x. (let x' : ⊥ = cc in x'))
 Hears_up w old frame Dm fits q up calls = Hears_enter w old Dm frame.kind.information Down fits.acked (λ (e : Down ≡ Up). absurd (let x : ⊥ = cc in x)) (λ (e : Down ≡ Calling). (let x : ⊥ = cc in x))
@@ -245,8 +299,8 @@ pub Hears_down : (w : Window) (old : LinkEnd) (frame : FrameValue) (control : Co
     → Hears w old control frame.kind.information (down_row old frame).after
 Hears_down w old frame control fits q =
     cond_both (is_call frame.kind.control || (frame.command && frame.poll)) _ _ (λ (n : LinkEnd). Hears w old control frame.kind.information n)
-      (λ asks. Hears_reply w old control frame.kind.information (refuse frame.poll) q fits.acked (λ x. (let x' : ⊥ = cc in x')))
-      (λ other. Hears_nothing w old control frame.kind.information q fits.acked)
+    (λ asks. Hears_reply w old control frame.kind.information (refuse frame.poll) q fits.acked (λ x. (let x' : ⊥ = cc in x')))
+    (λ other. Hears_nothing w old control frame.kind.information q fits.acked)
 
 hears_in : (w : Window) (old : LinkEnd) (frame : FrameValue) (state : LinkState) → old.state ≡ state → IsEnd w old → Quiet old
     → is_call frame.kind.control ≡ false

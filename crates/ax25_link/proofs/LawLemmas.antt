@@ -1,36 +1,39 @@
 -- The parts of the prefix law.
-use Rattle.std.proofs.Common.{◌≡◌, ℕ, ◌+◌, ◌-◌, ◌%◌, ◌<◌, ◌≤◌, ◌⊎◌, List, [], ◌∷◌, ◌++◌, length, take, map, Option, Some, None, Bool, true, false, refl, sym, ◌∙◌, ap, subst, arith, inl, inr, length-append, append_assoc, append-nil, take-append-drop}
-use Rattle.std.specs.Prelude.{IsTrue, slice_get, drop}
+use Rattle.std.proofs.Common.{◌≡◌, ℕ, List, [], ◌∷◌, ◌++◌, length, take, map, false, refl, sym, ◌∙◌, ap, subst, arith, inl, inr, append_assoc, append-nil, take-append-drop}
+use Rattle.std.specs.Prelude.{drop}
 use Rattle.std.specs.List.{concat}
 use Rattle.std.proofs.lemmas.Bool.{true≢false}
 use Rattle.std.proofs.lemmas.List.Folds.{concat-append}
-use Rattle.px_base.specs.CallSign.{CallSign}
-use Rattle.px_base.specs.Octets.{IsFront}
-use Rattle.ax25_frames.specs.declared.control.Control.{Control}
 use Rattle.ax25_frames.specs.FrameText.{FrameValue}
-use Rattle.ax25_link.specs.declared.state.LinkState.{LinkState}
 use Rattle.ax25_link.specs.declared.state.LinkState.TheVariants.{Calling, Up}
-use Rattle.ax25_link.specs.Window.{Window, IsWindow}
-use Rattle.ax25_link.specs.Ends.{LinkEnd, Reply, IsEnd, high, taken_count, oldest, answering_end}
-use Rattle.ax25_link.specs.Acknowledging.{Meaning, good, stale, bad, meaning_of, is_bad}
+use Rattle.ax25_link.specs.Window.{Window}
+use Rattle.ax25_link.specs.Ends.{LinkEnd, taken_count}
+use Rattle.ax25_link.specs.Acknowledging.{is_bad}
 use Rattle.ax25_link.specs.Rows.{is_call}
 use Rattle.ax25_link.specs.Calls.{Doing, after_doing, DoesAll}
-use Rattle.ax25_link.specs.Sending.{Sending, IsQuiet, next_sending, Drains}
-use Rattle.ax25_link.specs.Air.{Transmission, fresh, IsAt, IsLawful, control_of, is_information, is_numbered, sending_all}
-use Rattle.ax25_link.specs.Linked.{Station, AreLinked, NumbersFit, OctetsFit, PiecesFit, ShownFit, IsInformationAt, IsNumberedAt, ack_number}
-use Rattle.ax25_link.specs.Acts.{Act, hear, tick, does, send, MayAct, acting, facing}
-use Rattle.ax25_link.specs.Laws.{IsOpening, IsUnused, OpeningLaw, KeptLaw, SentLaw, HeardLaw, TickedLaw, TurnedLaw, FrontLaw, NoBadLaw, PrefixLaw, HasNoCall, having_sent}
+use Rattle.ax25_link.specs.Sending.{Drains}
+use Rattle.ax25_link.specs.Air.{Transmission, fresh, control_of}
+use Rattle.ax25_link.specs.Linked.{Station, AreLinked, PiecesFit, ShownFit, IsInformationAt, IsNumberedAt}
+use Rattle.ax25_link.specs.Acts.{hear, tick, does, send, acting, facing}
+use Rattle.ax25_link.specs.Laws.{IsOpening, OpeningLaw, KeptLaw, SentLaw, HeardLaw, TickedLaw, TurnedLaw, FrontLaw, NoBadLaw, PrefixLaw, HasNoCall, having_sent}
 use Rattle.ax25_link.proofs.AirLemmas.{information_numbered}
 use Rattle.ax25_link.proofs.EndKept.{answering_end-IsEnd}
 use Rattle.ax25_link.proofs.LinkedLemmas.{station, quiet-owed, kept-steady, does-Steady, tick-Steady, kept-send}
-use Rattle.ax25_link.proofs.DeliveryLemmas.{Reads, reads, kept-hear}
+use Rattle.ax25_link.proofs.DeliveryLemmas.{reads, kept-hear}
 
 turned : TurnedLaw
 turned w one other h =
     record {
-      one_end = h.other_end; other_end = h.one_end; one_numbers = h.other_numbers; other_numbers = h.one_numbers;
-      one_octets = h.other_octets; other_octets = h.one_octets; one_calling = h.other_calling; other_calling = h.one_calling;
-      one_opened = h.other_opened; other_opened = h.one_opened;
+      one_end = h.other_end;
+      other_end = h.one_end;
+      one_numbers = h.other_numbers;
+      other_numbers = h.one_numbers;
+      one_octets = h.other_octets;
+      other_octets = h.one_octets;
+      one_calling = h.other_calling;
+      other_calling = h.one_calling;
+      one_opened = h.other_opened;
+      other_opened = h.one_opened;
     }
 
 -- the octets of the first pieces are a front of those of all
@@ -41,12 +44,13 @@ front : FrontLaw
 front w one other h =
     let n = taken_count other.end in
     let pieces = one.end.sent in
-    let rest = h.one_octets.pushed.0 in
-    (concat (drop n pieces) ++ rest,
+    let rest = h.one_octets.pushed.0 in (
+      concat (drop n pieces) ++ rest,
       h.one_octets.pushed.1
-      ∙ ap (λ (l : List ℕ). l ++ rest) (concat-front pieces n)
-      ∙ append_assoc (concat (take n pieces)) (concat (drop n pieces)) rest
-      ∙ ap (λ (l : List (List ℕ)). concat l ++ (concat (drop n pieces) ++ rest)) (sym h.one_octets.taken))
+          ∙ ap (λ (l : List ℕ). l ++ rest) (concat-front pieces n)
+          ∙ append_assoc (concat (take n pieces)) (concat (drop n pieces)) rest
+          ∙ ap (λ (l : List (List ℕ)). concat l ++ (concat (drop n pieces) ++ rest)) (sym h.one_octets.taken),
+    )
 
 no_bad : NoBadLaw
 no_bad w one other place t window h q lawful kind =
@@ -68,14 +72,14 @@ does_all : (w : Window) (one other : Station) (doings : List Doing) (last : Link
 does_all w one other [] last h d = subst (λ (n : LinkEnd). AreLinked w (station n one.transmissions) other) (sym d) h
 does_all w one other (doing ∷ doings) last h d =
     does_all w (station (after_doing one.end doing) one.transmissions) other doings last
-      (kept-steady w one other (after_doing one.end doing) h (does-Steady w one.end doing h.one_end d.0)) d.1
+    (kept-steady w one other (after_doing one.end doing) h (does-Steady w one.end doing h.one_end d.0)) d.1
 
 -- all frames that are sent
 drains_all : (w : Window) (one other : Station) (frames : List FrameValue) (last : LinkEnd) → AreLinked w one other → Drains w one.end frames last
     → HasNoCall frames → AreLinked w (having_sent one last frames) other
 drains_all w one other [] last h d none =
     subst (λ (n : LinkEnd). AreLinked w (station n (one.transmissions ++ [])) other) (sym d.1)
-      (subst (λ (l : List Transmission). AreLinked w (station one.end l) other) (sym (append-nil one.transmissions)) h)
+    (subst (λ (l : List Transmission). AreLinked w (station one.end l) other) (sym (append-nil one.transmissions)) h)
 drains_all w one other (f ∷ frames) last h d none =
     let list = one.transmissions in
     let sending = d.0 in
@@ -83,8 +87,8 @@ drains_all w one other (f ∷ frames) last h d none =
     let next = kept-send w one other sending h d.1 same in
     let rest = drains_all w (station sending.after (list ++ fresh sending.frame ∷ [])) other frames last next d.3 none.1 in
     subst (λ (l : List Transmission). AreLinked w (station last l) other)
-      (append_assoc list (fresh sending.frame ∷ []) (map fresh frames)
-        ∙ ap (λ (x : FrameValue). list ++ fresh x ∷ map fresh frames) (sym d.2)) rest
+    (append_assoc list (fresh sending.frame ∷ []) (map fresh frames)
+    ∙ ap (λ (x : FrameValue). list ++ fresh x ∷ map fresh frames) (sym d.2)) rest
 
 sent : SentLaw
 sent w one other doings frames end last window h d drained none =
@@ -93,12 +97,12 @@ sent w one other doings frames end last window h d drained none =
 heard : HeardLaw
 heard w one other place t told doings frames last window h other_q lawful step none =
     sent w (acting w one (hear place t)) (facing other (hear place t)) doings frames step.end last window
-      (kept-hear w one other place t window h step.quiet other_q lawful) step.does step.drains none
+    (kept-hear w one other place t window h step.quiet other_q lawful) step.does step.drains none
 
 ticked : TickedLaw
 ticked w one other told doings frames last window h step none =
     sent w (acting w one tick) other doings frames step.end last window
-      (kept-steady w one other _ h (tick-Steady w one.end h.one_end step.quiet)) step.does step.drains none
+    (kept-steady w one other _ h (tick-Steady w one.end h.one_end step.quiet)) step.does step.drains none
 
 -- a list without I and S frames
 no_information : (list : List Transmission) → IsOpening list → (place : ℕ) (t : Transmission) → IsInformationAt list place t → ⊥
@@ -140,12 +144,16 @@ opening w caller me peer poll list window u o_caller o =
       one_end = record { acked = omega arith; window = omega (arith, size); again = omega arith; oldest = λ e. absurd (u.reply e) };
       other_end = answering_end-IsEnd w me peer poll;
       one_numbers = record {
-        acked = omega arith; taken = omega arith; window = omega (arith, size);
+        acked = omega arith;
+        taken = omega arith;
+        window = omega (arith, size);
         pieces = ((λ place. 0), opening_pieces w end.sent 0 caller.transmissions o_caller);
         shown = ((λ place. 0), opening_shown w (length end.taken) _ 0 caller.transmissions o_caller);
       };
       other_numbers = record {
-        acked = omega arith; taken = omega (arith, count); window = omega arith;
+        acked = omega arith;
+        taken = omega (arith, count);
+        window = omega arith;
         pieces = ((λ place. 0), opening_pieces w [] (length end.taken) list o);
         shown = ((λ place. 0), opening_shown w 0 _ end.acked list o);
       };
@@ -166,5 +174,12 @@ opening w caller me peer poll list window u o_caller o =
 pub prefix_law : PrefixLaw
 prefix_law =
     record {
-      opening = opening; kept = kept; sent = sent; heard = heard; ticked = ticked; turned = turned; front = front; no_bad = no_bad;
+      opening = opening;
+      kept = kept;
+      sent = sent;
+      heard = heard;
+      ticked = ticked;
+      turned = turned;
+      front = front;
+      no_bad = no_bad;
     }

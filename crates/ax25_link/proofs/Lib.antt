@@ -1,5 +1,6 @@
 pub mod AirLemmas
 pub mod DeliveryLemmas
+pub mod DrainsLemmas
 pub mod EndKept
 pub mod EndLemmas
 pub mod FrameLemmas
@@ -8,6 +9,7 @@ pub mod LawLemmas
 pub mod LinkedLemmas
 pub mod MeaningLemmas
 pub mod Modulus
+pub mod OneMeaning
 pub mod Places
 pub mod QueueLemmas
 pub mod SendLemmas

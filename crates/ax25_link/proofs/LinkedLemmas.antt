@@ -1,29 +1,20 @@
 -- Two linked stations stay linked, step by step.
-use Rattle.std.proofs.Common.{◌≡◌, ℕ, ◌+◌, ◌-◌, ◌%◌, ◌<◌, ◌≤◌, ◌⊎◌, List, [], ◌∷◌, ◌++◌, length, take, drop, Option, Some, None, Bool, true, false, refl, sym, ◌∙◌, ap, subst, arith, inl, inr, cond, length-append, append_assoc}
-use Rattle.std.specs.Prelude.{IsTrue, slice_get, ⊤, zero, suc, if◌then◌else◌}
+use Rattle.std.proofs.Common.{◌≡◌, ℕ, ◌≤◌, List, [], ◌∷◌, ◌++◌, length, take, Option, Some, None, false, refl, sym, ◌∙◌, ap, subst, arith, append_assoc}
 use Rattle.std.specs.List.{concat}
-use Rattle.std.proofs.lemmas.Bool.{cond_both, cases_Bool, true≢false}
-use Rattle.std.proofs.lemmas.Option.{same_Some}
-use Rattle.ax25_frames.specs.declared.control.Control.{Control}
-use Rattle.ax25_frames.specs.FrameText.{FrameValue}
-use Rattle.ax25_link.specs.declared.state.LinkState.{LinkState}
+use Rattle.std.proofs.lemmas.Bool.{cond_both}
 use Rattle.ax25_link.specs.declared.state.LinkState.TheVariants.{Calling, Up, Ending, Down}
-use Rattle.ax25_link.specs.Window.{Window, IsWindow}
-use Rattle.ax25_link.specs.Ends.{LinkEnd, Reply, IsEnd, high, taken_count, free_octets, ready, reject, accept, refuse, refuse_frame, call, disconnect, enquire, oldest}
-use Rattle.ax25_link.specs.Acknowledging.{Meaning, good, stale, bad, meaning_of}
-use Rattle.ax25_link.specs.Rows.{after_frame, is_call, entering, unless_oldest}
-use Rattle.ax25_link.specs.Timer.{is_down, runs_out, is_spent, trying, after_tick}
+use Rattle.ax25_link.specs.Window.{Window}
+use Rattle.ax25_link.specs.Ends.{LinkEnd, Reply, IsEnd, taken_count, free_octets, ready, reject, accept, refuse, refuse_frame, call, disconnect, enquire, oldest}
+use Rattle.ax25_link.specs.Rows.{is_call, unless_oldest}
+use Rattle.ax25_link.specs.Timer.{is_down, runs_out, is_spent, after_tick}
 use Rattle.ax25_link.specs.Calls.{Doing, push, hang_up, abandon, after_doing}
 use Rattle.ax25_link.specs.Sending.{Sending, IsQuiet, next_sending}
-use Rattle.ax25_link.specs.Air.{Transmission, fresh, IsAt, IsLawful, later_count, NoneLater, control_of, is_information, is_numbered, delivering}
-use Rattle.ax25_link.specs.Linked.{Station, AreLinked, NumbersFit, OctetsFit, PiecesFit, ShownFit, IsUnpushed, IsOpened, send_number, ack_number, owed, owed_for}
-use Rattle.ax25_link.proofs.Modulus.{same_number}
-use Rattle.ax25_link.proofs.MeaningLemmas.{meaning_shown}
-use Rattle.ax25_link.proofs.AirLemmas.{ShownFit-grows, PiecesFit-deliver, ShownFit-deliver, IsOpened-deliver, MorePieces, NewPiece, updated, PiecesFit-send, ShownFit-send, IsOpened-send}
-use Rattle.ax25_link.proofs.EndLemmas.{Quiet, quiet}
-use Rattle.ax25_link.proofs.EndKept.{Hears-IsEnd, after_tick-IsEnd, after_doing-IsEnd}
-use Rattle.ax25_link.proofs.HeardLemmas.{Hears, Accepts, Acknowledges, after_frame-Hears}
-use Rattle.ax25_link.proofs.SendLemmas.{IsRest, Sends, SendsPiece, next_sending-Sends}
+use Rattle.ax25_link.specs.Air.{Transmission, fresh}
+use Rattle.ax25_link.specs.Linked.{Station, AreLinked, NumbersFit, PiecesFit, ShownFit, IsUnpushed, owed, owed_for}
+use Rattle.ax25_link.proofs.AirLemmas.{ShownFit-grows, updated, PiecesFit-send, ShownFit-send, IsOpened-send}
+use Rattle.ax25_link.proofs.EndLemmas.{quiet}
+use Rattle.ax25_link.proofs.EndKept.{after_tick-IsEnd, after_doing-IsEnd}
+use Rattle.ax25_link.proofs.SendLemmas.{IsRest, next_sending-Sends}
 
 -- the station with another end, and with other transmissions
 abbrev pub station : LinkEnd → List Transmission → Station
@@ -58,11 +49,15 @@ steady_numbers w one other new s h =
       acked = omega arith;
       taken = omega (arith, size);
       window = omega (arith, size);
-      pieces = (h.pieces.0,
-        subst (λ (l : List (List ℕ)). PiecesFit w l (taken_count other.end) one.transmissions h.pieces.0) (sym s.sent) h.pieces.1);
-      shown = (h.shown.0,
+      pieces = (
+        h.pieces.0,
+        subst (λ (l : List (List ℕ)). PiecesFit w l (taken_count other.end) one.transmissions h.pieces.0) (sym s.sent) h.pieces.1,
+      );
+      shown = (
+        h.shown.0,
         ShownFit-grows w (taken_count one.end) (taken_count new) (owed one.end) (owed new) other.end.acked one.transmissions h.shown.0
-          (omega (arith, count)) (omega (arith, count)) h.shown.1);
+            (omega (arith, count)) (omega (arith, count)) h.shown.1,
+      );
     }
 
 steady_facing : (w : Window) (one other : Station) (new : LinkEnd) → Steady w one.end new → NumbersFit w other one
@@ -123,17 +118,27 @@ pub does-Steady : (w : Window) (end : LinkEnd) (doing : Doing) → IsEnd w end �
 does-Steady w end (push octets) fits up =
     record {
       fits = after_doing-IsEnd w end (push octets) fits;
-      sent = refl; acked = refl; taken = refl; owed = omega arith;
-      octets = λ rest h. (rest ++ take (free_octets end) octets,
-        (ap (λ (l : List ℕ). l ++ take (free_octets end) octets) h.0 ∙ append_assoc (concat end.sent) rest (take (free_octets end) octets),
-          λ e. ap (λ (l : List ℕ). l ++ take (free_octets end) octets) (h.1 e)));
+      sent = refl;
+      acked = refl;
+      taken = refl;
+      owed = omega arith;
+      octets = λ rest h. (
+        rest ++ take (free_octets end) octets,
+        (
+          ap (λ (l : List ℕ). l ++ take (free_octets end) octets) h.0 ∙ append_assoc (concat end.sent) rest (take (free_octets end) octets),
+          λ e. ap (λ (l : List ℕ). l ++ take (free_octets end) octets) (h.1 e),
+        ),
+      );
       calling = λ u e. absurd (let c : end.state ≡ Calling = e in let x : ⊥ = cc in x);
     }
 does-Steady w end hang_up fits up =
     let same = owed-unless_oldest end.reply in
     record {
       fits = after_doing-IsEnd w end hang_up fits;
-      sent = refl; acked = refl; taken = refl; owed = omega (arith, same);
+      sent = refl;
+      acked = refl;
+      taken = refl;
+      owed = omega (arith, same);
       octets = λ rest h. (rest, (h.0, λ (e : Ending ≡ Up). absurd (let x : ⊥ = cc in x)));
       calling = λ u (e : Ending ≡ Calling). absurd (let x : ⊥ = cc in x);
     }
@@ -141,7 +146,10 @@ does-Steady w end abandon fits up =
     let same = owed-unless_oldest end.reply in
     record {
       fits = after_doing-IsEnd w end abandon fits;
-      sent = refl; acked = refl; taken = refl; owed = omega (arith, same);
+      sent = refl;
+      acked = refl;
+      taken = refl;
+      owed = omega (arith, same);
       octets = λ rest h. (rest, (h.0, λ (e : Down ≡ Up). absurd (let x : ⊥ = cc in x)));
       calling = λ u (e : Down ≡ Calling). absurd (let x : ⊥ = cc in x);
     }
@@ -159,15 +167,20 @@ record Ticked (old new : LinkEnd) : Type 0 where
 ticked : (end : LinkEnd) → Ticked end (after_tick end)
 ticked end =
     cond_both (is_down end.state) _ _ (λ (n : LinkEnd). Ticked end n)
-      (λ e. record { sent = refl; acked = refl; taken = refl; pushed = refl; queued = refl; up = λ s. s; calling = λ s. s })
-      (λ e. cond_both (runs_out end) _ _ (λ (n : LinkEnd). Ticked end n)
-        (λ f. cond_both (is_spent end) _ _ (λ (n : LinkEnd). Ticked end n)
-          (λ g. record {
-            sent = refl; acked = refl; taken = refl; pushed = refl; queued = refl;
-            up = λ (s : Down ≡ Up). absurd (let x : ⊥ = cc in x); calling = λ (s : Down ≡ Calling). absurd (let x : ⊥ = cc in x);
-          })
-          (λ g. record { sent = refl; acked = refl; taken = refl; pushed = refl; queued = refl; up = λ s. s; calling = λ s. s }))
-        (λ f. record { sent = refl; acked = refl; taken = refl; pushed = refl; queued = refl; up = λ s. s; calling = λ s. s }))
+    (λ e. record { sent = refl; acked = refl; taken = refl; pushed = refl; queued = refl; up = λ s. s; calling = λ s. s })
+    (λ e. cond_both (runs_out end) _ _ (λ (n : LinkEnd). Ticked end n)
+    (λ f. cond_both (is_spent end) _ _ (λ (n : LinkEnd). Ticked end n)
+    (λ g. record {
+      sent = refl;
+      acked = refl;
+      taken = refl;
+      pushed = refl;
+      queued = refl;
+      up = λ (s : Down ≡ Up). absurd (let x : ⊥ = cc in x);
+      calling = λ (s : Down ≡ Calling). absurd (let x : ⊥ = cc in x);
+    })
+    (λ g. record { sent = refl; acked = refl; taken = refl; pushed = refl; queued = refl; up = λ s. s; calling = λ s. s }))
+    (λ f. record { sent = refl; acked = refl; taken = refl; pushed = refl; queued = refl; up = λ s. s; calling = λ s. s }))
 
 pub tick-Steady : (w : Window) (end : LinkEnd) → IsEnd w end → IsQuiet w end → Steady w end (after_tick end)
 tick-Steady w end fits q =
@@ -175,9 +188,14 @@ tick-Steady w end fits q =
     let none = quiet-owed w end q in
     record {
       fits = after_tick-IsEnd w end fits;
-      sent = t.sent; acked = t.acked; taken = t.taken; owed = omega (arith, none);
-      octets = λ rest h. (rest,
-        (t.pushed ∙ h.0 ∙ ap (λ (l : List (List ℕ)). concat l ++ rest) (sym t.sent), λ e. t.queued ∙ h.1 (t.up e)));
+      sent = t.sent;
+      acked = t.acked;
+      taken = t.taken;
+      owed = omega (arith, none);
+      octets = λ rest h. (
+        rest,
+        (t.pushed ∙ h.0 ∙ ap (λ (l : List (List ℕ)). concat l ++ rest) (sym t.sent), λ e. t.queued ∙ h.1 (t.up e)),
+      );
       calling = λ u e. (let before = u (t.calling e) in (t.pushed ∙ before.0, t.queued ∙ before.1));
     }
 
@@ -206,16 +224,20 @@ kept-send w one other sending h next none =
         acked = omega arith;
         taken = omega arith;
         window = s.fits.window;
-        pieces = (updated there.pieces.0 (length list) s.place,
+        pieces = (
+          updated there.pieces.0 (length list) s.place,
           PiecesFit-send w one.end.sent new.sent (taken_count other.end) list there.pieces.0 sending.frame s.place s.more
-            (λ kind. (let p = s.piece kind in let least = p.least in let below = p.sent in
+              (λ kind. (let p = s.piece kind in let least = p.least in let below = p.sent in
               record { shows = p.shows; carries = p.carries; sent = p.sent; recent = omega arith; accepted = omega arith }))
-            there.pieces.1);
-        shown = (updated there.shown.0 (length list) (taken_count one.end),
+              there.pieces.1,
+        );
+        shown = (
+          updated there.shown.0 (length list) (taken_count one.end),
           subst (λ n. ShownFit w n (owed new) other.end.acked (list ++ fresh sending.frame ∷ []) (updated there.shown.0 (length list) (taken_count one.end)))
-            (sym count)
-            (ShownFit-send w (taken_count one.end) (owed one.end) (owed new) other.end.acked list there.shown.0 sending.frame s.shows s.owed back_low
-              there.shown.1));
+              (sym count)
+              (ShownFit-send w (taken_count one.end) (owed one.end) (owed new) other.end.acked list there.shown.0 sending.frame s.shows s.owed back_low
+              there.shown.1),
+        );
       };
       other_numbers = record {
         acked = omega (arith, count);

@@ -1,10 +1,10 @@
 -- What N(R) means where the number behind it is known.
-use Rattle.std.proofs.Common.{◌≡◌, ℕ, ◌+◌, ◌-◌, ◌%◌, ◌<◌, ◌≤◌, ◌⊎◌, refl, sym, ◌∙◌, ap, subst, arith, inl, inr, Bool, true, false}
-use Rattle.std.specs.Prelude.{nat_le, nat_lt, if◌then◌else◌}
+use Rattle.std.proofs.Common.{◌≡◌, ℕ, ◌+◌, ◌-◌, ◌%◌, ◌<◌, ◌≤◌, ◌⊎◌, sym, ◌∙◌, ap, arith, inl, inr}
+use Rattle.std.specs.Prelude.{nat_le, nat_lt}
 use Rattle.std.proofs.lemmas.Bool.{cond-true, cond-false, le-leb, lt-leb, lt-ltb, le-ltb, cases_lt}
 use Rattle.ax25_link.specs.Window.{Window, IsWindow}
 use Rattle.ax25_link.specs.Ends.{LinkEnd, IsEnd, high}
-use Rattle.ax25_link.specs.Acknowledging.{Meaning, good, stale, bad, distance, meaning_at, meaning_of}
+use Rattle.ax25_link.specs.Acknowledging.{good, stale, bad, distance, meaning_at, meaning_of}
 use Rattle.ax25_link.proofs.Modulus.{distance_up, distance_down}
 
 -- a distance up to the number of outstanding frames is good
@@ -51,10 +51,10 @@ meaning_shown w end nr x window fits shows most late =
     let size = fits.window in
     elim (cases_lt x end.acked) [
       | inl below ↦
-        let far = distance_below w end.acked nr x shows below (omega arith) in
-        inr (below, ap (meaning_at w end) far ∙ meaning_at-stale w end (w.modulus - (end.acked - x)) (omega arith) (omega arith))
+          let far = distance_below w end.acked nr x shows below (omega arith) in
+          inr (below, ap (meaning_at w end) far ∙ meaning_at-stale w end (w.modulus - (end.acked - x)) (omega arith) (omega arith))
       | inr above ↦
-        let far = distance_above w end.acked nr x shows above (omega arith) in
-        let same : end.acked + (x - end.acked) ≡ x = omega arith in
-        inl (above, ap (meaning_at w end) far ∙ meaning_at-good w end (x - end.acked) (omega arith) ∙ ap good same)
+          let far = distance_above w end.acked nr x shows above (omega arith) in
+          let same : end.acked + (x - end.acked) ≡ x = omega arith in
+          inl (above, ap (meaning_at w end) far ∙ meaning_at-good w end (x - end.acked) (omega arith) ∙ ap good same)
     ]

@@ -1,5 +1,5 @@
 -- Numbers that are counted modulo m.
-use Rattle.std.proofs.Common.{◌≡◌, ℕ, ◌+◌, ◌-◌, ◌*◌, ◌/◌, ◌%◌, ◌<◌, ◌≤◌, ◌⊎◌, refl, sym, ◌∙◌, ap, arith, inl, inr}
+use Rattle.std.proofs.Common.{◌≡◌, ℕ, ◌+◌, ◌-◌, ◌*◌, ◌/◌, ◌%◌, ◌<◌, sym, ◌∙◌, ap, arith, inl, inr}
 use Rattle.std.proofs.lemmas.Nat.{mod-mul-add, div-add-mod', mod_below}
 use Rattle.std.proofs.lemmas.Bool.{cases_lt}
 
@@ -26,13 +26,13 @@ distance_up a d m h =
     let below : a % m < m = mod_below a m (omega arith) in
     elim (cases_lt (a % m + d) m) [
       | inl low ↦
-        let r : (a + d) % m ≡ a % m + d = mod_of (a + d) m (a / m) (a % m + d) (omega (arith, e)) low in
-        mod_of ((a + d) % m + (m - a % m)) m 1 d (omega (arith, r)) h
+          let r : (a + d) % m ≡ a % m + d = mod_of (a + d) m (a / m) (a % m + d) (omega (arith, e)) low in
+          mod_of ((a + d) % m + (m - a % m)) m 1 d (omega (arith, r)) h
       | inr high ↦
-        let more = one_more (a / m) m (a % m + d - m) in
-        let r : (a + d) % m ≡ a % m + d - m =
-            mod_of (a + d) m (a / m + 1) (a % m + d - m) (omega (arith, e, more)) (omega arith) in
-        mod_of ((a + d) % m + (m - a % m)) m 0 d (omega (arith, r)) h
+          let more = one_more (a / m) m (a % m + d - m) in
+          let r : (a + d) % m ≡ a % m + d - m =
+          mod_of (a + d) m (a / m + 1) (a % m + d - m) (omega (arith, e, more)) (omega arith) in
+          mod_of ((a + d) % m + (m - a % m)) m 0 d (omega (arith, r)) h
     ]
 
 -- the distance of a number that is less than m below another, counted modulo m
@@ -50,24 +50,46 @@ same_above a d m h same =
     let below : a % m < m = mod_below a m (omega arith) in
     elim (cases_lt (a % m + d) m) [
       | inl low ↦
-        let r : (a + d) % m ≡ a % m + d = mod_of (a + d) m (a / m) (a % m + d) (omega (arith, e)) low in
-        omega (arith, r)
+          let r : (a + d) % m ≡ a % m + d = mod_of (a + d) m (a / m) (a % m + d) (omega (arith, e)) low in
+          omega (arith, r)
       | inr high ↦
-        let more = one_more (a / m) m (a % m + d - m) in
-        let r : (a + d) % m ≡ a % m + d - m =
-            mod_of (a + d) m (a / m + 1) (a % m + d - m) (omega (arith, e, more)) (omega arith) in
-        omega (arith, r)
+          let more = one_more (a / m) m (a % m + d - m) in
+          let r : (a + d) % m ≡ a % m + d - m =
+          mod_of (a + d) m (a / m + 1) (a % m + d - m) (omega (arith, e, more)) (omega arith) in
+          omega (arith, r)
     ]
 
 pub same_number : (a b m : ℕ) → a % m ≡ b % m → a < b + m → b < a + m → a ≡ b
 same_number a b m same below above =
     elim (cases_lt a b) [
       | inl less ↦
-        let e : a + (b - a) ≡ b = omega arith in
-        let d : b - a ≡ 0 = same_above a (b - a) m (omega arith) (ap (λ n. n % m) e ∙ sym same) in
-        omega arith
+          let e : a + (b - a) ≡ b = omega arith in
+          let d : b - a ≡ 0 = same_above a (b - a) m (omega arith) (ap (λ n. n % m) e ∙ sym same) in
+          omega arith
       | inr more ↦
-        let e : b + (a - b) ≡ a = omega arith in
-        let d : a - b ≡ 0 = same_above b (a - b) m (omega arith) (ap (λ n. n % m) e ∙ same) in
-        omega arith
+          let e : b + (a - b) ≡ a = omega arith in
+          let d : a - b ≡ 0 = same_above b (a - b) m (omega arith) (ap (λ n. n % m) e ∙ same) in
+          omega arith
     ]
+
+-- some multiple of m added
+sum_times : (p q m : ℕ) → (p + q) * m ≡ p * m + q * m
+sum_times p q m = grind arith
+
+pub mod_multiple : (p x m : ℕ) → 0 < m → (p * m + x) % m ≡ x % m
+mod_multiple p x m h =
+    let e = div-add-mod' x m in
+    let split = sum_times p (x / m) m in
+    mod_of (p * m + x) m (p + x / m) (x % m) (omega (arith, e, split)) (mod_below x m h)
+
+-- the distance added gives the number again, modulo m
+pub distance_back : (a n m : ℕ) → 0 < m → (a + (n + (m - a % m)) % m) % m ≡ n % m
+distance_back a n m h =
+    let d = (n + (m - a % m)) % m in
+    let p = (n + (m - a % m)) / m in
+    let e = div-add-mod' a m in
+    let below : a % m < m = mod_below a m h in
+    let f : p * m + d ≡ n + (m - a % m) = div-add-mod' (n + (m - a % m)) m in
+    let one : (a / m + 1) * m + n ≡ (a / m * m + n) + m = one_more (a / m) m n in
+    let same : p * m + (a + d) ≡ (a / m + 1) * m + n = omega (arith, e, f, one) in
+    sym (mod_multiple p (a + d) m h) ∙ ap (λ x. x % m) same ∙ mod_multiple (a / m + 1) n m h

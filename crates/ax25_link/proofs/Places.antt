@@ -1,5 +1,5 @@
 -- Places of a station's transmissions, after a frame is sent and after one is delivered.
-use Rattle.std.proofs.Common.{◌≡◌, ℕ, ◌+◌, ◌-◌, ◌<◌, ◌≤◌, ◌⊎◌, List, [], ◌∷◌, ◌++◌, length, Option, Some, None, Bool, true, false, refl, sym, ◌∙◌, ap, subst, arith, inl, inr, zero, suc, length-append}
+use Rattle.std.proofs.Common.{◌≡◌, ℕ, ◌+◌, ◌-◌, ◌<◌, ◌⊎◌, List, [], ◌∷◌, ◌++◌, length, Some, true, refl, sym, ◌∙◌, ap, subst, arith, inl, inr, zero, suc, length-append}
 use Rattle.std.specs.Prelude.{slice_get, slice_set, IsTrue}
 use Rattle.std.proofs.lemmas.Option.{slice_get_within, same_Some}
 use Rattle.std.proofs.lemmas.Bool.{cases_eq, cases_lt, true≢false}
@@ -41,10 +41,10 @@ at-append list f place u at =
     elim (cases_lt place (length list)) [
       | inl below ↦ inl (below, sym (slice_get-append_before list (fresh f ∷ []) place below) ∙ at)
       | inr above ↦
-        let within : place < length (list ++ fresh f ∷ []) = slice_get_within (list ++ fresh f ∷ []) place u at in
-        let size : length (list ++ fresh f ∷ []) ≡ length list + 1 = length-append list (fresh f ∷ []) in
-        let last : place ≡ length list = omega (arith, size) in
-        inr (last, same_Some u (fresh f) (sym at ∙ ap (λ n. slice_get (list ++ fresh f ∷ []) n) last ∙ slice_get-append_at list (fresh f)))
+          let within : place < length (list ++ fresh f ∷ []) = slice_get_within (list ++ fresh f ∷ []) place u at in
+          let size : length (list ++ fresh f ∷ []) ≡ length list + 1 = length-append list (fresh f ∷ []) in
+          let last : place ≡ length list = omega (arith, size) in
+          inr (last, same_Some u (fresh f) (sym at ∙ ap (λ n. slice_get (list ++ fresh f ∷ []) n) last ∙ slice_get-append_at list (fresh f)))
     ]
 
 pub later_count-append : (list : List Transmission) (f : FrameValue) (place : ℕ) → place < length list
@@ -72,11 +72,11 @@ pub was_at : (list : List Transmission) (place : ℕ) (t : Transmission) (p : �
 was_at list place t p u at now =
     elim (cases_eq p place) [
       | inl same ↦
-        let e : u ≡ record t { delivered = true } =
-            same_Some u (record t { delivered = true }) (sym now ∙ ap (λ n. slice_get (delivering list place t) n) same ∙ delivered_at list place t at) in
-        record { before = t; at = ap (λ n. slice_get list n) same ∙ at; frame = ap (λ (x : Transmission). x.frame) e }
+          let e : u ≡ record t { delivered = true } =
+          same_Some u (record t { delivered = true }) (sym now ∙ ap (λ n. slice_get (delivering list place t) n) same ∙ delivered_at list place t at) in
+          record { before = t; at = ap (λ n. slice_get list n) same ∙ at; frame = ap (λ (x : Transmission). x.frame) e }
       | inr other ↦
-        record { before = u; at = sym (slice_get-set_other list place p (record t { delivered = true }) other) ∙ now; frame = refl }
+          record { before = u; at = sym (slice_get-set_other list place p (record t { delivered = true }) other) ∙ now; frame = refl }
     ]
 
 pub later_count-deliver : (list : List Transmission) (place : ℕ) (t : Transmission) (p : ℕ)
@@ -89,9 +89,9 @@ pub NoneLater-deliver : (list : List Transmission) (place : ℕ) (t : Transmissi
 NoneLater-deliver list place t p at h later u after here kind =
     elim (cases_eq later place) [
       | inl same ↦
-        let e : u ≡ t = same_Some u t (sym here ∙ ap (λ n. slice_get list n) same ∙ at) in
-        let numbered : IsTrue (is_numbered (control_of t)) = ap (λ (x : Transmission). is_numbered (control_of x)) (sym e) ∙ kind in
-        absurd (true≢false (h place (record t { delivered = true }) (subst (λ n. p < n) same after) (delivered_at list place t at) numbered))
+          let e : u ≡ t = same_Some u t (sym here ∙ ap (λ n. slice_get list n) same ∙ at) in
+          let numbered : IsTrue (is_numbered (control_of t)) = ap (λ (x : Transmission). is_numbered (control_of x)) (sym e) ∙ kind in
+          absurd (true≢false (h place (record t { delivered = true }) (subst (λ n. p < n) same after) (delivered_at list place t at) numbered))
       | inr other ↦ h later u after (slice_get-set_other list place later (record t { delivered = true }) other ∙ here) kind
     ]
 
@@ -105,7 +105,7 @@ pub delivered_same : (list : List Transmission) (place : ℕ) (t : Transmission)
     → IsAt (delivering list place t) p u → u.delivered ≡ true
 delivered_same list place t p u at same now =
     let e : u ≡ record t { delivered = true } =
-        same_Some u (record t { delivered = true }) (sym now ∙ ap (λ n. slice_get (delivering list place t) n) same ∙ delivered_at list place t at) in
+    same_Some u (record t { delivered = true }) (sym now ∙ ap (λ n. slice_get (delivering list place t) n) same ∙ delivered_at list place t at) in
     ap (λ (x : Transmission). x.delivered) e
 
 pub unchanged_at : (list : List Transmission) (place : ℕ) (t : Transmission) (p : ℕ) (u : Transmission) → (p ≡ place → ⊥)

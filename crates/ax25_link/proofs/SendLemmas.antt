@@ -1,20 +1,18 @@
 -- What an end sends, and what that leaves.
-use Rattle.std.proofs.Common.{◌≡◌, ℕ, ◌+◌, ◌-◌, ◌%◌, ◌<◌, ◌≤◌, ◌⊎◌, List, [], ◌∷◌, ◌++◌, length, take, drop, Option, Some, None, Bool, true, false, refl, sym, ◌∙◌, ap, subst, arith, inl, inr, cond, length-append, append_assoc, append-nil, take-append-drop}
-use Rattle.std.specs.Prelude.{◌==◌, nat_le, nat_lt, ◌||◌, ◌&&◌, not, IsTrue, if◌then◌else◌, ⊤, slice_get, unwrap_or, zero, suc}
+use Rattle.std.proofs.Common.{◌≡◌, ℕ, ◌+◌, ◌-◌, ◌%◌, ◌<◌, ◌≤◌, List, [], ◌∷◌, ◌++◌, length, drop, Option, Some, None, true, refl, sym, ◌∙◌, ap, subst, arith, inl, inr, length-append, append_assoc, append-nil, take-append-drop, length-drop}
+use Rattle.std.specs.Prelude.{◌==◌, nat_lt, ◌&&◌, not, IsTrue, slice_get, unwrap_or, zero, suc}
 use Rattle.std.specs.List.{concat}
-use Rattle.std.proofs.lemmas.Bool.{cond_both, cond-true, cond-false, cases_Bool, ltb-true, ltb-false, and_parts}
+use Rattle.std.proofs.lemmas.Bool.{cond_both, cond-true, cond-false, cases_Bool, ltb-true, eqb-false, not-true, and_parts}
 use Rattle.std.proofs.lemmas.List.{take-append-le}
 use Rattle.std.proofs.lemmas.Option.{same_Some, slice_get_within}
-use Rattle.ax25_frames.specs.declared.control.Control.{Control}
-use Rattle.ax25_frames.specs.declared.control.Control.TheVariants.{I, Rr, Rnr, Rej, Sabm, Disc, Dm, Ua, Frmr, Ui}
 use Rattle.ax25_frames.specs.FrameText.{FrameValue}
 use Rattle.ax25_link.specs.declared.state.LinkState.{LinkState}
 use Rattle.ax25_link.specs.declared.state.LinkState.TheVariants.{Calling, Up, Ending, Down}
-use Rattle.ax25_link.specs.Window.{Window, IsWindow}
+use Rattle.ax25_link.specs.Window.{Window}
 use Rattle.ax25_link.specs.Ends.{LinkEnd, Reply, Farewell, IsEnd, high, outstanding, taken_count, ready, reject, accept, refuse, refuse_frame, call, disconnect, enquire, oldest, goodbye, gone}
-use Rattle.ax25_link.specs.Frames.{piece_at, frame_of_reply, frame_of_farewell, information_of, information_again}
+use Rattle.ax25_link.specs.Frames.{frame_of_reply, frame_of_farewell}
 use Rattle.ax25_link.specs.Timer.{is_up}
-use Rattle.ax25_link.specs.Sending.{Sending, IsQuiet, next_sending, sending_after, later_sending, last_sending, has_new, is_empty, next_piece, most_information, sends_reply, sends_again, sends_new, sends_farewell, with_piece, after_new}
+use Rattle.ax25_link.specs.Sending.{Sending, next_sending, sending_after, later_sending, last_sending, has_new, is_empty, next_piece, most_information, sends_reply, sends_again, sends_new, sends_farewell, after_new}
 use Rattle.ax25_link.specs.Air.{is_information, is_numbered}
 use Rattle.ax25_link.specs.Linked.{send_number, ack_number, owed, owed_for, IsUnpushed}
 use Rattle.ax25_link.proofs.AirLemmas.{MorePieces}
@@ -42,6 +40,14 @@ pub record SendsPiece (w : Window) (old : LinkEnd) (frame : FrameValue) (new : L
   pub least : old.acked ≤ place
   pub sent : place < high new
 
+-- how much an end has to send at most
+abbrev pub present : {A : Type 0} → Option A → ℕ
+present None = 0
+present (Some x) = 1
+
+unfoldable pub left_to_send : LinkEnd → ℕ
+left_to_send end = present end.reply + end.again + length end.queued + present end.farewell
+
 -- what sending a frame does
 pub record Sends (w : Window) (old : LinkEnd) (frame : FrameValue) (new : LinkEnd) : Type 0 where
   pub fits : IsEnd w new
@@ -55,6 +61,7 @@ pub record Sends (w : Window) (old : LinkEnd) (frame : FrameValue) (new : LinkEn
   pub owed : owed old ≤ owed new + 1
   pub octets : (rest : List ℕ) → IsRest old rest → (left : List ℕ) × IsRest new left
   pub calling : IsUnpushed old → IsUnpushed new
+  pub less : left_to_send new < left_to_send old
 
 same_pieces : (pieces : List (List ℕ)) → MorePieces pieces pieces
 same_pieces pieces = record { keeps = λ place x h. h; least = omega arith; most = omega arith; front = λ n h. refl }
@@ -101,32 +108,43 @@ reply_shows w old oldest h = refl
 
 Sends_reply : (w : Window) (old : LinkEnd) (reply : Reply) → IsEnd w old → old.reply ≡ Some reply
     → Sends w old (frame_of_reply w old reply) (record old { reply = None })
+unfolding left_to_send
 Sends_reply w old reply fits e =
+    let one : present old.reply ≡ 1 = ap (λ (o : Option Reply). present o) e in
     let few = owed_most old.reply in
     record {
       fits = record { acked = fits.acked; window = fits.window; again = fits.again; oldest = λ (n : None ≡ Some oldest). absurd (let x : ⊥ = cc in x) };
-      state = refl; acked = refl; taken = refl; more = same_pieces old.sent;
+      state = refl;
+      acked = refl;
+      taken = refl;
+      more = same_pieces old.sent;
       place = old.acked;
       piece = reply_piece w old reply fits.acked (λ same. fits.oldest (e ∙ ap Some same));
       shows = reply_shows w old reply;
       owed = few;
       octets = λ rest h. (rest, h);
       calling = λ h. h;
+      less = omega (arith, one);
     }
 
 Sends_again : (w : Window) (old : LinkEnd) → IsEnd w old → 0 < old.again → Sends w old (sends_again w old).frame (sends_again w old).after
+unfolding left_to_send
 Sends_again w old fits some =
     let again = fits.again in
     let order = fits.acked in
     record {
       fits = record { acked = fits.acked; window = fits.window; again = omega arith; oldest = fits.oldest };
-      state = refl; acked = refl; taken = refl; more = same_pieces old.sent;
+      state = refl;
+      acked = refl;
+      taken = refl;
+      more = same_pieces old.sent;
       place = high old - old.again;
       piece = λ h. record { shows = refl; carries = piece_there old.sent (high old - old.again) (omega arith); least = omega arith; sent = omega arith };
       shows = λ h. refl;
       owed = omega arith;
       octets = λ rest h. (rest, h);
       calling = λ h. h;
+      less = omega arith;
     }
 
 is_up-Up : (state : LinkState) → is_up state ≡ true → state ≡ Up
@@ -145,19 +163,22 @@ pub record HasPiece (old new : LinkEnd) : Type 0 where
   pub taken : new.taken ≡ old.taken
   pub again : new.again ≡ old.again
   pub reply : new.reply ≡ old.reply
+  pub farewell : new.farewell ≡ old.farewell
 
 after_new-HasPiece : (old : LinkEnd) → HasPiece old (after_new old)
 after_new-HasPiece old =
     cond_both (outstanding old == 0) _ _ (λ (n : LinkEnd). HasPiece old n)
-      (λ e. record { state = refl; pushed = refl; queued = refl; sent = refl; acked = refl; taken = refl; again = refl; reply = refl })
-      (λ e. record { state = refl; pushed = refl; queued = refl; sent = refl; acked = refl; taken = refl; again = refl; reply = refl })
+    (λ e. record { state = refl; pushed = refl; queued = refl; sent = refl; acked = refl; taken = refl; again = refl; reply = refl; farewell = refl })
+    (λ e. record { state = refl; pushed = refl; queued = refl; sent = refl; acked = refl; taken = refl; again = refl; reply = refl; farewell = refl })
 
 more_pieces : (pieces : List (List ℕ)) (piece : List ℕ) → MorePieces pieces (pieces ++ piece ∷ [])
 more_pieces pieces piece =
     let size : length (pieces ++ piece ∷ []) ≡ length pieces + 1 = length-append pieces (piece ∷ []) in
     record {
       keeps = λ place x h. slice_get-append_before pieces (piece ∷ []) place (slice_get_within pieces place x h) ∙ h;
-      least = omega (arith, size); most = omega (arith, size); front = λ n h. take-append-le n pieces (piece ∷ []) h;
+      least = omega (arith, size);
+      most = omega (arith, size);
+      front = λ n h. take-append-le n pieces (piece ∷ []) h;
     }
 
 -- the octets of the new piece come from the front of those that are queued
@@ -165,14 +186,16 @@ piece_rest : (old new : LinkEnd) → HasPiece old new → old.state ≡ Up → (
 piece_rest old new h up rest (pushed, queued) =
     let all : old.queued ≡ rest = queued up in
     let join : concat new.sent ++ drop most_information old.queued ≡ concat old.sent ++ old.queued =
-        ap (λ (l : List (List ℕ)). concat l ++ drop most_information old.queued) h.sent
-        ∙ ap (λ (l : List ℕ). l ++ drop most_information old.queued) (concat-append_one old.sent (next_piece old))
-        ∙ append_assoc (concat old.sent) (next_piece old) (drop most_information old.queued)
-        ∙ ap (λ (l : List ℕ). concat old.sent ++ l) (take-append-drop most_information old.queued) in
-    (drop most_information old.queued,
-      (h.pushed ∙ pushed ∙ ap (λ (l : List ℕ). concat old.sent ++ l) (sym all) ∙ sym join, λ e. h.queued))
+    ap (λ (l : List (List ℕ)). concat l ++ drop most_information old.queued) h.sent
+    ∙ ap (λ (l : List ℕ). l ++ drop most_information old.queued) (concat-append_one old.sent (next_piece old))
+    ∙ append_assoc (concat old.sent) (next_piece old) (drop most_information old.queued)
+    ∙ ap (λ (l : List ℕ). concat old.sent ++ l) (take-append-drop most_information old.queued) in (
+      drop most_information old.queued,
+      (h.pushed ∙ pushed ∙ ap (λ (l : List ℕ). concat old.sent ++ l) (sym all) ∙ sym join, λ e. h.queued),
+    )
 
 Sends_new : (w : Window) (old : LinkEnd) → IsEnd w old → has_new w old ≡ true → Sends w old (sends_new w old).frame (sends_new w old).after
+unfolding left_to_send
 Sends_new w old fits has =
     let all = and_parts (is_up old.state && nat_lt (outstanding old) w.size && not old.busy) (not (is_empty old.queued)) has in
     let three = and_parts (is_up old.state && nat_lt (outstanding old) w.size) (not old.busy) all.0 in
@@ -188,21 +211,33 @@ Sends_new w old fits has =
     let least = fits.again in
     record {
       fits = record {
-        acked = omega (arith, size); window = omega (arith, size); again = omega (arith, size);
+        acked = omega (arith, size);
+        window = omega (arith, size);
+        again = omega (arith, size);
         oldest = λ e. (let some = fits.oldest (sym h.reply ∙ e) in omega (arith, size, some));
       };
-      state = h.state; acked = h.acked; taken = h.taken;
+      state = h.state;
+      acked = h.acked;
+      taken = h.taken;
       more = subst (λ (l : List (List ℕ)). MorePieces old.sent l) (sym h.sent) (more_pieces old.sent (next_piece old));
       place = high old;
       piece = λ kind. record {
         shows = refl;
         carries = ap (λ (l : List (List ℕ)). slice_get l (high old)) h.sent ∙ slice_get-append_at old.sent (next_piece old);
-        least = order; sent = omega (arith, size);
+        least = order;
+        sent = omega (arith, size);
       };
       shows = λ kind. refl;
       owed = (let same : owed new ≡ owed old = ap owed_for h.reply in omega (arith, same));
       octets = λ rest o. piece_rest old new h up rest o;
       calling = λ u e. absurd (let c : old.state ≡ Calling = sym h.state ∙ e in let x : ⊥ = cc in x);
+      less =
+          (let replies : present new.reply ≡ present old.reply = ap (λ (o : Option Reply). present o) h.reply in
+          let farewells : present new.farewell ≡ present old.farewell = ap (λ (o : Option Farewell). present o) h.farewell in
+          let size_left : length new.queued ≡ length old.queued - most_information =
+          ap (λ (l : List ℕ). length l) h.queued ∙ length-drop most_information old.queued in
+          let some = eqb-false (length old.queued) 0 (not-true (is_empty old.queued) all.1) in
+          omega (arith, replies, farewells, size_left, some));
     }
 
 farewell_none : (old : LinkEnd) (farewell : Farewell) → IsTrue (is_numbered (frame_of_farewell old farewell).kind.control) → ⊥
@@ -213,45 +248,52 @@ farewell_none_information : (old : LinkEnd) (farewell : Farewell) → IsTrue (is
 farewell_none_information old goodbye h = let x : ⊥ = cc in x
 farewell_none_information old gone h = let x : ⊥ = cc in x
 
-Sends_farewell : (w : Window) (old : LinkEnd) (farewell : Farewell) → IsEnd w old
+Sends_farewell : (w : Window) (old : LinkEnd) (farewell : Farewell) → IsEnd w old → old.farewell ≡ Some farewell
     → Sends w old (frame_of_farewell old farewell) (record old { farewell = None })
-Sends_farewell w old farewell fits =
+unfolding left_to_send
+Sends_farewell w old farewell fits e =
+    let one : present old.farewell ≡ 1 = ap (λ (o : Option Farewell). present o) e in
     record {
       fits = record { acked = fits.acked; window = fits.window; again = fits.again; oldest = fits.oldest };
-      state = refl; acked = refl; taken = refl; more = same_pieces old.sent;
+      state = refl;
+      acked = refl;
+      taken = refl;
+      more = same_pieces old.sent;
       place = 0;
       piece = λ h. absurd (farewell_none_information old farewell h);
       shows = λ h. absurd (farewell_none old farewell h);
       owed = omega arith;
       octets = λ rest h. (rest, h);
       calling = λ h. h;
+      less = omega (arith, one);
     }
 
 -- the cases of what is sent next
 abbrev SendsThis : Window → LinkEnd → Sending → Type 0
 SendsThis w old sending = Sends w old sending.frame sending.after
 
-sends_last : (w : Window) (old : LinkEnd) (farewell : Option Farewell) (sending : Sending) → IsEnd w old → last_sending old farewell ≡ Some sending
+sends_last : (w : Window) (old : LinkEnd) (farewell : Option Farewell) (sending : Sending) → old.farewell ≡ farewell → IsEnd w old
+    → last_sending old farewell ≡ Some sending
     → SendsThis w old sending
-sends_last w old None sending fits h = absurd (let x : ⊥ = cc in x)
-sends_last w old (Some farewell) sending fits h =
-    subst (SendsThis w old) (same_Some (sends_farewell old farewell) sending h) (Sends_farewell w old farewell fits)
+sends_last w old None sending e fits h = absurd (let x : ⊥ = cc in x)
+sends_last w old (Some farewell) sending e fits h =
+    subst (SendsThis w old) (same_Some (sends_farewell old farewell) sending h) (Sends_farewell w old farewell fits e)
 
 sends_later : (w : Window) (old : LinkEnd) (sending : Sending) → IsEnd w old → later_sending w old ≡ Some sending → SendsThis w old sending
 sends_later w old sending fits h =
     elim (cases_Bool (nat_lt 0 old.again)) [
       | inl some ↦
-        subst (SendsThis w old) (same_Some (sends_again w old) sending (sym (cond-true (nat_lt 0 old.again) _ _ some) ∙ h))
+          subst (SendsThis w old) (same_Some (sends_again w old) sending (sym (cond-true (nat_lt 0 old.again) _ _ some) ∙ h))
           (Sends_again w old fits (ltb-true 0 old.again some))
       | inr none ↦
-        let next = sym (cond-false (nat_lt 0 old.again) (Some (sends_again w old)) _ none) ∙ h in
-        elim (cases_Bool (has_new w old)) [
-          | inl has ↦
-            subst (SendsThis w old) (same_Some (sends_new w old) sending (sym (cond-true (has_new w old) _ _ has) ∙ next))
-              (Sends_new w old fits has)
-          | inr no_new ↦
-            sends_last w old old.farewell sending fits (sym (cond-false (has_new w old) (Some (sends_new w old)) _ no_new) ∙ next)
-        ]
+          let next = sym (cond-false (nat_lt 0 old.again) (Some (sends_again w old)) _ none) ∙ h in
+          elim (cases_Bool (has_new w old)) [
+            | inl has ↦
+                subst (SendsThis w old) (same_Some (sends_new w old) sending (sym (cond-true (has_new w old) _ _ has) ∙ next))
+                (Sends_new w old fits has)
+            | inr no_new ↦
+                sends_last w old old.farewell sending refl fits (sym (cond-false (has_new w old) (Some (sends_new w old)) _ no_new) ∙ next)
+          ]
     ]
 
 sends_first : (w : Window) (old : LinkEnd) (reply : Option Reply) (sending : Sending) → old.reply ≡ reply → IsEnd w old

@@ -15,7 +15,7 @@ pub record Transmission : Type 0 where
 abbrev pub fresh : FrameValue → Transmission
 fresh frame = record { frame = frame; delivered = false }
 
--- the transmission at this place of those of one station in the attempt, which stand in the order in which they were sent
+-- the transmission at this place of those of one station in the attempt, which stand in the order of their sending
 abbrev pub IsAt : List Transmission → ℕ → Transmission → Type 0
 IsAt list place t = slice_get list place ≡ Some t
 
@@ -55,7 +55,8 @@ control_of t = t.frame.kind.control
 -- no I or S frame that was sent after the one at this place was delivered
 abbrev pub NoneLater : List Transmission → ℕ → Type 0
 NoneLater list place =
-    (later : ℕ) (t : Transmission) → place < later → IsAt list later t → IsTrue (is_numbered (control_of t)) → t.delivered ≡ false
+    (later : ℕ) (t : Transmission) → place < later → IsAt list later t → IsTrue (is_numbered (control_of t))
+    → t.delivered ≡ false
 
 -- The transmission at this place may be delivered. It was sent in the attempt. A SABM wasn't delivered before. An I or S
 -- frame, which may have been delivered before, isn't overtaken by a delivery of a later I or S frame, or at most m - 1 - k
@@ -64,7 +65,7 @@ pub record IsLawful (w : Window) (list : List Transmission) (place : ℕ) (t : T
   pub sent : IsAt list place t
   pub call : IsTrue (is_call (control_of t)) → t.delivered ≡ false
   pub overtaken :
-    IsTrue (is_numbered (control_of t)) → NoneLater list place ⊎ (later_count list place ≤ w.modulus - 1 - w.size)
+      IsTrue (is_numbered (control_of t)) → NoneLater list place ⊎ (later_count list place ≤ w.modulus - 1 - w.size)
 
 -- the transmissions after the one at this place is delivered
 abbrev pub delivering : List Transmission → ℕ → Transmission → List Transmission

@@ -30,11 +30,12 @@ no_protocol = 0xF0
 abbrev pub piece_at : LinkEnd → ℕ → List ℕ
 piece_at end place = unwrap_or (slice_get end.sent place) []
 
--- The I frame that carries this piece, which is at this place of those sent. It shows the place, modulo m, as N(S) (2.3.2.4, 2.3.4.1).
+-- The I frame that carries this piece, which is at this place of those sent. It shows the place, modulo m, as N(S)
+-- (2.3.2.4, 2.3.4.1).
 abbrev pub information_of : Window → LinkEnd → ℕ → List ℕ → Bool → FrameValue
 information_of w end place piece poll =
     command_to_peer end
-      (record { control = control.I (place % w.modulus) (receive_number w end); pid = no_protocol ∷ []; information = piece }) poll
+    (record { control = control.I (place % w.modulus) (receive_number w end); pid = no_protocol ∷ []; information = piece }) poll
 
 -- the I frame of a piece that was sent
 abbrev pub information_again : Window → LinkEnd → ℕ → Bool → FrameValue

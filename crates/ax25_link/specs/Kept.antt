@@ -1,12 +1,15 @@
 -- What a link keeps of its end: not what was pushed, sent and taken, but the numbers modulo m, and the octets that are
 -- queued or unacknowledged.
-use Rattle.std.specs.Prelude.{◌≡◌, ℕ, ◌+◌, ◌-◌, ◌%◌, ◌<◌, ◌≤◌, List, length, drop, Bool, true, false, not, ◌&&◌, ◌||◌, nat_lt, Option, None, Some}
+use Rattle.std.specs.Prelude.{◌≡◌, ℕ, ◌+◌, ◌-◌, ◌%◌, ◌<◌, ◌≤◌, List, length, drop, Bool, true, false, not, ◌&&◌, ◌||◌, nat_lt, if◌then◌else◌, Option, None, Some}
 use Rattle.px_base.specs.CallSign.{CallSign}
 use Rattle.ax25_frames.specs.Kinds.{KindValue, FitsControl}
 use Rattle.ax25_frames.specs.FrameText.{FrameValue, canonical}
 use Rattle.ax25_link.specs.declared.state.LinkState.{LinkState}
+use Rattle.ax25_link.specs.declared.state.Heard.{Heard}
 use Rattle.ax25_link.specs.Window.{Window, IsGoodK}
 use Rattle.ax25_link.specs.Ends.{LinkEnd, Reply, Farewell, oldest, high, taken_count}
+use Rattle.ax25_link.specs.Acknowledging.{is_good, meaning_of}
+use Rattle.ax25_link.specs.Rows.{Outcome, numbered_row, sending_again, supervisory_row, with_busy}
 use Rattle.ax25_link.specs.Timer.{is_up}
 use Rattle.ax25_link.specs.Sending.{Sending, is_empty, next_sending}
 use Rattle.ax25_link.specs.Queue.{Queue}
@@ -92,6 +95,21 @@ Steps before now step = (w : Window) (end : LinkEnd) → StandsFor w before end 
 -- whatever end the link stood for, this is what is told of it
 abbrev pub Tells : {X : Type 0} → Kept → (Window → LinkEnd → X) → X → Type 0
 Tells before told answer = (w : Window) (end : LinkEnd) → StandsFor w before end → answer ≡ told w end
+
+-- whatever end the link stood for, these are the octets of this frame
+abbrev pub Writes : Kept → (Window → LinkEnd → FrameValue) → List ℕ → Type 0
+Writes link frame octets = Tells link (λ w end. canonical (frame w end)) octets
+
+-- Whatever end the link stood for, it stands for the end of this outcome now, and what is told is the outcome's.
+pub record Takes (before now : Kept) (row : Window → LinkEnd → Outcome) (answer : Heard) : Type 0 where
+  pub after : Steps before now (λ w end. (row w end).after)
+  pub heard : Tells before (λ w end. (row w end).heard) answer
+
+-- what an S frame does while up, by whether it says that the peer is busy, and whether it rejects
+abbrev pub any_supervisory_row : Bool → Bool → Window → LinkEnd → FrameValue → ℕ → Outcome
+any_supervisory_row is_busy is_reject w end frame nr =
+    numbered_row w end frame nr
+    (λ e. supervisory_row (with_busy is_busy (if is_reject && is_good (meaning_of w end nr) then sending_again e else e)) frame)
 
 -- a frame from this station to the peer, without repeaters
 abbrev pub frame_between : Kept → KindValue → Bool → Bool → FrameValue

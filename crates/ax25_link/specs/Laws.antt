@@ -20,7 +20,8 @@ use Rattle.ax25_link.specs.Acts.{Act, hear, MayAct, acting, facing}
 abbrev pub OneMeaningLaw : Type 0
 OneMeaningLaw =
     (w : Window) (end : LinkEnd) (nr : ℕ) → IsWindow w → IsEnd w end
-    → HasMeaning w end nr (meaning_of w end nr) × ((meaning : Meaning) → HasMeaning w end nr meaning → meaning ≡ meaning_of w end nr)
+    → HasMeaning w end nr (meaning_of w end nr)
+    × ((meaning : Meaning) → HasMeaning w end nr meaning → meaning ≡ meaning_of w end nr)
 
 -- Each end comes to send nothing, after one list of frames.
 abbrev pub DrainsLaw : Type 0

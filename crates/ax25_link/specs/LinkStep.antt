@@ -34,7 +34,9 @@ heard_of_coming w end tick = heard_of_tick (told_of_tick end)
 
 -- Nothing is to be sent by the old end. This comes, of which this is told; the layer above does this; these frames are
 -- sent, and then nothing is to be sent by the new end.
-pub record LinkStep (w : Window) (old : LinkEnd) (coming : Coming) (heard : Heard) (doings : List Doing) (frames : List FrameValue) (new : LinkEnd) : Type 0 where
+pub record LinkStep
+    (w : Window) (old : LinkEnd) (coming : Coming) (heard : Heard) (doings : List Doing) (frames : List FrameValue)
+    (new : LinkEnd) : Type 0 where
   pub quiet : IsQuiet w old
   pub told : heard ≡ heard_of_coming w old coming
   pub end : LinkEnd

@@ -50,16 +50,22 @@ IsNumberedAt list place t = IsAt list place t × IsTrue (is_numbered (control_of
 -- The number behind each I frame: N(S) shows it, and the frame carries that piece. The pieces that were sent since are at
 -- most k more than the frames that were sent since, and each earlier I frame's number is less than k above. While no I or
 -- S frame sent later was delivered, the peer has accepted at most k pieces from this one on.
-pub record PiecesFit (w : Window) (pieces : List (List ℕ)) (peer_taken : ℕ) (list : List Transmission) (piece : ℕ → ℕ) : Type 0 where
-  pub shows : (place : ℕ) (t : Transmission) → IsInformationAt list place t → send_number (control_of t) ≡ piece place % w.modulus
-  pub carries : (place : ℕ) (t : Transmission) → IsInformationAt list place t → slice_get pieces (piece place) ≡ Some t.frame.kind.information
+pub record PiecesFit
+    (w : Window) (pieces : List (List ℕ)) (peer_taken : ℕ) (list : List Transmission) (piece : ℕ → ℕ) : Type 0 where
+  pub shows :
+      (place : ℕ) (t : Transmission) → IsInformationAt list place t → send_number (control_of t) ≡ piece place % w.modulus
+  pub carries :
+      (place : ℕ) (t : Transmission) → IsInformationAt list place t
+      → slice_get pieces (piece place) ≡ Some t.frame.kind.information
   pub sent : (place : ℕ) (t : Transmission) → IsInformationAt list place t → piece place < length pieces
-  pub recent : (place : ℕ) (t : Transmission) → IsInformationAt list place t → length pieces ≤ piece place + w.size + later_count list place
+  pub recent :
+      (place : ℕ) (t : Transmission) → IsInformationAt list place t
+      → length pieces ≤ piece place + w.size + later_count list place
   pub earlier :
-    (before place : ℕ) (s t : Transmission) → before < place → IsInformationAt list before s → IsInformationAt list place t
-    → piece before < piece place + w.size
+      (before place : ℕ) (s t : Transmission) → before < place → IsInformationAt list before s → IsInformationAt list place t
+      → piece before < piece place + w.size
   pub accepted :
-    (place : ℕ) (t : Transmission) → IsInformationAt list place t → NoneLater list place → peer_taken ≤ piece place + w.size
+      (place : ℕ) (t : Transmission) → IsInformationAt list place t → NoneLater list place → peer_taken ≤ piece place + w.size
 
 -- The number behind each I or S frame: N(R) shows it. It is at most what the sender has accepted, and the frames that were
 -- sent since are at least as many as the pieces that were accepted since. No earlier I or S frame's number is above it.
@@ -70,10 +76,10 @@ pub record ShownFit (w : Window) (taken owed peer_acked : ℕ) (list : List Tran
   pub reached : (place : ℕ) (t : Transmission) → IsNumberedAt list place t → shown place ≤ taken
   pub recent : (place : ℕ) (t : Transmission) → IsNumberedAt list place t → taken ≤ shown place + later_count list place + owed
   pub earlier :
-    (before place : ℕ) (s t : Transmission) → before < place → IsNumberedAt list before s → IsNumberedAt list place t
-    → shown before ≤ shown place
+      (before place : ℕ) (s t : Transmission) → before < place → IsNumberedAt list before s → IsNumberedAt list place t
+      → shown before ≤ shown place
   pub acknowledged :
-    (place : ℕ) (t : Transmission) → IsNumberedAt list place t → NoneLater list place → peer_acked ≤ shown place
+      (place : ℕ) (t : Transmission) → IsNumberedAt list place t → NoneLater list place → peer_acked ≤ shown place
 
 -- 1 while a reply is to be sent that is no I frame
 abbrev pub owed_for : Option Reply → ℕ
@@ -96,7 +102,7 @@ pub record NumbersFit (w : Window) (sender peer : Station) : Type 0 where
   pub window : high sender.end ≤ sender.end.acked + w.size
   pub pieces : (piece : ℕ → ℕ) × PiecesFit w sender.end.sent (taken_count peer.end) sender.transmissions piece
   pub shown :
-    (shown : ℕ → ℕ) × ShownFit w (taken_count sender.end) (owed sender.end) peer.end.acked sender.transmissions shown
+      (shown : ℕ → ℕ) × ShownFit w (taken_count sender.end) (owed sender.end) peer.end.acked sender.transmissions shown
 
 -- What the peer has accepted are the first pieces that the sender sent. These pieces, joined, are the first octets that
 -- the sender's layer above pushed, and while its end is up the others are queued.

@@ -69,13 +69,13 @@ refusing w end frame = closing_with end (refuse_frame (refusal_octets w end fram
 abbrev pub accepting : LinkEnd → FrameValue → Outcome
 accepting end frame =
     outcome
-      (replying (record end { taken = end.taken ++ frame.kind.information ∷ []; rejecting = false }) (ready frame.poll)) Bytes
+    (replying (record end { taken = end.taken ++ frame.kind.information ∷ []; rejecting = false }) (ready frame.poll)) Bytes
 
 -- An I frame out of sequence, whose N(R) was applied: REJ replies, or RR where a REJ is outstanding (2.4.4.3).
 abbrev pub out_of_sequence : LinkEnd → FrameValue → Outcome
 out_of_sequence end frame =
     passed_over
-      (replying (record end { rejecting = true }) (if end.rejecting then ready frame.poll else reject frame.poll))
+    (replying (record end { rejecting = true }) (if end.rejecting then ready frame.poll else reject frame.poll))
 
 -- an I frame whose N(R) was applied
 abbrev pub information_row : Window → LinkEnd → FrameValue → ℕ → Outcome
@@ -112,7 +112,7 @@ up_row w end frame (Rr nr) = numbered_row w end frame nr (λ e. supervisory_row 
 up_row w end frame (Rnr nr) = numbered_row w end frame nr (λ e. supervisory_row (with_busy true e) frame)
 up_row w end frame (Rej nr) =
     numbered_row w end frame nr
-      (λ e. supervisory_row (with_busy false (if is_good (meaning_of w end nr) then sending_again e else e)) frame)
+    (λ e. supervisory_row (with_busy false (if is_good (meaning_of w end nr) then sending_again e else e)) frame)
 up_row w end frame Sabm = called_again end frame
 up_row w end frame Disc = closing_with end (accept frame.poll) why.Disc
 up_row w end frame Dm = closing end why.Dm
@@ -163,7 +163,7 @@ is_call Ui = false
 abbrev pub down_row : LinkEnd → FrameValue → Outcome
 down_row end frame =
     passed_over
-      (if is_call frame.kind.control || (frame.command && frame.poll) then replying end (refuse frame.poll) else end)
+    (if is_call frame.kind.control || (frame.command && frame.poll) then replying end (refuse frame.poll) else end)
 
 abbrev pub row_of_state : LinkState → Window → LinkEnd → FrameValue → Outcome
 row_of_state Calling w end frame = calling_row end frame frame.kind.control

@@ -16,6 +16,3 @@ mod window;
 pub use link::Link;
 pub use state::{Heard, LinkState, Why};
 pub use window::good_k;
-
-#[cfg(test)]
-mod tests;

@@ -1,13 +1,13 @@
 //! What a received frame does, state by state (AX.25 2.0, 2.4.3, 2.4.4).
 
-ghost use Rattle.std.specs.Prelude.{◌≡◌, ◌+◌, ◌*◌, ◌<◌, ◌≤◌, ◌&&◌, if◌then◌else◌, None, false};
+ghost use Rattle.std.specs.Prelude.{◌≡◌, ◌+◌, ◌*◌, ◌<◌, ◌≤◌, None, false};
 ghost use Rattle.ax25_frames.specs.Kinds.{bit, control_octet};
 ghost use Rattle.ax25_frames.specs.Values.{value_of};
 ghost use Rattle.ax25_link.specs.Acknowledging.{acknowledging, applying, is_bad, is_good, meaning_of};
 ghost use Rattle.ax25_link.specs.Counting.{is_bad_number, is_good_number};
-ghost use Rattle.ax25_link.specs.Kept.{IsFromPeer, SameStations, Steps, Tells, is_pending, outstanding_in};
+ghost use Rattle.ax25_link.specs.Kept.{IsFromPeer, SameStations, Steps, Takes, Tells, any_supervisory_row, is_pending, outstanding_in};
 ghost use Rattle.ax25_frames.specs.declared.control.Control.{Control};
-ghost use Rattle.ax25_link.specs.Rows.{called_again, calling_row, closing, closing_with, down_row, ending_row, information_row, numbered_row, refusing, sending_again, supervisory_row, up_row, with_busy};
+ghost use Rattle.ax25_link.specs.Rows.{called_again, calling_row, closing, closing_with, down_row, ending_row, information_row, refusing, supervisory_row, up_row, with_busy};
 ghost use Rattle.ax25_link.specs.Ends.{accept};
 
 use crate::link::Link;
@@ -20,10 +20,8 @@ use ax25_frames::{Frame, Kind};
 impl Link {
     /// In state Calling (2.4.3.1).
     pub(crate) fn take_calling(&mut self, frame: &Frame<'_>) -> Heard
-        ensures after { Steps self.old self.new
-            (λ w end. (calling_row end (value_of frame.now) (value_of frame.now).kind.control).after) }
-        ensures heard { Tells self.old
-            (λ w end. (calling_row end (value_of frame.now) (value_of frame.now).kind.control).heard) result }
+        ensures row { let f = value_of frame.now in
+            Takes self.old self.new (λ w end. calling_row end f f.kind.control) result }
         ensures stations { SameStations self.old self.new }
     {
         match frame.kind {
@@ -42,10 +40,8 @@ impl Link {
 
     /// In state Ending (2.4.3.3).
     pub(crate) fn take_ending(&mut self, frame: &Frame<'_>) -> Heard
-        ensures after { Steps self.old self.new
-            (λ w end. (ending_row end (value_of frame.now) (value_of frame.now).kind.control).after) }
-        ensures heard { Tells self.old
-            (λ w end. (ending_row end (value_of frame.now) (value_of frame.now).kind.control).heard) result }
+        ensures row { let f = value_of frame.now in
+            Takes self.old self.new (λ w end. ending_row end f f.kind.control) result }
         ensures stations { SameStations self.old self.new }
     {
         match frame.kind {
@@ -58,8 +54,7 @@ impl Link {
 
     /// In state Down (2.4.3.4).
     pub(crate) fn take_down(&mut self, frame: &Frame<'_>) -> Heard
-        ensures after { Steps self.old self.new (λ w end. (down_row end (value_of frame.now)).after) }
-        ensures heard { Tells self.old (λ w end. (down_row end (value_of frame.now)).heard) result }
+        ensures row { Takes self.old self.new (λ w end. down_row end (value_of frame.now)) result }
         ensures stations { SameStations self.old self.new }
     {
         if matches!(frame.kind, Kind::Sabm) || frame.command && frame.poll {
@@ -73,10 +68,8 @@ impl Link {
         requires up { self.old.state ≡ LinkState.Up }
         requires quiet { is_pending self.old ≡ false }
         requires frame { IsFromPeer self.old (value_of frame.now) }
-        ensures after { Steps self.old self.new
-            (λ w end. (up_row w end (value_of frame.now) (value_of frame.now).kind.control).after) }
-        ensures heard { Tells self.old
-            (λ w end. (up_row w end (value_of frame.now) (value_of frame.now).kind.control).heard) result }
+        ensures row { let f = value_of frame.now in
+            Takes self.old self.new (λ w end. up_row w end f f.kind.control) result }
         ensures stations { SameStations self.old self.new }
     {
         match frame.kind {
@@ -98,10 +91,8 @@ impl Link {
         requires ns { ns < 8 }
         requires nr { nr < 8 }
         requires kind { (value_of frame.now).kind.control ≡ Control.I ns nr }
-        ensures after { Steps self.old self.new (λ w end. (numbered_row w end (value_of frame.now) nr
-            (λ e. information_row w e (value_of frame.now) ns)).after) }
-        ensures heard { Tells self.old (λ w end. (numbered_row w end (value_of frame.now) nr
-            (λ e. information_row w e (value_of frame.now) ns)).heard) result }
+        ensures row { let f = value_of frame.now in
+            Takes self.old self.new (λ w end. up_row w end f (Control.I ns nr)) result }
         ensures stations { SameStations self.old self.new }
     {
         match self.apply(nr) {
@@ -125,12 +116,8 @@ impl Link {
         requires control { control < 240 }
         requires octet { control + 16 * bit frame.now.poll
             ≡ control_octet (value_of frame.now).kind.control frame.now.poll }
-        ensures after { Steps self.old self.new (λ w end. (numbered_row w end (value_of frame.now) nr
-            (λ e. supervisory_row (with_busy is_busy
-            (if is_reject && is_good (meaning_of w end nr) then sending_again e else e)) (value_of frame.now))).after) }
-        ensures heard { Tells self.old (λ w end. (numbered_row w end (value_of frame.now) nr
-            (λ e. supervisory_row (with_busy is_busy
-            (if is_reject && is_good (meaning_of w end nr) then sending_again e else e)) (value_of frame.now))).heard) result }
+        ensures row { Takes self.old self.new
+            (λ w end. any_supervisory_row is_busy is_reject w end (value_of frame.now) nr) result }
         ensures stations { SameStations self.old self.new }
     {
         match self.apply(nr) {
@@ -179,8 +166,7 @@ impl Link {
 
     /// An I frame whose N(R) was applied: it is accepted where its number is the next one (2.4.4.2, 2.4.4.3).
     fn take_numbered(&mut self, frame: &Frame<'_>, ns: u8) -> Heard
-        ensures after { Steps self.old self.new (λ w end. (information_row w end (value_of frame.now) ns).after) }
-        ensures heard { Tells self.old (λ w end. (information_row w end (value_of frame.now) ns).heard) result }
+        ensures row { Takes self.old self.new (λ w end. information_row w end (value_of frame.now) ns) result }
         ensures stations { SameStations self.old self.new }
     {
         let poll = frame.poll;
@@ -202,9 +188,8 @@ impl Link {
     /// An S frame whose N(R) was applied: whether the peer is busy, and an answer to a command with P = 1 (2.4.4.7,
     /// 2.4.4.9).
     fn answer_poll(&mut self, frame: &Frame<'_>, is_busy: bool) -> Heard
-        ensures after { Steps self.old self.new
-            (λ w end. (supervisory_row (with_busy is_busy end) (value_of frame.now)).after) }
-        ensures heard { result ≡ Heard.Nothing }
+        ensures row { Takes self.old self.new
+            (λ w end. supervisory_row (with_busy is_busy end) (value_of frame.now)) result }
         ensures stations { SameStations self.old self.new }
     {
         self.peer_busy = is_busy;
@@ -217,8 +202,7 @@ impl Link {
     /// SABM in state Up: the end that answers begins anew, the one that called passes it over (2.4.6).
     fn take_sabm(&mut self, frame: &Frame<'_>) -> Heard
         requires { self.old.state ≡ LinkState.Up }
-        ensures after { Steps self.old self.new (λ w end. (called_again end (value_of frame.now)).after) }
-        ensures heard { Tells self.old (λ w end. (called_again end (value_of frame.now)).heard) result }
+        ensures row { Takes self.old self.new (λ w end. called_again end (value_of frame.now)) result }
         ensures stations { SameStations self.old self.new }
     {
         if self.called {
@@ -238,8 +222,7 @@ impl Link {
 
     /// DISC in state Up or Ending: UA, and down (2.4.3.3).
     fn take_disc(&mut self, poll: bool) -> Heard
-        ensures after { Steps self.old self.new (λ w end. (closing_with end (accept poll) Why.Disc).after) }
-        ensures heard { result ≡ Heard.Closed Why.Disc }
+        ensures row { Takes self.old self.new (λ w end. closing_with end (accept poll) Why.Disc) result }
         ensures stations { SameStations self.old self.new }
     {
         self.enter(LinkState::Down);
@@ -252,8 +235,7 @@ impl Link {
         requires control { control < 240 }
         requires octet { control + 16 * bit frame.now.poll
             ≡ control_octet (value_of frame.now).kind.control frame.now.poll }
-        ensures after { Steps self.old self.new (λ w end. (refusing w end (value_of frame.now)).after) }
-        ensures heard { result ≡ Heard.Closed Why.BadNr }
+        ensures row { Takes self.old self.new (λ w end. refusing w end (value_of frame.now)) result }
         ensures stations { SameStations self.old self.new }
     {
         let octets = reject_octets(
@@ -272,8 +254,7 @@ impl Link {
 
     /// The link is down.
     fn close(&mut self, why: Why) -> Heard
-        ensures after { Steps self.old self.new (λ w end. (closing end why).after) }
-        ensures heard { result ≡ Heard.Closed why }
+        ensures row { Takes self.old self.new (λ w end. closing end why) result }
         ensures stations { SameStations self.old self.new }
     {
         self.enter(LinkState::Down);
