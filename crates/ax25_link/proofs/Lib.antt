@@ -1,4 +1,5 @@
 pub mod AirLemmas
+pub mod BoundLemmas
 pub mod DeliveryLemmas
 pub mod DrainsLemmas
 pub mod EndKept
@@ -10,4 +11,5 @@ pub mod MeaningLemmas
 pub mod Modulus
 pub mod OneMeaning
 pub mod Places
+pub mod RunLemmas
 pub mod SendLemmas

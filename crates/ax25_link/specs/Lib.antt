@@ -8,6 +8,7 @@ pub mod Laws
 pub mod LinkStep
 pub mod Linked
 pub mod Rows
+pub mod Runs
 pub mod Sending
 pub mod Timer
 pub mod Window
