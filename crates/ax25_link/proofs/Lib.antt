@@ -4,6 +4,7 @@ pub mod DeliveryLemmas
 pub mod DrainsLemmas
 pub mod EndKept
 pub mod EndLemmas
+pub mod FrameLemmas
 pub mod HeardLemmas
 pub mod LawLemmas
 pub mod LinkedLemmas
@@ -11,5 +12,6 @@ pub mod MeaningLemmas
 pub mod Modulus
 pub mod OneMeaning
 pub mod Places
+pub mod QueueLemmas
 pub mod RunLemmas
 pub mod SendLemmas

@@ -3,8 +3,16 @@
 #![tactic(auto)]
 
 pub mod laws;
+mod link;
+mod number;
+mod outgoing;
+mod reply;
+mod send_queue;
 mod state;
+mod taking;
+mod timer;
 mod window;
 
+pub use link::Link;
 pub use state::{Heard, LinkState, Why};
 pub use window::good_k;

@@ -1,0 +1,15 @@
+use Rattle.std.proofs.Common.{◌≡◌, ap, sym, ◌∙◌, List, ℕ, ◌+◌, ◌%◌, [], ◌++◌}
+use Rattle.std.specs.Prelude.{slice_get, unwrap_or}
+use Rattle.ax25_frames.specs.FrameText.{canonical, FrameValue}
+use Rattle.ax25_link.specs.Kept.{Kept}
+use Rattle.ax25_link.proofs.FrameLemmas.{information-is, canonical-append, numbered}
+use Rattle.ax25_link.proofs.link.Link.write_information.Goals as goal
+
+pub returns : goal.returns
+returns c = λ w end s.
+    let piece = unwrap_or (slice_get c.self.inside.queue.pieces c.args.place) [] in
+    c.put_piece.ensures
+    ∙ ap (λ (xs : List ℕ). xs ++ piece) c.write.ensures.octets
+    ∙ canonical-append c.args.self.now c.after.result c.self.inside.taken piece c.args.poll
+    ∙ ap (λ (k : Kept). canonical (numbered c.args.self.now c.after.result k.taken (unwrap_or (slice_get k.queue.pieces c.args.place) []) c.args.poll)) c.self.view_is
+    ∙ ap canonical (information-is w c.args.self.now end c.args.place c.after.result c.args.poll s (c.after.ensures ∙ ap (λ (k : Kept). (k.acked + c.args.place) % 8) c.self.view_is))
