@@ -1,5 +1,5 @@
 -- The I frames that a link sends are those of the ends that it stands for.
-use Rattle.std.proofs.Common.{◌≡◌, ℕ, zero, suc, ◌+◌, ◌-◌, ◌%◌, ◌≤◌, ◌==◌, Bool, true, false, if◌then◌else◌, List, [], ◌∷◌, ◌++◌, length, drop, get_or, refl, ap, sym, ◌∙◌, subst, append_assoc, length-drop, zero-add, suc-add, arith}
+use Rattle.std.proofs.Common.{◌≡◌, ℕ, zero, suc, ◌+◌, ◌-◌, ◌%◌, ◌≤◌, ◌==◌, Bool, true, false, if◌then◌else◌, List, [], ◌∷◌, ◌++◌, length, drop, refl, ap, sym, ◌∙◌, subst, append_assoc, length-drop, zero-add, suc-add, arith}
 use Rattle.std.specs.Prelude.{Option, slice_get, unwrap_or}
 use Rattle.std.proofs.lemmas.List.{get_or_push}
 use Rattle.std.proofs.lemmas.Option.{unwrap_or-slice_get}
@@ -7,9 +7,9 @@ use Rattle.ax25_frames.specs.declared.control.Control.TheVariants as control
 use Rattle.ax25_frames.specs.FrameText.{FrameValue, canonical}
 use Rattle.ax25_link.specs.Window.{Window}
 use Rattle.ax25_link.specs.Ends.{LinkEnd, high, outstanding}
-use Rattle.ax25_link.specs.Frames.{information_of, information_again, no_protocol, piece_at, receive_number}
+use Rattle.ax25_link.specs.Frames.{information_of, information_again, no_protocol, piece_at}
 use Rattle.ax25_link.specs.Acknowledging.{with_timer_anew}
-use Rattle.ax25_link.specs.Kept.{Kept, StandsFor, frame_between, kept_of}
+use Rattle.ax25_link.specs.Kept.{Kept, StandsFor, frame_between}
 use Rattle.ax25_link.specs.Sending.{after_new, next_piece, with_piece}
 
 -- an I frame with this information

@@ -1,5 +1,5 @@
 -- Octets cut into pieces.
-use Rattle.std.proofs.Common.{◌≡◌, ℕ, zero, suc, ◌+◌, ◌-◌, ◌<◌, ◌≤◌, min, List, [], ◌∷◌, ◌++◌, length, take, drop, get_or, refl, ap, sym, ◌∙◌, subst, append_assoc, append-nil, ⊎_elim, length-append, length-drop, length-take, arith, rules}
+use Rattle.std.proofs.Common.{◌≡◌, ℕ, zero, suc, ◌+◌, ◌-◌, ◌<◌, ◌≤◌, min, List, [], ◌∷◌, ◌++◌, length, take, drop, get_or, refl, ap, sym, ◌∙◌, subst, append_assoc, append-nil, ⊎_elim, length-drop, arith}
 use Rattle.std.specs.Prelude.{slice_get, unwrap_or, sum, All}
 use Rattle.std.specs.List.{concat}
 use Rattle.std.proofs.lemmas.List.{take-append-drop, take-append-le, drop-append-le, drop-drop, drop_all, take_all, take_min, drop_min, length-take-le}
@@ -7,7 +7,7 @@ use Rattle.std.proofs.Math.Seq.{take-append-add, drop-append-add}
 use Rattle.std.proofs.lemmas.Bool.{cases_lt}
 use Rattle.std.proofs.lemmas.List.Sums.{sum_by-cons, sum_by-le, sum_by_push, sum_by-take-drop, sum_by-take-le}
 use Rattle.std.proofs.lemmas.List.Elements.{All-drop}
-use Rattle.ax25_link.specs.Queue.{Queue, AreSizes, cut, queue_of, octets_of}
+use Rattle.ax25_link.specs.Queue.{AreSizes, cut, queue_of, octets_of}
 
 pub sum-cons : (size : ℕ) (sizes : List ℕ) → sum (size ∷ sizes) ≡ size + sum sizes
 sum-cons size sizes = sum_by-cons (λ x. x) size sizes

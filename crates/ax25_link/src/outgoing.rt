@@ -61,7 +61,8 @@ impl Link {
     pub(crate) fn send_farewell(&mut self, farewell: Farewell, out: &mut ArrayVec<u8, 400>)
         requires { self.old.farewell ≡ Some (farewell_value farewell) }
         ensures after { Steps self.old self.new (λ w end. (sends_farewell end (farewell_value farewell)).after) }
-        ensures frame { Writes self.old (λ w end. (sends_farewell end (farewell_value farewell)).frame) out.new.items }
+        ensures frame { let last = farewell_value farewell in
+            Writes self.old (λ w end. (sends_farewell end last).frame) out.new.items }
         ensures fewer { most_pending self.new < most_pending self.old }
         ensures stations { SameStations self.old self.new }
     {

@@ -91,7 +91,8 @@ impl Link {
         requires ns { ns < 8 }
         requires nr { nr < 8 }
         requires kind { (value_of frame.now).kind.control ≡ Control.I ns nr }
-        ensures row { Takes self.old self.new (λ w end. up_row w end (value_of frame.now) (Control.I ns nr)) result }
+        ensures row { let f = value_of frame.now in
+            Takes self.old self.new (λ w end. up_row w end f (Control.I ns nr)) result }
         ensures stations { SameStations self.old self.new }
     {
         match self.apply(nr) {

@@ -1,4 +1,4 @@
-use Rattle.std.proofs.Common.{◌≡◌, ℕ, ◌-◌, ◌++◌, take, drop, ap, ◌∙◌, List, append_assoc}
+use Rattle.std.proofs.Common.{ℕ, ◌-◌, ◌++◌, take, drop, ap, ◌∙◌, List, append_assoc}
 use Rattle.ax25_link.proofs.QueueLemmas.{range-parts}
 use Rattle.ax25_link.proofs.send_queue.put_range.Goals as goal
 

@@ -1,6 +1,6 @@
-use Rattle.std.proofs.Common.{◌≡◌, ap, sym, ◌∙◌, List, ℕ, ◌+◌, ◌%◌, [], ◌++◌}
+use Rattle.std.proofs.Common.{ap, ◌∙◌, List, ℕ, ◌+◌, ◌%◌, [], ◌++◌}
 use Rattle.std.specs.Prelude.{slice_get, unwrap_or}
-use Rattle.ax25_frames.specs.FrameText.{canonical, FrameValue}
+use Rattle.ax25_frames.specs.FrameText.{canonical}
 use Rattle.ax25_link.specs.Kept.{Kept}
 use Rattle.ax25_link.proofs.FrameLemmas.{information-is, canonical-append, numbered}
 use Rattle.ax25_link.proofs.link.Link.write_information.Goals as goal

@@ -1,4 +1,4 @@
-use Rattle.std.proofs.Common.{◌≡◌, ℕ, ◌≤◌, [], take, ap, ◌∙◌, subst, List, length, arith}
+use Rattle.std.proofs.Common.{ℕ, ◌≤◌, [], take, ap, ◌∙◌, subst, List, length, arith}
 use Rattle.std.specs.Prelude.{sum}
 use Rattle.circular_buffer.specs.Buffer.{Buffer}
 use Rattle.ax25_link.specs.Queue.{Queue, queue_of}

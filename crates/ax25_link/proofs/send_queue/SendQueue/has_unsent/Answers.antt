@@ -1,4 +1,4 @@
-use Rattle.std.proofs.Common.{◌≡◌, ℕ, ◌<◌, ◌^◌, ap, ◌∙◌, sym, List, length, arith}
+use Rattle.std.proofs.Common.{ap, arith}
 use Rattle.std.specs.Prelude.{sum}
 use Rattle.ax25_link.proofs.send_queue.SendQueue.has_unsent.Goals as goal
 

@@ -3,7 +3,7 @@ use Rattle.std.specs.Prelude.{sum, slice_get, unwrap_or}
 use Rattle.std.proofs.lemmas.List.{length-take-le}
 use Rattle.std.proofs.lemmas.List.Elements.{All-get_or}
 use Rattle.std.proofs.lemmas.List.Sums.{sum_by_more_le}
-use Rattle.ax25_link.specs.Queue.{Queue, cut}
+use Rattle.ax25_link.specs.Queue.{Queue}
 use Rattle.ax25_link.proofs.QueueLemmas.{length-cut, few-take, piece-cut}
 use Rattle.ax25_link.proofs.send_queue.SendQueue.put_piece.Goals as goal
 
