@@ -15,6 +15,10 @@ pub record IsEntry (entry : Entry) : Type 0 where
   pub call : IsCall entry.call
   pub reserved : entry.reserved < 4
 
+-- an entry as it is sent, with its reserved bits 1 (2.2.13.1.1)
+abbrev pub sent_entry : CallSign → Bool → Entry
+sent_entry call c_or_h_bit = record { call = call; reserved = 3; c_or_h_bit = c_or_h_bit }
+
 -- the six characters, each shifted left by one (2.2.13.1)
 abbrev pub character_octets : CallSign → List ℕ
 character_octets call = map (λ c. 2 * c) call.chars

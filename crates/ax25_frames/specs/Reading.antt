@@ -40,3 +40,7 @@ AddressesAt octets dest src via command len =
     (dest_entry src_entry : Entry) × (repeaters : List Entry) × IsEntry dest_entry × IsEntry src_entry × AreEntries repeaters
     × (dest_entry.call ≡ dest) × (dest_entry.c_or_h_bit ≡ command) × (src_entry.call ≡ src) × (length repeaters ≡ via) × (via ≤ 8)
     × (take len octets ≡ address_field (dest_entry ∷ src_entry ∷ repeaters)) × (len ≤ length octets)
+
+-- The octets begin with an address field: destination with its C bit, source, and so many repeaters.
+abbrev pub HasAddresses : List ℕ → CallSign → CallSign → ℕ → Bool → Type 0
+HasAddresses octets dest src via command = AddressesAt octets dest src via command (14 + 7 * via)

@@ -4,7 +4,7 @@ ghost use Rattle.std.specs.Prelude.{◌≡◌, ◌+◌, ◌*◌, ◌/◌, ◌<�
 ghost use Rattle.std.specs.List.{prefix_len};
 ghost use Rattle.ax25_frames.specs.Addresses.{BeginsUnended};
 ghost use Rattle.ax25_frames.specs.Faults.{FaultAt};
-ghost use Rattle.ax25_frames.specs.Reading.{AddressesAt, EntryAt, RepeatersAt, characters_begun as octets_begun, is_blank as is_blank_octet, is_character as is_character_octet, run_length};
+ghost use Rattle.ax25_frames.specs.Reading.{EntryAt, HasAddresses, RepeatersAt, characters_begun as octets_begun, is_blank as is_blank_octet, is_character as is_character_octet, run_length};
 
 use crate::FrameFault;
 use px_base::Call;
@@ -45,7 +45,7 @@ pub(crate) struct Addresses {
 
 /// Reads the address field at the front.
 pub(crate) fn read_addresses(bytes: &[u8]) -> Result<Addresses, FrameFault>
-    ensures addresses { IfOk result (λ read. AddressesAt bytes.now read.dest read.src read.via read.command (14 + 7 * read.via)) }
+    ensures addresses { IfOk result (λ read. HasAddresses bytes.now read.dest read.src read.via read.command) }
     ensures fault { IfErr result (λ fault. FaultAt fault bytes.now) }
 {
     let dest = read_entry(bytes, 0)?;

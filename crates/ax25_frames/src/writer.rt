@@ -2,7 +2,7 @@
 
 ghost use Rattle.std.specs.Prelude.{◌≡◌, ◌+◌, ◌*◌, ◌≤◌, ◌<◌, ◌∷◌, ◌++◌, [], length, not};
 ghost use Rattle.px_base.specs.CallSign.{CallSign, IsCall};
-ghost use Rattle.ax25_frames.specs.Addresses.{entry_octets};
+ghost use Rattle.ax25_frames.specs.Addresses.{entry_octets, sent_entry};
 ghost use Rattle.px_base.specs.Octets.{IsOctets};
 ghost use Rattle.ax25_frames.specs.Kinds.{CanWrite, FitsControl, FitsKind, kind_octets};
 ghost use Rattle.ax25_frames.specs.FrameText.{FrameText, canonical};
@@ -34,7 +34,7 @@ pub fn write_frame(frame: &Frame<'_>, out: &mut ArrayVec<u8, 400>)
 /// Puts an address entry at the end, with bit 7 of its SSID octet and its end bit (2.2.13).
 fn put_entry(out: &mut ArrayVec<u8, 400>, call: &Call, c_or_h_bit: bool, is_last: bool)
     requires { length out.old.items + 7 ≤ 400 }
-    ensures octets { out.new.items ≡ out.old.items ++ entry_octets is_last (record { call = call.now; reserved = 3; c_or_h_bit = c_or_h_bit }) }
+    ensures octets { out.new.items ≡ out.old.items ++ entry_octets is_last (sent_entry call.now c_or_h_bit) }
     ensures len { length out.new.items ≡ length out.old.items + 7 }
     ensures call { IsCall call.now }
 {

@@ -51,6 +51,14 @@ pub record IsFound (place : List ℕ) (names words : List (List ℕ)) (matches :
   pub place_found : first_value (found_of matches) place ≡ Some text
   pub options_found : (name : List ℕ) → Contains names name → values_of reading name ≡ option_to_list (first_value (found_of matches) name)
 
+-- Where the command is one with a place and options, these are the values of the words.
+abbrev pub FindsLine : App → List (List ℕ) → ArgMatches → Type 0
+FindsLine app words matches = (place : List ℕ) (names : List (List ℕ)) → IsLine app place names → IsFound place names words matches
+
+-- Where the command is one with a place and options, the words have no reading.
+abbrev pub RefusesLine : App → List (List ℕ) → Type 0
+RefusesLine app words = (place : List ℕ) (names : List (List ℕ)) → IsLine app place names → IsTaken names words → ⊥
+
 -- The words after `session` give this place, and these values of the options.
 pub record SessionLine (words : List (List ℕ)) (caller : List ℕ) (moment blocks polls : Option (List ℕ)) : Type 0 where
   pub reading : Reading session_options words

@@ -2,7 +2,7 @@
 
 ghost use Rattle.std.specs.Prelude.{◌≡◌, ℕ, List, [], false, IfOk, IsErrOf, Some, codes, drop, map, option_copied, string_bytes};
 ghost use Rattle.clap.specs.Words.{app_of, kind_of, rule_of};
-ghost use Rattle.command_words.specs.Lines.{FramesLine, IsFound, IsLine, IsTaken, SessionLine, command_of, option_of, place_of};
+ghost use Rattle.command_words.specs.Lines.{FindsLine, FramesLine, RefusesLine, SessionLine, command_of, option_of, place_of};
 ghost use Rattle.command_words.specs.Words.{session_options};
 
 use crate::request::Refusal;
@@ -103,10 +103,8 @@ fn option<'a>(alloc: Global, name: &'a str) -> Arg<'a>
 
 /// Reads the words of a line, of which the first is the command itself. Takes memory.
 fn read_line<'a>(command: Command<'a>, line: &'a [String]) -> Result<ArgMatches<'a>, Refusal>
-    ensures found { IfOk result (λ matches. (id : List ℕ) (names : List (List ℕ)) → IsLine (app_of command.entry) id names →
-        IsFound id names (drop 1 (map string_bytes line.now)) matches) }
-    ensures usage { IsErrOf result Refusal.Usage → (id : List ℕ) (names : List (List ℕ)) → IsLine (app_of command.entry) id names →
-        IsTaken names (drop 1 (map string_bytes line.now)) → ⊥ }
+    ensures found { IfOk result (FindsLine (app_of command.entry) (drop 1 (map string_bytes line.now))) }
+    ensures usage { IsErrOf result Refusal.Usage → RefusesLine (app_of command.entry) (drop 1 (map string_bytes line.now)) }
     ensures built { IsErrOf result Refusal.NotBuilt → ⊥ }
 {
     match command.try_get_matches_from(line) {

@@ -2,7 +2,7 @@
 
 ghost use Rattle.std.specs.Prelude.{◌≡◌, ◌<◌, ◌≤◌, List, ℕ, length, slice_index, IfOk, IfSome, IsErrOf};
 ghost use Rattle.file_journal.specs.Calls.{Reads};
-ghost use Rattle.file_journal.specs.Header.{HasBadNumber, HasHeader, HasSelector, IsForeign};
+ghost use Rattle.file_journal.specs.Header.{HasBadNumber, HasHeader, HasSelector, IsForeignBy};
 ghost use Rattle.file_journal.specs.Recovery.{Refuses};
 
 use crate::RecoverFault;
@@ -39,7 +39,7 @@ fn parse_header(octets: &[u8; 16], magic: [u8; 8]) -> Result<Header, RecoverFaul
     ensures selector { IfOk result (λ header. header.selector ≡ slice_index octets.now 15) }
     ensures some { IfOk result (λ header. 1 ≤ header.blocks) }
     ensures most { IfOk result (λ header. header.blocks ≤ 65536) }
-    ensures not_a_store { (found : List ℕ) → IsErrOf result (RecoverFault.NotAStore found) → IsForeign magic octets.now found }
+    ensures not_a_store { IsForeignBy magic octets.now result }
     ensures damaged { (at : ℕ) → IsErrOf result (RecoverFault.Damaged at) → (at ≡ 8) × HasBadNumber magic octets.now }
     ensures disk { ¬ IsErrOf result RecoverFault.Disk }
 {

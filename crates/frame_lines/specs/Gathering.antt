@@ -13,3 +13,7 @@ pub record IsGathered (before now : Option (List ℕ)) (waiting text : List ℕ)
 -- the lines that waited, and then those of these parts, are shown or wait
 abbrev pub Gathers : List Part → Option (List ℕ) → Option (List ℕ) → List ℕ → List ℕ → Type 0
 Gathers parts before now waited waiting = (lines : List ℕ) × LinesOf parts lines × IsGathered before now waiting (waited ++ lines)
+
+-- the same, of what an output shows
+abbrev pub GathersOn : {O : Type 0} → (O → Option (List ℕ)) → O → O → List Part → List ℕ → List ℕ → Type 0
+GathersOn shown old new parts = Gathers parts (shown old) (shown new)

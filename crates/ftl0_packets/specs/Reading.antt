@@ -90,3 +90,7 @@ packets_of octets = packets_within (length octets) octets
 -- what is left after the packets, less than a whole one
 unfoldable pub rest_of : List ℕ → List ℕ
 rest_of octets = rest_within (length octets) octets
+
+-- the octets have no whole packet: all of them are left
+abbrev pub IsLeft : List ℕ → Type 0
+IsLeft octets = rest_of octets ≡ octets

@@ -4,7 +4,7 @@ ghost use Rattle.std.specs.Prelude.{◌≡◌, ◌++◌, [], ℕ, List, flat_map
 ghost use Rattle.px_base.specs.Octets.{IsOctets};
 ghost use Rattle.ftl0_packets.specs.Layout.{Item};
 ghost use Rattle.ftl0_packets.specs.Pieces.{TakesAll};
-ghost use Rattle.ftl0_packets.specs.Reading.{packets_of, rest_of, under_way};
+ghost use Rattle.ftl0_packets.specs.Reading.{IsLeft, packets_of, rest_of, under_way};
 ghost use Rattle.ftl0_packets.specs.Stream.{Stream};
 ghost use Rattle.ftl0_packets.specs.Values.{item_of};
 
@@ -43,7 +43,7 @@ fn feed_piece<S: PacketSink>(reader: &mut PacketReader, piece: &[u8], sink: &mut
     ensures rest { (later : List ℕ) → rest_of (under_way reader.new ++ later)
         ≡ rest_of (under_way reader.old ++ (piece.now ++ later)) }
     ensures none { packets_of (under_way reader.old) ≡ [] → packets_of (under_way reader.new) ≡ [] }
-    ensures left { rest_of (under_way reader.old) ≡ under_way reader.old → rest_of (under_way reader.new) ≡ under_way reader.new }
+    ensures left { IsLeft (under_way reader.old) → IsLeft (under_way reader.new) }
     ensures octets { IsOctets piece.now }
 {
     let mut octets = piece;

@@ -78,7 +78,7 @@ pub fn run<A: Air, S: Shelf, O: Out, C: Clock>(
     ensures shelf { HasShelfCause (S.faults shelf.old) (S.faults shelf.new) result }
     ensures out { result ≡ Status.Out → Rose (O.faults out.old) (O.faults out.new) }
 
-    // Done says that no count rose, whatever is told, and of a session that the end of the air was read.
+    // Done says that no count rose, and of a session on an air that tells, that its end was read.
     ensures session_done { IsDoneAtEnd words.now A.heard A.read_faults A.write_faults air.old air.new result }
     ensures done { result ≡ Status.Done → Stays S.faults shelf.old shelf.new × Stays O.faults out.old out.new }
 

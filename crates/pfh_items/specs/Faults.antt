@@ -1,8 +1,7 @@
 -- The first rule of file headers that a file breaks (PFH 1990), and its code (FTL0 1990, error codes).
 use Rattle.std.specs.Prelude.{◌≡◌, ◌≢◌, ℕ, ◌+◌, ◌==◌, List, [], ◌∷◌, ◌++◌, length, drop, slice_index, map, filter, find, Bool, true, false, not, ◌&&◌, if◌then◌else◌, Option, Some, None, option_map, unwrap_or}
 use Rattle.std.specs.List.{AllByRecursion, list_all}
-use Rattle.px_base.specs.Numbers.{le16, le32}
-use Rattle.pfh_items.specs.Checksum.{sum16}
+use Rattle.px_base.specs.Numbers.{le16, le32, sum16}
 use Rattle.pfh_items.specs.declared.fault.FileFault.{FileFault}
 use Rattle.pfh_items.specs.declared.fault.FileFault.TheVariants.{NoHeader, NoEndItem, MissingItem, BadHeader, HeaderSum, BodySum}
 use Rattle.pfh_items.specs.declared.items.Stop.{Stop}

@@ -1,4 +1,3 @@
-pub mod Checksum
 pub mod Faults
 pub mod Laws
 pub mod Layout

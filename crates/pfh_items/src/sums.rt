@@ -1,7 +1,7 @@
 //! Sums of octets.
 
 ghost use Rattle.std.specs.Prelude.{◌≡◌};
-ghost use Rattle.pfh_items.specs.Checksum.{sum16 as sum_of};
+ghost use Rattle.px_base.specs.Numbers.{sum16 as sum_of};
 
 /// The sums of a file that was checked, and its header's length.
 #[derive(Clone, Copy, Debug, PartialEq, Eq)]

@@ -2,8 +2,7 @@
 use Rattle.std.proofs.Common.{◌≡◌, ℕ, ◌+◌, ◌-◌, ◌%◌, ◌/◌, ◌==◌, ◌&&◌, List, [], ◌++◌, length, Bool, true, false, not, cond, Option, Some, None, option_map, refl, sym, ap, ◌∙◌, subst}
 use Rattle.std.specs.List.{list_all}
 use Rattle.std.proofs.lemmas.Bool.{and_parts, false_from_ne_true}
-use Rattle.px_base.specs.Numbers.{le16, le32}
-use Rattle.pfh_items.specs.Checksum.{sum16}
+use Rattle.px_base.specs.Numbers.{le16, le32, sum16}
 use Rattle.pfh_items.specs.declared.fault.FileFault.{FileFault}
 use Rattle.pfh_items.specs.declared.fault.FileFault.TheVariants.{NoHeader, NoEndItem}
 use Rattle.pfh_items.specs.declared.table.MandatoryItem.{MandatoryItem}

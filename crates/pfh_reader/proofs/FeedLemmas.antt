@@ -3,7 +3,7 @@ use Rattle.std.proofs.Common.{◌≡◌, ℕ, ◌+◌, ◌%◌, ◌<◌, ◌≤�
 use Rattle.std.proofs.lemmas.Bool.{leb-false, lt-leb}
 use Rattle.std.proofs.lemmas.List.{append-nil, take_at, drop_at, nil_from_length}
 use Rattle.std.proofs.lemmas.List.Elements.{All-append, All-drop, All-from_recursion}
-use Rattle.pfh_items.specs.Checksum.{sum16}
+use Rattle.px_base.specs.Numbers.{sum16}
 use Rattle.px_base.specs.Octets.{IsOctets}
 use Rattle.pfh_items.specs.declared.items.Stop.TheVariants.{EndItem, Ran}
 use Rattle.pfh_items.specs.Faults.{BeginsHeader, file_parts}

@@ -4,7 +4,7 @@ use Rattle.pfh_items.specs.declared.fault.FileFault.{FileFault}
 use Rattle.pfh_items.specs.declared.sums.Sums.{Sums}
 use Rattle.pfh_items.specs.Faults.{FirstFault, IsFaultless, code_of, header_sum}
 use Rattle.pfh_items.specs.Layout.{ItemValue, header_text}
-use Rattle.pfh_items.specs.Checksum.{sum16}
+use Rattle.px_base.specs.Numbers.{sum16}
 
 -- the file's first fault has this code
 abbrev pub HasFault : List ℕ → ℕ → Type 0

@@ -1,6 +1,6 @@
 -- What a checker stands for: the octets that it was fed.
 use Rattle.std.specs.Prelude.{◌≡◌, ℕ, ◌<◌, ◌==◌, List, [], ◌∷◌, ◌++◌, length, if◌then◌else◌}
-use Rattle.pfh_items.specs.Checksum.{sum16}
+use Rattle.px_base.specs.Numbers.{sum16}
 use Rattle.px_base.specs.Octets.{IsOctets}
 use Rattle.pfh_items.specs.Faults.{BeginsHeader}
 use Rattle.pfh_items.specs.Layout.{ItemValue, AreItems, items_text, end_item, header_start, FileText}

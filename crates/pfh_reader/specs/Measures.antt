@@ -1,6 +1,6 @@
 -- What the check of a file keeps of its octets, and how it grows.
 use Rattle.std.specs.Prelude.{◌≡◌, ℕ, ◌+◌, ◌%◌, List, ◌++◌, length}
-use Rattle.pfh_items.specs.Checksum.{sum16}
+use Rattle.px_base.specs.Numbers.{sum16}
 use Rattle.pfh_items.specs.Layout.{ItemValue, header_text}
 use Rattle.pfh_reader.specs.declared.measures.Measures.{Measures}
 

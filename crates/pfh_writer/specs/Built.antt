@@ -1,8 +1,7 @@
 -- What a builder of headers makes (PFH 1990, mandatory header): the mandatory items in ascending order, then the others.
 use Rattle.std.specs.Prelude.{◌≡◌, ℕ, ◌+◌, ◌==◌, List, [], ◌∷◌, ◌++◌, length, Bool, false, not, ◌&&◌, nat_le, nat_lt, if◌then◌else◌, Option, Some, None}
 use Rattle.std.specs.List.{AllByRecursion, list_any}
-use Rattle.px_base.specs.Numbers.{le16_octets, le32_octets}
-use Rattle.pfh_items.specs.Checksum.{sum16}
+use Rattle.px_base.specs.Numbers.{le16_octets, le32_octets, sum16}
 use Rattle.pfh_items.specs.Layout.{ItemValue, AreItems, items_text, header_text}
 use Rattle.pfh_items.specs.Stamp.{renewed}
 use Rattle.pfh_items.specs.Table.{fixed_len, is_mandatory, is_single}

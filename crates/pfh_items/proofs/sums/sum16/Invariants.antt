@@ -1,5 +1,5 @@
 use Rattle.std.proofs.Common.{◌≡◌, take}
-use Rattle.pfh_items.specs.Checksum.{sum16}
+use Rattle.px_base.specs.Numbers.{sum16}
 use Rattle.pfh_items.proofs.sums.sum16.Given as goal
 
 -- the sum of the octets so far

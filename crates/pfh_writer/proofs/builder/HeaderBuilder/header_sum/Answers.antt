@@ -1,5 +1,5 @@
 use Rattle.std.proofs.Common.{◌≡◌, ◌+◌, ◌%◌, ℕ, List, sym, ap, ◌∙◌, subst}
-use Rattle.pfh_items.specs.Checksum.{sum16}
+use Rattle.px_base.specs.Numbers.{sum16}
 use Rattle.pfh_items.specs.Layout.{ItemValue}
 use Rattle.pfh_writer.specs.Built.{AreOthers, BuilderValue}
 use Rattle.pfh_writer.proofs.BuiltLemmas.{header_sum-parts}
