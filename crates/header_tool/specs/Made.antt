@@ -1,12 +1,12 @@
 -- What a file is made of: its body, and what its header says (PFH 1990, mandatory, extended and optional header).
-use Rattle.std.specs.Prelude.{ℕ, ◌-◌, List, [], ◌∷◌, ◌++◌, length, replicate, Bool, true, not, ◌&&◌, nat_le, if◌then◌else◌, Option, Some, None, option_map}
+use Rattle.std.specs.Prelude.{ℕ, ◌-◌, List, [], ◌∷◌, ◌++◌, length, replicate, Bool, true, not, ◌&&◌, nat_le, if◌then◌else◌, Option, Some, None, option_map, ◌≡◌, ◌⊎◌, Result, Err}
 use Rattle.std.specs.List.{list_all}
 use Rattle.std.specs.Option.{option_copied}
 use Rattle.pfh_items.specs.Faults.{IsFaultless}
 use Rattle.pfh_items.specs.Layout.{ItemValue}
 use Rattle.pfh_writer.specs.Built.{BuilderValue, built_items, item, passing_len}
 use Rattle.header_tool.specs.declared.refusal.MakeRefusal.{MakeRefusal}
-use Rattle.header_tool.specs.declared.refusal.MakeRefusal.TheVariants.{BadName, BadExt, LongText, TooLong}
+use Rattle.header_tool.specs.declared.refusal.MakeRefusal.TheVariants.{BadName, BadExt, LongText, TooLong, OutOfMemory}
 use Rattle.header_tool.specs.declared.spec.MakeSpec.{MakeSpec}
 
 -- what contracts see of what a header is made of
@@ -114,3 +114,8 @@ or_long None len = option_map TooLong len
 -- why no file is made of this and a body, if none is: the first of four causes
 abbrev pub make_refusal : MakeValue → List ℕ → Option MakeRefusal
 make_refusal spec body = or_long (spec_refusal spec) (passing_len (made_builder spec) body)
+
+-- This refusal is answered; where the file would be too long, a want of memory may come in its place.
+abbrev pub IsRefused : {T : Type 0} → Result T MakeRefusal → MakeRefusal → Type 0
+IsRefused result (TooLong len) = (result ≡ Err (TooLong len)) ⊎ (result ≡ Err OutOfMemory)
+IsRefused result refusal = result ≡ Err refusal

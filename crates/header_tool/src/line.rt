@@ -7,14 +7,14 @@ ghost use Rattle.header_tool.specs.Lines.{content_text, id_text, item_line, last
 ghost use Rattle.pfh_items.specs.Values.{item_value};
 
 use arrayvec::ArrayVec;
-use itoa::{Buffer, Integer};
+use itoa::Buffer;
 use pfh_items::Item;
 
 /// The most octets of an item's data.
 const MAX_CONTENT: usize = 255;
 
-/// The most octets of an item's line: 4 for the id, 3 for the length, 510 for the data, two blanks and the line feed.
-const LINE_ROOM: usize = 520;
+/// Room for an item's line in octets: 4 for the id, 20 for the length, 510 for the data, two blanks and the line feed.
+const LINE_ROOM: usize = 537;
 
 /// A line with its line feed.
 pub(crate) type Line = ArrayVec<u8, LINE_ROOM>;

@@ -1,7 +1,7 @@
 //! The making of a file.
 
-ghost use Rattle.std.specs.Prelude.{◌≡◌, ◌≤◌, ◌++◌, ◌∷◌, [], length, None, IfOk, OnOk, IsOkUnless, MatchOption};
-ghost use Rattle.header_tool.specs.Made.{IsMade, fits_if_given, fits_item, made_builder, make_refusal, make_value, message_items, padded as padded_text, spec_refusal, title_items};
+ghost use Rattle.std.specs.Prelude.{◌≡◌, ◌≤◌, ◌++◌, ◌∷◌, [], length, true, None, option_copied, IfOk, OnOk, IsOkUnless, MatchOption};
+ghost use Rattle.header_tool.specs.Made.{IsMade, IsRefused, fits_if_given, fits_item, made_builder, make_refusal, make_value, message_items, padded as padded_text, spec_refusal, title_items};
 ghost use Rattle.pfh_writer.specs.Built.{item as item_of, put_refusal};
 
 use crate::{MakeRefusal, MakeSpec};
@@ -25,11 +25,11 @@ const NO_MOMENT: [u8; 4] = [0; 4];
 /// title, where there is one. Lengths and checksums are the file's. Takes memory.
 ///
 /// Refused as [`MakeSpec::refusal`] says, else exactly where the header would be longer than 65,535 octets or the file longer
-/// than 4,194,304: [`MakeRefusal::TooLong`].
+/// than 4,194,304: [`MakeRefusal::TooLong`], where no want of memory comes first.
 pub fn make(alloc: Global, spec: &MakeSpec<'_>, body: &[u8]) -> Result<FileBytes, MakeRefusal>
     ensures file { IfOk result (IsMade (make_value spec.now) body.now) }
     ensures refused { MatchOption (make_refusal (make_value spec.now) body.now)
-        (IsOkUnless result MakeRefusal.OutOfMemory) (λ refusal. result ≡ Err refusal) }
+        (IsOkUnless result MakeRefusal.OutOfMemory) (IsRefused result) }
 {
     if let Some(refusal) = spec.refusal() {
         return Err(refusal);
@@ -47,35 +47,36 @@ fn builder_of(alloc: Global, spec: &MakeSpec<'_>) -> Result<HeaderBuilder, OutOf
     requires { spec_refusal (make_value spec.now) ≡ None }
     ensures { IfOk result (λ builder. builder ≡ made_builder (make_value spec.now)) }
 {
+    let name = padded(spec.name.as_bytes());
+    let ext = padded(spec.ext.as_bytes());
     let mut builder = HeaderBuilder::new(
         alloc,
-        padded(spec.name.as_bytes()),
-        padded(spec.ext.as_bytes()),
+        name,
+        ext,
         spec.time,
         spec.time,
         0,
         spec.file_type,
     )?;
-    if let Some(destination) = spec.destination {
-        put_message(&mut builder, spec.source, destination)?;
-    }
-    if let Some(title) = spec.title {
-        put(&mut builder, TITLE, title.as_bytes())?;
-    }
+    put_message(&mut builder, spec.source, spec.destination)?;
+    put_title(&mut builder, spec.title)?;
     Ok(builder)
 }
 
-/// Puts the items of a message with a destination.
+/// Puts the items of a message as the first ones, if it has a destination.
 fn put_message(
     builder: &mut HeaderBuilder,
     source: &str,
-    destination: &str,
+    destination: Option<&str>,
 ) -> Result<(), OutOfMemory>
     requires none { builder.old.others ≡ [] }
-    requires source { length source.now ≤ 255 }
-    requires destination { length destination.now ≤ 255 }
-    ensures { OnOk result (builder.new ≡ record builder.old { others = message_items source.now (Some destination.now) }) }
+    requires source { fits_item source.now ≡ true }
+    requires destination { fits_if_given (option_copied destination) ≡ true }
+    ensures { OnOk result (builder.new ≡ record builder.old { others = message_items source.now (option_copied destination) }) }
 {
+    let Some(destination) = destination else {
+        return Ok(());
+    };
     put(builder, SOURCE, source.as_bytes())?;
     put(builder, AX25_UPLOADER, &NO_CALL)?;
     put(builder, UPLOAD_TIME, &NO_MOMENT)?;
@@ -85,6 +86,17 @@ fn put_message(
     put(builder, DOWNLOAD_TIME, &NO_MOMENT)?;
     put(builder, EXPIRE_TIME, &NO_MOMENT)?;
     put(builder, PRIORITY, &[0])
+}
+
+/// Puts the title after the other items, if there is one.
+fn put_title(builder: &mut HeaderBuilder, title: Option<&str>) -> Result<(), OutOfMemory>
+    requires { fits_if_given (option_copied title) ≡ true }
+    ensures { OnOk result (builder.new ≡ record builder.old { others = builder.old.others ++ title_items (option_copied title) }) }
+{
+    let Some(title) = title else {
+        return Ok(());
+    };
+    put(builder, TITLE, title.as_bytes())
 }
 
 /// Puts an item that the builder takes.

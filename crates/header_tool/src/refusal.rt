@@ -1,10 +1,10 @@
 //! Why a file isn't made.
 
-use px_base::OutOfMemory;
-use thiserror::Error;
-
 ghost use Rattle.std.specs.Prelude.{◌≡◌};
 ghost use Rattle.header_tool.specs.declared.refusal.MakeRefusal.TheVariants.{OutOfMemory as make_out_of_memory};
+
+use px_base::OutOfMemory;
+use thiserror::Error;
 
 /// Why a file isn't made, by the first of the causes in this order.
 #[derive(Clone, Copy, Debug, PartialEq, Eq, Error)]

@@ -1,6 +1,6 @@
 //! The text that shows a file's header, and that of its check.
 
-ghost use Rattle.std.specs.Prelude.{◌≡◌, ◌++◌, IfOk, OnOk};
+ghost use Rattle.std.specs.Prelude.{◌≡◌, ◌++◌, IfOk};
 ghost use Rattle.header_tool.specs.Lines.{check_text_of, code_number, header_text_of, item_lines};
 ghost use Rattle.pfh_items.specs.Faults.{fault_code};
 
@@ -26,11 +26,11 @@ pub fn show(alloc: Global, file: &[u8]) -> Result<Shown, OutOfMemory>
     ensures text { IfOk result (λ shown. shown.text ≡ header_text_of file.now) }
     ensures code { IfOk result (λ shown. shown.code ≡ code_number (fault_code file.now)) }
 {
-    let mut text = FileBytes::new(alloc);
-    if let Some(header) = Header::of_file(file) {
-        append_items(&mut text, &header)?;
-    }
-    append_check(text, file)
+    let items = match Header::of_file(file) {
+        Some(header) => text_of_items(alloc, &header)?,
+        None => FileBytes::new(alloc),
+    };
+    with_check(items, file)
 }
 
 /// Shows what the check of a file finds: the line `ok`, or `fault` and the code of the first rule that it breaks. Takes
@@ -39,21 +39,24 @@ pub fn check_line(alloc: Global, file: &[u8]) -> Result<Shown, OutOfMemory>
     ensures text { IfOk result (λ shown. shown.text ≡ check_text_of file.now) }
     ensures code { IfOk result (λ shown. shown.code ≡ code_number (fault_code file.now)) }
 {
-    append_check(FileBytes::new(alloc), file)
+    with_check(FileBytes::new(alloc), file)
 }
 
-/// Puts the line of each item at the end of a text.
-fn append_items(text: &mut FileBytes, header: &Header<'_>) -> Result<(), OutOfMemory>
-    ensures { OnOk result (text.new ≡ text.old ++ item_lines header.now.items) }
+/// The lines of a header's items.
+fn text_of_items(alloc: Global, header: &Header<'_>) -> Result<FileBytes, OutOfMemory>
+    ensures { IfOk result (λ text. text ≡ item_lines header.now.items) }
 {
+    // The line of an item has at most three times as many octets as the item.
+    let room = header.header().len().saturating_mul(3);
+    let mut text = FileBytes::from_vec(Vec::with_capacity(alloc, room)?);
     for item in header.items() {
         text.append(line_of_item(&item).as_slice())?;
     }
-    Ok(())
+    Ok(text)
 }
 
-/// A text with the line that says what the check of a file finds at its end.
-fn append_check(text: FileBytes, file: &[u8]) -> Result<Shown, OutOfMemory>
+/// A text and, at its end, the line that says what the check of a file finds.
+fn with_check(text: FileBytes, file: &[u8]) -> Result<Shown, OutOfMemory>
     ensures text { IfOk result (λ shown. shown.text ≡ text ++ check_text_of file.now) }
     ensures code { IfOk result (λ shown. shown.code ≡ code_number (fault_code file.now)) }
 {

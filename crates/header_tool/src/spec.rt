@@ -72,7 +72,14 @@ fn is_ext(text: &str) -> bool
 fn are_printed(text: &str) -> bool
     ensures { result ≡ list_all is_printed_octet text.now }
 {
-    text.as_bytes().iter().all(|octet| matches!(*octet, b' '..=b'~'))
+    text.as_bytes().iter().all(|octet| is_printed(*octet))
+}
+
+/// Whether an octet is a printed character of ASCII, or a blank.
+fn is_printed(octet: u8) -> bool
+    ensures { result ≡ is_printed_octet octet }
+{
+    matches!(octet, b' '..=b'~')
 }
 
 /// Whether a text fits an item.
