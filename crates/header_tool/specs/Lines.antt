@@ -7,7 +7,7 @@ use Rattle.pfh_items.specs.Layout.{ItemValue, HeaderValue}
 
 -- an item's id, as four hexadecimal digits
 abbrev pub id_text : ℕ → List ℕ
-id_text id = encode_lower (id / 256 ∷ id % 256 ∷ [])
+id_text id = encode_lower (id / 256 % 256 ∷ id % 256 ∷ [])
 
 -- an item's data: a blank, and two hexadecimal digits for each octet; nothing where there is no octet
 abbrev pub content_text : List ℕ → List ℕ

@@ -4,7 +4,7 @@ use Rattle.std.specs.List.{list_all}
 use Rattle.std.specs.Option.{option_copied}
 use Rattle.pfh_items.specs.Faults.{IsFaultless}
 use Rattle.pfh_items.specs.Layout.{ItemValue}
-use Rattle.pfh_writer.specs.Built.{BuilderValue, built_items, item, passing_len}
+use Rattle.pfh_writer.specs.Built.{BuilderValue, built_items, item, passing_len, put_refusal}
 use Rattle.header_tool.specs.declared.refusal.MakeRefusal.{MakeRefusal}
 use Rattle.header_tool.specs.declared.refusal.MakeRefusal.TheVariants.{BadName, BadExt, LongText, TooLong, OutOfMemory}
 use Rattle.header_tool.specs.declared.spec.MakeSpec.{MakeSpec}
@@ -52,17 +52,33 @@ abbrev pub fits_if_given : Option (List ℕ) → Bool
 fits_if_given None = true
 fits_if_given (Some text) = fits_item text
 
+-- whether each text fits an item
+abbrev pub has_short_texts : MakeValue → Bool
+has_short_texts spec = fits_item spec.source && fits_if_given spec.destination && fits_if_given spec.title
+
 -- Why no header is made of this, whatever the body: the first of three causes.
 abbrev pub spec_refusal : MakeValue → Option MakeRefusal
 spec_refusal spec =
     if not (is_name spec.name) then Some BadName
     else if not (is_ext spec.ext) then Some BadExt
-    else if not (fits_item spec.source && fits_if_given spec.destination && fits_if_given spec.title) then Some LongText
+    else if not (has_short_texts spec) then Some LongText
     else None
 
 -- a text, padded with blanks to this length
 abbrev pub padded : ℕ → List ℕ → List ℕ
 padded len text = text ++ replicate (len - length text) 0x20
+
+-- a call that isn't known yet: six blanks
+abbrev pub no_call : List ℕ
+no_call = 0x20 ∷ 0x20 ∷ 0x20 ∷ 0x20 ∷ 0x20 ∷ 0x20 ∷ []
+
+-- a moment that isn't known yet, or none
+abbrev pub no_moment : List ℕ
+no_moment = 0 ∷ 0 ∷ 0 ∷ 0 ∷ []
+
+-- a count, or a priority, that is 0
+abbrev pub nought : List ℕ
+nought = 0 ∷ []
 
 -- the items of a message with a destination, and none of one without: those that name its ends, and those that a server
 -- fills in
@@ -70,20 +86,36 @@ abbrev pub message_items : List ℕ → Option (List ℕ) → List ItemValue
 message_items source None = []
 message_items source (Some destination) =
     item 0x10 source  -- source
-    ∷ item 0x11 (0x20 ∷ 0x20 ∷ 0x20 ∷ 0x20 ∷ 0x20 ∷ 0x20 ∷ [])  -- ax25_uploader
-    ∷ item 0x12 (0 ∷ 0 ∷ 0 ∷ 0 ∷ [])  -- upload_time
-    ∷ item 0x13 (0 ∷ [])  -- download_count
+    ∷ item 0x11 no_call  -- ax25_uploader
+    ∷ item 0x12 no_moment  -- upload_time
+    ∷ item 0x13 nought  -- download_count
     ∷ item 0x14 destination  -- destination
-    ∷ item 0x15 (0x20 ∷ 0x20 ∷ 0x20 ∷ 0x20 ∷ 0x20 ∷ 0x20 ∷ [])  -- ax25_downloader
-    ∷ item 0x16 (0 ∷ 0 ∷ 0 ∷ 0 ∷ [])  -- download_time
-    ∷ item 0x17 (0 ∷ 0 ∷ 0 ∷ 0 ∷ [])  -- expire_time
-    ∷ item 0x18 (0 ∷ [])  -- priority
+    ∷ item 0x15 no_call  -- ax25_downloader
+    ∷ item 0x16 no_moment  -- download_time
+    ∷ item 0x17 no_moment  -- expire_time
+    ∷ item 0x18 nought  -- priority
     ∷ []
 
 -- the item of a title, where there is one
 abbrev pub title_items : Option (List ℕ) → List ItemValue
 title_items None = []
 title_items (Some title) = item 0x22 title ∷ []
+
+-- a builder with these other items
+abbrev pub with_others : BuilderValue → List ItemValue → BuilderValue
+with_others builder items = record builder { others = items }
+
+-- with these items more
+abbrev pub with_more : BuilderValue → List ItemValue → BuilderValue
+with_more builder items = with_others builder (builder.others ++ items)
+
+-- with one item more, of this id and with this data
+abbrev pub with_item : BuilderValue → ℕ → List ℕ → BuilderValue
+with_item builder id content = with_more builder (item id content ∷ [])
+
+-- a builder takes an item of this id with this data
+abbrev pub Takes : BuilderValue → ℕ → List ℕ → Type 0
+Takes builder id content = put_refusal builder.others id content ≡ None
 
 -- what the header's builder is given: both times are the same, and seu_flag is 0
 abbrev pub made_builder : MakeValue → BuilderValue

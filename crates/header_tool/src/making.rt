@@ -1,8 +1,8 @@
 //! The making of a file.
 
-ghost use Rattle.std.specs.Prelude.{◌≡◌, ◌≤◌, ◌++◌, ◌∷◌, [], length, true, None, option_copied, IfOk, OnOk, IsOkUnless, MatchOption};
-ghost use Rattle.header_tool.specs.Made.{IsMade, IsRefused, fits_if_given, fits_item, made_builder, make_refusal, make_value, message_items, padded as padded_text, spec_refusal, title_items};
-ghost use Rattle.pfh_writer.specs.Built.{item as item_of, put_refusal};
+ghost use Rattle.std.specs.Prelude.{◌≡◌, ◌≤◌, [], length, true, None, option_copied, IfOk, OnOk, IsOkUnless, MatchOption};
+ghost use Rattle.header_tool.specs.Made.{IsMade, IsRefused, fits_if_given, fits_item, made_builder, make_refusal, make_value, padded as padded_text, spec_refusal};
+ghost use Rattle.header_tool.specs.Made.{Takes, message_items, no_call, no_moment, nought, title_items, with_item, with_more, with_others};
 
 use crate::{MakeRefusal, MakeSpec};
 use pfh_items::{
@@ -12,12 +12,6 @@ use pfh_items::{
 use pfh_writer::{FinishRefusal, HeaderBuilder, PutRefusal};
 use px_base::{FileBytes, OutOfMemory};
 use std::alloc::Global;
-
-/// A call that isn't known yet.
-const NO_CALL: [u8; 6] = [b' '; 6];
-
-/// A moment that isn't known yet, or none.
-const NO_MOMENT: [u8; 4] = [0; 4];
 
 /// Makes a file of a body and of what its header is to say: the mandatory items in ascending order, with file_number and
 /// seu_flag 0 and both times the same; with a destination also source, ax25_uploader (blanks), upload_time (0),
@@ -72,26 +66,26 @@ fn put_message(
     requires none { builder.old.others ≡ [] }
     requires source { fits_item source.now ≡ true }
     requires destination { fits_if_given (option_copied destination) ≡ true }
-    ensures { OnOk result (builder.new ≡ record builder.old { others = message_items source.now (option_copied destination) }) }
+    ensures { OnOk result (builder.new ≡ with_others builder.old (message_items source.now (option_copied destination.entry))) }
 {
     let Some(destination) = destination else {
         return Ok(());
     };
     put(builder, SOURCE, source.as_bytes())?;
-    put(builder, AX25_UPLOADER, &NO_CALL)?;
-    put(builder, UPLOAD_TIME, &NO_MOMENT)?;
-    put(builder, DOWNLOAD_COUNT, &[0])?;
+    put_no_call(builder, AX25_UPLOADER)?;
+    put_no_moment(builder, UPLOAD_TIME)?;
+    put_nought(builder, DOWNLOAD_COUNT)?;
     put(builder, DESTINATION, destination.as_bytes())?;
-    put(builder, AX25_DOWNLOADER, &NO_CALL)?;
-    put(builder, DOWNLOAD_TIME, &NO_MOMENT)?;
-    put(builder, EXPIRE_TIME, &NO_MOMENT)?;
-    put(builder, PRIORITY, &[0])
+    put_no_call(builder, AX25_DOWNLOADER)?;
+    put_no_moment(builder, DOWNLOAD_TIME)?;
+    put_no_moment(builder, EXPIRE_TIME)?;
+    put_nought(builder, PRIORITY)
 }
 
 /// Puts the title after the other items, if there is one.
 fn put_title(builder: &mut HeaderBuilder, title: Option<&str>) -> Result<(), OutOfMemory>
     requires { fits_if_given (option_copied title) ≡ true }
-    ensures { OnOk result (builder.new ≡ record builder.old { others = builder.old.others ++ title_items (option_copied title) }) }
+    ensures { OnOk result (builder.new ≡ with_more builder.old (title_items (option_copied title.entry))) }
 {
     let Some(title) = title else {
         return Ok(());
@@ -99,10 +93,34 @@ fn put_title(builder: &mut HeaderBuilder, title: Option<&str>) -> Result<(), Out
     put(builder, TITLE, title.as_bytes())
 }
 
+/// Puts a call that isn't known yet, of blanks.
+fn put_no_call(builder: &mut HeaderBuilder, id: u16) -> Result<(), OutOfMemory>
+    requires { Takes builder.old id no_call }
+    ensures { OnOk result (builder.new ≡ with_item builder.old id no_call) }
+{
+    put(builder, id, &[b' '; 6])
+}
+
+/// Puts a moment that isn't known yet, or none: 0.
+fn put_no_moment(builder: &mut HeaderBuilder, id: u16) -> Result<(), OutOfMemory>
+    requires { Takes builder.old id no_moment }
+    ensures { OnOk result (builder.new ≡ with_item builder.old id no_moment) }
+{
+    put(builder, id, &[0; 4])
+}
+
+/// Puts a count, or a priority, that is 0.
+fn put_nought(builder: &mut HeaderBuilder, id: u16) -> Result<(), OutOfMemory>
+    requires { Takes builder.old id nought }
+    ensures { OnOk result (builder.new ≡ with_item builder.old id nought) }
+{
+    put(builder, id, &[0])
+}
+
 /// Puts an item that the builder takes.
 fn put(builder: &mut HeaderBuilder, id: u16, bytes: &[u8]) -> Result<(), OutOfMemory>
-    requires { put_refusal builder.old.others id bytes.now ≡ None }
-    ensures { OnOk result (builder.new ≡ record builder.old { others = builder.old.others ++ item_of id bytes.now ∷ [] }) }
+    requires { Takes builder.old id bytes.now }
+    ensures { OnOk result (builder.new ≡ with_item builder.old id bytes.now) }
 {
     match builder.put(id, bytes) {
         Ok(()) => Ok(()),

@@ -1,8 +1,8 @@
 //! What a file's header is made of.
 
-ghost use Rattle.std.specs.Prelude.{◌≡◌, ◌≤◌, length, option_copied};
-ghost use Rattle.header_tool.specs.Made.{fits_if_given as fits_where_given, fits_item as fits_an_item, is_ext as is_ext_text, is_name as is_name_text, is_printed as is_printed_octet, make_value, spec_refusal};
+ghost use Rattle.std.specs.Prelude.{◌≡◌, option_copied};
 ghost use Rattle.std.specs.List.{list_all};
+ghost use Rattle.header_tool.specs.Made.{fits_if_given as fits_where_given, fits_item as fits_an_item, has_short_texts as has_only_short_texts, is_ext as is_ext_text, is_name as is_name_text, is_printed as is_printed_octet, make_value, spec_refusal};
 
 use crate::MakeRefusal;
 
@@ -48,7 +48,7 @@ impl<'a> MakeSpec<'a> {
 
     /// Whether each text fits an item.
     fn has_short_texts(&self) -> bool
-        ensures { result ≡ (fits_an_item self.now.source.now && fits_where_given (option_copied self.now.destination) && fits_where_given (option_copied self.now.title)) }
+        ensures { result ≡ has_only_short_texts (make_value self.now) }
     {
         fits_item(self.source) && fits_if_given(self.destination) && fits_if_given(self.title)
     }
@@ -91,7 +91,7 @@ fn fits_item(text: &str) -> bool
 
 /// The same of a text that may be left out.
 fn fits_if_given(text: Option<&str>) -> bool
-    ensures { result ≡ fits_where_given (option_copied text) }
+    ensures { result ≡ fits_where_given (option_copied text.entry) }
 {
     match text {
         Some(text) => fits_item(text),
