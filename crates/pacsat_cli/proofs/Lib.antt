@@ -11,3 +11,4 @@ pub mod RunRefused
 pub mod RunSession
 pub mod Serving
 pub mod Six
+pub mod Uploads

@@ -11,3 +11,4 @@ pub mod SessionRan
 pub mod Status
 pub mod Stops
 pub mod Taking
+pub mod Uploaded
