@@ -1,41 +1,29 @@
 -- Each list of words has one meaning.
-use Rattle.std.proofs.Common.{◌≡◌, ◌≤◌, ◌⊎◌, ℕ, true, false, List, [], ◌∷◌, ◌++◌, length, Option, None, Some, refl, sym, ap, ◌∙◌, subst, arith, inl, inr, codes, true≢false, append_assoc, is_some, lit<, length-append}
+use Rattle.std.proofs.Common.{◌≡◌, ◌≤◌, ◌⊎◌, ℕ, List, [], ◌∷◌, ◌++◌, length, Option, None, Some, refl, sym, ap, ◌∙◌, subst, arith, inl, inr, codes, true≢false, append_assoc, is_some, length-append}
 use Rattle.std.specs.Prelude.{Contains, IsSome}
 use Rattle.std.specs.Str.{bytes_eq}
 use Rattle.std.proofs.lemmas.Bool.{cases_Bool}
 use Rattle.px_base.specs.CallSign.{CallSign, CallText}
 use Rattle.px_base.proofs.Calls.{one_call}
-use Rattle.command_words.specs.Grammar.{Reading, places_of, values_of}
+use Rattle.command_words.specs.Grammar.{line_places}
 use Rattle.command_words.specs.Laws.{AsksFrames, AsksSession, Determined, OnlyOne}
-use Rattle.command_words.specs.Lines.{IsTaken}
-use Rattle.command_words.specs.Numbers.{NumberText}
-use Rattle.command_words.specs.Words.{BeyondSession, GivesNumber, IsAir, IsFrames, IsHostPort, IsSession, IsSomeSession, IsUnbuilt, IsUsage, SessionText, SessionWords, session_options, unbuilt_commands}
+use Rattle.command_words.specs.Words.{BeyondSession, GivesNumber, IsAir, IsHostPort, IsNamed, IsSession, IsSomeSession, IsUnbuilt, IsUsage, NameText, NeedsNeither, SessionText, SessionWords, unbuilt_commands}
 use Rattle.command_words.proofs.Uses.{Text, text_eq, text_same}
 use Rattle.command_words.proofs.Machine.{is_name, is_name-to, is_name-from}
-use Rattle.command_words.proofs.Meanings.{built_frames, built_session, frames_command, frames_taken, frames_usage, one_reading, other_command, session_command, session_is_not_frames, session_usage, text_taken}
-use Rattle.command_words.proofs.Decided.{GivesText, air_decided, taken_decided, text_decided}
+use Rattle.command_words.proofs.Meanings.{built_frames, built_session, frames_usage, neither_command, neither_from, neither_text, one_text, other_command, same_places, session_command, session_given, session_is_not_frames, session_usage}
+use Rattle.command_words.proofs.Decided.{Decided, GivesText, air_decided, line_decided, text_decided}
 
--- ---- two readings
+-- ---- two lines
 
--- the texts of two sessions of the same words have the same place and values
-same_texts : {others : List Text} {caller other : CallSign} {moment blocks polls moment2 blocks2 polls2 : Option ℕ}
-    (one : SessionText others caller moment blocks polls) (two : SessionText others other moment2 blocks2 polls2)
-    → (one.call_text ≡ two.call_text) × ((name : Text) → Contains session_options name → values_of one.reading name ≡ values_of two.reading name)
-unfolding text_taken
-same_texts {others} one two =
-    let (places, options) = one_reading session_options (codes "caller") refl others (text_taken one) (text_taken two) in
-    let same : one.call_text ∷ [] ≡ two.call_text ∷ [] = sym one.place ∙ places ∙ two.place in
-    (cc, options)
-
-gives_same : (low high : ℕ) (texts : List Text) (one two : Option ℕ) → GivesNumber low high texts one → GivesNumber low high texts two → one ≡ two
-gives_same low high texts None None e f = refl
-gives_same low high texts None (Some n) e (text, f, is) = let no : [] ≡ text ∷ [] = sym e ∙ f in absurd cc
-gives_same low high texts (Some m) None (text, e, is) f = let no : text ∷ [] ≡ [] = sym e ∙ f in absurd cc
-gives_same low high texts (Some m) (Some n) (text, e, is) (other, f, is2) =
-    let both : text ∷ [] ≡ other ∷ [] = sym e ∙ f in
+gives_same : (low high : ℕ) (value : Option Text) (one two : Option ℕ) → GivesNumber low high value one → GivesNumber low high value two → one ≡ two
+gives_same low high value None None e f = refl
+gives_same low high value None (Some n) e (text, f, is) = let no : None ≡ Some text = sym e ∙ f in absurd cc
+gives_same low high value (Some m) None (text, e, is) f = let no : Some text ≡ None = sym e ∙ f in absurd cc
+gives_same low high value (Some m) (Some n) (text, e, is) (other, f, is2) =
+    let both : Some text ≡ Some other = sym e ∙ f in
     let same : text ≡ other = cc in
-    let value : m ≡ n = is.value ∙ ap (Rattle.command_words.specs.Numbers.number_after 0) same ∙ sym is2.value in
-    ap (λ (k : ℕ). Some k) value
+    let number : m ≡ n = is.value ∙ ap (Rattle.command_words.specs.Numbers.number_after 0) same ∙ sym is2.value in
+    ap (λ (k : ℕ). Some k) number
 
 same_caller : (one other : CallSign) (text : Text) → CallText one text → CallText other text → one ≡ other
 same_caller one other text s t =
@@ -52,13 +40,15 @@ pub record Same (caller other : CallSign) (moment moment2 blocks blocks2 polls p
 same_asked : {others : List Text} {caller other : CallSign} {moment blocks polls moment2 blocks2 polls2 : Option ℕ}
     → SessionText others caller moment blocks polls → SessionText others other moment2 blocks2 polls2 → Same caller other moment moment2 blocks blocks2 polls polls2
 same_asked {caller = caller} {other = other} {moment = moment} {blocks = blocks} {polls = polls} {moment2 = moment2} {blocks2 = blocks2} {polls2 = polls2} one two =
-    let (texts, options) = same_texts one two in
+    let first = one.given in
+    let second = session_given two one.line in
+    let both : first.call_text ∷ [] ≡ second.call_text ∷ [] = sym first.place ∙ second.place in
+    let text : first.call_text ≡ second.call_text = cc in
     record {
-      callers = same_caller caller other two.call_text (subst (λ (t : Text). CallText caller t) texts one.call) two.call;
-      moments = gives_same 0 4294967295 _ moment moment2 (subst (λ (ts : List Text). GivesNumber 0 4294967295 ts moment) (options (codes "moment") (0, lit< tt, refl)) one.moment_given) two.moment_given;
-      blocks_nos = gives_same 1 65536 _ blocks blocks2 (subst (λ (ts : List Text). GivesNumber 1 65536 ts blocks) (options (codes "blocks") (1, lit< tt, refl)) one.blocks_given) two.blocks_given;
-      polls_nos = gives_same 1 18446744073709551615 _ polls polls2
-          (subst (λ (ts : List Text). GivesNumber 1 18446744073709551615 ts polls) (options (codes "polls") (2, lit< tt, refl)) one.polls_given) two.polls_given;
+      callers = same_caller caller other second.call_text (subst (λ (t : Text). CallText caller t) text first.call) second.call;
+      moments = gives_same 0 4294967295 _ moment moment2 first.moment_given second.moment_given;
+      blocks_nos = gives_same 1 65536 _ blocks blocks2 first.blocks_given second.blocks_given;
+      polls_nos = gives_same 1 18446744073709551615 _ polls polls2 first.polls_given second.polls_given;
     }
 
 same_words : {words : List Text} {disk air disk2 air2 : Text} {caller other : CallSign} {moment blocks polls moment2 blocks2 polls2 : Option ℕ}
@@ -121,29 +111,32 @@ only_one words = record {
 
 -- ---- determined
 
--- words have at most one place that is alone
-one_place : (others : List Text) (name other : Text) (two : Reading [] others) → places_of two ≡ other ∷ [] → (one : Reading [] others) → places_of one ≡ name ∷ [] → name ≡ other
-one_place others name other two second_place one first_place =
-    let none : (option : Text) → Contains [] option → ⊥ = λ option known. let inside = known.1 in omega arith in
-    let first : IsTaken [] others = record { reading = one; text = name; place = first_place; single = λ option known. absurd (none option known) } in
-    let second : IsTaken [] others = record { reading = two; text = other; place = second_place; single = λ option known. absurd (none option known) } in
-    let same : name ∷ [] ≡ other ∷ [] = sym first_place ∙ (one_reading [] (codes "name") refl others first second).0 ∙ second_place in
+-- words have one NAME
+name_same : {others : List Text} (name other : Text) → NameText name others → NameText other others → name ≡ other
+name_same name other one two =
+    let same : name ∷ [] ≡ other ∷ [] = sym one.place ∙ same_places [] (codes "name" ∷ []) refl refl one.line two.line ∙ two.place in
     cc
 
-frames_same : (words : List Text) (name other : Text) → IsFrames words name → IsFrames words other → name ≡ other
-frames_same words name other one two =
+-- words of one command are its others, whatever is said of them
+neither_same : {command : Text} {P Q : List Text → Type 0} {words : List Text} → NeedsNeither command P words → NeedsNeither command Q words
+    → (others : List Text) × P others × Q others
+neither_same {Q = Q} one two =
     let e = one.written in
     let f = two.written in
     let same : two.others ≡ one.others = cc in
-    subst (λ (others : List Text). (reading : Reading [] others) → places_of reading ≡ name ∷ [] → name ≡ other) same
-    (λ reading place. one_place two.others name other two.reading two.place reading place) one.reading one.place
+    (one.others, one.text, subst Q same two.text)
+
+named_same : (command : Text) (words : List Text) (name other : Text) → IsNamed command words name → IsNamed command words other → name ≡ other
+named_same command words name other one two =
+    let (others, first, second) = neither_same one two in
+    name_same name other first second
 
 pub determined : (words : List Text) → Determined words
 determined words = record {
   session = λ caller other moment later one two.
       let (disk, air, same) = same_words one two in
       (same.callers, same.moments);
-  frames = λ name other one two. frames_same words name other one two;
+  frames = λ name other one two. named_same (codes "frames") words name other one two;
 }
 
 -- ---- some meaning
@@ -216,37 +209,42 @@ session_meant disk air others = elim (text_decided others) [
         let same : some.air ≡ air = cc in
         subst IsAir same some.session.air_form
 
-frames_meant : (disk air : Text) (others : List Text) → Meant (disk ∷ air ∷ codes "frames" ∷ others)
-frames_meant disk air others = elim (taken_decided [] (codes "name") refl others) [
-  | inr none ↦ inl (frames_usage refl (λ d name frames. none (frames_taken frames)))
-  | inl taken ↦ elim (form (air_decided air) (cases_Bool (bytes_eq air (codes "none")))) [
-    | inl is ↦ inr (inr (inr (taken.text, record { disk = disk; air = air; others = others; written = refl; air_form = is; reading = taken.reading; place = taken.place })))
-    | inr none ↦ inl (frames_usage refl (λ d name frames. none (in_form d name frames)))
-  ]
-]
-  where
-    form : (air ≡ codes "-") ⊎ (IsHostPort air ⊎ (IsAir air → ⊥)) → (bytes_eq air (codes "none") ≡ true) ⊎ (bytes_eq air (codes "none") ≡ false)
-        → ((air ≡ codes "none") ⊎ IsAir air) ⊎ ((air ≡ codes "none") ⊎ IsAir air → ⊥)
-    form (inl standard) nothing = inl (inr (inl standard))
-    form (inr (inl host_port)) nothing = inl (inr (inr host_port))
-    form (inr (inr none)) (inl nothing) = inl (inl (text_same air (codes "none") nothing))
-    form (inr (inr none)) (inr other) = inr (λ is. elim is [
+-- AIR has one of its forms
+form_decided : (air : Text) → Decided ((air ≡ codes "none") ⊎ IsAir air)
+form_decided air = elim (air_decided air) [
+  | inl standard ↦ inl (inr (inl standard))
+  | inr (inl host_port) ↦ inl (inr (inr host_port))
+  | inr (inr none) ↦ elim (cases_Bool (bytes_eq air (codes "none"))) [
+    | inl nothing ↦ inl (inl (text_same air (codes "none") nothing))
+    | inr other ↦ inr (λ is. elim is [
       | inl same ↦ true≢false (sym (text_eq air (codes "none") same) ∙ other)
       | inr an_air ↦ none an_air
     ])
+  ]
+]
 
-    in_form : (d name : Text) → IsFrames (d ∷ air ∷ codes "frames" ∷ others) name → (air ≡ codes "none") ⊎ IsAir air
-    in_form d name frames =
-        let written = frames.written in
-        let same : frames.air ≡ air = cc in
-        subst (λ (t : Text). (t ≡ codes "none") ⊎ IsAir t) same frames.air_form
+-- a NAME is there, or not
+name_decided : (others : List Text) → Decided ((name : Text) × NameText name others)
+name_decided others = elim (line_decided [] (codes "name" ∷ []) refl refl others) [
+  | inl line ↦ let (name, place) = one_text (line_places line) line.counted in inl (name, record { line = line; place = place })
+  | inr none ↦ inr (λ (name, text). none text.line)
+]
+
+frames_meant : (disk air : Text) (others : List Text) → Meant (disk ∷ air ∷ codes "frames" ∷ others)
+frames_meant disk air others = elim (name_decided others) [
+  | inr none ↦ inl (frames_usage refl (λ d name frames. none (name, (neither_text frames).0)))
+  | inl (name, text) ↦ elim (form_decided air) [
+    | inl is ↦ inr (inr (inr (name, neither_from disk air others is text)))
+    | inr none ↦ inl (frames_usage refl (λ d other frames. none (neither_text frames).1))
+  ]
+]
 
 -- no command
 no_command : {words : List Text} {d a c : Text} {others : List Text} → words ≡ d ∷ a ∷ c ∷ others → (c ≡ codes "session" → ⊥) → (c ≡ codes "frames" → ⊥)
     → (Contains unbuilt_commands c → ⊥) → IsUsage words
 no_command whole session frames unbuilt (inl other) = unbuilt (other_command whole other)
 no_command whole session frames unbuilt (inr (inl some)) = session (session_command whole some)
-no_command whole session frames unbuilt (inr (inr (name, asks))) = frames (frames_command whole asks)
+no_command whole session frames unbuilt (inr (inr (name, asks))) = frames (neither_command whole asks)
 
 pub has_meaning : (words : List Text) → Meant words
 has_meaning [] = inl (few [] (omega arith))

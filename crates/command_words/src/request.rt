@@ -1,10 +1,11 @@
 //! What the words ask for.
 
-ghost use Rattle.std.specs.Prelude.{◌≡◌, ◌<◌, ◌^◌, ◌∷◌, ℕ, List, Option, IfNone, IfOk, IfSome, IsErrOf, codes, drop, map, option_copied, option_to_list, string_bytes};
+ghost use Rattle.std.specs.Prelude.{◌≡◌, ◌<◌, ◌^◌, ◌∷◌, ℕ, List, Option, IfNone, IfOk, IfSome, IsErrOf, codes, drop, map, option_copied, string_bytes};
 ghost use Rattle.std.specs.List.{list_any};
 ghost use Rattle.std.specs.Str.{bytes_eq};
 ghost use Rattle.px_base.specs.CallSign.{CallSign};
 ghost use Rattle.command_words.specs.Asked.{AsksFor};
+ghost use Rattle.command_words.specs.declared.request.Refusal.TheVariants.{OutOfMemory as refused_memory};
 ghost use Rattle.command_words.specs.Words.{BeyondSession, GivesNumber, IsFrames, IsSomeSession, IsUnbuilt, IsUsage, NamesBuilt, SessionText, unbuilt_commands};
 
 use crate::air::{AirWord, read_air};
@@ -12,7 +13,7 @@ use crate::line;
 use crate::number::read_number;
 use crate::words::Words;
 use px_base::Call;
-use std::alloc::Global;
+use std::alloc::{AllocError, Global};
 use thiserror::Error;
 
 /// The last moment that can be told, in seconds since 1 January 1970.
@@ -54,6 +55,14 @@ pub enum Refusal {
     /// There was no memory to read them.
     #[error("out of memory")]
     OutOfMemory,
+}
+
+impl From<AllocError> for Refusal {
+    ghost from_gives = { λ _ refusal. refusal ≡ refused_memory };
+
+    fn from(_refused: AllocError) -> Refusal {
+        Refusal::OutOfMemory
+    }
 }
 
 /// What the words after `session` give.
@@ -170,9 +179,9 @@ fn read_texts(alloc: Global, line: &[String]) -> Result<SessionAsked, Refusal>
 
 /// The number of this range that an option's value writes, where it is given; or nothing where a value writes none.
 fn optional_number(low: u64, high: u64, value: Option<&str>) -> Option<Option<u64>>
-    ensures some { IfSome result (λ number. GivesNumber low high (option_to_list (option_copied value.entry)) number) }
+    ensures some { IfSome result (λ number. GivesNumber low high (option_copied value.entry) number) }
     ensures none { IfNone result ((number : Option ℕ) →
-        GivesNumber low high (option_to_list (option_copied value.entry)) number → ⊥) }
+        GivesNumber low high (option_copied value.entry) number → ⊥) }
 {
     match value {
         Some(text) => read_number(low, high, text).map(Some),
@@ -199,6 +208,6 @@ fn frames_request<'a>(alloc: Global, air: &str, line: &'a [String]) -> Result<Re
     if read_air(air).is_none() {
         return Err(Refusal::Usage);
     }
-    let name = line::read_frames(alloc, line)?;
+    let name = line::read_name(alloc, "frames", line)?;
     Ok(Request::Frames { name })
 }
