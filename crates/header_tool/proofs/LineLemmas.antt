@@ -1,14 +1,13 @@
 -- The text that shows a header, by the items and the fault of its file.
-use Rattle.std.proofs.Common.{◌≡◌, ℕ, List, [], ◌∷◌, ◌++◌, Option, Some, None, option_map, refl, sym, ap, ◌∙◌, subst, append_assoc, append-nil}
-use Rattle.std.proofs.lemmas.List.Concat.{flat_map-cons}
+use Rattle.std.proofs.Common.{◌≡◌, ℕ, List, Option, Some, None, option_map, refl, ap, ◌∙◌}
 use Rattle.px_base.specs.Octets.{IsOctets}
 use Rattle.pfh_items.specs.declared.fault.FileFault.{FileFault}
 use Rattle.pfh_items.specs.Faults.{IsFound, code_of, fault_code, file_parts, first_fault}
-use Rattle.pfh_items.specs.Layout.{ItemValue, HeaderValue, IsItem, AreItems, FileText}
+use Rattle.pfh_items.specs.Layout.{ItemValue, HeaderValue, FileText}
 use Rattle.pfh_items.proofs.HeaderLemmas.{file_parts-text, FileText-file_parts}
 use Rattle.pfh_items.proofs.FaultLemmas.{first_fault-from, first_fault-none}
 use Rattle.header_tool.specs.Laws.{ChecksFault, ShowsFault, ShowsItems}
-use Rattle.header_tool.specs.Lines.{item_line, item_lines, items_in, last_line, shown_text}
+use Rattle.header_tool.specs.Lines.{items_in, last_line, shown_text}
 
 -- the first fault of a file is the one that is computed
 first_fault-is : (file : List ℕ) (fault : Option FileFault) → IsOctets file → IsFound file fault → first_fault file ≡ fault
@@ -35,23 +34,3 @@ shows_fault file fault h not found =
 
 pub checks_fault : ChecksFault
 checks_fault file fault h found = ap (λ (f : Option FileFault). last_line (option_map code_of f)) (first_fault-is file fault h found)
-
--- the first of the items that are left, and the others
-pub items_more : (item : ItemValue) (before after : List ItemValue) → AreItems before → before ≡ item ∷ after → IsItem item × AreItems after
-items_more item before after are is = subst AreItems is are
-
--- the lines so far, with those of the items that are left, after one more
-pub lines_more : (text now line all : List ℕ) (item : ItemValue) (before after : List ItemValue) → before ≡ item ∷ after → line ≡ item_line item
-    → now ≡ text ++ line → text ++ item_lines before ≡ all → now ++ item_lines after ≡ all
-lines_more text now line all item before after is same more h =
-    ap (λ (t : List ℕ). t ++ item_lines after) more
-    ∙ append_assoc text line (item_lines after)
-    ∙ ap (λ (l : List ℕ). text ++ (l ++ item_lines after)) same
-    ∙ ap (λ (l : List ℕ). text ++ l) (sym (flat_map-cons item_line item after))
-    ∙ ap (λ (items : List ItemValue). text ++ item_lines items) (sym is)
-    ∙ h
-
--- and when none is left
-pub lines_all : (text all : List ℕ) (items : List ItemValue) → items ≡ [] → text ++ item_lines items ≡ all → text ≡ all
-lines_all text all items none h =
-    sym (append-nil text) ∙ ap (λ (l : List ItemValue). text ++ item_lines l) (sym none) ∙ h

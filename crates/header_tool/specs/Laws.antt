@@ -1,5 +1,5 @@
 -- Laws of the text that shows a header: it is said of a file's items and fault, whatever way they are found.
-use Rattle.std.specs.Prelude.{◌≡◌, ℕ, List, [], Option, option_map}
+use Rattle.std.specs.Prelude.{◌≡◌, ℕ, List, Option, option_map}
 use Rattle.px_base.specs.Octets.{IsOctets}
 use Rattle.pfh_items.specs.declared.fault.FileFault.{FileFault}
 use Rattle.pfh_items.specs.Faults.{IsFound, code_of}

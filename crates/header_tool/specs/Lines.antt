@@ -1,6 +1,6 @@
 -- The text that shows a file's header: a line for each item, and one that says whether the file keeps the rules of headers
 -- (PFH 1990; FTL0 1990, error codes).
-use Rattle.std.specs.Prelude.{ℕ, ◌/◌, ◌%◌, List, [], ◌∷◌, ◌++◌, length, flat_map, codes, decimal, Option, Some, None, unwrap_or}
+use Rattle.std.specs.Prelude.{◌≡◌, ◌≢◌, ℕ, ◌/◌, ◌%◌, List, [], ◌∷◌, ◌++◌, length, flat_map, codes, decimal, Option, Some, None}
 use Rattle.hex.specs.Hex.{encode_lower}
 use Rattle.pfh_items.specs.Faults.{fault_code, file_parts}
 use Rattle.pfh_items.specs.Layout.{ItemValue, HeaderValue}
@@ -27,9 +27,10 @@ abbrev pub last_line : Option ℕ → List ℕ
 last_line None = codes "ok\n"
 last_line (Some code) = codes "fault " ++ decimal code ++ codes "\n"
 
--- the code of a fault, or 0 where there is none
-abbrev pub code_number : Option ℕ → ℕ
-code_number code = unwrap_or code 0
+-- The number is the code of a fault, which is never 0, or it is 0 where there is none.
+abbrev pub IsCodeOf : Option ℕ → ℕ → Type 0
+IsCodeOf None number = number ≡ 0
+IsCodeOf (Some code) number = (number ≡ code) × (number ≢ 0)
 
 -- the items of a file that is a header and a body, and none of another
 abbrev pub items_in : Option HeaderValue → List ItemValue

@@ -1,7 +1,7 @@
 //! The text that shows a file's header, and that of its check.
 
-ghost use Rattle.std.specs.Prelude.{◌≡◌, ◌++◌, IfOk};
-ghost use Rattle.header_tool.specs.Lines.{check_text_of, code_number, header_text_of, item_lines};
+ghost use Rattle.std.specs.Prelude.{◌≡◌, ◌≢◌, ◌++◌, IfOk, IfSome};
+ghost use Rattle.header_tool.specs.Lines.{IsCodeOf, check_text_of, header_text_of, item_lines};
 ghost use Rattle.pfh_items.specs.Faults.{fault_code};
 
 use crate::line::{line_of_check, line_of_item};
@@ -24,7 +24,7 @@ pub struct Shown {
 /// last line alone. Takes memory for the text.
 pub fn show(alloc: Global, file: &[u8]) -> Result<Shown, OutOfMemory>
     ensures text { IfOk result (λ shown. shown.text ≡ header_text_of file.now) }
-    ensures code { IfOk result (λ shown. shown.code ≡ code_number (fault_code file.now)) }
+    ensures code { IfOk result (λ shown. IsCodeOf (fault_code file.now) shown.code) }
 {
     let items = match Header::of_file(file) {
         Some(header) => text_of_items(alloc, &header)?,
@@ -37,7 +37,7 @@ pub fn show(alloc: Global, file: &[u8]) -> Result<Shown, OutOfMemory>
 /// memory for the text.
 pub fn check_line(alloc: Global, file: &[u8]) -> Result<Shown, OutOfMemory>
     ensures text { IfOk result (λ shown. shown.text ≡ check_text_of file.now) }
-    ensures code { IfOk result (λ shown. shown.code ≡ code_number (fault_code file.now)) }
+    ensures code { IfOk result (λ shown. IsCodeOf (fault_code file.now) shown.code) }
 {
     with_check(FileBytes::new(alloc), file)
 }
@@ -58,7 +58,7 @@ fn text_of_items(alloc: Global, header: &Header<'_>) -> Result<FileBytes, OutOfM
 /// A text and, at its end, the line that says what the check of a file finds.
 fn with_check(text: FileBytes, file: &[u8]) -> Result<Shown, OutOfMemory>
     ensures text { IfOk result (λ shown. shown.text ≡ text ++ check_text_of file.now) }
-    ensures code { IfOk result (λ shown. shown.code ≡ code_number (fault_code file.now)) }
+    ensures code { IfOk result (λ shown. IsCodeOf (fault_code file.now) shown.code) }
 {
     let mut text = text;
     let code = first_code(file);
@@ -71,7 +71,8 @@ fn with_check(text: FileBytes, file: &[u8]) -> Result<Shown, OutOfMemory>
 
 /// The code of a file's first fault, if it has one.
 fn first_code(file: &[u8]) -> Option<u8>
-    ensures { result ≡ fault_code file.now }
+    ensures code { result ≡ fault_code file.now }
+    ensures some { IfSome result (λ code. code ≢ 0) }
 {
     match check(file) {
         Ok(_header) => None,
