@@ -158,6 +158,18 @@ module _ (caller : CallSign) (store : Store) (up : Upload) (begun moment : ℕ) 
       ∙ sealed_entry store up.number moment up.rest _ is.entry
       ∙ ap (λ (os : List ℕ). Some (entry_for up begun (complete (stamped (stamp_with up.number up.caller moment) os) moment))) octets
 
+-- the entry of a file of this length, which it has
+abbrev entry_at : List ℕ → ℕ → ℕ → ℕ → CallSign → ℕ → Option Entry
+entry_at file begun moment number by len =
+    Some (record { number = number; caller = by; length = len; begun = begun; holding = complete (stamped (stamp_with number by moment) file) moment })
+
+same_entry : (file : List ℕ) (begun moment number other : ℕ) (by caller : CallSign) (len : ℕ) → number ≡ other → by ≡ caller → len ≡ length file
+    → entry_at file begun moment number by len ≡ Some (kept_entry other caller file begun moment)
+same_entry file begun moment number other by caller len en ec el =
+    ap (λ (n : ℕ). entry_at file begun moment n by len) en
+    ∙ ap (λ (c : CallSign). entry_at file begun moment other c len) ec
+    ∙ ap (λ (l : ℕ). entry_at file begun moment other caller l) el
+
 pub uploaded : UploadedLaw
 uploaded caller store file parts begun moment call is can octets good brings =
     let up : Upload = new_upload store.next caller (length file) in
@@ -176,15 +188,6 @@ uploaded caller store file parts begun moment call is can octets good brings =
           ∙ ap (λ (t : Store). entry_of t store.next) (s.store_is end)
           ∙ ap (λ (n : ℕ). entry_of (store_after caller s.now (receiving s.last.number s.last.rest) end) n) (sym s.number_is)
           ∙ entry
-          ∙ same_entry s.last.number s.last.caller s.last.length s.number_is s.caller_is s.length_is;
+          ∙ same_entry file begun moment s.last.number store.next s.last.caller caller s.last.length s.number_is s.caller_is s.length_is;
       client = (kept_file (stamp_with store.next caller moment) file call good).1 octets;
     }
-  where
-    abbrev entry_at : ℕ → CallSign → ℕ → Option Entry
-    entry_at number by len =
-        Some (record { number = number; caller = by; length = len; begun = begun; holding = complete (stamped (stamp_with number by moment) file) moment })
-
-    same_entry : (number : ℕ) (by : CallSign) (len : ℕ) → number ≡ store.next → by ≡ caller → len ≡ length file
-        → entry_at number by len ≡ Some (kept_entry store.next caller file begun moment)
-    same_entry number by len en ec el =
-        ap (λ (n : ℕ). entry_at n by len) en ∙ ap (λ (c : CallSign). entry_at store.next c len) ec ∙ ap (λ (l : ℕ). entry_at store.next caller l) el
