@@ -1,13 +1,12 @@
 -- The upload of a whole file, packet by packet.
-use Rattle.std.proofs.Common.{◌≡◌, ℕ, ◌+◌, ◌*◌, ◌/◌, ◌≤◌, List, [], ◌∷◌, ◌++◌, length, take, refl, ap, sym, ◌∙◌, subst, arith, length-append, append_assoc, append-nil, true, None, Some, Option, eq-eqb}
+use Rattle.std.proofs.Common.{◌≡◌, ℕ, ◌+◌, ◌*◌, ◌/◌, ◌≤◌, List, [], ◌∷◌, ◌++◌, length, take, refl, ap, sym, ◌∙◌, arith, length-append, append_assoc, append-nil, None, Some, Option, eq-eqb}
 use Rattle.std.specs.Prelude.{Ok}
 use Rattle.std.proofs.lemmas.List.{length-take-le, take-append-drop}
-use Rattle.px_base.specs.CallSign.{CallSign, IsCall}
-use Rattle.px_base.specs.Octets.{IsOctets}
+use Rattle.px_base.specs.CallSign.{CallSign}
 use Rattle.ftl0_packets.specs.Layout.{Item, PacketValue, data_end, ul_ack_resp, ul_go_resp}
 use Rattle.pfh_items.specs.Faults.{fault_code}
 use Rattle.pfh_items.specs.Stamp.{stamped}
-use Rattle.file_store.specs.Command.{after, after_all, begin, can_begin, grown, last_grow, seal, sealed, unfilled_block, whole_grows, with_holding}
+use Rattle.file_store.specs.Command.{after, after_all, begin, grown, last_grow, seal, sealed, unfilled_block, whole_grows}
 use Rattle.file_store.specs.IsStore.{IsStore}
 use Rattle.file_store.specs.Store.{Entry, Store, complete, entry_of, octets_at, partial}
 use Rattle.file_store.specs.Upload.{Holds, Upload, appended, entry_for, new_upload}
@@ -16,8 +15,8 @@ use Rattle.file_store.proofs.ClientLemmas.{kept_file}
 use Rattle.file_store.proofs.EntriesLemmas.{find-map-changed, find_past, has_number}
 use Rattle.file_store.proofs.GrowLemmas.{after_all-append, grows-after, last_grow-after}
 use Rattle.pacsat_cli.specs.Events.{Event}
-use Rattle.pacsat_cli.specs.Session.{Row, State, command, on_row, receiving, replies_to, session_row, whole_row}
-use Rattle.pacsat_cli.specs.Uploaded.{BringsFile, IsAcknowledged, UploadedLaw, kept_entry, stamp_with, store_after, upload_events}
+use Rattle.pacsat_cli.specs.Session.{Row, on_row, receiving, replies_to, session_row, whole_row}
+use Rattle.pacsat_cli.specs.Uploaded.{BringsFile, UploadedLaw, kept_entry, stamp_with, store_after}
 use Rattle.pacsat_cli.proofs.Rows.{row-begin, row-data, row-whole}
 
 -- the last grow and the seal leave the entry complete, and its file stamped
