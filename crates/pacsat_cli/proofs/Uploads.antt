@@ -1,13 +1,12 @@
 -- The upload of a whole file, packet by packet.
-use Rattle.std.proofs.Common.{◌≡◌, ℕ, ◌+◌, ◌*◌, ◌/◌, ◌≤◌, List, [], ◌∷◌, ◌++◌, length, take, refl, ap, sym, ◌∙◌, subst, arith, length-append, append_assoc, append-nil, true, None, Some, Option, eq-eqb}
+use Rattle.std.proofs.Common.{◌≡◌, ℕ, ◌+◌, ◌*◌, ◌/◌, ◌≤◌, List, [], ◌∷◌, ◌++◌, length, take, refl, ap, sym, ◌∙◌, arith, length-append, append_assoc, append-nil, None, Some, Option, eq-eqb}
 use Rattle.std.specs.Prelude.{Ok}
 use Rattle.std.proofs.lemmas.List.{length-take-le, take-append-drop}
-use Rattle.px_base.specs.CallSign.{CallSign, IsCall}
-use Rattle.px_base.specs.Octets.{IsOctets}
+use Rattle.px_base.specs.CallSign.{CallSign}
 use Rattle.ftl0_packets.specs.Layout.{Item, PacketValue, data_end, ul_ack_resp, ul_go_resp}
 use Rattle.pfh_items.specs.Faults.{fault_code}
 use Rattle.pfh_items.specs.Stamp.{stamped}
-use Rattle.file_store.specs.Command.{after, after_all, begin, can_begin, grown, last_grow, seal, sealed, unfilled_block, whole_grows, with_holding}
+use Rattle.file_store.specs.Command.{after, after_all, begin, grown, last_grow, seal, sealed, unfilled_block, whole_grows}
 use Rattle.file_store.specs.IsStore.{IsStore}
 use Rattle.file_store.specs.Store.{Entry, Store, complete, entry_of, octets_at, partial}
 use Rattle.file_store.specs.Upload.{Holds, Upload, appended, entry_for, new_upload}
@@ -16,8 +15,8 @@ use Rattle.file_store.proofs.ClientLemmas.{kept_file}
 use Rattle.file_store.proofs.EntriesLemmas.{find-map-changed, find_past, has_number}
 use Rattle.file_store.proofs.GrowLemmas.{after_all-append, grows-after, last_grow-after}
 use Rattle.pacsat_cli.specs.Events.{Event}
-use Rattle.pacsat_cli.specs.Session.{Row, State, command, on_row, receiving, replies_to, session_row, whole_row}
-use Rattle.pacsat_cli.specs.Uploaded.{BringsFile, IsAcknowledged, UploadedLaw, kept_entry, stamp_with, store_after, upload_events}
+use Rattle.pacsat_cli.specs.Session.{Row, on_row, receiving, replies_to, session_row, whole_row}
+use Rattle.pacsat_cli.specs.Uploaded.{BringsFile, UploadedLaw, kept_entry, stamp_with, store_after}
 use Rattle.pacsat_cli.proofs.Rows.{row-begin, row-data, row-whole}
 
 -- the last grow and the seal leave the entry complete, and its file stamped
@@ -158,6 +157,18 @@ module _ (caller : CallSign) (store : Store) (up : Upload) (begun moment : ℕ) 
       ∙ sealed_entry store up.number moment up.rest _ is.entry
       ∙ ap (λ (os : List ℕ). Some (entry_for up begun (complete (stamped (stamp_with up.number up.caller moment) os) moment))) octets
 
+-- the entry of a file of this length, which it has
+abbrev entry_at : List ℕ → ℕ → ℕ → ℕ → CallSign → ℕ → Option Entry
+entry_at file begun moment number by len =
+    Some (record { number = number; caller = by; length = len; begun = begun; holding = complete (stamped (stamp_with number by moment) file) moment })
+
+same_entry : (file : List ℕ) (begun moment number other : ℕ) (by caller : CallSign) (len : ℕ) → number ≡ other → by ≡ caller → len ≡ length file
+    → entry_at file begun moment number by len ≡ Some (kept_entry other caller file begun moment)
+same_entry file begun moment number other by caller len en ec el =
+    ap (λ (n : ℕ). entry_at file begun moment n by len) en
+    ∙ ap (λ (c : CallSign). entry_at file begun moment other c len) ec
+    ∙ ap (λ (l : ℕ). entry_at file begun moment other caller l) el
+
 pub uploaded : UploadedLaw
 uploaded caller store file parts begun moment call is can octets good brings =
     let up : Upload = new_upload store.next caller (length file) in
@@ -176,15 +187,6 @@ uploaded caller store file parts begun moment call is can octets good brings =
           ∙ ap (λ (t : Store). entry_of t store.next) (s.store_is end)
           ∙ ap (λ (n : ℕ). entry_of (store_after caller s.now (receiving s.last.number s.last.rest) end) n) (sym s.number_is)
           ∙ entry
-          ∙ same_entry s.last.number s.last.caller s.last.length s.number_is s.caller_is s.length_is;
+          ∙ same_entry file begun moment s.last.number store.next s.last.caller caller s.last.length s.number_is s.caller_is s.length_is;
       client = (kept_file (stamp_with store.next caller moment) file call good).1 octets;
     }
-  where
-    abbrev entry_at : ℕ → CallSign → ℕ → Option Entry
-    entry_at number by len =
-        Some (record { number = number; caller = by; length = len; begun = begun; holding = complete (stamped (stamp_with number by moment) file) moment })
-
-    same_entry : (number : ℕ) (by : CallSign) (len : ℕ) → number ≡ store.next → by ≡ caller → len ≡ length file
-        → entry_at number by len ≡ Some (kept_entry store.next caller file begun moment)
-    same_entry number by len en ec el =
-        ap (λ (n : ℕ). entry_at n by len) en ∙ ap (λ (c : CallSign). entry_at store.next c len) ec ∙ ap (λ (l : ℕ). entry_at store.next caller l) el

@@ -1,5 +1,5 @@
 -- The session of one caller (FTL0 1990, uploading): its states, its table row by row, and a run of it over events.
-use Rattle.std.specs.Prelude.{ℕ, ◌+◌, ◌==◌, List, [], ◌∷◌, ◌++◌, length, flat_map, Bool, true, false, ◌&&◌, ◌||◌, if◌then◌else◌, Option, None, Some, Ok, Err}
+use Rattle.std.specs.Prelude.{ℕ, ◌+◌, ◌==◌, List, [], ◌∷◌, ◌++◌, length, flat_map, Bool, ◌&&◌, ◌||◌, if◌then◌else◌, Option, None, Some, Ok, Err}
 use Rattle.px_base.specs.CallSign.{CallSign}
 use Rattle.ftl0_packets.specs.Layout.{Item, PacketValue, data_part, data_end, kind_of, login_resp, packet_text, ul_ack_resp, ul_error_resp, ul_go_resp, ul_nak_resp, upload_cmd}
 use Rattle.file_store.specs.Command.{Command, begin, drop_entry, seal, after_all, can_begin, has_room, last_grow, passes, unfilled_block, whole_grows}

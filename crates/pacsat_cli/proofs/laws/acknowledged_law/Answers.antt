@@ -1,9 +1,9 @@
 -- The last grow and the seal leave the entry complete, and its file stamped.
-use Rattle.std.proofs.Common.{◌≡◌, ℕ, List, [], ◌∷◌, ◌++◌, refl, ap, ◌∙◌}
-use Rattle.std.specs.Prelude.{None, Some}
+use Rattle.std.proofs.Common.{◌≡◌, ◌++◌, refl, ap, ◌∙◌}
+use Rattle.std.specs.Prelude.{None}
 use Rattle.file_store.proofs.ClientLemmas.{kept_file}
 use Rattle.pfh_items.specs.Faults.{fault_code}
-use Rattle.file_store.specs.Store.{Entry, Store, entry_of, octets_at}
+use Rattle.file_store.specs.Store.{entry_of, octets_at}
 use Rattle.file_store.specs.Upload.{upload_stamp}
 use Rattle.pacsat_cli.proofs.Rows.{row-whole}
 use Rattle.pacsat_cli.proofs.Uploads.{sealed_entry}
