@@ -1,5 +1,5 @@
 -- Each question that the command set asks of the words has an answer.
-use Rattle.std.proofs.Common.{◌≡◌, ◌==◌, ◌<◌, ◌≤◌, ◌⊎◌, ℕ, zero, suc, true, List, [], ◌∷◌, length, take, drop, Option, None, Some, refl, sym, ap, ◌∙◌, subst, arith, inl, inr, codes, true≢false, append_assoc}
+use Rattle.std.proofs.Common.{◌≡◌, ◌==◌, ◌<◌, ◌≤◌, ◌⊎◌, ℕ, zero, suc, true, List, [], ◌∷◌, length, take, drop, Option, None, Some, unwrap_or, refl, sym, ap, ◌∙◌, subst, arith, inl, inr, codes, true≢false, append_assoc}
 use Rattle.std.specs.List.{AllByRecursion, after_first, before_first, list_all}
 use Rattle.std.specs.Str.{bytes_eq}
 use Rattle.std.proofs.lemmas.Bool.{cases_Bool, cases_lt}
@@ -8,15 +8,17 @@ use Rattle.px_base.proofs.Calls.{call_is, cut_of}
 use Rattle.clap.specs.Lexer.{has_byte}
 use Rattle.command_words.specs.Grammar.{Line, line_places, line_value}
 use Rattle.command_words.specs.Lines.{are_places, is_option_name}
+use Rattle.command_words.specs.Made.{MakeValue, may_be_made}
+use Rattle.command_words.specs.Making.{IsNumberOrZero, MakeOptions, MakeSays, MakeText, make_options, options_given}
 use Rattle.command_words.specs.Numbers.{IsDigit, NumberText, number_after}
-use Rattle.command_words.specs.Words.{GivesNumber, IsAir, IsHostPort, SessionText, session_options}
+use Rattle.command_words.specs.Words.{GivesNumber, IsAir, IsHostPort, NameText, SessionText, session_options}
 use Rattle.command_words.proofs.Bytes.{after_first-append, before_first-append, before_first-lacks, has_byte-append, split_at_byte}
 use Rattle.command_words.proofs.HostPorts.{all_lack, lack_all}
 use Rattle.command_words.proofs.Uses.{Text, Uses, text_eq, text_same}
 use Rattle.command_words.proofs.Machine.{run}
 use Rattle.command_words.proofs.Rules.{AreApart}
 use Rattle.command_words.proofs.Readings.{all_good, apart_names, are_given, distinct_places, is_distinct, line-run, run-line, uses_in}
-use Rattle.command_words.proofs.Meanings.{one_text, session_given}
+use Rattle.command_words.proofs.Meanings.{make_says, one_text, says_one, session_given}
 
 abbrev pub Decided : Type 0 → Type 0
 Decided P = P ⊎ (P → ⊥)
@@ -222,4 +224,68 @@ pub text_decided : (others : List Text) → Decided (GivesText others)
 text_decided others = elim (line_decided session_options (codes "caller" ∷ []) refl refl others) [
   | inl line ↦ let (call_text, place) = one_text (line_places line) line.counted in text_from_line others line call_text place
   | inr none ↦ inr (λ (caller, moment, blocks, polls, text). none text.line)
+]
+
+-- a NAME is there, or not
+pub name_decided : (others : List Text) → Decided ((name : Text) × NameText name others)
+name_decided others = elim (line_decided [] (codes "name" ∷ []) refl refl others) [
+  | inl line ↦ let (name, place) = one_text (line_places line) line.counted in inl (name, record { line = line; place = place })
+  | inr none ↦ inr (λ (name, text). none text.line)
+]
+
+-- ---- the words after `pfh-make`
+
+zero_decided : (high : ℕ) (value : Option Text) → Decided ((number : ℕ) × IsNumberOrZero high value number)
+zero_decided high None = inl (0, refl)
+zero_decided high (Some text) = number_decided 0 high text
+
+says_decided : (options : MakeOptions) → Decided ((spec : MakeValue) × MakeSays options spec)
+says_decided options = named options.name refl
+  where
+    named : (name : Option Text) → options.name ≡ name → Decided ((spec : MakeValue) × MakeSays options spec)
+    named None e = inr (λ (spec, says). let none : None ≡ Some spec.name = sym e ∙ says.name in absurd cc)
+    named (Some name) e = elim (zero_decided 255 options.file_type) [
+      | inr none ↦ inr (λ (spec, says). none (spec.file_type, says.file_type))
+      | inl (file_type, type_is) ↦ elim (zero_decided 4294967295 options.time) [
+        | inr none ↦ inr (λ (spec, says). none (spec.time, says.time))
+        | inl (time, time_is) ↦ inl (
+          record {
+            name = name;
+            ext = unwrap_or options.ext [];
+            file_type = file_type;
+            time = time;
+            source = unwrap_or options.source [];
+            destination = options.destination;
+            title = options.title;
+          },
+          record { name = e; ext = refl; file_type = type_is; time = time_is; source = refl; destination = refl; title = refl },
+        )
+      ]
+    ]
+
+-- the words after `pfh-make` ask for a file, or not
+abbrev pub GivesMake : List Text → Type 0
+GivesMake others = (body : Text) × (kept : Text) × (spec : MakeValue) × MakeText body kept spec others
+
+two_texts : (texts : List Text) → length texts ≡ 2 → (one : Text) × (other : Text) × (texts ≡ one ∷ other ∷ [])
+two_texts [] e = absurd (omega arith)
+two_texts (one ∷ []) e = absurd (omega arith)
+two_texts (one ∷ other ∷ []) e = (one, other, refl)
+two_texts (one ∷ other ∷ more ∷ texts) e = absurd (omega arith)
+
+make_on : (others : List Text) (line : Line make_options others 2) (body kept : Text) → line_places line ≡ body ∷ kept ∷ [] → Decided (GivesMake others)
+make_on others line body kept places = elim (says_decided (options_given (line_value line))) [
+  | inr none ↦ inr (λ (b, k, spec, text). none (spec, (make_says text line).1))
+  | inl (spec, says) ↦ elim (cases_Bool (may_be_made spec)) [
+    | inl possible ↦ inl (body, kept, spec, record { line = line; places = places; says = says; possible = possible })
+    | inr impossible ↦ inr (λ (b, k, other, text).
+        let same : other ≡ spec = says_one (options_given (line_value line)) other spec (make_says text line).1 says in
+        true≢false (sym text.possible ∙ ap may_be_made same ∙ impossible))
+  ]
+]
+
+pub make_decided : (others : List Text) → Decided (GivesMake others)
+make_decided others = elim (line_decided make_options (codes "body" ∷ codes "kept" ∷ []) refl refl others) [
+  | inl line ↦ let (body, kept, places) = two_texts (line_places line) line.counted in make_on others line body kept places
+  | inr none ↦ inr (λ (body, kept, spec, text). none text.line)
 ]

@@ -3,8 +3,8 @@ use Rattle.std.proofs.Common.{◌≡◌, true, List, [], ◌∷◌, length, map,
 use Rattle.std.specs.Prelude.{slice_get}
 use Rattle.std.specs.List.{AllByRecursion}
 use Rattle.std.specs.declared.string.String.{String}
-use Rattle.clap.specs.Walk.{first_of, rows_of}
-use Rattle.clap.specs.Simple.{App, HasMatchesOf, matches_of}
+use Rattle.clap.specs.Walk.{Rule, first_of, rows_of}
+use Rattle.clap.specs.Simple.{App, HasMatchesOf, matches_of, with_rule}
 use Rattle.clap.specs.Matches.{first_value, found_of}
 use Rattle.clap.specs.Takes.{takes}
 use Rattle.clap.specs.Faults.{fault_of, is_simple_and_free}
@@ -12,7 +12,8 @@ use Rattle.clap.specs.declared.parser.matches.ArgMatches.{ArgMatches}
 use Rattle.clap.proofs.WalkLemmas.{first_value-rows}
 use Rattle.command_words.specs.declared.request.Refusal.{Refusal}
 use Rattle.command_words.specs.Grammar.{Line}
-use Rattle.command_words.specs.Lines.{IsFound, IsLine, command_of}
+use Rattle.command_words.specs.Lines.{IsFound, IsLine, command_of, make_app, session_app}
+use Rattle.command_words.specs.Making.{make_options}
 use Rattle.command_words.specs.Words.{session_options}
 use Rattle.command_words.proofs.Uses.{Text, Uses, values}
 use Rattle.command_words.proofs.Machine.{is_name-from}
@@ -70,8 +71,15 @@ module _ {Z : Type 0} (app : App) (ids names : List Text) (is : IsLine app ids n
 pub name_line : (command : Text) (app : App) → app ≡ command_of command (codes "name" ∷ []) [] → IsLine app (codes "name" ∷ []) []
 name_line command app e = record { command = command; written = e; placed = refl; apart = refl }
 
-pub session_line : (app : App) → app ≡ command_of (codes "session") (codes "caller" ∷ []) session_options → IsLine app (codes "caller" ∷ []) session_options
+pub session_line : (app : App) → app ≡ session_app → IsLine app (codes "caller" ∷ []) session_options
 session_line app e = record { command = codes "session"; written = e; placed = refl; apart = refl }
+
+pub make_line : (app : App) → app ≡ make_app → IsLine app (codes "body" ∷ codes "kept" ∷ []) make_options
+make_line app e = record { command = codes "pfh-make"; written = e; placed = refl; apart = refl }
+
+-- a rule that is added to what is known
+pub added : {before known after : App} (rule : Rule) → before ≡ known → after ≡ with_rule before rule → after ≡ with_rule known rule
+added rule is more = more ∙ ap (λ (app : App). with_rule app rule) is
 
 -- the texts behind what is got
 copied-map : (o : Option (Bor Text)) → option_copied o ≡ option_map (λ s. s.now) o

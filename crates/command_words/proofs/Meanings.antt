@@ -1,16 +1,25 @@
 -- What the words of the built commands mean, and that they mean only that.
-use Rattle.std.proofs.Common.{◌≡◌, ◌≢◌, ◌≤◌, ◌⊎◌, ℕ, true, List, [], ◌∷◌, length, map, drop, Option, None, Some, refl, sym, ap, ◌∙◌, subst, arith, inl, inr, codes, true≢false, get_or, string_bytes, take, take_all, ◌-◌}
+use Rattle.std.proofs.Common.{◌≡◌, ◌≢◌, ◌≤◌, ◌⊎◌, ℕ, true, false, List, [], ◌∷◌, length, map, drop, Option, None, Some, refl, sym, ap, ap₂, ◌∙◌, subst, arith, inl, inr, codes, true≢false, get_or, string_bytes, take, take_all, ◌-◌}
 use Rattle.std.specs.declared.string.String.{String}
 use Rattle.std.specs.Prelude.{Contains, IfSome, is_some, slice_get}
 use Rattle.std.specs.List.{list_all}
+use Rattle.std.specs.Str.{bytes_eq}
 use Rattle.std.proofs.lemmas.Bool.{cases_Bool}
 use Rattle.px_base.specs.CallSign.{CallSign, CallText}
 use Rattle.command_words.specs.Grammar.{Line, line_places, line_value}
-use Rattle.command_words.specs.Lines.{SessionLine, are_places, is_option_name}
+use Rattle.command_words.specs.Lines.{MakeLine, SessionLine, are_places, is_option_name, options_read}
+use Rattle.command_words.specs.Made.{MakeValue, may_be_made}
+use Rattle.command_words.specs.Making.{IsNumberOrZero, MakeOptions, MakeSays, MakeText, make_options, options_given}
+use Rattle.command_words.specs.Commands.{IsCommandOf, word_of}
+use Rattle.command_words.specs.declared.command.CommandWord.{CommandWord}
+use Rattle.command_words.specs.declared.command.CommandWord.TheVariants as word
+use Rattle.command_words.specs.declared.command.NameCommand.{NameCommand}
+use Rattle.command_words.specs.declared.command.NameCommand.TheVariants.{Frames, PfhCheck, PfhShow}
+use Rattle.command_words.specs.declared.line.MakeTexts.{MakeTexts}
 use Rattle.command_words.specs.Airs.{IsAirOf}
 use Rattle.command_words.specs.declared.air.AirWord.{AirWord}
 use Rattle.command_words.specs.declared.air.AirWord.TheVariants.{HostPort, Nothing, Standard}
-use Rattle.command_words.specs.Words.{BeyondSession, GivesNumber, IsAir, IsFrames, IsHostPort, IsOther, IsSomeSession, IsUsage, NeedsNeither, SessionGiven, SessionText, session_options, unbuilt_commands}
+use Rattle.command_words.specs.Words.{BeyondSession, GivesNumber, IsAir, IsCheck, IsFrames, IsHostPort, IsMake, IsNamed, IsOther, IsShow, IsSomeSession, IsUsage, NeedsNeither, SessionGiven, SessionText, session_options, unbuilt_commands}
 use Rattle.command_words.proofs.Uses.{Text, Uses, text_eq, values}
 use Rattle.command_words.proofs.Machine.{is_name, is_name-from}
 use Rattle.command_words.proofs.Rules.{AreApart}
@@ -212,25 +221,104 @@ other_command {words} {d} {a} {c} {others} whole other =
 pub session_command : {words : List Text} {d a c : Text} {others : List Text} → words ≡ d ∷ a ∷ c ∷ others → IsSomeSession words → c ≡ codes "session"
 session_command whole some = let written = some.session.written in cc
 
-pub built_session : Contains unbuilt_commands (codes "session") → ⊥
-built_session unbuilt = true≢false (sym (is_name-from unbuilt_commands (codes "session") unbuilt))
+-- texts that differ aren't one
+pub differ : (one other : Text) → bytes_eq one other ≡ false → one ≡ other → ⊥
+differ one other apart same = true≢false (sym (text_eq one other same) ∙ apart)
 
-pub built_frames : Contains unbuilt_commands (codes "frames") → ⊥
-built_frames unbuilt = true≢false (sym (is_name-from unbuilt_commands (codes "frames") unbuilt))
+-- a command that is built isn't one that isn't
+pub built_not : (c : Text) → is_name unbuilt_commands c ≡ false → Contains unbuilt_commands c → ⊥
+built_not c other unbuilt = true≢false (sym (is_name-from unbuilt_commands c unbuilt) ∙ other)
 
-pub session_is_not_frames : codes "session" ≡ codes "frames" → ⊥
-session_is_not_frames e = true≢false (sym (text_eq (codes "session") (codes "frames") e))
+-- Words aren't in the command set, where their command has no such words.
+pub usage_unless : {words : List Text} {d a c : Text} {others : List Text} → words ≡ d ∷ a ∷ c ∷ others → (Contains unbuilt_commands c → ⊥)
+    → (c ≡ codes "session" → IsSomeSession words → ⊥) → (c ≡ codes "frames" → (name : Text) → IsFrames words name → ⊥)
+    → (c ≡ codes "pfh-check" → (name : Text) → IsCheck words name → ⊥) → (c ≡ codes "pfh-show" → (name : Text) → IsShow words name → ⊥)
+    → (c ≡ codes "pfh-make" → (body kept : Text) (spec : MakeValue) → IsMake words body kept spec → ⊥) → IsUsage words
+usage_unless whole unbuilt session frames check show make (inl other) = unbuilt (other_command whole other)
+usage_unless whole unbuilt session frames check show make (inr (inl some)) = session (session_command whole some) some
+usage_unless whole unbuilt session frames check show make (inr (inr (inl (name, asks)))) = frames (neither_command whole asks) name asks
+usage_unless whole unbuilt session frames check show make (inr (inr (inr (inl (name, asks))))) = check (neither_command whole asks) name asks
+usage_unless whole unbuilt session frames check show make (inr (inr (inr (inr (inl (name, asks)))))) = show (neither_command whole asks) name asks
+usage_unless whole unbuilt session frames check show make (inr (inr (inr (inr (inr (body, kept, spec, asks)))))) = make (neither_command whole asks) body kept spec asks
 
--- words of `session` that are no session's aren't in the command set
+-- words of `session` that are no session's aren't in the command set,
 pub session_usage : {words : List Text} {d a : Text} {others : List Text} → words ≡ d ∷ a ∷ codes "session" ∷ others
     → (IsSomeSession (d ∷ a ∷ codes "session" ∷ others) → ⊥) → IsUsage words
-session_usage whole none (inl other) = built_session (other_command whole other)
-session_usage whole none (inr (inl some)) = none (subst IsSomeSession whole some)
-session_usage whole none (inr (inr (name, frames))) = session_is_not_frames (neither_command whole frames)
+session_usage whole none = usage_unless whole (built_not (codes "session") refl) (λ same some. none (subst IsSomeSession whole some))
+    (λ same name asks. differ (codes "session") (codes "frames") refl same) (λ same name asks. differ (codes "session") (codes "pfh-check") refl same)
+    (λ same name asks. differ (codes "session") (codes "pfh-show") refl same) (λ same body kept spec asks. differ (codes "session") (codes "pfh-make") refl same)
 
--- and so are words of `frames`
-pub frames_usage : {words : List Text} {d a : Text} {others : List Text} → words ≡ d ∷ a ∷ codes "frames" ∷ others
-    → ((disk name : Text) → IsFrames (disk ∷ a ∷ codes "frames" ∷ others) name → ⊥) → IsUsage words
-frames_usage whole none (inl other) = built_frames (other_command whole other)
-frames_usage whole none (inr (inl some)) = session_is_not_frames (sym (session_command whole some))
-frames_usage {d = d} whole none (inr (inr (name, frames))) = none d name (subst (λ (ws : List Text). IsFrames ws name) whole frames)
+-- nor words of a command with a name that have none,
+pub name_usage : (command : NameCommand) {words : List Text} {d a : Text} {others : List Text} → words ≡ d ∷ a ∷ word_of command ∷ others
+    → ((name : Text) → IsNamed (word_of command) (d ∷ a ∷ word_of command ∷ others) name → ⊥) → IsUsage words
+name_usage Frames whole none = usage_unless whole (built_not (codes "frames") refl) (λ same some. differ (codes "frames") (codes "session") refl same)
+    (λ same name asks. none name (subst (λ (ws : List Text). IsFrames ws name) whole asks)) (λ same name asks. differ (codes "frames") (codes "pfh-check") refl same)
+    (λ same name asks. differ (codes "frames") (codes "pfh-show") refl same) (λ same body kept spec asks. differ (codes "frames") (codes "pfh-make") refl same)
+name_usage PfhCheck whole none = usage_unless whole (built_not (codes "pfh-check") refl) (λ same some. differ (codes "pfh-check") (codes "session") refl same)
+    (λ same name asks. differ (codes "pfh-check") (codes "frames") refl same) (λ same name asks. none name (subst (λ (ws : List Text). IsCheck ws name) whole asks))
+    (λ same name asks. differ (codes "pfh-check") (codes "pfh-show") refl same) (λ same body kept spec asks. differ (codes "pfh-check") (codes "pfh-make") refl same)
+name_usage PfhShow whole none = usage_unless whole (built_not (codes "pfh-show") refl) (λ same some. differ (codes "pfh-show") (codes "session") refl same)
+    (λ same name asks. differ (codes "pfh-show") (codes "frames") refl same) (λ same name asks. differ (codes "pfh-show") (codes "pfh-check") refl same)
+    (λ same name asks. none name (subst (λ (ws : List Text). IsShow ws name) whole asks)) (λ same body kept spec asks. differ (codes "pfh-show") (codes "pfh-make") refl same)
+
+-- and words of `pfh-make` of which no file is made
+pub make_usage : {words : List Text} {d a : Text} {others : List Text} → words ≡ d ∷ a ∷ codes "pfh-make" ∷ others
+    → ((body kept : Text) (spec : MakeValue) → IsMake (d ∷ a ∷ codes "pfh-make" ∷ others) body kept spec → ⊥) → IsUsage words
+make_usage whole none = usage_unless whole (built_not (codes "pfh-make") refl) (λ same some. differ (codes "pfh-make") (codes "session") refl same)
+    (λ same name asks. differ (codes "pfh-make") (codes "frames") refl same) (λ same name asks. differ (codes "pfh-make") (codes "pfh-check") refl same)
+    (λ same name asks. differ (codes "pfh-make") (codes "pfh-show") refl same)
+    (λ same body kept spec asks. none body kept spec (subst (λ (ws : List Text). IsMake ws body kept spec) whole asks))
+
+-- words whose command is none aren't in it either
+pub no_command_usage : {words : List Text} {d a c : Text} {others : List Text} → words ≡ d ∷ a ∷ c ∷ others
+    → ((command : CommandWord) → IsCommandOf c command → ⊥) → IsUsage words
+no_command_usage whole none = usage_unless whole (none word.Unbuilt) (λ same some. none word.Session same) (λ same name asks. none (word.Named Frames) same)
+    (λ same name asks. none (word.Named PfhCheck) same) (λ same name asks. none (word.Named PfhShow) same) (λ same body kept spec asks. none word.PfhMake same)
+
+-- ---- what a header is made of
+
+-- another line of the same words says the same
+pub make_says : {others : List Text} {body kept : Text} {spec : MakeValue} → MakeText body kept spec others → (line : Line make_options others 2)
+    → (line_places line ≡ body ∷ kept ∷ []) × MakeSays (options_given (line_value line)) spec
+make_says {body = body} {kept = kept} {spec = spec} text line =
+    of_line make_options (codes "body" ∷ codes "kept" ∷ []) refl refl (λ places value. (places ≡ body ∷ kept ∷ []) × MakeSays (options_given value) spec)
+    text.line line (text.places, text.says)
+
+-- what a line gives is what its words mean
+pub make_agrees : {others : List Text} {texts : MakeTexts} {body kept : Text} {spec : MakeValue} → MakeLine texts others → MakeText body kept spec others
+    → MakeSays (options_read texts) spec
+make_agrees {spec = spec} line text = subst (λ (options : MakeOptions). MakeSays options spec) line.options (make_says text line.line).1
+
+pub make_from : {others : List Text} {texts : MakeTexts} (body kept : Text) (spec : MakeValue) → MakeLine texts others
+    → body ≡ texts.body.now → kept ≡ texts.kept.now → MakeSays (options_read texts) spec → may_be_made spec ≡ true → MakeText body kept spec others
+make_from body kept spec line body_is kept_is says possible = record {
+  line = line.line;
+  places = line.places ∙ ap₂ (λ (b k : Text). b ∷ k ∷ []) (sym body_is) (sym kept_is);
+  says = subst (λ (options : MakeOptions). MakeSays options spec) (sym line.options) says;
+  possible = possible;
+}
+
+number_one : (high : ℕ) (value : Option Text) (one other : ℕ) → IsNumberOrZero high value one → IsNumberOrZero high value other → one ≡ other
+number_one high None one other e f = e ∙ sym f
+number_one high (Some text) one other is is2 = is.value ∙ sym is2.value
+
+-- what is said is one thing
+pub says_one : (options : MakeOptions) (one other : MakeValue) → MakeSays options one → MakeSays options other → one ≡ other
+says_one options one other says also =
+    let names : Some one.name ≡ Some other.name = sym says.name ∙ also.name in
+    let name : one.name ≡ other.name = cc in
+    let ext : one.ext ≡ other.ext = sym says.ext ∙ also.ext in
+    let file_type : one.file_type ≡ other.file_type = number_one 255 options.file_type one.file_type other.file_type says.file_type also.file_type in
+    let time : one.time ≡ other.time = number_one 4294967295 options.time one.time other.time says.time also.time in
+    let source : one.source ≡ other.source = sym says.source ∙ also.source in
+    let destination : one.destination ≡ other.destination = sym says.destination ∙ also.destination in
+    let title : one.title ≡ other.title = sym says.title ∙ also.title in
+    λ i. record {
+      name = name i;
+      ext = ext i;
+      file_type = file_type i;
+      time = time i;
+      source = source i;
+      destination = destination i;
+      title = title i;
+    }

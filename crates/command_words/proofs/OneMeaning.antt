@@ -1,17 +1,23 @@
 -- Each list of words has one meaning.
-use Rattle.std.proofs.Common.{◌≡◌, ◌≤◌, ◌⊎◌, ℕ, List, [], ◌∷◌, ◌++◌, length, Option, None, Some, refl, sym, ap, ◌∙◌, subst, arith, inl, inr, codes, true≢false, append_assoc, is_some, length-append}
-use Rattle.std.specs.Prelude.{Contains, IsSome}
+use Rattle.std.proofs.Common.{◌≡◌, ◌≤◌, ◌⊎◌, ℕ, false, List, [], ◌∷◌, ◌++◌, length, Option, None, Some, refl, sym, ap, ◌∙◌, subst, arith, inl, inr, codes, true≢false, append_assoc, is_some, length-append}
+use Rattle.std.specs.Prelude.{IsSome}
 use Rattle.std.specs.Str.{bytes_eq}
 use Rattle.std.proofs.lemmas.Bool.{cases_Bool}
 use Rattle.px_base.specs.CallSign.{CallSign, CallText}
 use Rattle.px_base.proofs.Calls.{one_call}
-use Rattle.command_words.specs.Grammar.{line_places}
-use Rattle.command_words.specs.Laws.{AsksFrames, AsksSession, Determined, OnlyOne}
-use Rattle.command_words.specs.Words.{BeyondSession, GivesNumber, IsAir, IsHostPort, IsNamed, IsSession, IsSomeSession, IsUnbuilt, IsUsage, NameText, NeedsNeither, SessionText, SessionWords, unbuilt_commands}
+use Rattle.command_words.specs.Commands.{IsCommandOf, word_of}
+use Rattle.command_words.specs.declared.command.CommandWord.{CommandWord}
+use Rattle.command_words.specs.declared.command.CommandWord.TheVariants as word
+use Rattle.command_words.specs.declared.command.NameCommand.{NameCommand}
+use Rattle.command_words.specs.declared.command.NameCommand.TheVariants.{Frames, PfhCheck, PfhShow}
+use Rattle.command_words.specs.Grammar.{line_value}
+use Rattle.command_words.specs.Laws.{AsksFrames, AsksSession, Determined, OnlyMake, OnlyOne}
+use Rattle.command_words.specs.Making.{options_given}
+use Rattle.command_words.specs.Words.{AsksHeader, BeyondSession, GivesNumber, IsAir, IsHostPort, IsNamed, IsSession, IsSomeSession, IsUnbuilt, IsUsage, NameText, NeedsNeither, SessionText, SessionWords, unbuilt_commands}
 use Rattle.command_words.proofs.Uses.{Text, text_eq, text_same}
-use Rattle.command_words.proofs.Machine.{is_name, is_name-to, is_name-from}
-use Rattle.command_words.proofs.Meanings.{built_frames, built_session, frames_usage, neither_command, neither_from, neither_text, one_text, other_command, same_places, session_command, session_given, session_is_not_frames, session_usage}
-use Rattle.command_words.proofs.Decided.{Decided, GivesText, air_decided, line_decided, text_decided}
+use Rattle.command_words.proofs.Machine.{is_name, is_name-to}
+use Rattle.command_words.proofs.Meanings.{built_not, differ, make_says, make_usage, name_usage, neither_command, neither_from, neither_text, no_command_usage, other_command, same_places, says_one, session_command, session_given, session_usage}
+use Rattle.command_words.proofs.Decided.{Decided, GivesText, air_decided, make_decided, name_decided, text_decided}
 
 -- ---- two lines
 
@@ -93,20 +99,48 @@ unbuilt_in_set : {words : List Text} → IsUnbuilt words → IsUsage words → �
 unbuilt_in_set (inl other) usage = usage (inl other)
 unbuilt_in_set (inr (some, beyond)) usage = usage (inr (inl some))
 
+-- words of two commands are of neither
+two_commands : {c e : Text} {P Q : List Text → Type 0} {words : List Text} → bytes_eq c e ≡ false → NeedsNeither c P words → NeedsNeither e Q words → ⊥
+two_commands {c} {e} apart one two = differ c e apart (neither_command one.written two)
+
+two_session : {c : Text} {P : List Text → Type 0} {words : List Text} → bytes_eq c (codes "session") ≡ false → NeedsNeither c P words → AsksSession words → ⊥
+two_session {c} apart one session = differ c (codes "session") apart (session_command one.written (a_session session))
+
+two_unbuilt : {c : Text} {P : List Text → Type 0} {words : List Text} → is_name unbuilt_commands c ≡ false → bytes_eq c (codes "session") ≡ false
+    → NeedsNeither c P words → IsUnbuilt words → ⊥
+two_unbuilt {c} unbuilt apart one (inl other) = built_not c unbuilt (other_command one.written other)
+two_unbuilt {c} unbuilt apart one (inr (some, beyond)) = differ c (codes "session") apart (session_command one.written some)
+
 pub only_one : (words : List Text) → OnlyOne words
 only_one words = record {
   usage_unbuilt = λ usage unbuilt. unbuilt_in_set unbuilt usage;
   usage_session = λ usage session. usage (inr (inl (a_session session)));
-  usage_frames = λ usage frames. usage (inr (inr frames));
+  usage_frames = λ usage frames. usage (inr (inr (inl frames)));
+  usage_header = λ usage header. usage (inr (inr (inr header)));
   unbuilt_session = λ unbuilt session. elim unbuilt [
-    | inl other ↦ built_session (other_command session.2.written other)
+    | inl other ↦ built_not (codes "session") refl (other_command session.2.written other)
     | inr beyond ↦ not_beyond beyond session
   ];
-  unbuilt_frames = λ unbuilt (name, frames). elim unbuilt [
-    | inl other ↦ built_frames (other_command frames.written other)
-    | inr (some, beyond) ↦ session_is_not_frames (sym (session_command frames.written some))
+  unbuilt_frames = λ unbuilt (name, frames). two_unbuilt refl refl frames unbuilt;
+  unbuilt_header = λ unbuilt header. elim header [
+    | inl (name, check) ↦ two_unbuilt refl refl check unbuilt
+    | inr (inl (name, show)) ↦ two_unbuilt refl refl show unbuilt
+    | inr (inr (body, kept, spec, make)) ↦ two_unbuilt refl refl make unbuilt
   ];
-  session_frames = λ session (name, frames). session_is_not_frames (sym (session_command frames.written (a_session session)));
+  session_frames = λ session (name, frames). two_session refl frames session;
+  session_header = λ session header. elim header [
+    | inl (name, check) ↦ two_session refl check session
+    | inr (inl (name, show)) ↦ two_session refl show session
+    | inr (inr (body, kept, spec, make)) ↦ two_session refl make session
+  ];
+  frames_header = λ (named, frames) header. elim header [
+    | inl (name, check) ↦ two_commands refl frames check
+    | inr (inl (name, show)) ↦ two_commands refl frames show
+    | inr (inr (body, kept, spec, make)) ↦ two_commands refl frames make
+  ];
+  check_show = λ name other check show. two_commands refl check show;
+  check_make = λ name body kept spec check make. two_commands refl check make;
+  show_make = λ name body kept spec show make. two_commands refl show make;
 }
 
 -- ---- determined
@@ -131,24 +165,40 @@ named_same command words name other one two =
     let (others, first, second) = neither_same one two in
     name_same name other first second
 
+-- words of `pfh-make` make one file
+make_same : (words : List Text) → OnlyMake words
+make_same words body other kept another spec later one two =
+    let (others, first, second) = neither_same one two in
+    let (places, says) = make_says second first.line in
+    let both : body ∷ kept ∷ [] ≡ other ∷ another ∷ [] = sym first.places ∙ places in
+    let bodies : body ≡ other = cc in
+    let names : kept ≡ another = cc in
+    (bodies, names, says_one (options_given (line_value first.line)) spec later first.says says)
+
 pub determined : (words : List Text) → Determined words
 determined words = record {
   session = λ caller other moment later one two.
       let (disk, air, same) = same_words one two in
       (same.callers, same.moments);
   frames = λ name other one two. named_same (codes "frames") words name other one two;
+  check = λ name other one two. named_same (codes "pfh-check") words name other one two;
+  show = λ name other one two. named_same (codes "pfh-show") words name other one two;
+  make = λ body other kept another spec later one two. make_same words body other kept another spec later one two;
 }
 
 -- ---- some meaning
 
 abbrev Meant : List Text → Type 0
-Meant words = IsUsage words ⊎ (IsUnbuilt words ⊎ (AsksSession words ⊎ AsksFrames words))
+Meant words = IsUsage words ⊎ (IsUnbuilt words ⊎ (AsksSession words ⊎ (AsksFrames words ⊎ AsksHeader words)))
 
 -- too few words
 few : (words : List Text) → length words ≤ 2 → IsUsage words
 few words short (inl other) = let longer = ap length other.written in omega arith
 few words short (inr (inl some)) = let longer = ap length some.session.written in omega arith
-few words short (inr (inr (name, frames))) = let longer = ap length frames.written in omega arith
+few words short (inr (inr (inl (name, frames)))) = let longer = ap length frames.written in omega arith
+few words short (inr (inr (inr (inl (name, check))))) = let longer = ap length check.written in omega arith
+few words short (inr (inr (inr (inr (inl (name, show)))))) = let longer = ap length show.written in omega arith
+few words short (inr (inr (inr (inr (inr (body, kept, spec, make)))))) = let longer = ap length make.written in omega arith
 
 numbers_given : (n : Option ℕ) → (n ≡ None) ⊎ IsSome n
 numbers_given None = inl refl
@@ -223,43 +273,74 @@ form_decided air = elim (air_decided air) [
   ]
 ]
 
--- a NAME is there, or not
-name_decided : (others : List Text) → Decided ((name : Text) × NameText name others)
-name_decided others = elim (line_decided [] (codes "name" ∷ []) refl refl others) [
-  | inl line ↦ let (name, place) = one_text (line_places line) line.counted in inl (name, record { line = line; place = place })
-  | inr none ↦ inr (λ (name, text). none text.line)
-]
-
-frames_meant : (disk air : Text) (others : List Text) → Meant (disk ∷ air ∷ codes "frames" ∷ others)
-frames_meant disk air others = elim (name_decided others) [
-  | inr none ↦ inl (frames_usage refl (λ d name frames. none (name, (neither_text frames).0)))
+-- words of a command with a name
+named_meant : (command : NameCommand) (disk air : Text) (others : List Text)
+    → ((name : Text) → IsNamed (word_of command) (disk ∷ air ∷ word_of command ∷ others) name → Meant (disk ∷ air ∷ word_of command ∷ others))
+    → Meant (disk ∷ air ∷ word_of command ∷ others)
+named_meant command disk air others asked = elim (name_decided others) [
+  | inr none ↦ inl (name_usage command refl (λ name asks. none (name, (neither_text asks).0)))
   | inl (name, text) ↦ elim (form_decided air) [
-    | inl is ↦ inr (inr (inr (name, neither_from disk air others is text)))
-    | inr none ↦ inl (frames_usage refl (λ d other frames. none (neither_text frames).1))
+    | inl is ↦ asked name (neither_from disk air others is text)
+    | inr none ↦ inl (name_usage command refl (λ other asks. none (neither_text asks).1))
   ]
 ]
 
--- no command
-no_command : {words : List Text} {d a c : Text} {others : List Text} → words ≡ d ∷ a ∷ c ∷ others → (c ≡ codes "session" → ⊥) → (c ≡ codes "frames" → ⊥)
-    → (Contains unbuilt_commands c → ⊥) → IsUsage words
-no_command whole session frames unbuilt (inl other) = unbuilt (other_command whole other)
-no_command whole session frames unbuilt (inr (inl some)) = session (session_command whole some)
-no_command whole session frames unbuilt (inr (inr (name, asks))) = frames (neither_command whole asks)
+command_meant : (command : NameCommand) (disk air : Text) (others : List Text) → Meant (disk ∷ air ∷ word_of command ∷ others)
+command_meant Frames disk air others = named_meant Frames disk air others (λ name asks. inr (inr (inr (inl (name, asks)))))
+command_meant PfhCheck disk air others = named_meant PfhCheck disk air others (λ name asks. inr (inr (inr (inr (inl (name, asks))))))
+command_meant PfhShow disk air others = named_meant PfhShow disk air others (λ name asks. inr (inr (inr (inr (inr (inl (name, asks)))))))
+
+make_meant : (disk air : Text) (others : List Text) → Meant (disk ∷ air ∷ codes "pfh-make" ∷ others)
+make_meant disk air others = elim (make_decided others) [
+  | inr none ↦ inl (make_usage refl (λ body kept spec asks. none (body, kept, spec, (neither_text asks).0)))
+  | inl (body, kept, spec, text) ↦ elim (form_decided air) [
+    | inl is ↦ inr (inr (inr (inr (inr (inr (body, kept, spec, neither_from disk air others is text))))))
+    | inr none ↦ inl (make_usage refl (λ b k other asks. none (neither_text asks).1))
+  ]
+]
+
+-- each word names a command or none
+command_decided : (c : Text) → Decided ((command : CommandWord) × IsCommandOf c command)
+command_decided c = elim (cases_Bool (bytes_eq c (codes "session"))) [
+  | inl is ↦ inl (word.Session, text_same c (codes "session") is)
+  | inr no_session ↦ elim (cases_Bool (bytes_eq c (codes "frames"))) [
+    | inl is ↦ inl (word.Named Frames, text_same c (codes "frames") is)
+    | inr no_frames ↦ elim (cases_Bool (bytes_eq c (codes "pfh-check"))) [
+      | inl is ↦ inl (word.Named PfhCheck, text_same c (codes "pfh-check") is)
+      | inr no_check ↦ elim (cases_Bool (bytes_eq c (codes "pfh-show"))) [
+        | inl is ↦ inl (word.Named PfhShow, text_same c (codes "pfh-show") is)
+        | inr no_show ↦ elim (cases_Bool (bytes_eq c (codes "pfh-make"))) [
+          | inl is ↦ inl (word.PfhMake, text_same c (codes "pfh-make") is)
+          | inr no_make ↦ elim (cases_Bool (is_name unbuilt_commands c)) [
+            | inl is ↦ inl (word.Unbuilt, is_name-to unbuilt_commands c is)
+            | inr no_other ↦ inr (λ (command, is). none_of no_session no_frames no_check no_show no_make no_other command is)
+          ]
+        ]
+      ]
+    ]
+  ]
+]
+  where
+    none_of : bytes_eq c (codes "session") ≡ false → bytes_eq c (codes "frames") ≡ false → bytes_eq c (codes "pfh-check") ≡ false → bytes_eq c (codes "pfh-show") ≡ false
+        → bytes_eq c (codes "pfh-make") ≡ false → is_name unbuilt_commands c ≡ false → (command : CommandWord) → IsCommandOf c command → ⊥
+    none_of session frames check show make other word.Session is = differ c (codes "session") session is
+    none_of session frames check show make other (word.Named Frames) is = differ c (codes "frames") frames is
+    none_of session frames check show make other (word.Named PfhCheck) is = differ c (codes "pfh-check") check is
+    none_of session frames check show make other (word.Named PfhShow) is = differ c (codes "pfh-show") show is
+    none_of session frames check show make other word.PfhMake is = differ c (codes "pfh-make") make is
+    none_of session frames check show make other word.Unbuilt is = built_not c other is
+
+meant_by : (d a c : Text) (others : List Text) (command : CommandWord) → IsCommandOf c command → Meant (d ∷ a ∷ c ∷ others)
+meant_by d a c others word.Session is = subst (λ (t : Text). Meant (d ∷ a ∷ t ∷ others)) (sym is) (session_meant d a others)
+meant_by d a c others (word.Named command) is = subst (λ (t : Text). Meant (d ∷ a ∷ t ∷ others)) (sym is) (command_meant command d a others)
+meant_by d a c others word.PfhMake is = subst (λ (t : Text). Meant (d ∷ a ∷ t ∷ others)) (sym is) (make_meant d a others)
+meant_by d a c others word.Unbuilt is = inr (inl (inl (record { disk = d; air = a; command = c; others = others; written = refl; unbuilt = is })))
 
 pub has_meaning : (words : List Text) → Meant words
 has_meaning [] = inl (few [] (omega arith))
 has_meaning (d ∷ []) = inl (few (d ∷ []) (omega arith))
 has_meaning (d ∷ a ∷ []) = inl (few (d ∷ a ∷ []) (omega arith))
-has_meaning (d ∷ a ∷ c ∷ others) = elim (cases_Bool (bytes_eq c (codes "session"))) [
-  | inl session ↦ subst (λ (t : Text). Meant (d ∷ a ∷ t ∷ others)) (sym (text_same c (codes "session") session)) (session_meant d a others)
-  | inr no_session ↦ elim (cases_Bool (bytes_eq c (codes "frames"))) [
-    | inl frames ↦ subst (λ (t : Text). Meant (d ∷ a ∷ t ∷ others)) (sym (text_same c (codes "frames") frames)) (frames_meant d a others)
-    | inr no_frames ↦ elim (cases_Bool (is_name unbuilt_commands c)) [
-      | inl unbuilt ↦ inr (inl (inl (record { disk = d; air = a; command = c; others = others; written = refl; unbuilt = is_name-to unbuilt_commands c unbuilt })))
-      | inr no_unbuilt ↦ inl (no_command refl
-          (λ same. true≢false (sym (text_eq c (codes "session") same) ∙ no_session))
-          (λ same. true≢false (sym (text_eq c (codes "frames") same) ∙ no_frames))
-          (λ known. true≢false (sym (is_name-from unbuilt_commands c known) ∙ no_unbuilt)))
-    ]
-  ]
+has_meaning (d ∷ a ∷ c ∷ others) = elim (command_decided c) [
+  | inl (command, is) ↦ meant_by d a c others command is
+  | inr none ↦ inl (no_command_usage refl (λ command is. none (command, is)))
 ]

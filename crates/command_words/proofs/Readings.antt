@@ -1,5 +1,5 @@
 -- What is read of the words are the places and the values of a line.
-use Rattle.std.proofs.Common.{◌≡◌, ◌≤◌, ℕ, Bool, true, false, not, ◌&&◌, List, [], ◌∷◌, ◌++◌, length, map, Option, None, Some, unwrap_or, refl, sym, ap, ap₂, ◌∙◌, subst, arith, inl, inr, true≢false, string_bytes}
+use Rattle.std.proofs.Common.{◌≡◌, ◌≤◌, ◌⊎◌, ℕ, Bool, true, false, not, ◌&&◌, List, [], ◌∷◌, ◌++◌, length, map, Option, None, Some, unwrap_or, refl, sym, ap, ap₂, ◌∙◌, subst, arith, inl, inr, true≢false, string_bytes}
 use Rattle.std.specs.Prelude.{flat_map, slice_get}
 use Rattle.std.specs.List.{AllByRecursion, list_all}
 use Rattle.std.specs.Str.{bytes_eq, chars, IsUtf8}
@@ -245,6 +245,18 @@ one_found first places got e f = some_texts places (got ∷ []) (sym e ∙ ap (�
 pub none_found : (first : Option Text) (places : List Text) → first ∷ [] ≡ map (λ text. Some text) places → None ≡ first → ⊥
 none_found first [] e f = absurd cc
 none_found first (text ∷ texts) e f = let some : first ≡ Some text = cc in let no : None ≡ Some text = f ∙ some in absurd cc
+
+-- the same of two places
+pub two_found : (first second : Option Text) (places : List Text) (one other : Text) → first ∷ second ∷ [] ≡ map (λ text. Some text) places
+    → Some one ≡ first → Some other ≡ second → places ≡ one ∷ other ∷ []
+two_found first second places one other e f g =
+    some_texts places (one ∷ other ∷ []) (sym e ∙ ap₂ (λ (a b : Option Text). a ∷ b ∷ []) (sym f) (sym g))
+
+pub none_of_two : (first second : Option Text) (places : List Text) → first ∷ second ∷ [] ≡ map (λ text. Some text) places → (None ≡ first) ⊎ (None ≡ second) → ⊥
+none_of_two first second [] e f = absurd cc
+none_of_two first second (text ∷ []) e f = absurd cc
+none_of_two first second (text ∷ other ∷ texts) e (inl f) = let some : first ≡ Some text = cc in let no : None ≡ Some text = f ∙ some in absurd cc
+none_of_two first second (text ∷ other ∷ texts) e (inr f) = let some : second ≡ Some other = cc in let no : None ≡ Some other = f ∙ some in absurd cc
 
 -- ---- lines
 

@@ -1,13 +1,16 @@
 -- What `clap` is asked: the words from COMMAND on, as those of a command with options and places of some names.
 use Rattle.std.specs.Prelude.{◌≡◌, ℕ, List, [], ◌∷◌, ◌++◌, length, map, Option, Some, Contains, true, false, not, Bool, ◌&&◌, codes}
 use Rattle.std.specs.List.{list_all, list_any}
+use Rattle.std.specs.Option.{option_copied}
 use Rattle.std.specs.Str.{bytes_eq}
 use Rattle.clap.specs.Lexer.{has_byte}
 use Rattle.clap.specs.Words.{App, Rule, first_value, found_of, new_rule}
 use Rattle.clap.specs.Simple.{new_shape}
 use Rattle.clap.specs.declared.builder.action.ArgAction.TheVariants.{Set}
 use Rattle.clap.specs.declared.parser.matches.ArgMatches.{ArgMatches}
+use Rattle.command_words.specs.declared.line.MakeTexts.{MakeTexts}
 use Rattle.command_words.specs.Grammar.{Line, line_places, line_value}
+use Rattle.command_words.specs.Making.{MakeOptions, make_options, options_given}
 use Rattle.command_words.specs.Words.{session_options}
 
 -- an option with a value
@@ -28,6 +31,14 @@ command_with command rules = record {
 -- a command of this name with places and options of these names
 abbrev pub command_of : List ℕ → List (List ℕ) → List (List ℕ) → App
 command_of command places names = command_with command (map place_of places ++ map option_of names)
+
+-- the command `session`
+abbrev pub session_app : App
+session_app = command_of (codes "session") (codes "caller" ∷ []) session_options
+
+-- the command `pfh-make`
+abbrev pub make_app : App
+make_app = command_of (codes "pfh-make") (codes "body" ∷ codes "kept" ∷ []) make_options
 
 -- an option's name is some text without `=`, and no place's
 abbrev pub is_option_name : List (List ℕ) → List ℕ → Bool
@@ -68,3 +79,22 @@ pub record SessionLine (words : List (List ℕ)) (caller : List ℕ) (moment blo
   pub moment_given : line_value line (codes "moment") ≡ moment
   pub blocks_given : line_value line (codes "blocks") ≡ blocks
   pub polls_given : line_value line (codes "polls") ≡ polls
+
+-- the values of the options of `pfh-make` that were read
+abbrev pub options_read : MakeTexts → MakeOptions
+options_read texts =
+    record {
+      name = option_copied texts.name;
+      ext = option_copied texts.ext;
+      file_type = option_copied texts.file_type;
+      time = option_copied texts.time;
+      source = option_copied texts.source;
+      destination = option_copied texts.destination;
+      title = option_copied texts.title;
+    }
+
+-- The words after `pfh-make` give these places, and these values of the options.
+pub record MakeLine (texts : MakeTexts) (words : List (List ℕ)) : Type 0 where
+  pub line : Line make_options words 2
+  pub places : line_places line ≡ texts.body.now ∷ texts.kept.now ∷ []
+  pub options : options_given (line_value line) ≡ options_read texts

@@ -3,13 +3,19 @@ use Rattle.std.specs.Prelude.{◌≡◌, ◌≢◌, ℕ, ◌≤◌, ◌⊎◌, L
 use Rattle.std.specs.List.{AllByRecursion}
 use Rattle.px_base.specs.CallSign.{CallSign, CallText}
 use Rattle.command_words.specs.Grammar.{Line, line_places, line_value}
+use Rattle.command_words.specs.Made.{MakeValue}
+use Rattle.command_words.specs.Making.{MakeText}
 use Rattle.command_words.specs.Numbers.{NumberText}
 
 -- the commands that aren't built yet
 abbrev pub unbuilt_commands : List (List ℕ)
 unbuilt_commands =
-    codes "serve" ∷ codes "send" ∷ codes "fetch" ∷ codes "list" ∷ codes "pfh-check" ∷ codes "pfh-show" ∷ codes "pfh-make"
-    ∷ codes "rehearse" ∷ []
+    codes "serve" ∷ codes "send" ∷ codes "fetch" ∷ codes "list" ∷ codes "rehearse" ∷ []
+
+-- the commands that are built
+abbrev pub built_commands : List (List ℕ)
+built_commands =
+    codes "session" ∷ codes "frames" ∷ codes "pfh-check" ∷ codes "pfh-show" ∷ codes "pfh-make" ∷ []
 
 -- Host and port: text without a colon, a colon, and the number of a port.
 pub record IsHostPort (air : List ℕ) : Type 0 where
@@ -77,6 +83,24 @@ IsNamed command words name = NeedsNeither command (NameText name) words
 abbrev pub IsFrames : List (List ℕ) → List ℕ → Type 0
 IsFrames words name = IsNamed (codes "frames") words name
 
+-- the words are `DISK AIR pfh-check NAME`
+abbrev pub IsCheck : List (List ℕ) → List ℕ → Type 0
+IsCheck words name = IsNamed (codes "pfh-check") words name
+
+-- the words are `DISK AIR pfh-show NAME`
+abbrev pub IsShow : List (List ℕ) → List ℕ → Type 0
+IsShow words name = IsNamed (codes "pfh-show") words name
+
+-- the words are `DISK AIR pfh-make BODY NAME` and options, which say what the header is made of
+abbrev pub IsMake : List (List ℕ) → List ℕ → List ℕ → MakeValue → Type 0
+IsMake words body kept spec = NeedsNeither (codes "pfh-make") (MakeText body kept spec) words
+
+-- the words ask for a file's header: to check it, to show it or to make it
+abbrev pub AsksHeader : List (List ℕ) → Type 0
+AsksHeader words =
+    ((name : List ℕ) × IsCheck words name)
+    ⊎ (((name : List ℕ) × IsShow words name) ⊎ ((body kept : List ℕ) × (spec : MakeValue) × IsMake words body kept spec))
+
 -- The words ask for the session of this caller, over standard input and output and with a store in memory.
 abbrev pub IsSession : List (List ℕ) → CallSign → Option ℕ → Type 0
 IsSession words caller moment = SessionWords words (codes "none") (codes "-") caller moment None None
@@ -110,7 +134,7 @@ BeyondSession words = (session : IsSomeSession words) × IsBeyond session
 
 -- The words are in the command set. As long as a command isn't built, all of its words are taken to be.
 abbrev pub InSet : List (List ℕ) → Type 0
-InSet words = IsOther words ⊎ (IsSomeSession words ⊎ ((name : List ℕ) × IsFrames words name))
+InSet words = IsOther words ⊎ (IsSomeSession words ⊎ (((name : List ℕ) × IsFrames words name) ⊎ AsksHeader words))
 
 -- the words aren't in the command set
 abbrev pub IsUsage : List (List ℕ) → Type 0
@@ -123,5 +147,5 @@ IsUnbuilt words = IsOther words ⊎ BeyondSession words
 -- the words name a command that is built
 abbrev pub NamesBuilt : List (List ℕ) → Type 0
 NamesBuilt words =
-    (disk air : List ℕ) × (others : List (List ℕ))
-    × ((words ≡ disk ∷ air ∷ codes "session" ∷ others) ⊎ (words ≡ disk ∷ air ∷ codes "frames" ∷ others))
+    (disk air command : List ℕ) × (others : List (List ℕ))
+    × (words ≡ disk ∷ air ∷ command ∷ others) × Contains built_commands command

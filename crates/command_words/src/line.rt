@@ -3,7 +3,8 @@
 ghost use Rattle.std.specs.Prelude.{◌≡◌, List, [], ◌∷◌, false, IfOk, IsErrOf, codes, drop, map, option_copied, string_bytes};
 ghost use Rattle.clap.specs.Words.{app_of, kind_of, rule_of, with_rule};
 ghost use Rattle.command_words.specs.Grammar.{Line};
-ghost use Rattle.command_words.specs.Lines.{FindsLine, RefusesLine, SessionLine, command_of, option_of, place_of};
+ghost use Rattle.command_words.specs.Lines.{FindsLine, MakeLine, RefusesLine, SessionLine, command_of, make_app, option_of, place_of, session_app};
+ghost use Rattle.command_words.specs.Making.{make_options};
 ghost use Rattle.command_words.specs.Words.{NameText, session_options};
 
 use crate::request::Refusal;
@@ -24,6 +25,29 @@ pub(crate) struct SessionTexts<'a> {
     pub polls: Option<&'a str>,
 }
 
+/// The places and the options of `pfh-make`.
+#[derive(Clone, Copy)]
+pub(crate) struct MakeTexts<'a> {
+    /// BODY.
+    pub body: &'a str,
+    /// NAME.
+    pub kept: &'a str,
+    /// The value of `--name`.
+    pub name: Option<&'a str>,
+    /// The value of `--ext`.
+    pub ext: Option<&'a str>,
+    /// The value of `--type`.
+    pub file_type: Option<&'a str>,
+    /// The value of `--time`.
+    pub time: Option<&'a str>,
+    /// The value of `--source`.
+    pub source: Option<&'a str>,
+    /// The value of `--destination`.
+    pub destination: Option<&'a str>,
+    /// The value of `--title`.
+    pub title: Option<&'a str>,
+}
+
 /// Reads the words from `session` on. Takes memory.
 pub(crate) fn read_session<'a>(
     alloc: Global,
@@ -31,7 +55,8 @@ pub(crate) fn read_session<'a>(
 ) -> Result<SessionTexts<'a>, Refusal>
     ensures texts { IfOk result (λ texts. SessionLine (drop 1 (map string_bytes line.now)) texts.caller.now
         (option_copied texts.moment) (option_copied texts.blocks) (option_copied texts.polls)) }
-    ensures usage { IsErrOf result Refusal.Usage → Line session_options (drop 1 (map string_bytes line.now)) 1 → ⊥ }
+    ensures usage { IsErrOf result Refusal.Usage →
+        Line session_options (drop 1 (map string_bytes line.now)) 1 → ⊥ }
     ensures built { IsErrOf result Refusal.NotBuilt → ⊥ }
 {
     let matches = read_line(session_command(alloc)?, line)?;
@@ -63,14 +88,54 @@ pub(crate) fn read_name<'a>(
     }
 }
 
+/// Reads the words from `pfh-make` on. Takes memory.
+pub(crate) fn read_make<'a>(alloc: Global, line: &'a [String]) -> Result<MakeTexts<'a>, Refusal>
+    ensures texts { IfOk result (λ texts. MakeLine texts (drop 1 (map string_bytes line.now))) }
+    ensures usage { IsErrOf result Refusal.Usage → Line make_options (drop 1 (map string_bytes line.now)) 2 → ⊥ }
+    ensures built { IsErrOf result Refusal.NotBuilt → ⊥ }
+{
+    let matches = read_line(make_command(alloc)?, line)?;
+    let Some(body) = matches.get_str("body") else {
+        return Err(Refusal::Usage);
+    };
+    let Some(kept) = matches.get_str("kept") else {
+        return Err(Refusal::Usage);
+    };
+    Ok(MakeTexts {
+        body,
+        kept,
+        name: matches.get_str("name"),
+        ext: matches.get_str("ext"),
+        file_type: matches.get_str("type"),
+        time: matches.get_str("time"),
+        source: matches.get_str("source"),
+        destination: matches.get_str("destination"),
+        title: matches.get_str("title"),
+    })
+}
+
 /// The command `session` with its place and its options.
 fn session_command<'a>(alloc: Global) -> Result<Command<'a>, AllocError>
-    ensures { IfOk result (λ command. app_of command ≡ command_of (codes "session") (codes "caller" ∷ []) session_options) }
+    ensures { IfOk result (λ command. app_of command ≡ session_app) }
 {
     let command = line_command(alloc, "session", "caller")?;
     let command = with_option(alloc, command, "moment")?;
     let command = with_option(alloc, command, "blocks")?;
     with_option(alloc, command, "polls")
+}
+
+/// The command `pfh-make` with its two places and its options.
+fn make_command<'a>(alloc: Global) -> Result<Command<'a>, AllocError>
+    ensures { IfOk result (λ command. app_of command ≡ make_app) }
+{
+    let command = line_command(alloc, "pfh-make", "body")?.arg(place(alloc, "kept"))?;
+    let command = with_option(alloc, command, "name")?;
+    let command = with_option(alloc, command, "ext")?;
+    let command = with_option(alloc, command, "type")?;
+    let command = with_option(alloc, command, "time")?;
+    let command = with_option(alloc, command, "source")?;
+    let command = with_option(alloc, command, "destination")?;
+    with_option(alloc, command, "title")
 }
 
 /// A command with one place and no options yet.
@@ -108,7 +173,8 @@ fn place<'a>(alloc: Global, name: &'a str) -> Arg<'a>
 /// Reads the words of a line, of which the first is the command itself. Takes memory.
 fn read_line<'a>(command: Command<'a>, line: &'a [String]) -> Result<ArgMatches<'a>, Refusal>
     ensures found { IfOk result (FindsLine (app_of command.entry) (drop 1 (map string_bytes line.now))) }
-    ensures usage { IsErrOf result Refusal.Usage → RefusesLine (app_of command.entry) (drop 1 (map string_bytes line.now)) }
+    ensures usage { IsErrOf result Refusal.Usage →
+        RefusesLine (app_of command.entry) (drop 1 (map string_bytes line.now)) }
     ensures built { IsErrOf result Refusal.NotBuilt → ⊥ }
 {
     match command.try_get_matches_from(line) {

@@ -1,6 +1,6 @@
 //! What the words ask for, from outside.
 
-use crate::{Refusal, Request, Words, read};
+use crate::{MakeRequest, Refusal, Request, Words, read};
 use px_base::OutOfMemory;
 use std::alloc::{AllocError, Global};
 use std::test::Fail;
@@ -10,7 +10,7 @@ const USAGE: &str = "the words are not in the command set";
 const NOT_BUILT: &str = "the words ask for what is not built yet";
 
 /// Words, split at blanks, and what they ask for. More rows, played by a whole run, stand in the crate `command_rows`.
-const WORDS: [(&str, &str); 40] = [
+const WORDS: [(&str, &str); 50] = [
     ("", USAGE),
     ("none - SESSION NOCALL", USAGE),
     ("none - session NOCALL", "session NOCALL"),
@@ -57,19 +57,32 @@ const WORDS: [(&str, &str); 40] = [
     ("none - frames ", "frames "),
     ("none - frames -", "frames -"),
     ("none host: frames a", USAGE),
+    ("none none pfh-check a", "check a"),
+    ("disk.img - pfh-check ", "check "),
+    ("none none pfh-show -- --name", "show --name"),
+    (
+        "none none pfh-make A B --name MSG",
+        "make A B MSG. 0 0 >- -",
+    ),
+    (
+        "none none pfh-make A B --name MSG --ext TXT --type 255 --time 4294967295 --source KA9XYZ --destination KB0ABC --title Hello",
+        "make A B MSG.TXT 255 4294967295 KA9XYZ>KB0ABC Hello",
+    ),
+    (
+        "none x:1 pfh-make --title= --destination=- --name=A=B -- --ext -",
+        "make --ext - A=B. 0 0 >- ",
+    ),
+    (
+        "none - pfh-make --time 007 A --name - --source=--x ",
+        "make A  -. 0 7 --x>- -",
+    ),
+    ("none none pfh-make A B --name \u{7f}", USAGE),
+    ("none none pfh-make A B --name \u{1f}", USAGE),
+    ("none none pfh-make A B --name X --ext \u{9}", USAGE),
 ];
 
 /// Words of commands that aren't built yet.
-const UNBUILT: [&str; 8] = [
-    "serve",
-    "send",
-    "fetch",
-    "list",
-    "pfh-check",
-    "pfh-show",
-    "pfh-make",
-    "rehearse",
-];
+const UNBUILT: [&str; 5] = ["serve", "send", "fetch", "list", "rehearse"];
 
 /// The words of a text.
 fn words_of(alloc: Global, text: &str) -> Result<Words, OutOfMemory> {
@@ -88,8 +101,27 @@ fn told(alloc: Global, asked: &Result<Request<'_>, Refusal>) -> Result<String, A
             None => format!(in alloc; "session {}", session.caller),
         },
         Ok(Request::Frames { name }) => format!(in alloc; "frames {name}"),
+        Ok(Request::PfhCheck { name }) => format!(in alloc; "check {name}"),
+        Ok(Request::PfhShow { name }) => format!(in alloc; "show {name}"),
+        Ok(Request::PfhMake(request)) => told_make(alloc, request),
         Err(refusal) => refusal.to_string(alloc),
     }
+}
+
+/// What is to be made, as text: the names on the shelf, name and extension, type, time, source and destination, and title.
+fn told_make(alloc: Global, request: &MakeRequest<'_>) -> Result<String, AllocError> {
+    let destination = request.destination.unwrap_or("-");
+    let title = request.title.unwrap_or("-");
+    format!(in alloc;
+        "make {} {} {}.{} {} {} {}>{destination} {title}",
+        request.body,
+        request.kept,
+        request.name,
+        request.ext,
+        request.file_type,
+        request.time,
+        request.source
+    )
 }
 
 #[test]
