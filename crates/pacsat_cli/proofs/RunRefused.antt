@@ -8,7 +8,7 @@ use Rattle.px_base.specs.Shelves.{Holding, content_of}
 use Rattle.px_base.specs.declared.air.Turn.{Turn}
 use Rattle.px_base.proofs.Told.{Gains-none}
 use Rattle.command_words.specs.Laws.{OnlyOne}
-use Rattle.command_words.specs.Words.{IsFrames, IsSession, IsUnbuilt, IsUsage, NamesBuilt}
+use Rattle.command_words.specs.Words.{AsksHeader, IsFrames, IsSession, IsUnbuilt, IsUsage, NamesBuilt}
 use Rattle.command_words.specs.declared.request.Refusal.{Refusal}
 use Rattle.command_words.specs.declared.request.Refusal.TheVariants as refusal
 use Rattle.pacsat_cli.specs.declared.status.Status.{Status}
@@ -40,6 +40,11 @@ pub refused-not : (why : Refusal) (other : Status) → is_refusal_status other �
 refused-not refusal.Usage other isnt is = let same = ap is_refusal_status is in absurd (cc)
 refused-not refusal.NotBuilt other isnt is = let same = ap is_refusal_status is in absurd (cc)
 refused-not refusal.OutOfMemory other isnt is = let same = ap is_refusal_status is in absurd (cc)
+
+-- words that ask for a header aren't refused
+pub header_unrefused : (words : List (List ℕ)) → OnlyOne words → AsksHeader words → AreRefused words → ⊥
+header_unrefused words only header (inl usage) = only.usage_header usage header
+header_unrefused words only header (inr unbuilt) = only.unbuilt_header unbuilt header
 
 module _ (words : List (List ℕ)) (only : OnlyOne words) where
   pub refused-usage : (why : Refusal) → MeansOf words why → status_of_refusal why ≡ status.Usage → IsUsage words
@@ -73,7 +78,16 @@ module _ (words : List (List ℕ)) (only : OnlyOne words) where
   frames-memory refusal.NotBuilt h name is = absurd (only.unbuilt_frames h (name, is))
   frames-memory refusal.OutOfMemory h name is = refl
 
+  -- and so are words that ask for a header
+  pub header-memory : (why : Refusal) → MeansOf words why → AsksHeader words → status_of_refusal why ≡ status.OutOfMemory
+  header-memory refusal.Usage h header = absurd (only.usage_header h header)
+  header-memory refusal.NotBuilt h header = absurd (only.unbuilt_header h header)
+  header-memory refusal.OutOfMemory h header = refl
+
   module _ (why : Refusal) (h : MeansOf words why) where
+    pub refused-header : AsksHeader words → IsUnless (status_of_refusal why) status.NotBuilt (status.OutOfMemory ∷ [])
+    refused-header = λ header. inr (0, omega arith, sym (header-memory why h header))
+
     module _ {A C : Type 0} (heard : A → Option (List Turn)) (said : A → Option (List ℕ)) (given : C → Option (List ℕ)) (air : A) (clock : C) where
       pub refused-session : RunsSession words heard said given air air clock clock (status_of_refusal why)
       refused-session = λ request is. inl (session-memory why h request.caller request.moment is, refl, refl)

@@ -2,7 +2,7 @@
 
 ghost use Rattle.std.specs.Prelude.{◌≡◌, ◌≤◌, [], ◌∷◌, IsSome};
 ghost use Rattle.command_words.specs.Laws.{AsksFrames, AsksSession};
-ghost use Rattle.command_words.specs.Words.{IsUnbuilt, IsUsage, NamesBuilt};
+ghost use Rattle.command_words.specs.Words.{AsksHeader, IsUnbuilt, IsUsage, NamesBuilt};
 ghost use Rattle.px_base.specs.Outside.{Rose};
 ghost use Rattle.pacsat_cli.specs.Frames.{IsNoSuchBy, IsShownBy, IsTooLongBy, RunsFrames, WhereHeld};
 ghost use Rattle.pacsat_cli.specs.Run.{AreRefused, AsksMoment, HasShelfCause, HasStatusCause, IsUnless, Shows, Stays};
@@ -30,8 +30,9 @@ pub const BLOCKS: u32 = 65_536;
 /// Does what the words ask for, over this air, shelf, output and clock, and shows the status's line on the output.
 ///
 /// Two commands are built: `session`, one session over FTL0 octets on standard input and output, with a store in
-/// memory; and `frames`, which shows recorded KISS text. Places for a disk before the air and for a bench after the
-/// clock come with the commands that use them. Takes memory.
+/// memory; and `frames`, which shows recorded KISS text. The words of `pfh-check`, `pfh-show` and `pfh-make` are read, and
+/// end with NotBuilt until these commands are. Places for a disk before the air and for a bench after the clock come with
+/// the commands that use them. Takes memory.
 pub fn run<A: Air, S: Shelf, O: Out, C: Clock>(
     alloc: Global,
     words: &Words,
@@ -48,6 +49,10 @@ pub fn run<A: Air, S: Shelf, O: Out, C: Clock>(
     ensures unread { AreRefused words.now → result ≡ Status.OutOfMemory → NamesBuilt words.now }
     ensures untouched { AreRefused words.now → (air.new ≡ air.old) × (shelf.new ≡ shelf.old) × (clock.new ≡ clock.old) }
     ensures held { Stays S.held shelf.old shelf.new }
+
+    // Words that ask for a file's header give NotBuilt too, but for want of memory to read them, and nothing is touched.
+    ensures header_words { AsksHeader words.now → IsUnless result Status.NotBuilt (Status.OutOfMemory ∷ []) }
+    ensures header_alone { AsksHeader words.now → (air.new ≡ air.old) × (shelf.new ≡ shelf.old) × (clock.new ≡ clock.old) }
 
     // A session says the replies of its table for the packets of the octets heard, LOGIN_RESP first, and ends with a
     // status that has its cause; or there was no memory to read the words. With a moment given the clock isn't asked.
@@ -99,6 +104,18 @@ pub fn run<A: Air, S: Shelf, O: Out, C: Clock>(
             let status = run_frames(alloc, name, shelf, out);
             show_line(status, out);
             status
+        }
+        Ok(Request::PfhCheck { name: _ }) => {
+            show_line(Status::NotBuilt, out);
+            Status::NotBuilt
+        }
+        Ok(Request::PfhShow { name: _ }) => {
+            show_line(Status::NotBuilt, out);
+            Status::NotBuilt
+        }
+        Ok(Request::PfhMake(_)) => {
+            show_line(Status::NotBuilt, out);
+            Status::NotBuilt
         }
         Err(refusal) => {
             let status = status_of_refused(refusal);

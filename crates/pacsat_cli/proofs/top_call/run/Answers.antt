@@ -2,9 +2,10 @@
 use Rattle.std.proofs.Common.{refl, ap, sym, inl, inr, Err}
 use Rattle.std.specs.Prelude.{Some}
 use Rattle.std.specs.Option.{IsSome}
+use Rattle.command_words.specs.Words.{AsksHeader}
 use Rattle.pacsat_cli.specs.declared.status.Status.TheVariants as status
 use Rattle.pacsat_cli.proofs.RunFrames.{frames-done, frames-no_such, frames-not, frames-rose, frames-runs, frames-shown, frames-too_long}
-use Rattle.pacsat_cli.proofs.RunRefused.{means, refused-complete, refused-frames, refused-no_such, refused-not, refused-not_built, refused-session, refused-shown, refused-spent, refused-too_long, refused-unbuilt, refused-unread, refused-usage, refused-usage_told}
+use Rattle.pacsat_cli.proofs.RunRefused.{header_unrefused, means, refused-complete, refused-frames, refused-header, refused-no_such, refused-not, refused-not_built, refused-session, refused-shown, refused-spent, refused-too_long, refused-unbuilt, refused-unread, refused-usage, refused-usage_told}
 use Rattle.pacsat_cli.proofs.RunSession.{asked_moment, session-complete, session-done, session-not, session-not_built, session-runs, session-spent}
 use Rattle.pacsat_cli.proofs.top_call.run.Goals as goal
 
@@ -27,6 +28,8 @@ returns-in-Ok-Session g c =
       unread = λ refused. absurd (elim refused [ inl usage ↦ only.usage_session usage (caller, moment, asks) | inr unbuilt ↦ only.unbuilt_session unbuilt (caller, moment, asks) ]);
       untouched = λ refused. absurd (elim refused [ inl usage ↦ only.usage_session usage (caller, moment, asks) | inr unbuilt ↦ only.unbuilt_session unbuilt (caller, moment, asks) ]);
       held = refl;
+      header_words = λ header. absurd (only.session_header (caller, moment, asks) header);
+      header_alone = λ header. absurd (only.session_header (caller, moment, asks) header);
       session = session-runs g.A.Air.heard g.A.Air.said g.C.Clock.given c.args.air.now ran.new.air c.args.clock.now ran.new.clock request ran.result ran.ensures.ended words asks determined;
       session_alone = λ _. refl;
       clock_unasked = λ given. ran.ensures.clock (asked_moment words caller moment asks determined given);
@@ -67,6 +70,8 @@ returns-in-Ok-Frames g c =
       unread = λ refused. absurd (elim refused [ inl usage ↦ only.usage_frames usage (name, asks) | inr unbuilt ↦ only.unbuilt_frames unbuilt (name, asks) ]);
       untouched = λ refused. absurd (elim refused [ inl usage ↦ only.usage_frames usage (name, asks) | inr unbuilt ↦ only.unbuilt_frames unbuilt (name, asks) ]);
       held = ran.ensures.held;
+      header_words = λ header. absurd (only.frames_header (name, asks) header);
+      header_alone = λ header. absurd (only.frames_header (name, asks) header);
       session = λ request is. absurd (only.session_frames (request.caller, request.moment, is) (name, asks));
       session_alone = λ session. absurd (only.session_frames session (name, asks));
       clock_unasked = λ _. refl;
@@ -93,6 +98,117 @@ returns-in-Ok-Frames g c =
       shown = λ others. absurd (others (name, asks));
     }
 
+pub returns-in-Ok-PfhCheck : goal.returns-in-Ok-PfhCheck
+returns-in-Ok-PfhCheck g c =
+    let words = c.args.words.now in
+    let asks = rw c.in-Ok-PfhCheck.field-0-is at c.in-Ok-PfhCheck.ensures.asks in
+    let header : AsksHeader words = inl (_, asks) in
+    let only = c.one_meaning.ensures.only_one words in
+    let line = c.show_line-in-Ok-PfhCheck.ensures in
+    record {
+      usage = λ e. absurd (cc);
+      usage_told = λ usage. absurd (only.usage_header usage header);
+      unbuilt_words = λ unbuilt. absurd (only.unbuilt_header unbuilt header);
+      unread = λ refused. absurd (header_unrefused words only header refused);
+      untouched = λ refused. absurd (header_unrefused words only header refused);
+      held = refl;
+      header_words = λ _. inl refl;
+      header_alone = λ _. (refl, refl, refl);
+      session = λ request is. absurd (only.session_header (request.caller, request.moment, is) header);
+      session_alone = λ _. refl;
+      clock_unasked = λ _. refl;
+      complete = λ told. absurd (only.session_header (told.caller, told.moment, told.asks) header);
+      not_built = λ told. absurd (only.session_header (told.caller, told.moment, told.asks) header);
+      spent = λ told. absurd (only.session_header (told.caller, told.moment, told.asks) header);
+      frames = λ name is. absurd (only.frames_header (name, is) header);
+      frames_alone = λ _. (refl, refl);
+      no_such = λ name shelf is. absurd (only.frames_header (name, is) header);
+      too_long = λ name shelf is. absurd (only.frames_header (name, is) header);
+      frames_done = λ name shelf is. absurd (only.frames_header (name, is) header);
+      air_read = record { rose = λ e. absurd (cc); same = λ _. refl };
+      air_write = record { rose = λ e. absurd (cc); same = λ _. refl };
+      shelf = record { rose = λ e. absurd (cc); same = λ _ _. refl };
+      out = λ e. absurd (cc);
+      session_done = λ _ e. absurd (cc);
+      done = λ e. absurd (cc);
+      unshown = λ e. absurd (cc);
+      shown = λ _. line.shown;
+    }
+
+pub returns-in-Ok-PfhShow : goal.returns-in-Ok-PfhShow
+returns-in-Ok-PfhShow g c =
+    let words = c.args.words.now in
+    let asks = rw c.in-Ok-PfhShow.field-0-is at c.in-Ok-PfhShow.ensures.asks in
+    let header : AsksHeader words = inr (inl (_, asks)) in
+    let only = c.one_meaning.ensures.only_one words in
+    let line = c.show_line-in-Ok-PfhShow.ensures in
+    record {
+      usage = λ e. absurd (cc);
+      usage_told = λ usage. absurd (only.usage_header usage header);
+      unbuilt_words = λ unbuilt. absurd (only.unbuilt_header unbuilt header);
+      unread = λ refused. absurd (header_unrefused words only header refused);
+      untouched = λ refused. absurd (header_unrefused words only header refused);
+      held = refl;
+      header_words = λ _. inl refl;
+      header_alone = λ _. (refl, refl, refl);
+      session = λ request is. absurd (only.session_header (request.caller, request.moment, is) header);
+      session_alone = λ _. refl;
+      clock_unasked = λ _. refl;
+      complete = λ told. absurd (only.session_header (told.caller, told.moment, told.asks) header);
+      not_built = λ told. absurd (only.session_header (told.caller, told.moment, told.asks) header);
+      spent = λ told. absurd (only.session_header (told.caller, told.moment, told.asks) header);
+      frames = λ name is. absurd (only.frames_header (name, is) header);
+      frames_alone = λ _. (refl, refl);
+      no_such = λ name shelf is. absurd (only.frames_header (name, is) header);
+      too_long = λ name shelf is. absurd (only.frames_header (name, is) header);
+      frames_done = λ name shelf is. absurd (only.frames_header (name, is) header);
+      air_read = record { rose = λ e. absurd (cc); same = λ _. refl };
+      air_write = record { rose = λ e. absurd (cc); same = λ _. refl };
+      shelf = record { rose = λ e. absurd (cc); same = λ _ _. refl };
+      out = λ e. absurd (cc);
+      session_done = λ _ e. absurd (cc);
+      done = λ e. absurd (cc);
+      unshown = λ e. absurd (cc);
+      shown = λ _. line.shown;
+    }
+
+pub returns-in-Ok-PfhMake : goal.returns-in-Ok-PfhMake
+returns-in-Ok-PfhMake g c =
+    let words = c.args.words.now in
+    let asks = rw c.in-Ok-PfhMake.field-0-is at c.in-Ok-PfhMake.ensures.asks in
+    let header : AsksHeader words = inr (inr (_, _, _, asks)) in
+    let only = c.one_meaning.ensures.only_one words in
+    let line = c.show_line-in-Ok-PfhMake.ensures in
+    record {
+      usage = λ e. absurd (cc);
+      usage_told = λ usage. absurd (only.usage_header usage header);
+      unbuilt_words = λ unbuilt. absurd (only.unbuilt_header unbuilt header);
+      unread = λ refused. absurd (header_unrefused words only header refused);
+      untouched = λ refused. absurd (header_unrefused words only header refused);
+      held = refl;
+      header_words = λ _. inl refl;
+      header_alone = λ _. (refl, refl, refl);
+      session = λ request is. absurd (only.session_header (request.caller, request.moment, is) header);
+      session_alone = λ _. refl;
+      clock_unasked = λ _. refl;
+      complete = λ told. absurd (only.session_header (told.caller, told.moment, told.asks) header);
+      not_built = λ told. absurd (only.session_header (told.caller, told.moment, told.asks) header);
+      spent = λ told. absurd (only.session_header (told.caller, told.moment, told.asks) header);
+      frames = λ name is. absurd (only.frames_header (name, is) header);
+      frames_alone = λ _. (refl, refl);
+      no_such = λ name shelf is. absurd (only.frames_header (name, is) header);
+      too_long = λ name shelf is. absurd (only.frames_header (name, is) header);
+      frames_done = λ name shelf is. absurd (only.frames_header (name, is) header);
+      air_read = record { rose = λ e. absurd (cc); same = λ _. refl };
+      air_write = record { rose = λ e. absurd (cc); same = λ _. refl };
+      shelf = record { rose = λ e. absurd (cc); same = λ _ _. refl };
+      out = λ e. absurd (cc);
+      session_done = λ _ e. absurd (cc);
+      done = λ e. absurd (cc);
+      unshown = λ e. absurd (cc);
+      shown = λ _. line.shown;
+    }
+
 pub returns-in-Err : goal.returns-in-Err
 returns-in-Err g c =
     let why = c.in-Err.refusal in
@@ -110,6 +226,8 @@ returns-in-Err g c =
       unread = λ _. refused-unread words only why h;
       untouched = λ _. (refl, refl, refl);
       held = refl;
+      header_words = refused-header words only why h;
+      header_alone = λ _. (refl, refl, refl);
       session = refused-session words only why h g.A.Air.heard g.A.Air.said g.C.Clock.given c.args.air.now c.args.clock.now;
       session_alone = λ _. refl;
       clock_unasked = λ _. refl;
