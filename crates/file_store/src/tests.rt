@@ -23,16 +23,6 @@ fn caller() -> Call {
     }
 }
 
-/// A file of 1,100 octets: the header of `FILE` with this length and its sum, and a body of zeros.
-fn long_file() -> [u8; 1_100] {
-    let mut octets = [0u8; 1_100];
-    octets[..73].copy_from_slice(&FILE);
-    octets[29] = 0x4C;
-    octets[30] = 0x04;
-    octets[63] = 0x5D;
-    octets
-}
-
 fn appended(rt: &impl Abort, answer: Result<OpenUpload, AppendRefusal>) -> OpenUpload
     ensures { answer ≡ Ok result }
 {
@@ -95,7 +85,12 @@ fn seals_a_file(rt: HostRuntime) -> Result<(), Fail> {
 #[test]
 fn holds_whole_blocks(rt: HostRuntime) -> Result<(), Fail> {
     let mut store = FileStore::plain(rt.alloc(), Limits { blocks: 8 });
-    let octets = long_file();
+    // The header of `FILE` with another length and its sum, and a body of zeros.
+    let mut octets = [0u8; 1_100];
+    octets[..73].copy_from_slice(&FILE);
+    octets[29] = 0x4C;
+    octets[30] = 0x04;
+    octets[63] = 0x5D;
     let up = store.begin(caller(), 1_100, 5)?;
     let up = appended(&rt, store.append(up, &octets[..700]));
     assert_eq!(rt; up.held(), 512);
