@@ -1,10 +1,10 @@
 -- What `clap` makes of one word.
-use Rattle.std.proofs.Common.{◌≡◌, ◌⊎◌, ℕ, Bool, true, false, cond, List, [], ◌∷◌, ◌++◌, length, Option, None, Some, refl, sym, ◌∙◌, inl, inr, true≢false}
+use Rattle.std.proofs.Common.{◌≡◌, ℕ, Bool, true, false, cond, List, [], ◌∷◌, ◌++◌, length, Option, None, Some, refl, sym, ◌∙◌, inl, inr, true≢false}
 use Rattle.std.specs.Prelude.{slice_get}
 use Rattle.std.specs.Str.{bytes_eq, chars}
 use Rattle.std.proofs.lemmas.Bool.{and_right, cases_Bool, or_right}
 use Rattle.clap.specs.Lexer.{long_of, short_of}
-use Rattle.clap.specs.Walk.{Held, Waiting, Walk, arg_by_long, idle, option, settled_rows, walked}
+use Rattle.clap.specs.Walk.{Held, Waiting, Walk, arg_by_index, arg_by_long, idle, option, settled_rows, walked}
 use Rattle.clap.specs.Simple.{Shape}
 use Rattle.clap.specs.Takes.{settle_passes, turn_passes}
 use Rattle.clap.specs.Faults.{flags_fault, settle_fault, long_fault, option_fault, stray_fault, turn_fault, use_fault}
@@ -12,7 +12,7 @@ use Rattle.clap.specs.Kinds.{Kinds, or_else}
 use Rattle.clap.specs.declared.error.kind.ErrorKind.TheVariants as kind
 use Rattle.command_words.proofs.Uses.{Text, Uses, has, text_eq}
 use Rattle.command_words.proofs.Machine.{is_name}
-use Rattle.command_words.proofs.Rules.{Finds, by_name, has_row-rows, option_rule, option_takes, row_added, rows}
+use Rattle.command_words.proofs.Rules.{Finds, Takes, has_row-rows, next_at, option_rule, option_takes, place_rule, row_added, rows}
 
 -- the rows of these uses, and what waits to be kept
 abbrev pub held : Uses → Option (Text × List Text) → Held
@@ -67,27 +67,25 @@ pub record Settles (s : Shape) (uses : Uses) (pending : Option (Text × List Tex
   pub passes : settle_passes s.rules false (held uses pending) ≡ true
   pub rows_are : settled_rows s.rules pending (rows uses) ≡ rows kept
 
-module _ (s : Shape) (names : List Text) (id : Text) (finds : Finds s.rules names id) (again : s.args_override_self ≡ false) where
+module _ (s : Shape) (names : List Text) (finds : Finds s.rules names) (again : s.args_override_self ≡ false) where
   -- ---- what waits
 
   pub settles_none : (uses : Uses) → Settles s uses None uses
   settles_none uses = record { passes = refl; rows_are = refl }
 
-  pub settles_some : (uses : Uses) (name value : Text) → (name ≡ id) ⊎ (is_name names name ≡ true) → has name uses ≡ false
+  pub settles_some : (uses : Uses) (name value : Text) → Takes s.rules name → has name uses ≡ false
       → Settles s uses (Some (name, value ∷ [])) (uses ++ (name, value) ∷ [])
   settles_some uses name value known new =
-      let (a, found, takes) = by_name finds name known in
       record {
-        passes = rw (found, takes.passes value (rows uses), has_row-rows name uses, new) refl;
-        rows_are = rw (found, takes.used_is value (rows uses), row_added name value uses new) refl;
+        passes = rw (known.found, known.one.passes value (rows uses), has_row-rows name uses, new) refl;
+        rows_are = rw (known.found, known.one.used_is value (rows uses), row_added name value uses new) refl;
       }
 
-  pub settles_twice : (uses : Uses) (name value : Text) → (name ≡ id) ⊎ (is_name names name ≡ true) → has name uses ≡ true
+  pub settles_twice : (uses : Uses) (name value : Text) → Takes s.rules name → has name uses ≡ true
       → settle_fault s.rules false (held uses (Some (name, value ∷ []))) ≡ [] → ⊥
   settles_twice uses name value known old e =
-      let (a, found, takes) = by_name finds name known in
-      let fault : use_fault false a (value ∷ []) (rows uses) ≡ [] = rw found at e in
-      true≢false (sym old ∙ sym (has_row-rows name uses) ∙ takes.faults value (rows uses) fault)
+      let fault : use_fault false known.rule (value ∷ []) (rows uses) ≡ [] = rw known.found at e in
+      true≢false (sym old ∙ sym (has_row-rows name uses) ∙ known.one.faults value (rows uses) fault)
 
   pub settles_empty : (uses : Uses) (name : Text) → is_name names name ≡ true → settle_fault s.rules false (held uses (Some (name, []))) ≡ [] → ⊥
   settles_empty uses name known e =
@@ -96,21 +94,22 @@ module _ (s : Shape) (names : List Text) (id : Text) (finds : Finds s.rules name
 
   -- ---- a place
 
-  pub place_passes : (uses kept : Uses) (pending : Option (Text × List Text)) (word : Text) → IsPlainWord word → Settles s uses pending kept
-      → turn_passes s [] (at uses pending 1 false) word ≡ true
-  place_passes uses kept pending word plain settles =
-      rw (plain.no_end, plain.no_long, plain.no_short, finds.first, again) (or_right _ _ settles.passes)
+  pub place_passes : (uses kept : Uses) (pending : Option (Text × List Text)) (position : ℕ) (id word : Text) → arg_by_index s.rules position ≡ Some (place_rule position id)
+      → IsPlainWord word → Settles s uses pending kept → turn_passes s [] (at uses pending position false) word ≡ true
+  place_passes uses kept pending position id word here plain settles =
+      rw (plain.no_end, plain.no_long, plain.no_short, here, again) (or_right _ _ settles.passes)
 
-  pub place_walked : (uses kept : Uses) (pending : Option (Text × List Text)) (word : Text) → IsPlainWord word → Settles s uses pending kept
-      → walked s.rules [] (at uses pending 1 false) word ≡ at kept (Some (id, word ∷ [])) 2 false
+  pub place_walked : (uses kept : Uses) (pending : Option (Text × List Text)) (position : ℕ) (id word : Text) → arg_by_index s.rules position ≡ Some (place_rule position id)
+      → IsPlainWord word → Settles s uses pending kept → walked s.rules [] (at uses pending position false) word ≡ at kept (Some (id, word ∷ [])) (next_at position) false
   unfolding walked
-  place_walked uses kept pending word plain settles =
-      rw (plain.no_end, plain.no_long, plain.no_short, finds.first, and_right _ false refl, settles.rows_are) refl
+  place_walked uses kept pending position id word here plain settles =
+      rw (plain.no_end, plain.no_long, plain.no_short, here, and_right _ false refl, settles.rows_are) refl
 
-  -- a second place
-  pub stray : (uses : Uses) (pending : Option (Text × List Text)) (word : Text) → IsPlainWord word → turn_fault s [] (at uses pending 2 false) word ≡ [] → ⊥
-  stray uses pending word plain e =
-      let fault : stray_fault s ≡ [] = rw (plain.no_end, plain.no_long, plain.no_short, finds.second) at e in
+  -- a place too many
+  pub stray : (uses : Uses) (pending : Option (Text × List Text)) (position : ℕ) (word : Text) → arg_by_index s.rules position ≡ None → IsPlainWord word
+      → turn_fault s [] (at uses pending position false) word ≡ [] → ⊥
+  stray uses pending position word none plain e =
+      let fault : stray_fault s ≡ [] = rw (plain.no_end, plain.no_long, plain.no_short, none) at e in
       no_stray s.is_leaf fault
 
   -- ---- `--` and the places after it
@@ -127,14 +126,14 @@ module _ (s : Shape) (names : List Text) (id : Text) (finds : Finds s.rules name
   unfolding walked
   end_walked_option uses name position = refl
 
-  pub trailing_passes : (uses kept : Uses) (pending : Option (Text × List Text)) (word : Text) → Settles s uses pending kept
-      → turn_passes s [] (at uses pending 1 true) word ≡ true
-  trailing_passes uses kept pending word settles = rw (finds.first, again) (or_right _ _ settles.passes)
+  pub trailing_passes : (uses kept : Uses) (pending : Option (Text × List Text)) (position : ℕ) (id word : Text) → arg_by_index s.rules position ≡ Some (place_rule position id)
+      → Settles s uses pending kept → turn_passes s [] (at uses pending position true) word ≡ true
+  trailing_passes uses kept pending position id word here settles = rw (here, again) (or_right _ _ settles.passes)
 
-  pub trailing_walked : (uses kept : Uses) (pending : Option (Text × List Text)) (word : Text) → Settles s uses pending kept
-      → walked s.rules [] (at uses pending 1 true) word ≡ at kept (Some (id, word ∷ [])) 2 true
+  pub trailing_walked : (uses kept : Uses) (pending : Option (Text × List Text)) (position : ℕ) (id word : Text) → arg_by_index s.rules position ≡ Some (place_rule position id)
+      → Settles s uses pending kept → walked s.rules [] (at uses pending position true) word ≡ at kept (Some (id, word ∷ [])) (next_at position) true
   unfolding walked
-  trailing_walked uses kept pending word settles = rw (finds.first, and_right _ false refl, settles.rows_are) refl
+  trailing_walked uses kept pending position id word here settles = rw (here, and_right _ false refl, settles.rows_are) refl
 
   -- ---- a long option
 
@@ -235,16 +234,18 @@ module _ (s : Shape) (names : List Text) (id : Text) (finds : Finds s.rules name
       let fault = rw (long.no_end, long.is_long) at e in
       long_keeps (held uses (Some (name, []))) other value (settles_empty uses name known) (no_fault _ _ fault).0
 
-  pub place_stuck : (uses : Uses) (pending : Option (Text × List Text)) (word : Text) → IsPlainWord word → (settle_fault s.rules false (held uses pending) ≡ [] → ⊥)
-      → turn_fault s [] (at uses pending 1 false) word ≡ [] → ⊥
-  place_stuck uses pending word plain stuck e =
-      stuck (rw (plain.no_end, plain.no_long, plain.no_short, finds.first, and_right _ false refl, again) at e)
+  pub place_stuck : (uses : Uses) (pending : Option (Text × List Text)) (position : ℕ) (id word : Text) → arg_by_index s.rules position ≡ Some (place_rule position id)
+      → IsPlainWord word → (settle_fault s.rules false (held uses pending) ≡ [] → ⊥) → turn_fault s [] (at uses pending position false) word ≡ [] → ⊥
+  place_stuck uses pending position id word here plain stuck e =
+      stuck (rw (plain.no_end, plain.no_long, plain.no_short, here, and_right _ false refl, again) at e)
 
-  pub trailing_stuck : (uses : Uses) (pending : Option (Text × List Text)) (waiting : Waiting) (word : Text) → (settle_fault s.rules false (held uses pending) ≡ [] → ⊥)
-      → turn_fault s [] (at_trailing uses pending waiting 1) word ≡ [] → ⊥
-  trailing_stuck uses pending waiting word stuck e = stuck (rw (finds.first, and_right _ false refl, again) at e)
+  pub trailing_stuck : (uses : Uses) (pending : Option (Text × List Text)) (waiting : Waiting) (position : ℕ) (id word : Text)
+      → arg_by_index s.rules position ≡ Some (place_rule position id) → (settle_fault s.rules false (held uses pending) ≡ [] → ⊥)
+      → turn_fault s [] (at_trailing uses pending waiting position) word ≡ [] → ⊥
+  trailing_stuck uses pending waiting position id word here stuck e = stuck (rw (here, and_right _ false refl, again) at e)
 
-  pub trailing_stray : (uses : Uses) (pending : Option (Text × List Text)) (waiting : Waiting) (word : Text) → turn_fault s [] (at_trailing uses pending waiting 2) word ≡ [] → ⊥
-  trailing_stray uses pending waiting word e =
-      let fault : stray_fault s ≡ [] = rw finds.second at e in
+  pub trailing_stray : (uses : Uses) (pending : Option (Text × List Text)) (waiting : Waiting) (position : ℕ) (word : Text) → arg_by_index s.rules position ≡ None
+      → turn_fault s [] (at_trailing uses pending waiting position) word ≡ [] → ⊥
+  trailing_stray uses pending waiting position word none e =
+      let fault : stray_fault s ≡ [] = rw none at e in
       no_stray s.is_leaf fault

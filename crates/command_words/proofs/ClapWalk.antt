@@ -1,18 +1,18 @@
 -- What `clap` makes of all the words is what `run` reads.
-use Rattle.std.proofs.Common.{◌≡◌, ◌≢◌, ◌==◌, ◌||◌, arith, ne_eqb, ◌⊎◌, ℕ, Bool, true, false, cond, List, [], ◌∷◌, ◌++◌, map, Option, None, Some, is_some, refl, sym, ap, ◌∙◌, subst, inl, inr}
+use Rattle.std.proofs.Common.{◌≡◌, ◌≢◌, ◌==◌, arith, ne_eqb, ℕ, Bool, true, false, cond, List, [], ◌∷◌, ◌++◌, Option, None, Some, is_some, refl, sym, ap, ◌∙◌, subst, inl, inr}
 use Rattle.std.specs.Prelude.{fold, slice_get}
 use Rattle.std.specs.List.{AllByRecursion, before_first}
-use Rattle.std.specs.Str.{bytes_eq, chars}
-use Rattle.std.proofs.lemmas.Bool.{cases_Bool, or_right}
+use Rattle.std.specs.Str.{chars}
+use Rattle.std.proofs.lemmas.Bool.{cases_Bool}
 use Rattle.clap.specs.Walk.{Walk, Waiting, idle, option, settled_rows, walked}
 use Rattle.clap.specs.Simple.{Shape}
 use Rattle.clap.specs.Takes.{settle_passes, turn_passes, walk_passes}
 use Rattle.clap.specs.Faults.{settle_fault, turn_fault, walk_fault}
 use Rattle.command_words.specs.Grammar.{IsDashed}
-use Rattle.command_words.proofs.Uses.{Text, Use, Uses, add, add_all, add_all-none, has, text_eq}
+use Rattle.command_words.proofs.Uses.{Text, Use, Uses, add, has}
 use Rattle.command_words.proofs.WordKinds.{Kind, ended, form, is_end, is_long, is_plain, is_short, kind, long, plain, short, kind-long, kind-plain, kind-short, value_in}
-use Rattle.command_words.proofs.Machine.{is_name, on_idle, on_waiting, run}
-use Rattle.command_words.proofs.Rules.{Finds, name_other, rows}
+use Rattle.command_words.proofs.Machine.{add_places, is_name, on_idle, on_place, on_waiting, run}
+use Rattle.command_words.proofs.Rules.{AreNext, Finds, Takes, next_at, option_rules, place_rules, rows}
 use Rattle.command_words.proofs.ClapSteps as step
 use Rattle.command_words.proofs.ClapSteps.{IsLongWord, IsPlainWord, IsShortWord, Settles, at, at_option, at_trailing, held, no_fault}
 
@@ -90,25 +90,27 @@ long_word word x rest is = record { no_end = rw is refl; is_long = rw is refl }
 
 -- ---- uses
 
-has-more : (id : Text) (uses : Uses) (u : Use) → has id (uses ++ u ∷ []) ≡ (has id uses || bytes_eq u.0 id)
-has-more id [] u = elim (cases_Bool (bytes_eq u.0 id)) [ inl is ↦ rw is refl | inr is ↦ rw is refl ]
-has-more id (v ∷ uses) u = elim (cases_Bool (bytes_eq v.0 id)) [ inl is ↦ rw is refl | inr is ↦ rw is (has-more id uses u) ]
-
-or_false : (b : Bool) → (b || false) ≡ b
-or_false true = refl
-or_false false = refl
-
 cond_none : (b : Bool) (o : Option Uses) → o ≡ None → cond b o None ≡ None
 cond_none true o e = e
 cond_none false o e = refl
 
-idle_none : (names : List Text) (id : Text) (k : Kind) (word : Text) (words : List Text) (next : Option Text → Option Uses → Option Uses)
-    → ((waiting : Option Text) → next waiting None ≡ None) → on_idle names id None k word words next ≡ None
-idle_none names id ended word words next h = add_all-none (map (λ w. (id, w)) words)
-idle_none names id (long name None) word words next h = cond_none (is_name names name) (next (Some name) None) (h (Some name))
-idle_none names id (long name (Some value)) word words next h = cond_none (is_name names name) (next None None) (h None)
-idle_none names id (short flags) word words next h = refl
-idle_none names id plain word words next h = h None
+places_none : (left words : List Text) → add_places left words None ≡ None
+places_none left [] = refl
+places_none [] (word ∷ words) = refl
+places_none (id ∷ left) (word ∷ words) = places_none left words
+
+place_none : (left : List Text) (word : Text) (next : List Text → Option Text → Option Uses → Option Uses)
+    → ((rest : List Text) (waiting : Option Text) → next rest waiting None ≡ None) → on_place left word None next ≡ None
+place_none [] word next h = refl
+place_none (id ∷ left) word next h = h left None
+
+idle_none : (names left : List Text) (k : Kind) (word : Text) (words : List Text) (next : List Text → Option Text → Option Uses → Option Uses)
+    → ((rest : List Text) (waiting : Option Text) → next rest waiting None ≡ None) → on_idle names left None k word words next ≡ None
+idle_none names left ended word words next h = places_none left words
+idle_none names left (long name None) word words next h = cond_none (is_name names name) (next left (Some name) None) (h left (Some name))
+idle_none names left (long name (Some value)) word words next h = cond_none (is_name names name) (next left None None) (h left None)
+idle_none names left (short flags) word words next h = refl
+idle_none names left plain word words next h = place_none left word next h
 
 waiting_none : (name : Text) (k : Kind) (word : Text) (next : Option Text → Option Uses → Option Uses)
     → ((waiting : Option Text) → next waiting None ≡ None) → on_waiting name None k word next ≡ None
@@ -118,11 +120,11 @@ waiting_none name (short flags) word next h = refl
 waiting_none name plain word next h = h None
 
 -- once two uses have one name, nothing is read
-pub run-none : (names : List Text) (id : Text) (words : List Text) (waiting : Option Text) → run names id words waiting None ≡ None
-run-none names id [] None = refl
-run-none names id [] (Some name) = refl
-run-none names id (word ∷ words) None = idle_none names id (kind word) word words (run names id words) (run-none names id words)
-run-none names id (word ∷ words) (Some name) = waiting_none name (kind word) word (run names id words) (run-none names id words)
+pub run-none : (names left words : List Text) (waiting : Option Text) → run names left words waiting None ≡ None
+run-none names left [] None = refl
+run-none names left [] (Some name) = refl
+run-none names left (word ∷ words) None = idle_none names left (kind word) word words (λ rest. run names rest words) (λ rest waiting. run-none names rest words waiting)
+run-none names left (word ∷ words) (Some name) = waiting_none name (kind word) word (run names left words) (run-none names left words)
 
 add_new : (u : Use) (uses : Uses) → has u.0 uses ≡ false → add u (Some uses) ≡ Some (uses ++ u ∷ [])
 add_new u uses new = rw new refl
@@ -133,154 +135,150 @@ add_old u uses old = rw old refl
 agrees_as : (s : Shape) (w : Walk) (words : List Text) (uses same : Option Uses) → uses ≡ same → Agrees s w words same → Agrees s w words uses
 agrees_as s w words uses same is h = subst (λ (o : Option Uses). Agrees s w words o) (sym is) h
 
--- which place is next
-abbrev pub place_no : Bool → ℕ
-place_no true = 2
-place_no false = 1
-
-module _ (s : Shape) (names : List Text) (id : Text) (finds : Finds s.rules names id) (again : s.args_override_self ≡ false) where
+module _ (s : Shape) (names : List Text) (finds : Finds s.rules names) (again : s.args_override_self ≡ false) where
   -- ---- after `--`
 
-  trailing_all_stuck : (words : List Text) (uses : Uses) (pending : Option (Text × List Text)) (waiting : Waiting) (placed : Bool)
-      → (settle_fault s.rules false (held uses pending) ≡ [] → ⊥) → Agrees s (at_trailing uses pending waiting (place_no placed)) words None
-  trailing_all_stuck [] uses pending waiting placed stuck = stops_stuck s (at_trailing uses pending waiting (place_no placed)) stuck
-  trailing_all_stuck (word ∷ words) uses pending waiting true stuck = refuses s _ word words (step.trailing_stray s names id finds again uses pending waiting word)
-  trailing_all_stuck (word ∷ words) uses pending waiting false stuck = refuses s _ word words (step.trailing_stuck s names id finds again uses pending waiting word stuck)
+  trailing_all_stuck : (words : List Text) (uses : Uses) (pending : Option (Text × List Text)) (waiting : Waiting) (position : ℕ) (left : List Text) → AreNext s.rules position left
+      → (settle_fault s.rules false (held uses pending) ≡ [] → ⊥) → Agrees s (at_trailing uses pending waiting position) words None
+  trailing_all_stuck [] uses pending waiting position left next stuck = stops_stuck s (at_trailing uses pending waiting position) stuck
+  trailing_all_stuck (word ∷ words) uses pending waiting position [] next stuck =
+      refuses s _ word words (step.trailing_stray s names finds again uses pending waiting position word next)
+  trailing_all_stuck (word ∷ words) uses pending waiting position (id ∷ left) next stuck =
+      refuses s _ word words (step.trailing_stuck s names finds again uses pending waiting position id word next.0 stuck)
 
-  trailing_all : (words : List Text) (uses kept : Uses) (pending : Option (Text × List Text)) (placed : Bool) → Settles s uses pending kept → has id kept ≡ placed
-      → Agrees s (at_trailing uses pending idle (place_no placed)) words (add_all (Some kept) (map (λ w. (id, w)) words))
-  trailing_all [] uses kept pending placed settles is = stops s uses kept pending idle (place_no placed) true settles
-  trailing_all (word ∷ words) uses kept pending true settles is =
-      agrees_as s _ (word ∷ words) _ None (ap (λ (o : Option Uses). add_all o (map (λ w. (id, w)) words)) (add_old (id, word) kept is) ∙ add_all-none (map (λ w. (id, w)) words))
-      (refuses s _ word words (step.trailing_stray s names id finds again uses pending idle word))
-  trailing_all (word ∷ words) uses kept pending false settles is =
-      agrees_as s _ (word ∷ words) _ _ (ap (λ (o : Option Uses). add_all o (map (λ w. (id, w)) words)) (add_new (id, word) kept is))
-      (goes_on s _ (at_trailing kept (Some (id, word ∷ [])) idle 2) word words _ (step.trailing_passes s names id finds again uses kept pending word settles)
-      (step.trailing_walked s names id finds again uses kept pending word settles)
-      (trailing_all words kept (kept ++ (id, word) ∷ []) (Some (id, word ∷ [])) true (step.settles_some s names id finds again kept id word (inl refl) is)
-      (has-more id kept (id, word) ∙ rw (text_eq id id refl) (or_right (has id kept) true refl))))
+  trailing_all : (words : List Text) (uses kept : Uses) (pending : Option (Text × List Text)) (position : ℕ) (left : List Text) → AreNext s.rules position left
+      → Settles s uses pending kept → Agrees s (at_trailing uses pending idle position) words (add_places left words (Some kept))
+  trailing_all [] uses kept pending position left next settles = stops s uses kept pending idle position true settles
+  trailing_all (word ∷ words) uses kept pending position [] next settles =
+      refuses s _ word words (step.trailing_stray s names finds again uses pending idle position word next)
+  trailing_all (word ∷ words) uses kept pending position (id ∷ left) next settles =
+      goes_on s _ (at_trailing kept (Some (id, word ∷ [])) idle (next_at position)) word words _
+      (step.trailing_passes s names finds again uses kept pending position id word next.0 settles)
+      (step.trailing_walked s names finds again uses kept pending position id word next.0 settles)
+      (elim (cases_Bool (has id kept)) [
+        | inl old ↦ agrees_as s _ words _ None (ap (add_places left words) (add_old (id, word) kept old) ∙ places_none left words)
+            (trailing_all_stuck words kept (Some (id, word ∷ [])) idle (next_at position) left next.2
+            (step.settles_twice s names finds again kept id word (place_rules position id next.1) old))
+        | inr new ↦ agrees_as s _ words _ (add_places left words (Some (kept ++ (id, word) ∷ []))) (ap (add_places left words) (add_new (id, word) kept new))
+            (trailing_all words kept (kept ++ (id, word) ∷ []) (Some (id, word ∷ [])) (next_at position) left next.2
+            (step.settles_some s names finds again kept id word (place_rules position id next.1) new))
+      ])
 
   -- ---- before it
 
-  place_refused : (uses : Uses) (pending : Option (Text × List Text)) (placed : Bool) (word : Text) → IsPlainWord word
-      → (settle_fault s.rules false (held uses pending) ≡ [] → ⊥) → turn_fault s [] (at uses pending (place_no placed) false) word ≡ [] → ⊥
-  place_refused uses pending true word word_is stuck = step.stray s names id finds again uses pending word word_is
-  place_refused uses pending false word word_is stuck = step.place_stuck s names id finds again uses pending word word_is stuck
+  place_refused : (uses : Uses) (pending : Option (Text × List Text)) (position : ℕ) (left : List Text) → AreNext s.rules position left → (word : Text) → IsPlainWord word
+      → (settle_fault s.rules false (held uses pending) ≡ [] → ⊥) → turn_fault s [] (at uses pending position false) word ≡ [] → ⊥
+  place_refused uses pending position [] next word word_is stuck = step.stray s names finds again uses pending position word next word_is
+  place_refused uses pending position (id ∷ left) next word word_is stuck = step.place_stuck s names finds again uses pending position id word next.0 word_is stuck
 
-  stuck_all : (words : List Text) (uses : Uses) (pending : Option (Text × List Text)) (placed : Bool) → AllByRecursion IsFine words
-      → (settle_fault s.rules false (held uses pending) ≡ [] → ⊥) → Agrees s (at uses pending (place_no placed) false) words None
-  stuck_all [] uses pending placed fine stuck = stops_stuck s (at uses pending (place_no placed) false) stuck
-  stuck_all (word ∷ words) uses pending placed fine stuck = elim (form word) [
-    | is_end is ↦ rw is (goes_on s _ (at_trailing uses pending idle (place_no placed)) (45 ∷ 45 ∷ []) words None (step.end_passes s names id finds again uses pending (place_no placed))
-        (step.end_walked s names id finds again uses pending (place_no placed)) (trailing_all_stuck words uses pending idle placed stuck))
-    | is_long x rest is ↦ refuses s _ word words (step.long_stuck s names id finds again uses pending (place_no placed) word _ _ (long_word word x rest is) stuck)
-    | is_short x rest other is ↦ refuses s _ word words (step.short_unknown s names id finds again uses pending (place_no placed) word _ (short_word word x rest fine.0 other is))
-    | is_plain none ↦ refuses s _ word words (place_refused uses pending placed word (plain_word word none) stuck)
+  stuck_all : (words : List Text) (uses : Uses) (pending : Option (Text × List Text)) (position : ℕ) (left : List Text) → AreNext s.rules position left → AllByRecursion IsFine words
+      → (settle_fault s.rules false (held uses pending) ≡ [] → ⊥) → Agrees s (at uses pending position false) words None
+  stuck_all [] uses pending position left next fine stuck = stops_stuck s (at uses pending position false) stuck
+  stuck_all (word ∷ words) uses pending position left next fine stuck = elim (form word) [
+    | is_end is ↦ rw is (goes_on s _ (at_trailing uses pending idle position) (45 ∷ 45 ∷ []) words None (step.end_passes s names finds again uses pending position)
+        (step.end_walked s names finds again uses pending position) (trailing_all_stuck words uses pending idle position left next stuck))
+    | is_long x rest is ↦ refuses s _ word words (step.long_stuck s names finds again uses pending position word _ _ (long_word word x rest is) stuck)
+    | is_short x rest other is ↦ refuses s _ word words (step.short_unknown s names finds again uses pending position word _ (short_word word x rest fine.0 other is))
+    | is_plain none ↦ refuses s _ word words (place_refused uses pending position left next word (plain_word word none) stuck)
   ]
 
   -- a use that the words give next, and that waits to be kept
-  next_use : (words : List Text) (kept : Uses) (u : Use) (placed : Bool) → AllByRecursion IsFine words → (u.0 ≡ id) ⊎ (is_name names u.0 ≡ true)
-      → ((uses all : Uses) (pending : Option (Text × List Text)) → Settles s uses pending all → has id all ≡ placed
-      → Agrees s (at uses pending (place_no placed) false) words (run names id words None (Some all)))
-      → has id (kept ++ u ∷ []) ≡ placed → Agrees s (at kept (Some (u.0, u.1 ∷ [])) (place_no placed) false) words (run names id words None (add u (Some kept)))
-  next_use words kept u placed fine known rest is = elim (cases_Bool (has u.0 kept)) [
-    | inl old ↦ agrees_as s _ words _ None (ap (run names id words None) (add_old u kept old) ∙ run-none names id words None)
-        (stuck_all words kept (Some (u.0, u.1 ∷ [])) placed fine (step.settles_twice s names id finds again kept u.0 u.1 known old))
-    | inr new ↦ agrees_as s _ words _ _ (ap (run names id words None) (add_new u kept new))
-        (rest kept (kept ++ u ∷ []) (Some (u.0, u.1 ∷ [])) (step.settles_some s names id finds again kept u.0 u.1 known new) is)
+  next_use : (words : List Text) (kept : Uses) (u : Use) (position : ℕ) (left : List Text) → AreNext s.rules position left → AllByRecursion IsFine words → Takes s.rules u.0
+      → ((uses all : Uses) (pending : Option (Text × List Text)) → Settles s uses pending all → Agrees s (at uses pending position false) words (run names left words None (Some all)))
+      → Agrees s (at kept (Some (u.0, u.1 ∷ [])) position false) words (run names left words None (add u (Some kept)))
+  next_use words kept u position left next fine known rest = elim (cases_Bool (has u.0 kept)) [
+    | inl old ↦ agrees_as s _ words _ None (ap (run names left words None) (add_old u kept old) ∙ run-none names left words None)
+        (stuck_all words kept (Some (u.0, u.1 ∷ [])) position left next fine (step.settles_twice s names finds again kept u.0 u.1 known old))
+    | inr new ↦ agrees_as s _ words _ (run names left words None (Some (kept ++ u ∷ []))) (ap (run names left words None) (add_new u kept new))
+        (rest kept (kept ++ u ∷ []) (Some (u.0, u.1 ∷ [])) (step.settles_some s names finds again kept u.0 u.1 known new))
   ]
-
-  -- an option leaves the places as they were
-  option_keeps : (kept : Uses) (name value : Text) (placed : Bool) → is_name names name ≡ true → has id kept ≡ placed → has id (kept ++ (name, value) ∷ []) ≡ placed
-  option_keeps kept name value placed known is =
-      has-more id kept (name, value) ∙ rw (name_other names id name finds.fresh known) (or_false (has id kept) ∙ is)
 
   -- the words from a place on where nothing, a place or an option's value waits to be kept, and where an option waits for its value
   pub record Both (words : List Text) : Type 0 where
-    pub idle : (uses kept : Uses) (pending : Option (Text × List Text)) (placed : Bool) → Settles s uses pending kept → has id kept ≡ placed
-        → Agrees s (at uses pending (place_no placed) false) words (run names id words None (Some kept))
-    pub waits : (kept : Uses) (name : Text) (placed : Bool) → is_name names name ≡ true → has id kept ≡ placed
-        → Agrees s (at_option kept name (place_no placed)) words (run names id words (Some name) (Some kept))
+    pub idle : (uses kept : Uses) (pending : Option (Text × List Text)) (position : ℕ) (left : List Text) → AreNext s.rules position left → Settles s uses pending kept
+        → Agrees s (at uses pending position false) words (run names left words None (Some kept))
+    pub waits : (kept : Uses) (name : Text) (position : ℕ) (left : List Text) → AreNext s.rules position left → is_name names name ≡ true
+        → Agrees s (at_option kept name position) words (run names left words (Some name) (Some kept))
 
   long_idle : (word : Text) (words : List Text) (name : Text) (value : Option Text) → IsLongWord word name value → kind word ≡ long name value → Both words
-      → (uses kept : Uses) (pending : Option (Text × List Text)) (placed : Bool) → Settles s uses pending kept → has id kept ≡ placed
-      → Agrees s (at uses pending (place_no placed) false) (word ∷ words) (run names id (word ∷ words) None (Some kept))
-  long_idle word words name None word_is kind_is rest uses kept pending placed settles placed_is = elim (cases_Bool (is_name names name)) [
-    | inl known ↦ agrees_as s _ (word ∷ words) _ (run names id words (Some name) (Some kept)) (rw (kind_is, known) refl)
-        (goes_on s _ (at_option kept name (place_no placed)) word words _ (step.long_passes s names id finds again uses kept pending (place_no placed) word name word_is known settles)
-        (step.long_walked s names id finds again uses kept pending (place_no placed) word name word_is known settles) (rest.waits kept name placed known placed_is))
+      → (uses kept : Uses) (pending : Option (Text × List Text)) (position : ℕ) (left : List Text) → AreNext s.rules position left → Settles s uses pending kept
+      → Agrees s (at uses pending position false) (word ∷ words) (run names left (word ∷ words) None (Some kept))
+  long_idle word words name None word_is kind_is rest uses kept pending position left next settles = elim (cases_Bool (is_name names name)) [
+    | inl known ↦ agrees_as s _ (word ∷ words) _ (run names left words (Some name) (Some kept)) (rw (kind_is, known) refl)
+        (goes_on s _ (at_option kept name position) word words _ (step.long_passes s names finds again uses kept pending position word name word_is known settles)
+        (step.long_walked s names finds again uses kept pending position word name word_is known settles) (rest.waits kept name position left next known))
     | inr unknown ↦ agrees_as s _ (word ∷ words) _ None (rw (kind_is, unknown) refl)
-        (refuses s _ word words (step.long_unknown s names id finds again uses pending (place_no placed) word name None word_is unknown))
+        (refuses s _ word words (step.long_unknown s names finds again uses pending position word name None word_is unknown))
   ]
-  long_idle word words name (Some value) word_is kind_is rest uses kept pending placed settles placed_is = elim (cases_Bool (is_name names name)) [
+  long_idle word words name (Some value) word_is kind_is rest uses kept pending position left next settles = elim (cases_Bool (is_name names name)) [
     | inl known ↦ elim (cases_Bool (has name kept)) [
-      | inl old ↦ agrees_as s _ (word ∷ words) _ None (rw (kind_is, known, old) (run-none names id words None))
-          (refuses s _ word words (step.joined_twice s names id finds again uses kept pending (place_no placed) word name value word_is known old settles))
-      | inr new ↦ agrees_as s _ (word ∷ words) _ (run names id words None (Some (kept ++ (name, value) ∷ []))) (rw (kind_is, known, new) refl)
-          (goes_on s _ (at (kept ++ (name, value) ∷ []) None (place_no placed) false) word words _
-          (step.joined_passes s names id finds again uses kept pending (place_no placed) word name value word_is known new settles)
-          (step.joined_walked s names id finds again uses kept pending (place_no placed) word name value word_is known new settles)
-          (rest.idle (kept ++ (name, value) ∷ []) (kept ++ (name, value) ∷ []) None placed (step.settles_none s names id finds again (kept ++ (name, value) ∷ [])) (option_keeps kept name value placed known placed_is)))
+      | inl old ↦ agrees_as s _ (word ∷ words) _ None (rw (kind_is, known, old) (run-none names left words None))
+          (refuses s _ word words (step.joined_twice s names finds again uses kept pending position word name value word_is known old settles))
+      | inr new ↦ agrees_as s _ (word ∷ words) _ (run names left words None (Some (kept ++ (name, value) ∷ []))) (rw (kind_is, known, new) refl)
+          (goes_on s _ (at (kept ++ (name, value) ∷ []) None position false) word words _
+          (step.joined_passes s names finds again uses kept pending position word name value word_is known new settles)
+          (step.joined_walked s names finds again uses kept pending position word name value word_is known new settles)
+          (rest.idle (kept ++ (name, value) ∷ []) (kept ++ (name, value) ∷ []) None position left next (step.settles_none s names finds again (kept ++ (name, value) ∷ []))))
     ]
     | inr unknown ↦ agrees_as s _ (word ∷ words) _ None (rw (kind_is, unknown) refl)
-        (refuses s _ word words (step.long_unknown s names id finds again uses pending (place_no placed) word name (Some value) word_is unknown))
+        (refuses s _ word words (step.long_unknown s names finds again uses pending position word name (Some value) word_is unknown))
   ]
 
   place_idle : (word : Text) (words : List Text) → IsPlainWord word → kind word ≡ plain → AllByRecursion IsFine words → Both words
-      → (uses kept : Uses) (pending : Option (Text × List Text)) (placed : Bool) → Settles s uses pending kept → has id kept ≡ placed
-      → Agrees s (at uses pending (place_no placed) false) (word ∷ words) (run names id (word ∷ words) None (Some kept))
-  place_idle word words word_is kind_is fine rest uses kept pending true settles placed_is =
-      agrees_as s _ (word ∷ words) _ None (rw kind_is (ap (run names id words None) (add_old (id, word) kept placed_is) ∙ run-none names id words None))
-      (refuses s _ word words (step.stray s names id finds again uses pending word word_is))
-  place_idle word words word_is kind_is fine rest uses kept pending false settles placed_is =
-      agrees_as s _ (word ∷ words) _ (run names id words None (add (id, word) (Some kept))) (rw kind_is refl)
-      (goes_on s _ (at kept (Some (id, word ∷ [])) 2 false) word words _ (step.place_passes s names id finds again uses kept pending word word_is settles)
-      (step.place_walked s names id finds again uses kept pending word word_is settles)
-      (next_use words kept (id, word) true fine (inl refl) (λ uses all pending. rest.idle uses all pending true)
-      (has-more id kept (id, word) ∙ rw (text_eq id id refl) (or_right (has id kept) true refl))))
+      → (uses kept : Uses) (pending : Option (Text × List Text)) (position : ℕ) (left : List Text) → AreNext s.rules position left → Settles s uses pending kept
+      → Agrees s (at uses pending position false) (word ∷ words) (run names left (word ∷ words) None (Some kept))
+  place_idle word words word_is kind_is fine rest uses kept pending position [] next settles =
+      agrees_as s _ (word ∷ words) _ None (rw kind_is refl) (refuses s _ word words (step.stray s names finds again uses pending position word next word_is))
+  place_idle word words word_is kind_is fine rest uses kept pending position (id ∷ left) next settles =
+      agrees_as s _ (word ∷ words) _ (run names left words None (add (id, word) (Some kept))) (rw kind_is refl)
+      (goes_on s _ (at kept (Some (id, word ∷ [])) (next_at position) false) word words _ (step.place_passes s names finds again uses kept pending position id word next.0 word_is settles)
+      (step.place_walked s names finds again uses kept pending position id word next.0 word_is settles)
+      (next_use words kept (id, word) (next_at position) left next.2 fine (place_rules position id next.1)
+      (λ uses all pending settled. rest.idle uses all pending (next_at position) left next.2 settled)))
 
   idle_next : (word : Text) (words : List Text) → IsFine word → AllByRecursion IsFine words → Both words
-      → (uses kept : Uses) (pending : Option (Text × List Text)) (placed : Bool) → Settles s uses pending kept → has id kept ≡ placed
-      → Agrees s (at uses pending (place_no placed) false) (word ∷ words) (run names id (word ∷ words) None (Some kept))
-  idle_next word words fine_word fine rest uses kept pending placed settles placed_is = elim (form word) [
-    | is_end is ↦ rw is (goes_on s _ (at_trailing uses pending idle (place_no placed)) (45 ∷ 45 ∷ []) words _ (step.end_passes s names id finds again uses pending (place_no placed))
-        (step.end_walked s names id finds again uses pending (place_no placed)) (trailing_all words uses kept pending placed settles placed_is))
-    | is_long x text is ↦ long_idle word words _ _ (long_word word x text is) (ap kind is ∙ kind-long x text) rest uses kept pending placed settles placed_is
+      → (uses kept : Uses) (pending : Option (Text × List Text)) (position : ℕ) (left : List Text) → AreNext s.rules position left → Settles s uses pending kept
+      → Agrees s (at uses pending position false) (word ∷ words) (run names left (word ∷ words) None (Some kept))
+  idle_next word words fine_word fine rest uses kept pending position left next settles = elim (form word) [
+    | is_end is ↦ rw is (goes_on s _ (at_trailing uses pending idle position) (45 ∷ 45 ∷ []) words _ (step.end_passes s names finds again uses pending position)
+        (step.end_walked s names finds again uses pending position) (trailing_all words uses kept pending position left next settles))
+    | is_long x text is ↦ long_idle word words _ _ (long_word word x text is) (ap kind is ∙ kind-long x text) rest uses kept pending position left next settles
     | is_short x text other is ↦ agrees_as s _ (word ∷ words) _ None (rw (ap kind is ∙ kind-short x text other) refl)
-        (refuses s _ word words (step.short_unknown s names id finds again uses pending (place_no placed) word _ (short_word word x text fine_word other is)))
-    | is_plain none ↦ place_idle word words (plain_word word none) (kind-plain word none) fine rest uses kept pending placed settles placed_is
+        (refuses s _ word words (step.short_unknown s names finds again uses pending position word _ (short_word word x text fine_word other is)))
+    | is_plain none ↦ place_idle word words (plain_word word none) (kind-plain word none) fine rest uses kept pending position left next settles
   ]
 
   waits_next : (word : Text) (words : List Text) → IsFine word → AllByRecursion IsFine words → Both words
-      → (kept : Uses) (name : Text) (placed : Bool) → is_name names name ≡ true → has id kept ≡ placed
-      → Agrees s (at_option kept name (place_no placed)) (word ∷ words) (run names id (word ∷ words) (Some name) (Some kept))
-  waits_next word words fine_word fine rest kept name placed known placed_is = elim (form word) [
-    | is_end is ↦ rw is (goes_on s _ (at_trailing kept (Some (name, [])) (option name) (place_no placed)) (45 ∷ 45 ∷ []) words None refl
-        (step.end_walked_option s names id finds again kept name (place_no placed))
-        (trailing_all_stuck words kept (Some (name, [])) (option name) placed (step.settles_empty s names id finds again kept name known)))
+      → (kept : Uses) (name : Text) (position : ℕ) (left : List Text) → AreNext s.rules position left → is_name names name ≡ true
+      → Agrees s (at_option kept name position) (word ∷ words) (run names left (word ∷ words) (Some name) (Some kept))
+  waits_next word words fine_word fine rest kept name position left next known = elim (form word) [
+    | is_end is ↦ rw is (goes_on s _ (at_trailing kept (Some (name, [])) (option name) position) (45 ∷ 45 ∷ []) words None refl
+        (step.end_walked_option s names finds again kept name position)
+        (trailing_all_stuck words kept (Some (name, [])) (option name) position left next (step.settles_empty s names finds again kept name known)))
     | is_long x text is ↦ agrees_as s _ (word ∷ words) _ None (rw (ap kind is ∙ kind-long x text) refl)
-        (refuses s _ word words (step.long_for_value s names id finds again kept name (place_no placed) word _ _ (long_word word x text is) known))
+        (refuses s _ word words (step.long_for_value s names finds again kept name position word _ _ (long_word word x text is) known))
     | is_short x text other is ↦ agrees_as s _ (word ∷ words) _ None (rw (ap kind is ∙ kind-short x text other) refl)
-        (refuses s _ word words (step.short_for_value s names id finds again kept name (place_no placed) word _ (short_word word x text fine_word other is)))
-    | is_plain none ↦ agrees_as s _ (word ∷ words) _ (run names id words None (add (name, word) (Some kept))) (rw (kind-plain word none) refl)
-        (goes_on s _ (at kept (Some (name, word ∷ [])) (place_no placed) false) word words _
-        (step.value_passes s names id finds again kept name (place_no placed) word (plain_word word none))
-        (step.value_walked s names id finds again kept name (place_no placed) word (plain_word word none) known)
-        (next_use words kept (name, word) placed fine (inr known) (λ uses all pending. rest.idle uses all pending placed) (option_keeps kept name word placed known placed_is)))
+        (refuses s _ word words (step.short_for_value s names finds again kept name position word _ (short_word word x text fine_word other is)))
+    | is_plain none ↦ agrees_as s _ (word ∷ words) _ (run names left words None (add (name, word) (Some kept))) (rw (kind-plain word none) refl)
+        (goes_on s _ (at kept (Some (name, word ∷ [])) position false) word words _
+        (step.value_passes s names finds again kept name position word (plain_word word none))
+        (step.value_walked s names finds again kept name position word (plain_word word none) known)
+        (next_use words kept (name, word) position left next fine (option_rules finds name known)
+        (λ uses all pending settled. rest.idle uses all pending position left next settled)))
   ]
 
   pub both : (words : List Text) → AllByRecursion IsFine words → Both words
   both [] fine = record {
-    idle = λ uses kept pending placed settles is. stops s uses kept pending idle (place_no placed) false settles;
-    waits = λ kept name placed known is. stops_stuck s (at_option kept name (place_no placed)) (step.settles_empty s names id finds again kept name known);
+    idle = λ uses kept pending position left next settles. stops s uses kept pending idle position false settles;
+    waits = λ kept name position left next known. stops_stuck s (at_option kept name position) (step.settles_empty s names finds again kept name known);
   }
   both (word ∷ words) fine =
       let rest = both words fine.1 in
       record {
-        idle = λ uses kept pending placed settles is. idle_next word words fine.0 fine.1 rest uses kept pending placed settles is;
-        waits = λ kept name placed known is. waits_next word words fine.0 fine.1 rest kept name placed known is;
+        idle = λ uses kept pending position left next settles. idle_next word words fine.0 fine.1 rest uses kept pending position left next settles;
+        waits = λ kept name position left next known. waits_next word words fine.0 fine.1 rest kept name position left next known;
       }
 
   -- The words are taken just where they are read.
-  pub walk_agrees : (words : List Text) → AllByRecursion IsFine words → Agrees s (at [] None 1 false) words (run names id words None (Some []))
-  walk_agrees words fine = (both words fine).idle [] [] None false (step.settles_none s names id finds again []) refl
+  pub walk_agrees : (ids words : List Text) → AreNext s.rules 1 ids → AllByRecursion IsFine words → Agrees s (at [] None 1 false) words (run names ids words None (Some []))
+  walk_agrees ids words next fine = (both words fine).idle [] [] None 1 ids next (step.settles_none s names finds again [])

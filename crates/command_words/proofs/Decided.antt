@@ -1,23 +1,24 @@
 -- Each question that the command set asks of the words has an answer.
-use Rattle.std.proofs.Common.{◌≡◌, ◌==◌, ◌<◌, ◌≤◌, ◌⊎◌, ℕ, zero, suc, true, false, List, [], ◌∷◌, length, take, drop, Option, None, Some, refl, sym, ap, ◌∙◌, subst, arith, inl, inr, codes, true≢false, append_assoc, lit<}
-use Rattle.std.specs.Prelude.{Contains}
+use Rattle.std.proofs.Common.{◌≡◌, ◌==◌, ◌<◌, ◌≤◌, ◌⊎◌, ℕ, zero, suc, true, List, [], ◌∷◌, length, take, drop, Option, None, Some, unwrap_or, refl, sym, ap, ◌∙◌, subst, arith, inl, inr, codes, true≢false, append_assoc}
 use Rattle.std.specs.List.{AllByRecursion, after_first, before_first, list_all}
 use Rattle.std.specs.Str.{bytes_eq}
 use Rattle.std.proofs.lemmas.Bool.{cases_Bool, cases_lt}
 use Rattle.px_base.specs.CallSign.{CallSign, CallText, SsidText, base_length, padded, ssid_digits}
 use Rattle.px_base.proofs.Calls.{call_is, cut_of}
 use Rattle.clap.specs.Lexer.{has_byte}
-use Rattle.command_words.specs.Grammar.{values_of}
-use Rattle.command_words.specs.Lines.{IsTaken, is_option_name}
+use Rattle.command_words.specs.Grammar.{Line, line_places, line_value}
+use Rattle.command_words.specs.Lines.{are_places, is_option_name}
+use Rattle.command_words.specs.Made.{MakeValue, may_be_made}
+use Rattle.command_words.specs.Making.{IsNumberOrZero, MakeOptions, MakeSays, MakeText, make_options, options_given}
 use Rattle.command_words.specs.Numbers.{IsDigit, NumberText, number_after}
-use Rattle.command_words.specs.Words.{GivesNumber, IsAir, IsHostPort, SessionText, session_options}
+use Rattle.command_words.specs.Words.{GivesNumber, IsAir, IsHostPort, NameText, SessionText, session_options}
 use Rattle.command_words.proofs.Bytes.{after_first-append, before_first-append, before_first-lacks, has_byte-append, split_at_byte}
 use Rattle.command_words.proofs.HostPorts.{all_lack, lack_all}
-use Rattle.command_words.proofs.Uses.{Text, Uses, has, text_eq, text_same, values}
-use Rattle.command_words.proofs.Machine.{is_name-from, run}
-use Rattle.command_words.proofs.Rules.{other_name}
-use Rattle.command_words.proofs.Readings.{all_good, list-one, place_fresh, run-reading, run-single, taken-run, uses_in, values_option, values_place}
-use Rattle.command_words.proofs.Meanings.{gives_one, one_reading, text_taken}
+use Rattle.command_words.proofs.Uses.{Text, Uses, text_eq, text_same}
+use Rattle.command_words.proofs.Machine.{run}
+use Rattle.command_words.proofs.Rules.{AreApart}
+use Rattle.command_words.proofs.Readings.{all_good, apart_names, are_given, distinct_places, is_distinct, line-run, run-line, uses_in}
+use Rattle.command_words.proofs.Meanings.{make_says, one_text, says_one, session_given}
 
 abbrev pub Decided : Type 0 → Type 0
 Decided P = P ⊎ (P → ⊥)
@@ -61,17 +62,16 @@ number_decided low high text = elim (digits_decided text) [
   ]
 ]
 
-gives_decided : (low high : ℕ) (texts : List Text) → Decided ((number : Option ℕ) × GivesNumber low high texts number)
-gives_decided low high [] = inl (None, refl)
-gives_decided low high (text ∷ []) = elim (number_decided low high text) [
+pub gives_decided : (low high : ℕ) (value : Option Text) → Decided ((number : Option ℕ) × GivesNumber low high value number)
+gives_decided low high None = inl (None, refl)
+gives_decided low high (Some text) = elim (number_decided low high text) [
   | inl (number, is) ↦ inl (Some number, (text, refl, is))
   | inr none ↦ inr (λ (number, gives). none (of_one number gives))
 ]
   where
-    of_one : (number : Option ℕ) → GivesNumber low high (text ∷ []) number → (n : ℕ) × NumberText low high text n
+    of_one : (number : Option ℕ) → GivesNumber low high (Some text) number → (n : ℕ) × NumberText low high text n
     of_one None e = absurd cc
     of_one (Some n) (other, e, is) = let same : other ≡ text = cc in (n, subst (λ (t : Text). NumberText low high t n) same is)
-gives_decided low high (text ∷ other ∷ texts) = inr (λ (number, gives). let one = gives_one low high (text ∷ other ∷ texts) number gives in omega arith)
 
 -- ---- calls
 
@@ -160,91 +160,59 @@ air_decided air = elim (cases_Bool (bytes_eq air (codes "-"))) [
 
 -- ---- the words after COMMAND
 
-pub taken_decided : (names : List Text) (id : Text) → list_all (is_option_name id) names ≡ true → (words : List Text) → Decided (IsTaken names words)
-taken_decided names id apart words = decide (run names id words None (Some [])) refl
+pub line_decided : (names ids : List Text) → are_places ids ≡ true → list_all (is_option_name ids) names ≡ true → (words : List Text) → Decided (Line names words (length ids))
+line_decided names ids placed options words = decide (run names ids words None (Some [])) refl
   where
-    fresh : Rattle.command_words.proofs.Machine.is_name names id ≡ false
-    fresh = place_fresh id names apart
+    apart : AreApart names ids
+    apart = apart_names names ids options
 
-    taken_of : (all : Uses) → run names id words None (Some []) ≡ Some all → has id all ≡ true → IsTaken names words
-    taken_of all read placed =
-        let (reading, uses_are) = run-reading names id fresh words all read in
-        let (text, one) = list-one id all placed (run-single names id fresh words all id read) in
-        record {
-          reading = reading;
-          text = text;
-          place = sym (values_place names id fresh reading) ∙ ap (values id) uses_are ∙ one;
-          single = λ name known.
-              let other = other_name names id name fresh (is_name-from names name known) in
-              subst (λ (texts : List Text). length texts ≤ 1)
-              (sym (ap (values name) uses_are) ∙ values_option names id fresh reading name other)
-              (run-single names id fresh words all name read);
-        }
+    distinct : is_distinct ids ≡ true
+    distinct = distinct_places ids placed
 
-    decide : (read : Option Uses) → run names id words None (Some []) ≡ read → Decided (IsTaken names words)
-    decide None e = inr (λ taken.
-        let (read, placed) = taken-run names id fresh words (all_good id names apart) taken in
-        let none : None ≡ Some (uses_in names id fresh taken.reading) = sym e ∙ read in
+    decide : (read : Option Uses) → run names ids words None (Some []) ≡ read → Decided (Line names words (length ids))
+    decide None e = inr (λ line.
+        let (read, given) = line-run names ids apart distinct words (all_good ids names options) line in
+        let none : None ≡ Some (uses_in names ids apart distinct line) = sym e ∙ read in
         absurd cc)
-    decide (Some all) e = elim (cases_Bool (has id all)) [
-      | inl placed ↦ inl (taken_of all e placed)
-      | inr none ↦ inr (λ taken.
-          let (read, placed) = taken-run names id fresh words (all_good id names apart) taken in
-          let some : Some all ≡ Some (uses_in names id fresh taken.reading) = sym e ∙ read in
-          let same : all ≡ uses_in names id fresh taken.reading = cc in
-          true≢false (sym placed ∙ ap (has id) (sym same) ∙ none))
+    decide (Some all) e = elim (cases_Bool (are_given ids all)) [
+      | inl given ↦ inl (run-line names ids apart distinct words all e given).0
+      | inr none ↦ inr (λ line.
+          let (read, given) = line-run names ids apart distinct words (all_good ids names options) line in
+          let some : Some all ≡ Some (uses_in names ids apart distinct line) = sym e ∙ read in
+          let same : all ≡ uses_in names ids apart distinct line = cc in
+          true≢false (sym given ∙ ap (are_given ids) (sym same) ∙ none))
     ]
 
 -- the words after `session` give a call and numbers
 abbrev pub GivesText : List Text → Type 0
 GivesText others = (caller : CallSign) × (moment : Option ℕ) × (blocks : Option ℕ) × (polls : Option ℕ) × SessionText others caller moment blocks polls
 
-module _ (others : List Text) (taken : IsTaken session_options others) where
-  -- another reading of them has the same place and values
-  same_call : (caller : CallSign) (moment blocks polls : Option ℕ) → SessionText others caller moment blocks polls → CallText caller taken.text
-  unfolding text_taken
+module _ (others : List Text) (line : Line session_options others 1) (call_text : Text) (place : line_places line ≡ call_text ∷ []) where
+  -- another reading of them has the same call
+  same_call : (caller : CallSign) (moment blocks polls : Option ℕ) → SessionText others caller moment blocks polls → CallText caller call_text
   same_call caller moment blocks polls text =
-      let (places, options) = one_reading session_options (codes "caller") refl others (text_taken text) taken in
-      let same : text.call_text ∷ [] ≡ taken.text ∷ [] = sym text.place ∙ places ∙ taken.place in
-      let call_is : text.call_text ≡ taken.text = cc in
-      subst (λ (t : Text). CallText caller t) call_is text.call
+      let given = session_given text line in
+      let same : given.call_text ∷ [] ≡ call_text ∷ [] = sym given.place ∙ place in
+      let call_is : given.call_text ≡ call_text = cc in
+      subst (λ (t : Text). CallText caller t) call_is given.call
 
-  same_values : (caller : CallSign) (moment blocks polls : Option ℕ) (text : SessionText others caller moment blocks polls) (name : Text) → Contains session_options name
-      → values_of text.reading name ≡ values_of taken.reading name
-  unfolding text_taken
-  same_values caller moment blocks polls text name known = (one_reading session_options (codes "caller") refl others (text_taken text) taken).1 name known
-
-  text_from_taken : Decided (GivesText others)
-  text_from_taken = elim (call_decided taken.text) [
+  text_from_line : Decided (GivesText others)
+  text_from_line = elim (call_decided call_text) [
     | inr none ↦ inr (λ (caller, moment, blocks, polls, text). none (caller, same_call caller moment blocks polls text))
-    | inl (caller, call) ↦ elim (gives_decided 0 4294967295 (values_of taken.reading (codes "moment"))) [
-      | inr none ↦ inr (λ (caller, moment, blocks, polls, text). none (
-        moment,
-        subst (λ (ts : List Text). GivesNumber 0 4294967295 ts moment) (same_values caller moment blocks polls text (codes "moment") (0, lit< tt, refl)) text.moment_given,
-      ))
-      | inl (moment, moment_given) ↦ elim (gives_decided 1 65536 (values_of taken.reading (codes "blocks"))) [
-        | inr none ↦ inr (λ (caller, moment, blocks, polls, text). none (
-          blocks,
-          subst (λ (ts : List Text). GivesNumber 1 65536 ts blocks) (same_values caller moment blocks polls text (codes "blocks") (1, lit< tt, refl)) text.blocks_given,
-        ))
-        | inl (blocks, blocks_given) ↦ elim (gives_decided 1 18446744073709551615 (values_of taken.reading (codes "polls"))) [
-          | inr none ↦ inr (λ (caller, moment, blocks, polls, text). none (
-            polls,
-            subst (λ (ts : List Text). GivesNumber 1 18446744073709551615 ts polls) (same_values caller moment blocks polls text (codes "polls") (2, lit< tt, refl)) text.polls_given,
-          ))
+    | inl (caller, call) ↦ elim (gives_decided 0 4294967295 (line_value line (codes "moment"))) [
+      | inr none ↦ inr (λ (caller, moment, blocks, polls, text). none (moment, (session_given text line).moment_given))
+      | inl (moment, moment_given) ↦ elim (gives_decided 1 65536 (line_value line (codes "blocks"))) [
+        | inr none ↦ inr (λ (caller, moment, blocks, polls, text). none (blocks, (session_given text line).blocks_given))
+        | inl (blocks, blocks_given) ↦ elim (gives_decided 1 18446744073709551615 (line_value line (codes "polls"))) [
+          | inr none ↦ inr (λ (caller, moment, blocks, polls, text). none (polls, (session_given text line).polls_given))
           | inl (polls, polls_given) ↦ inl (
             caller,
             moment,
             blocks,
             polls,
             record {
-              reading = taken.reading;
-              call_text = taken.text;
-              place = taken.place;
-              call = call;
-              moment_given = moment_given;
-              blocks_given = blocks_given;
-              polls_given = polls_given;
+              line = line;
+              given = record { call_text = call_text; place = place; call = call; moment_given = moment_given; blocks_given = blocks_given; polls_given = polls_given };
             },
           )
         ]
@@ -253,7 +221,71 @@ module _ (others : List Text) (taken : IsTaken session_options others) where
   ]
 
 pub text_decided : (others : List Text) → Decided (GivesText others)
-text_decided others = elim (taken_decided session_options (codes "caller") refl others) [
-  | inl taken ↦ text_from_taken others taken
-  | inr none ↦ inr (λ (caller, moment, blocks, polls, text). none (text_taken text))
+text_decided others = elim (line_decided session_options (codes "caller" ∷ []) refl refl others) [
+  | inl line ↦ let (call_text, place) = one_text (line_places line) line.counted in text_from_line others line call_text place
+  | inr none ↦ inr (λ (caller, moment, blocks, polls, text). none text.line)
+]
+
+-- a NAME is there, or not
+pub name_decided : (others : List Text) → Decided ((name : Text) × NameText name others)
+name_decided others = elim (line_decided [] (codes "name" ∷ []) refl refl others) [
+  | inl line ↦ let (name, place) = one_text (line_places line) line.counted in inl (name, record { line = line; place = place })
+  | inr none ↦ inr (λ (name, text). none text.line)
+]
+
+-- ---- the words after `pfh-make`
+
+zero_decided : (high : ℕ) (value : Option Text) → Decided ((number : ℕ) × IsNumberOrZero high value number)
+zero_decided high None = inl (0, refl)
+zero_decided high (Some text) = number_decided 0 high text
+
+says_decided : (options : MakeOptions) → Decided ((spec : MakeValue) × MakeSays options spec)
+says_decided options = named options.name refl
+  where
+    named : (name : Option Text) → options.name ≡ name → Decided ((spec : MakeValue) × MakeSays options spec)
+    named None e = inr (λ (spec, says). let none : None ≡ Some spec.name = sym e ∙ says.name in absurd cc)
+    named (Some name) e = elim (zero_decided 255 options.file_type) [
+      | inr none ↦ inr (λ (spec, says). none (spec.file_type, says.file_type))
+      | inl (file_type, type_is) ↦ elim (zero_decided 4294967295 options.time) [
+        | inr none ↦ inr (λ (spec, says). none (spec.time, says.time))
+        | inl (time, time_is) ↦ inl (
+          record {
+            name = name;
+            ext = unwrap_or options.ext [];
+            file_type = file_type;
+            time = time;
+            source = unwrap_or options.source [];
+            destination = options.destination;
+            title = options.title;
+          },
+          record { name = e; ext = refl; file_type = type_is; time = time_is; source = refl; destination = refl; title = refl },
+        )
+      ]
+    ]
+
+-- the words after `pfh-make` ask for a file, or not
+abbrev pub GivesMake : List Text → Type 0
+GivesMake others = (body : Text) × (kept : Text) × (spec : MakeValue) × MakeText body kept spec others
+
+two_texts : (texts : List Text) → length texts ≡ 2 → (one : Text) × (other : Text) × (texts ≡ one ∷ other ∷ [])
+two_texts [] e = absurd (omega arith)
+two_texts (one ∷ []) e = absurd (omega arith)
+two_texts (one ∷ other ∷ []) e = (one, other, refl)
+two_texts (one ∷ other ∷ more ∷ texts) e = absurd (omega arith)
+
+make_on : (others : List Text) (line : Line make_options others 2) (body kept : Text) → line_places line ≡ body ∷ kept ∷ [] → Decided (GivesMake others)
+make_on others line body kept places = elim (says_decided (options_given (line_value line))) [
+  | inr none ↦ inr (λ (b, k, spec, text). none (spec, (make_says text line).1))
+  | inl (spec, says) ↦ elim (cases_Bool (may_be_made spec)) [
+    | inl possible ↦ inl (body, kept, spec, record { line = line; places = places; says = says; possible = possible })
+    | inr impossible ↦ inr (λ (b, k, other, text).
+        let same : other ≡ spec = says_one (options_given (line_value line)) other spec (make_says text line).1 says in
+        true≢false (sym text.possible ∙ ap may_be_made same ∙ impossible))
+  ]
+]
+
+pub make_decided : (others : List Text) → Decided (GivesMake others)
+make_decided others = elim (line_decided make_options (codes "body" ∷ codes "kept" ∷ []) refl refl others) [
+  | inl line ↦ let (body, kept, places) = two_texts (line_places line) line.counted in make_on others line body kept places
+  | inr none ↦ inr (λ (body, kept, spec, text). none text.line)
 ]

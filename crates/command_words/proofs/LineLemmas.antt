@@ -1,92 +1,94 @@
 -- What the clauses of `clap` say of the words from COMMAND on.
-use Rattle.std.proofs.Common.{◌≡◌, ◌≤◌, true, false, List, [], ◌∷◌, length, map, drop, Option, None, Some, refl, sym, ap, ◌∙◌, string_bytes, codes, option_copied, option_map, Bor, Result, Err}
-use Rattle.std.specs.Prelude.{option_to_list, slice_get}
+use Rattle.std.proofs.Common.{◌≡◌, true, List, [], ◌∷◌, length, map, drop, Option, None, Some, refl, sym, ap, ◌∙◌, string_bytes, codes, option_copied, option_map, Bor, Result, Err}
+use Rattle.std.specs.Prelude.{slice_get}
 use Rattle.std.specs.List.{AllByRecursion}
 use Rattle.std.specs.declared.string.String.{String}
-use Rattle.clap.specs.Walk.{first_of, rows_of}
-use Rattle.clap.specs.Simple.{App, HasMatchesOf, matches_of}
+use Rattle.clap.specs.Walk.{Rule, first_of, rows_of}
+use Rattle.clap.specs.Simple.{App, HasMatchesOf, matches_of, with_rule}
 use Rattle.clap.specs.Matches.{first_value, found_of}
 use Rattle.clap.specs.Takes.{takes}
 use Rattle.clap.specs.Faults.{fault_of, is_simple_and_free}
 use Rattle.clap.specs.declared.parser.matches.ArgMatches.{ArgMatches}
 use Rattle.clap.proofs.WalkLemmas.{first_value-rows}
 use Rattle.command_words.specs.declared.request.Refusal.{Refusal}
-use Rattle.command_words.specs.Grammar.{Reading, values_of}
-use Rattle.command_words.specs.Lines.{IsFound, IsLine, IsTaken, command_of}
+use Rattle.command_words.specs.Grammar.{Line}
+use Rattle.command_words.specs.Lines.{IsFound, IsLine, command_of, make_app, session_app}
+use Rattle.command_words.specs.Making.{make_options}
 use Rattle.command_words.specs.Words.{session_options}
 use Rattle.command_words.proofs.Uses.{Text, Uses, values}
 use Rattle.command_words.proofs.Machine.{is_name-from}
-use Rattle.command_words.proofs.Rules.{other_name, rows}
+use Rattle.command_words.proofs.Rules.{AreApart, rows}
 use Rattle.command_words.proofs.ClapWalk.{IsFine}
 use Rattle.command_words.proofs.ClapLine.{first_of-rows, line_finds_rows, line_free, line_reads, line_simple, line_takes}
-use Rattle.command_words.proofs.Readings.{all_good, fine_words, list-first, list-one, place_fresh, run-reading, run-single, taken-run, uses_in, values_option, values_place}
+use Rattle.command_words.proofs.Readings.{all_good, apart_names, distinct_places, fine_words, is_distinct, line-run, line_places_are, line_value_is, run-line, uses_in}
 
 -- the words after the first are the octets of texts
 fine_after : {Z : Type 0} (line : List (String Z)) → AllByRecursion IsFine (drop 1 (map string_bytes line))
 fine_after [] = tt
 fine_after (word ∷ words) = fine_words words
 
-module _ {Z : Type 0} (app : App) (id : Text) (names : List Text) (is : IsLine app id names) (line : List (String Z)) where
+module _ {Z : Type 0} (app : App) (ids names : List Text) (is : IsLine app ids names) (line : List (String Z)) where
   abbrev lines : List Text
   lines = map string_bytes line
 
-  abbrev asked : App
-  asked = command_of is.command id names
+  apart : AreApart names ids
+  apart = apart_names names ids is.apart
 
-  fresh : Rattle.command_words.proofs.Machine.is_name names id ≡ false
-  fresh = place_fresh id names is.apart
+  distinct : is_distinct ids ≡ true
+  distinct = distinct_places ids is.placed
 
   pub free : is_simple_and_free app ≡ true
-  free = ap is_simple_and_free is.written ∙ line_free is.command id names
+  free = ap is_simple_and_free is.written ∙ line_free is.command ids names
 
-  -- words that have a reading are taken
-  pub takes_taken : IsTaken names (drop 1 lines) → takes app lines ≡ true
+  -- words that are a line are taken
+  pub takes_taken : Line names (drop 1 lines) (length ids) → takes app lines ≡ true
   takes_taken taken =
-      let (read, placed) = taken-run names id fresh (drop 1 lines) (all_good id names is.apart) taken in
-      ap (λ (a : App). takes a lines) is.written ∙ line_takes is.command id names fresh lines (uses_in names id fresh taken.reading) (fine_after line) read placed
+      let (read, given) = line-run names ids apart distinct (drop 1 lines) (all_good ids names is.apart) taken in
+      ap (λ (a : App). takes a lines) is.written
+      ∙ line_takes is.command ids names apart is.placed lines (uses_in names ids apart distinct taken) (fine_after line) read given
 
   first_found : (matches : ArgMatches) (all : Uses) (x : Text) → rows_of (found_of matches) ≡ rows all → first_value (found_of matches) x ≡ slice_get (values x all) 0
   first_found matches all x same = first_value-rows (found_of matches) x ∙ ap (first_of x) same ∙ first_of-rows x all
 
-  -- words that were taken have a reading, and what was found is its values
-  pub found_read : (matches : ArgMatches) → fault_of app lines ≡ [] → HasMatchesOf app lines matches → IsFound id names (drop 1 lines) matches
+  -- words that were taken are a line, and what was found are its texts
+  pub found_read : (matches : ArgMatches) → fault_of app lines ≡ [] → HasMatchesOf app lines matches → IsFound ids names (drop 1 lines) matches
   found_read matches none has =
-      let (all, read, placed) = line_reads is.command id names fresh lines (fine_after line) (ap (λ (a : App). fault_of a lines) (sym is.written) ∙ none) in
+      let (all, read, given) = line_reads is.command ids names apart is.placed lines (fine_after line) (ap (λ (a : App). fault_of a lines) (sym is.written) ∙ none) in
       let same : rows_of (found_of matches) ≡ rows all =
-      (has (ap Rattle.clap.specs.Simple.is_simple is.written ∙ line_simple is.command id names)).0
-      ∙ ap (λ (a : App). matches_of a lines) is.written ∙ line_finds_rows is.command id names fresh lines all (fine_after line) read in
-      let (reading, uses_are) = run-reading names id fresh (drop 1 lines) all read in
-      let single : (x : Text) → length (values x all) ≤ 1 = λ x. run-single names id fresh (drop 1 lines) all x read in
-      let (text, one) = list-one id all placed (single id) in
+      (has (ap Rattle.clap.specs.Simple.is_simple is.written ∙ line_simple is.command ids names)).0
+      ∙ ap (λ (a : App). matches_of a lines) is.written ∙ line_finds_rows is.command ids names apart is.placed lines all (fine_after line) read in
+      let (taken, uses_are) = run-line names ids apart distinct (drop 1 lines) all read given in
+      let first : (x : Text) → first_value (found_of matches) x ≡ slice_get (values x (uses_in names ids apart distinct taken)) 0 =
+      λ x. first_found matches all x same ∙ ap (λ (uses : Uses). slice_get (values x uses) 0) (sym uses_are) in
       record {
-        reading = reading;
-        text = text;
-        place_read = sym (values_place names id fresh reading) ∙ ap (values id) uses_are ∙ one;
-        place_found = first_found matches all id same ∙ ap (λ (texts : List Text). slice_get texts 0) one;
-        options_found = λ name known.
-            let other = other_name names id name fresh (is_name-from names name known) in
-            sym (values_option names id fresh reading name other) ∙ ap (values name) uses_are ∙ list-first (values name all) (single name)
-            ∙ ap option_to_list (sym (first_found matches all name same));
+        line = taken;
+        places_found = line_places_are names ids apart distinct taken (first_value (found_of matches)) first;
+        values_found = λ name known. first name ∙ line_value_is names ids apart distinct taken name (is_name-from names name known);
       }
 
--- ---- the two commands
+-- ---- the commands
 
-pub frames_line : (app : App) → app ≡ command_of (codes "frames") (codes "name") [] → IsLine app (codes "name") []
-frames_line app e = record { command = codes "frames"; written = e; apart = refl }
+pub name_line : (command : Text) (app : App) → app ≡ command_of command (codes "name" ∷ []) [] → IsLine app (codes "name" ∷ []) []
+name_line command app e = record { command = command; written = e; placed = refl; apart = refl }
 
-pub session_line : (app : App) → app ≡ command_of (codes "session") (codes "caller") session_options → IsLine app (codes "caller") session_options
-session_line app e = record { command = codes "session"; written = e; apart = refl }
+pub session_line : (app : App) → app ≡ session_app → IsLine app (codes "caller" ∷ []) session_options
+session_line app e = record { command = codes "session"; written = e; placed = refl; apart = refl }
+
+pub make_line : (app : App) → app ≡ make_app → IsLine app (codes "body" ∷ codes "kept" ∷ []) make_options
+make_line app e = record { command = codes "pfh-make"; written = e; placed = refl; apart = refl }
+
+-- a rule that is added to what is known
+pub added : {before known after : App} (rule : Rule) → before ≡ known → after ≡ with_rule before rule → after ≡ with_rule known rule
+added rule is more = more ∙ ap (λ (app : App). with_rule app rule) is
 
 -- the texts behind what is got
 copied-map : (o : Option (Bor Text)) → option_copied o ≡ option_map (λ s. s.now) o
 copied-map None = refl
 copied-map (Some s) = refl
 
--- the values of an option are what is got
-pub values_got : {names words : List Text} (reading : Reading names words) (name : Text) (got : Option (Bor Text)) (first : Option Text)
-    → values_of reading name ≡ option_to_list first → option_map (λ s. s.now) got ≡ first
-    → values_of reading name ≡ option_to_list (option_copied got)
-values_got reading name got first found same = found ∙ ap option_to_list (sym same ∙ sym (copied-map got))
+-- the value of an option is what is got
+pub value_got : (value first : Option Text) (got : Option (Bor Text)) → first ≡ value → option_map (λ s. s.now) got ≡ first → value ≡ option_copied got
+value_got value first got found same = sym found ∙ sym same ∙ sym (copied-map got)
 
 -- a refusal that is handed on is the same one
 pub handed_on : {T U : Type 0} {refusal cause : Refusal} → ◌≡◌ {A = Result T Refusal} (Err refusal) (Err cause) → ◌≡◌ {A = Result U Refusal} (Err refusal) (Err cause)

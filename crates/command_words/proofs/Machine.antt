@@ -1,14 +1,14 @@
 -- The words read one after another, and that this reads exactly the grammar.
-use Rattle.std.proofs.Common.{◌≡◌, ◌==◌, ℕ, zero, suc, Bool, true, false, cond, not, List, [], ◌∷◌, ◌++◌, map, Option, None, Some, unwrap_or, refl, sym, ap, ◌∙◌, subst, arith, inl, inr, true≢false, codes, append_assoc}
+use Rattle.std.proofs.Common.{◌≡◌, ◌==◌, ℕ, zero, suc, Bool, true, false, cond, not, List, [], ◌∷◌, ◌++◌, Option, None, Some, unwrap_or, refl, sym, ap, ◌∙◌, subst, arith, inl, inr, true≢false, codes, append_assoc}
 use Rattle.std.specs.Prelude.{flat_map, Contains}
 use Rattle.std.specs.List.{AllByRecursion, list_all, list_any, after_first, before_first}
 use Rattle.std.specs.Str.{bytes_eq}
 use Rattle.std.proofs.lemmas.Bool.{and_parts, cases_Bool, not-true}
 use Rattle.clap.specs.Lexer.{has_byte}
-use Rattle.command_words.specs.Grammar.{IsPart, Part, joined, place, spaced, words_of, words_of_end}
+use Rattle.command_words.specs.Grammar.{IsDashed, IsPart, Part, joined, place, spaced, words_of, words_of_end}
 use Rattle.command_words.proofs.Bytes.{split_at_byte, before_first-all}
 use Rattle.command_words.proofs.WordKinds.{Kind, ended, form, is_end, is_long, is_plain, is_short, kind, kind-joined, kind-long, kind-plain, kind-short, kind-spaced, long, plain, short, value_in}
-use Rattle.command_words.proofs.Uses.{Text, Use, Uses, add, add_all, text_eq, text_same}
+use Rattle.command_words.proofs.Uses.{Text, Uses, add, text_eq, text_same}
 
 -- the command has an option of this name
 abbrev pub is_name : List Text → Text → Bool
@@ -26,28 +26,38 @@ on_waiting name before ended word next = None
 on_waiting name before (long other value) word next = None
 on_waiting name before (short flags) word next = None
 
-abbrev pub on_idle : List Text → Text → Option Uses → Kind → Text → List Text → (Option Text → Option Uses → Option Uses) → Option Uses
-on_idle names id before ended word words next = add_all before (map (λ w. (id, w)) words)
-on_idle names id before (long name None) word words next = cond (is_name names name) (next (Some name) before) None
-on_idle names id before (long name (Some value)) word words next = cond (is_name names name) (next None (add (name, value) before)) None
-on_idle names id before (short flags) word words next = None
-on_idle names id before plain word words next = next None (add (id, word) before)
+-- a word goes to the place that comes next, if there is one
+abbrev pub on_place : List Text → Text → Option Uses → (List Text → Option Text → Option Uses → Option Uses) → Option Uses
+on_place [] word before next = None
+on_place (id ∷ left) word before next = next left None (add (id, word) before)
 
--- all uses that the words give after those before them, where they are parts, and no two uses have one name
-abbrev pub run : List Text → Text → List Text → Option Text → Option Uses → Option Uses
-run names id [] None before = before
-run names id [] (Some name) before = None
-run names id (word ∷ words) None before = on_idle names id before (kind word) word words (run names id words)
-run names id (word ∷ words) (Some name) before = on_waiting name before (kind word) word (run names id words)
+-- the same of all these words
+abbrev pub add_places : List Text → List Text → Option Uses → Option Uses
+add_places left [] before = before
+add_places [] (word ∷ words) before = None
+add_places (id ∷ left) (word ∷ words) before = add_places left words (add (id, word) before)
 
--- the use that a part is, where places have this name
-abbrev pub use_of : Text → Part → Use
-use_of id (place word) = (id, word)
-use_of id (spaced name value) = (name, value)
-use_of id (joined name value) = (name, value)
+abbrev pub on_idle : List Text → List Text → Option Uses → Kind → Text → List Text → (List Text → Option Text → Option Uses → Option Uses) → Option Uses
+on_idle names left before ended word words next = add_places left words before
+on_idle names left before (long name None) word words next = cond (is_name names name) (next left (Some name) before) None
+on_idle names left before (long name (Some value)) word words next = cond (is_name names name) (next left None (add (name, value) before)) None
+on_idle names left before (short flags) word words next = None
+on_idle names left before plain word words next = on_place left word before next
 
-abbrev pub uses_of : Text → List Part → Option (List Text) → Uses
-uses_of id parts end = map (use_of id) parts ++ map (λ w. (id, w)) (unwrap_or end [])
+-- All uses that the words give after those before them, where they are parts, no two uses have one name, and no more places
+-- come than are left.
+abbrev pub run : List Text → List Text → List Text → Option Text → Option Uses → Option Uses
+run names left [] None before = before
+run names left [] (Some name) before = None
+run names left (word ∷ words) None before = on_idle names left before (kind word) word words (λ rest. run names rest words)
+run names left (word ∷ words) (Some name) before = on_waiting name before (kind word) word (run names left words)
+
+-- all uses that parts give after those before them
+abbrev pub uses_after : List Text → List Part → Option (List Text) → Option Uses → Option Uses
+uses_after left [] end before = add_places left (unwrap_or end []) before
+uses_after left (place word ∷ parts) end before = on_place left word before (λ rest waiting uses. uses_after rest parts end uses)
+uses_after left (spaced name value ∷ parts) end before = uses_after left parts end (add (name, value) before)
+uses_after left (joined name value ∷ parts) end before = uses_after left parts end (add (name, value) before)
 
 -- the words are these parts and this end
 abbrev pub written_by : List Part → Option (List Text) → List Text
@@ -88,41 +98,43 @@ good_name (first ∷ names) name good e =
       | inr is ↦ let more : is_name names name ≡ true = rw is at e in good_name names name parts.1 more
     ]
 
-module _ (names : List Text) (id : Text) (good : list_all is_good names ≡ true) where
+module _ (names : List Text) (good : list_all is_good names ≡ true) where
   -- parts are read as their uses
-  pub run-written : (parts : List Part) (end : Option (List Text)) (before : Option Uses) → AllByRecursion (IsPart names) parts
-      → run names id (written_by parts end) None before ≡ add_all before (uses_of id parts end)
-  run-written [] None before each = refl
-  run-written [] (Some words) before each = refl
-  run-written (place word ∷ parts) end before each =
-      rw (kind-plain word each.0) (run-written parts end (add (id, word) before) each.1)
-  run-written (spaced name value ∷ parts) end before each =
+  pub run-written : (left : List Text) (parts : List Part) (end : Option (List Text)) (before : Option Uses) → AllByRecursion (IsPart names) parts
+      → run names left (written_by parts end) None before ≡ uses_after left parts end before
+  run-written left [] None before each = refl
+  run-written left [] (Some words) before each = refl
+  run-written [] (place word ∷ parts) end before each = rw (kind-plain word each.0) refl
+  run-written (id ∷ left) (place word ∷ parts) end before each =
+      rw (kind-plain word each.0) (run-written left parts end (add (id, word) before) each.1)
+  run-written left (spaced name value ∷ parts) end before each =
       let known = is_name-from names name each.0.0 in
       rw (good_spaced name (good_name names name good known), known, kind-plain value each.0.1)
-      (run-written parts end (add (name, value) before) each.1)
-  run-written (joined name value ∷ parts) end before each =
+      (run-written left parts end (add (name, value) before) each.1)
+  run-written left (joined name value ∷ parts) end before each =
       let known = is_name-from names name each.0 in
       rw (good_joined name value (good_name names name good known), known)
-      (run-written parts end (add (name, value) before) each.1)
+      (run-written left parts end (add (name, value) before) each.1)
 
 -- The words are parts, which give these uses after those before them.
-pub record Read (names : List Text) (id : Text) (words : List Text) (before : Option Uses) (all : Uses) : Type 0 where
+pub record Read (names left words : List Text) (before : Option Uses) (all : Uses) : Type 0 where
   pub parts : List Part
   pub end : Option (List Text)
   pub each : AllByRecursion (IsPart names) parts
   pub written : words ≡ written_by parts end
-  pub uses : add_all before (uses_of id parts end) ≡ Some all
+  pub uses : uses_after left parts end before ≡ Some all
 
 -- one part more at the front
-read_more : {names : List Text} {id : Text} {words : List Text} {before : Option Uses} {all : Uses} (part : Part) (whole : List Text) → IsPart names part
-    → whole ≡ words_of part ++ words → Read names id words (add (use_of id part) before) all → Read names id whole before all
-read_more part whole is_part front rest = record {
-  parts = part ∷ rest.parts;
-  end = rest.end;
-  each = (is_part, rest.each);
-  written = front ∙ ap (λ (words : List Text). words_of part ++ words) rest.written
-      ∙ sym (append_assoc (words_of part) (flat_map words_of rest.parts) (words_of_end rest.end));
-  uses = rest.uses;
+read_more : {names left rest words : List Text} {before after : Option Uses} {all : Uses} (part : Part) (whole : List Text) → IsPart names part
+    → whole ≡ words_of part ++ words → ((parts : List Part) (end : Option (List Text)) → uses_after left (part ∷ parts) end before ≡ uses_after rest parts end after)
+    → Read names rest words after all → Read names left whole before all
+read_more part whole is_part front same read = record {
+  parts = part ∷ read.parts;
+  end = read.end;
+  each = (is_part, read.each);
+  written = front ∙ ap (λ (words : List Text). words_of part ++ words) read.written
+      ∙ sym (append_assoc (words_of part) (flat_map words_of read.parts) (words_of_end read.end));
+  uses = same read.parts read.end ∙ read.uses;
 }
 
 -- `--name=value`, or `--name`
@@ -136,17 +148,17 @@ spaced_word : (word : Text) (x : ℕ) (rest : Text) → word ≡ 45 ∷ 45 ∷ x
     → word ≡ codes "--" ++ before_first (λ y. y == 61) (x ∷ rest)
 spaced_word word x rest is none = is ∙ ap (λ (text : Text). 45 ∷ 45 ∷ text) (sym (before_first-all 61 (x ∷ rest) none))
 
-module _ (names : List Text) (id : Text) where
+module _ (names : List Text) where
   -- what a long option comes to
-  read_long : (word : Text) (words : List Text) (before : Option Uses) (all : Uses) (x : ℕ) (rest : Text) → word ≡ 45 ∷ 45 ∷ x ∷ rest
-      → run names id (word ∷ words) None before ≡ Some all
+  read_long : (left : List Text) (word : Text) (words : List Text) (before : Option Uses) (all : Uses) (x : ℕ) (rest : Text) → word ≡ 45 ∷ 45 ∷ x ∷ rest
+      → run names left (word ∷ words) None before ≡ Some all
       → ((value : Text) → word ≡ codes "--" ++ before_first (λ y. y == 61) (x ∷ rest) ++ codes "=" ++ value
       → Contains names (before_first (λ y. y == 61) (x ∷ rest))
-      → run names id words None (add (before_first (λ y. y == 61) (x ∷ rest), value) before) ≡ Some all → Read names id (word ∷ words) before all)
+      → run names left words None (add (before_first (λ y. y == 61) (x ∷ rest), value) before) ≡ Some all → Read names left (word ∷ words) before all)
       → (word ≡ codes "--" ++ before_first (λ y. y == 61) (x ∷ rest) → Contains names (before_first (λ y. y == 61) (x ∷ rest))
-      → run names id words (Some (before_first (λ y. y == 61) (x ∷ rest))) before ≡ Some all → Read names id (word ∷ words) before all)
-      → Read names id (word ∷ words) before all
-  read_long word words before all x rest is e with_value without =
+      → run names left words (Some (before_first (λ y. y == 61) (x ∷ rest))) before ≡ Some all → Read names left (word ∷ words) before all)
+      → Read names left (word ∷ words) before all
+  read_long left word words before all x rest is e with_value without =
       let name = before_first (λ y. y == 61) (x ∷ rest) in
       let kind_is : kind word ≡ long name (value_in (x ∷ rest)) = ap kind is ∙ kind-long x rest in
       elim (cases_Bool (has_byte 61 (x ∷ rest))) [
@@ -160,30 +172,40 @@ module _ (names : List Text) (id : Text) where
         ]
       ]
 
+  -- what a word comes to that is a place
+  read_place : (left : List Text) (word : Text) (words : List Text) (before : Option Uses) (all : Uses) → (IsDashed word → ⊥)
+      → on_place left word before (λ rest. run names rest words) ≡ Some all
+      → ((rest : List Text) (after : Option Uses) → run names rest words None after ≡ Some all → Read names rest words after all)
+      → Read names left (word ∷ words) before all
+  read_place [] word words before all none e more = let no : None ≡ Some all = e in absurd cc
+  read_place (id ∷ left) word words before all none e more =
+      read_more (place word) (word ∷ words) none refl (λ parts end. refl) (more left (add (id, word) before) e)
+
   -- what is read is parts
-  pub run-read : (words : List Text) (before : Option Uses) (all : Uses) → run names id words None before ≡ Some all → Read names id words before all
-  run-read [] before all e = record { parts = []; end = None; each = tt; written = refl; uses = e }
-  run-read (word ∷ []) before all e = elim (form word) [
+  pub run-read : (left words : List Text) (before : Option Uses) (all : Uses) → run names left words None before ≡ Some all → Read names left words before all
+  run-read left [] before all e = record { parts = []; end = None; each = tt; written = refl; uses = e }
+  run-read left (word ∷ []) before all e = elim (form word) [
     | is_end is ↦ record { parts = []; end = Some []; each = tt; written = ap (λ (w : Text). w ∷ []) is; uses = rw (ap kind is) at e }
-    | is_long x rest is ↦ read_long word [] before all x rest is e
-        (λ value written known more. read_more (joined (before_first (λ y. y == 61) (x ∷ rest)) value) (word ∷ []) known (ap (λ (w : Text). w ∷ []) written) (run-read [] (add (before_first (λ y. y == 61) (x ∷ rest), value) before) all more))
+    | is_long x rest is ↦ read_long left word [] before all x rest is e
+        (λ value written known more. read_more (joined (before_first (λ y. y == 61) (x ∷ rest)) value) (word ∷ []) known (ap (λ (w : Text). w ∷ []) written) (λ parts end. refl)
+        (run-read left [] (add (before_first (λ y. y == 61) (x ∷ rest), value) before) all more))
         (λ written known more. let no : None ≡ Some all = more in absurd cc)
     | is_short x rest other is ↦ let no : None ≡ Some all = rw (is, kind-short x rest other) at e in absurd cc
-    | is_plain none ↦ read_more (place word) (word ∷ []) none refl (run-read [] (add (id, word) before) all (rw (kind-plain word none) at e))
+    | is_plain none ↦ read_place left word [] before all none (rw (kind-plain word none) at e) (λ rest after more. run-read rest [] after all more)
   ]
-  run-read (word ∷ next ∷ words) before all e = elim (form word) [
+  run-read left (word ∷ next ∷ words) before all e = elim (form word) [
     | is_end is ↦ record { parts = []; end = Some (next ∷ words); each = tt; written = ap (λ (w : Text). w ∷ next ∷ words) is; uses = rw (ap kind is) at e }
-    | is_long x rest is ↦ read_long word (next ∷ words) before all x rest is e
-        (λ value written known more. read_more (joined (before_first (λ y. y == 61) (x ∷ rest)) value) (word ∷ next ∷ words) known (ap (λ (w : Text). w ∷ next ∷ words) written)
-        (run-read (next ∷ words) (add (before_first (λ y. y == 61) (x ∷ rest), value) before) all more))
+    | is_long x rest is ↦ read_long left word (next ∷ words) before all x rest is e
+        (λ value written known more. read_more (joined (before_first (λ y. y == 61) (x ∷ rest)) value) (word ∷ next ∷ words) known (ap (λ (w : Text). w ∷ next ∷ words) written) (λ parts end. refl)
+        (run-read left (next ∷ words) (add (before_first (λ y. y == 61) (x ∷ rest), value) before) all more))
         (λ written known more. elim (form next) [
           | is_end at ↦ let no : None ≡ Some all = rw (ap kind at) at more in absurd cc
           | is_long y tail at ↦ let no : None ≡ Some all = rw (ap kind at ∙ kind-long y tail) at more in absurd cc
           | is_short y tail other at ↦ let no : None ≡ Some all = rw (ap kind at ∙ kind-short y tail other) at more in absurd cc
           | is_plain none ↦
-              read_more (spaced (before_first (λ y. y == 61) (x ∷ rest)) next) (word ∷ next ∷ words) (known, none) (ap (λ (w : Text). w ∷ next ∷ words) written)
-              (run-read words (add (before_first (λ y. y == 61) (x ∷ rest), next) before) all (rw (kind-plain next none) at more))
+              read_more (spaced (before_first (λ y. y == 61) (x ∷ rest)) next) (word ∷ next ∷ words) (known, none) (ap (λ (w : Text). w ∷ next ∷ words) written) (λ parts end. refl)
+              (run-read left words (add (before_first (λ y. y == 61) (x ∷ rest), next) before) all (rw (kind-plain next none) at more))
         ])
     | is_short x rest other is ↦ let no : None ≡ Some all = rw (is, kind-short x rest other) at e in absurd cc
-    | is_plain none ↦ read_more (place word) (word ∷ next ∷ words) none refl (run-read (next ∷ words) (add (id, word) before) all (rw (kind-plain word none) at e))
+    | is_plain none ↦ read_place left word (next ∷ words) before all none (rw (kind-plain word none) at e) (λ rest after more. run-read rest (next ∷ words) after all more)
   ]

@@ -1,7 +1,7 @@
--- The rules of a command with options and one place, as `clap` keeps them when it has built the command, and one use of them.
-use Rattle.std.proofs.Common.{◌≡◌, ◌&&◌, ◌||◌, ◌⊎◌, ℕ, Bool, true, false, cond, not, List, [], ◌∷◌, ◌++◌, map, None, Some, refl, sym, ap, ◌∙◌, subst, inl, inr, true≢false, append-nil}
+-- The rules of a command with options and places, as `clap` keeps them when it has built the command, and one use of them.
+use Rattle.std.proofs.Common.{◌≡◌, ◌+◌, ◌&&◌, ◌||◌, ℕ, min, Bool, true, false, cond, not, List, [], ◌∷◌, ◌++◌, map, None, Some, refl, sym, ap, ◌∙◌, subst, inl, inr, true≢false, append-nil}
 use Rattle.std.specs.Str.{bytes_eq}
-use Rattle.std.proofs.lemmas.Bool.{cases_Bool, or_parts}
+use Rattle.std.proofs.lemmas.Bool.{cases_Bool, not-true, or_parts}
 use Rattle.clap.specs.declared.builder.action.ArgAction.TheVariants.{Set}
 use Rattle.clap.specs.declared.builder.value_parser.ValueParser.TheVariants as vp
 use Rattle.clap.specs.declared.builder.value_parser.Reading.TheVariants as reading
@@ -11,7 +11,9 @@ use Rattle.clap.specs.Simple.{new_rule}
 use Rattle.clap.specs.Takes.{use_passes}
 use Rattle.clap.specs.Faults.{use_fault}
 use Rattle.clap.specs.Kinds.{or_else}
+use Rattle.clap.specs.Lexer.{usize_max}
 use Rattle.clap.specs.declared.error.kind.ErrorKind.TheVariants as kind
+use Rattle.command_words.specs.Lines.{are_places}
 use Rattle.command_words.proofs.Uses.{Text, Use, Uses, has, text_eq, text_same}
 use Rattle.command_words.proofs.Machine.{is_name}
 
@@ -24,18 +26,27 @@ option_rule name = record (new_rule name) {
   parser = Some vp.String;
 }
 
--- the first place, which has to be there
-abbrev pub place_rule : Text → Rule
-place_rule id = record (new_rule id) {
-  index = Some 1;
+-- a place, which has to be there
+abbrev pub place_rule : ℕ → Text → Rule
+place_rule position id = record (new_rule id) {
+  index = Some position;
   action = Some Set;
   range = Some (record { start_inclusive = 1; end_inclusive = 1 });
   parser = Some vp.String;
   required = true;
 }
 
-abbrev pub line_rules : List Text → Text → List Rule
-line_rules names id = place_rule id ∷ map option_rule names
+-- the position after this one
+abbrev pub next_at : ℕ → ℕ
+next_at position = min (position + 1) usize_max
+
+-- places from this position on
+abbrev pub places_from : ℕ → List Text → List Rule
+places_from position [] = []
+places_from position (id ∷ ids) = place_rule position id ∷ places_from (next_at position) ids
+
+abbrev pub line_rules : List Text → List Text → List Rule
+line_rules names ids = places_from 1 ids ++ map option_rule names
 
 -- ---- which rule a name, a place or an id finds
 
@@ -61,25 +72,38 @@ short_none : (names : List Text) (x : ℕ) → arg_by_short (map option_rule nam
 short_none [] x = refl
 short_none (name ∷ names) x = short_none names x
 
--- what the walk over the words asks of the rules
-pub record Finds (rules : List Rule) (names : List Text) (id : Text) : Type 0 where
+-- places have no long and no short name, and only their ids
+long_places : (position : ℕ) (ids : List Text) (rules : List Rule) (x : Text) → arg_by_long (places_from position ids ++ rules) x ≡ arg_by_long rules x
+long_places position [] rules x = refl
+long_places position (id ∷ ids) rules x = long_places (next_at position) ids rules x
+
+short_places : (position : ℕ) (ids : List Text) (rules : List Rule) (x : ℕ) → arg_by_short (places_from position ids ++ rules) x ≡ arg_by_short rules x
+short_places position [] rules x = refl
+short_places position (id ∷ ids) rules x = short_places (next_at position) ids rules x
+
+id_places : (position : ℕ) (ids : List Text) (rules : List Rule) (x : Text) → is_name ids x ≡ false → arg_by_id (places_from position ids ++ rules) x ≡ arg_by_id rules x
+id_places position [] rules x e = refl
+id_places position (id ∷ ids) rules x e =
+    let parts = or_parts (bytes_eq id x) (is_name ids x) e in
+    rw parts.0 (id_places (next_at position) ids rules x parts.1)
+
+-- what the walk over the words asks of the rules: which of them an option's name finds,
+pub record Finds (rules : List Rule) (names : List Text) : Type 0 where
   pub long : (x : Text) → arg_by_long rules x ≡ cond (is_name names x) (Some (option_rule x)) None
-  pub place : arg_by_id rules id ≡ Some (place_rule id)
   pub option : (x : Text) → is_name names x ≡ true → arg_by_id rules x ≡ Some (option_rule x)
-  pub first : arg_by_index rules 1 ≡ Some (place_rule id)
-  pub second : arg_by_index rules 2 ≡ None
   pub short : (x : ℕ) → arg_by_short rules x ≡ None
-  pub fresh : is_name names id ≡ false
 
--- no option has the name of the place
-pub other_name : (names : List Text) (id x : Text) → is_name names id ≡ false → is_name names x ≡ true → bytes_eq id x ≡ false
-other_name names id x fresh e = elim (cases_Bool (bytes_eq id x)) [
-  | inl is ↦
-      let both : is_name names id ≡ true = subst (λ (y : Text). is_name names y ≡ true) (sym (text_same id x is)) e in
-      absurd (true≢false (sym both ∙ fresh))
-  | inr is ↦ is
-]
+-- and that these are the places from this position on, and no more
+abbrev pub AreNext : List Rule → ℕ → List Text → Type 0
+AreNext rules position [] = arg_by_index rules position ≡ None
+AreNext rules position (id ∷ left) =
+    (arg_by_index rules position ≡ Some (place_rule position id)) × (arg_by_id rules id ≡ Some (place_rule position id)) × AreNext rules (next_at position) left
 
+-- no option has the name of a place
+abbrev pub AreApart : List Text → List Text → Type 0
+AreApart names ids = (x : Text) → is_name names x ≡ true → is_name ids x ≡ false
+
+-- a name that is one of these isn't one that is none of them
 pub name_other : (names : List Text) (id x : Text) → is_name names id ≡ false → is_name names x ≡ true → bytes_eq x id ≡ false
 name_other names id x fresh e = elim (cases_Bool (bytes_eq x id)) [
   | inl is ↦
@@ -88,16 +112,21 @@ name_other names id x fresh e = elim (cases_Bool (bytes_eq x id)) [
   | inr is ↦ is
 ]
 
-pub line_finds : (names : List Text) (id : Text) → is_name names id ≡ false → Finds (line_rules names id) names id
-line_finds names id fresh = record {
-  long = λ x. long_found names x;
-  place = rw (text_eq id id refl) refl;
-  option = λ x e. rw (other_name names id x fresh e) (id_found names x e);
-  first = refl;
-  second = no_index names 2;
-  short = λ x. short_none names x;
-  fresh = fresh;
+pub line_finds : (names ids : List Text) → AreApart names ids → Finds (line_rules names ids) names
+line_finds names ids apart = record {
+  long = λ x. long_places 1 ids (map option_rule names) x ∙ long_found names x;
+  option = λ x e. id_places 1 ids (map option_rule names) x (apart x e) ∙ id_found names x e;
+  short = λ x. short_places 1 ids (map option_rule names) x ∙ short_none names x;
 }
+
+-- one place, or two of different names
+pub line_next : (names ids : List Text) → are_places ids ≡ true → AreNext (line_rules names ids) 1 ids
+line_next names [] e = absurd (true≢false (sym e))
+line_next names (a ∷ []) e = (refl, rw (text_eq a a refl) refl, no_index names (next_at 1))
+line_next names (a ∷ b ∷ []) e =
+    let other : bytes_eq a b ≡ false = not-true (bytes_eq a b) e in
+    (refl, rw (text_eq a a refl) refl, (refl, rw (other, text_eq b b refl) refl, no_index names (next_at (next_at 1))))
+line_next names (a ∷ b ∷ c ∷ ids) e = absurd (true≢false (sym e))
 
 -- ---- rows
 
@@ -155,8 +184,8 @@ option_takes name = record {
   used_is = λ value kept. refl;
 }
 
-pub place_takes : (id : Text) → TakesOne (place_rule id) id
-place_takes id = record {
+pub place_takes : (position : ℕ) (id : Text) → TakesOne (place_rule position id) id
+place_takes position id = record {
   passes = λ value kept. not_again (has_row id kept);
   faults = λ value kept e. again_faults (has_row id kept) e;
   none_passes = λ kept. refl;
@@ -166,8 +195,14 @@ place_takes id = record {
 
 -- ---- what waits to be kept
 
--- the rule of a name that is the place's or an option's
-pub by_name : {rules : List Rule} {names : List Text} {id : Text} → Finds rules names id → (x : Text) → (x ≡ id) ⊎ (is_name names x ≡ true)
-    → (a : Rule) × (arg_by_id rules x ≡ Some a) × TakesOne a x
-by_name {rules} {names} {id} finds x (inl e) = (place_rule x, subst (λ (y : Text). arg_by_id rules y ≡ Some (place_rule y)) (sym e) finds.place, place_takes x)
-by_name finds x (inr e) = (option_rule x, finds.option x e, option_takes x)
+-- the rule of a name, and that it takes one value
+pub record Takes (rules : List Rule) (x : Text) : Type 0 where
+  pub rule : Rule
+  pub found : arg_by_id rules x ≡ Some rule
+  pub one : TakesOne rule x
+
+pub option_rules : {rules : List Rule} {names : List Text} → Finds rules names → (x : Text) → is_name names x ≡ true → Takes rules x
+option_rules finds x e = record { rule = option_rule x; found = finds.option x e; one = option_takes x }
+
+pub place_rules : {rules : List Rule} (position : ℕ) (id : Text) → arg_by_id rules id ≡ Some (place_rule position id) → Takes rules id
+place_rules position id e = record { rule = place_rule position id; found = e; one = place_takes position id }

@@ -1,5 +1,5 @@
 -- The words after COMMAND: options with their values, and places, in any order.
-use Rattle.std.specs.Prelude.{◌≡◌, ℕ, ◌≤◌, List, [], ◌∷◌, ◌++◌, length, flat_map, Option, None, Some, unwrap_or, Contains, codes, slice_index, if◌then◌else◌}
+use Rattle.std.specs.Prelude.{◌≡◌, ℕ, ◌≤◌, List, [], ◌∷◌, ◌++◌, length, flat_map, Option, None, Some, unwrap_or, Contains, codes, slice_get, slice_index, if◌then◌else◌}
 use Rattle.std.specs.List.{AllByRecursion}
 use Rattle.std.specs.Str.{bytes_eq}
 
@@ -57,3 +57,17 @@ places_of reading = flat_map place_in reading.parts ++ unwrap_or reading.end []
 -- the values of the options of this name, in order
 abbrev pub values_of : {names words : List (List ℕ)} → Reading names words → List ℕ → List (List ℕ)
 values_of reading name = flat_map (value_in name) reading.parts
+
+-- The words have a reading with so many places, and at most one value for each name.
+pub record Line (names words : List (List ℕ)) (count : ℕ) : Type 0 where
+  pub reading : Reading names words
+  pub counted : length (places_of reading) ≡ count
+  pub single : (name : List ℕ) → length (values_of reading name) ≤ 1
+
+-- its places, in order
+abbrev pub line_places : {names words : List (List ℕ)} {count : ℕ} → Line names words count → List (List ℕ)
+line_places line = places_of line.reading
+
+-- the value that it gives the option of this name, where it gives one
+abbrev pub line_value : {names words : List (List ℕ)} {count : ℕ} → Line names words count → List ℕ → Option (List ℕ)
+line_value line name = slice_get (values_of line.reading name) 0

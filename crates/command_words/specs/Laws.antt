@@ -1,7 +1,8 @@
 -- Each list of words has one meaning.
 use Rattle.std.specs.Prelude.{◌≡◌, ℕ, ◌⊎◌, List, Option}
 use Rattle.px_base.specs.CallSign.{CallSign}
-use Rattle.command_words.specs.Words.{IsFrames, IsSession, IsUnbuilt, IsUsage}
+use Rattle.command_words.specs.Made.{MakeValue}
+use Rattle.command_words.specs.Words.{AsksHeader, IsCheck, IsFrames, IsMake, IsSession, IsShow, IsUnbuilt, IsUsage}
 
 -- the words ask for a session that is built
 abbrev pub AsksSession : List (List ℕ) → Type 0
@@ -11,18 +12,32 @@ AsksSession words = (caller : CallSign) × (moment : Option ℕ) × IsSession wo
 abbrev pub AsksFrames : List (List ℕ) → Type 0
 AsksFrames words = (name : List ℕ) × IsFrames words name
 
--- Each list of words isn't in the command set, or asks for what isn't built yet, for a session or for frames.
+-- Each list of words isn't in the command set, or asks for what isn't built yet, for a session, for frames or for a header.
 abbrev pub HasMeaning : Type 0
-HasMeaning = (words : List (List ℕ)) → IsUsage words ⊎ (IsUnbuilt words ⊎ (AsksSession words ⊎ AsksFrames words))
+HasMeaning =
+    (words : List (List ℕ)) → IsUsage words ⊎ (IsUnbuilt words ⊎ (AsksSession words ⊎ (AsksFrames words ⊎ AsksHeader words)))
 
 -- It does only one of these,
 pub record OnlyOne (words : List (List ℕ)) : Type 0 where
   pub usage_unbuilt : IsUsage words → IsUnbuilt words → ⊥
   pub usage_session : IsUsage words → AsksSession words → ⊥
   pub usage_frames : IsUsage words → AsksFrames words → ⊥
+  pub usage_header : IsUsage words → AsksHeader words → ⊥
   pub unbuilt_session : IsUnbuilt words → AsksSession words → ⊥
   pub unbuilt_frames : IsUnbuilt words → AsksFrames words → ⊥
+  pub unbuilt_header : IsUnbuilt words → AsksHeader words → ⊥
   pub session_frames : AsksSession words → AsksFrames words → ⊥
+  pub session_header : AsksSession words → AsksHeader words → ⊥
+  pub frames_header : AsksFrames words → AsksHeader words → ⊥
+  pub check_show : (name other : List ℕ) → IsCheck words name → IsShow words other → ⊥
+  pub check_make : (name body kept : List ℕ) (spec : MakeValue) → IsCheck words name → IsMake words body kept spec → ⊥
+  pub show_make : (name body kept : List ℕ) (spec : MakeValue) → IsShow words name → IsMake words body kept spec → ⊥
+
+-- the words of `pfh-make` ask for one file, of one body and one header
+abbrev pub OnlyMake : List (List ℕ) → Type 0
+OnlyMake words =
+    (body other kept another : List ℕ) (spec later : MakeValue) → IsMake words body kept spec → IsMake words other another later
+    → (body ≡ other) × (kept ≡ another) × (spec ≡ later)
 
 -- and for one caller, moment and name.
 pub record Determined (words : List (List ℕ)) : Type 0 where
@@ -30,3 +45,6 @@ pub record Determined (words : List (List ℕ)) : Type 0 where
       (caller other : CallSign) (moment later : Option ℕ) → IsSession words caller moment → IsSession words other later
       → (caller ≡ other) × (moment ≡ later)
   pub frames : (name other : List ℕ) → IsFrames words name → IsFrames words other → name ≡ other
+  pub check : (name other : List ℕ) → IsCheck words name → IsCheck words other → name ≡ other
+  pub show : (name other : List ℕ) → IsShow words name → IsShow words other → name ≡ other
+  pub make : OnlyMake words

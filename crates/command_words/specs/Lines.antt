@@ -1,13 +1,16 @@
--- What `clap` is asked: the words from COMMAND on, as those of a command with options of some names and one place.
-use Rattle.std.specs.Prelude.{◌≡◌, ℕ, ◌≤◌, List, [], ◌∷◌, length, map, Option, Some, Contains, option_to_list, true, false, not, Bool, ◌&&◌, codes}
-use Rattle.std.specs.List.{list_all}
+-- What `clap` is asked: the words from COMMAND on, as those of a command with options and places of some names.
+use Rattle.std.specs.Prelude.{◌≡◌, ℕ, List, [], ◌∷◌, ◌++◌, length, map, Option, Some, Contains, true, false, not, Bool, ◌&&◌, codes}
+use Rattle.std.specs.List.{list_all, list_any}
+use Rattle.std.specs.Option.{option_copied}
 use Rattle.std.specs.Str.{bytes_eq}
 use Rattle.clap.specs.Lexer.{has_byte}
 use Rattle.clap.specs.Words.{App, Rule, first_value, found_of, new_rule}
 use Rattle.clap.specs.Simple.{new_shape}
 use Rattle.clap.specs.declared.builder.action.ArgAction.TheVariants.{Set}
 use Rattle.clap.specs.declared.parser.matches.ArgMatches.{ArgMatches}
-use Rattle.command_words.specs.Grammar.{Reading, places_of, values_of}
+use Rattle.command_words.specs.declared.line.MakeTexts.{MakeTexts}
+use Rattle.command_words.specs.Grammar.{Line, line_places, line_value}
+use Rattle.command_words.specs.Making.{MakeOptions, make_options, options_given}
 use Rattle.command_words.specs.Words.{session_options}
 
 -- an option with a value
@@ -18,56 +21,80 @@ option_of name = record (new_rule name) { long = Some name; action = Some Set }
 abbrev pub place_of : List ℕ → Rule
 place_of name = record (new_rule name) { action = Some Set; required = true }
 
--- a command of this name with this place and options of these names
-abbrev pub command_of : List ℕ → List ℕ → List (List ℕ) → App
-command_of command place names = record {
-  top = record (new_shape command) { rules = place_of place ∷ map option_of names; disable_help_flag = true };
+-- a command of this name with these rules
+abbrev pub command_with : List ℕ → List Rule → App
+command_with command rules = record {
+  top = record (new_shape command) { rules = rules; disable_help_flag = true };
   subs = [];
 }
 
--- an option's name is some text without `=`, and not the place's
-abbrev pub is_option_name : List ℕ → List ℕ → Bool
-is_option_name place [] = false
-is_option_name place (x ∷ name) = not (has_byte 61 (x ∷ name)) && not (bytes_eq (x ∷ name) place)
+-- a command of this name with places and options of these names
+abbrev pub command_of : List ℕ → List (List ℕ) → List (List ℕ) → App
+command_of command places names = command_with command (map place_of places ++ map option_of names)
 
--- the command is one with this place and these options
-pub record IsLine (app : App) (place : List ℕ) (names : List (List ℕ)) : Type 0 where
+-- the command `session`
+abbrev pub session_app : App
+session_app = command_of (codes "session") (codes "caller" ∷ []) session_options
+
+-- the command `pfh-make`
+abbrev pub make_app : App
+make_app = command_of (codes "pfh-make") (codes "body" ∷ codes "kept" ∷ []) make_options
+
+-- an option's name is some text without `=`, and no place's
+abbrev pub is_option_name : List (List ℕ) → List ℕ → Bool
+is_option_name places [] = false
+is_option_name places (x ∷ name) = not (has_byte 61 (x ∷ name)) && not (list_any (λ place. bytes_eq place (x ∷ name)) places)
+
+-- one place, or two of different names
+abbrev pub are_places : List (List ℕ) → Bool
+are_places (a ∷ []) = true
+are_places (a ∷ b ∷ []) = not (bytes_eq a b)
+are_places places = false
+
+-- the command is one with these places and options
+pub record IsLine (app : App) (places names : List (List ℕ)) : Type 0 where
   pub command : List ℕ
-  pub written : app ≡ command_of command place names
-  pub apart : list_all (is_option_name place) names ≡ true
+  pub written : app ≡ command_of command places names
+  pub placed : are_places places ≡ true
+  pub apart : list_all (is_option_name places) names ≡ true
 
--- The words have a reading with one place, and at most one value for each option.
-pub record IsTaken (names words : List (List ℕ)) : Type 0 where
-  pub reading : Reading names words
-  pub text : List ℕ
-  pub place : places_of reading ≡ text ∷ []
-  pub single : (name : List ℕ) → Contains names name → length (values_of reading name) ≤ 1
+-- The words are such a line, and these are its texts.
+pub record IsFound (places names words : List (List ℕ)) (matches : ArgMatches) : Type 0 where
+  pub line : Line names words (length places)
+  pub places_found : map (first_value (found_of matches)) places ≡ map (λ text. Some text) (line_places line)
+  pub values_found : (name : List ℕ) → Contains names name → first_value (found_of matches) name ≡ line_value line name
 
--- The words have such a reading, and these are its values.
-pub record IsFound (place : List ℕ) (names words : List (List ℕ)) (matches : ArgMatches) : Type 0 where
-  pub reading : Reading names words
-  pub text : List ℕ
-  pub place_read : places_of reading ≡ text ∷ []
-  pub place_found : first_value (found_of matches) place ≡ Some text
-  pub options_found : (name : List ℕ) → Contains names name → values_of reading name ≡ option_to_list (first_value (found_of matches) name)
-
--- Where the command is one with a place and options, these are the values of the words.
+-- Where the command is one with places and options, these are the texts of the words.
 abbrev pub FindsLine : App → List (List ℕ) → ArgMatches → Type 0
-FindsLine app words matches = (place : List ℕ) (names : List (List ℕ)) → IsLine app place names → IsFound place names words matches
+FindsLine app words matches = (places names : List (List ℕ)) → IsLine app places names → IsFound places names words matches
 
--- Where the command is one with a place and options, the words have no reading.
+-- Where the command is one with places and options, the words are no line of it.
 abbrev pub RefusesLine : App → List (List ℕ) → Type 0
-RefusesLine app words = (place : List ℕ) (names : List (List ℕ)) → IsLine app place names → IsTaken names words → ⊥
+RefusesLine app words = (places names : List (List ℕ)) → IsLine app places names → Line names words (length places) → ⊥
 
 -- The words after `session` give this place, and these values of the options.
 pub record SessionLine (words : List (List ℕ)) (caller : List ℕ) (moment blocks polls : Option (List ℕ)) : Type 0 where
-  pub reading : Reading session_options words
-  pub place : places_of reading ≡ caller ∷ []
-  pub moment_given : values_of reading (codes "moment") ≡ option_to_list moment
-  pub blocks_given : values_of reading (codes "blocks") ≡ option_to_list blocks
-  pub polls_given : values_of reading (codes "polls") ≡ option_to_list polls
+  pub line : Line session_options words 1
+  pub place : line_places line ≡ caller ∷ []
+  pub moment_given : line_value line (codes "moment") ≡ moment
+  pub blocks_given : line_value line (codes "blocks") ≡ blocks
+  pub polls_given : line_value line (codes "polls") ≡ polls
 
--- The words after `frames` give this place.
-pub record FramesLine (words : List (List ℕ)) (name : List ℕ) : Type 0 where
-  pub reading : Reading [] words
-  pub place : places_of reading ≡ name ∷ []
+-- the values of the options of `pfh-make` that were read
+abbrev pub options_read : MakeTexts → MakeOptions
+options_read texts =
+    record {
+      name = option_copied texts.name;
+      ext = option_copied texts.ext;
+      file_type = option_copied texts.file_type;
+      time = option_copied texts.time;
+      source = option_copied texts.source;
+      destination = option_copied texts.destination;
+      title = option_copied texts.title;
+    }
+
+-- The words after `pfh-make` give these places, and these values of the options.
+pub record MakeLine (texts : MakeTexts) (words : List (List ℕ)) : Type 0 where
+  pub line : Line make_options words 2
+  pub places : line_places line ≡ texts.body.now ∷ texts.kept.now ∷ []
+  pub options : options_given (line_value line) ≡ options_read texts

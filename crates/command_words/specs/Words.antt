@@ -2,14 +2,20 @@
 use Rattle.std.specs.Prelude.{◌≡◌, ◌≢◌, ℕ, ◌≤◌, ◌⊎◌, List, [], ◌∷◌, ◌++◌, length, Option, None, Some, IsSome, Contains, codes}
 use Rattle.std.specs.List.{AllByRecursion}
 use Rattle.px_base.specs.CallSign.{CallSign, CallText}
-use Rattle.command_words.specs.Grammar.{Reading, places_of, values_of}
+use Rattle.command_words.specs.Grammar.{Line, line_places, line_value}
+use Rattle.command_words.specs.Made.{MakeValue}
+use Rattle.command_words.specs.Making.{MakeText}
 use Rattle.command_words.specs.Numbers.{NumberText}
 
 -- the commands that aren't built yet
 abbrev pub unbuilt_commands : List (List ℕ)
 unbuilt_commands =
-    codes "serve" ∷ codes "send" ∷ codes "fetch" ∷ codes "list" ∷ codes "pfh-check" ∷ codes "pfh-show" ∷ codes "pfh-make"
-    ∷ codes "rehearse" ∷ []
+    codes "serve" ∷ codes "send" ∷ codes "fetch" ∷ codes "list" ∷ codes "rehearse" ∷ []
+
+-- the commands that are built
+abbrev pub built_commands : List (List ℕ)
+built_commands =
+    codes "session" ∷ codes "frames" ∷ codes "pfh-check" ∷ codes "pfh-show" ∷ codes "pfh-make" ∷ []
 
 -- Host and port: text without a colon, a colon, and the number of a port.
 pub record IsHostPort (air : List ℕ) : Type 0 where
@@ -30,19 +36,23 @@ abbrev pub session_options : List (List ℕ)
 session_options = codes "moment" ∷ codes "blocks" ∷ codes "polls" ∷ []
 
 -- no value is given, or one that writes this number of the range
-abbrev pub GivesNumber : ℕ → ℕ → List (List ℕ) → Option ℕ → Type 0
-GivesNumber low high values None = values ≡ []
-GivesNumber low high values (Some number) = (text : List ℕ) × (values ≡ text ∷ []) × NumberText low high text number
+abbrev pub GivesNumber : ℕ → ℕ → Option (List ℕ) → Option ℕ → Type 0
+GivesNumber low high value None = value ≡ None
+GivesNumber low high value (Some number) = (text : List ℕ) × (value ≡ Some text) × NumberText low high text number
+
+-- The place is CALLER, and the options give these numbers.
+pub record SessionGiven (places : List (List ℕ)) (value : List ℕ → Option (List ℕ)) (caller : CallSign) (moment blocks polls : Option ℕ) : Type 0 where
+  pub call_text : List ℕ
+  pub place : places ≡ call_text ∷ []
+  pub call : CallText caller call_text
+  pub moment_given : GivesNumber 0 4294967295 (value (codes "moment")) moment
+  pub blocks_given : GivesNumber 1 65536 (value (codes "blocks")) blocks
+  pub polls_given : GivesNumber 1 18446744073709551615 (value (codes "polls")) polls
 
 -- The words after `session` are CALLER and at most one value for each option, in any order.
 pub record SessionText (others : List (List ℕ)) (caller : CallSign) (moment blocks polls : Option ℕ) : Type 0 where
-  pub reading : Reading session_options others
-  pub call_text : List ℕ
-  pub place : places_of reading ≡ call_text ∷ []
-  pub call : CallText caller call_text
-  pub moment_given : GivesNumber 0 4294967295 (values_of reading (codes "moment")) moment
-  pub blocks_given : GivesNumber 1 65536 (values_of reading (codes "blocks")) blocks
-  pub polls_given : GivesNumber 1 18446744073709551615 (values_of reading (codes "polls")) polls
+  pub line : Line session_options others 1
+  pub given : SessionGiven (line_places line) (line_value line) caller moment blocks polls
 
 -- The words are `DISK AIR session` and such words.
 pub record SessionWords (words : List (List ℕ)) (disk air : List ℕ) (caller : CallSign) (moment blocks polls : Option ℕ) : Type 0 where
@@ -51,15 +61,45 @@ pub record SessionWords (words : List (List ℕ)) (disk air : List ℕ) (caller 
   pub air_form : IsAir air
   pub text : SessionText others caller moment blocks polls
 
--- The words are `DISK AIR frames NAME`.
-pub record IsFrames (words : List (List ℕ)) (name : List ℕ) : Type 0 where
+-- The words are DISK, AIR, this command, which needs neither of them, and others of which this holds.
+pub record NeedsNeither (command : List ℕ) (P : List (List ℕ) → Type 0) (words : List (List ℕ)) : Type 0 where
   pub disk : List ℕ
   pub air : List ℕ
   pub others : List (List ℕ)
-  pub written : words ≡ disk ∷ air ∷ codes "frames" ∷ others
+  pub written : words ≡ disk ∷ air ∷ command ∷ others
   pub air_form : (air ≡ codes "none") ⊎ IsAir air
-  pub reading : Reading [] others
-  pub place : places_of reading ≡ name ∷ []
+  pub text : P others
+
+-- The words after a command are a NAME alone.
+pub record NameText (name : List ℕ) (others : List (List ℕ)) : Type 0 where
+  pub line : Line [] others 1
+  pub place : line_places line ≡ name ∷ []
+
+-- the words are `DISK AIR`, this command and NAME
+abbrev pub IsNamed : List ℕ → List (List ℕ) → List ℕ → Type 0
+IsNamed command words name = NeedsNeither command (NameText name) words
+
+-- the words are `DISK AIR frames NAME`
+abbrev pub IsFrames : List (List ℕ) → List ℕ → Type 0
+IsFrames words name = IsNamed (codes "frames") words name
+
+-- the words are `DISK AIR pfh-check NAME`
+abbrev pub IsCheck : List (List ℕ) → List ℕ → Type 0
+IsCheck words name = IsNamed (codes "pfh-check") words name
+
+-- the words are `DISK AIR pfh-show NAME`
+abbrev pub IsShow : List (List ℕ) → List ℕ → Type 0
+IsShow words name = IsNamed (codes "pfh-show") words name
+
+-- the words are `DISK AIR pfh-make BODY NAME` and options, which say what the header is made of
+abbrev pub IsMake : List (List ℕ) → List ℕ → List ℕ → MakeValue → Type 0
+IsMake words body kept spec = NeedsNeither (codes "pfh-make") (MakeText body kept spec) words
+
+-- the words ask for a file's header: to check it, to show it or to make it
+abbrev pub AsksHeader : List (List ℕ) → Type 0
+AsksHeader words =
+    ((name : List ℕ) × IsCheck words name)
+    ⊎ (((name : List ℕ) × IsShow words name) ⊎ ((body kept : List ℕ) × (spec : MakeValue) × IsMake words body kept spec))
 
 -- The words ask for the session of this caller, over standard input and output and with a store in memory.
 abbrev pub IsSession : List (List ℕ) → CallSign → Option ℕ → Type 0
@@ -94,7 +134,7 @@ BeyondSession words = (session : IsSomeSession words) × IsBeyond session
 
 -- The words are in the command set. As long as a command isn't built, all of its words are taken to be.
 abbrev pub InSet : List (List ℕ) → Type 0
-InSet words = IsOther words ⊎ (IsSomeSession words ⊎ ((name : List ℕ) × IsFrames words name))
+InSet words = IsOther words ⊎ (IsSomeSession words ⊎ (((name : List ℕ) × IsFrames words name) ⊎ AsksHeader words))
 
 -- the words aren't in the command set
 abbrev pub IsUsage : List (List ℕ) → Type 0
@@ -107,5 +147,5 @@ IsUnbuilt words = IsOther words ⊎ BeyondSession words
 -- the words name a command that is built
 abbrev pub NamesBuilt : List (List ℕ) → Type 0
 NamesBuilt words =
-    (disk air : List ℕ) × (others : List (List ℕ))
-    × ((words ≡ disk ∷ air ∷ codes "session" ∷ others) ⊎ (words ≡ disk ∷ air ∷ codes "frames" ∷ others))
+    (disk air command : List ℕ) × (others : List (List ℕ))
+    × (words ≡ disk ∷ air ∷ command ∷ others) × Contains built_commands command

@@ -2,16 +2,19 @@
 //! `clap`.
 //!
 //! `specs/Words.antt` is the command set, as far as it is built, `specs/Grammar.antt` the grammar of the words after
-//! COMMAND, and `specs/Numbers.antt` that of numbers.
+//! COMMAND, and `specs/Numbers.antt` that of numbers; `specs/Making.antt` says what `pfh-make` asks for.
 #![tactic(auto)]
 
 mod air;
+mod command;
 pub mod laws;
 mod line;
+mod make;
 mod number;
 mod request;
 mod words;
 
+pub use make::MakeRequest;
 pub use request::{Refusal, Request, SessionRequest, read};
 pub use words::Words;
 

@@ -1,9 +1,11 @@
 //! The words from COMMAND on, read with `clap`.
 
-ghost use Rattle.std.specs.Prelude.{◌≡◌, ℕ, List, [], false, IfOk, IsErrOf, Some, codes, drop, map, option_copied, string_bytes};
-ghost use Rattle.clap.specs.Words.{app_of, kind_of, rule_of};
-ghost use Rattle.command_words.specs.Lines.{FindsLine, FramesLine, IsTaken, RefusesLine, SessionLine, command_of, option_of, place_of};
-ghost use Rattle.command_words.specs.Words.{session_options};
+ghost use Rattle.std.specs.Prelude.{◌≡◌, List, [], ◌∷◌, false, IfOk, IsErrOf, codes, drop, map, option_copied, string_bytes};
+ghost use Rattle.clap.specs.Words.{app_of, kind_of, rule_of, with_rule};
+ghost use Rattle.command_words.specs.Grammar.{Line};
+ghost use Rattle.command_words.specs.Lines.{FindsLine, MakeLine, RefusesLine, SessionLine, command_of, make_app, option_of, place_of, session_app};
+ghost use Rattle.command_words.specs.Making.{make_options};
+ghost use Rattle.command_words.specs.Words.{NameText, session_options};
 
 use crate::request::Refusal;
 use clap::error::ErrorKind;
@@ -23,6 +25,29 @@ pub(crate) struct SessionTexts<'a> {
     pub polls: Option<&'a str>,
 }
 
+/// The places and the options of `pfh-make`.
+#[derive(Clone, Copy)]
+pub(crate) struct MakeTexts<'a> {
+    /// BODY.
+    pub body: &'a str,
+    /// NAME.
+    pub kept: &'a str,
+    /// The value of `--name`.
+    pub name: Option<&'a str>,
+    /// The value of `--ext`.
+    pub ext: Option<&'a str>,
+    /// The value of `--type`.
+    pub file_type: Option<&'a str>,
+    /// The value of `--time`.
+    pub time: Option<&'a str>,
+    /// The value of `--source`.
+    pub source: Option<&'a str>,
+    /// The value of `--destination`.
+    pub destination: Option<&'a str>,
+    /// The value of `--title`.
+    pub title: Option<&'a str>,
+}
+
 /// Reads the words from `session` on. Takes memory.
 pub(crate) fn read_session<'a>(
     alloc: Global,
@@ -30,13 +55,11 @@ pub(crate) fn read_session<'a>(
 ) -> Result<SessionTexts<'a>, Refusal>
     ensures texts { IfOk result (λ texts. SessionLine (drop 1 (map string_bytes line.now)) texts.caller.now
         (option_copied texts.moment) (option_copied texts.blocks) (option_copied texts.polls)) }
-    ensures usage { IsErrOf result Refusal.Usage → IsTaken session_options (drop 1 (map string_bytes line.now)) → ⊥ }
+    ensures usage { IsErrOf result Refusal.Usage →
+        Line session_options (drop 1 (map string_bytes line.now)) 1 → ⊥ }
     ensures built { IsErrOf result Refusal.NotBuilt → ⊥ }
 {
-    let Ok(command) = session_command(alloc) else {
-        return Err(Refusal::OutOfMemory);
-    };
-    let matches = read_line(command, line)?;
+    let matches = read_line(session_command(alloc)?, line)?;
     let Some(caller) = matches.get_str("caller") else {
         return Err(Refusal::Usage);
     };
@@ -48,41 +71,95 @@ pub(crate) fn read_session<'a>(
     })
 }
 
-/// Reads the words from `frames` on: the NAME. Takes memory.
-pub(crate) fn read_frames<'a>(alloc: Global, line: &'a [String]) -> Result<&'a str, Refusal>
-    ensures name { IfOk result (λ name. FramesLine (drop 1 (map string_bytes line.now)) name.now) }
-    ensures usage { IsErrOf result Refusal.Usage → IsTaken [] (drop 1 (map string_bytes line.now)) → ⊥ }
+/// Reads the words from a command on that has one place, a name, and no options. Takes memory.
+pub(crate) fn read_name<'a>(
+    alloc: Global,
+    command: &'a str,
+    line: &'a [String],
+) -> Result<&'a str, Refusal>
+    ensures name { IfOk result (λ name. NameText name.now (drop 1 (map string_bytes line.now))) }
+    ensures usage { IsErrOf result Refusal.Usage → Line [] (drop 1 (map string_bytes line.now)) 1 → ⊥ }
     ensures built { IsErrOf result Refusal.NotBuilt → ⊥ }
 {
-    let Ok(command) = frames_command(alloc) else {
-        return Err(Refusal::OutOfMemory);
-    };
-    let matches = read_line(command, line)?;
+    let matches = read_line(line_command(alloc, command, "name")?, line)?;
     match matches.get_str("name") {
         Some(name) => Ok(name),
         None => Err(Refusal::Usage),
     }
 }
 
-/// The command `session` with its place and its options.
-fn session_command<'a>(alloc: Global) -> Result<Command<'a>, AllocError>
-    ensures { IfOk result (λ command. app_of command ≡ command_of (codes "session") (codes "caller") session_options) }
+/// Reads the words from `pfh-make` on. Takes memory.
+pub(crate) fn read_make<'a>(alloc: Global, line: &'a [String]) -> Result<MakeTexts<'a>, Refusal>
+    ensures texts { IfOk result (λ texts. MakeLine texts (drop 1 (map string_bytes line.now))) }
+    ensures usage { IsErrOf result Refusal.Usage → Line make_options (drop 1 (map string_bytes line.now)) 2 → ⊥ }
+    ensures built { IsErrOf result Refusal.NotBuilt → ⊥ }
 {
-    Command::new(alloc, "session")
-        .disable_help_flag(true)
-        .arg(place(alloc, "caller"))?
-        .arg(option(alloc, "moment"))?
-        .arg(option(alloc, "blocks"))?
-        .arg(option(alloc, "polls"))
+    let matches = read_line(make_command(alloc)?, line)?;
+    let Some(body) = matches.get_str("body") else {
+        return Err(Refusal::Usage);
+    };
+    let Some(kept) = matches.get_str("kept") else {
+        return Err(Refusal::Usage);
+    };
+    Ok(MakeTexts {
+        body,
+        kept,
+        name: matches.get_str("name"),
+        ext: matches.get_str("ext"),
+        file_type: matches.get_str("type"),
+        time: matches.get_str("time"),
+        source: matches.get_str("source"),
+        destination: matches.get_str("destination"),
+        title: matches.get_str("title"),
+    })
 }
 
-/// The command `frames` with its place.
-fn frames_command<'a>(alloc: Global) -> Result<Command<'a>, AllocError>
-    ensures { IfOk result (λ command. app_of command ≡ command_of (codes "frames") (codes "name") []) }
+/// The command `session` with its place and its options.
+fn session_command<'a>(alloc: Global) -> Result<Command<'a>, AllocError>
+    ensures { IfOk result (λ command. app_of command ≡ session_app) }
 {
-    Command::new(alloc, "frames")
+    let command = line_command(alloc, "session", "caller")?;
+    let command = with_option(alloc, command, "moment")?;
+    let command = with_option(alloc, command, "blocks")?;
+    with_option(alloc, command, "polls")
+}
+
+/// The command `pfh-make` with its two places and its options.
+fn make_command<'a>(alloc: Global) -> Result<Command<'a>, AllocError>
+    ensures { IfOk result (λ command. app_of command ≡ make_app) }
+{
+    let command = line_command(alloc, "pfh-make", "body")?.arg(place(alloc, "kept"))?;
+    let command = with_option(alloc, command, "name")?;
+    let command = with_option(alloc, command, "ext")?;
+    let command = with_option(alloc, command, "type")?;
+    let command = with_option(alloc, command, "time")?;
+    let command = with_option(alloc, command, "source")?;
+    let command = with_option(alloc, command, "destination")?;
+    with_option(alloc, command, "title")
+}
+
+/// A command with one place and no options yet.
+fn line_command<'a>(
+    alloc: Global,
+    name: &'a str,
+    place_name: &'a str,
+) -> Result<Command<'a>, AllocError>
+    ensures { IfOk result (λ command. app_of command ≡ command_of name.entry.now (place_name.entry.now ∷ []) []) }
+{
+    Command::new(alloc, name)
         .disable_help_flag(true)
-        .arg(place(alloc, "name"))
+        .arg(place(alloc, place_name))
+}
+
+/// The command with one more option.
+fn with_option<'a>(
+    alloc: Global,
+    command: Command<'a>,
+    name: &'a str,
+) -> Result<Command<'a>, AllocError>
+    ensures { IfOk result (λ more. app_of more ≡ with_rule (app_of command.entry) (option_of name.entry.now)) }
+{
+    command.arg(Arg::new(alloc, name).long(name).action(ArgAction::Set))
 }
 
 /// A place that has to be there.
@@ -93,18 +170,11 @@ fn place<'a>(alloc: Global, name: &'a str) -> Arg<'a>
     Arg::new(alloc, name).required(true).action(ArgAction::Set)
 }
 
-/// An option with a value.
-fn option<'a>(alloc: Global, name: &'a str) -> Arg<'a>
-    ensures rule { rule_of result ≡ option_of name.entry.now }
-    ensures local { result.global ≡ false }
-{
-    Arg::new(alloc, name).long(name).action(ArgAction::Set)
-}
-
 /// Reads the words of a line, of which the first is the command itself. Takes memory.
 fn read_line<'a>(command: Command<'a>, line: &'a [String]) -> Result<ArgMatches<'a>, Refusal>
     ensures found { IfOk result (FindsLine (app_of command.entry) (drop 1 (map string_bytes line.now))) }
-    ensures usage { IsErrOf result Refusal.Usage → RefusesLine (app_of command.entry) (drop 1 (map string_bytes line.now)) }
+    ensures usage { IsErrOf result Refusal.Usage →
+        RefusesLine (app_of command.entry) (drop 1 (map string_bytes line.now)) }
     ensures built { IsErrOf result Refusal.NotBuilt → ⊥ }
 {
     match command.try_get_matches_from(line) {

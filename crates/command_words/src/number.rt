@@ -4,6 +4,9 @@ ghost use Rattle.std.specs.Prelude.{◌≡◌, ℕ, ◌+◌, ◌-◌, ◌*◌, �
 ghost use Rattle.std.specs.List.{AllByRecursion};
 ghost use Rattle.command_words.specs.Numbers.{IsDigit, NumberText, number_after as digits_after};
 
+/// The last moment that can be told, in seconds since 1 January 1970.
+pub(crate) const LAST_MOMENT: u64 = 4_294_967_295;
+
 /// The number of this range that one to twenty decimal digits write.
 pub(crate) fn read_number(low: u64, high: u64, text: &str) -> Option<u64>
     ensures some { IfSome result (λ number. NumberText low high text.now number) }
@@ -21,7 +24,8 @@ pub(crate) fn read_number(low: u64, high: u64, text: &str) -> Option<u64>
 
 /// The number that these digits write after those of a number before them, where it is below 2^64.
 fn number_after(before: u64, digits: &[u8]) -> Option<u64>
-    ensures some { IfSome result (λ number. AllByRecursion IsDigit digits.now × (number ≡ digits_after before digits.now)) }
+    ensures some { IfSome result (λ number.
+        AllByRecursion IsDigit digits.now × (number ≡ digits_after before digits.now)) }
     ensures none { IfNone result (AllByRecursion IsDigit digits.now → 2 ^ 64 ≤ digits_after before digits.now) }
 {
     let mut number = before;

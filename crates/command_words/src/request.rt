@@ -1,22 +1,21 @@
 //! What the words ask for.
 
-ghost use Rattle.std.specs.Prelude.{◌≡◌, ◌<◌, ◌^◌, ◌∷◌, ℕ, List, Option, IfNone, IfOk, IfSome, IsErrOf, codes, drop, map, option_copied, option_to_list, string_bytes};
-ghost use Rattle.std.specs.List.{list_any};
-ghost use Rattle.std.specs.Str.{bytes_eq};
+ghost use Rattle.std.specs.Prelude.{◌≡◌, ◌<◌, ◌^◌, ◌∷◌, ℕ, List, Option, IfNone, IfOk, IfSome, IsErrOf, codes, drop, map, option_copied, string_bytes};
 ghost use Rattle.px_base.specs.CallSign.{CallSign};
 ghost use Rattle.command_words.specs.Asked.{AsksFor};
-ghost use Rattle.command_words.specs.Words.{BeyondSession, GivesNumber, IsFrames, IsSomeSession, IsUnbuilt, IsUsage, NamesBuilt, SessionText, unbuilt_commands};
+ghost use Rattle.command_words.specs.Commands.{word_of};
+ghost use Rattle.command_words.specs.declared.request.Refusal.TheVariants.{OutOfMemory as refused_memory};
+ghost use Rattle.command_words.specs.Words.{BeyondSession, GivesNumber, IsNamed, IsSomeSession, IsUnbuilt, IsUsage, NamesBuilt, SessionText};
 
 use crate::air::{AirWord, read_air};
+use crate::command::{CommandWord, NameCommand, read_command};
 use crate::line;
-use crate::number::read_number;
+use crate::make::{MakeRequest, make_request};
+use crate::number::{LAST_MOMENT, read_number};
 use crate::words::Words;
 use px_base::Call;
-use std::alloc::Global;
+use std::alloc::{AllocError, Global};
 use thiserror::Error;
-
-/// The last moment that can be told, in seconds since 1 January 1970.
-const LAST_MOMENT: u64 = 4_294_967_295;
 
 /// How many blocks of 512 octets a store may have at most.
 const MOST_BLOCKS: u64 = 65_536;
@@ -40,6 +39,18 @@ pub enum Request<'a> {
         /// The file's name.
         name: &'a str,
     },
+    /// The check of a file of the shelf.
+    PfhCheck {
+        /// The file's name on the shelf.
+        name: &'a str,
+    },
+    /// The header of a file of the shelf.
+    PfhShow {
+        /// The file's name on the shelf.
+        name: &'a str,
+    },
+    /// A file that is made of a body.
+    PfhMake(MakeRequest<'a>),
 }
 
 /// Why the words ask for nothing.
@@ -56,6 +67,14 @@ pub enum Refusal {
     OutOfMemory,
 }
 
+impl From<AllocError> for Refusal {
+    ghost from_gives = { λ _ refusal. refusal ≡ refused_memory };
+
+    fn from(_refused: AllocError) -> Refusal {
+        Refusal::OutOfMemory
+    }
+}
+
 /// What the words after `session` give.
 #[derive(Clone, Copy)]
 struct SessionAsked {
@@ -68,7 +87,7 @@ struct SessionAsked {
 /// Reads the program's words, `DISK AIR COMMAND` and those after it: what they ask for, or the refusal. They aren't in
 /// the command set exactly where the answer is `Usage`, and ask for what isn't built yet exactly where it is `NotBuilt`,
 /// but for want of memory (`OutOfMemory`); [`laws::one_meaning`](crate::laws::one_meaning) turns the clauses round.
-/// Takes memory where COMMAND is `session` or `frames`.
+/// Takes memory where COMMAND is one that is built.
 pub fn read(alloc: Global, words: &Words) -> Result<Request<'_>, Refusal>
     ensures asks { IfOk result (AsksFor words.now) }
     ensures usage { IsErrOf result Refusal.Usage → IsUsage words.now }
@@ -80,30 +99,13 @@ pub fn read(alloc: Global, words: &Words) -> Result<Request<'_>, Refusal>
         return Err(Refusal::Usage);
     };
     let line = &texts[2..];
-    if command.as_str() == "session" {
-        return session_request(alloc, disk.as_str(), air.as_str(), line);
+    match read_command(command.as_str()) {
+        Some(CommandWord::Session) => session_request(alloc, disk.as_str(), air.as_str(), line),
+        Some(CommandWord::Named(named)) => name_request(alloc, named, air.as_str(), line),
+        Some(CommandWord::PfhMake) => make_request(alloc, air.as_str(), line),
+        Some(CommandWord::Unbuilt) => Err(Refusal::NotBuilt),
+        None => Err(Refusal::Usage),
     }
-    if command.as_str() == "frames" {
-        return frames_request(alloc, air.as_str(), line);
-    }
-    if is_unbuilt(command.as_str()) {
-        return Err(Refusal::NotBuilt);
-    }
-    Err(Refusal::Usage)
-}
-
-/// Whether this is one of the commands that aren't built yet.
-fn is_unbuilt(word: &str) -> bool
-    ensures { result ≡ list_any (bytes_eq word.now) unbuilt_commands }
-{
-    word == "serve"
-        || word == "send"
-        || word == "fetch"
-        || word == "list"
-        || word == "pfh-check"
-        || word == "pfh-show"
-        || word == "pfh-make"
-        || word == "rehearse"
 }
 
 /// Reads the words of a session: DISK, AIR and the line from `session` on.
@@ -113,7 +115,8 @@ fn session_request<'a>(
     air: &str,
     line: &'a [String],
 ) -> Result<Request<'a>, Refusal>
-    ensures asks { IfOk result (AsksFor (disk.now ∷ air.now ∷ codes "session" ∷ drop 1 (map string_bytes line.now))) }
+    ensures asks { IfOk result
+        (AsksFor (disk.now ∷ air.now ∷ codes "session" ∷ drop 1 (map string_bytes line.now))) }
     ensures usage { IsErrOf result Refusal.Usage →
         IsSomeSession (disk.now ∷ air.now ∷ codes "session" ∷ drop 1 (map string_bytes line.now)) → ⊥ }
     ensures unbuilt { IsErrOf result Refusal.NotBuilt →
@@ -170,9 +173,9 @@ fn read_texts(alloc: Global, line: &[String]) -> Result<SessionAsked, Refusal>
 
 /// The number of this range that an option's value writes, where it is given; or nothing where a value writes none.
 fn optional_number(low: u64, high: u64, value: Option<&str>) -> Option<Option<u64>>
-    ensures some { IfSome result (λ number. GivesNumber low high (option_to_list (option_copied value.entry)) number) }
+    ensures some { IfSome result (λ number. GivesNumber low high (option_copied value.entry) number) }
     ensures none { IfNone result ((number : Option ℕ) →
-        GivesNumber low high (option_to_list (option_copied value.entry)) number → ⊥) }
+        GivesNumber low high (option_copied value.entry) number → ⊥) }
 {
     match value {
         Some(text) => read_number(low, high, text).map(Some),
@@ -188,17 +191,22 @@ fn seconds(moment: Option<u64>) -> Option<u32>
     moment.map(|seconds| seconds as u32)
 }
 
-/// Reads the words of `frames`: AIR and the line from `frames` on.
-fn frames_request<'a>(alloc: Global, air: &str, line: &'a [String]) -> Result<Request<'a>, Refusal>
+/// Reads the words of a command with one place, a name: AIR and the line from the command on. Takes memory.
+fn name_request<'a>(
+    alloc: Global,
+    command: NameCommand,
+    air: &str,
+    line: &'a [String],
+) -> Result<Request<'a>, Refusal>
     ensures asks { IfOk result (λ request. (disk : List ℕ) →
-        AsksFor (disk ∷ air.now ∷ codes "frames" ∷ drop 1 (map string_bytes line.now)) request) }
+        AsksFor (disk ∷ air.now ∷ word_of command ∷ drop 1 (map string_bytes line.now)) request) }
     ensures usage { IsErrOf result Refusal.Usage → (disk name : List ℕ) →
-        IsFrames (disk ∷ air.now ∷ codes "frames" ∷ drop 1 (map string_bytes line.now)) name → ⊥ }
+        IsNamed (word_of command) (disk ∷ air.now ∷ word_of command ∷ drop 1 (map string_bytes line.now)) name → ⊥ }
     ensures built { IsErrOf result Refusal.NotBuilt → ⊥ }
 {
     if read_air(air).is_none() {
         return Err(Refusal::Usage);
     }
-    let name = line::read_frames(alloc, line)?;
-    Ok(Request::Frames { name })
+    let name = line::read_name(alloc, command.word(), line)?;
+    Ok(command.request(name))
 }

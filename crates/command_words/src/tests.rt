@@ -1,138 +1,88 @@
 //! What the words ask for, from outside.
 
-use crate::{Refusal, Request, Words, read};
+use crate::{MakeRequest, Refusal, Request, Words, read};
 use px_base::OutOfMemory;
 use std::alloc::{AllocError, Global};
 use std::test::Fail;
 
-/// Words, split at blanks, and what they ask for.
-const WORDS: [(&str, &str); 92] = [
-    ("", "usage"),
-    ("none -", "usage"),
-    ("none - sessions NOCALL", "usage"),
-    ("none - SESSION NOCALL", "usage"),
-    ("none - session", "usage"),
+const USAGE: &str = "the words are not in the command set";
+
+const NOT_BUILT: &str = "the words ask for what is not built yet";
+
+/// Words, split at blanks, and what they ask for. More rows, played by a whole run, stand in the crate `command_rows`.
+const WORDS: [(&str, &str); 50] = [
+    ("", USAGE),
+    ("none - SESSION NOCALL", USAGE),
     ("none - session NOCALL", "session NOCALL"),
     ("none - session NOCALL-0", "session NOCALL"),
     ("none - session PE1ABC-15", "session PE1ABC-15"),
-    ("none - session PE1ABC-16", "usage"),
-    ("none - session nocall", "usage"),
-    ("none - session TOOLONG", "usage"),
-    ("none - session ", "usage"),
-    ("none - session -", "usage"),
-    ("none - session NOCALL OTHER", "usage"),
-    ("none - session NOCALL NOCALL", "usage"),
-    ("none - session NOCALL ", "usage"),
-    ("none - session -- NOCALL", "session NOCALL"),
-    ("none - session NOCALL --", "session NOCALL"),
-    ("none - session -- NOCALL --", "usage"),
-    ("none - session -- --moment 1 NOCALL", "usage"),
+    ("none - session PE1ABC-16", USAGE),
+    ("none - session TOOLONG", USAGE),
+    ("none - session NOCALL OTHER", USAGE),
+    ("none - session NOCALL ", USAGE),
+    ("none - session -- NOCALL --", USAGE),
+    ("none - session -- --moment 1 NOCALL", USAGE),
     ("none - session --moment 5 -- NOCALL", "session NOCALL 5"),
-    ("none - session --moment -- 5 NOCALL", "usage"),
+    ("none - session --moment -- 5 NOCALL", USAGE),
     ("none - session NOCALL --moment 1", "session NOCALL 1"),
-    ("none - session --moment 1 NOCALL", "session NOCALL 1"),
-    ("none - session NOCALL --moment=1", "session NOCALL 1"),
-    ("none - session --moment=1 NOCALL", "session NOCALL 1"),
-    ("none - session NOCALL --moment=1 --moment 1", "usage"),
-    ("none - session NOCALL --moment 1 --moment 1", "usage"),
-    ("none - session NOCALL --moment=1 --moment=1", "usage"),
-    ("none - session --moment --moment=1 NOCALL", "usage"),
-    ("none - session NOCALL --moment", "usage"),
-    ("none - session NOCALL --moment=", "usage"),
-    ("none - session NOCALL --moment= 5", "usage"),
-    ("none - session --moment=NOCALL 5", "usage"),
-    ("none - session NOCALL --moment ", "usage"),
-    ("none - session NOCALL --moment -", "usage"),
-    ("none - session NOCALL --moment -5", "usage"),
-    ("none - session NOCALL --moment=-5", "usage"),
-    ("none - session NOCALL --moment +5", "usage"),
-    ("none - session NOCALL --moment --", "usage"),
-    ("none - session NOCALL --moment=5=6", "usage"),
+    ("none - session NOCALL --moment 1 --moment 1", USAGE),
+    ("none - session NOCALL --moment=1 --moment=1", USAGE),
+    ("none - session --moment --moment=1 NOCALL", USAGE),
+    ("none - session --moment=NOCALL 5", USAGE),
+    ("none - session NOCALL --moment=5=6", USAGE),
     ("none - session NOCALL --moment 0", "session NOCALL 0"),
-    (
-        "none - session NOCALL --moment 00000000000000000001",
-        "session NOCALL 1",
-    ),
-    (
-        "none - session NOCALL --moment 000000000000000000001",
-        "usage",
-    ),
-    (
-        "none - session NOCALL --moment 4294967295",
-        "session NOCALL 4294967295",
-    ),
-    ("none - session NOCALL --moment 4294967296", "usage"),
-    (
-        "none - session NOCALL --moment 99999999999999999999",
-        "usage",
-    ),
-    ("none - session NOCALL --blocks 0", "usage"),
-    ("none - session NOCALL --blocks 1", "not built"),
-    ("none - session NOCALL --blocks=65536", "not built"),
-    ("none - session NOCALL --blocks 65537", "usage"),
-    ("none - session NOCALL --polls 0", "usage"),
-    ("none - session NOCALL --polls 1", "not built"),
+    ("none - session NOCALL --moment 99999999999999999999", USAGE),
+    ("none - session NOCALL --blocks 1", NOT_BUILT),
     (
         "none - session NOCALL --polls=18446744073709551615",
-        "not built",
-    ),
-    (
-        "none - session NOCALL --polls 18446744073709551616",
-        "usage",
+        NOT_BUILT,
     ),
     (
         "none - session --polls 2 --blocks=3 NOCALL --moment 4",
-        "not built",
+        NOT_BUILT,
     ),
-    ("none - session nocall --polls 2", "usage"),
-    ("none - session NOCALL --bl 8", "usage"),
-    ("none - session NOCALL --blockss 8", "usage"),
-    ("none - session NOCALL --k 8", "usage"),
-    ("none - session NOCALL --help", "usage"),
-    ("none - session --help", "usage"),
-    ("none - session -h", "usage"),
-    ("none - session --version", "usage"),
-    ("none - session NOCALL -V", "usage"),
-    ("none - session NOCALL -moment 1", "usage"),
-    ("none - session NOCALL --=1", "usage"),
-    ("none - session NOCALL ---", "usage"),
-    ("none none session NOCALL", "usage"),
-    ("none host:8001 session NOCALL", "not built"),
-    ("none host:65535 session NOCALL", "not built"),
-    ("none host:65536 session NOCALL", "usage"),
-    ("none host:0 session NOCALL", "usage"),
-    ("none host:00001 session NOCALL", "not built"),
-    ("none :1 session NOCALL", "usage"),
-    ("none host: session NOCALL", "usage"),
-    ("none a:b:1 session NOCALL", "usage"),
-    ("none host session NOCALL", "usage"),
-    ("none  session NOCALL", "usage"),
-    ("disk.img - session NOCALL", "not built"),
-    (" - session NOCALL", "not built"),
-    ("disk.img - session nocall", "usage"),
+    ("none - session nocall --polls 2", USAGE),
+    ("none - session NOCALL --blockss 8", USAGE),
+    ("none - session NOCALL --k 8", USAGE),
+    ("none - session -h", USAGE),
+    ("none - session --version", USAGE),
+    ("none - session NOCALL --=1", USAGE),
+    ("none - session NOCALL ---", USAGE),
+    ("none host:00001 session NOCALL", NOT_BUILT),
+    ("none :1 session NOCALL", USAGE),
+    ("disk.img - session NOCALL", NOT_BUILT),
+    ("disk.img - session nocall", USAGE),
     ("none none frames NAME", "frames NAME"),
     ("disk.img host:8001 frames a.kss", "frames a.kss"),
     ("none - frames ", "frames "),
     ("none - frames -", "frames -"),
-    ("none none frames -- -x", "frames -x"),
-    ("none none frames -x", "usage"),
-    ("none none frames", "usage"),
-    ("none none frames a b", "usage"),
-    ("none none frames --moment 1 a", "usage"),
-    ("none host: frames a", "usage"),
+    ("none host: frames a", USAGE),
+    ("none none pfh-check a", "check a"),
+    ("disk.img - pfh-check ", "check "),
+    ("none none pfh-show -- --name", "show --name"),
+    (
+        "none none pfh-make A B --name MSG",
+        "make A B MSG. 0 0 >- -",
+    ),
+    (
+        "none none pfh-make A B --name MSG --ext TXT --type 255 --time 4294967295 --source KA9XYZ --destination KB0ABC --title Hello",
+        "make A B MSG.TXT 255 4294967295 KA9XYZ>KB0ABC Hello",
+    ),
+    (
+        "none x:1 pfh-make --title= --destination=- --name=A=B -- --ext -",
+        "make --ext - A=B. 0 0 >- ",
+    ),
+    (
+        "none - pfh-make --time 007 A --name - --source=--x ",
+        "make A  -. 0 7 --x>- -",
+    ),
+    ("none none pfh-make A B --name \u{7f}", USAGE),
+    ("none none pfh-make A B --name \u{1f}", USAGE),
+    ("none none pfh-make A B --name X --ext \u{9}", USAGE),
 ];
 
 /// Words of commands that aren't built yet.
-const UNBUILT: [&str; 8] = [
-    "serve",
-    "send",
-    "fetch",
-    "list",
-    "pfh-check",
-    "pfh-show",
-    "pfh-make",
-    "rehearse",
-];
+const UNBUILT: [&str; 5] = ["serve", "send", "fetch", "list", "rehearse"];
 
 /// The words of a text.
 fn words_of(alloc: Global, text: &str) -> Result<Words, OutOfMemory> {
@@ -151,10 +101,27 @@ fn told(alloc: Global, asked: &Result<Request<'_>, Refusal>) -> Result<String, A
             None => format!(in alloc; "session {}", session.caller),
         },
         Ok(Request::Frames { name }) => format!(in alloc; "frames {name}"),
-        Err(Refusal::Usage) => format!(in alloc; "usage"),
-        Err(Refusal::NotBuilt) => format!(in alloc; "not built"),
-        Err(Refusal::OutOfMemory) => format!(in alloc; "out of memory"),
+        Ok(Request::PfhCheck { name }) => format!(in alloc; "check {name}"),
+        Ok(Request::PfhShow { name }) => format!(in alloc; "show {name}"),
+        Ok(Request::PfhMake(request)) => told_make(alloc, request),
+        Err(refusal) => refusal.to_string(alloc),
     }
+}
+
+/// What is to be made, as text: the names on the shelf, name and extension, type, time, source and destination, and title.
+fn told_make(alloc: Global, request: &MakeRequest<'_>) -> Result<String, AllocError> {
+    let destination = request.destination.unwrap_or("-");
+    let title = request.title.unwrap_or("-");
+    format!(in alloc;
+        "make {} {} {}.{} {} {} {}>{destination} {title}",
+        request.body,
+        request.kept,
+        request.name,
+        request.ext,
+        request.file_type,
+        request.time,
+        request.source
+    )
 }
 
 #[test]
@@ -170,18 +137,7 @@ fn words_are_read(rt: HostRuntime) -> Result<(), Fail> {
         let asked = read(rt.alloc(), &words);
         assert!(rt; asked == Err(Refusal::NotBuilt), "{command}");
     }
-    Ok(())
-}
-
-#[test]
-fn refusals_are_told(rt: HostRuntime) -> Result<(), Fail> {
-    let texts = [
-        (Refusal::Usage, "the words are not in the command set"),
-        (Refusal::NotBuilt, "the words ask for what is not built yet"),
-        (Refusal::OutOfMemory, "out of memory"),
-    ];
-    for (refusal, text) in texts.iter() {
-        assert_eq!(rt; refusal.to_string(rt.alloc())?.as_str(), *text);
-    }
+    let refused = told(rt.alloc(), &Err(Refusal::OutOfMemory))?;
+    assert_eq!(rt; refused.as_str(), "out of memory");
     Ok(())
 }

@@ -1,21 +1,24 @@
 -- What commands keep.
-use Rattle.std.proofs.Common.{◌≡◌, ◌≢◌, ℕ, ◌+◌, ◌≤◌, ◌<◌, Bool, true, false, not, ◌&&◌, List, [], ◌∷◌, ◌++◌, length, refl, sym, ◌∙◌, subst, arith, Option, None, Some, inl, inr, ◌==◌, nat_le, nat_lt, length-append}
+use Rattle.std.proofs.Common.{◌≡◌, ◌≢◌, ℕ, ◌+◌, ◌≤◌, ◌<◌, Bool, true, false, not, ◌&&◌, List, [], ◌∷◌, ◌++◌, length, refl, ap, sym, ◌∙◌, subst, arith, Option, None, Some, inl, inr, ◌==◌, nat_le, nat_lt, length-append}
 use Rattle.std.specs.Prelude.{find, IsTrue, is_none}
-use Rattle.file_store.specs.Header.{fault_of}
+use Rattle.pfh_items.specs.Faults.{fault_code}
+use Rattle.pfh_items.specs.Stamp.{StampValue}
+use Rattle.std.specs.List.{AllByRecursion}
 use Rattle.std.proofs.lemmas.Bool.Decides.{nat_tests, eqb_tells}
 use Rattle.std.proofs.lemmas.List.{length-map}
 use Rattle.std.proofs.lemmas.List.Filters.{length-filter_both, sum_by-filter_both}
 use Rattle.std.proofs.lemmas.List.Folds.{find-append}
 use Rattle.std.proofs.lemmas.List.Sums.{sum_by_push}
-use Rattle.px_base.specs.CallSign.{CallSign}
-use Rattle.file_store.specs.Command.{Command, begin, grow, seal, drop_entry, can_begin, has_room, is_good, is_partial, is_whole, passes, is_allowed, grown, sealed, changed, with_holding, after, after_all, AreAllowed}
+use Rattle.px_base.specs.CallSign.{CallSign, IsCall}
+use Rattle.file_store.specs.Command.{Command, begin, grow, seal, drop_entry, can_begin, has_room, is_good, is_partial, is_whole, passes, is_allowed, grown, kept_with, sealed, stamp_of, with_more, changed, with_holding, after, after_all, AreAllowed, HasCall}
 use Rattle.file_store.specs.Info.{is_complete}
 use Rattle.file_store.specs.IsStore.{IsStore, FitsLength}
 use Rattle.file_store.specs.Kept.{KeepsComplete, KeepsUploads, KeepsOthers}
 use Rattle.file_store.specs.declared.limits.TheConstants.{LAST_NEXT, LONGEST_FILE, MOST_ENTRIES}
 use Rattle.file_store.specs.Store.{Entry, Holding, partial, complete, Store, entry_of, blocks_for, blocks_of, new_entry}
 use Rattle.file_store.specs.Upload.{Upload, Holds, new_upload}
-use Rattle.file_store.proofs.EntriesLemmas.{has_number, AreEntries-push, AreEntries-map-changed, AreEntries-filter, blocks-map-changed, find-map-changed_other, find-filter_other, find_past}
+use Rattle.file_store.proofs.StampedLemmas.{length-stamped}
+use Rattle.file_store.proofs.EntriesLemmas.{has_number, AreEntries-push, AreEntries-map-changed, AreEntries-filter, HaveCallers-push, HaveCallers-map-changed, HaveCallers-filter, found-caller, blocks-map-changed, find-map-changed_other, find-filter_other, find_past}
 
 -- ---- what a test tells
 
@@ -44,8 +47,16 @@ room-partial (partial held) l n t = (held, refl, grind (arith, nat_tests))
 room-partial (complete o m) l n t = absurd (cc)
 
 pub good-partial : (h : Holding) (l : ℕ) → IsTrue (is_good h l) → (held : List ℕ) × (h ≡ partial held) × (length held ≡ l)
-good-partial (partial held) l t = (held, refl, let parts : IsTrue (length held == l) × IsTrue (is_none (fault_of held)) = and-parts (length held == l) (is_none (fault_of held)) t in grind (arith, nat_tests, parts.0))
+good-partial (partial held) l t = (held, refl, let parts : IsTrue (length held == l) × IsTrue (is_none (fault_code held)) = and-parts (length held == l) (is_none (fault_code held)) t in grind (arith, nat_tests, parts.0))
 good-partial (complete o m) l t = absurd (cc)
+
+-- the octets of a whole file without fault have none
+pub good-fault : (held : List ℕ) (l : ℕ) → IsTrue (is_good (partial held) l) → fault_code held ≡ None
+good-fault held l t = none (fault_code held) (and-parts (length held == l) (is_none (fault_code held)) t).1
+  where
+    none : (o : Option ℕ) → IsTrue (is_none o) → o ≡ None
+    none None h = refl
+    none (Some code) h = absurd (cc)
 
 pub partial-held : (h : Holding) → IsTrue (is_partial h) → (held : List ℕ) × (h ≡ partial held)
 partial-held (partial held) t = (held, refl)
@@ -77,12 +88,13 @@ pub grow-allowed : (store : Store) (number : ℕ) (octets : List ℕ) → IsTrue
     → IsTrue (passes (λ e. has_room e.holding e.length (length octets)) (entry_of store number))
 grow-allowed store number octets ok = (and-parts (nat_le 1 (length octets) && nat_le (length octets) 512) (passes (λ e. has_room e.holding e.length (length octets)) (entry_of store number)) ok).1
 
-pub new_entry-IsStore : (store : Store) (caller : CallSign) (file_length moment : ℕ) → IsStore store → file_length ≤ LONGEST_FILE → length store.entries < MOST_ENTRIES
+pub new_entry-IsStore : (store : Store) (caller : CallSign) (file_length moment : ℕ) → IsStore store → IsCall caller → file_length ≤ LONGEST_FILE → length store.entries < MOST_ENTRIES
     → blocks_of store + blocks_for file_length ≤ store.blocks → IsStore (after store (begin store.next caller file_length moment))
-new_entry-IsStore store caller file_length moment is small few room =
+new_entry-IsStore store caller file_length moment is call small few room =
     let new : Entry = new_entry store.next caller file_length moment in
     record {
       entries = AreEntries-push 1 store.next store.entries new is.entries is.next refl (omega arith) small;
+      callers = HaveCallers-push store.entries new is.callers call;
       next = omega arith;
       count = simp length-append (omega arith);
       blocks = rw (sum_by_push (λ (e : Entry). blocks_for e.length) store.entries new) room;
@@ -90,17 +102,18 @@ new_entry-IsStore store caller file_length moment is small few room =
       most = is.most;
     }
 
-pub begin-IsStore : (store : Store) (number : ℕ) (caller : CallSign) (file_length moment : ℕ) → IsStore store
+pub begin-IsStore : (store : Store) (number : ℕ) (caller : CallSign) (file_length moment : ℕ) → IsStore store → IsCall caller
     → IsTrue (is_allowed store (begin number caller file_length moment)) → IsStore (after store (begin number caller file_length moment))
-begin-IsStore store number caller file_length moment is ok =
+begin-IsStore store number caller file_length moment is call ok =
     let says = begin-allowed store number caller file_length moment ok in
-    subst (λ (n : ℕ). IsStore (after store (begin n caller file_length moment))) (sym says.0) (new_entry-IsStore store caller file_length moment is says.1 says.2 says.3)
+    subst (λ (n : ℕ). IsStore (after store (begin n caller file_length moment))) (sym says.0) (new_entry-IsStore store caller file_length moment is call says.1 says.2 says.3)
 
-pub change-IsStore : (store : Store) (number : ℕ) (change : Holding → Holding) (e : Entry) → IsStore store → entry_of store number ≡ Some e
-    → FitsLength (change e.holding) e.length → IsStore (with_holding store number change)
+pub change-IsStore : (store : Store) (number : ℕ) (change : Entry → Holding) (e : Entry) → IsStore store → entry_of store number ≡ Some e
+    → FitsLength (change e) e.length → IsStore (with_holding store number change)
 change-IsStore store number change e is found fits =
     record {
       entries = AreEntries-map-changed number change 1 store.next store.entries e is.entries found fits;
+      callers = HaveCallers-map-changed number change store.entries is.callers;
       next = is.next;
       count = subst (λ (n : ℕ). n ≤ MOST_ENTRIES) (sym (length-map store.entries (changed number change))) is.count;
       blocks = subst (λ (n : ℕ). n ≤ store.blocks) (sym (blocks-map-changed number change store.entries)) is.blocks;
@@ -113,6 +126,7 @@ drop-IsStore store number is =
     let test : Entry → Bool = λ e. not (e.number == number) in
     record {
       entries = AreEntries-filter test 1 store.next store.entries is.entries;
+      callers = HaveCallers-filter test store.entries is.callers;
       next = is.next;
       count = omega (arith, is.count, length-filter_both test (λ e. not (test e)) (λ _. refl) store.entries);
       blocks = omega (arith, is.blocks, sum_by-filter_both test (λ e. not (test e)) (λ _. refl) (λ (e : Entry). blocks_for e.length) store.entries);
@@ -121,31 +135,38 @@ drop-IsStore store number is =
     }
 
 -- octets that have room fit the file
-pub grown-fits : (octets : List ℕ) (h : Holding) (l : ℕ) → IsTrue (has_room h l (length octets)) → FitsLength (grown octets h) l
-grown-fits octets (partial held) l t = simp length-append (grind (arith, nat_tests))
-grown-fits octets (complete all m) l t = absurd (cc)
+pub more-fits : (octets : List ℕ) (h : Holding) (l : ℕ) → IsTrue (has_room h l (length octets)) → FitsLength (with_more octets h) l
+more-fits octets (partial held) l t = simp length-append (grind (arith, nat_tests))
+more-fits octets (complete all m) l t = absurd (cc)
 
-pub sealed-fits : (moment : ℕ) (h : Holding) (l : ℕ) → IsTrue (is_good h l) → FitsLength (sealed moment h) l
-sealed-fits moment (partial held) l t = let good = good-partial (partial held) l t in let same : partial held ≡ partial good.0 = good.1 in cc
-sealed-fits moment (complete all m) l t = absurd (cc)
+-- a file without fault fits once it is stamped
+pub kept-fits : (stamp : StampValue) (h : Holding) (l : ℕ) → IsCall stamp.by → IsTrue (is_good h l) → FitsLength (kept_with stamp h) l
+kept-fits stamp (partial held) l call t =
+    let good = good-partial (partial held) l t in
+    let same : partial held ≡ partial good.0 = good.1 in
+    let held_same : held ≡ good.0 = cc in
+    length-stamped stamp held call (good-fault held l t) ∙ ap (λ (os : List ℕ). length os) held_same ∙ good.2
+kept-fits stamp (complete all m) l call t = absurd (cc)
 
-pub whole-sealed-fits : (moment : ℕ) (h : Holding) (l : ℕ) → IsTrue (is_whole h l) → FitsLength (sealed moment h) l
-whole-sealed-fits moment (partial held) l t = grind (arith, nat_tests)
-whole-sealed-fits moment (complete all m) l t = absurd (cc)
-
-pub after-IsStore : (store : Store) (command : Command) → IsStore store → IsTrue (is_allowed store command) → IsStore (after store command)
-after-IsStore store (begin number caller file_length moment) is ok = begin-IsStore store number caller file_length moment is ok
-after-IsStore store (grow number octets) is ok =
+pub after-IsStore : (store : Store) (command : Command) → IsStore store → HasCall command → IsTrue (is_allowed store command) → IsStore (after store command)
+after-IsStore store (begin number caller file_length moment) is call ok = begin-IsStore store number caller file_length moment is call ok
+after-IsStore store (grow number octets) is call ok =
     let found = passes-entry (λ e. has_room e.holding e.length (length octets)) (entry_of store number) (grow-allowed store number octets ok) in
-    change-IsStore store number (grown octets) found.0 is found.1 (grown-fits octets found.0.holding found.0.length found.2)
-after-IsStore store (seal number moment) is ok =
+    change-IsStore store number (grown octets) found.0 is found.1 (more-fits octets found.0.holding found.0.length found.2)
+after-IsStore store (seal number moment) is call ok =
     let found = passes-entry (λ e. is_good e.holding e.length) (entry_of store number) ok in
-    change-IsStore store number (sealed moment) found.0 is found.1 (sealed-fits moment found.0.holding found.0.length found.2)
-after-IsStore store (drop_entry number) is ok = drop-IsStore store number is
+    change-IsStore store number (sealed moment) found.0 is found.1
+    (kept-fits (stamp_of moment found.0) found.0.holding found.0.length (found-caller number store.entries found.0 is.callers found.1) found.2)
+after-IsStore store (drop_entry number) is call ok = drop-IsStore store number is
 
-pub after_all-IsStore : (store : Store) (commands : List Command) → IsStore store → AreAllowed store commands → IsStore (after_all store commands)
-after_all-IsStore store [] is ok = is
-after_all-IsStore store (command ∷ commands) is ok = after_all-IsStore (after store command) commands (after-IsStore store command is ok.0) ok.1
+-- the caller of each command is a call
+abbrev pub HaveCalls : List Command → Type 0
+HaveCalls commands = AllByRecursion HasCall commands
+
+pub after_all-IsStore : (store : Store) (commands : List Command) → IsStore store → HaveCalls commands → AreAllowed store commands → IsStore (after_all store commands)
+after_all-IsStore store [] is calls ok = is
+after_all-IsStore store (command ∷ commands) is calls ok =
+    after_all-IsStore (after store command) commands (after-IsStore store command is calls.0 ok.0) calls.1 ok.1
 
 -- ---- each command keeps the other entries, and each complete one
 
@@ -193,10 +214,11 @@ after-KeepsComplete store command is ok number e found whole =
       | inr w ↦ after-other store command number e w.1 found
     ]
 
-pub after_all-KeepsComplete : (store : Store) (commands : List Command) → IsStore store → AreAllowed store commands → KeepsComplete store (after_all store commands)
-after_all-KeepsComplete store [] is ok number e found whole = found
-after_all-KeepsComplete store (command ∷ commands) is ok number e found whole =
-    after_all-KeepsComplete (after store command) commands (after-IsStore store command is ok.0) ok.1 number e
+pub after_all-KeepsComplete : (store : Store) (commands : List Command) → IsStore store → HaveCalls commands → AreAllowed store commands
+    → KeepsComplete store (after_all store commands)
+after_all-KeepsComplete store [] is calls ok number e found whole = found
+after_all-KeepsComplete store (command ∷ commands) is calls ok number e found whole =
+    after_all-KeepsComplete (after store command) commands (after-IsStore store command is calls.0 ok.0) calls.1 ok.1 number e
     (after-KeepsComplete store command is ok.0 number e found whole) whole
 
 -- an upload whose entry stands as it was is held

@@ -5,9 +5,10 @@ use Rattle.std.specs.List.{position_or_len}
 use Rattle.std.proofs.lemmas.Bool.Decides.{nat_tests, eqb_tells}
 use Rattle.std.proofs.lemmas.List.{get_or_default}
 use Rattle.std.proofs.lemmas.List.Sums.{sum_by-cons}
+use Rattle.px_base.specs.CallSign.{CallSign, IsCall}
 use Rattle.file_store.specs.declared.limits.TheConstants.{LONGEST_FILE}
 use Rattle.file_store.specs.Store.{Entry, Holding, partial, complete, octets_of, blocks_for}
-use Rattle.file_store.specs.IsStore.{AreEntries, FitsLength}
+use Rattle.file_store.specs.IsStore.{AreEntries, FitsLength, HaveCallers}
 use Rattle.file_store.specs.Command.{changed}
 
 -- whether an entry has this number
@@ -15,19 +16,19 @@ abbrev pub has_number : ℕ → Entry → Bool
 has_number number e = e.number == number
 
 -- an entry of another number stays
-pub changed-other : (number : ℕ) (change : Holding → Holding) (e : Entry) → has_number number e ≡ false → changed number change e ≡ e
+pub changed-other : (number : ℕ) (change : Entry → Holding) (e : Entry) → has_number number e ≡ false → changed number change e ≡ e
 changed-other number change e h = rw h
 
-pub changed-same : (number : ℕ) (change : Holding → Holding) (e : Entry) → has_number number e ≡ true → changed number change e ≡ record e { holding = change e.holding }
+pub changed-same : (number : ℕ) (change : Entry → Holding) (e : Entry) → has_number number e ≡ true → changed number change e ≡ record e { holding = change e }
 changed-same number change e h = rw h
 
 -- a change keeps the number
-pub number-changed : (number : ℕ) (change : Holding → Holding) (e : Entry) → (changed number change e).number ≡ e.number
+pub number-changed : (number : ℕ) (change : Entry → Holding) (e : Entry) → (changed number change e).number ≡ e.number
 number-changed number change e =
     elim (eqb_tells e.number number) [ inl w ↦ ap (λ (x : Entry). x.number) (changed-same number change e w.0) | inr w ↦ ap (λ (x : Entry). x.number) (changed-other number change e w.0) ]
 
 -- no entry from a larger number on has this number
-pub map-changed_past : (number : ℕ) (change : Holding → Holding) (low next : ℕ) (entries : List Entry) → AreEntries low entries next → number < low → map (changed number change) entries ≡ entries
+pub map-changed_past : (number : ℕ) (change : Entry → Holding) (low next : ℕ) (entries : List Entry) → AreEntries low entries next → number < low → map (changed number change) entries ≡ entries
 map-changed_past number change low next [] are past = refl
 map-changed_past number change low next (e ∷ es) are past =
     let other : has_number number e ≡ false = grind (arith, nat_tests) in
@@ -39,9 +40,9 @@ pub position-past : (number : ℕ) (x : Entry) (xs : List Entry) → has_number 
 position-past number x xs h = rw h (omega arith)
 
 -- the first entry of a number, changed in its place, is the entry of that number changed
-pub set_first-is-map : (number : ℕ) (change : Holding → Holding) (low next : ℕ) (entries : List Entry) (e : Entry) → AreEntries low entries next
+pub set_first-is-map : (number : ℕ) (change : Entry → Holding) (low next : ℕ) (entries : List Entry) (e : Entry) → AreEntries low entries next
     → find (has_number number) entries ≡ Some e
-    → set entries (position_or_len (has_number number) entries) (record e { holding = change e.holding }) ≡ map (changed number change) entries
+    → set entries (position_or_len (has_number number) entries) (record e { holding = change e }) ≡ map (changed number change) entries
 set_first-is-map number change low next [] e are found = absurd (cc)
 set_first-is-map number change low next (x ∷ xs) e are found =
     elim (eqb_tells x.number number) [
@@ -53,7 +54,7 @@ set_first-is-map number change low next (x ∷ xs) e are found =
           let f = rw w.0 at found in
           let rest = set_first-is-map number change (x.number + 1) next xs e are.4 f in
           let here : changed number change x ≡ x = changed-other number change x w.0 in
-          subst (λ (k : ℕ). set (x ∷ xs) k (record e { holding = change e.holding }) ≡ changed number change x ∷ map (changed number change) xs) (sym (position-past number x xs w.0))
+          subst (λ (k : ℕ). set (x ∷ xs) k (record e { holding = change e }) ≡ changed number change x ∷ map (changed number change) xs) (sym (position-past number x xs w.0))
           (ap (λ (ys : List Entry). x ∷ ys) rest ∙ ap (λ (y : Entry). y ∷ map (changed number change) xs) (sym here))
     ]
 
@@ -81,8 +82,8 @@ found-number number (x ∷ xs) e found =
     ]
 
 -- the entry of a number after a change of that number
-pub find-map-changed : (number : ℕ) (change : Holding → Holding) (entries : List Entry) (e : Entry) → find (has_number number) entries ≡ Some e
-    → find (has_number number) (map (changed number change) entries) ≡ Some (record e { holding = change e.holding })
+pub find-map-changed : (number : ℕ) (change : Entry → Holding) (entries : List Entry) (e : Entry) → find (has_number number) entries ≡ Some e
+    → find (has_number number) (map (changed number change) entries) ≡ Some (record e { holding = change e })
 find-map-changed number change [] e found = absurd (cc)
 find-map-changed number change (x ∷ xs) e found =
     elim (eqb_tells x.number number) [
@@ -91,7 +92,7 @@ find-map-changed number change (x ∷ xs) e found =
     ]
 
 -- the entry of another number after a change of a number
-pub find-map-changed_other : (number other : ℕ) (change : Holding → Holding) (entries : List Entry) → other ≢ number
+pub find-map-changed_other : (number other : ℕ) (change : Entry → Holding) (entries : List Entry) → other ≢ number
     → find (has_number other) (map (changed number change) entries) ≡ find (has_number other) entries
 find-map-changed_other number other change [] ne = refl
 find-map-changed_other number other change (x ∷ xs) ne =
@@ -148,18 +149,18 @@ AreEntries-push low next (x ∷ xs) e are le same fits small =
     (are.0, omega (arith, are.1), are.2, are.3, AreEntries-push (x.number + 1) next xs e are.4 (omega (arith, are.1)) same fits small)
 
 -- one entry changed
-pub AreEntries-map-changed : (number : ℕ) (change : Holding → Holding) (low next : ℕ) (entries : List Entry) (e : Entry) → AreEntries low entries next
-    → find (has_number number) entries ≡ Some e → FitsLength (change e.holding) e.length → AreEntries low (map (changed number change) entries) next
+pub AreEntries-map-changed : (number : ℕ) (change : Entry → Holding) (low next : ℕ) (entries : List Entry) (e : Entry) → AreEntries low entries next
+    → find (has_number number) entries ≡ Some e → FitsLength (change e) e.length → AreEntries low (map (changed number change) entries) next
 AreEntries-map-changed number change low next [] e are found fits = absurd (cc)
 AreEntries-map-changed number change low next (x ∷ xs) e are found fits =
     elim (eqb_tells x.number number) [
       | inl w ↦
           let same : x ≡ e = let f = rw w.0 at found in cc in
-          let P : Entry → Type 0 = λ y. FitsLength (change y.holding) y.length in
+          let P : Entry → Type 0 = λ y. FitsLength (change y) y.length in
           let rest : map (changed number change) xs ≡ xs = map-changed_past number change (x.number + 1) next xs are.4 (omega (arith, w.1)) in
           let Q : Entry → List Entry → Type 0 = λ y ys. AreEntries low (y ∷ ys) next in
           subst (λ (y : Entry). Q y (map (changed number change) xs)) (sym (changed-same number change x w.0))
-          (subst (λ (ys : List Entry). Q (record x { holding = change x.holding }) ys) (sym rest) (are.0, are.1, subst P (sym same) fits, are.3, are.4))
+          (subst (λ (ys : List Entry). Q (record x { holding = change x }) ys) (sym rest) (are.0, are.1, subst P (sym same) fits, are.3, are.4))
       | inr w ↦
           let rest = AreEntries-map-changed number change (x.number + 1) next xs e are.4 (rw w.0 at found) fits in
           subst (λ (y : Entry). AreEntries low (y ∷ map (changed number change) xs) next) (sym (changed-other number change x w.0)) (are.0, are.1, are.2, are.3, rest)
@@ -176,7 +177,7 @@ AreEntries-filter test low next (x ∷ xs) are = filter_step test low next x xs 
     filter_step test low next x xs are rest false h = rw h (AreEntries-lower (x.number + 1) low next (filter test xs) (omega (arith, are.0)) rest)
 
 -- a change takes no more and no fewer blocks
-pub blocks-map-changed : (number : ℕ) (change : Holding → Holding) (entries : List Entry)
+pub blocks-map-changed : (number : ℕ) (change : Entry → Holding) (entries : List Entry)
     → sum_by (λ (e : Entry). blocks_for e.length) (map (changed number change) entries) ≡ sum_by (λ (e : Entry). blocks_for e.length) entries
 blocks-map-changed number change [] = refl
 blocks-map-changed number change (x ∷ xs) =
@@ -185,6 +186,40 @@ blocks-map-changed number change (x ∷ xs) =
     let f : Entry → ℕ = λ e. blocks_for e.length in
     sum_by-cons f (changed number change x) (map (changed number change) xs) ∙ (ap (λ (n : ℕ). n + sum_by f (map (changed number change) xs)) length-changed
     ∙ (ap (λ (n : ℕ). f x + n) (blocks-map-changed number change xs) ∙ sym (sum_by-cons f x xs)))
+
+-- ---- callers
+
+-- a change keeps the caller
+caller-changed : (number : ℕ) (change : Entry → Holding) (e : Entry) → (changed number change e).caller ≡ e.caller
+caller-changed number change e =
+    elim (eqb_tells e.number number) [ inl w ↦ ap (λ (x : Entry). x.caller) (changed-same number change e w.0) | inr w ↦ ap (λ (x : Entry). x.caller) (changed-other number change e w.0) ]
+
+pub HaveCallers-push : (entries : List Entry) (e : Entry) → HaveCallers entries → IsCall e.caller → HaveCallers (entries ++ e ∷ [])
+HaveCallers-push [] e have is = (is, tt)
+HaveCallers-push (x ∷ xs) e have is = (have.0, HaveCallers-push xs e have.1 is)
+
+pub HaveCallers-map-changed : (number : ℕ) (change : Entry → Holding) (entries : List Entry) → HaveCallers entries → HaveCallers (map (changed number change) entries)
+HaveCallers-map-changed number change [] have = tt
+HaveCallers-map-changed number change (x ∷ xs) have =
+    (subst (λ (c : CallSign). IsCall c) (sym (caller-changed number change x)) have.0, HaveCallers-map-changed number change xs have.1)
+
+pub HaveCallers-filter : (test : Entry → Bool) (entries : List Entry) → HaveCallers entries → HaveCallers (filter test entries)
+HaveCallers-filter test [] have = tt
+HaveCallers-filter test (x ∷ xs) have = filter_step test x xs have (HaveCallers-filter test xs have.1) (test x) refl
+  where
+    filter_step : (test : Entry → Bool) (x : Entry) (xs : List Entry) → HaveCallers (x ∷ xs) → HaveCallers (filter test xs)
+        → (passed : Bool) → test x ≡ passed → HaveCallers (filter test (x ∷ xs))
+    filter_step test x xs have rest true h = rw h (have.0, rest)
+    filter_step test x xs have rest false h = rw h rest
+
+-- the caller of an entry that is found
+pub found-caller : (number : ℕ) (entries : List Entry) (e : Entry) → HaveCallers entries → find (has_number number) entries ≡ Some e → IsCall e.caller
+found-caller number [] e have found = absurd (cc)
+found-caller number (x ∷ xs) e have found =
+    elim (eqb_tells x.number number) [
+      | inl w ↦ let same : x ≡ e = let f = rw w.0 at found in cc in subst (λ (y : Entry). IsCall y.caller) same have.0
+      | inr w ↦ found-caller number xs e have.1 (rw w.0 at found)
+    ]
 
 -- ---- the place of an entry
 
@@ -203,13 +238,13 @@ place-entry number entries e place x found at is =
     is ∙ (ap (λ (k : ℕ). get_or entries k x) same ∙ (get_or_default entries (position_or_len (has_number number) entries) x e inside.0 ∙ inside.1))
 
 -- the entry at the place, changed
-pub place-changed : (number : ℕ) (change : Holding → Holding) (low next : ℕ) (entries : List Entry) (e : Entry) (place : ℕ) (x y : Entry) → AreEntries low entries next
+pub place-changed : (number : ℕ) (change : Entry → Holding) (low next : ℕ) (entries : List Entry) (e : Entry) (place : ℕ) (x y : Entry) → AreEntries low entries next
     → find (has_number number) entries ≡ Some e → Some place ≡ Some (position_or_len (has_number number) entries) → x ≡ get_or entries place x
-    → y ≡ record x { holding = change x.holding } → set entries place y ≡ map (changed number change) entries
+    → y ≡ record x { holding = change x } → set entries place y ≡ map (changed number change) entries
 place-changed number change low next entries e place x y are found at is new =
     let here : x ≡ e = place-entry number entries e place x found at is in
     let same : place ≡ position_or_len (has_number number) entries = cc in
-    let value : y ≡ record e { holding = change e.holding } = new ∙ ap (λ (z : Entry). record z { holding = change z.holding }) here in
+    let value : y ≡ record e { holding = change e } = new ∙ ap (λ (z : Entry). record z { holding = change z }) here in
     ap (λ (k : ℕ). set entries k y) same ∙ (ap (λ (z : Entry). set entries (position_or_len (has_number number) entries) z) value ∙ set_first-is-map number change low next entries e are found)
 
 pub some-when : (b : Bool) (p q : ℕ) → cond b (Some p) None ≡ Some q → (b ≡ true) × (p ≡ q)

@@ -4,34 +4,34 @@ use Rattle.std.specs.Prelude.{IsTrue}
 use Rattle.std.proofs.lemmas.Bool.Decides.{nat_tests, eqb_tells}
 use Rattle.std.proofs.lemmas.List.{length-take-le, append-nil}
 use Rattle.std.proofs.Math.Seq.{take-add, take-append-add, drop-append-add}
-use Rattle.file_store.specs.Command.{Command, grow, has_room, passes, is_allowed, grown, changed, with_holding, after, after_all, AreAllowed, DoesAll, grows, whole_grows, unfilled_block, last_grow}
+use Rattle.file_store.specs.Command.{Command, HasCall, grow, has_room, passes, is_allowed, grown, changed, with_holding, with_more, after, after_all, AreAllowed, DoesAll, grows, whole_grows, unfilled_block, last_grow}
 use Rattle.file_store.specs.Kept.{KeepsOthers}
 use Rattle.file_store.specs.Store.{Entry, Holding, partial, complete, Store, octets_at, entry_of}
 use Rattle.file_store.specs.Upload.{Upload, Holds, HoldsAll, came, octets_come, appended}
 use Rattle.file_store.proofs.EntriesLemmas.{find-map-changed, find-map-changed_other}
-use Rattle.file_store.proofs.AfterLemmas.{Holds-kept}
+use Rattle.file_store.proofs.AfterLemmas.{HaveCalls, Holds-kept}
 
 -- ---- two changes are one
 
-pub grown-none : (h : Holding) → grown [] h ≡ h
-grown-none (partial held) = ap partial (append-nil held)
-grown-none (complete octets moment) = refl
+pub more-none : (h : Holding) → with_more [] h ≡ h
+more-none (partial held) = ap partial (append-nil held)
+more-none (complete octets moment) = refl
 
-pub grown-twice : (a b : List ℕ) (h : Holding) → grown b (grown a h) ≡ grown (a ++ b) h
-grown-twice a b (partial held) = ap partial (append_assoc held a b)
-grown-twice a b (complete octets moment) = refl
+pub more-twice : (a b : List ℕ) (h : Holding) → with_more b (with_more a h) ≡ with_more (a ++ b) h
+more-twice a b (partial held) = ap partial (append_assoc held a b)
+more-twice a b (complete octets moment) = refl
 
 pub changed-none : (number : ℕ) (e : Entry) → changed number (grown []) e ≡ e
 changed-none number e =
     elim (eqb_tells e.number number) [
-      | inl w ↦ rw w.0 (ap (λ (h : Holding). record e { holding = h }) (grown-none e.holding))
+      | inl w ↦ rw w.0 (ap (λ (h : Holding). record e { holding = h }) (more-none e.holding))
       | inr w ↦ rw w.0 refl
     ]
 
 pub changed-twice : (number : ℕ) (a b : List ℕ) (e : Entry) → changed number (grown b) (changed number (grown a) e) ≡ changed number (grown (a ++ b)) e
 changed-twice number a b e =
     elim (eqb_tells e.number number) [
-      | inl w ↦ rw (w.0, w.0) (ap (λ (h : Holding). record e { holding = h }) (grown-twice a b e.holding))
+      | inl w ↦ rw (w.0, w.0) (ap (λ (h : Holding). record e { holding = h }) (more-twice a b e.holding))
       | inr w ↦ rw (w.0, w.0) refl
     ]
 
@@ -105,8 +105,8 @@ grows-allowed number (suc n) octets store e held found is fits some =
     let step : 512 + 512 * n ≡ 512 * suc n = omega arith in
     let block : length (take 512 octets) ≡ 512 = length-take-le 512 octets (omega arith) in (
       grow-is_allowed store number (take 512 octets) e held found is (omega arith) (omega arith) (omega arith),
-      grows-allowed number n (drop 512 octets) (with_holding store number (grown (take 512 octets))) (record e { holding = grown (take 512 octets) e.holding }) (held ++ take 512 octets)
-          (find-map-changed number (grown (take 512 octets)) store.entries e found) (ap (grown (take 512 octets)) is) (simp length-append (omega arith)) (simp length-drop (omega arith)),
+      grows-allowed number n (drop 512 octets) (with_holding store number (grown (take 512 octets))) (record e { holding = grown (take 512 octets) e }) (held ++ take 512 octets)
+          (find-map-changed number (grown (take 512 octets)) store.entries e found) (ap (with_more (take 512 octets)) is) (simp length-append (omega arith)) (simp length-drop (omega arith)),
     )
 
 pub last_grow-allowed : (number : ℕ) (rest : List ℕ) (store : Store) (e : Entry) (held : List ℕ) → entry_of store number ≡ Some e → e.holding ≡ partial held
@@ -115,9 +115,19 @@ last_grow-allowed number [] store e held found is few fits = tt
 last_grow-allowed number (octet ∷ octets) store e held found is few fits =
     (grow-is_allowed store number (octet ∷ octets) e held found is (omega arith) (omega arith) fits, tt)
 
+-- no grow names a caller
+pub grows-HaveCalls : (number n : ℕ) (octets : List ℕ) → HaveCalls (grows number n octets)
+grows-HaveCalls number zero octets = tt
+grows-HaveCalls number (suc n) octets = (tt, grows-HaveCalls number n (drop 512 octets))
+
+-- nor does the last one, and no other command does behind it
+pub last_grow-HaveCalls : (number : ℕ) (rest : List ℕ) (command : Command) → HasCall command → HaveCalls (last_grow number rest ++ command ∷ [])
+last_grow-HaveCalls number [] command call = (call, tt)
+last_grow-HaveCalls number (octet ∷ octets) command call = (tt, (call, tt))
+
 -- ---- uploads
 
-pub change-KeepsOthers : (store : Store) (number : ℕ) (change : Holding → Holding) → KeepsOthers store (with_holding store number change) number
+pub change-KeepsOthers : (store : Store) (number : ℕ) (change : Entry → Holding) → KeepsOthers store (with_holding store number change) number
 change-KeepsOthers store number change other ne h =
     Holds-kept store (with_holding store number change) other (λ e found. find-map-changed_other number other.number change store.entries ne ∙ found) h
 

@@ -10,7 +10,7 @@ use Rattle.file_store.proofs.EntriesLemmas.{has_number, find-map-changed_other, 
 use Rattle.file_store.proofs.AfterLemmas.{begin-allowed, grow-allowed}
 
 pub empty-IsStore : (blocks : ℕ) → 1 ≤ blocks → blocks ≤ 65536 → IsStore (empty_store blocks)
-empty-IsStore blocks some most = record { entries = tt; next = omega arith; count = omega arith; blocks = omega arith; some = some; most = most }
+empty-IsStore blocks some most = record { entries = tt; callers = tt; next = omega arith; count = omega arith; blocks = omega arith; some = some; most = most }
 
 pub after-next : (store : Store) (command : Command) → IsTrue (is_allowed store command) → store.next ≤ (after store command).next
 after-next store (begin number caller file_length moment) ok = let same = (begin-allowed store number caller file_length moment ok).0 in omega (arith, same)

@@ -3,3 +3,5 @@ pub mod EntriesLemmas
 pub mod GrowLemmas
 pub mod SealLemmas
 pub mod LawLemmas
+pub mod StampedLemmas
+pub mod ClientLemmas

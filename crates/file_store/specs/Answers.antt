@@ -3,7 +3,7 @@ use Rattle.std.specs.Prelude.{◌≡◌, ℕ, ◌≤◌, ◌<◌, Bool, true, fa
 use Rattle.file_store.specs.declared.limits.TheConstants.{LAST_NEXT, LONGEST_FILE, MOST_ENTRIES}
 use Rattle.file_store.specs.Store.{Store, entry_count, blocks_for, free_blocks}
 use Rattle.file_store.specs.Command.{DoesAll}
-use Rattle.file_store.specs.Header.{fault_of}
+use Rattle.pfh_items.specs.Faults.{fault_code}
 use Rattle.file_store.specs.Upload.{Upload, came, dropping, octets_come}
 use Rattle.file_store.specs.declared.refusals.BeginRefusal.{BeginRefusal}
 use Rattle.file_store.specs.declared.refusals.BeginRefusal.TheVariants.{TooLong, TooMany, NumbersGone, NoRoom, OutOfMemory}
@@ -75,12 +75,12 @@ OnHeader (seal_refusal.Short back) P = ⊤
 OnHeader (seal_refusal.Header code) P = P code
 OnHeader (seal_refusal.OutOfMemory back) P = ⊤
 
--- all octets of the upload's file came, the file has this fault, and its entry is dropped
+-- all octets of the upload's file came, this is the code of the first fault of the file, and its entry is dropped
 abbrev pub DropsFaulty : Store → Store → Upload → ℕ → Type 0
 DropsFaulty before now up code =
-    (came up ≡ up.length) × (fault_of (octets_come before up) ≡ Some code) × DoesAll before now (dropping up)
+    (came up ≡ up.length) × (fault_code (octets_come before up) ≡ Some code) × DoesAll before now (dropping up)
 
--- the file was refused for this fault
+-- the file was refused for the fault with this code
 abbrev pub IsHeader : SealRefusal → Option ℕ → Type 0
 IsHeader (seal_refusal.Short back) fault = ⊥
 IsHeader (seal_refusal.Header code) fault = fault ≡ Some code

@@ -1,8 +1,9 @@
 -- The commands that change a store, with the condition of each and what it does.
 use Rattle.std.specs.Prelude.{◌≡◌, ℕ, zero, suc, ◌+◌, ◌*◌, ◌/◌, ◌≤◌, ◌<◌, ◌==◌, List, [], ◌∷◌, ◌++◌, length, take, drop, map, filter, Bool, not, true, false, ◌&&◌, nat_le, nat_lt, if◌then◌else◌, Option, None, Some, is_none, IsTrue, ⊤}
-use Rattle.px_base.specs.CallSign.{CallSign}
+use Rattle.px_base.specs.CallSign.{CallSign, IsCall}
 use Rattle.file_store.specs.declared.limits.TheConstants.{LAST_NEXT, LONGEST_FILE, MOST_ENTRIES}
-use Rattle.file_store.specs.Header.{fault_of}
+use Rattle.pfh_items.specs.Faults.{fault_code}
+use Rattle.pfh_items.specs.Stamp.{StampValue, stamped}
 use Rattle.file_store.specs.Store.{Entry, Holding, partial, complete, Store, blocks_for, blocks_of, entry_count, entry_of, free_blocks, new_entry, octets_at}
 
 pub data Command : Type 0 where
@@ -10,10 +11,17 @@ pub data Command : Type 0 where
   begin : ℕ → CallSign → ℕ → ℕ → Command
   -- these octets are held too
   grow : ℕ → List ℕ → Command
-  -- the file is whole, sealed at this moment
+  -- the file is whole, and is kept with its stamp of this moment
   seal : ℕ → ℕ → Command
   -- the file is given up
   drop_entry : ℕ → Command
+
+-- the caller that the command names is a call, where it names one
+abbrev pub HasCall : Command → Type 0
+HasCall (begin number caller file_length moment) = IsCall caller
+HasCall (grow number octets) = ⊤
+HasCall (seal number moment) = ⊤
+HasCall (drop_entry number) = ⊤
 
 -- whether a file of this length may be begun
 abbrev pub can_begin : Store → ℕ → Bool
@@ -40,7 +48,7 @@ is_whole (complete octets moment) file_length = false
 
 -- whether all octets of a file of this length are held, and the file breaks no rule
 abbrev pub is_good : Holding → ℕ → Bool
-is_good (partial held) file_length = (length held == file_length) && is_none (fault_of held)
+is_good (partial held) file_length = (length held == file_length) && is_none (fault_code held)
 is_good (complete octets moment) file_length = false
 
 -- whether the file is under way
@@ -59,7 +67,7 @@ HasRoom store number more = IsTrue (passes (λ e. has_room e.holding e.length mo
 
 -- the code of the first rule that the octets of the entry of this number break
 abbrev pub fault_at : Store → ℕ → Option ℕ
-fault_at store number = fault_of (octets_at (entry_of store number))
+fault_at store number = fault_code (octets_at (entry_of store number))
 
 -- whether the condition of the command holds in the store
 abbrev pub is_allowed : Store → Command → Bool
@@ -70,23 +78,35 @@ is_allowed store (grow number octets) =
 is_allowed store (seal number moment) = passes (λ e. is_good e.holding e.length) (entry_of store number)
 is_allowed store (drop_entry number) = passes (λ e. is_partial e.holding) (entry_of store number)
 
--- with these octets at the end of those held
-abbrev pub grown : List ℕ → Holding → Holding
-grown octets (partial held) = partial (held ++ octets)
-grown octets (complete all moment) = complete all moment
+-- these octets at the end of those held
+abbrev pub with_more : List ℕ → Holding → Holding
+with_more octets (partial held) = partial (held ++ octets)
+with_more octets (complete all moment) = complete all moment
 
--- the octets held are the file, kept as they came
-abbrev pub sealed : ℕ → Holding → Holding
-sealed moment (partial held) = complete held moment
-sealed moment (complete all before) = complete all before
+-- how far an entry has come with these octets too
+abbrev pub grown : List ℕ → Entry → Holding
+grown octets entry = with_more octets entry.holding
+
+-- the octets held are the file, kept with this stamp
+abbrev pub kept_with : StampValue → Holding → Holding
+kept_with stamp (partial held) = complete (stamped stamp held) stamp.moment
+kept_with stamp (complete all before) = complete all before
+
+-- what the file of an entry is stamped with: its number, its caller and this moment
+abbrev pub stamp_of : ℕ → Entry → StampValue
+stamp_of moment entry = record { number = entry.number; by = entry.caller; moment = moment }
+
+-- how far an entry has come once it is sealed at this moment: its file is kept with its stamp
+abbrev pub sealed : ℕ → Entry → Holding
+sealed moment entry = kept_with (stamp_of moment entry) entry.holding
 
 -- an entry of this number changed so, and any other as it is
-abbrev pub changed : ℕ → (Holding → Holding) → Entry → Entry
+abbrev pub changed : ℕ → (Entry → Holding) → Entry → Entry
 changed number change entry =
-    if entry.number == number then record entry { holding = change entry.holding } else entry
+    if entry.number == number then record entry { holding = change entry } else entry
 
 -- the entry of this number changed so, and no other
-abbrev pub with_holding : Store → ℕ → (Holding → Holding) → Store
+abbrev pub with_holding : Store → ℕ → (Entry → Holding) → Store
 with_holding store number change = record store { entries = map (changed number change) store.entries }
 
 -- the store after a command whose condition holds

@@ -1,5 +1,7 @@
 -- What holds of each store that the commands make.
 use Rattle.std.specs.Prelude.{◌≡◌, ℕ, ◌+◌, ◌≤◌, ◌<◌, List, [], ◌∷◌, length, ⊤}
+use Rattle.std.specs.List.{AllByRecursion}
+use Rattle.px_base.specs.CallSign.{IsCall}
 use Rattle.file_store.specs.declared.limits.TheConstants.{LONGEST_FILE, MOST_ENTRIES}
 use Rattle.file_store.specs.Store.{Entry, Holding, partial, complete, Store, blocks_of}
 
@@ -16,9 +18,14 @@ AreEntries low (entry ∷ entries) next =
     (low ≤ entry.number) × (entry.number < next) × FitsLength entry.holding entry.length × (entry.length ≤ LONGEST_FILE)
     × AreEntries (entry.number + 1) entries next
 
--- the numbers rise from 1 on, each file fits, and there are no more entries and blocks than may be
+-- the caller of each entry is a call
+abbrev pub HaveCallers : List Entry → Type 0
+HaveCallers entries = AllByRecursion (λ e. IsCall e.caller) entries
+
+-- the numbers rise from 1 on, each file fits, each caller is a call, and there are no more entries and blocks than may be
 pub record IsStore (store : Store) : Type 0 where
   pub entries : AreEntries 1 store.entries store.next
+  pub callers : HaveCallers store.entries
   pub next : 1 ≤ store.next
   pub count : length store.entries ≤ MOST_ENTRIES
   pub blocks : blocks_of store ≤ store.blocks

@@ -1,9 +1,9 @@
 pub mod Answers
 pub mod Command
-pub mod Header
 pub mod Info
 pub mod IsStore
 pub mod Kept
+pub mod KeptFile
 pub mod Laws
 pub mod Store
 pub mod Upload

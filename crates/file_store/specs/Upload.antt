@@ -1,6 +1,7 @@
 -- An upload that is under way: what its holder knows of the entry, and the octets that came but aren't held yet.
 use Rattle.std.specs.Prelude.{◌≡◌, ℕ, ◌+◌, ◌*◌, ◌/◌, ◌<◌, ◌≤◌, List, [], ◌∷◌, ◌++◌, length, Some}
 use Rattle.px_base.specs.CallSign.{CallSign}
+use Rattle.pfh_items.specs.Stamp.{StampValue, stamped}
 use Rattle.file_store.specs.declared.limits.TheConstants.{LONGEST_FILE}
 use Rattle.file_store.specs.Command.{Command, seal, drop_entry, unfilled_block, last_grow}
 use Rattle.file_store.specs.Store.{partial, Store, entry_of, octets_at, Entry, Holding}
@@ -51,6 +52,14 @@ appended up octets =
 -- the octets that came of the file: those held, then those that aren't yet
 abbrev pub octets_come : Store → Upload → List ℕ
 octets_come store up = octets_at (entry_of store up.number) ++ up.rest
+
+-- what the upload's file is stamped with: its number, its caller and this moment
+abbrev pub upload_stamp : Upload → ℕ → StampValue
+upload_stamp up moment = record { number = up.number; by = up.caller; moment = moment }
+
+-- the upload's file as it is kept: the octets that came of it, stamped
+abbrev pub kept_file : Store → Upload → ℕ → List ℕ
+kept_file store up moment = stamped (upload_stamp up moment) (octets_come store up)
 
 -- the commands that complete the upload's file: the rest becomes held, and the file is sealed
 abbrev pub sealing : Upload → ℕ → List Command

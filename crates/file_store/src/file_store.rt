@@ -4,12 +4,12 @@ ghost use Rattle.std.specs.Prelude.{◌≡◌, ◌↔◌, ◌+◌, ◌≤◌, �
 ghost use Rattle.std.specs.Option.{option_map};
 ghost use Rattle.file_store.specs.Answers.{DropsFaulty, HandsBack, IsHeader, Names, OnBack, OnHeader, Refuses, Tells, back_of, is_short, is_too_much};
 ghost use Rattle.file_store.specs.Command.{AreAllowed, DoesAll, HasRoom, MayBegin, after, after_all, begin, can_begin, drop_entry, fault_at, grown, is_whole, last_grow, passes, seal, whole_grows, with_holding};
-ghost use Rattle.file_store.specs.Header.{fault_of};
+ghost use Rattle.pfh_items.specs.Faults.{fault_code};
 ghost use Rattle.file_store.specs.Info.{info_of};
 ghost use Rattle.file_store.specs.IsStore.{IsStore};
 ghost use Rattle.file_store.specs.Kept.{KeepsComplete, KeepsUploads, KeepsOthers};
 ghost use Rattle.file_store.specs.Store.{blocks_for, complete, empty_store, entry_of, free_blocks, holding_of_number};
-ghost use Rattle.file_store.specs.Upload.{Holds, HoldsAll, appended, came, new_upload, octets_come, sealing};
+ghost use Rattle.file_store.specs.Upload.{Holds, HoldsAll, appended, came, kept_file, new_upload, octets_come, sealing};
 
 use crate::entries::{self, blocks_taken, place_of};
 use crate::header::header_fault;
@@ -131,21 +131,22 @@ impl FileStore {
     }
 
     /// Seals a file of which all octets came: those of the upload that aren't held yet become held, and the
-    /// file is checked. A file without fault is complete from then on; the entry of one with a fault is
-    /// dropped, and the upload is spent. The other refusals leave the store as it was, and hand the upload
-    /// back. Takes memory.
+    /// file is checked by its header (PFH 1990). A file without fault is complete from then on, and kept with
+    /// its stamp: its number, its caller and this moment. The entry of one with a fault is dropped, the answer
+    /// is the code of its first fault, and the upload is spent. The other refusals leave the store as it was,
+    /// and hand the upload back. Takes memory.
     pub fn seal(&mut self, up: OpenUpload, moment: u32) -> Result<Receipt, SealRefusal>
         requires { Holds self.old up }
         ensures short { IsTrue (is_short result) ↔ (came up < up.length) }
         ensures refused { IfErr result (λ refusal. HandsBack refusal up self.old self.new) }
         ensures holds { IfErr result (λ refusal. OnBack refusal (λ back. Holds self.new back)) }
 
-        // A file without fault is complete, with the octets that came and this moment.
-        ensures good { OnOk result ((came up ≡ up.length) × (fault_of (octets_come self.old up) ≡ None)) }
+        // A file without fault is complete: the octets that came, stamped.
+        ensures good { OnOk result ((came up ≡ up.length) × (fault_code (octets_come self.old up) ≡ None)) }
         ensures receipt { IfOk result (λ receipt. receipt ≡ up.number) }
         ensures ok { OnOk result (DoesAll self.old self.new (sealing up moment)) }
         ensures complete { OnOk result
-            (holding_of_number self.new up.number ≡ Some (complete (octets_come self.old up) moment)) }
+            (holding_of_number self.new up.number ≡ Some (complete (kept_file self.old up moment) moment)) }
 
         // The entry of a file with a fault is dropped.
         ensures header { IfErr result (λ refusal. OnHeader refusal (DropsFaulty self.old self.new up)) }
@@ -179,6 +180,13 @@ impl FileStore {
     {
         let place = place_of(&self.entries, number)?;
         Some(self.entries[place].info())
+    }
+
+    /// The octets held of the entry of this number.
+    #[cfg(test)]
+    pub(crate) fn octets(&self, number: u32) -> Option<&[u8]> {
+        let place = place_of(&self.entries, number)?;
+        Some(self.entries[place].octets())
     }
 
     /// Why a file of this length can't be begun, other than want of memory.
@@ -245,8 +253,8 @@ impl FileStore {
         Ok(())
     }
 
-    /// Completes the entry of this number, of which all octets are held, where it has no fault, and drops it
-    /// where it has one. Takes no memory.
+    /// Completes the entry of this number, of which all octets are held, with its stamp where it has no fault, and
+    /// drops it where it has one. Takes no memory.
     fn finish(&mut self, number: u32, moment: u32) -> Result<Receipt, SealRefusal>
         requires { IsTrue (passes (λ e. is_whole e.holding e.length) (entry_of self.old number)) }
         ensures rules { IsStore self.old }

@@ -1,17 +1,19 @@
-//! The check of a file's header (PFH 1990). So far it is the first rule alone.
+//! The check of a file by its header (PFH 1990).
 
-ghost use Rattle.std.specs.Prelude.{◌≡◌};
-ghost use Rattle.file_store.specs.Header.{fault_of};
+ghost use Rattle.std.specs.Prelude.{◌≡◌, IfNone};
+ghost use Rattle.pfh_items.specs.Faults.{fault_code};
+ghost use Rattle.pfh_writer.specs.Given.{IsFaultlessFile};
 
-/// The code of a file that has no file header (FTL0 1990, error codes).
-const NO_FILE_HEADER: u8 = 7;
+use pfh_reader::check;
 
-/// The code of the first rule that a file of these octets breaks. A file begins with AA 55 (PFH 1990).
+/// The code of the first rule of file headers that a file of these octets breaks, 6, 7, 14, 15 or 16; `None` where it
+/// keeps all.
 pub fn header_fault(file: &[u8]) -> Option<u8>
-    ensures { result ≡ fault_of file.now }
+    ensures code { result ≡ fault_code file.now }
+    ensures faultless { IfNone result (IsFaultlessFile file.now) }
 {
-    match file {
-        [0xAA, 0x55, ..] => None,
-        _ => Some(NO_FILE_HEADER),
+    match check(file) {
+        Ok(_header) => None,
+        Err(fault) => Some(fault.code),
     }
 }

@@ -3,10 +3,12 @@
 ghost use Rattle.std.specs.Prelude.{◌≡◌, ◌+◌, ◌≤◌, ◌++◌, length, IsTrue, OnOk, OnErr};
 ghost use Rattle.file_store.specs.Store.{blocks_for, new_entry, octets_of};
 ghost use Rattle.file_store.specs.Command.{grown, is_partial, sealed};
+ghost use Rattle.pfh_writer.specs.Given.{IsFaultlessFile};
 ghost use Rattle.file_store.specs.Info.{info_of};
 
 use crate::Info;
 use crate::limits::{LONGEST_FILE, blocks_of_length};
+use pfh_writer::stamp;
 use px_base::{Call, OutOfMemory};
 use std::alloc::Global;
 use std::marker::Model;
@@ -100,7 +102,7 @@ impl StoredFile {
         requires small { length first.now + length second.now ≤ LONGEST_FILE }
         requires under_way { IsTrue (is_partial self.old.holding) }
         ensures ok { OnOk result
-            (self.new ≡ record self.old { holding = grown (first.now ++ second.now) self.old.holding }) }
+            (self.new ≡ record self.old { holding = grown (first.now ++ second.now) self.old }) }
         ensures err { OnErr result (self.new ≡ self.old) }
     {
         self.octets.reserve(first.len() + second.len())?;
@@ -109,11 +111,14 @@ impl StoredFile {
         Ok(())
     }
 
-    /// The file is whole. Takes no memory.
+    /// The file is whole and keeps all rules of headers: it is kept with its stamp, which is its number, its caller and
+    /// this moment. The stamp reads the header and never the body. Takes no memory.
     pub fn seal(&mut self, moment: u32)
-        requires { IsTrue (is_partial self.old.holding) }
-        ensures { self.new ≡ record self.old { holding = sealed moment self.old.holding } }
+        requires partial { IsTrue (is_partial self.old.holding) }
+        requires faultless { IsFaultlessFile (octets_of self.old.holding) }
+        ensures { self.new ≡ record self.old { holding = sealed moment self.old } }
     {
+        stamp(self.octets.as_mut_slice(), self.number, self.caller, moment);
         self.sealed = Some(moment);
     }
 }

@@ -1,4 +1,4 @@
-//! What no clause says: the texts of the refusals, and that the calls succeed.
+//! What no clause says: the texts of the refusals, that the calls succeed, and a stamp worked out by hand.
 
 ghost use Rattle.std.specs.Prelude.{◌≡◌};
 
@@ -71,6 +71,11 @@ fn seals_a_file(rt: HostRuntime) -> Result<(), Fail> {
         }
         Err(_refusal) => panic!(rt; "not sealed"),
     }
+    // The stamp: file_number is 1, and so the header's sum is one more.
+    let mut stamped = FILE;
+    stamped[5] = 0x01;
+    stamped[63] = 0x57;
+    assert_eq!(rt; store.octets(1).expect(&rt, "no entry"), stamped.as_slice());
     let info = store.info(1).expect(&rt, "no entry");
     assert_eq!(rt; (info.number, info.caller.ssid, info.length), (1, 0, 73));
     assert_eq!(rt; (info.held, info.complete, info.begun), (73, true, 5));
@@ -80,9 +85,12 @@ fn seals_a_file(rt: HostRuntime) -> Result<(), Fail> {
 #[test]
 fn holds_whole_blocks(rt: HostRuntime) -> Result<(), Fail> {
     let mut store = FileStore::plain(rt.alloc(), Limits { blocks: 8 });
+    // The header of `FILE` with another length and its sum, and a body of zeros.
     let mut octets = [0u8; 1_100];
-    octets[0] = 0xAA;
-    octets[1] = 0x55;
+    octets[..73].copy_from_slice(&FILE);
+    octets[29] = 0x4C;
+    octets[30] = 0x04;
+    octets[63] = 0x5D;
     let up = store.begin(caller(), 1_100, 5)?;
     let up = appended(&rt, store.append(up, &octets[..700]));
     assert_eq!(rt; up.held(), 512);
@@ -102,6 +110,33 @@ fn holds_whole_blocks(rt: HostRuntime) -> Result<(), Fail> {
         (info.length, info.held, info.complete),
         (1_100, 1_100, true)
     );
+    Ok(())
+}
+
+#[test]
+fn drops_each_fault(rt: HostRuntime) -> Result<(), Fail> {
+    let mut store = FileStore::plain(rt.alloc(), Limits { blocks: 8 });
+    // The number that the file gets, two places in it with the octets there, and the code of its fault.
+    for (number, first, second, code) in [
+        (1, (63, 0x55), (64, 0x03), 15),
+        (2, (0, 0xAB), (1, 0x55), 7),
+        (3, (70, 0x01), (71, 0x00), 14),
+        (4, (2, 0x0C), (3, 0x00), 6),
+        (5, (29, 0x4A), (63, 0x57), 14),
+        (6, (58, 0x01), (63, 0x57), 16),
+    ] {
+        let mut octets = FILE;
+        octets[first.0] = first.1;
+        octets[second.0] = second.1;
+        let up = store.begin(caller(), 73, 5)?;
+        assert_eq!(rt; up.number(), number);
+        let up = appended(&rt, store.append(up, &octets));
+        match store.seal(up, 6) {
+            Err(SealRefusal::Header { code: found }) => assert_eq!(rt; found, code),
+            _ => panic!(rt; "no fault of the header"),
+        }
+        assert!(rt; store.info(number).is_none());
+    }
     Ok(())
 }
 

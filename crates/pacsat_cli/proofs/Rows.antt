@@ -15,7 +15,7 @@ use Rattle.file_store.specs.Answers.{Tells}
 use Rattle.file_store.specs.declared.refusals.BeginRefusal.{BeginRefusal}
 use Rattle.file_store.specs.declared.refusals.BeginRefusal.TheVariants as refusal
 use Rattle.file_store.specs.Command.{AreAllowed, begin, can_begin, unfilled_block, whole_grows}
-use Rattle.file_store.specs.Header.{fault_of}
+use Rattle.pfh_items.specs.Faults.{fault_code}
 use Rattle.file_store.specs.Store.{Store, entry_of, octets_at}
 use Rattle.file_store.specs.Upload.{Holds, Upload}
 use Rattle.pacsat_cli.specs.Session.{State, aborting, begin_row, command, data_row, end_row, error_row, is_upload_kind, kind_of_item, receiving, session_row, whole_row}
@@ -74,12 +74,12 @@ row-too_much caller moment store up octets holds past =
     rw (holds.entry, few) refl
 
 -- Receiving, DATA_END after all octets
-pub row-whole : (caller : CallSign) (moment : ℕ) (store : Store) (up : Upload) (fault : Option ℕ) → Holds store up → up.held + length up.rest ≡ up.length → fault_of (octets_at (entry_of store up.number) ++ up.rest) ≡ fault → session_row caller moment store (receiving up.number up.rest) (Ok data_end) ≡ Some (whole_row moment up.number up.rest fault)
+pub row-whole : (caller : CallSign) (moment : ℕ) (store : Store) (up : Upload) (fault : Option ℕ) → Holds store up → up.held + length up.rest ≡ up.length → fault_code (octets_at (entry_of store up.number) ++ up.rest) ≡ fault → session_row caller moment store (receiving up.number up.rest) (Ok data_end) ≡ Some (whole_row moment up.number up.rest fault)
 unfolding session_row
 row-whole caller moment store up fault holds all checked =
     let enough : nat_eq (length holds.held + length up.rest) up.length ≡ true = eq-eqb _ _ (omega (arith, holds.count)) in
     let same : octets_at (entry_of store up.number) ≡ holds.held = rw holds.entry refl in
-    rw (holds.entry, enough) (ap (λ f. Some (whole_row moment up.number up.rest f)) (ap (λ front. fault_of (front ++ up.rest)) (sym same) ∙ checked))
+    rw (holds.entry, enough) (ap (λ f. Some (whole_row moment up.number up.rest f)) (ap (λ front. fault_code (front ++ up.rest)) (sym same) ∙ checked))
 
 -- and before them
 pub row-short : (caller : CallSign) (moment : ℕ) (store : Store) (up : Upload) → Holds store up → up.held + length up.rest < up.length → session_row caller moment store (receiving up.number up.rest) (Ok data_end) ≡ Some (record { state = command; commands = []; replies = ul_nak_resp 16 ∷ [] })

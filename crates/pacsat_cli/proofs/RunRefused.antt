@@ -8,15 +8,21 @@ use Rattle.px_base.specs.Shelves.{Holding, content_of}
 use Rattle.px_base.specs.declared.air.Turn.{Turn}
 use Rattle.px_base.proofs.Told.{Gains-none}
 use Rattle.command_words.specs.Laws.{OnlyOne}
-use Rattle.command_words.specs.Words.{IsFrames, IsSession, IsUnbuilt, IsUsage, NamesBuilt}
+use Rattle.command_words.specs.Made.{MakeValue as AskedValue}
+use Rattle.command_words.specs.Words.{IsMake, IsSession, IsUnbuilt, IsUsage, NamesBuilt}
 use Rattle.command_words.specs.declared.request.Refusal.{Refusal}
 use Rattle.command_words.specs.declared.request.Refusal.TheVariants as refusal
+use Rattle.header_tool.specs.Made.{MakeValue}
 use Rattle.pacsat_cli.specs.declared.status.Status.{Status}
 use Rattle.pacsat_cli.specs.declared.status.Status.TheVariants as status
-use Rattle.pacsat_cli.specs.Frames.{FramesEnd, FramesShown, IsNoSuchBy, IsShownBy, IsTooLongBy, RunsFrames, WhereHeld}
+use Rattle.pacsat_cli.specs.declared.files.FileCommand.{FileCommand}
+use Rattle.pacsat_cli.specs.Files.{FileEnd, FileShown, IsNoSuchBy, IsShownBy, IsTooLongBy, end_of}
+use Rattle.pacsat_cli.specs.Making.{IsMakeStatus, MakeRan, make_status}
 use Rattle.pacsat_cli.specs.Run.{AreRefused, IsDoneBy, IsNotBuiltBy, IsSpentBy, IsUnless, RunsSession, SessionHeard, Shows, WhereHeard}
 use Rattle.pacsat_cli.specs.Status.{line_of}
 use Rattle.pacsat_cli.specs.Stops.{status_of_refusal}
+use Rattle.pacsat_cli.specs.Tasks.{AsksText, RunsFile, RunsMake, WhereHeld, header_of}
+use Rattle.pacsat_cli.proofs.OneTask.{unbuilt-file, unbuilt-make, usage-file, usage-make}
 
 -- why words were refused
 abbrev pub MeansOf : List (List ℕ) → Refusal → Type 0
@@ -62,16 +68,21 @@ module _ (words : List (List ℕ)) (only : OnlyOne words) where
   refused-unread refusal.NotBuilt h is = absurd (cc)
   refused-unread refusal.OutOfMemory h is = h
 
-  -- words of a session or of frames are refused only for want of memory
+  -- words that ask for something that is built are refused only for want of memory
   session-memory : (why : Refusal) → MeansOf words why → (caller : CallSign) (moment : Option ℕ) → IsSession words caller moment → status_of_refusal why ≡ status.OutOfMemory
   session-memory refusal.Usage h caller moment is = absurd (only.usage_session h (caller, moment, is))
   session-memory refusal.NotBuilt h caller moment is = absurd (only.unbuilt_session h (caller, moment, is))
   session-memory refusal.OutOfMemory h caller moment is = refl
 
-  frames-memory : (why : Refusal) → MeansOf words why → (name : List ℕ) → IsFrames words name → status_of_refusal why ≡ status.OutOfMemory
-  frames-memory refusal.Usage h name is = absurd (only.usage_frames h (name, is))
-  frames-memory refusal.NotBuilt h name is = absurd (only.unbuilt_frames h (name, is))
-  frames-memory refusal.OutOfMemory h name is = refl
+  file-memory : (why : Refusal) → MeansOf words why → (command : FileCommand) (name : List ℕ) → AsksText words command name → status_of_refusal why ≡ status.OutOfMemory
+  file-memory refusal.Usage h command name is = absurd (usage-file words only h (command, name, is))
+  file-memory refusal.NotBuilt h command name is = absurd (unbuilt-file words only h (command, name, is))
+  file-memory refusal.OutOfMemory h command name is = refl
+
+  make-memory : (why : Refusal) → MeansOf words why → (body name : List ℕ) (asked : AskedValue) → IsMake words body name asked → status_of_refusal why ≡ status.OutOfMemory
+  make-memory refusal.Usage h body name asked is = absurd (usage-make words only h (body, name, asked, is))
+  make-memory refusal.NotBuilt h body name asked is = absurd (unbuilt-make words only h (body, name, asked, is))
+  make-memory refusal.OutOfMemory h body name asked is = refl
 
   module _ (why : Refusal) (h : MeansOf words why) where
     module _ {A C : Type 0} (heard : A → Option (List Turn)) (said : A → Option (List ℕ)) (given : C → Option (List ℕ)) (air : A) (clock : C) where
@@ -92,14 +103,14 @@ module _ (words : List (List ℕ)) (only : OnlyOne words) where
       refused-spent = λ told counted all_open built. inr (1, omega arith, sym (session-memory why h told.caller told.moment told.asks))
 
     -- want of memory says nothing of the content
-    memory_end : (held : Option Holding) (name : List ℕ) → IfSome held (λ shelf. FramesEnd (content_of shelf name) [] status.OutOfMemory)
-    memory_end None name = tt
-    memory_end (Some shelf) name = refl
+    memory_end : (command : FileCommand) (held : Option Holding) (name : List ℕ) → IfSome held (λ shelf. FileEnd command (content_of shelf name) [] status.OutOfMemory)
+    memory_end command None name = tt
+    memory_end command (Some shelf) name = refl
 
-    pub refused-frames : {S O : Type 0} (holds : S → Option Holding) (shown : O → Option (List ℕ)) (faults : O → ℕ) (shelf : S) (before now : O) → Shows shown faults before now (line_of (status_of_refusal why)) → RunsFrames words holds shown faults shelf before now (status_of_refusal why)
-    refused-frames holds shown faults shelf before now line = λ name is.
-        let memory = frames-memory why h name is in
-        let at_status : Status → Type 0 = λ s. FramesShown shown faults (holds shelf) name before before s in
+    pub refused-files : {S O : Type 0} (holds : S → Option Holding) (shown : O → Option (List ℕ)) (faults : O → ℕ) (shelf : S) (before now : O) → Shows shown faults before now (line_of (status_of_refusal why)) → (line_of (status_of_refusal why) ≡ [] → now ≡ before) → RunsFile words holds shown faults shelf before now (status_of_refusal why)
+    refused-files holds shown faults shelf before now line done = λ command name is.
+        let memory = file-memory why h command name is in
+        let at_status : Status → Type 0 = λ s. FileShown shown faults command (holds shelf) name before before s in
         record {
           mid = before;
           text =
@@ -108,19 +119,30 @@ module _ (words : List (List ℕ)) (only : OnlyOne words) where
                 text = [];
                 gains = Gains-none (shown before);
                 possible = refl;
-                ends = memory_end (holds shelf) name;
+                ends = memory_end command (holds shelf) name;
                 cause = record { rose = λ e. absurd (cc); same = λ _. refl };
                 unshown = λ _. refl;
               });
           line = line;
-          done = λ done. absurd (let other = sym memory ∙ done in cc);
+          done = done;
         }
 
     pub refused-no_such : (held : Option Holding) → WhereHeld words held (IsNoSuchBy (status_of_refusal why))
-    refused-no_such held = λ name shelf is told none. inr (1, omega arith, sym (frames-memory why h name is))
+    refused-no_such held = λ command name shelf is told none. inr (1, omega arith, sym (file-memory why h command name is))
 
     pub refused-too_long : (held : Option Holding) → WhereHeld words held (IsTooLongBy (status_of_refusal why))
-    refused-too_long held = λ name shelf is told octets there long. inr (1, omega arith, sym (frames-memory why h name is))
+    refused-too_long held = λ command name shelf is told octets there long. inr (1, omega arith, sym (file-memory why h command name is))
 
     pub refused-shown : (held : Option Holding) → WhereHeld words held (IsShownBy (status_of_refusal why))
-    refused-shown held = λ name shelf is told octets there short. inr (2, omega arith, sym (frames-memory why h name is))
+    refused-shown held = λ command name shelf is told octets there short. inr (2, omega arith, sym (file-memory why h command name is))
+
+    -- nothing was made
+    memory_status : (spec : MakeValue) (body : List ℕ) (held : Option Holding) → IfSome held (λ shelf. IsMakeStatus spec (content_of shelf body) status.OutOfMemory)
+    memory_status spec body None = tt
+    memory_status spec body (Some shelf) = inr (1, omega arith, refl)
+
+    pub refused-made : {S : Type 0} (holds : S → Option Holding) (shelf : S) → RunsMake words holds shelf shelf (status_of_refusal why)
+    refused-made holds shelf = λ body name asked is.
+        let at_status : Status → Type 0 = λ s. MakeRan (header_of asked) body name (holds shelf) (holds shelf) s in
+        subst at_status (sym (make-memory why h body name asked is))
+        (record { ends = refl; told = memory_status (header_of asked) body (holds shelf) })

@@ -1,7 +1,8 @@
 pub mod Asked
 pub mod Events
-pub mod Frames
+pub mod Files
 pub mod Laws
+pub mod Making
 pub mod Node
 pub mod Run
 pub mod Server
@@ -11,3 +12,5 @@ pub mod SessionRan
 pub mod Status
 pub mod Stops
 pub mod Taking
+pub mod Tasks
+pub mod Uploaded

@@ -1,9 +1,9 @@
 -- The session of one caller (FTL0 1990, uploading): its states, its table row by row, and a run of it over events.
-use Rattle.std.specs.Prelude.{ℕ, ◌+◌, ◌==◌, List, [], ◌∷◌, ◌++◌, length, flat_map, Bool, true, false, ◌&&◌, ◌||◌, if◌then◌else◌, Option, None, Some, Ok, Err}
+use Rattle.std.specs.Prelude.{ℕ, ◌+◌, ◌==◌, List, [], ◌∷◌, ◌++◌, length, flat_map, Bool, ◌&&◌, ◌||◌, if◌then◌else◌, Option, None, Some, Ok, Err}
 use Rattle.px_base.specs.CallSign.{CallSign}
 use Rattle.ftl0_packets.specs.Layout.{Item, PacketValue, data_part, data_end, kind_of, login_resp, packet_text, ul_ack_resp, ul_error_resp, ul_go_resp, ul_nak_resp, upload_cmd}
 use Rattle.file_store.specs.Command.{Command, begin, drop_entry, seal, after_all, can_begin, has_room, last_grow, passes, unfilled_block, whole_grows}
-use Rattle.file_store.specs.Header.{fault_of}
+use Rattle.pfh_items.specs.Faults.{fault_code}
 use Rattle.file_store.specs.Store.{Entry, Store, entry_of, octets_at, octets_of}
 use Rattle.pacsat_cli.specs.Events.{Event}
 
@@ -50,19 +50,20 @@ data_row store number rest octets =
 abbrev pub is_all : Option Entry → List ℕ → Bool
 is_all entry rest = passes (λ e. length (octets_of e.holding) + length rest == e.length) entry
 
--- all octets came, and this is the first fault of the file, if it has one
+-- all octets came, and this is the code of the first fault of the file, if it has one
 abbrev pub whole_row : ℕ → ℕ → List ℕ → Option ℕ → Row
 whole_row moment number rest None =
     record { state = command; commands = last_grow number rest ++ seal number moment ∷ []; replies = ul_ack_resp ∷ [] }
 whole_row moment number rest (Some code) =
     record { state = command; commands = last_grow number rest ++ drop_entry number ∷ []; replies = ul_nak_resp code ∷ [] }
 
--- Receiving, DATA_END: a whole file without fault is sealed, UL_ACK_RESP; one with a fault is dropped, UL_NAK_RESP with
--- its code. Fewer octets than the file has: UL_NAK_RESP 16, and what is held stays.
+-- Receiving, DATA_END: a whole file without fault is sealed, and so kept with its stamp, UL_ACK_RESP; one with a fault is
+-- dropped, UL_NAK_RESP with its code: 6, 7, 14, 15 or 16. Fewer octets than the file has: UL_NAK_RESP 16, and what is
+-- held stays.
 abbrev pub end_row : ℕ → Store → ℕ → List ℕ → Row
 end_row moment store number rest =
     if is_all (entry_of store number) rest
-    then whole_row moment number rest (fault_of (octets_at (entry_of store number) ++ rest))
+    then whole_row moment number rest (fault_code (octets_at (entry_of store number) ++ rest))
     else record { state = command; commands = []; replies = ul_nak_resp 16 ∷ [] }
 
 -- Any packet without a row of its own, malformed ones too: error 1, and nothing else changes. So far only the packets

@@ -1,10 +1,11 @@
 -- The numbers that the process ends with, and the lines that say so.
 use Rattle.std.specs.Prelude.{ℕ, List, [], codes}
 use Rattle.pacsat_cli.specs.declared.status.Status.{Status}
-use Rattle.pacsat_cli.specs.declared.status.Status.TheVariants.{Done, Usage, AirRead, AirWrite, NoSuch, OutOfMemory, Spent, Out, Shelf, TooLong, NotBuilt}
+use Rattle.pacsat_cli.specs.declared.status.Status.TheVariants.{Done, Refused, Usage, AirRead, AirWrite, NoSuch, OutOfMemory, Spent, Out, Shelf, TooLong, NotBuilt}
 
 abbrev pub number_of : Status → ℕ
 number_of Done = 0
+number_of Refused = 1
 number_of Usage = 2
 number_of AirRead = 3
 number_of AirWrite = 4
@@ -18,6 +19,7 @@ number_of NotBuilt = 18
 
 abbrev pub line_of : Status → List ℕ
 line_of Done = []
+line_of Refused = []
 line_of Usage = codes "usage\n"
 line_of AirRead = codes "air read\n"
 line_of AirWrite = codes "air write\n"

@@ -1,10 +1,12 @@
--- The statuses of a session's end and of refused words.
+-- The statuses of a session's end, of refused words, and of a file that wasn't loaded.
 use Rattle.std.specs.Prelude.{Result, Ok, Err}
+use Rattle.px_base.specs.declared.shelf.ShelfRefusal.{ShelfRefusal}
+use Rattle.px_base.specs.declared.shelf.ShelfRefusal.TheVariants as shelf
 use Rattle.command_words.specs.declared.request.Refusal.{Refusal}
 use Rattle.command_words.specs.declared.request.Refusal.TheVariants as refusal
 use Rattle.pacsat_cli.specs.declared.node.Served.{Served}
 use Rattle.pacsat_cli.specs.declared.status.Status.{Status}
-use Rattle.pacsat_cli.specs.declared.status.Status.TheVariants.{Done, Usage, AirRead, AirWrite, OutOfMemory, Spent, NotBuilt}
+use Rattle.pacsat_cli.specs.declared.status.Status.TheVariants.{Done, Usage, AirRead, AirWrite, NoSuch, OutOfMemory, Spent, Shelf, TooLong, NotBuilt}
 use Rattle.pacsat_cli.specs.declared.node.NodeStop.{NodeStop}
 use Rattle.pacsat_cli.specs.declared.node.NodeStop.TheVariants as node
 
@@ -22,3 +24,10 @@ abbrev pub status_of_refusal : Refusal → Status
 status_of_refusal refusal.Usage = Usage
 status_of_refusal refusal.NotBuilt = NotBuilt
 status_of_refusal refusal.OutOfMemory = OutOfMemory
+
+-- the status of a file that the shelf didn't load
+abbrev pub status_of_load : ShelfRefusal → Status
+status_of_load shelf.NoSuch = NoSuch
+status_of_load shelf.TooLong = TooLong
+status_of_load shelf.Fault = Shelf
+status_of_load shelf.OutOfMemory = OutOfMemory

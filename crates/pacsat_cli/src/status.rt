@@ -2,12 +2,17 @@
 
 ghost use Rattle.std.specs.Prelude.{◌≡◌};
 ghost use Rattle.pacsat_cli.specs.Status.{number_of, line_of};
+ghost use Rattle.pacsat_cli.specs.Stops.{status_of_load as load_status};
+
+use px_base::ShelfRefusal;
 
 /// How a run of the program ended. The statuses of commands that aren't built yet come with them.
 #[derive(Clone, Copy, Debug, PartialEq, Eq)]
 pub enum Status {
     /// The command did what it says; a node read the end of the air.
     Done,
+    /// The file's first fault has the code that was shown.
+    Refused,
     /// The words aren't in the command set.
     Usage,
     /// Hearing failed: the air's count of read faults rose.
@@ -37,6 +42,7 @@ impl Status {
     {
         match self {
             Status::Done => 0,
+            Status::Refused => 1,
             Status::Usage => 2,
             Status::AirRead => 3,
             Status::AirWrite => 4,
@@ -50,12 +56,13 @@ impl Status {
         }
     }
 
-    /// The line that says so, with its line feed; none where all is done.
+    /// The line that says so, with its line feed; none where all is done, nor where a file was refused: then the last line of
+    /// what was shown says why.
     pub(crate) fn line(&self) -> &'static str
         ensures { result.now ≡ line_of self.now }
     {
         match self {
-            Status::Done => "",
+            Status::Done | Status::Refused => "",
             Status::Usage => "usage\n",
             Status::AirRead => "air read\n",
             Status::AirWrite => "air write\n",
@@ -67,5 +74,17 @@ impl Status {
             Status::TooLong => "too long\n",
             Status::NotBuilt => "not built\n",
         }
+    }
+}
+
+/// The status of a file that the shelf didn't load.
+pub(crate) fn status_of_load(refusal: ShelfRefusal) -> Status
+    ensures { result ≡ load_status refusal }
+{
+    match refusal {
+        ShelfRefusal::NoSuch => Status::NoSuch,
+        ShelfRefusal::TooLong => Status::TooLong,
+        ShelfRefusal::Fault => Status::Shelf,
+        ShelfRefusal::OutOfMemory => Status::OutOfMemory,
     }
 }

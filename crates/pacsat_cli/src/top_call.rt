@@ -1,21 +1,24 @@
 //! The top call.
 
 ghost use Rattle.std.specs.Prelude.{◌≡◌, ◌≤◌, [], ◌∷◌, IsSome};
-ghost use Rattle.command_words.specs.Laws.{AsksFrames, AsksSession};
+ghost use Rattle.command_words.specs.Laws.{AsksSession};
 ghost use Rattle.command_words.specs.Words.{IsUnbuilt, IsUsage, NamesBuilt};
 ghost use Rattle.px_base.specs.Outside.{Rose};
-ghost use Rattle.pacsat_cli.specs.Frames.{IsNoSuchBy, IsShownBy, IsTooLongBy, RunsFrames, WhereHeld};
+ghost use Rattle.pacsat_cli.specs.Files.{IsNoSuchBy, IsShownBy, IsTooLongBy};
 ghost use Rattle.pacsat_cli.specs.Run.{AreRefused, AsksMoment, HasShelfCause, HasStatusCause, IsUnless, Shows, Stays};
 ghost use Rattle.pacsat_cli.specs.Run.{IsDoneAtEnd, IsDoneBy, IsNotBuiltBy, IsSpentBy, WhereHeard};
 ghost use Rattle.pacsat_cli.specs.Run.{RunsSession, SessionEnded};
 ghost use Rattle.pacsat_cli.specs.Status.{line_of};
 ghost use Rattle.pacsat_cli.specs.Stops.{status_of as status_of_session, status_of_refusal};
+ghost use Rattle.pacsat_cli.specs.Tasks.{AsksFile, AsksMake, RunsFile, RunsMake, WhereHeld};
 
-use crate::frames::run_frames;
+use crate::files::run_file;
+use crate::making::run_make;
 use crate::node::{NodeStop, Served, SessionTerms, serve_session};
+use crate::task::{Task, header_asked, task_of};
 use crate::{Status, Words};
 use command_words::laws::one_meaning;
-use command_words::{Refusal, Request, SessionRequest};
+use command_words::{Refusal, SessionRequest};
 use file_store::Limits;
 use ftl0_packets::laws::stream_law;
 use px_base::{Air, Clock, Out, Shelf};
@@ -29,9 +32,10 @@ pub const BLOCKS: u32 = 65_536;
 
 /// Does what the words ask for, over this air, shelf, output and clock, and shows the status's line on the output.
 ///
-/// Two commands are built: `session`, one session over FTL0 octets on standard input and output, with a store in
-/// memory; and `frames`, which shows recorded KISS text. Places for a disk before the air and for a bench after the
-/// clock come with the commands that use them. Takes memory.
+/// These commands are built: `session`, one session over FTL0 octets on standard input and output, with a store in
+/// memory; `frames`, `pfh-show` and `pfh-check`, which show a text of a file on the shelf; and `pfh-make`, which makes a
+/// file of one on the shelf and keeps it there. Places for a disk before the air and for a bench after the clock come
+/// with the commands that use them. Takes memory.
 pub fn run<A: Air, S: Shelf, O: Out, C: Clock>(
     alloc: Global,
     words: &Words,
@@ -41,13 +45,14 @@ pub fn run<A: Air, S: Shelf, O: Out, C: Clock>(
     clock: &mut C,
 ) -> Status
     // Usage comes exactly by the words, and words that ask for what isn't built yet give NotBuilt, both but for want of
-    // memory to read the words of a command that is built; then nothing is touched. What the shelf holds always stays.
+    // memory to read the words of a command that is built; then nothing is touched. What the shelf holds stays, but for
+    // a file that is made.
     ensures usage { result ≡ Status.Usage → IsUsage words.now }
     ensures usage_told { IsUsage words.now → IsUnless result Status.Usage (Status.OutOfMemory ∷ []) }
     ensures unbuilt_words { IsUnbuilt words.now → IsUnless result Status.NotBuilt (Status.OutOfMemory ∷ []) }
     ensures unread { AreRefused words.now → result ≡ Status.OutOfMemory → NamesBuilt words.now }
     ensures untouched { AreRefused words.now → (air.new ≡ air.old) × (shelf.new ≡ shelf.old) × (clock.new ≡ clock.old) }
-    ensures held { Stays S.held shelf.old shelf.new }
+    ensures held { (AsksMake words.now → ⊥) → Stays S.held shelf.old shelf.new }
 
     // A session says the replies of its table for the packets of the octets heard, LOGIN_RESP first, and ends with a
     // status that has its cause; or there was no memory to read the words. With a moment given the clock isn't asked.
@@ -61,15 +66,21 @@ pub fn run<A: Air, S: Shelf, O: Out, C: Clock>(
     ensures not_built { WhereHeard words.now A.heard C.given air.old air.new clock.old clock.new (IsNotBuiltBy result) }
     ensures spent { WhereHeard words.now A.heard C.given air.old air.new clock.old clock.new (IsSpentBy result) }
 
-    // `frames` shows the text of what the shelf has under the name, then the status's line, and ends with a status that
-    // has its cause; neither air nor clock is touched.
-    ensures frames { RunsFrames words.now S.held O.shown O.faults shelf.old out.old out.new result }
-    ensures frames_alone { AsksFrames words.now → (air.new ≡ air.old) × (clock.new ≡ clock.old) }
+    // `frames`, `pfh-show` and `pfh-check` show the command's text of what the shelf has under the name, then the
+    // status's line, and end with a status that has its cause; neither air nor clock is touched.
+    ensures files { RunsFile words.now S.held O.shown O.faults shelf.old out.old out.new result }
+    ensures files_alone { AsksFile words.now → (air.new ≡ air.old) × (clock.new ≡ clock.old) }
 
-    // No content of the name, content that is too long, and content that may be shown, each by its status.
+    // No content of the name, content that is too long, and content that may be shown, each by its status. A file with a
+    // fault is refused, and one without isn't.
     ensures no_such { WhereHeld words.now (S.held shelf.old) (IsNoSuchBy result) }
     ensures too_long { WhereHeld words.now (S.held shelf.old) (IsTooLongBy result) }
-    ensures frames_done { WhereHeld words.now (S.held shelf.old) (IsShownBy result) }
+    ensures files_done { WhereHeld words.now (S.held shelf.old) (IsShownBy result) }
+
+    // `pfh-make` keeps the file that is made of BODY's content and the words, and leaves all else on the shelf as it was,
+    // or ends with a status that has its cause; neither air nor clock is touched.
+    ensures made { RunsMake words.now S.held shelf.old shelf.new result }
+    ensures made_alone { AsksMake words.now → (air.new ≡ air.old) × (clock.new ≡ clock.old) }
 
     // A fault is answered only where its count rose; and where it isn't answered, its count stayed, but for the
     // status's line, and for a shelf that finds no memory.
@@ -82,26 +93,35 @@ pub fn run<A: Air, S: Shelf, O: Out, C: Clock>(
     ensures session_done { IsDoneAtEnd words.now A.heard A.read_faults A.write_faults air.old air.new result }
     ensures done { result ≡ Status.Done → Stays S.faults shelf.old shelf.new × Stays O.faults out.old out.new }
 
-    // But for `frames` the status's line alone is shown, or the output's count of faults rose.
-    ensures unshown { result ≡ Status.Done → (AsksFrames words.now → ⊥) → out.new ≡ out.old }
-    ensures shown { (AsksFrames words.now → ⊥) → Shows O.shown O.faults out.old out.new (line_of result) }
+    // But for the text of a file the status's line alone is shown, or the output's count of faults rose.
+    ensures unshown { result ≡ Status.Done → (AsksFile words.now → ⊥) → out.new ≡ out.old }
+    ensures shown { (AsksFile words.now → ⊥) → Shows O.shown O.faults out.old out.new (line_of result) }
 {
     // Whatever is heard is one stream of packets, and the words ask for one thing.
     stream_law();
     one_meaning();
-    match command_words::read(alloc, words) {
-        Ok(Request::Session(request)) => {
+    let request = match command_words::read(alloc, words) {
+        Ok(request) => request,
+        Err(refusal) => {
+            let status = status_of_refused(refusal);
+            show_line(status, out);
+            return status;
+        }
+    };
+    match task_of(request) {
+        Task::Session(request) => {
             let status = run_session(alloc, air, clock, request);
             show_line(status, out);
             status
         }
-        Ok(Request::Frames { name }) => {
-            let status = run_frames(alloc, name, shelf, out);
+        Task::File { command, name } => {
+            let status = run_file(alloc, command, name, shelf, out);
             show_line(status, out);
             status
         }
-        Err(refusal) => {
-            let status = status_of_refused(refusal);
+        Task::Make(request) => {
+            let header = header_asked(&request);
+            let status = run_make(alloc, &header, request.body, request.kept, shelf);
             show_line(status, out);
             status
         }
@@ -111,7 +131,7 @@ pub fn run<A: Air, S: Shelf, O: Out, C: Clock>(
 /// Ends a run with this status: shows its line, if it has one. Where that line can't be shown the status stays.
 pub fn end_with<O: Out>(status: Status, out: &mut O) -> Status
     ensures status { result ≡ status }
-    ensures done { status ≡ Status.Done → out.new ≡ out.old }
+    ensures no_line { line_of status ≡ [] → out.new ≡ out.old }
     ensures shown { Shows O.shown O.faults out.old out.new (line_of status) }
 {
     show_line(status, out);
@@ -120,12 +140,13 @@ pub fn end_with<O: Out>(status: Status, out: &mut O) -> Status
 
 /// Shows the status's line, if it has one, or passes over that it can't be shown.
 fn show_line<O: Out>(status: Status, out: &mut O)
-    ensures done { status ≡ Status.Done → out.new ≡ out.old }
+    ensures no_line { line_of status ≡ [] → out.new ≡ out.old }
     ensures shown { Shows O.shown O.faults out.old out.new (line_of status) }
     ensures no_fewer_faults { O.faults out.old ≤ O.faults out.new }
 {
-    if status != Status::Done {
-        let _ = out.put(status.line().as_bytes());
+    let line = status.line();
+    if !line.is_empty() {
+        let _ = out.put(line.as_bytes());
     }
 }
 

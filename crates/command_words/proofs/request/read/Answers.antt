@@ -1,61 +1,89 @@
 -- The third word is the command.
-use Rattle.std.proofs.Common.{◌≡◌, List, ◌∷◌, codes, drop, inl, inr, length, refl, map, string_bytes, subst, sym, take, ◌-◌, ◌∙◌}
-use Rattle.std.specs.Prelude.{IfOk}
+use Rattle.std.proofs.Common.{◌≡◌, List, ◌∷◌, codes, drop, inl, inr, length, lit<, map, refl, string_bytes, subst, sym, take, ◌-◌, ◌∙◌}
+use Rattle.std.specs.Prelude.{Contains, IfOk}
 use Rattle.std.proofs.lemmas.Result.{IfOk-weaker}
-use Rattle.std.proofs.lemmas.Map.Views.{Contains-from_any}
 use Rattle.command_words.specs.Asked.{AsksFor}
-use Rattle.command_words.specs.Words.{BeyondSession, unbuilt_commands}
-use Rattle.command_words.proofs.Uses.{Text, text_same}
-use Rattle.command_words.proofs.Meanings.{frames_usage, session_usage, three_words}
+use Rattle.command_words.specs.Commands.{word_of}
+use Rattle.command_words.specs.Words.{BeyondSession, built_commands}
+use Rattle.command_words.specs.declared.command.NameCommand.{NameCommand}
+use Rattle.command_words.specs.declared.command.NameCommand.TheVariants.{Frames, PfhCheck, PfhShow}
+use Rattle.command_words.proofs.Uses.{Text}
+use Rattle.command_words.proofs.Meanings.{make_usage, name_usage, no_command_usage, session_usage, three_words}
 use Rattle.command_words.proofs.request.read.Goals as goal
 
+-- ---- a session
+
 session_words : (c : goal.After-session_request)
-    → c.args.words.now ≡ c.as_str-then-eq.result.now ∷ c.as_str-then-eq-2.result.now ∷ codes "session" ∷ drop 1 (map string_bytes (take (length c.as_slice-texts.result.now - 2) (drop 2 c.as_slice-texts.result.now)))
+    → c.args.words.now ≡ c.as_str-in-Some-Session.result.now ∷ c.as_str-in-Some-Session-2.result.now ∷ codes "session" ∷ drop 1 (map string_bytes (take (length c.as_slice-texts.result.now - 2) (drop 2 c.as_slice-texts.result.now)))
 session_words c =
     sym c.as_slice-texts.ensures ∙ three_words c.as_slice-texts.result.now c.disk-item.result c.air-item.result c.command-item.result _ _ _ c.in-len3-up.len_at_least c.disk-item.is c.air-item.is c.command-item.is
-    c.as_str-then-eq.ensures.value c.as_str-then-eq-2.ensures.value
-    (sym (text_same c.as_str.result.now (codes "session") (sym c.eq.ensures ∙ c.if-eq.true)) ∙ c.as_str.ensures.value)
+    c.as_str-in-Some-Session.ensures.value c.as_str-in-Some-Session-2.ensures.value
+    (sym (rw c.in-Some-Session.field-0-is at c.in-Some-Session.ensures.some) ∙ c.as_str.ensures.value)
 
-pub returns-then-eq-clause-asks : goal.returns-then-eq-clause-asks
-returns-then-eq-clause-asks c = subst (λ (ws : List Text). IfOk c.session_request.result (AsksFor ws)) (sym (session_words c)) c.session_request.ensures.asks
+pub returns-in-Some-Session : goal.returns-in-Some-Session
+returns-in-Some-Session c = record {
+  asks = subst (λ (ws : List Text). IfOk c.session_request.result (AsksFor ws)) (sym (session_words c)) c.session_request.ensures.asks;
+  usage = λ usage. session_usage (session_words c) (c.session_request.ensures.usage usage);
+  unbuilt = λ unbuilt. inr (subst BeyondSession (sym (session_words c)) (c.session_request.ensures.unbuilt unbuilt));
+  memory = λ _. (_, _, _, _, session_words c, (0, lit< tt, refl));
+}
 
-pub returns-then-eq-clause-usage : goal.returns-then-eq-clause-usage
-returns-then-eq-clause-usage c = λ usage. session_usage (session_words c) (c.session_request.ensures.usage usage)
+-- ---- a command with a name
 
-pub returns-then-eq-clause-unbuilt : goal.returns-then-eq-clause-unbuilt
-returns-then-eq-clause-unbuilt c = λ unbuilt. inr (subst BeyondSession (sym (session_words c)) (c.session_request.ensures.unbuilt unbuilt))
-
-pub returns-then-eq-clause-memory : goal.returns-then-eq-clause-memory
-returns-then-eq-clause-memory c = λ _. (c.as_str-then-eq.result.now, c.as_str-then-eq-2.result.now, drop 1 (map string_bytes (take (length c.as_slice-texts.result.now - 2) (drop 2 c.as_slice-texts.result.now))), inl (session_words c))
-
-frames_words : (c : goal.After-frames_request)
-    → c.args.words.now ≡ string_bytes c.disk-item.result ∷ c.as_str-then-eq-2-2.result.now ∷ codes "frames"
-    ∷ drop 1 (map string_bytes (take (length c.as_slice-texts.result.now - 2) (drop 2 c.as_slice-texts.result.now)))
-frames_words c =
+name_words : (c : goal.After-name_request)
+    → c.args.words.now ≡ string_bytes c.disk-item.result ∷ c.as_str-in-Some-Named.result.now ∷ word_of c.in-Some-Named.named ∷ drop 1 (map string_bytes (take (length c.as_slice-texts.result.now - 2) (drop 2 c.as_slice-texts.result.now)))
+name_words c =
     sym c.as_slice-texts.ensures ∙ three_words c.as_slice-texts.result.now c.disk-item.result c.air-item.result c.command-item.result _ _ _ c.in-len3-up.len_at_least c.disk-item.is c.air-item.is c.command-item.is
-    refl c.as_str-then-eq-2-2.ensures.value
-    (sym (text_same c.as_str-2.result.now (codes "frames") (sym c.eq-2.ensures ∙ c.if-eq-2.true)) ∙ c.as_str-2.ensures.value)
+    refl c.as_str-in-Some-Named.ensures.value (sym (rw c.in-Some-Named.field-0-is at c.in-Some-Named.ensures.some) ∙ c.as_str.ensures.value)
 
-pub returns-then-eq-2-clause-asks : goal.returns-then-eq-2-clause-asks
-returns-then-eq-2-clause-asks c =
-    subst (λ (ws : List Text). IfOk c.frames_request.result (AsksFor ws)) (sym (frames_words c))
-    (IfOk-weaker c.frames_request.result _ _ (λ request asks. asks (string_bytes c.disk-item.result)) c.frames_request.ensures.asks)
+-- which is one of the built ones
+name_built : (command : NameCommand) → Contains built_commands (word_of command)
+name_built Frames = (1, lit< tt, refl)
+name_built PfhCheck = (2, lit< tt, refl)
+name_built PfhShow = (3, lit< tt, refl)
 
-pub returns-then-eq-2-clause-usage : goal.returns-then-eq-2-clause-usage
-returns-then-eq-2-clause-usage c = λ usage. frames_usage (frames_words c) (c.frames_request.ensures.usage usage)
+pub returns-in-Some-Named : goal.returns-in-Some-Named
+returns-in-Some-Named c = record {
+  asks = subst (λ (ws : List Text). IfOk c.name_request.result (AsksFor ws)) (sym (name_words c))
+      (IfOk-weaker c.name_request.result _ _ (λ request asks. asks (string_bytes c.disk-item.result)) c.name_request.ensures.asks);
+  usage = λ usage. name_usage c.in-Some-Named.named (name_words c) (c.name_request.ensures.usage usage (string_bytes c.disk-item.result));
+  unbuilt = λ unbuilt. absurd (c.name_request.ensures.built unbuilt);
+  memory = λ _. (_, _, _, _, name_words c, name_built c.in-Some-Named.named);
+}
 
-pub returns-then-eq-2-clause-memory : goal.returns-then-eq-2-clause-memory
-returns-then-eq-2-clause-memory c = λ _. (string_bytes c.disk-item.result, c.as_str-then-eq-2-2.result.now, drop 1 (map string_bytes (take (length c.as_slice-texts.result.now - 2) (drop 2 c.as_slice-texts.result.now))), inr (frames_words c))
+-- ---- `pfh-make`
 
-pub returns-then-is_unbuilt-clause-unbuilt : goal.returns-then-is_unbuilt-clause-unbuilt
-returns-then-is_unbuilt-clause-unbuilt c = λ unbuilt.
-    let whole = sym c.as_slice-texts.ensures ∙ three_words c.as_slice-texts.result.now c.disk-item.result c.air-item.result c.command-item.result (string_bytes c.disk-item.result) (string_bytes c.air-item.result) c.as_str-3.result.now
-    c.in-len3-up.len_at_least c.disk-item.is c.air-item.is c.command-item.is refl refl c.as_str-3.ensures.value in
-    inl (record {
-      disk = string_bytes c.disk-item.result;
-      air = string_bytes c.air-item.result;
-      command = c.as_str-3.result.now;
-      others = drop 1 (map string_bytes (take (length c.as_slice-texts.result.now - 2) (drop 2 c.as_slice-texts.result.now)));
-      written = whole;
-      unbuilt = Contains-from_any text_same c.as_str-3.result.now unbuilt_commands (sym c.is_unbuilt.ensures ∙ c.if-is_unbuilt.true);
-    })
+make_words : (c : goal.After-make_request)
+    → c.args.words.now ≡ string_bytes c.disk-item.result ∷ c.as_str-in-Some-PfhMake.result.now ∷ codes "pfh-make" ∷ drop 1 (map string_bytes (take (length c.as_slice-texts.result.now - 2) (drop 2 c.as_slice-texts.result.now)))
+make_words c =
+    sym c.as_slice-texts.ensures ∙ three_words c.as_slice-texts.result.now c.disk-item.result c.air-item.result c.command-item.result _ _ _ c.in-len3-up.len_at_least c.disk-item.is c.air-item.is c.command-item.is
+    refl c.as_str-in-Some-PfhMake.ensures.value (sym (rw c.in-Some-PfhMake.field-0-is at c.in-Some-PfhMake.ensures.some) ∙ c.as_str.ensures.value)
+
+pub returns-in-Some-PfhMake : goal.returns-in-Some-PfhMake
+returns-in-Some-PfhMake c = record {
+  asks = subst (λ (ws : List Text). IfOk c.make_request.result (AsksFor ws)) (sym (make_words c))
+      (IfOk-weaker c.make_request.result _ _ (λ request asks. asks (string_bytes c.disk-item.result)) c.make_request.ensures.asks);
+  usage = λ usage. make_usage (make_words c) (c.make_request.ensures.usage usage (string_bytes c.disk-item.result));
+  unbuilt = λ unbuilt. absurd (c.make_request.ensures.built unbuilt);
+  memory = λ _. (_, _, _, _, make_words c, (4, lit< tt, refl));
+}
+
+-- ---- what isn't built, and what is no command
+
+pub returns-in-Some-Unbuilt-clause-unbuilt : goal.returns-in-Some-Unbuilt-clause-unbuilt
+returns-in-Some-Unbuilt-clause-unbuilt c = λ unbuilt. inl (record {
+  disk = string_bytes c.disk-item.result;
+  air = string_bytes c.air-item.result;
+  command = c.as_str.result.now;
+  others = drop 1 (map string_bytes (take (length c.as_slice-texts.result.now - 2) (drop 2 c.as_slice-texts.result.now)));
+  written =
+      sym c.as_slice-texts.ensures ∙ three_words c.as_slice-texts.result.now c.disk-item.result c.air-item.result c.command-item.result _ _ _ c.in-len3-up.len_at_least c.disk-item.is c.air-item.is c.command-item.is
+      refl refl c.as_str.ensures.value;
+  unbuilt = rw c.in-Some-Unbuilt.field-0-is at c.in-Some-Unbuilt.ensures.some;
+})
+
+pub returns-in-None-clause-usage : goal.returns-in-None-clause-usage
+returns-in-None-clause-usage c = λ usage. no_command_usage
+    (sym c.as_slice-texts.ensures ∙ three_words c.as_slice-texts.result.now c.disk-item.result c.air-item.result c.command-item.result _ _ _ c.in-len3-up.len_at_least c.disk-item.is c.air-item.is c.command-item.is
+    refl refl c.as_str.ensures.value)
+    c.in-None.ensures.none

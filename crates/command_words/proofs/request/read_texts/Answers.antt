@@ -1,13 +1,13 @@
 -- What the line gives are the numbers and the call that its texts write.
 use Rattle.std.proofs.lemmas.Result.{err_from_is_err_and}
 use Rattle.command_words.proofs.LineLemmas.{handed_on}
-use Rattle.command_words.proofs.Meanings.{text_agrees, text_from, text_taken}
+use Rattle.command_words.proofs.Meanings.{text_agrees, text_from}
 use Rattle.command_words.proofs.request.read_texts.Goals as goal
 
 pub returns-in_err-texts-clause-usage : goal.returns-in_err-texts-clause-usage
 returns-in_err-texts-clause-usage c =
     let p = err_from_is_err_and c.from_residual.result c.from_residual.ensures.1 in
-    rw (p.1, p.2) (λ usage caller moment blocks polls text. c.in_err-texts.ensures.usage (handed_on usage) (text_taken text))
+    rw (p.1, p.2) (λ usage caller moment blocks polls text. c.in_err-texts.ensures.usage (handed_on usage) text.line)
 
 pub returns-in_default-clause-usage : goal.returns-in_default-clause-usage
 returns-in_default-clause-usage c = λ usage caller moment blocks polls text.

@@ -3,4 +3,4 @@ use Rattle.file_store.proofs.LawLemmas.{empty-IsStore, after-next}
 use Rattle.file_store.proofs.laws.commands_law.Goals as goal
 
 pub returns : goal.returns
-returns c = (empty-IsStore, λ store command is ok. (after-IsStore store command is ok, after-KeepsComplete store command is ok, after-next store command ok))
+returns c = (empty-IsStore, λ store command is call ok. (after-IsStore store command is call ok, after-KeepsComplete store command is ok, after-next store command ok))

@@ -4,7 +4,7 @@ use Rattle.file_store.specs.Kept.{KeepsComplete, KeepsOthers}
 use Rattle.file_store.specs.Store.{Store}
 use Rattle.file_store.specs.Upload.{Upload, Holds, appended, came}
 use Rattle.file_store.proofs.AfterLemmas.{after_all-KeepsComplete}
-use Rattle.file_store.proofs.GrowLemmas.{append-after, append-allowed, append-Holds, append-upload, change-KeepsOthers, grows-after}
+use Rattle.file_store.proofs.GrowLemmas.{append-after, append-allowed, append-Holds, append-upload, change-KeepsOthers, grows-HaveCalls, grows-after}
 use Rattle.file_store.proofs.file_store.FileStore.append.Goals as goal
 
 -- how many blocks become held
@@ -65,4 +65,4 @@ returns-in-Ok-clause-uploads c =
 pub returns-in-Ok-clause-kept : goal.returns-in-Ok-clause-kept
 returns-in-Ok-clause-kept c =
     subst (λ (s : Store). KeepsComplete c.args.self.now s) (sym (after_grows c))
-    (after_all-KeepsComplete c.args.self.now (whole_grows c.args.up.number (c.args.up.rest ++ c.args.bytes.now)) c.in-Ok.ensures.rules (append-allowed c.args.self.now c.args.up c.args.bytes.now c.requires (fits c)))
+    (after_all-KeepsComplete c.args.self.now (whole_grows c.args.up.number (c.args.up.rest ++ c.args.bytes.now)) c.in-Ok.ensures.rules (grows-HaveCalls c.args.up.number (length (c.args.up.rest ++ c.args.bytes.now) / 512) (c.args.up.rest ++ c.args.bytes.now)) (append-allowed c.args.self.now c.args.up c.args.bytes.now c.requires (fits c)))

@@ -4,7 +4,7 @@ use Rattle.file_store.specs.Store.{Entry, Holding, Store}
 use Rattle.file_store.specs.Command.{has_room, grown, is_partial, with_holding}
 use Rattle.file_store.specs.IsStore.{IsStore}
 use Rattle.file_store.proofs.EntriesLemmas.{has_number, place-found, place-entry, place-changed, found-fits}
-use Rattle.file_store.proofs.AfterLemmas.{passes-at, room-partial, change-IsStore, grown-fits}
+use Rattle.file_store.proofs.AfterLemmas.{passes-at, room-partial, change-IsStore, more-fits}
 use Rattle.file_store.proofs.file_store.FileStore.grow.Goals as goal
 
 pub unwrap-place-requires : goal.unwrap-place-requires
@@ -37,7 +37,7 @@ invariant_of-self-2 c =
     c.self.invariant.entries there.1 (sym c.unwrap-place.ensures ∙ at) c.index_mut-entry.ensures.value c.in_ok-grow.ensures.ok in
     let store : Store = record { entries = c.self.inside.entries.items; next = c.self.inside.next; blocks = c.self.inside.blocks } in
     subst (λ (es : List Entry). IsStore (record { entries = es; next = c.self.inside.next; blocks = c.self.inside.blocks })) (sym items)
-    (change-IsStore store c.args.number (grown octets) there.0 c.self.invariant there.1 (grown-fits octets there.0.holding there.0.length (subst (λ (n : ℕ). IsTrue (has_room there.0.holding there.0.length n)) (sym (length-append c.args.first.now c.args.second.now)) there.2)))
+    (change-IsStore store c.args.number (grown octets) there.0 c.self.invariant there.1 (more-fits octets there.0.holding there.0.length (subst (λ (n : ℕ). IsTrue (has_room there.0.holding there.0.length n)) (sym (length-append c.args.first.now c.args.second.now)) there.2)))
 
 pub returns-clause-ok : goal.returns-clause-ok
 returns-clause-ok c =

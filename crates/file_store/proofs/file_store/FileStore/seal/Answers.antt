@@ -2,7 +2,6 @@ use Rattle.std.proofs.Common.{◌≡◌, ℕ, subst, None}
 use Rattle.std.specs.Prelude.{OnOk, IfOk, IfErr}
 use Rattle.file_store.specs.Answers.{IsHeader}
 use Rattle.file_store.specs.Command.{after, drop_entry, fault_at, seal}
-use Rattle.file_store.specs.Store.{Store}
 use Rattle.file_store.specs.Upload.{octets_come}
 use Rattle.file_store.proofs.SealLemmas.{ok-DoesAll, ok-complete, last-command, seal-KeepsComplete, seal-KeepsOthers}
 use Rattle.file_store.proofs.file_store.FileStore.seal.Goals as goal
@@ -38,4 +37,4 @@ pub returns-in-Ok-clause-kept : goal.returns-in-Ok-clause-kept
 returns-in-Ok-clause-kept c =
     let octets = octets_come c.args.self.now c.args.up in
     let last = last-command c.args.self.now c.hold_rest.new.self c.finish.new.self c.args.up octets c.args.moment c.in-Ok.ensures.ok c.in-Ok.ensures.whole c.finish.result (sealing c) (good c) (bad c) in
-    seal-KeepsComplete c.args.self.now c.hold_rest.new.self c.finish.new.self c.args.up octets c.args.moment c.in-Ok.ensures.ok c.in-Ok.ensures.whole last.0 c.in-Ok.ensures.rules last.2 last.3
+    seal-KeepsComplete c.args.self.now c.hold_rest.new.self c.finish.new.self c.args.up octets c.args.moment c.in-Ok.ensures.ok c.in-Ok.ensures.whole last.0 c.in-Ok.ensures.rules last.4 last.2 last.3

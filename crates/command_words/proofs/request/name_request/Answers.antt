@@ -1,0 +1,16 @@
+-- AIR has one of its forms, and the line gives the NAME.
+use Rattle.std.proofs.Common.{◌∙◌, ap, not}
+use Rattle.std.proofs.lemmas.Result.{err_from_is_err_and}
+use Rattle.command_words.proofs.LineLemmas.{handed_on}
+use Rattle.command_words.proofs.Meanings.{air_read, neither_from, neither_text}
+use Rattle.command_words.proofs.request.name_request.Goals as goal
+
+pub returns-in_err-name-clause-usage : goal.returns-in_err-name-clause-usage
+returns-in_err-name-clause-usage c =
+    let p = err_from_is_err_and c.from_residual.result c.from_residual.ensures.1 in
+    rw (p.1, p.2) (λ usage disk name asks. c.in_err-name.ensures.usage (handed_on usage) (neither_text asks).0.line)
+
+pub returns-clause-asks : goal.returns-clause-asks
+returns-clause-asks c = λ disk.
+    c.request.ensures _
+    (neither_from disk _ _ (air_read c.args.air.now c.read_air.result c.read_air.ensures.some (c.is_none.ensures ∙ ap not c.if-is_none.false)) c.in_ok-name.ensures.name)

@@ -1,0 +1,102 @@
+//! The word COMMAND.
+
+ghost use Rattle.std.specs.Prelude.{◌≡◌, ℕ, List, IfNone, IfSome};
+ghost use Rattle.std.specs.List.{list_any};
+ghost use Rattle.std.specs.Str.{bytes_eq};
+ghost use Rattle.command_words.specs.Asked.{AsksFor};
+ghost use Rattle.command_words.specs.Commands.{IsCommandOf, word_of};
+ghost use Rattle.command_words.specs.Words.{IsNamed, unbuilt_commands};
+
+use crate::request::Request;
+
+/// What the word COMMAND names.
+#[derive(Clone, Copy)]
+pub(crate) enum CommandWord {
+    /// A session.
+    Session,
+    /// A command whose one place is a name.
+    Named(NameCommand),
+    /// The making of a file.
+    PfhMake,
+    /// What isn't built yet.
+    Unbuilt,
+}
+
+/// The commands that have one place, a name, and no options, and that need neither disk nor air.
+#[derive(Clone, Copy)]
+pub(crate) enum NameCommand {
+    /// `frames`.
+    Frames,
+    /// `pfh-check`.
+    PfhCheck,
+    /// `pfh-show`.
+    PfhShow,
+}
+
+/// What this word COMMAND names.
+pub(crate) fn read_command(word: &str) -> Option<CommandWord>
+    ensures some { IfSome result (λ command. IsCommandOf word.now command) }
+    ensures none { IfNone result ((command : CommandWord) → IsCommandOf word.now command → ⊥) }
+{
+    if word == "session" {
+        return Some(CommandWord::Session);
+    }
+    if let Some(command) = read_name_command(word) {
+        return Some(CommandWord::Named(command));
+    }
+    if word == "pfh-make" {
+        return Some(CommandWord::PfhMake);
+    }
+    if is_unbuilt(word) {
+        return Some(CommandWord::Unbuilt);
+    }
+    None
+}
+
+/// Which of the commands with a name this is.
+fn read_name_command(word: &str) -> Option<NameCommand>
+    ensures some { IfSome result (λ command. word.now ≡ word_of command) }
+    ensures none { IfNone result ((command : NameCommand) → word.now ≡ word_of command → ⊥) }
+{
+    if word == "frames" {
+        return Some(NameCommand::Frames);
+    }
+    if word == "pfh-check" {
+        return Some(NameCommand::PfhCheck);
+    }
+    if word == "pfh-show" {
+        return Some(NameCommand::PfhShow);
+    }
+    None
+}
+
+/// Whether this is one of the commands that aren't built yet.
+fn is_unbuilt(word: &str) -> bool
+    ensures { result ≡ list_any (bytes_eq word.now) unbuilt_commands }
+{
+    word == "serve" || word == "send" || word == "fetch" || word == "list" || word == "rehearse"
+}
+
+impl NameCommand {
+    /// The word of this command.
+    pub(crate) fn word(self) -> &'static str
+        ensures { result.now ≡ word_of self }
+    {
+        match self {
+            NameCommand::Frames => "frames",
+            NameCommand::PfhCheck => "pfh-check",
+            NameCommand::PfhShow => "pfh-show",
+        }
+    }
+
+    /// What this command asks for with a name.
+    pub(crate) fn request<'a>(self, name: &'a str) -> Request<'a>
+        ensures { (words : List (List ℕ)) → IsNamed (word_of self) words name.entry.now → AsksFor words result }
+    {
+        match self {
+            NameCommand::Frames => Request::Frames { name },
+            NameCommand::PfhCheck => Request::PfhCheck { name },
+            NameCommand::PfhShow => Request::PfhShow { name },
+        }
+    }
+}

@@ -1,0 +1,138 @@
+-- A command shows its text of octets, and so of the content that was loaded.
+use Rattle.std.proofs.Common.{◌≡◌, ℕ, ◌≤◌, List, [], length, refl, ap, sym, subst, ◌∙◌, inl, inr, Bool, true, false}
+use Rattle.std.specs.Prelude.{Option, None, Some, IfSome, IfOk, Ok, Err, Result, option_map}
+use Rattle.px_base.specs.declared.memory.OutOfMemory.{OutOfMemory as NoMemory}
+use Rattle.px_base.specs.declared.shelf.ShelfRefusal.{ShelfRefusal}
+use Rattle.px_base.specs.declared.shelf.ShelfRefusal.TheVariants as refusal
+use Rattle.px_base.specs.Outside.{Gains, GainsPrefix, Rose}
+use Rattle.px_base.specs.Shelves.{Holding, Loads, content_of}
+use Rattle.px_base.proofs.Told.{Gains-front, Gains-none}
+use Rattle.pfh_items.specs.declared.fault.FileFault.{FileFault}
+use Rattle.pfh_items.specs.declared.fault.FileFault.TheVariants as fault
+use Rattle.pfh_items.specs.Faults.{code_of, fault_code, first_fault}
+use Rattle.header_tool.specs.declared.shown.Shown.{Shown}
+use Rattle.header_tool.specs.Lines.{code_number}
+use Rattle.pacsat_cli.specs.declared.files.FileCommand.{FileCommand}
+use Rattle.pacsat_cli.specs.declared.files.FileCommand.TheVariants as command
+use Rattle.pacsat_cli.specs.declared.status.Status.{Status}
+use Rattle.pacsat_cli.specs.declared.status.Status.TheVariants as status
+use Rattle.pacsat_cli.specs.Files.{FileEnd, FileShown, IsTextOf, IsTextPut, OctetsShown, checks_headers, code_status, end_of, fault_status, is_file_status, most_octets}
+use Rattle.pacsat_cli.specs.Stops.{status_of_load}
+use Rattle.pacsat_cli.proofs.Loading.{loaded, long, none}
+
+-- a fault's code is never 0
+code-status : (f : Option FileFault) → code_status (code_number (option_map code_of f)) ≡ fault_status (option_map code_of f)
+code-status None = refl
+code-status (Some fault.NoHeader) = refl
+code-status (Some fault.NoEndItem) = refl
+code-status (Some fault.MissingItem) = refl
+code-status (Some fault.BadHeader) = refl
+code-status (Some fault.HeaderSum) = refl
+code-status (Some fault.BodySum) = refl
+
+module _ {O : Type 0} (shown : O → Option (List ℕ)) (faults : O → ℕ) (command : FileCommand) (octets : List ℕ) (most : length octets ≤ most_octets) (before now : O) where
+  -- all of the text was shown
+  all-shown : (f : Option ℕ) (all : List ℕ) → IsTextOf command octets all → checks_headers command ≡ true → end_of command octets ≡ fault_status f → Gains (shown before) (shown now) all → faults now ≡ faults before → OctetsShown shown faults command octets before now (fault_status f)
+  all-shown None all text checks ends gains same =
+      record {
+        text = all;
+        gains = gains;
+        possible = refl;
+        ends = record { octets = octets; there = refl; most = most; text = text; ends = ends };
+        cause = record { rose = λ e. absurd (cc); same = λ _. same };
+        unshown = λ e. absurd (cc);
+      }
+  all-shown (Some code) all text checks ends gains same =
+      record {
+        text = all;
+        gains = gains;
+        possible = checks;
+        ends = record { octets = octets; there = refl; most = most; text = text; ends = ends };
+        cause = record { rose = λ e. absurd (cc); same = λ _. same };
+        unshown = λ e. absurd (cc);
+      }
+
+  -- a front of it was shown
+  pub front-shown : (all : List ℕ) → IsTextOf command octets all → GainsPrefix (shown before) (shown now) all → Rose (faults before) (faults now) → OctetsShown shown faults command octets before now status.Out
+  front-shown all text gains rose =
+      let front = Gains-front (shown before) (shown now) all gains in
+      record {
+        text = front.0;
+        gains = front.1;
+        possible = refl;
+        ends = (all, end_of command octets, record { octets = octets; there = refl; most = most; text = text; ends = refl }, front.2);
+        cause = record { rose = λ _. rose; same = λ e. absurd (e refl) };
+        unshown = λ e. absurd (cc);
+      }
+
+  -- there was no memory for it
+  none-shown : now ≡ before → OctetsShown shown faults command octets before now status.OutOfMemory
+  none-shown same =
+      record {
+        text = [];
+        gains = (let P : O → Type 0 = λ x. Gains (shown before) (shown x) [] in subst P (sym same) (Gains-none (shown before)));
+        possible = refl;
+        ends = refl;
+        cause = record { rose = λ e. absurd (cc); same = λ _. ap faults same };
+        unshown = λ _. same;
+      }
+
+  -- a text of the file's header was put
+  pub put-shown :
+      (made : Result Shown NoMemory) (s : Status) → IsTextPut shown faults made before now s
+      → IfOk made (λ m. IsTextOf command octets m.text) → IfOk made (λ m. m.code ≡ code_number (fault_code octets))
+      → checks_headers command ≡ true → end_of command octets ≡ fault_status (fault_code octets)
+      → OctetsShown shown faults command octets before now s
+  put-shown (Err none) s put text code checks ends =
+      let P : Status → Type 0 = λ x. OctetsShown shown faults command octets before now x in
+      subst P (sym put.0) (none-shown put.1)
+  put-shown (Ok made) s put text code checks ends =
+      let P : Status → Type 0 = λ x. OctetsShown shown faults command octets before now x in
+      elim put [
+        | inl all ↦ subst P (sym (all.2 ∙ ap code_status code ∙ code-status (first_fault octets))) (all-shown (fault_code octets) made.text text checks ends all.0 all.1)
+        | inr front ↦ subst P (sym front.2) (front-shown made.text text front.0 front.1)
+      ]
+
+module _ {O : Type 0} (shown : O → Option (List ℕ)) (faults : O → ℕ) (command : FileCommand) (held : Option Holding) (name : List ℕ) (before : O) where
+  end-loaded : (there : Option Holding) (octets text : List ℕ) (s : Status) → Loads there name most_octets (Ok octets) → FileEnd command (Some octets) text s → IfSome there (λ shelf. FileEnd command (content_of shelf name) text s)
+  end-loaded None octets text s loads end = tt
+  end-loaded (Some shelf) octets text s loads end =
+      let P : Option (List ℕ) → Type 0 = λ content. FileEnd command content text s in
+      subst P (sym (loaded (content_of shelf name) octets loads)) end
+
+  -- the octets that were shown are the content of the name
+  pub loaded-shown : (now : O) (octets : List ℕ) (s : Status) → Loads held name most_octets (Ok octets) → OctetsShown shown faults command octets before now s → FileShown shown faults command held name before now s
+  loaded-shown now octets s loads h =
+      record {
+        text = h.text;
+        gains = h.gains;
+        possible = h.possible;
+        ends = end-loaded held octets h.text s loads h.ends;
+        cause = h.cause;
+        unshown = h.unshown;
+      }
+
+  end-unloaded : (why : ShelfRefusal) (there : Option Holding) → Loads there name most_octets (Err why) → IfSome there (λ shelf. FileEnd command (content_of shelf name) [] (status_of_load why))
+  end-unloaded why None loads = tt
+  end-unloaded refusal.NoSuch (Some shelf) loads = (none (content_of shelf name) loads, refl)
+  end-unloaded refusal.TooLong (Some shelf) loads = let h = long (content_of shelf name) loads in (h.0, h.1, h.2, refl)
+  end-unloaded refusal.Fault (Some shelf) loads = refl
+  end-unloaded refusal.OutOfMemory (Some shelf) loads = refl
+
+  unloaded : (why : ShelfRefusal) → is_file_status command (status_of_load why) ≡ true → (status_of_load why ≡ status.Out → ⊥) → Loads held name most_octets (Err why) → FileShown shown faults command held name before before (status_of_load why)
+  unloaded why possible isnt loads =
+      record {
+        text = [];
+        gains = Gains-none (shown before);
+        possible = possible;
+        ends = end-unloaded why held loads;
+        cause = record { rose = λ e. absurd (isnt e); same = λ _. refl };
+        unshown = λ _. refl;
+      }
+
+  -- nothing was loaded, and nothing shown
+  pub unloaded-shown : (why : ShelfRefusal) → Loads held name most_octets (Err why) → FileShown shown faults command held name before before (status_of_load why)
+  unloaded-shown refusal.NoSuch loads = unloaded refusal.NoSuch refl (λ e. cc) loads
+  unloaded-shown refusal.TooLong loads = unloaded refusal.TooLong refl (λ e. cc) loads
+  unloaded-shown refusal.Fault loads = unloaded refusal.Fault refl (λ e. cc) loads
+  unloaded-shown refusal.OutOfMemory loads = unloaded refusal.OutOfMemory refl (λ e. cc) loads

@@ -1,0 +1,52 @@
+-- Words ask for one thing to do.
+use Rattle.std.proofs.Common.{◌≡◌, ℕ, List, refl, inl, inr}
+use Rattle.command_words.specs.Laws.{AsksSession, Determined, OnlyOne}
+use Rattle.command_words.specs.Words.{IsUnbuilt, IsUsage}
+use Rattle.pacsat_cli.specs.declared.files.FileCommand.{FileCommand}
+use Rattle.pacsat_cli.specs.declared.files.FileCommand.TheVariants.{Frames, Show, Check}
+use Rattle.pacsat_cli.specs.Tasks.{AsksFile, AsksMake, AsksText}
+
+module _ (words : List (List ℕ)) (only : OnlyOne words) where
+  -- words that ask for the text of a file are in the command set and built, and ask for no session
+  pub usage-file : IsUsage words → AsksFile words → ⊥
+  usage-file usage (Frames, name, is) = only.usage_frames usage (name, is)
+  usage-file usage (Show, name, is) = only.usage_header usage (inr (inl (name, is)))
+  usage-file usage (Check, name, is) = only.usage_header usage (inl (name, is))
+
+  pub unbuilt-file : IsUnbuilt words → AsksFile words → ⊥
+  unbuilt-file unbuilt (Frames, name, is) = only.unbuilt_frames unbuilt (name, is)
+  unbuilt-file unbuilt (Show, name, is) = only.unbuilt_header unbuilt (inr (inl (name, is)))
+  unbuilt-file unbuilt (Check, name, is) = only.unbuilt_header unbuilt (inl (name, is))
+
+  pub session-file : AsksSession words → AsksFile words → ⊥
+  session-file session (Frames, name, is) = only.session_frames session (name, is)
+  session-file session (Show, name, is) = only.session_header session (inr (inl (name, is)))
+  session-file session (Check, name, is) = only.session_header session (inl (name, is))
+
+  -- nor for a file that is made
+  pub file-make : AsksFile words → AsksMake words → ⊥
+  file-make (Frames, name, is) make = only.frames_header (name, is) (inr (inr make))
+  file-make (Show, name, is) (body, kept, asked, make) = only.show_make name body kept asked is make
+  file-make (Check, name, is) (body, kept, asked, make) = only.check_make name body kept asked is make
+
+  -- and so do those that ask for a file that is made
+  pub usage-make : IsUsage words → AsksMake words → ⊥
+  usage-make usage make = only.usage_header usage (inr (inr make))
+
+  pub unbuilt-make : IsUnbuilt words → AsksMake words → ⊥
+  unbuilt-make unbuilt make = only.unbuilt_header unbuilt (inr (inr make))
+
+  pub session-make : AsksSession words → AsksMake words → ⊥
+  session-make session make = only.session_header session (inr (inr make))
+
+  -- they ask for one text of one file
+  pub one-text : Determined words → (command other : FileCommand) (name another : List ℕ) → AsksText words command name → AsksText words other another → (command ≡ other) × (name ≡ another)
+  one-text determined Frames Frames name another is too = (refl, determined.frames name another is too)
+  one-text determined Show Show name another is too = (refl, determined.show name another is too)
+  one-text determined Check Check name another is too = (refl, determined.check name another is too)
+  one-text determined Frames Show name another is too = absurd (only.frames_header (name, is) (inr (inl (another, too))))
+  one-text determined Frames Check name another is too = absurd (only.frames_header (name, is) (inl (another, too)))
+  one-text determined Show Frames name another is too = absurd (only.frames_header (another, too) (inr (inl (name, is))))
+  one-text determined Show Check name another is too = absurd (only.check_show another name too is)
+  one-text determined Check Frames name another is too = absurd (only.frames_header (another, too) (inl (name, is)))
+  one-text determined Check Show name another is too = absurd (only.check_show name another is too)
