@@ -8,8 +8,11 @@ use px_base::{MemoryAir, MemoryClock, MemoryOut, MemoryShelf, Shelf};
 use row_words::{read_numbers, read_words, written};
 use std::alloc::Global;
 
-/// Plays a row over a closed air, and gives the status's number, the octets said in
-/// hexadecimal, and the lines that were shown, each ended by `|`.
+/// The name of the content that is shown after a run.
+const KEPT: &str = "kept";
+
+/// Plays a row over a closed air, and gives the status's number, the octets said in hexadecimal, the lines that were
+/// shown, each ended by `|`, and what the shelf then has under the name `kept`, if it has that, in hexadecimal.
 pub fn play(alloc: Global, row: &str) -> Result<String> {
     let (words, rest) = row.split_once(';').context("no words")?;
     let (content, rest) = rest.split_once(';').context("no shelf")?;
@@ -20,7 +23,9 @@ pub fn play(alloc: Global, row: &str) -> Result<String> {
     let mut shelf = read_shelf(alloc, content, failing_shelf.as_slice())?;
     let failing_out = read_numbers(alloc, failing_out)?;
     let mut out = MemoryOut::new(alloc, failing_out.as_slice())?;
-    run_over(alloc, &words, &mut shelf, &mut out, moments)
+    let ended = run_over(alloc, &words, &mut shelf, &mut out, moments)?;
+    let kept = kept_text(alloc, &shelf)?;
+    Ok(format!(in alloc; "{ended}{kept}")?)
 }
 
 /// Runs the words over a closed air, this shelf and output, and a clock that gives these moments.
@@ -39,26 +44,37 @@ fn run_over(
     Ok(format!(in alloc; "{number};{said};{shown}")?)
 }
 
+/// What the shelf has under the name `kept`, in hexadecimal after `;`; nothing where it has no such name.
+fn kept_text(alloc: Global, shelf: &MemoryShelf) -> Result<String> {
+    let Some(file) = shelf.content(KEPT) else {
+        return Ok(String::new(alloc));
+    };
+    let octets = hex::encode(alloc, file.as_slice())?;
+    Ok(format!(in alloc; ";{octets}")?)
+}
+
 /// A shelf whose calls with these numbers fail. It has nothing, or one name with its content, which is given in
-/// hexadecimal, or after `*` by the number of its octets, all FEND; `keep` is its first call.
+/// hexadecimal, or as one octet, `*` and how often it stands; `keep` is its first call.
 fn read_shelf(alloc: Global, text: &str, failing: &[u64]) -> Result<MemoryShelf> {
     let mut shelf = MemoryShelf::new(alloc, failing)?;
     if text.is_empty() {
         return Ok(shelf);
     }
     let (name, content) = text.split_once(' ').context("no content")?;
-    let octets = match content.strip_prefix('*') {
-        Some(count) => fends(alloc, count.parse::<usize>()?)?,
+    let octets = match content.split_once('*') {
+        Some((octet, count)) => repeated(alloc, octet, count.parse::<usize>()?)?,
         None => hex::decode(alloc, content)?,
     };
     shelf.keep(written(name), octets.as_slice())?;
     Ok(shelf)
 }
 
-/// So many octets, all FEND.
-fn fends(alloc: Global, count: usize) -> Result<Vec<u8>> {
+/// So many octets, each the one that is given in hexadecimal.
+fn repeated(alloc: Global, octet: &str, count: usize) -> Result<Vec<u8>> {
+    let octet = hex::decode(alloc, octet)?;
+    let octet = octet.first().context("no octet")?;
     let mut octets = Vec::new(alloc);
-    octets.resize(count, 0xC0)?;
+    octets.resize(count, *octet)?;
     Ok(octets)
 }
 

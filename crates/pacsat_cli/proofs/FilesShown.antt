@@ -1,5 +1,6 @@
 -- A command shows its text of octets, and so of the content that was loaded.
 use Rattle.std.proofs.Common.{◌≡◌, ℕ, ◌≤◌, List, [], length, refl, ap, sym, subst, ◌∙◌, inl, inr, Bool, true, false}
+use Rattle.std.proofs.lemmas.Bool.{ne_eqb}
 use Rattle.std.specs.Prelude.{Option, None, Some, IfSome, IfOk, Ok, Err, Result, option_map}
 use Rattle.px_base.specs.declared.memory.OutOfMemory.{OutOfMemory as NoMemory}
 use Rattle.px_base.specs.declared.shelf.ShelfRefusal.{ShelfRefusal}
@@ -7,11 +8,9 @@ use Rattle.px_base.specs.declared.shelf.ShelfRefusal.TheVariants as refusal
 use Rattle.px_base.specs.Outside.{Gains, GainsPrefix, Rose}
 use Rattle.px_base.specs.Shelves.{Holding, Loads, content_of}
 use Rattle.px_base.proofs.Told.{Gains-front, Gains-none}
-use Rattle.pfh_items.specs.declared.fault.FileFault.{FileFault}
-use Rattle.pfh_items.specs.declared.fault.FileFault.TheVariants as fault
-use Rattle.pfh_items.specs.Faults.{code_of, fault_code, first_fault}
+use Rattle.pfh_items.specs.Faults.{fault_code}
 use Rattle.header_tool.specs.declared.shown.Shown.{Shown}
-use Rattle.header_tool.specs.Lines.{code_number}
+use Rattle.header_tool.specs.Lines.{IsCodeOf}
 use Rattle.pacsat_cli.specs.declared.files.FileCommand.{FileCommand}
 use Rattle.pacsat_cli.specs.declared.files.FileCommand.TheVariants as command
 use Rattle.pacsat_cli.specs.declared.status.Status.{Status}
@@ -21,14 +20,9 @@ use Rattle.pacsat_cli.specs.Stops.{status_of_load}
 use Rattle.pacsat_cli.proofs.Loading.{loaded, long, none}
 
 -- a fault's code is never 0
-code-status : (f : Option FileFault) → code_status (code_number (option_map code_of f)) ≡ fault_status (option_map code_of f)
-code-status None = refl
-code-status (Some fault.NoHeader) = refl
-code-status (Some fault.NoEndItem) = refl
-code-status (Some fault.MissingItem) = refl
-code-status (Some fault.BadHeader) = refl
-code-status (Some fault.HeaderSum) = refl
-code-status (Some fault.BodySum) = refl
+code-status : (fault : Option ℕ) (number : ℕ) → IsCodeOf fault number → code_status number ≡ fault_status fault
+code-status None number is = ap code_status is
+code-status (Some code) number is = let other = ne_eqb number 0 is.1 in rw other refl
 
 module _ {O : Type 0} (shown : O → Option (List ℕ)) (faults : O → ℕ) (command : FileCommand) (octets : List ℕ) (most : length octets ≤ most_octets) (before now : O) where
   -- all of the text was shown
@@ -80,7 +74,7 @@ module _ {O : Type 0} (shown : O → Option (List ℕ)) (faults : O → ℕ) (co
   -- a text of the file's header was put
   pub put-shown :
       (made : Result Shown NoMemory) (s : Status) → IsTextPut shown faults made before now s
-      → IfOk made (λ m. IsTextOf command octets m.text) → IfOk made (λ m. m.code ≡ code_number (fault_code octets))
+      → IfOk made (λ m. IsTextOf command octets m.text) → IfOk made (λ m. IsCodeOf (fault_code octets) m.code)
       → checks_headers command ≡ true → end_of command octets ≡ fault_status (fault_code octets)
       → OctetsShown shown faults command octets before now s
   put-shown (Err none) s put text code checks ends =
@@ -89,7 +83,7 @@ module _ {O : Type 0} (shown : O → Option (List ℕ)) (faults : O → ℕ) (co
   put-shown (Ok made) s put text code checks ends =
       let P : Status → Type 0 = λ x. OctetsShown shown faults command octets before now x in
       elim put [
-        | inl all ↦ subst P (sym (all.2 ∙ ap code_status code ∙ code-status (first_fault octets))) (all-shown (fault_code octets) made.text text checks ends all.0 all.1)
+        | inl all ↦ subst P (sym (all.2 ∙ code-status (fault_code octets) made.code code)) (all-shown (fault_code octets) made.text text checks ends all.0 all.1)
         | inr front ↦ subst P (sym front.2) (front-shown made.text text front.0 front.1)
       ]
 

@@ -26,11 +26,11 @@ pub(crate) enum Task<'a> {
 }
 
 /// What is done for this request.
-pub(crate) fn task_of<'a>(request: Request<'a>) -> Task<'a>
-    ensures { (words : List (List ℕ)) → AsksFor words request.entry → AsksTask words result }
+pub(crate) fn task_of<'a>(request: &Request<'a>) -> Task<'a>
+    ensures { (words : List (List ℕ)) → AsksFor words request.now → AsksTask words result }
 {
-    match request {
-        Request::Session(request) => Task::Session(request),
+    match *request {
+        Request::Session(session) => Task::Session(session),
         Request::Frames { name } => Task::File {
             command: FileCommand::Frames,
             name,
@@ -43,7 +43,7 @@ pub(crate) fn task_of<'a>(request: Request<'a>) -> Task<'a>
             command: FileCommand::Check,
             name,
         },
-        Request::PfhMake(request) => Task::Make(request),
+        Request::PfhMake(make) => Task::Make(make),
     }
 }
 

@@ -7,8 +7,9 @@ use px_base::MemoryOut;
 use std::process::Abort;
 use std::test::Fail;
 
-const STATUSES: [(Status, u8, &str); 11] = [
+const STATUSES: [(Status, u8, &str); 12] = [
     (Status::Done, 0, ""),
+    (Status::Refused, 1, ""),
     (Status::Usage, 2, "usage\n"),
     (Status::AirRead, 3, "air read\n"),
     (Status::AirWrite, 4, "air write\n"),

@@ -108,7 +108,7 @@ pub fn run<A: Air, S: Shelf, O: Out, C: Clock>(
             return status;
         }
     };
-    match task_of(request) {
+    match task_of(&request) {
         Task::Session(request) => {
             let status = run_session(alloc, air, clock, request);
             show_line(status, out);

@@ -1,10 +1,201 @@
 -- Each task by what it did, and refused words by why they were.
-use Rattle.std.proofs.Common.{refl, ap, sym, inl, inr, Err, subst}
-use Rattle.std.specs.Prelude.{Some}
+use Rattle.std.proofs.Common.{◌≡◌, ℕ, List, refl, ap, sym, subst, inl, inr, Err, None}
+use Rattle.header_tool.specs.Made.{MakeValue, spec_refusal}
+use Rattle.pacsat_cli.specs.declared.files.FileCommand.{FileCommand}
 use Rattle.pacsat_cli.specs.declared.status.Status.TheVariants as status
+use Rattle.pacsat_cli.specs.Making.{MakeRan}
 use Rattle.pacsat_cli.proofs.OneTask.{file-make, one-text, session-file, session-make, unbuilt-file, unbuilt-make, usage-file, usage-make}
 use Rattle.pacsat_cli.proofs.RunFile.{file-done, file-no_such, file-not, file-rose, file-runs, file-shown, file-too_long}
 use Rattle.pacsat_cli.proofs.RunMake.{asked-made, make-not, make-runs}
 use Rattle.pacsat_cli.proofs.RunRefused.{means, refused-complete, refused-files, refused-made, refused-no_such, refused-not, refused-not_built, refused-session, refused-shown, refused-spent, refused-too_long, refused-unbuilt, refused-unread, refused-usage, refused-usage_told}
 use Rattle.pacsat_cli.proofs.RunSession.{asked_moment, session-complete, session-done, session-not, session-not_built, session-runs, session-spent}
+use Rattle.command_words.specs.Asked.{make_value as asked_value}
+use Rattle.pacsat_cli.specs.Status.{line_of}
+use Rattle.pacsat_cli.specs.Tasks.{AsksFile, AsksMake, AsksText, header_of}
 use Rattle.pacsat_cli.proofs.top_call.run.Goals as goal
+
+pub returns-in-Err : goal.returns-in-Err
+returns-in-Err g c =
+    let why = c.in-Err.refusal in
+    let words = c.args.words.now in
+    let only = c.one_meaning.ensures.only_one words in
+    let refused = c.in-Err.ensures in
+    let h = means words why (Err why) refl refused.usage refused.unbuilt refused.memory in
+    let line = rw c.status_of_refused-status.ensures at c.show_line.ensures in
+    let held = g.S.Shelf.held c.args.shelf.now in
+    rw c.status_of_refused-status.ensures
+    (record {
+      usage = refused-usage words only why h;
+      usage_told = refused-usage_told words only why h;
+      unbuilt_words = refused-unbuilt words only why h;
+      unread = λ _. refused-unread words only why h;
+      untouched = λ _. (refl, refl, refl);
+      held = λ _. refl;
+      session = refused-session words only why h g.A.Air.heard g.A.Air.said g.C.Clock.given c.args.air.now c.args.clock.now;
+      session_alone = λ _. refl;
+      clock_unasked = λ _. refl;
+      complete = refused-complete words only why h g.A.Air.heard g.A.Air.said g.C.Clock.given c.args.air.now c.args.clock.now;
+      not_built = refused-not_built words only why h g.A.Air.heard g.A.Air.said g.C.Clock.given c.args.air.now c.args.clock.now;
+      spent = refused-spent words only why h g.A.Air.heard g.A.Air.said g.C.Clock.given c.args.air.now c.args.clock.now;
+      files = refused-files words only why h g.S.Shelf.held g.O.Out.shown g.O.Out.faults c.args.shelf.now c.args.out.now c.show_line.new.out line.shown line.no_line;
+      files_alone = λ _. (refl, refl);
+      no_such = refused-no_such words only why h held;
+      too_long = refused-too_long words only why h held;
+      files_done = refused-shown words only why h held;
+      made = refused-made words only why h g.S.Shelf.held c.args.shelf.now;
+      made_alone = λ _. (refl, refl);
+      air_read = record { rose = λ e. absurd (refused-not why status.AirRead refl e); same = λ _. refl };
+      air_write = record { rose = λ e. absurd (refused-not why status.AirWrite refl e); same = λ _. refl };
+      shelf = record { rose = λ e. absurd (refused-not why status.Shelf refl e); same = λ _ _. refl };
+      out = λ e. absurd (refused-not why status.Out refl e);
+      session_done = λ _ e. absurd (refused-not why status.Done refl e);
+      done = λ e. absurd (refused-not why status.Done refl e);
+      unshown = λ e. absurd (refused-not why status.Done refl e);
+      shown = λ _. line.shown;
+    })
+
+pub returns-in-Session : goal.returns-in-Session
+returns-in-Session g c =
+    let request = c.in-Session.request in
+    let caller = request.caller in
+    let moment = request.moment in
+    let words = c.args.words.now in
+    let asks = c.in-Session.ensures words c.in-Ok.ensures.asks in
+    let only = c.one_meaning.ensures.only_one words in
+    let determined = c.one_meaning.ensures.determined words in
+    let ran = c.run_session-status in
+    let line = c.show_line-in-Session.ensures in
+    let isnt = session-not g.A.Air.heard g.A.Air.said g.C.Clock.given c.args.air.now ran.new.air c.args.clock.now ran.new.clock request ran.result ran.ensures.ended in
+    record {
+      usage = λ e. absurd (isnt status.Usage refl e);
+      usage_told = λ usage. absurd (only.usage_session usage (caller, moment, asks));
+      unbuilt_words = λ unbuilt. absurd (only.unbuilt_session unbuilt (caller, moment, asks));
+      unread = λ refused. absurd (elim refused [ inl usage ↦ only.usage_session usage (caller, moment, asks) | inr unbuilt ↦ only.unbuilt_session unbuilt (caller, moment, asks) ]);
+      untouched = λ refused. absurd (elim refused [ inl usage ↦ only.usage_session usage (caller, moment, asks) | inr unbuilt ↦ only.unbuilt_session unbuilt (caller, moment, asks) ]);
+      held = λ _. refl;
+      session = session-runs g.A.Air.heard g.A.Air.said g.C.Clock.given c.args.air.now ran.new.air c.args.clock.now ran.new.clock request ran.result ran.ensures.ended words asks determined;
+      session_alone = λ _. refl;
+      clock_unasked = λ given. ran.ensures.clock (asked_moment words caller moment asks determined given);
+      complete = session-complete g.A.Air.heard g.A.Air.said g.C.Clock.given c.args.air.now ran.new.air c.args.clock.now ran.new.clock request ran.result ran.ensures.ended words asks determined c.stream_law.ensures.only;
+      not_built = session-not_built g.A.Air.heard g.A.Air.said g.C.Clock.given c.args.air.now ran.new.air c.args.clock.now ran.new.clock request ran.result ran.ensures.ended words asks determined c.stream_law.ensures.only;
+      spent = session-spent g.A.Air.heard g.A.Air.said g.C.Clock.given c.args.air.now ran.new.air c.args.clock.now ran.new.clock request ran.result ran.ensures.ended words asks determined c.stream_law.ensures.only;
+      files = λ command name is. absurd (session-file words only (caller, moment, asks) (command, name, is));
+      files_alone = λ file. absurd (session-file words only (caller, moment, asks) file);
+      no_such = λ command name shelf is. absurd (session-file words only (caller, moment, asks) (command, name, is));
+      too_long = λ command name shelf is. absurd (session-file words only (caller, moment, asks) (command, name, is));
+      files_done = λ command name shelf is. absurd (session-file words only (caller, moment, asks) (command, name, is));
+      made = λ body name asked is. absurd (session-make words only (caller, moment, asks) (body, name, asked, is));
+      made_alone = λ make. absurd (session-make words only (caller, moment, asks) make);
+      air_read = ran.ensures.air_read;
+      air_write = ran.ensures.air_write;
+      shelf = record { rose = λ e. absurd (isnt status.Shelf refl e); same = λ _ _. refl };
+      out = λ e. absurd (isnt status.Out refl e);
+      session_done =
+          session-done g.A.Air.heard g.A.Air.said g.C.Clock.given c.args.air.now ran.new.air c.args.clock.now ran.new.clock request ran.result ran.ensures.ended words g.A.Air.read_faults g.A.Air.write_faults ran.ensures.air_read ran.ensures.air_write;
+      done = λ e. (refl, ap g.O.Out.faults (line.no_line (ap line_of e)));
+      unshown = λ e _. line.no_line (ap line_of e);
+      shown = λ _. line.shown;
+    }
+
+pub returns-in-File : goal.returns-in-File
+returns-in-File g c =
+    let command = c.in-File.command in
+    let name = c.in-File.name.now in
+    let words = c.args.words.now in
+    let asks = c.in-File.ensures words c.in-Ok.ensures.asks in
+    let only = c.one_meaning.ensures.only_one words in
+    let file : AsksFile words = (command, name, asks) in
+    let one : (other : FileCommand) (another : List ℕ) → AsksText words other another → (command ≡ other) × (name ≡ another) = λ other another too. one-text words only (c.one_meaning.ensures.determined words) command other name another asks too in
+    let ran = c.run_file-status in
+    let line = c.show_line-in-File.ensures in
+    let held = g.S.Shelf.held c.args.shelf.now in
+    let isnt = file-not g.O.Out.shown g.O.Out.faults command held name c.args.out.now ran.new.out ran.result ran.ensures.shown in
+    record {
+      usage = λ e. absurd (isnt status.Usage refl e);
+      usage_told = λ usage. absurd (usage-file words only usage file);
+      unbuilt_words = λ unbuilt. absurd (unbuilt-file words only unbuilt file);
+      unread = λ refused. absurd (elim refused [ inl usage ↦ usage-file words only usage file | inr unbuilt ↦ unbuilt-file words only unbuilt file ]);
+      untouched = λ refused. absurd (elim refused [ inl usage ↦ usage-file words only usage file | inr unbuilt ↦ unbuilt-file words only unbuilt file ]);
+      held = λ _. ran.ensures.held;
+      session = λ request is. absurd (session-file words only (request.caller, request.moment, is) file);
+      session_alone = λ session. absurd (session-file words only session file);
+      clock_unasked = λ _. refl;
+      complete = λ told. absurd (session-file words only (told.caller, told.moment, told.asks) file);
+      not_built = λ told. absurd (session-file words only (told.caller, told.moment, told.asks) file);
+      spent = λ told. absurd (session-file words only (told.caller, told.moment, told.asks) file);
+      files =
+          file-runs g.O.Out.shown g.O.Out.faults command held name c.args.out.now ran.new.out ran.result ran.ensures.shown words one g.S.Shelf.held c.args.shelf.now refl
+          c.show_line-in-File.new.out line.shown line.no_line;
+      files_alone = λ _. (refl, refl);
+      no_such = file-no_such g.O.Out.shown g.O.Out.faults command held name c.args.out.now ran.new.out ran.result ran.ensures.shown words one;
+      too_long = file-too_long g.O.Out.shown g.O.Out.faults command held name c.args.out.now ran.new.out ran.result ran.ensures.shown words one;
+      files_done = file-shown g.O.Out.shown g.O.Out.faults command held name c.args.out.now ran.new.out ran.result ran.ensures.shown words one;
+      made = λ body kept asked is. absurd (file-make words only file (body, kept, asked, is));
+      made_alone = λ make. absurd (file-make words only file make);
+      air_read = record { rose = λ e. absurd (isnt status.AirRead refl e); same = λ _. refl };
+      air_write = record { rose = λ e. absurd (isnt status.AirWrite refl e); same = λ _. refl };
+      shelf = ran.ensures.shelf;
+      out = file-rose g.O.Out.shown g.O.Out.faults command held name c.args.out.now ran.new.out ran.result ran.ensures.shown c.show_line-in-File.new.out line.no_fewer_faults;
+      session_done = λ session. absurd (session-file words only session file);
+      done = λ e. (
+        ran.ensures.shelf.same (λ f. let other = sym e in cc) (λ f. let other = sym e in cc),
+        file-done g.O.Out.shown g.O.Out.faults command held name c.args.out.now ran.new.out ran.result ran.ensures.shown c.show_line-in-File.new.out (λ d. line.no_line (ap line_of d)) e,
+      );
+      unshown = λ _ others. absurd (others file);
+      shown = λ others. absurd (others file);
+    }
+
+pub run_make-status-requires : goal.run_make-status-requires
+run_make-status-requires g c =
+    let asks = c.in-Make.ensures c.args.words.now c.in-Ok.ensures.asks in
+    let P : MakeValue → Type 0 = λ s. spec_refusal s ≡ None in
+    subst P (sym c.header_asked-header.ensures) (asked-made (asked_value c.in-Make.request) asks.text.possible)
+
+pub returns-in-Make : goal.returns-in-Make
+returns-in-Make g c =
+    let request = c.in-Make.request in
+    let body = request.body.now in
+    let kept = request.kept.now in
+    let asked = asked_value request in
+    let words = c.args.words.now in
+    let asks = c.in-Make.ensures words c.in-Ok.ensures.asks in
+    let only = c.one_meaning.ensures.only_one words in
+    let determined = c.one_meaning.ensures.determined words in
+    let make : AsksMake words = (body, kept, asked, asks) in
+    let ran = c.run_make-status in
+    let P : MakeValue → Type 0 = λ s. MakeRan s body kept (g.S.Shelf.held c.args.shelf.now) (g.S.Shelf.held ran.new.shelf) ran.result in
+    let made = subst P c.header_asked-header.ensures ran.ensures.made in
+    let line = c.show_line-in-Make.ensures in
+    let isnt = make-not (header_of asked) body kept (g.S.Shelf.held c.args.shelf.now) (g.S.Shelf.held ran.new.shelf) ran.result made in
+    record {
+      usage = λ e. absurd (isnt status.Usage refl e);
+      usage_told = λ usage. absurd (usage-make words only usage make);
+      unbuilt_words = λ unbuilt. absurd (unbuilt-make words only unbuilt make);
+      unread = λ refused. absurd (elim refused [ inl usage ↦ usage-make words only usage make | inr unbuilt ↦ unbuilt-make words only unbuilt make ]);
+      untouched = λ refused. absurd (elim refused [ inl usage ↦ usage-make words only usage make | inr unbuilt ↦ unbuilt-make words only unbuilt make ]);
+      held = λ others. absurd (others make);
+      session = λ session is. absurd (session-make words only (session.caller, session.moment, is) make);
+      session_alone = λ session. absurd (session-make words only session make);
+      clock_unasked = λ _. refl;
+      complete = λ told. absurd (session-make words only (told.caller, told.moment, told.asks) make);
+      not_built = λ told. absurd (session-make words only (told.caller, told.moment, told.asks) make);
+      spent = λ told. absurd (session-make words only (told.caller, told.moment, told.asks) make);
+      files = λ command name is. absurd (file-make words only (command, name, is) make);
+      files_alone = λ file. absurd (file-make words only file make);
+      no_such = λ command name shelf is. absurd (file-make words only (command, name, is) make);
+      too_long = λ command name shelf is. absurd (file-make words only (command, name, is) make);
+      files_done = λ command name shelf is. absurd (file-make words only (command, name, is) make);
+      made = make-runs words g.S.Shelf.held c.args.shelf.now ran.new.shelf body kept asked ran.result asks determined made;
+      made_alone = λ _. (refl, refl);
+      air_read = record { rose = λ e. absurd (isnt status.AirRead refl e); same = λ _. refl };
+      air_write = record { rose = λ e. absurd (isnt status.AirWrite refl e); same = λ _. refl };
+      shelf = ran.ensures.shelf;
+      out = λ e. absurd (isnt status.Out refl e);
+      session_done = λ session. absurd (session-make words only session make);
+      done = λ e. (
+        ran.ensures.shelf.same (λ f. let other = sym e in cc) (λ f. let other = sym e in cc),
+        ap g.O.Out.faults (line.no_line (ap line_of e)),
+      );
+      unshown = λ e _. line.no_line (ap line_of e);
+      shown = λ _. line.shown;
+    }
