@@ -2,7 +2,7 @@
 
 ghost use Rattle.std.specs.Prelude.{◌≡◌, ℕ, List, [], false, IfOk, IsErrOf, Some, codes, drop, map, option_copied, string_bytes};
 ghost use Rattle.clap.specs.Words.{app_of, kind_of, rule_of};
-ghost use Rattle.command_words.specs.Lines.{FindsLine, FramesLine, RefusesLine, SessionLine, command_of, option_of, place_of};
+ghost use Rattle.command_words.specs.Lines.{FindsLine, FramesLine, IsTaken, RefusesLine, SessionLine, command_of, option_of, place_of};
 ghost use Rattle.command_words.specs.Words.{session_options};
 
 use crate::request::Refusal;
