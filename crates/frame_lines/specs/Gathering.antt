@@ -1,6 +1,8 @@
 -- Lines that are shown together: those that were put, and those that wait.
 use Rattle.std.specs.Prelude.{◌≡◌, ℕ, List, ◌++◌, Option}
 use Rattle.px_base.specs.Outside.{Gains}
+use Rattle.kiss.specs.Hearing.{Hearing, parts_ended}
+use Rattle.kiss.specs.declared.reader.KissFed.{KissFed}
 use Rattle.kiss.specs.declared.whole.Part.{Part}
 use Rattle.frame_lines.specs.FramesText.{LinesOf}
 
@@ -14,6 +16,6 @@ pub record IsGathered (before now : Option (List ℕ)) (waiting text : List ℕ)
 abbrev pub Gathers : List Part → Option (List ℕ) → Option (List ℕ) → List ℕ → List ℕ → Type 0
 Gathers parts before now waited waiting = (lines : List ℕ) × LinesOf parts lines × IsGathered before now waiting (waited ++ lines)
 
--- the same, of what an output shows
-abbrev pub GathersOn : {O : Type 0} → (O → Option (List ℕ)) → O → O → List Part → List ℕ → List ℕ → Type 0
-GathersOn shown old new parts = Gathers parts (shown old) (shown new)
+-- the same of the part that a reader's last octet ended, if it ended one, and of what an output shows
+abbrev pub GathersPart : {O : Type 0} → (O → Option (List ℕ)) → O → O → KissFed → Hearing → List ℕ → List ℕ → Type 0
+GathersPart shown old new fed hearing = Gathers (parts_ended fed hearing) (shown old) (shown new)

@@ -7,7 +7,7 @@ ghost use Rattle.kiss.specs.declared.whole.Part.TheVariants as part;
 ghost use Rattle.kiss.specs.KissText.{kiss_parts};
 ghost use Rattle.kiss.specs.Hearing.{parts_ended};
 ghost use Rattle.frame_lines.specs.FramesText.{FramesText, LineOf, LinesOf};
-ghost use Rattle.frame_lines.specs.Gathering.{GathersOn, IsGathered};
+ghost use Rattle.frame_lines.specs.Gathering.{GathersPart, IsGathered};
 
 use crate::laws::one_text;
 use crate::line::{LINE_ROOM, LINES_ROOM, Lines, line_of_fault, push_frame};
@@ -55,7 +55,7 @@ fn gather<O: Out>(
     out: &mut O,
 ) -> Result<(), OutDown>
     requires { fed ≡ KissFed.Frame → IsSome reader.now.frame }
-    ensures ok { OnOk result (GathersOn O.shown out.old out.new (parts_ended fed reader.now) lines.old.bytes lines.new.bytes) }
+    ensures ok { OnOk result (GathersPart O.shown out.old out.new fed reader.now lines.old.bytes lines.new.bytes) }
     ensures err { OnErr result (GainsPrefix (O.shown out.old) (O.shown out.new) lines.old.bytes) }
     ensures cause { HasCause (O.faults out.old) (O.faults out.new) result }
     ensures untouched { parts_ended fed reader.now ≡ [] → (out.new ≡ out.old) × (lines.new.bytes ≡ lines.old.bytes) }
@@ -76,7 +76,7 @@ fn gather_line<O: Out>(
     out: &mut O,
 ) -> Result<(), OutDown>
     requires { fed ≡ KissFed.Frame → IsSome reader.now.frame }
-    ensures ok { OnOk result (GathersOn O.shown out.old out.new (parts_ended fed reader.now) lines.old.bytes lines.new.bytes) }
+    ensures ok { OnOk result (GathersPart O.shown out.old out.new fed reader.now lines.old.bytes lines.new.bytes) }
     ensures err { OnErr result (GainsPrefix (O.shown out.old) (O.shown out.new) lines.old.bytes) }
     ensures cause { HasCause (O.faults out.old) (O.faults out.new) result }
 {
