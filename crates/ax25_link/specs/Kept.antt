@@ -7,7 +7,7 @@ use Rattle.ax25_frames.specs.FrameText.{FrameValue, canonical}
 use Rattle.ax25_link.specs.declared.state.LinkState.{LinkState}
 use Rattle.ax25_link.specs.declared.state.Heard.{Heard}
 use Rattle.ax25_link.specs.Window.{Window, IsGoodK}
-use Rattle.ax25_link.specs.Ends.{LinkEnd, Reply, Farewell, oldest, high, taken_count}
+use Rattle.ax25_link.specs.Ends.{LinkEnd, Reply, Farewell, IsEnd, oldest, high, taken_count}
 use Rattle.ax25_link.specs.Acknowledging.{is_good, meaning_of}
 use Rattle.ax25_link.specs.Rows.{Outcome, numbered_row, sending_again, supervisory_row, with_busy}
 use Rattle.ax25_link.specs.Timer.{is_up}
@@ -87,6 +87,10 @@ pub record StandsFor (w : Window) (link : Kept) (end : LinkEnd) : Type 0 where
   pub modulus : w.modulus ≡ 8
   pub kept : link ≡ kept_of w end
   pub acked : end.acked ≤ high end
+
+-- whatever end a link stands for, it is one that frames can bring about
+abbrev pub Fits : Kept → Type 0
+Fits link = (w : Window) (end : LinkEnd) → StandsFor w link end → IsEnd w end
 
 -- Whatever end the link stood for, it stands for that end's step now.
 abbrev pub Steps : Kept → Kept → (Window → LinkEnd → LinkEnd) → Type 0

@@ -5,7 +5,7 @@ ghost use Rattle.ax25_frames.specs.Kinds.{FitsControl};
 ghost use Rattle.ax25_frames.specs.Values.{kind_value, value_of};
 ghost use Rattle.ax25_link.specs.Calls.{after_abandon, after_hang_up, after_push, pushed_count};
 ghost use Rattle.ax25_link.specs.Ends.{answering_end, calling_end, free_octets, oldest};
-ghost use Rattle.ax25_link.specs.Kept.{GivesNext, HasStations, IsFromPeer, IsUnchanged, SameStations, StandsFor, Steps, Tells, has_new_in, is_pending, is_there, most_pending, outstanding_in};
+ghost use Rattle.ax25_link.specs.Kept.{Fits, GivesNext, HasStations, IsFromPeer, IsUnchanged, SameStations, StandsFor, Steps, Tells, has_new_in, is_pending, is_there, most_pending, outstanding_in};
 ghost use Rattle.ax25_link.specs.Replies.{reply_value};
 ghost use Rattle.ax25_link.specs.Rows.{after_frame, entering, heard_of};
 ghost use Rattle.ax25_link.specs.Sending.{next_sending};
@@ -249,9 +249,11 @@ impl Link {
     }
 
     /// The state.
+    #[tactic(auto, using(crate::proofs::StandLemmas::fits))]
     pub fn state(&self) -> LinkState
         ensures value { result ≡ self.now.state }
         ensures end { Tells self.now (λ w end. end.state) result }
+        ensures fits { Fits self.now }
     {
         self.state
     }
