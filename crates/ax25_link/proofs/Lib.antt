@@ -1,4 +1,5 @@
 pub mod AirLemmas
+pub mod BoundLemmas
 pub mod DeliveryLemmas
 pub mod DrainsLemmas
 pub mod EndKept
@@ -12,4 +13,5 @@ pub mod Modulus
 pub mod OneMeaning
 pub mod Places
 pub mod QueueLemmas
+pub mod RunLemmas
 pub mod SendLemmas
