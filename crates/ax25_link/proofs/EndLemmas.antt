@@ -38,12 +38,14 @@ pub record Keeps (end after : LinkEnd) : Type 0 where
   pub taken : after.taken ≡ end.taken
   pub reply : after.reply ≡ end.reply
   pub again : after.again ≡ end.again
+  pub busy : after.busy ≡ end.busy
+  pub farewell : after.farewell ≡ end.farewell
 
 pub acknowledging-keeps : (end : LinkEnd) (x : ℕ) → Keeps end (acknowledging end x)
 acknowledging-keeps end x =
     cond_both (nat_lt end.acked x || (x == high end)) _ _ (λ (after : LinkEnd). Keeps end after)
-    (λ e. record { state = refl; pushed = refl; queued = refl; sent = refl; taken = refl; reply = refl; again = refl })
-    (λ e. record { state = refl; pushed = refl; queued = refl; sent = refl; taken = refl; reply = refl; again = refl })
+    (λ e. record { state = refl; pushed = refl; queued = refl; sent = refl; taken = refl; reply = refl; again = refl; busy = refl; farewell = refl })
+    (λ e. record { state = refl; pushed = refl; queued = refl; sent = refl; taken = refl; reply = refl; again = refl; busy = refl; farewell = refl })
 
 pub acknowledging-acked : (end : LinkEnd) (x : ℕ) → end.acked ≤ x → (acknowledging end x).acked ≡ x
 acknowledging-acked end x least =
@@ -83,7 +85,7 @@ applying-Applied end (good x) fits order = acknowledging-Applied end x fits.leas
 applying-Applied end stale fits order = acknowledging-Applied end end.acked (omega arith) order
 applying-Applied end bad fits order =
     record {
-      keeps = record { state = refl; pushed = refl; queued = refl; sent = refl; taken = refl; reply = refl; again = refl };
+      keeps = record { state = refl; pushed = refl; queued = refl; sent = refl; taken = refl; reply = refl; again = refl; busy = refl; farewell = refl };
       least = omega arith;
       most = order;
     }

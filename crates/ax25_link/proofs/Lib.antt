@@ -1,4 +1,5 @@
 pub mod AirLemmas
+pub mod BoundLemmas
 pub mod DeliveryLemmas
 pub mod DrainsLemmas
 pub mod EndKept
@@ -13,5 +14,6 @@ pub mod NoCallLemmas
 pub mod OneMeaning
 pub mod Places
 pub mod QueueLemmas
+pub mod RunLemmas
 pub mod SendLemmas
 pub mod StandLemmas

@@ -164,12 +164,13 @@ pub record HasPiece (old new : LinkEnd) : Type 0 where
   pub again : new.again ≡ old.again
   pub reply : new.reply ≡ old.reply
   pub farewell : new.farewell ≡ old.farewell
+  pub busy : new.busy ≡ old.busy
 
-after_new-HasPiece : (old : LinkEnd) → HasPiece old (after_new old)
+pub after_new-HasPiece : (old : LinkEnd) → HasPiece old (after_new old)
 after_new-HasPiece old =
     cond_both (outstanding old == 0) _ _ (λ (n : LinkEnd). HasPiece old n)
-    (λ e. record { state = refl; pushed = refl; queued = refl; sent = refl; acked = refl; taken = refl; again = refl; reply = refl; farewell = refl })
-    (λ e. record { state = refl; pushed = refl; queued = refl; sent = refl; acked = refl; taken = refl; again = refl; reply = refl; farewell = refl })
+    (λ e. record { state = refl; pushed = refl; queued = refl; sent = refl; acked = refl; taken = refl; again = refl; reply = refl; farewell = refl; busy = refl })
+    (λ e. record { state = refl; pushed = refl; queued = refl; sent = refl; acked = refl; taken = refl; again = refl; reply = refl; farewell = refl; busy = refl })
 
 more_pieces : (pieces : List (List ℕ)) (piece : List ℕ) → MorePieces pieces (pieces ++ piece ∷ [])
 more_pieces pieces piece =

@@ -1,5 +1,5 @@
--- What a link keeps of its end: not what was pushed, sent and taken, but the numbers modulo m, and the octets that are
--- queued or unacknowledged.
+-- What a link keeps of its end: not what was pushed, sent and taken, but the numbers modulo m, and the octets that
+-- are queued or unacknowledged.
 use Rattle.std.specs.Prelude.{◌≡◌, ℕ, ◌+◌, ◌-◌, ◌%◌, ◌<◌, ◌≤◌, List, length, drop, Bool, true, false, not, ◌&&◌, ◌||◌, nat_lt, if◌then◌else◌, Option, None, Some}
 use Rattle.px_base.specs.CallSign.{CallSign}
 use Rattle.ax25_frames.specs.Kinds.{KindValue, FitsControl}
@@ -151,16 +151,16 @@ most_pending link = count_of link.reply + link.again + (link.k - outstanding_in 
 abbrev pub IsUnchanged : Kept → Kept → List ℕ → List ℕ → Type 0
 IsUnchanged before now old new = (now ≡ before) × (new ≡ old)
 
--- The frame is from the peer to this station, without repeaters, and its sequence numbers are below 8, as those of each
--- frame that is read.
+-- The frame is from the peer to this station, without repeaters, and its sequence numbers are below 8, as those of
+-- each frame that is read.
 pub record IsFromPeer (link : Kept) (frame : FrameValue) : Type 0 where
   pub dest : frame.dest ≡ link.me
   pub src : frame.src ≡ link.peer
   pub via : frame.via ≡ 0
   pub numbers : FitsControl frame.kind.control
 
--- What is handed out where this is sent next: nothing, and nothing changes; or the octets of its frame in place of those
--- that the buffer held.
+-- What is handed out where this is sent next: nothing, and nothing changes; or the octets of its frame in place of
+-- those that the buffer held.
 abbrev pub HandsOut : Option Sending → Window → Kept → Kept → List ℕ → List ℕ → Bool → Type 0
 HandsOut None w before now old new answer = (answer ≡ false) × IsUnchanged before now old new
 HandsOut (Some sending) w before now old new answer =

@@ -12,6 +12,7 @@ pub mod Linked
 pub mod Queue
 pub mod Replies
 pub mod Rows
+pub mod Runs
 pub mod Sending
 pub mod Timer
 pub mod Views

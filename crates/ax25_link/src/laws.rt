@@ -1,6 +1,7 @@
 //! Laws of a link, each the contract of a function that does nothing.
 
 ghost use Rattle.ax25_link.specs.Laws.{DrainsLaw, OneMeaningLaw, PrefixLaw};
+ghost use Rattle.ax25_link.specs.Runs.{BoundLaw, RunLaw, WholeRunLaw};
 
 /// Each N(R) has one meaning, and it is the one that is computed (AX.25 2.0, 2.3.2.4, 2.4.4.5).
 pub fn one_meaning()
@@ -18,4 +19,17 @@ pub fn drains()
 /// end, and neither end meets an N(R) of a frame that it never sent.
 pub fn prefix_law()
     ensures { PrefixLaw }
+{}
+
+/// Two stations do whatever they may, in any order, from the answer to a SABM on: what each has accepted is a prefix of what
+/// was pushed at the other.
+pub fn whole_runs()
+    ensures linked { RunLaw }
+    ensures fronts { WholeRunLaw }
+{}
+
+/// The bound of m - 1 - k later frames is exact: for each modulus m and window k there is a run that keeps it, after which
+/// a frame that comes with m - k frames sent after it shows a bad N(R).
+pub fn exact_bound()
+    ensures { BoundLaw }
 {}

@@ -1,5 +1,5 @@
-//! A link between two stations in connected mode (AX.25 2.0, 2.4): frames and ticks go in, frames come out. It knows no
-//! modem and no clock. Numbers of frames are counted modulo 8.
+//! A link between two stations in connected mode (AX.25 2.0, 2.4): frames and ticks go in, frames come out. It
+//! knows no modem and no clock. Numbers of frames are counted modulo 8.
 #![tactic(auto)]
 
 pub mod laws;

@@ -23,9 +23,9 @@ use px_base::{Call, OutOfMemory};
 use std::alloc::Global;
 use std::marker::Model;
 
-/// One end of a link in connected mode (AX.25 2.0, 2.4). After each frame and each tick the frames that are pending are
-/// handed out by `next_out`, and only then it takes the next frame or tick. Contracts see what it keeps; they speak of
-/// the ends that it stands for, which also have all that was pushed, sent and taken.
+/// One end of a link in connected mode (AX.25 2.0, 2.4). After each frame and each tick the frames that are pending
+/// are handed out by `next_out`, and only then it takes the next frame or tick. Contracts see what it keeps; they
+/// speak of the ends that it stands for, which also have all that was pushed, sent and taken.
 #[derive(Drop)]
 pub struct Link {
     /// This station.
@@ -66,8 +66,8 @@ impl Model for Link {
 }
 
 impl Link {
-    /// The end that calls: state Calling, with a SABM with P = 1 pending (2.4.3.1). At most k I frames are outstanding at
-    /// a time; `good_k(k)` holds. Takes memory.
+    /// The end that calls: state Calling, with a SABM with P = 1 pending (2.4.3.1). At most k I frames are
+    /// outstanding at a time; `good_k(k)` holds. Takes memory, and fails only where there is none.
     pub fn call(alloc: Global, me: Call, peer: Call, k: u8) -> Result<Link, OutOfMemory>
         requires { IsGoodK k }
         ensures end { IfOk result (λ link. StandsFor (window_of k) link (calling_end me peer)) }
@@ -92,8 +92,8 @@ impl Link {
         })
     }
 
-    /// The end that answers a SABM with this P bit: state Up, with a UA with F = `poll` pending (2.4.3.1). At most k I
-    /// frames are outstanding at a time; `good_k(k)` holds. Takes memory.
+    /// The end that answers a SABM with this P bit: state Up, with a UA with F = `poll` pending (2.4.3.1). At most
+    /// k I frames are outstanding at a time; `good_k(k)` holds. Takes memory, and fails only where there is none.
     pub fn answer(
         alloc: Global,
         me: Call,
@@ -124,8 +124,9 @@ impl Link {
         })
     }
 
-    /// Takes a frame from the peer to this station, without repeaters, while nothing is pending: the frame's row of the
-    /// table in docs/FORMATS.md. `Bytes` says that the frame's information is next in the stream. Takes no memory.
+    /// Takes a frame for which `is_from_peer` holds, while nothing is pending (2.4.3, 2.4.4): the frame's row of the
+    /// table in docs/FORMATS.md. A frame that the row passes over changes nothing. `Bytes` says that the frame's
+    /// information is next in the stream. Takes no memory.
     pub fn take(&mut self, frame: &Frame<'_>) -> Heard
         requires quiet { is_pending self.old ≡ false }
         requires frame { IsFromPeer self.old (value_of frame.now) }
@@ -141,8 +142,8 @@ impl Link {
         }
     }
 
-    /// Whether a frame is from the peer to this station, without repeaters and with sequence numbers below 8: what `take`
-    /// asks of it.
+    /// Whether a frame is from the peer to this station, without repeaters and with sequence numbers below 8: what
+    /// `take` asks of it.
     pub fn is_from_peer(&self, frame: &Frame<'_>) -> bool
         ensures { IsTrue result ↔ IsFromPeer self.now (value_of frame.now) }
     {
@@ -169,8 +170,8 @@ impl Link {
         self.queue.free()
     }
 
-    /// Replaces `out` by the octets of the next pending frame, which is then sent. It is false, and changes nothing,
-    /// exactly where nothing is pending. Takes no memory.
+    /// Replaces `out` by the octets of the next pending frame, which is then sent. It is false, and changes
+    /// nothing, exactly where nothing is pending. Takes no memory.
     pub fn next_out(&mut self, out: &mut ArrayVec<u8, 400>) -> bool
         ensures pending { result ≡ is_pending self.old }
         ensures none { result ≡ false → IsUnchanged self.old self.new out.old.items out.new.items }
@@ -200,8 +201,8 @@ impl Link {
         self.reply.is_some() || self.again > 0 || self.has_new() || self.farewell.is_some()
     }
 
-    /// Counts a tick while nothing is pending (2.4.7.1). It is `NoAnswer`, and the link down, exactly where the timer runs
-    /// out for the eleventh time in a row. Takes no memory.
+    /// Counts a tick while nothing is pending (2.4.7.1). It is `NoAnswer`, and the link down, exactly where the
+    /// timer runs out for the eleventh time in a row. Takes no memory.
     pub fn tick(&mut self) -> Option<Why>
         requires { is_pending self.old ≡ false }
         ensures after { Steps self.old self.new (λ w end. after_tick end) }
@@ -226,8 +227,8 @@ impl Link {
         }
     }
 
-    /// Ends the link, in state Up: the octets that weren't sent are dropped, the state is Ending, and a DISC with P = 1 is
-    /// pending (2.4.3.3). Takes no memory.
+    /// Ends the link, in state Up: the octets that weren't sent are dropped, the state is Ending, and a DISC with
+    /// P = 1 is pending (2.4.3.3). Takes no memory.
     pub fn hang_up(&mut self)
         requires { self.old.state ≡ LinkState.Up }
         ensures after { Steps self.old self.new (λ w end. after_hang_up end) }
@@ -238,7 +239,8 @@ impl Link {
         self.farewell = Some(Farewell::Disconnect);
     }
 
-    /// Gives the link up, in state Up: the state is Down, and a DM with F = 0 is pending (2.3.4.3.5). Takes no memory.
+    /// Gives the link up, in state Up: the state is Down, and a DM with F = 0 is pending (2.3.4.3.5). Takes no
+    /// memory.
     pub fn abandon(&mut self)
         requires { self.old.state ≡ LinkState.Up }
         ensures after { Steps self.old self.new (λ w end. after_abandon end) }
@@ -299,8 +301,8 @@ impl Link {
         }
     }
 
-    /// Whether a new I frame is to be sent: the link is up, the peer isn't busy, the window has room, and there are octets
-    /// that weren't sent (2.4.4.1).
+    /// Whether a new I frame is to be sent: the link is up, the peer isn't busy, the window has room, and there are
+    /// octets that weren't sent (2.4.4.1).
     fn has_new(&self) -> bool
         ensures { result ≡ has_new_in self.now }
     {

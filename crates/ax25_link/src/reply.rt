@@ -1,4 +1,5 @@
-//! The frames that are pending beside I frames: replies, the timer's frames, and the last frame of an end that hangs up.
+//! The frames that are pending beside I frames: replies, the timer's frames, and the last frame of an end that
+//! hangs up.
 
 ghost use Rattle.std.specs.Prelude.{◌≡◌, ◌+◌, ◌*◌, ◌<◌, [], ◌∷◌};
 ghost use Rattle.std.specs.Option.{option_map};
@@ -68,8 +69,8 @@ pub(crate) fn without_information(reply: Option<Reply>) -> Option<Reply>
 /// The third octet of FRMR where N(R) is bad: bit Z (2.3.4.3.3).
 const BAD_NR: u8 = 0x08;
 
-/// The information of the FRMR that refuses a frame for its N(R): its control octet, V(S), whether it was a response,
-/// V(R), and why (2.3.4.3.3).
+/// The information of the FRMR that refuses a frame for its N(R): its control octet, V(S), whether it was a
+/// response, V(R), and why (2.3.4.3.3).
 pub(crate) fn reject_octets(control: u8, sent: u8, response: bool, taken: u8) -> [u8; 3]
     requires sent { sent < 8 }
     requires taken { taken < 8 }

@@ -20,9 +20,9 @@ const MOST_INFORMATION: usize = 256;
 /// How many frames may be outstanding at most.
 const MOST_PIECES: usize = 7;
 
-/// The octets that were pushed and aren't acknowledged: those of the outstanding I frames, the oldest first, and then
-/// those that weren't sent. Each outstanding frame has a piece of them. Contracts see the pieces and the octets that
-/// weren't sent.
+/// The octets that were pushed and aren't acknowledged: those of the outstanding I frames, the oldest first, and
+/// then those that weren't sent. Each outstanding frame has a piece of them. Contracts see the pieces and the
+/// octets that weren't sent.
 #[derive(Drop)]
 pub(crate) struct SendQueue {
     octets: HeapCircularBuffer<u8>,

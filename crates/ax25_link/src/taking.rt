@@ -101,8 +101,8 @@ impl Link {
         }
     }
 
-    /// An S frame in state Up, with this control octet where its P/F bit is 0. It says whether the peer is busy, and
-    /// whether all outstanding frames are to be sent again (2.4.4.5 to 2.4.4.9).
+    /// An S frame in state Up, with this control octet where its P/F bit is 0. It says whether the peer is busy,
+    /// and whether all outstanding frames are to be sent again (2.4.4.5 to 2.4.4.9).
     fn take_supervisory(
         &mut self,
         frame: &Frame<'_>,

@@ -1,4 +1,5 @@
-//! The timer of a link: ticks since it was set, and tries since the peer last answered (AX.25 2.0, 2.4.7.1, 2.4.7.2).
+//! The timer of a link: ticks since it was set, and tries since the peer last answered (AX.25 2.0, 2.4.7.1,
+//! 2.4.7.2).
 
 ghost use Rattle.std.specs.Prelude.{◌≡◌, ◌+◌, ◌<◌, ◌≤◌};
 ghost use Rattle.ax25_link.specs.Counting.{HasTicked};
