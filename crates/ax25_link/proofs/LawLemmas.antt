@@ -7,7 +7,7 @@ use Rattle.std.proofs.lemmas.List.Folds.{concat-append}
 use Rattle.ax25_frames.specs.FrameText.{FrameValue}
 use Rattle.ax25_link.specs.declared.state.LinkState.TheVariants.{Calling, Up}
 use Rattle.ax25_link.specs.Window.{Window}
-use Rattle.ax25_link.specs.Ends.{LinkEnd, taken_count, high}
+use Rattle.ax25_link.specs.Ends.{LinkEnd, taken_count}
 use Rattle.ax25_link.specs.Acknowledging.{is_bad}
 use Rattle.ax25_link.specs.Rows.{is_call}
 use Rattle.ax25_link.specs.Calls.{Doing, after_doing, DoesAll}
@@ -17,7 +17,7 @@ use Rattle.ax25_link.specs.Linked.{Station, AreLinked, PiecesFit, ShownFit, IsIn
 use Rattle.ax25_link.specs.LinkStep.{frame}
 use Rattle.ax25_link.specs.LinkStep.{tick as ticks}
 use Rattle.ax25_link.specs.Acts.{hear, tick, does, send, acting, facing}
-use Rattle.ax25_link.specs.Laws.{IsOpening, OpeningLaw, KeptLaw, SentLaw, HeardLaw, TickedLaw, TurnedLaw, FrontLaw, NoBadLaw, PrefixLaw, HasNoCall, having_sent, DeliveredLaw, AreAnswers, AnsweredLaw}
+use Rattle.ax25_link.specs.Laws.{IsOpening, OpeningLaw, KeptLaw, SentLaw, HeardLaw, TickedLaw, TurnedLaw, FrontLaw, NoBadLaw, PrefixLaw, HasNoCall, having_sent, DeliveredLaw, AnsweredLaw}
 use Rattle.ax25_link.proofs.AirLemmas.{information_numbered, updated, PiecesFit-deliver, ShownFit-deliver, IsOpened-deliver, PiecesFit-send, ShownFit-send, IsOpened-send}
 use Rattle.ax25_link.proofs.EndKept.{answering_end-IsEnd}
 use Rattle.ax25_link.proofs.SendLemmas.{same_pieces}

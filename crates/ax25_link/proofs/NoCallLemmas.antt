@@ -12,13 +12,13 @@ use Rattle.ax25_link.specs.Window.{Window}
 use Rattle.ax25_link.specs.Ends.{LinkEnd, Reply, Farewell, outstanding, ready, reject, accept, refuse, refuse_frame, call, disconnect, enquire, oldest, goodbye, gone}
 use Rattle.ax25_link.specs.Acknowledging.{Meaning, good, stale, bad, meaning_of, applying, is_good, is_bad}
 use Rattle.ax25_link.specs.Frames.{receive_number, frame_of_reply}
-use Rattle.ax25_link.specs.Rows.{Outcome, unless_oldest, replying, entering, information_row, supervisory_row, with_busy, sending_again, numbered_row, up_row, calling_row, ending_row, down_row, row_of_state, is_call, after_frame}
-use Rattle.ax25_link.specs.Timer.{is_down, runs_out, is_spent, asking, timer_reply, trying, after_tick}
+use Rattle.ax25_link.specs.Rows.{Outcome, unless_oldest, information_row, supervisory_row, with_busy, sending_again, numbered_row, up_row, calling_row, ending_row, down_row, row_of_state, is_call}
+use Rattle.ax25_link.specs.Timer.{is_down, runs_out, is_spent, asking, timer_reply, after_tick}
 use Rattle.ax25_link.specs.Calls.{Doing, push, hang_up, abandon, after_doing, DoesAll}
-use Rattle.ax25_link.specs.Sending.{Sending, next_sending, sending_after, later_sending, last_sending, sends_again, sends_new, has_new, after_new, Drains}
-use Rattle.ax25_link.specs.LinkStep.{LinkStep, Coming, frame, tick, after_coming}
+use Rattle.ax25_link.specs.Sending.{Sending, sending_after, later_sending, last_sending, sends_again, sends_new, has_new, Drains}
+use Rattle.ax25_link.specs.LinkStep.{Coming, frame, tick, after_coming}
 use Rattle.ax25_link.specs.Laws.{HasNoCall, NoCallLaw}
-use Rattle.ax25_link.proofs.EndLemmas.{Quiet, quiet, acknowledging-keeps}
+use Rattle.ax25_link.proofs.EndLemmas.{quiet, acknowledging-keeps}
 
 -- no SABM is to be sent first
 abbrev pub CallsNot : LinkEnd → Type 0

@@ -1,8 +1,7 @@
 -- What holds of each end that a link stands for.
-use Rattle.std.proofs.Common.{◌≡◌, ℕ, ◌-◌, List, length, Some, ap, ◌∙◌, length-drop, arith}
-use Rattle.ax25_link.specs.Window.{Window}
-use Rattle.ax25_link.specs.Ends.{LinkEnd, IsEnd, oldest, high}
-use Rattle.ax25_link.specs.Kept.{Kept, IsKept, StandsFor, Fits}
+use Rattle.std.proofs.Common.{◌≡◌, ◌-◌, length, ap, ◌∙◌, length-drop, arith}
+use Rattle.ax25_link.specs.Ends.{high}
+use Rattle.ax25_link.specs.Kept.{Kept, IsKept, Fits}
 
 pub fits : (link : Kept) → IsKept link → Fits link
 fits link kept w end s =
