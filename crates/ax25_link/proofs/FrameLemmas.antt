@@ -4,7 +4,8 @@ use Rattle.std.specs.Prelude.{Option, slice_get, unwrap_or}
 use Rattle.std.proofs.lemmas.List.{get_or_push}
 use Rattle.std.proofs.lemmas.Option.{unwrap_or-slice_get}
 use Rattle.ax25_frames.specs.declared.control.Control.TheVariants as control
-use Rattle.ax25_frames.specs.FrameText.{FrameValue, canonical}
+use Rattle.px_base.specs.Octets.{IsOctets}
+use Rattle.ax25_frames.specs.FrameText.{FrameValue, FrameText, FreeBits, canonical, frame_octets}
 use Rattle.ax25_link.specs.Window.{Window}
 use Rattle.ax25_link.specs.Ends.{LinkEnd, high, outstanding}
 use Rattle.ax25_link.specs.Frames.{information_of, information_again, no_protocol, piece_at}
@@ -21,6 +22,43 @@ numbered link ns nr piece poll =
 pub canonical-append : (link : Kept) (ns nr : ℕ) (piece : List ℕ) (poll : Bool)
     → canonical (numbered link ns nr [] poll) ++ piece ≡ canonical (numbered link ns nr piece poll)
 canonical-append link ns nr piece poll = simp append_assoc
+
+-- the text of a frame, however that frame is given
+pub text-same : (f g : FrameValue) (octets : List ℕ) → f ≡ g → FrameText f octets → FrameText g octets
+text-same f g octets same t = subst (λ (x : FrameValue). FrameText x octets) same t
+
+octets-append : (link : Kept) (ns nr : ℕ) (piece : List ℕ) (poll : Bool) (free : FreeBits)
+    → frame_octets (numbered link ns nr [] poll) free ++ piece ≡ frame_octets (numbered link ns nr piece poll) free
+octets-append link ns nr piece poll free = simp append_assoc
+
+-- the text of an I frame without information becomes that of one with it
+pub text-append : (link : Kept) (ns nr : ℕ) (piece octets more : List ℕ) (poll : Bool)
+    → FrameText (numbered link ns nr [] poll) octets → more ≡ octets ++ piece → IsOctets piece → length piece ≤ 256
+    → FrameText (numbered link ns nr piece poll) more
+text-append link ns nr piece octets more poll t is_more range most =
+    record {
+      fits = record {
+        dest = t.fits.dest;
+        src = t.fits.src;
+        via = t.fits.via;
+        kind = record {
+          control = t.fits.kind.control;
+          pid = t.fits.kind.pid;
+          octets = range;
+          count = t.fits.kind.count;
+          least = omega arith;
+          most = most;
+        };
+      };
+      free = t.free;
+      fits_free = record {
+        dest_reserved = t.fits_free.dest_reserved;
+        src_reserved = t.fits_free.src_reserved;
+        repeaters = t.fits_free.repeaters;
+        via = t.fits_free.via;
+      };
+      text = is_more ∙ ap (λ (xs : List ℕ). xs ++ piece) t.text ∙ octets-append link ns nr piece poll t.free;
+    }
 
 -- an element of what is left of a list
 slice_get-drop : (n : ℕ) (pieces : List (List ℕ)) (place : ℕ) → slice_get (drop n pieces) place ≡ slice_get pieces (n + place)

@@ -12,14 +12,18 @@ use Rattle.ax25_link.specs.Acknowledging.{is_bad}
 use Rattle.ax25_link.specs.Rows.{is_call}
 use Rattle.ax25_link.specs.Calls.{Doing, after_doing, DoesAll}
 use Rattle.ax25_link.specs.Sending.{Drains}
-use Rattle.ax25_link.specs.Air.{Transmission, fresh, control_of}
-use Rattle.ax25_link.specs.Linked.{Station, AreLinked, PiecesFit, ShownFit, IsInformationAt, IsNumberedAt}
+use Rattle.ax25_link.specs.Air.{Transmission, fresh, control_of, is_numbered}
+use Rattle.ax25_link.specs.Linked.{Station, AreLinked, PiecesFit, ShownFit, IsInformationAt, IsNumberedAt, owed}
+use Rattle.ax25_link.specs.LinkStep.{frame}
+use Rattle.ax25_link.specs.LinkStep.{tick as ticks}
 use Rattle.ax25_link.specs.Acts.{hear, tick, does, send, acting, facing}
-use Rattle.ax25_link.specs.Laws.{IsOpening, OpeningLaw, KeptLaw, SentLaw, HeardLaw, TickedLaw, TurnedLaw, FrontLaw, NoBadLaw, PrefixLaw, HasNoCall, having_sent}
-use Rattle.ax25_link.proofs.AirLemmas.{information_numbered}
+use Rattle.ax25_link.specs.Laws.{IsOpening, OpeningLaw, KeptLaw, SentLaw, HeardLaw, TickedLaw, TurnedLaw, FrontLaw, NoBadLaw, PrefixLaw, HasNoCall, having_sent, DeliveredLaw, AnsweredLaw}
+use Rattle.ax25_link.proofs.AirLemmas.{information_numbered, updated, PiecesFit-deliver, ShownFit-deliver, IsOpened-deliver, PiecesFit-send, ShownFit-send, IsOpened-send}
 use Rattle.ax25_link.proofs.EndKept.{answering_end-IsEnd}
+use Rattle.ax25_link.proofs.SendLemmas.{same_pieces}
 use Rattle.ax25_link.proofs.LinkedLemmas.{station, quiet-owed, kept-steady, does-Steady, tick-Steady, kept-send}
 use Rattle.ax25_link.proofs.DeliveryLemmas.{reads, kept-hear}
+use Rattle.ax25_link.proofs.NoCallLemmas.{no_call}
 
 turned : TurnedLaw
 turned w one other h =
@@ -95,14 +99,92 @@ sent w one other doings frames end last window h d drained none =
     drains_all w (station end one.transmissions) other frames last (does_all w one other doings end h d) drained none
 
 heard : HeardLaw
-heard w one other place t told doings frames last window h other_q lawful step none =
+heard w one other place t told doings frames last window h other_q lawful step =
     sent w (acting w one (hear place t)) (facing other (hear place t)) doings frames step.end last window
-    (kept-hear w one other place t window h step.quiet other_q lawful) step.does step.drains none
+    (kept-hear w one other place t window h step.quiet other_q lawful) step.does step.drains
+    (no_call.step w one.end last (frame t.frame) told doings frames step (λ (e : frame t.frame ≡ ticks). absurd (let x : ⊥ = cc in x)))
 
 ticked : TickedLaw
 ticked w one other told doings frames last window h step none =
     sent w (acting w one tick) other doings frames step.end last window
     (kept-steady w one other _ h (tick-Steady w one.end h.one_end step.quiet)) step.does step.drains none
+
+-- a transmission is noted as delivered, and nothing else changes
+delivered : DeliveredLaw
+delivered w one other place t window h at =
+    let there = h.one_numbers in
+    let back = h.other_numbers in
+    record {
+      one_end = h.one_end;
+      other_end = h.other_end;
+      one_numbers = record { acked = there.acked; taken = there.taken; window = there.window; pieces = there.pieces; shown = there.shown };
+      other_numbers = record {
+        acked = back.acked;
+        taken = back.taken;
+        window = back.window;
+        pieces = (
+          back.pieces.0,
+          PiecesFit-deliver w other.end.sent (taken_count one.end) (taken_count one.end) other.transmissions back.pieces.0 place t window.some at
+              (inl refl) back.pieces.1,
+        );
+        shown = (
+          back.shown.0,
+          ShownFit-deliver w (taken_count other.end) (owed other.end) one.end.acked one.end.acked other.transmissions back.shown.0 place t at
+              (inl refl) back.shown.1,
+        );
+      };
+      one_octets = h.one_octets;
+      other_octets = h.other_octets;
+      one_calling = h.one_calling;
+      other_calling = h.other_calling;
+      one_opened = h.one_opened;
+      other_opened = IsOpened-deliver other.transmissions place t at h.other_opened;
+    }
+
+-- one frame without numbers is sent, and the end stays
+answers_one : (w : Window) (one other : Station) (f : FrameValue) → AreLinked w one other → is_numbered f.kind.control ≡ false
+    → is_call f.kind.control ≡ false → AreLinked w (station one.end (one.transmissions ++ fresh f ∷ [])) other
+answers_one w one other f h none calls =
+    let there = h.one_numbers in
+    let back = h.other_numbers in
+    let list = one.transmissions in
+    let end = one.end in
+    record {
+      one_end = h.one_end;
+      other_end = h.other_end;
+      one_numbers = record {
+        acked = there.acked;
+        taken = there.taken;
+        window = there.window;
+        pieces = (
+          updated there.pieces.0 (length list) 0,
+          PiecesFit-send w end.sent end.sent (taken_count other.end) list there.pieces.0 f 0 (same_pieces end.sent)
+              (λ kind. absurd (true≢false (sym (information_numbered f.kind.control kind) ∙ none))) there.pieces.1,
+        );
+        shown = (
+          updated there.shown.0 (length list) (taken_count end),
+          ShownFit-send w (taken_count end) (owed end) (owed end) other.end.acked list there.shown.0 f
+              (λ kind. absurd (true≢false (sym kind ∙ none))) (omega arith) back.acked there.shown.1,
+        );
+      };
+      other_numbers = record { acked = back.acked; taken = back.taken; window = back.window; pieces = back.pieces; shown = back.shown };
+      one_octets = h.one_octets;
+      other_octets = h.other_octets;
+      one_calling = h.one_calling;
+      other_calling = h.other_calling;
+      one_opened = IsOpened-send list f calls h.one_opened;
+      other_opened = h.other_opened;
+    }
+
+answered : AnsweredLaw
+answered w one other [] h all =
+    subst (λ (l : List Transmission). AreLinked w (station one.end l) other) (sym (append-nil one.transmissions)) h
+answered w one other (f ∷ frames) h all =
+    let list = one.transmissions in
+    let next = answers_one w one other f h all.0 all.1 in
+    subst (λ (l : List Transmission). AreLinked w (station one.end l) other)
+    (append_assoc list (fresh f ∷ []) (map fresh frames))
+    (answered w (station one.end (list ++ fresh f ∷ [])) other frames next all.2)
 
 -- a list without I and S frames
 no_information : (list : List Transmission) → IsOpening list → (place : ℕ) (t : Transmission) → IsInformationAt list place t → ⊥
@@ -179,6 +261,9 @@ prefix_law =
       sent = sent;
       heard = heard;
       ticked = ticked;
+      no_call = no_call;
+      delivered = delivered;
+      answered = answered;
       turned = turned;
       front = front;
       no_bad = no_bad;

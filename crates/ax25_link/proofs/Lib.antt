@@ -10,8 +10,10 @@ pub mod LawLemmas
 pub mod LinkedLemmas
 pub mod MeaningLemmas
 pub mod Modulus
+pub mod NoCallLemmas
 pub mod OneMeaning
 pub mod Places
 pub mod QueueLemmas
 pub mod RunLemmas
 pub mod SendLemmas
+pub mod StandLemmas

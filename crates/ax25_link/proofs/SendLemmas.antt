@@ -63,7 +63,7 @@ pub record Sends (w : Window) (old : LinkEnd) (frame : FrameValue) (new : LinkEn
   pub calling : IsUnpushed old → IsUnpushed new
   pub less : left_to_send new < left_to_send old
 
-same_pieces : (pieces : List (List ℕ)) → MorePieces pieces pieces
+pub same_pieces : (pieces : List (List ℕ)) → MorePieces pieces pieces
 same_pieces pieces = record { keeps = λ place x h. h; least = omega arith; most = omega arith; front = λ n h. refl }
 
 pub owed_most : (reply : Option Reply) → owed_for reply ≤ 1

@@ -3,11 +3,11 @@
 use Rattle.std.specs.Prelude.{◌≡◌, ℕ, ◌+◌, ◌-◌, ◌%◌, ◌<◌, ◌≤◌, List, length, drop, Bool, true, false, not, ◌&&◌, ◌||◌, nat_lt, if◌then◌else◌, Option, None, Some}
 use Rattle.px_base.specs.CallSign.{CallSign}
 use Rattle.ax25_frames.specs.Kinds.{KindValue, FitsControl}
-use Rattle.ax25_frames.specs.FrameText.{FrameValue, canonical}
+use Rattle.ax25_frames.specs.FrameText.{FrameValue, FrameText, canonical}
 use Rattle.ax25_link.specs.declared.state.LinkState.{LinkState}
 use Rattle.ax25_link.specs.declared.state.Heard.{Heard}
 use Rattle.ax25_link.specs.Window.{Window, IsGoodK}
-use Rattle.ax25_link.specs.Ends.{LinkEnd, Reply, Farewell, oldest, high, taken_count}
+use Rattle.ax25_link.specs.Ends.{LinkEnd, Reply, Farewell, IsEnd, oldest, high, taken_count}
 use Rattle.ax25_link.specs.Acknowledging.{is_good, meaning_of}
 use Rattle.ax25_link.specs.Rows.{Outcome, numbered_row, sending_again, supervisory_row, with_busy}
 use Rattle.ax25_link.specs.Timer.{is_up}
@@ -88,6 +88,10 @@ pub record StandsFor (w : Window) (link : Kept) (end : LinkEnd) : Type 0 where
   pub kept : link ≡ kept_of w end
   pub acked : end.acked ≤ high end
 
+-- whatever end a link stands for, it is one that frames can bring about
+abbrev pub Fits : Kept → Type 0
+Fits link = (w : Window) (end : LinkEnd) → StandsFor w link end → IsEnd w end
+
 -- Whatever end the link stood for, it stands for that end's step now.
 abbrev pub Steps : Kept → Kept → (Window → LinkEnd → LinkEnd) → Type 0
 Steps before now step = (w : Window) (end : LinkEnd) → StandsFor w before end → StandsFor w now (step w end)
@@ -99,6 +103,10 @@ Tells before told answer = (w : Window) (end : LinkEnd) → StandsFor w before e
 -- whatever end the link stood for, these are the octets of this frame
 abbrev pub Writes : Kept → (Window → LinkEnd → FrameValue) → List ℕ → Type 0
 Writes link frame octets = Tells link (λ w end. canonical (frame w end)) octets
+
+-- whatever end the link stood for, these octets are read as this frame of it
+abbrev pub Reads : Kept → (Window → LinkEnd → FrameValue) → List ℕ → Type 0
+Reads link frame octets = (w : Window) (end : LinkEnd) → StandsFor w link end → FrameText (frame w end) octets
 
 -- Whatever end the link stood for, it stands for the end of this outcome now, and what is told is the outcome's.
 pub record Takes (before now : Kept) (row : Window → LinkEnd → Outcome) (answer : Heard) : Type 0 where
@@ -156,7 +164,7 @@ pub record IsFromPeer (link : Kept) (frame : FrameValue) : Type 0 where
 abbrev pub HandsOut : Option Sending → Window → Kept → Kept → List ℕ → List ℕ → Bool → Type 0
 HandsOut None w before now old new answer = (answer ≡ false) × IsUnchanged before now old new
 HandsOut (Some sending) w before now old new answer =
-    (answer ≡ true) × StandsFor w now sending.after × (new ≡ canonical sending.frame)
+    (answer ≡ true) × StandsFor w now sending.after × (new ≡ canonical sending.frame) × FrameText sending.frame new
 
 -- the same of whatever end the link stood for
 abbrev pub GivesNext : Kept → Kept → List ℕ → List ℕ → Bool → Type 0

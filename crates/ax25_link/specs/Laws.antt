@@ -5,13 +5,14 @@ use Rattle.px_base.specs.CallSign.{CallSign}
 use Rattle.px_base.specs.Octets.{IsFront}
 use Rattle.ax25_frames.specs.FrameText.{FrameValue}
 use Rattle.ax25_link.specs.Window.{Window, IsWindow}
-use Rattle.ax25_link.specs.Ends.{LinkEnd, IsEnd, oldest, answering_end}
+use Rattle.ax25_link.specs.declared.state.LinkState.TheVariants.{Calling}
+use Rattle.ax25_link.specs.Ends.{LinkEnd, IsEnd, call, oldest, answering_end}
 use Rattle.ax25_link.specs.Acknowledging.{Meaning, HasMeaning, meaning_of, is_bad}
 use Rattle.ax25_link.specs.declared.state.Heard.{Heard}
 use Rattle.ax25_link.specs.Rows.{is_call}
 use Rattle.ax25_link.specs.Calls.{Doing, DoesAll}
 use Rattle.ax25_link.specs.Sending.{IsQuiet, Drains}
-use Rattle.ax25_link.specs.LinkStep.{LinkStep, frame, tick}
+use Rattle.ax25_link.specs.LinkStep.{LinkStep, Coming, frame, tick}
 use Rattle.ax25_link.specs.Air.{Transmission, IsAt, IsLawful, control_of, is_numbered, sending_all}
 use Rattle.ax25_link.specs.Linked.{Station, AreLinked, IsOpened, ack_number}
 use Rattle.ax25_link.specs.Acts.{Act, hear, MayAct, acting, facing}
@@ -65,6 +66,16 @@ abbrev pub HasNoCall : List FrameValue → Type 0
 HasNoCall [] = ⊤
 HasNoCall (f ∷ frames) = (is_call f.kind.control ≡ false) × HasNoCall frames
 
+-- Only an end that is calling sends a SABM, at a tick: what an end sends else belongs to the attempt. `step` is a whole
+-- step; `sent` is what is sent where none came, as by an end that answers.
+pub record NoCallLaw : Type 0 where
+  pub step :
+      (w : Window) (old new : LinkEnd) (coming : Coming) (heard : Heard) (doings : List Doing) (frames : List FrameValue)
+      → LinkStep w old coming heard doings frames new → (coming ≡ tick → old.state ≡ Calling → ⊥) → HasNoCall frames
+  pub sent :
+      (w : Window) (end next last : LinkEnd) (doings : List Doing) (frames : List FrameValue)
+      → (end.reply ≡ Some call → ⊥) → DoesAll end doings next → Drains w next frames last → HasNoCall frames
+
 -- the station with this end, after it sent these frames
 abbrev pub having_sent : Station → LinkEnd → List FrameValue → Station
 having_sent station end frames = record { end = end; transmissions = sending_all station.transmissions frames }
@@ -83,7 +94,7 @@ HeardLaw =
     (w : Window) (one other : Station) (place : ℕ) (t : Transmission) (heard : Heard) (doings : List Doing)
     (frames : List FrameValue) (last : LinkEnd)
     → IsWindow w → AreLinked w one other → IsQuiet w other.end → IsLawful w other.transmissions place t
-    → LinkStep w one.end (frame t.frame) heard doings frames last → HasNoCall frames
+    → LinkStep w one.end (frame t.frame) heard doings frames last
     → AreLinked w (having_sent one last frames) (facing other (hear place t))
 
 abbrev pub TickedLaw : Type 0
@@ -91,6 +102,26 @@ TickedLaw =
     (w : Window) (one other : Station) (heard : Heard) (doings : List Doing) (frames : List FrameValue) (last : LinkEnd)
     → IsWindow w → AreLinked w one other → LinkStep w one.end tick heard doings frames last → HasNoCall frames
     → AreLinked w (having_sent one last frames) other
+
+-- A transmission is delivered to a station whose end is gone, as it was last: only that it was delivered is noted. The
+-- delivery need not be lawful.
+abbrev pub DeliveredLaw : Type 0
+DeliveredLaw =
+    (w : Window) (one other : Station) (place : ℕ) (t : Transmission)
+    → IsWindow w → AreLinked w one other → IsAt other.transmissions place t
+    → AreLinked w one (facing other (hear place t))
+
+-- no I or S frame and no SABM is among the frames
+abbrev pub AreAnswers : List FrameValue → Type 0
+AreAnswers [] = ⊤
+AreAnswers (f ∷ frames) =
+    (is_numbered f.kind.control ≡ false) × (is_call f.kind.control ≡ false) × AreAnswers frames
+
+-- A station whose end is gone, as it was last, sends frames without numbers, as the DM that answers a command.
+abbrev pub AnsweredLaw : Type 0
+AnsweredLaw =
+    (w : Window) (one other : Station) (frames : List FrameValue)
+    → AreLinked w one other → AreAnswers frames → AreLinked w (having_sent one one.end frames) other
 
 -- which of the two stations is which doesn't matter
 abbrev pub TurnedLaw : Type 0
@@ -115,6 +146,9 @@ pub record PrefixLaw : Type 0 where
   pub sent : SentLaw
   pub heard : HeardLaw
   pub ticked : TickedLaw
+  pub no_call : NoCallLaw
+  pub delivered : DeliveredLaw
+  pub answered : AnsweredLaw
   pub turned : TurnedLaw
   pub front : FrontLaw
   pub no_bad : NoBadLaw

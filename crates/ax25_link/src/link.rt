@@ -5,7 +5,7 @@ ghost use Rattle.ax25_frames.specs.Kinds.{FitsControl};
 ghost use Rattle.ax25_frames.specs.Values.{kind_value, value_of};
 ghost use Rattle.ax25_link.specs.Calls.{after_abandon, after_hang_up, after_push, pushed_count};
 ghost use Rattle.ax25_link.specs.Ends.{answering_end, calling_end, free_octets, oldest};
-ghost use Rattle.ax25_link.specs.Kept.{GivesNext, HasStations, IsFromPeer, IsUnchanged, SameStations, StandsFor, Steps, Tells, has_new_in, is_pending, is_there, most_pending, outstanding_in};
+ghost use Rattle.ax25_link.specs.Kept.{Fits, GivesNext, HasStations, IsFromPeer, IsUnchanged, SameStations, StandsFor, Steps, Tells, has_new_in, is_pending, is_there, most_pending, outstanding_in};
 ghost use Rattle.ax25_link.specs.Replies.{reply_value};
 ghost use Rattle.ax25_link.specs.Rows.{after_frame, entering, heard_of};
 ghost use Rattle.ax25_link.specs.Sending.{next_sending};
@@ -67,7 +67,7 @@ impl Model for Link {
 
 impl Link {
     /// The end that calls: state Calling, with a SABM with P = 1 pending (2.4.3.1). At most k I frames are
-    /// outstanding at a time; `good_k(k)` holds. Takes memory.
+    /// outstanding at a time; `good_k(k)` holds. Takes memory, and fails only where there is none.
     pub fn call(alloc: Global, me: Call, peer: Call, k: u8) -> Result<Link, OutOfMemory>
         requires { IsGoodK k }
         ensures end { IfOk result (λ link. StandsFor (window_of k) link (calling_end me peer)) }
@@ -93,7 +93,7 @@ impl Link {
     }
 
     /// The end that answers a SABM with this P bit: state Up, with a UA with F = `poll` pending (2.4.3.1). At most
-    /// k I frames are outstanding at a time; `good_k(k)` holds. Takes memory.
+    /// k I frames are outstanding at a time; `good_k(k)` holds. Takes memory, and fails only where there is none.
     pub fn answer(
         alloc: Global,
         me: Call,
@@ -124,9 +124,9 @@ impl Link {
         })
     }
 
-    /// Takes a frame from the peer to this station, without repeaters, while nothing is pending: the frame's row of
-    /// the table in docs/FORMATS.md. `Bytes` says that the frame's information is next in the stream. Takes no
-    /// memory.
+    /// Takes a frame for which `is_from_peer` holds, while nothing is pending (2.4.3, 2.4.4): the frame's row of the
+    /// table in docs/FORMATS.md. A frame that the row passes over changes nothing. `Bytes` says that the frame's
+    /// information is next in the stream. Takes no memory.
     pub fn take(&mut self, frame: &Frame<'_>) -> Heard
         requires quiet { is_pending self.old ≡ false }
         requires frame { IsFromPeer self.old (value_of frame.now) }
@@ -227,8 +227,8 @@ impl Link {
         }
     }
 
-    /// Ends the link, in state Up: the octets that weren't sent are dropped, the state is Ending, and a DISC with P
-    /// = 1 is pending (2.4.3.3). Takes no memory.
+    /// Ends the link, in state Up: the octets that weren't sent are dropped, the state is Ending, and a DISC with
+    /// P = 1 is pending (2.4.3.3). Takes no memory.
     pub fn hang_up(&mut self)
         requires { self.old.state ≡ LinkState.Up }
         ensures after { Steps self.old self.new (λ w end. after_hang_up end) }
@@ -251,9 +251,11 @@ impl Link {
     }
 
     /// The state.
+    #[tactic(auto, using(crate::proofs::StandLemmas::fits))]
     pub fn state(&self) -> LinkState
         ensures value { result ≡ self.now.state }
         ensures end { Tells self.now (λ w end. end.state) result }
+        ensures fits { Fits self.now }
     {
         self.state
     }

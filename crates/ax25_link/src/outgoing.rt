@@ -5,7 +5,7 @@ ghost use Rattle.ax25_frames.specs.FrameText.{FrameText, canonical};
 ghost use Rattle.ax25_frames.specs.Kinds.{CanWrite};
 ghost use Rattle.ax25_frames.specs.Values.{kind_value};
 ghost use Rattle.ax25_link.specs.Frames.{frame_of_reply, information_again};
-ghost use Rattle.ax25_link.specs.Kept.{SameStations, Steps, Writes, frame_between, has_new_in, most_pending, outstanding_in};
+ghost use Rattle.ax25_link.specs.Kept.{SameStations, Steps, Writes, frame_between, has_new_in, most_pending, outstanding_in, Reads};
 ghost use Rattle.ax25_link.specs.Replies.{farewell_value, reply_value};
 ghost use Rattle.ax25_link.specs.Sending.{after_new, sends_again, sends_farewell, sends_new, sends_reply};
 
@@ -25,6 +25,7 @@ impl Link {
         requires { self.old.reply ≡ Some (reply_value reply) }
         ensures after { Steps self.old self.new (λ w end. (sends_reply w end (reply_value reply)).after) }
         ensures frame { Writes self.old (λ w end. (sends_reply w end (reply_value reply)).frame) out.new.items }
+        ensures text { Reads self.old (λ w end. (sends_reply w end (reply_value reply)).frame) out.new.items }
         ensures fewer { most_pending self.new < most_pending self.old }
         ensures stations { SameStations self.old self.new }
     {
@@ -37,6 +38,7 @@ impl Link {
         requires { 0 < self.old.again }
         ensures after { Steps self.old self.new (λ w end. (sends_again w end).after) }
         ensures frame { Writes self.old (λ w end. (sends_again w end).frame) out.new.items }
+        ensures text { Reads self.old (λ w end. (sends_again w end).frame) out.new.items }
         ensures fewer { most_pending self.new < most_pending self.old }
         ensures stations { SameStations self.old self.new }
     {
@@ -50,6 +52,7 @@ impl Link {
         requires { has_new_in self.old ≡ true }
         ensures after { Steps self.old self.new (λ w end. (sends_new w end).after) }
         ensures frame { Writes self.old (λ w end. (sends_new w end).frame) out.new.items }
+        ensures text { Reads self.old (λ w end. (sends_new w end).frame) out.new.items }
         ensures fewer { most_pending self.new < most_pending self.old }
         ensures stations { SameStations self.old self.new }
     {
@@ -63,6 +66,8 @@ impl Link {
         ensures after { Steps self.old self.new (λ w end. (sends_farewell end (farewell_value farewell)).after) }
         ensures frame { let last = farewell_value farewell in
             Writes self.old (λ w end. (sends_farewell end last).frame) out.new.items }
+        ensures text { let last = farewell_value farewell in
+            Reads self.old (λ w end. (sends_farewell end last).frame) out.new.items }
         ensures fewer { most_pending self.new < most_pending self.old }
         ensures stations { SameStations self.old self.new }
     {
@@ -94,7 +99,8 @@ impl Link {
     /// Writes the reply or the timer's frame.
     fn write_reply(&self, reply: Reply, out: &mut ArrayVec<u8, 400>)
         requires { self.now.reply ≡ Some (reply_value reply) }
-        ensures { Writes self.now (λ w end. frame_of_reply w end (reply_value reply)) out.new.items }
+        ensures frame { Writes self.now (λ w end. frame_of_reply w end (reply_value reply)) out.new.items }
+        ensures text { Reads self.now (λ w end. frame_of_reply w end (reply_value reply)) out.new.items }
     {
         let nr = self.taken;
         match reply {
@@ -115,7 +121,8 @@ impl Link {
     /// Writes the outstanding I frame at this place, the oldest being at 0 (2.3.4.1).
     fn write_information(&self, place: u8, poll: bool, out: &mut ArrayVec<u8, 400>)
         requires { place < outstanding_in self.now }
-        ensures { Writes self.now (λ w end. information_again w end (end.acked + place) poll) out.new.items }
+        ensures frame { Writes self.now (λ w end. information_again w end (end.acked + place) poll) out.new.items }
+        ensures text { Reads self.now (λ w end. information_again w end (end.acked + place) poll) out.new.items }
     {
         let kind = Kind::I {
             ns: number::after(self.acked, place),

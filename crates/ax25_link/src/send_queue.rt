@@ -1,6 +1,7 @@
 //! The octets that were pushed and aren't acknowledged.
 
 ghost use Rattle.std.specs.Prelude.{◌≡◌, ℕ, ◌+◌, ◌-◌, ◌<◌, ◌≤◌, ◌^◌, ◌==◌, not, [], ◌∷◌, ◌++◌, length, take, drop, min, sum, IfOk};
+ghost use Rattle.px_base.specs.Octets.{IsOctets};
 ghost use Rattle.ax25_link.specs.Queue.{Queue, empty_queue, room_of};
 ghost use Rattle.std.specs.Prelude.{slice_get, Some, unwrap_or};
 
@@ -104,7 +105,9 @@ impl SendQueue {
     pub(crate) fn put_piece(&self, place: u8, out: &mut ArrayVec<u8, 400>)
         requires place { place < length self.now.pieces }
         requires room { length out.old.items ≤ 144 }
-        ensures { out.new.items ≡ out.old.items ++ unwrap_or (slice_get self.now.pieces place) [] }
+        ensures octets { out.new.items ≡ out.old.items ++ unwrap_or (slice_get self.now.pieces place) [] }
+        ensures most { length (unwrap_or (slice_get self.now.pieces place) []) ≤ 256 }
+        ensures range { IsOctets (unwrap_or (slice_get self.now.pieces place) []) }
     {
         let start = total(&self.sizes[..usize::from(place)]);
         let end = start + self.sizes[usize::from(place)];
@@ -151,7 +154,8 @@ fn put_range(out: &mut ArrayVec<u8, 400>, front: &[u8], back: &[u8], start: usiz
     requires order { start ≤ end }
     requires inside { end ≤ length (front.now ++ back.now) }
     requires room { length out.old.items + (end - start) ≤ 400 }
-    ensures { out.new.items ≡ out.old.items ++ take (end - start) (drop start (front.now ++ back.now)) }
+    ensures octets { out.new.items ≡ out.old.items ++ take (end - start) (drop start (front.now ++ back.now)) }
+    ensures range { IsOctets (take (end - start) (drop start (front.now ++ back.now))) }
 {
     let cut = front.len();
     put(out, &front[start.min(cut)..end.min(cut)]);
@@ -164,7 +168,8 @@ fn put_range(out: &mut ArrayVec<u8, 400>, front: &[u8], back: &[u8], start: usiz
 /// Puts octets at the end.
 fn put(out: &mut ArrayVec<u8, 400>, bytes: &[u8])
     requires { length out.old.items + length bytes.now ≤ 400 }
-    ensures { out.new.items ≡ out.old.items ++ bytes.now }
+    ensures octets { out.new.items ≡ out.old.items ++ bytes.now }
+    ensures range { IsOctets bytes.now }
 {
     out.try_extend_from_slice(bytes).unwrap();
 }

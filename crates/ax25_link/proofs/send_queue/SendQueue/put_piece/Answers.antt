@@ -1,11 +1,15 @@
-use Rattle.std.proofs.Common.{◌≡◌, ℕ, ◌+◌, ◌-◌, ◌++◌, [], ◌<◌, ◌≤◌, take, drop, get_or, ap, ◌∙◌, sym, subst, List, length, arith}
+use Rattle.std.proofs.Common.{◌≡◌, ℕ, ◌+◌, ◌-◌, ◌++◌, [], ◌<◌, ◌≤◌, take, drop, get_or, ap, ◌∙◌, sym, subst, List, length, length-take, arith}
 use Rattle.std.specs.Prelude.{sum, slice_get, unwrap_or}
 use Rattle.std.proofs.lemmas.List.{length-take-le}
 use Rattle.std.proofs.lemmas.List.Elements.{All-get_or}
 use Rattle.std.proofs.lemmas.List.Sums.{sum_by_more_le}
+use Rattle.px_base.specs.Octets.{IsOctets}
 use Rattle.ax25_link.specs.Queue.{Queue}
 use Rattle.ax25_link.proofs.QueueLemmas.{length-cut, few-take, piece-cut}
 use Rattle.ax25_link.proofs.send_queue.SendQueue.put_piece.Goals as goal
+
+length-take-most : (n : ℕ) (xs : List ℕ) → length (take n xs) ≤ n
+length-take-most n xs = omega (arith, length-take n xs)
 
 -- so many pieces are outstanding
 inside : (c : goal.After-from) → c.args.place < length c.self.inside.sizes.items
@@ -57,16 +61,41 @@ put_range-requires-clause-room c =
     let size : get_or c.deref-2.result.now c.from-2.result 0 ≡ get_or c.self.inside.sizes.items c.args.place 0 = cc (c.from-2.ensures, c.deref-2.ensures.0) in
     omega (arith, one, size, c.requires.room)
 
-pub returns : goal.returns
-returns c =
+pub returns-clause-most : goal.returns-clause-most
+returns-clause-most c =
+    let within : c.args.place < length c.self.inside.sizes.items =
+    omega (arith, c.requires.place, length-cut c.self.inside.sizes.items c.self.inside.octets.items, ap (λ (q : Queue). length q.pieces) c.self.view_is) in
+    let one : get_or c.self.inside.sizes.items c.args.place 0 ≤ 256 = All-get_or (λ (size : ℕ). size ≤ 256) c.self.inside.sizes.items c.args.place 0 within c.self.invariant.most in
+    let cut_there = piece-cut c.self.inside.sizes.items c.self.inside.octets.items c.args.place within in
+    let few = length-take-most (get_or c.self.inside.sizes.items c.args.place 0) (drop (sum (take c.args.place c.self.inside.sizes.items)) c.self.inside.octets.items) in
+    subst (λ (q : Queue). length (unwrap_or (slice_get q.pieces c.args.place) []) ≤ 256) c.self.view_is
+    (omega (arith, one, few, ap (λ (xs : List ℕ). length xs) cut_there))
+
+pub returns-clause-octets : goal.returns-clause-octets
+returns-clause-octets c =
     let within : c.args.place < length c.self.inside.sizes.items =
     omega (arith, c.requires.place, length-cut c.self.inside.sizes.items c.self.inside.octets.items, ap (λ (q : Queue). length q.pieces) c.self.view_is) in
     let start : c.total-start.result ≡ sum (take c.args.place c.self.inside.sizes.items) = cc (c.total-start.ensures, c.from.ensures, c.deref.ensures.0) in
     let size : c.total-start.result + get_or c.deref-2.result.now c.from-2.result 0 - c.total-start.result ≡ get_or c.self.inside.sizes.items c.args.place 0 =
     let same : get_or c.deref-2.result.now c.from-2.result 0 ≡ get_or c.self.inside.sizes.items c.args.place 0 = cc (c.from-2.ensures, c.deref-2.ensures.0) in omega (arith, same) in
-    c.put_range.ensures
+    c.put_range.ensures.octets
     ∙ ap (λ (xs : List ℕ). c.args.out.now.items ++ take (c.total-start.result + get_or c.deref-2.result.now c.from-2.result 0 - c.total-start.result) (drop c.total-start.result xs)) c.as_slices.ensures
     ∙ ap (λ (n : ℕ). c.args.out.now.items ++ take n (drop c.total-start.result c.self.inside.octets.items)) size
     ∙ ap (λ (n : ℕ). c.args.out.now.items ++ take (get_or c.self.inside.sizes.items c.args.place 0) (drop n c.self.inside.octets.items)) start
     ∙ ap (λ (xs : List ℕ). c.args.out.now.items ++ xs) (sym (piece-cut c.self.inside.sizes.items c.self.inside.octets.items c.args.place within))
     ∙ ap (λ (q : Queue). c.args.out.now.items ++ unwrap_or (slice_get q.pieces c.args.place) []) c.self.view_is
+
+pub returns-clause-range : goal.returns-clause-range
+returns-clause-range c =
+    let within : c.args.place < length c.self.inside.sizes.items =
+    omega (arith, c.requires.place, length-cut c.self.inside.sizes.items c.self.inside.octets.items, ap (λ (q : Queue). length q.pieces) c.self.view_is) in
+    let start : c.total-start.result ≡ sum (take c.args.place c.self.inside.sizes.items) = cc (c.total-start.ensures, c.from.ensures, c.deref.ensures.0) in
+    let size : c.total-start.result + get_or c.deref-2.result.now c.from-2.result 0 - c.total-start.result ≡ get_or c.self.inside.sizes.items c.args.place 0 =
+    let same : get_or c.deref-2.result.now c.from-2.result 0 ≡ get_or c.self.inside.sizes.items c.args.place 0 = cc (c.from-2.ensures, c.deref-2.ensures.0) in omega (arith, same) in
+    subst (λ (xs : List ℕ). IsOctets xs)
+    (ap (λ (xs : List ℕ). take (c.total-start.result + get_or c.deref-2.result.now c.from-2.result 0 - c.total-start.result) (drop c.total-start.result xs)) c.as_slices.ensures
+    ∙ ap (λ (n : ℕ). take n (drop c.total-start.result c.self.inside.octets.items)) size
+    ∙ ap (λ (n : ℕ). take (get_or c.self.inside.sizes.items c.args.place 0) (drop n c.self.inside.octets.items)) start
+    ∙ (sym (piece-cut c.self.inside.sizes.items c.self.inside.octets.items c.args.place within))
+    ∙ ap (λ (q : Queue). unwrap_or (slice_get q.pieces c.args.place) []) c.self.view_is)
+    c.put_range.ensures.range
