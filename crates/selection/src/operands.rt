@@ -1,6 +1,6 @@
 //! The check of a selection's tokens, from left to right: how many operands stand after each.
 
-ghost use Rattle.std.specs.Prelude.{◌≡◌, ◌<◌, ◌≤◌, ◌+◌, ℕ, List, [], length};
+ghost use Rattle.std.specs.Prelude.{◌≡◌, ◌<◌, ◌≤◌, ◌+◌, List, [], length, IfOk, IfSome};
 ghost use Rattle.selection.specs.Layout.{Tree, most_tokens};
 ghost use Rattle.selection.specs.Reading.{fault_at, step_by, token_in, tree_in, trees_after, trees_from};
 ghost use Rattle.selection.specs.Values.{ChecksAs, CountsAs, StepsAs, LeavesAs, token_value};
@@ -45,7 +45,10 @@ fn operands_left(tokens: &[u8]) -> Result<usize, SelFault>
 fn step(at: usize, operands: usize, rest: &[u8]) -> Result<(usize, usize), SelFault>
     requires some { 0 < length rest.now }
     requires operands { operands ≤ 64 }
-    ensures { (trees : List Tree) → length trees ≡ operands → StepsAs result (step_by at trees (token_in rest.now)) }
+    ensures step { (trees : List Tree) → length trees ≡ operands → StepsAs result (step_by at trees (token_in rest.now)) }
+    ensures more { IfOk result (λ step. step.1 ≤ operands + 1) }
+    ensures some { IfOk result (λ step. 0 < step.0) }
+    ensures within { IfOk result (λ step. step.0 ≤ length rest.now) }
 {
     let token = match first_token(rest) {
         Ok(token) => token,
@@ -73,7 +76,8 @@ impl Token<'_> {
     /// How many operands stand after it, of which there were so many, or `None` where it needs more.
     fn operands_after(&self, operands: usize) -> Option<usize>
         requires { operands ≤ 64 }
-        ensures { (trees : List Tree) → length trees ≡ operands → LeavesAs result (trees_after (token_value self.now) trees) }
+        ensures trees { (trees : List Tree) → length trees ≡ operands → LeavesAs result (trees_after (token_value self.now) trees) }
+        ensures more { IfSome result (λ after. after ≤ operands + 1) }
     {
         match self {
             Token::Compare(_) => Some(operands + 1),

@@ -1,8 +1,8 @@
 //! The tokens of a selection, read one after another.
 
-ghost use Rattle.std.specs.Prelude.{◌≡◌, ◌≤◌, ◌+◌, ◌<◌, length, IfOk};
+ghost use Rattle.std.specs.Prelude.{◌≡◌, ◌≤◌, ◌<◌, length, IfOk};
 ghost use Rattle.selection.specs.Layout.{operands_of};
-ghost use Rattle.selection.specs.Reading.{operator_of, relation_of, token_in, token_len};
+ghost use Rattle.selection.specs.Reading.{operator_of, read_comparison, relation_of, token_in, token_len};
 ghost use Rattle.selection.specs.Values.{ReadsAs, token_value};
 
 use px_base::le16;
@@ -115,18 +115,11 @@ fn operator_in(octet: u8) -> Option<Operator>
     }
 }
 
-/// The token at the front of octets, of which there are some. Takes no memory.
-pub fn first_token(octets: &[u8]) -> Result<Token<'_>, TokenFault>
-    requires { 0 < length octets.now }
-    ensures token { ReadsAs result (token_in octets.now) }
+/// The comparison with this relation at the front of octets.
+fn first_comparison(relation: Relation, octets: &[u8]) -> Result<Token<'_>, TokenFault>
+    ensures token { ReadsAs result (read_comparison relation octets.now) }
     ensures within { IfOk result (λ token. token_len (token_value token) ≤ length octets.now) }
 {
-    let Some(relation) = relation_in(octets[0]) else {
-        return match operator_in(octets[0]) {
-            Some(operator) => Ok(Token::Operate(operator)),
-            None => Err(TokenFault::Unknown),
-        };
-    };
     let [_, _, _, len, rest @ ..] = octets else {
         return Err(TokenFault::Ended);
     };
@@ -139,4 +132,20 @@ pub fn first_token(octets: &[u8]) -> Result<Token<'_>, TokenFault>
         id: le16(octets, 1),
         constant: &rest[..len],
     }))
+}
+
+/// The token at the front of octets, of which there are some. Takes no memory.
+#[tactic(auto, unfolding(crate::specs::Reading::token_in))]
+pub fn first_token(octets: &[u8]) -> Result<Token<'_>, TokenFault>
+    requires { 0 < length octets.now }
+    ensures token { ReadsAs result (token_in octets.now) }
+    ensures within { IfOk result (λ token. token_len (token_value token) ≤ length octets.now) }
+{
+    match relation_in(octets[0]) {
+        Some(relation) => first_comparison(relation, octets),
+        None => match operator_in(octets[0]) {
+            Some(operator) => Ok(Token::Operate(operator)),
+            None => Err(TokenFault::Unknown),
+        },
+    }
 }

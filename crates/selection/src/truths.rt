@@ -1,6 +1,6 @@
 //! Whether tokens hold of a header, from left to right: which operands hold after each.
 
-ghost use Rattle.std.specs.Prelude.{◌≡◌, ◌<◌, ◌≤◌, ◌+◌, ℕ, List, [], length, IsOk, Some};
+ghost use Rattle.std.specs.Prelude.{◌≡◌, ◌<◌, ◌≤◌, List, IsOk, Some};
 ghost use Rattle.arrayvec.specs.ArrayVec.{array_vec_len};
 ghost use Rattle.pfh_items.specs.Layout.{ItemValue};
 ghost use Rattle.selection.specs.Layout.{Tree, operands_of};
