@@ -13,6 +13,7 @@ use Rattle.selection.specs.Layout.{ComparisonValue, Tree, Compare, NotOf, AndOf,
 use Rattle.selection.specs.Faults.{TreesThen, FoundAt, FirstFault, StartsUnknown, StartsCut, StartsLacking}
 use Rattle.selection.specs.Laws.{IsOneTree, IsOneFault, ReadsBack}
 use Rattle.selection.specs.Reading.{TokenValue, Comparing, Operating, token_len, token_in, operated, trees_after, fault_at, with_trees, step_by, go_on, trees_from, one_of, tree_in}
+use Rattle.selection.proofs.StepLemmas.{no_operands}
 use Rattle.selection.proofs.TokenLemmas.{token_text, IsToken, TokenAt, length-token_text, token_found, token_in-comparison, token_in-operator, token_in-unknown, token_in-cut}
 
 abbrev IsOctet : ℕ → Type 0
@@ -259,16 +260,6 @@ stopped octets (x ∷ xs) trees at fault front few place some e =
 
 IsOctets-back : (front back : List ℕ) → IsOctets (front ++ back) → IsOctets back
 IsOctets-back front back h = subst IsOctets (drop_at front back (length front) refl) (All-drop IsOctet (length front) (front ++ back) h)
-
-no_operands : (operator : Operator) (trees : List Tree) → length trees < operands_of operator → operated operator trees ≡ None
-no_operands Not [] few = refl
-no_operands Not (last ∷ earlier) few = absurd (omega arith)
-no_operands And [] few = refl
-no_operands And (last ∷ []) few = refl
-no_operands And (last ∷ (first ∷ earlier)) few = absurd (omega arith)
-no_operands Or [] few = refl
-no_operands Or (last ∷ []) few = refl
-no_operands Or (last ∷ (first ∷ earlier)) few = absurd (omega arith)
 
 left_over : (trees : List Tree) → 1 < length trees → one_of (Ok trees) ≡ Err (Left (length trees))
 left_over [] more = absurd (omega arith)

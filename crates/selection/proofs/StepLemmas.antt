@@ -8,7 +8,7 @@ use Rattle.selection.specs.declared.token.Operator.TheVariants.{And, Or, Not}
 use Rattle.selection.specs.declared.token.TokenFault.{TokenFault}
 use Rattle.selection.specs.Layout.{Tree, NotOf, AndOf, OrOf, operands_of}
 use Rattle.selection.specs.Reading.{TokenValue, token_len, token_in, operated, trees_after, with_trees, step_by, go_on, trees_from}
-use Rattle.selection.specs.Values.{LeavesAs, StepsAs}
+use Rattle.selection.specs.Values.{CountsAs, LeavesAs, StepsAs}
 
 pub operated_as : (operator : Operator) (trees : List Tree) (count : ℕ) → length trees ≡ count → operands_of operator ≤ count
     → LeavesAs (Some (count + 1 - operands_of operator)) (operated operator trees)
@@ -34,26 +34,81 @@ pub lacked : (place : ℕ) (trees : List Tree) (token : TokenValue) (read : Resu
 lacked place trees token read e none =
     ap (λ (r : Result TokenValue TokenFault). step_by place trees r) e ∙ ap (λ (o : Option (List Tree)). with_trees place (token_len token) o) none
 
--- one token of the walk
-pub walk-step : (most place len : ℕ) (trees after : List Tree) (octets : List ℕ) → 0 < most → place < length octets
-    → step_by place trees (token_in (drop place octets)) ≡ Ok (len, after)
-    → trees_from most place trees (drop place octets) ≡ trees_from (most - 1) (place + len) after (drop (place + len) octets)
-walk-step most place len trees after octets some within e = by most (drop place octets) some (nonempty octets place within) e ∙ later
-  where
-    nonempty : (xs : List ℕ) (n : ℕ) → n < length xs → 0 < length (drop n xs)
-    nonempty [] n h = absurd (omega arith)
-    nonempty (x ∷ xs) zero h = omega arith
-    nonempty (x ∷ xs) (suc n) h = nonempty xs n (omega arith)
+pub no_operands : (operator : Operator) (trees : List Tree) → length trees < operands_of operator → operated operator trees ≡ None
+no_operands Not [] few = refl
+no_operands Not (last ∷ earlier) few = absurd (omega arith)
+no_operands And [] few = refl
+no_operands And (last ∷ []) few = refl
+no_operands And (last ∷ (first ∷ earlier)) few = absurd (omega arith)
+no_operands Or [] few = refl
+no_operands Or (last ∷ []) few = refl
+no_operands Or (last ∷ (first ∷ earlier)) few = absurd (omega arith)
 
-    by : (m : ℕ) (rest : List ℕ) → 0 < m → 0 < length rest → step_by place trees (token_in rest) ≡ Ok (len, after)
-        → trees_from m place trees rest ≡ trees_from (m - 1) (place + len) after (drop len rest)
-    unfolding trees_from
-    by zero rest h k same = absurd (omega arith)
-    by (suc m) [] h k same = absurd (omega arith)
-    by (suc m) (x ∷ xs) h k same =
-        let less : m ≡ suc m - 1 = omega arith in
-        ap (λ (step : Result (ℕ × List Tree) SelFault). go_on step (λ n trees'. trees_from m (place + n) trees' (drop n (x ∷ xs)))) same
-        ∙ ap (λ (n : ℕ). trees_from n (place + len) after (drop len (x ∷ xs))) less
+nonempty : (xs : List ℕ) (n : ℕ) → n < length xs → 0 < length (drop n xs)
+nonempty [] n h = absurd (omega arith)
+nonempty (x ∷ xs) zero h = omega arith
+nonempty (x ∷ xs) (suc n) h = nonempty xs n (omega arith)
 
-    later : trees_from (most - 1) (place + len) after (drop len (drop place octets)) ≡ trees_from (most - 1) (place + len) after (drop (place + len) octets)
-    later = ap (λ (t : List ℕ). trees_from (most - 1) (place + len) after t) (drop-drop len place octets)
+pub none_left : (xs : List ℕ) (i : ℕ) → length xs ≤ i → drop i xs ≡ []
+none_left [] zero h = refl
+none_left [] (suc i) h = refl
+none_left (x ∷ xs) zero h = absurd (omega arith)
+none_left (x ∷ xs) (suc i) h = none_left xs i (omega arith)
+
+-- what the walk gives, by the next token
+walk-by : (most place : ℕ) (trees : List Tree) (rest : List ℕ) (step : Result (ℕ × List Tree) SelFault) → 0 < most → 0 < length rest
+    → step_by place trees (token_in rest) ≡ step
+    → trees_from most place trees rest ≡ go_on step (λ len after. trees_from (most - 1) (place + len) after (drop len rest))
+unfolding trees_from
+walk-by zero place trees rest step h k same = absurd (omega arith)
+walk-by (suc most) place trees [] step h k same = absurd (omega arith)
+walk-by (suc most) place trees (x ∷ xs) step h k same =
+    let less : most ≡ suc most - 1 = omega arith in
+    ap (λ (s : Result (ℕ × List Tree) SelFault). go_on s (λ len after. trees_from most (place + len) after (drop len (x ∷ xs)))) same
+    ∙ ap (λ (n : ℕ). go_on step (λ len after. trees_from n (place + len) after (drop len (x ∷ xs)))) less
+
+many : (rest : List ℕ) (trees : List Tree) (at : ℕ) → 0 < length rest → trees_from 0 at trees rest ≡ Err (Many at)
+unfolding trees_from
+many [] trees at h = absurd (omega arith)
+many (x ∷ xs) trees at h = refl
+
+ended : (most at : ℕ) (trees : List Tree) → trees_from most at trees [] ≡ Ok trees
+unfolding trees_from
+ended most at trees = refl
+
+-- So many operands stand before this place, and the walk over all tokens goes on from there.
+abbrev pub IsCounted : List ℕ → ℕ → ℕ → ℕ → Type 0
+IsCounted tokens most operands at =
+    (trees : List Tree) × (length trees ≡ operands) × (trees_from 64 0 [] tokens ≡ trees_from most at trees (drop at tokens))
+
+pub counted-start : (tokens : List ℕ) → IsCounted tokens 64 0 0
+counted-start tokens = ([], refl, refl)
+
+pub counted-step : (tokens : List ℕ) (most operands at len count : ℕ) → 0 < most → at < length tokens → IsCounted tokens most operands at
+    → ((trees : List Tree) → length trees ≡ operands → StepsAs (Ok (len, count)) (step_by at trees (token_in (drop at tokens))))
+    → IsCounted tokens (most - 1) count (at + len)
+counted-step tokens most operands at len count some within (trees, size, walk) steps =
+    let stepped = steps trees size in
+    (
+      stepped.0,
+      sym stepped.2,
+      walk
+      ∙ walk-by most at trees (drop at tokens) (Ok (len, stepped.0)) some (nonempty tokens at within) stepped.1
+      ∙ ap (λ (t : List ℕ). trees_from (most - 1) (at + len) stepped.0 t) (drop-drop len at tokens),
+    )
+
+pub counted-fault : (tokens : List ℕ) (most operands at : ℕ) (fault : SelFault) → 0 < most → at < length tokens → IsCounted tokens most operands at
+    → ((trees : List Tree) → length trees ≡ operands → StepsAs (Err fault) (step_by at trees (token_in (drop at tokens))))
+    → trees_from 64 0 [] tokens ≡ Err fault
+counted-fault tokens most operands at fault some within (trees, size, walk) steps =
+    walk ∙ walk-by most at trees (drop at tokens) (Err fault) some (nonempty tokens at within) (steps trees size)
+
+pub counted-many : (tokens : List ℕ) (most operands at : ℕ) → most ≡ 0 → at < length tokens → IsCounted tokens most operands at
+    → trees_from 64 0 [] tokens ≡ Err (Many at)
+counted-many tokens most operands at none within (trees, size, walk) =
+    walk ∙ ap (λ (n : ℕ). trees_from n at trees (drop at tokens)) none ∙ many (drop at tokens) trees at (nonempty tokens at within)
+
+pub counted-end : (tokens : List ℕ) (most operands at : ℕ) → length tokens ≤ at → IsCounted tokens most operands at
+    → CountsAs (Ok operands) (trees_from 64 0 [] tokens)
+counted-end tokens most operands at over (trees, size, walk) =
+    (trees, walk ∙ ap (λ (t : List ℕ). trees_from most at trees t) (none_left tokens at over) ∙ ended most at trees, sym size)

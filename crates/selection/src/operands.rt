@@ -2,11 +2,11 @@
 
 ghost use Rattle.std.specs.Prelude.{◌≡◌, ◌<◌, ◌≤◌, ◌+◌, List, [], length, IfOk, IfSome};
 ghost use Rattle.selection.specs.Layout.{Tree, most_tokens};
-ghost use Rattle.selection.specs.Reading.{fault_at, step_by, token_in, tree_in, trees_after, trees_from};
+ghost use Rattle.selection.specs.Reading.{fault_at, operated, step_by, token_in, token_len, tree_in, trees_after, trees_from};
 ghost use Rattle.selection.specs.Values.{ChecksAs, CountsAs, StepsAs, LeavesAs, token_value};
 
 use crate::SelFault;
-use crate::token::{Token, TokenFault, first_token};
+use crate::token::{Operator, Token, TokenFault, first_token};
 
 /// How many tokens a selection has at most.
 pub const MOST_TOKENS: usize = 64;
@@ -50,10 +50,19 @@ fn step(at: usize, operands: usize, rest: &[u8]) -> Result<(usize, usize), SelFa
     ensures some { IfOk result (λ step. 0 < step.0) }
     ensures within { IfOk result (λ step. step.0 ≤ length rest.now) }
 {
-    let token = match first_token(rest) {
-        Ok(token) => token,
-        Err(fault) => return Err(fault.at(at)),
-    };
+    match first_token(rest) {
+        Ok(token) => step_over(&token, at, operands),
+        Err(fault) => Err(fault.at(at)),
+    }
+}
+
+/// The same where this is the token.
+fn step_over(token: &Token<'_>, at: usize, operands: usize) -> Result<(usize, usize), SelFault>
+    requires { operands ≤ 64 }
+    ensures step { (trees : List Tree) → length trees ≡ operands → StepsAs result (step_by at trees (Ok (token_value token.now))) }
+    ensures more { IfOk result (λ step. step.1 ≤ operands + 1) }
+    ensures len { IfOk result (λ step. step.0 ≡ token_len (token_value token.now)) }
+{
     match token.operands_after(operands) {
         Some(after) => Ok((token.len(), after)),
         None => Err(SelFault::Few { at }),
@@ -81,8 +90,22 @@ impl Token<'_> {
     {
         match self {
             Token::Compare(_) => Some(operands + 1),
-            Token::Operate(operator) if operands < operator.operands() => None,
-            Token::Operate(operator) => Some(operands + 1 - operator.operands()),
+            Token::Operate(operator) => operator.operands_after(operands),
         }
+    }
+}
+
+impl Operator {
+    /// How many operands stand after it, of which there were so many, or `None` where it needs more.
+    fn operands_after(self, operands: usize) -> Option<usize>
+        requires { operands ≤ 64 }
+        ensures trees { (trees : List Tree) → length trees ≡ operands → LeavesAs result (operated self trees) }
+        ensures more { IfSome result (λ after. after ≤ operands + 1) }
+    {
+        let needed = self.operands();
+        if operands < needed {
+            return None;
+        }
+        Some(operands + 1 - needed)
     }
 }
