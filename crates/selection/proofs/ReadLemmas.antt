@@ -13,7 +13,7 @@ use Rattle.selection.specs.Layout.{ComparisonValue, Tree, Compare, NotOf, AndOf,
 use Rattle.selection.specs.Faults.{TreesThen, FoundAt, FirstFault, StartsUnknown, StartsCut, StartsLacking}
 use Rattle.selection.specs.Laws.{IsOneTree, IsOneFault, ReadsBack}
 use Rattle.selection.specs.Reading.{TokenValue, Comparing, Operating, token_len, token_in, operated, trees_after, fault_at, with_trees, step_by, go_on, trees_from, one_of, tree_in}
-use Rattle.selection.proofs.StepLemmas.{no_operands}
+use Rattle.selection.proofs.StepLemmas.{left_fault, no_operands}
 use Rattle.selection.proofs.TokenLemmas.{token_text, IsToken, TokenAt, length-token_text, token_found, token_in-comparison, token_in-operator, token_in-unknown, token_in-cut}
 
 abbrev IsOctet : ℕ → Type 0
@@ -261,11 +261,6 @@ stopped octets (x ∷ xs) trees at fault front few place some e =
 IsOctets-back : (front back : List ℕ) → IsOctets (front ++ back) → IsOctets back
 IsOctets-back front back h = subst IsOctets (drop_at front back (length front) refl) (All-drop IsOctet (length front) (front ++ back) h)
 
-left_over : (trees : List Tree) → 1 < length trees → one_of (Ok trees) ≡ Err (Left (length trees))
-left_over [] more = absurd (omega arith)
-left_over (tree ∷ []) more = absurd (omega arith)
-left_over (tree ∷ (other ∷ trees)) more = refl
-
 not_nil : (xs : List ℕ) (x : ℕ) (later : List ℕ) → xs ≡ x ∷ later → xs ≢ []
 not_nil xs x later e none = cc
 
@@ -296,7 +291,7 @@ walk_faults octets (Few at) h (trees, rest, front, place, (few, starts)) =
 walk_faults octets (Left count) h (trees, front, le, more, same) =
     let left = room (tokens_of_trees trees) 64 le in
     ap one_of (walk_past octets [] trees left.0 front left.1 ∙ trees_end left.0 (length (trees_text trees)) trees)
-    ∙ left_over trees more
+    ∙ left_fault trees more
     ∙ ap (λ (n : ℕ). Err (Left n)) (sym same)
 
 pub fault_read : (octets : List ℕ) (fault : SelFault) → IsOctets octets → FirstFault fault octets → tree_in octets ≡ Err fault

@@ -1,13 +1,14 @@
 -- How many operands stand after a token.
-use Rattle.std.proofs.Common.{◌≡◌, ℕ, zero, suc, ◌+◌, ◌-◌, ◌<◌, ◌≤◌, List, [], ◌∷◌, length, drop, Option, Some, None, Result, Ok, Err, refl, sym, ap, ◌∙◌, arith}
-use Rattle.std.proofs.lemmas.List.{drop-drop}
+use Rattle.std.proofs.Common.{◌≡◌, ℕ, zero, suc, ◌+◌, ◌-◌, ◌<◌, ◌≤◌, List, [], ◌∷◌, length, take, drop, Option, Some, None, Result, Ok, Err, refl, sym, ap, subst, ◌∙◌, arith}
+use Rattle.std.specs.Prelude.{IsOk}
+use Rattle.std.proofs.lemmas.List.{drop-drop, take_rest}
 use Rattle.selection.specs.declared.fault.SelFault.{SelFault}
-use Rattle.selection.specs.declared.fault.SelFault.TheVariants.{Many, Few}
+use Rattle.selection.specs.declared.fault.SelFault.TheVariants.{Empty, Many, Few, Left}
 use Rattle.selection.specs.declared.token.Operator.{Operator}
 use Rattle.selection.specs.declared.token.Operator.TheVariants.{And, Or, Not}
 use Rattle.selection.specs.declared.token.TokenFault.{TokenFault}
 use Rattle.selection.specs.Layout.{Tree, NotOf, AndOf, OrOf, operands_of}
-use Rattle.selection.specs.Reading.{TokenValue, token_len, token_in, operated, trees_after, with_trees, step_by, go_on, trees_from}
+use Rattle.selection.specs.Reading.{TokenValue, token_len, token_in, operated, trees_after, with_trees, step_by, go_on, trees_from, one_of, tree_in}
 use Rattle.selection.specs.Values.{CountsAs, LeavesAs, StepsAs}
 
 pub operated_as : (operator : Operator) (trees : List Tree) (count : ℕ) → length trees ≡ count → operands_of operator ≤ count
@@ -44,7 +45,7 @@ no_operands Or [] few = refl
 no_operands Or (last ∷ []) few = refl
 no_operands Or (last ∷ (first ∷ earlier)) few = absurd (omega arith)
 
-nonempty : (xs : List ℕ) (n : ℕ) → n < length xs → 0 < length (drop n xs)
+pub nonempty : (xs : List ℕ) (n : ℕ) → n < length xs → 0 < length (drop n xs)
 nonempty [] n h = absurd (omega arith)
 nonempty (x ∷ xs) zero h = omega arith
 nonempty (x ∷ xs) (suc n) h = nonempty xs n (omega arith)
@@ -72,7 +73,7 @@ unfolding trees_from
 many [] trees at h = absurd (omega arith)
 many (x ∷ xs) trees at h = refl
 
-ended : (most at : ℕ) (trees : List Tree) → trees_from most at trees [] ≡ Ok trees
+pub ended : (most at : ℕ) (trees : List Tree) → trees_from most at trees [] ≡ Ok trees
 unfolding trees_from
 ended most at trees = refl
 
@@ -85,10 +86,11 @@ pub counted-start : (tokens : List ℕ) → IsCounted tokens 64 0 0
 counted-start tokens = ([], refl, refl)
 
 pub counted-step : (tokens : List ℕ) (most operands at len count : ℕ) → 0 < most → at < length tokens → IsCounted tokens most operands at
-    → ((trees : List Tree) → length trees ≡ operands → StepsAs (Ok (len, count)) (step_by at trees (token_in (drop at tokens))))
+    → ((trees : List Tree) → length trees ≡ operands → StepsAs (Ok (len, count)) (step_by at trees (token_in (take (length tokens - at) (drop at tokens)))))
     → IsCounted tokens (most - 1) count (at + len)
 counted-step tokens most operands at len count some within (trees, size, walk) steps =
-    let stepped = steps trees size in
+    let P : List ℕ → Type 0 = λ t. StepsAs (Ok (len, count)) (step_by at trees (token_in t)) in
+    let stepped : P (drop at tokens) = subst P (take_rest tokens at) (steps trees size) in
     (
       stepped.0,
       sym stepped.2,
@@ -98,10 +100,11 @@ counted-step tokens most operands at len count some within (trees, size, walk) s
     )
 
 pub counted-fault : (tokens : List ℕ) (most operands at : ℕ) (fault : SelFault) → 0 < most → at < length tokens → IsCounted tokens most operands at
-    → ((trees : List Tree) → length trees ≡ operands → StepsAs (Err fault) (step_by at trees (token_in (drop at tokens))))
+    → ((trees : List Tree) → length trees ≡ operands → StepsAs (Err fault) (step_by at trees (token_in (take (length tokens - at) (drop at tokens)))))
     → trees_from 64 0 [] tokens ≡ Err fault
 counted-fault tokens most operands at fault some within (trees, size, walk) steps =
-    walk ∙ walk-by most at trees (drop at tokens) (Err fault) some (nonempty tokens at within) (steps trees size)
+    let P : List ℕ → Type 0 = λ t. StepsAs (Err fault) (step_by at trees (token_in t)) in
+    walk ∙ walk-by most at trees (drop at tokens) (Err fault) some (nonempty tokens at within) (subst P (take_rest tokens at) (steps trees size))
 
 pub counted-many : (tokens : List ℕ) (most operands at : ℕ) → most ≡ 0 → at < length tokens → IsCounted tokens most operands at
     → trees_from 64 0 [] tokens ≡ Err (Many at)
@@ -112,3 +115,36 @@ pub counted-end : (tokens : List ℕ) (most operands at : ℕ) → length tokens
     → CountsAs (Ok operands) (trees_from 64 0 [] tokens)
 counted-end tokens most operands at over (trees, size, walk) =
     (trees, walk ∙ ap (λ (t : List ℕ). trees_from most at trees t) (none_left tokens at over) ∙ ended most at trees, sym size)
+
+-- what is left at the end decides
+of_walk : (tokens : List ℕ) (walk : Result (List Tree) SelFault) → trees_from 64 0 [] tokens ≡ walk → tree_in tokens ≡ one_of walk
+unfolding tree_in
+of_walk tokens walk e = ap one_of e
+
+pub checks-fault : (tokens : List ℕ) (fault : SelFault) → CountsAs (Err fault) (trees_from 64 0 [] tokens) → tree_in tokens ≡ Err fault
+checks-fault tokens fault e = of_walk tokens (Err fault) e
+
+pub left_fault : (trees : List Tree) → 1 < length trees → one_of (Ok trees) ≡ Err (Left (length trees))
+left_fault [] more = absurd (omega arith)
+left_fault (tree ∷ []) more = absurd (omega arith)
+left_fault (tree ∷ (other ∷ trees)) more = refl
+
+none_fault : (trees : List Tree) → length trees ≡ 0 → one_of (Ok trees) ≡ Err Empty
+none_fault [] none = refl
+none_fault (tree ∷ trees) none = absurd (omega arith)
+
+one_ok : (trees : List Tree) → length trees ≡ 1 → IsOk (one_of (Ok trees))
+one_ok [] one = absurd (omega arith)
+one_ok (tree ∷ []) one = refl
+one_ok (tree ∷ (other ∷ trees)) one = absurd (omega arith)
+
+pub checks-none : (tokens : List ℕ) (count : ℕ) → count ≡ 0 → CountsAs (Ok count) (trees_from 64 0 [] tokens) → tree_in tokens ≡ Err Empty
+checks-none tokens count none (trees, walk, size) = of_walk tokens (Ok trees) walk ∙ none_fault trees (omega arith)
+
+pub checks-one : (tokens : List ℕ) (count : ℕ) → count ≡ 1 → CountsAs (Ok count) (trees_from 64 0 [] tokens) → IsOk (tree_in tokens)
+checks-one tokens count one (trees, walk, size) =
+    subst (λ (r : Result Tree SelFault). IsOk r) (sym (of_walk tokens (Ok trees) walk)) (one_ok trees (omega arith))
+
+pub checks-more : (tokens : List ℕ) (count : ℕ) → 1 < count → CountsAs (Ok count) (trees_from 64 0 [] tokens) → tree_in tokens ≡ Err (Left count)
+checks-more tokens count more (trees, walk, size) =
+    of_walk tokens (Ok trees) walk ∙ left_fault trees (omega arith) ∙ ap (λ (n : ℕ). Err (Left n)) (sym size)
