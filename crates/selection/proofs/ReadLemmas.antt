@@ -1,10 +1,13 @@
 -- The walk over tokens: what it finds is there, and what is there is found.
 use Rattle.std.proofs.Common.{◌≡◌, ◌≢◌, ℕ, zero, suc, ◌+◌, ◌-◌, ◌<◌, ◌≤◌, List, [], ◌∷◌, ◌++◌, length, drop, get_or, Option, Some, None, Result, Ok, Err, refl, sym, ap, ◌∙◌, subst, arith, length-append, append_assoc, append-nil, lit<}
+use Rattle.std.specs.Prelude.{IsOk}
+use Rattle.std.specs.Result.{result_unwrap_or}
 use Rattle.std.proofs.lemmas.List.{drop_at}
 use Rattle.std.proofs.lemmas.List.Elements.{All-drop}
 use Rattle.px_base.specs.Octets.{IsOctets}
 use Rattle.selection.specs.declared.fault.SelFault.{SelFault}
 use Rattle.selection.specs.declared.fault.SelFault.TheVariants.{Empty, Many, BadOp, Cut, Few, Left}
+use Rattle.selection.specs.declared.token.Relation.TheVariants.{EqualTo}
 use Rattle.selection.specs.declared.token.Operator.{Operator}
 use Rattle.selection.specs.declared.token.Operator.TheVariants.{And, Or, Not}
 use Rattle.selection.specs.declared.token.TokenFault.{TokenFault}
@@ -13,6 +16,7 @@ use Rattle.selection.specs.Layout.{ComparisonValue, Tree, Compare, NotOf, AndOf,
 use Rattle.selection.specs.Faults.{TreesThen, FoundAt, FirstFault, StartsUnknown, StartsCut, StartsLacking}
 use Rattle.selection.specs.Laws.{IsOneTree, IsOneFault, ReadsBack}
 use Rattle.selection.specs.Reading.{TokenValue, Comparing, Operating, token_len, token_in, operated, trees_after, fault_at, with_trees, step_by, go_on, trees_from, one_of, tree_in}
+use Rattle.selection.specs.Values.{tree_of}
 use Rattle.selection.proofs.StepLemmas.{left_fault, no_operands}
 use Rattle.selection.proofs.TokenLemmas.{token_text, IsToken, TokenAt, length-token_text, token_found, token_in-comparison, token_in-operator, token_in-unknown, token_in-cut}
 
@@ -312,3 +316,35 @@ pub IsOctets-slice : (octets : List ℕ) → ((i : ℕ) → get_or octets i 0 < 
 IsOctets-slice [] h k d below = absurd (omega arith)
 IsOctets-slice (x ∷ xs) h zero d below = h 0
 IsOctets-slice (x ∷ xs) h (suc k) d below = IsOctets-slice xs (λ i. h (suc i)) k d (omega arith)
+
+abbrev pub tree_or : Result Tree SelFault → Tree
+tree_or read = result_unwrap_or read (Compare (record { relation = EqualTo; id = 0; constant = [] }))
+
+ok_read : (read : Result Tree SelFault) → IsOk read → read ≡ Ok (tree_or read)
+ok_read (Ok tree) ok = refl
+ok_read (Err fault) ok = absurd cc
+
+-- what is read is the tree of the octets
+pub accepted : (octets : List ℕ) → IsOctets octets → IsOk (tree_in octets) → Postfix (tree_of octets) octets
+accepted octets h ok = subst (IsRead octets) (ok_read (tree_in octets) ok) (read_is octets h)
+
+-- where a tree is read, no fault is there
+pub no_fault : (octets : List ℕ) (fault : SelFault) → IsOctets octets → IsOk (tree_in octets) → FirstFault fault octets → ⊥
+no_fault octets fault h ok first =
+    let found = fault_read octets fault h first in
+    let read = ok_read (tree_in octets) ok in
+    cc
+
+-- where a fault is found it is the first, the only one, and there is no tree
+pub refused : (octets : List ℕ) (fault : SelFault) → IsOctets octets → tree_in octets ≡ Err fault → FirstFault fault octets
+refused octets fault h e = subst (IsRead octets) e (read_is octets h)
+
+pub only_fault : (octets : List ℕ) (fault other : SelFault) → IsOctets octets → tree_in octets ≡ Err fault → FirstFault other octets → fault ≡ other
+only_fault octets fault other h e first = let found = fault_read octets other h first in cc
+
+pub no_tree : (octets : List ℕ) (fault : SelFault) (tree : Tree) → tree_in octets ≡ Err fault → Postfix tree octets → ⊥
+no_tree octets fault tree e h = let read = tree_read octets tree h in cc
+
+-- a tree of the octets is that of the selection
+pub tree_is : (octets : List ℕ) (tree : Tree) → Postfix tree octets → tree_of octets ≡ tree
+tree_is octets tree h = ap tree_or (tree_read octets tree h)
