@@ -348,3 +348,35 @@ no_tree octets fault tree e h = let read = tree_read octets tree h in cc
 -- a tree of the octets is that of the selection
 pub tree_is : (octets : List ℕ) (tree : Tree) → Postfix tree octets → tree_of octets ≡ tree
 tree_is octets tree h = ap tree_or (tree_read octets tree h)
+
+not_ok : {A : Type 0} (result : Result A SelFault) (fault : SelFault) → result ≡ Err fault → IsOk result → ⊥
+not_ok (Ok x) fault e ok = cc
+not_ok (Err other) fault e ok = cc
+
+-- what a refusal says
+pub exit-accepts : {A : Type 0} (octets : List ℕ) (fault : SelFault) (result : Result A SelFault) → result ≡ Err fault → tree_in octets ≡ Err fault
+    → (IsOk result → (tree : Tree) × Postfix tree octets) × (((tree : Tree) × Postfix tree octets) → IsOk result)
+exit-accepts octets fault result e h =
+    (λ ok. absurd (not_ok result fault e ok), λ some. absurd (no_tree octets fault some.0 h some.1))
+
+same_fault : {A : Type 0} (result : Result A SelFault) (fault other : SelFault) → result ≡ Err fault → result ≡ Err other → fault ≡ other
+same_fault result fault other e same = cc
+
+pub exit-refuses : {A : Type 0} (octets : List ℕ) (fault : SelFault) (result : Result A SelFault) → IsOctets octets → result ≡ Err fault
+    → tree_in octets ≡ Err fault → (other : SelFault)
+    → (result ≡ Err other → FirstFault other octets) × (FirstFault other octets → result ≡ Err other)
+exit-refuses octets fault result h e found other =
+    let P : SelFault → Type 0 = λ f. FirstFault f octets in
+    (
+      λ same. subst P (same_fault result fault other e same) (refused octets fault h found),
+      λ first. e ∙ ap Err (only_fault octets fault other h found first),
+    )
+
+-- and what a reading says
+pub read-refuses : {A : Type 0} (octets : List ℕ) (x : A) → IsOctets octets → IsOk (tree_in octets) → (fault : SelFault)
+    → (let result : Result A SelFault = Ok x in result ≡ Err fault → FirstFault fault octets)
+    × (FirstFault fault octets → let result : Result A SelFault = Ok x in result ≡ Err fault)
+read-refuses octets x h ok fault = (λ same. absurd cc, λ first. absurd (no_fault octets fault h ok first))
+
+pub postfix_ok : (octets : List ℕ) (tree : Tree) → Postfix tree octets → IsOk (tree_in octets)
+postfix_ok octets tree h = let P : Result Tree SelFault → Type 0 = λ r. IsOk r in subst P (sym (tree_read octets tree h)) refl
