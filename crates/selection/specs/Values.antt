@@ -10,7 +10,7 @@ use Rattle.selection.specs.declared.token.TokenFault.{TokenFault}
 use Rattle.selection.specs.declared.fault.SelFault.{SelFault}
 use Rattle.selection.specs.Layout.{ComparisonValue, Tree, Compare, operands_of}
 use Rattle.selection.specs.Meaning.{holds}
-use Rattle.selection.specs.Reading.{TokenValue, Comparing, Operating, tree_in}
+use Rattle.selection.specs.Reading.{TokenValue, Comparing, Operating, step_by, tree_in}
 
 -- the comparison without where its constant lies
 abbrev pub comparison_value : Comparison → ComparisonValue
@@ -35,6 +35,11 @@ abbrev pub ReadsAs : Result Token TokenFault → Result TokenValue TokenFault �
 ReadsAs (Ok token) read = read ≡ Ok (token_value token)
 ReadsAs (Err fault) read = read ≡ Err fault
 
+-- Where the truths before are those of trees, the truths after are those of the trees after it, if it has any.
+abbrev pub Takes : List ItemValue → (List Tree → Option (List Tree)) → List Bool → List Bool → Type 0
+Takes items after before later =
+    (trees left : List Tree) → before ≡ truths_of items trees → after trees ≡ Some left → later ≡ truths_of items left
+
 -- how many operands the token needs before it
 abbrev pub operands_needed : TokenValue → ℕ
 operands_needed (Comparing comparison) = 0
@@ -49,6 +54,13 @@ LeavesAs (Some count) trees = (after : List Tree) × (trees ≡ Some after) × (
 abbrev pub StepsAs : Result (ℕ × ℕ) SelFault → Result (ℕ × List Tree) SelFault → Type 0
 StepsAs (Ok step) read = (after : List Tree) × (read ≡ Ok (step.0, after)) × (step.1 ≡ length after)
 StepsAs (Err fault) read = read ≡ Err fault
+
+-- That holds of so many operands, whatever trees they are.
+abbrev pub Leaves : Option ℕ → ℕ → (List Tree → Option (List Tree)) → Type 0
+Leaves result operands after = (trees : List Tree) → length trees ≡ operands → LeavesAs result (after trees)
+
+abbrev pub Steps : Result (ℕ × ℕ) SelFault → ℕ → ℕ → Result TokenValue TokenFault → Type 0
+Steps result at operands read = (trees : List Tree) → length trees ≡ operands → StepsAs result (step_by at trees read)
 
 -- the same of all tokens
 abbrev pub CountsAs : Result ℕ SelFault → Result (List Tree) SelFault → Type 0

@@ -1,9 +1,9 @@
 //! The check of a selection's tokens, from left to right: how many operands stand after each.
 
-ghost use Rattle.std.specs.Prelude.{◌≡◌, ◌<◌, ◌≤◌, ◌+◌, List, [], length, IfOk, IfSome};
-ghost use Rattle.selection.specs.Layout.{Tree, most_tokens};
-ghost use Rattle.selection.specs.Reading.{fault_at, operated, step_by, token_in, token_len, tree_in, trees_after, trees_from};
-ghost use Rattle.selection.specs.Values.{ChecksAs, CountsAs, StepsAs, LeavesAs, token_value};
+ghost use Rattle.std.specs.Prelude.{◌≡◌, ◌<◌, ◌≤◌, ◌+◌, [], length, IfOk, IfSome};
+ghost use Rattle.selection.specs.Layout.{most_tokens};
+ghost use Rattle.selection.specs.Reading.{fault_at, operated, token_in, token_len, tree_in, trees_after, trees_from};
+ghost use Rattle.selection.specs.Values.{ChecksAs, CountsAs, Leaves, Steps, token_value};
 
 use crate::SelFault;
 use crate::token::{Operator, Token, TokenFault, first_token};
@@ -45,7 +45,7 @@ fn operands_left(tokens: &[u8]) -> Result<usize, SelFault>
 fn step(at: usize, operands: usize, rest: &[u8]) -> Result<(usize, usize), SelFault>
     requires some { 0 < length rest.now }
     requires operands { operands ≤ 64 }
-    ensures step { (trees : List Tree) → length trees ≡ operands → StepsAs result (step_by at trees (token_in rest.now)) }
+    ensures step { Steps result at operands (token_in rest.now) }
     ensures more { IfOk result (λ step. step.1 ≤ operands + 1) }
     ensures some { IfOk result (λ step. 0 < step.0) }
     ensures within { IfOk result (λ step. step.0 ≤ length rest.now) }
@@ -59,7 +59,7 @@ fn step(at: usize, operands: usize, rest: &[u8]) -> Result<(usize, usize), SelFa
 /// The same where this is the token.
 fn step_over(token: &Token<'_>, at: usize, operands: usize) -> Result<(usize, usize), SelFault>
     requires { operands ≤ 64 }
-    ensures step { (trees : List Tree) → length trees ≡ operands → StepsAs result (step_by at trees (Ok (token_value token.now))) }
+    ensures step { Steps result at operands (Ok (token_value token.now)) }
     ensures more { IfOk result (λ step. step.1 ≤ operands + 1) }
     ensures len { IfOk result (λ step. step.0 ≡ token_len (token_value token.now)) }
 {
@@ -85,7 +85,7 @@ impl Token<'_> {
     /// How many operands stand after it, of which there were so many, or `None` where it needs more.
     fn operands_after(&self, operands: usize) -> Option<usize>
         requires { operands ≤ 64 }
-        ensures trees { (trees : List Tree) → length trees ≡ operands → LeavesAs result (trees_after (token_value self.now) trees) }
+        ensures trees { Leaves result operands (trees_after (token_value self.now)) }
         ensures more { IfSome result (λ after. after ≤ operands + 1) }
     {
         match self {
@@ -99,7 +99,7 @@ impl Operator {
     /// How many operands stand after it, of which there were so many, or `None` where it needs more.
     fn operands_after(self, operands: usize) -> Option<usize>
         requires { operands ≤ 64 }
-        ensures trees { (trees : List Tree) → length trees ≡ operands → LeavesAs result (operated self trees) }
+        ensures trees { Leaves result operands (operated self) }
         ensures more { IfSome result (λ after. after ≤ operands + 1) }
     {
         let needed = self.operands();

@@ -1,12 +1,12 @@
 //! Whether tokens hold of a header, from left to right: which operands hold after each.
 
-ghost use Rattle.std.specs.Prelude.{◌≡◌, ◌<◌, ◌≤◌, List, IsOk, Some};
+ghost use Rattle.std.specs.Prelude.{◌≡◌, ◌<◌, ◌≤◌, List, IsOk};
 ghost use Rattle.arrayvec.specs.ArrayVec.{array_vec_len};
 ghost use Rattle.pfh_items.specs.Layout.{ItemValue};
-ghost use Rattle.selection.specs.Layout.{Tree, operands_of};
+ghost use Rattle.selection.specs.Layout.{operands_of};
 ghost use Rattle.selection.specs.Meaning.{holds};
 ghost use Rattle.selection.specs.Reading.{operated, tree_in, trees_after};
-ghost use Rattle.selection.specs.Values.{token_value, operands_needed, tree_of, truths_of};
+ghost use Rattle.selection.specs.Values.{Takes, operands_needed, token_value, tree_of};
 
 use crate::operands::MOST_TOKENS;
 use crate::token::{Operator, Token, first_token};
@@ -35,8 +35,7 @@ pub fn tokens_hold(tokens: &[u8], header: &Header<'_>) -> bool
 fn take_token(truths: &mut Truths, token: &Token<'_>, header: &Header<'_>)
     requires room { array_vec_len truths.old < 64 }
     requires operands { operands_needed (token_value token.now) ≤ array_vec_len truths.old }
-    ensures { (trees after : List Tree) → truths.old.items ≡ truths_of header.now.items trees
-        → trees_after (token_value token.now) trees ≡ Some after → truths.new.items ≡ truths_of header.now.items after }
+    ensures { Takes header.now.items (trees_after (token_value token.now)) truths.old.items truths.new.items }
 {
     match token {
         Token::Compare(comparison) => truths.push(comparison.holds(header)),
@@ -48,8 +47,7 @@ fn take_token(truths: &mut Truths, token: &Token<'_>, header: &Header<'_>)
 fn operate(truths: &mut Truths, operator: Operator)
     requires room { array_vec_len truths.old < 64 }
     requires operands { operands_of operator ≤ array_vec_len truths.old }
-    ensures { (items : List ItemValue) (trees after : List Tree) → truths.old.items ≡ truths_of items trees
-        → operated operator trees ≡ Some after → truths.new.items ≡ truths_of items after }
+    ensures { (items : List ItemValue) → Takes items (operated operator) truths.old.items truths.new.items }
 {
     let last = truths.pop().unwrap();
     let truth = match operator {
