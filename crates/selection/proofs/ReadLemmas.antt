@@ -47,10 +47,10 @@ reach octets most place trees after rest later token r are e text tokens =
       front = record {
         are_trees = are;
         text =
-          r.front.text
-          ∙ ap (λ (t : List ℕ). trees_text trees ++ t) e
-          ∙ sym (append_assoc (trees_text trees) (token_text token) later)
-          ∙ ap (λ (t : List ℕ). t ++ later) (sym text);
+            r.front.text
+            ∙ ap (λ (t : List ℕ). trees_text trees ++ t) e
+            ∙ sym (append_assoc (trees_text trees) (token_text token) later)
+            ∙ ap (λ (t : List ℕ). t ++ later) (sym text);
       };
       tokens = omega arith;
       at = omega (arith, length-append (trees_text trees) (token_text token), ap length text);
@@ -366,8 +366,7 @@ pub exit-refuses : {A : Type 0} (octets : List ℕ) (fault : SelFault) (result :
     → tree_in octets ≡ Err fault → (other : SelFault)
     → (result ≡ Err other → FirstFault other octets) × (FirstFault other octets → result ≡ Err other)
 exit-refuses octets fault result h e found other =
-    let P : SelFault → Type 0 = λ f. FirstFault f octets in
-    (
+    let P : SelFault → Type 0 = λ f. FirstFault f octets in (
       λ same. subst P (same_fault result fault other e same) (refused octets fault h found),
       λ first. e ∙ ap Err (only_fault octets fault other h found first),
     )

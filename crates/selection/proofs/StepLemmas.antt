@@ -90,13 +90,12 @@ pub counted-step : (tokens : List ℕ) (most operands at len count : ℕ) → 0 
     → IsCounted tokens (most - 1) count (at + len)
 counted-step tokens most operands at len count some within (trees, size, walk) steps =
     let P : List ℕ → Type 0 = λ t. StepsAs (Ok (len, count)) (step_by at trees (token_in t)) in
-    let stepped : P (drop at tokens) = subst P (take_rest tokens at) (steps trees size) in
-    (
+    let stepped : P (drop at tokens) = subst P (take_rest tokens at) (steps trees size) in (
       stepped.0,
       sym stepped.2,
       walk
-      ∙ walk-by most at trees (drop at tokens) (Ok (len, stepped.0)) some (nonempty tokens at within) stepped.1
-      ∙ ap (λ (t : List ℕ). trees_from (most - 1) (at + len) stepped.0 t) (drop-drop len at tokens),
+          ∙ walk-by most at trees (drop at tokens) (Ok (len, stepped.0)) some (nonempty tokens at within) stepped.1
+          ∙ ap (λ (t : List ℕ). trees_from (most - 1) (at + len) stepped.0 t) (drop-drop len at tokens),
     )
 
 pub counted-fault : (tokens : List ℕ) (most operands at : ℕ) (fault : SelFault) → 0 < most → at < length tokens → IsCounted tokens most operands at

@@ -107,16 +107,15 @@ whole_front relation x y z l rest same h whole =
     let len : length (take l rest) ≡ l = length-take-le l rest whole in
     let octets : List ℕ = x ∷ (y ∷ (z ∷ (l ∷ rest))) in
     let back : drop (4 + length (take l rest)) octets ≡ drop l rest = ap (λ (n : ℕ). drop (4 + n) octets) len ∙ sym (drop-drop l 4 octets) in
-    let build : ℕ → ℕ → ℕ → ℕ → List ℕ → List ℕ = λ a b c d t. a ∷ (b ∷ (c ∷ (d ∷ t))) in
-    (
+    let build : ℕ → ℕ → ℕ → ℕ → List ℕ → List ℕ = λ a b c d t. a ∷ (b ∷ (c ∷ (d ∷ t))) in (
       record { id = omega arith; octets = All-take IsOctet l rest (All-drop IsOctet 4 octets h); most = omega arith },
       sym
-      (ap (λ (t : List ℕ). build (relation_octet relation) ((y + 256 * z) % 256) ((y + 256 * z) / 256 % 256) (length (take l rest)) (take l rest ++ t)) back
-      ∙ ap (λ (t : List ℕ). build (relation_octet relation) ((y + 256 * z) % 256) ((y + 256 * z) / 256 % 256) (length (take l rest)) t) (take-append-drop l rest)
-      ∙ ap (λ (n : ℕ). build (relation_octet relation) ((y + 256 * z) % 256) ((y + 256 * z) / 256 % 256) n rest) len
-      ∙ ap (λ (n : ℕ). build (relation_octet relation) ((y + 256 * z) % 256) n l rest) high
-      ∙ ap (λ (n : ℕ). build (relation_octet relation) n z l rest) low
-      ∙ ap (λ (n : ℕ). build n y z l rest) (sym same)),
+          (ap (λ (t : List ℕ). build (relation_octet relation) ((y + 256 * z) % 256) ((y + 256 * z) / 256 % 256) (length (take l rest)) (take l rest ++ t)) back
+          ∙ ap (λ (t : List ℕ). build (relation_octet relation) ((y + 256 * z) % 256) ((y + 256 * z) / 256 % 256) (length (take l rest)) t) (take-append-drop l rest)
+          ∙ ap (λ (n : ℕ). build (relation_octet relation) ((y + 256 * z) % 256) ((y + 256 * z) / 256 % 256) n rest) len
+          ∙ ap (λ (n : ℕ). build (relation_octet relation) ((y + 256 * z) % 256) n l rest) high
+          ∙ ap (λ (n : ℕ). build (relation_octet relation) n z l rest) low
+          ∙ ap (λ (n : ℕ). build n y z l rest) (sym same)),
     )
 
 -- the text of a comparison has a fourth octet, and as many as that says
@@ -132,9 +131,9 @@ cut_front relation x xs same short = (
   xs,
   ap (λ (n : ℕ). n ∷ xs) same,
   λ comparison others is e.
-  let whole : 4 + slice_index (x ∷ xs) 3 ≤ length (x ∷ xs) =
+      let whole : 4 + slice_index (x ∷ xs) 3 ≤ length (x ∷ xs) =
       subst (λ (t : List ℕ). 4 + slice_index t 3 ≤ length t) (sym e) (text_whole comparison others) in
-  omega arith,
+      omega arith,
 )
 
 whole_comparison : (relation : Relation) (octets : List ℕ) → IsOctets octets → (x : ℕ) (xs : List ℕ) → octets ≡ x ∷ xs → x ≡ relation_octet relation
@@ -218,12 +217,12 @@ token_in-cut octets h cut =
     let relation = cut.0 in
     let front : List ℕ = relation_octet relation ∷ cut.1 in
     let short : nat_le (4 + slice_index octets 3) (length octets) ≡ false =
-        elim (cases_Bool (nat_le (4 + slice_index octets 3) (length octets))) [
-          | inr unknown ↦ unknown
-          | inl known ↦
-              let whole = whole_comparison relation octets h (relation_octet relation) cut.1 cut.2 refl (leb-true _ _ known) in
-              absurd (cut.3 (comparison_in relation octets) (drop (4 + length (comparison_in relation octets).constant) octets) whole.0 whole.1)
-        ] in
+    elim (cases_Bool (nat_le (4 + slice_index octets 3) (length octets))) [
+      | inr unknown ↦ unknown
+      | inl known ↦
+          let whole = whole_comparison relation octets h (relation_octet relation) cut.1 cut.2 refl (leb-true _ _ known) in
+          absurd (cut.3 (comparison_in relation octets) (drop (4 + length (comparison_in relation octets).constant) octets) whole.0 whole.1)
+    ] in
     ap (λ (t : List ℕ). read_as (relation_of (slice_index t 0)) octets) cut.2
     ∙ ap (λ (found : Option Relation). read_as found octets) (relation_of-octet relation)
     ∙ ap (λ (b : Bool). cond b (Ok (Comparing (comparison_in relation octets))) (Err Ended)) short

@@ -126,7 +126,7 @@ module _ (tokens : List ℕ) (items : List ItemValue) (at : ℕ) (truths : List 
       let n = here is in
       let enough = (after_enough n.token is.1 n.after n.leaves).0 in
       let needed : operands_needed (token_value token) ≤ length is.1 =
-          subst (λ (t : TokenValue). operands_needed t ≤ length is.1) (same_token is token h) enough in
+      subst (λ (t : TokenValue). operands_needed t ≤ length is.1) (same_token is token h) enough in
       let size : length truths ≡ length is.1 = ap length is.2.truths_are ∙ length-truths_of items is.1 in
       let few = is.2.few in
       let more = n.more in
@@ -144,15 +144,14 @@ module _ (tokens : List ℕ) (items : List ItemValue) (at : ℕ) (truths : List 
       let length_same : token_len n.token ≡ len = ap token_len same ∙ sym size in
       let few = is.2.few in
       let more = n.more in
-      let bound = (after_enough n.token is.1 n.after n.leaves).1 in
-      (
+      let bound = (after_enough n.token is.1 n.after n.leaves).1 in (
         n.left,
         n.after,
         record {
           walk =
-            ap (λ (t : List ℕ). trees_from n.left (at + len) n.after t) (sym (drop-drop len at tokens))
-            ∙ ap (λ (m : ℕ). trees_from n.left (at + m) n.after (drop m (drop at tokens))) (sym length_same)
-            ∙ n.walk;
+              ap (λ (t : List ℕ). trees_from n.left (at + len) n.after t) (sym (drop-drop len at tokens))
+              ∙ ap (λ (m : ℕ). trees_from n.left (at + m) n.after (drop m (drop at tokens))) (sym length_same)
+              ∙ n.walk;
           truths_are = takes is.1 n.after is.2.truths_are leaves;
           few = omega arith;
         },
@@ -163,6 +162,6 @@ pub evaluated-end : (tokens : List ℕ) (items : List ItemValue) (at : ℕ) (tru
     → truths ≡ holds (tree_of tokens) items ∷ []
 evaluated-end tokens items at truths over (most, trees, is) =
     let left : Ok trees ≡ Ok (tree_of tokens ∷ []) =
-        sym (ended most at trees) ∙ ap (λ (t : List ℕ). trees_from most at trees t) (sym (none_left tokens at over)) ∙ is.walk in
+    sym (ended most at trees) ∙ ap (λ (t : List ℕ). trees_from most at trees t) (sym (none_left tokens at over)) ∙ is.walk in
     let same : trees ≡ tree_of tokens ∷ [] = cc in
     is.truths_are ∙ ap (truths_of items) same

@@ -22,8 +22,8 @@ loop-at-preserved c =
     let within = c.in_ok-len.ensures.within in
     record {
       walk =
-        counted-step c.args.tokens.now c.loop-at.most c.loop-at.operands c.loop-at.at c.in_ok-len.len c.in_ok-len.after (omega arith)
-        c.loop-at-test.true c.loop-at.invariant.walk c.in_ok-len.ensures.step;
+          counted-step c.args.tokens.now c.loop-at.most c.loop-at.operands c.loop-at.at c.in_ok-len.len c.in_ok-len.after (omega arith)
+          c.loop-at-test.true c.loop-at.invariant.walk c.in_ok-len.ensures.step;
       few = omega arith;
       within = omega arith;
     }
