@@ -45,12 +45,7 @@ pub(crate) fn run_file<S: Shelf, O: Out>(
 }
 
 /// Shows the command's text of these octets.
-fn show_octets<O: Out>(
-    alloc: Global,
-    command: FileCommand,
-    octets: &[u8],
-    out: &mut O,
-) -> Status
+fn show_octets<O: Out>(alloc: Global, command: FileCommand, octets: &[u8], out: &mut O) -> Status
     requires { length octets.now ≤ most_octets }
     ensures shown { OctetsShown O.shown O.faults command octets.now out.old out.new result }
     ensures no_shelf { result ≡ Status.Shelf → ⊥ }
