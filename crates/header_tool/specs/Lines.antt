@@ -42,9 +42,9 @@ abbrev pub shown_text : List ItemValue → Option ℕ → List ℕ
 shown_text items code = item_lines items ++ last_line code
 
 -- the text that shows a file's header
-abbrev pub header_text_of : List ℕ → List ℕ
-header_text_of file = shown_text (items_in (file_parts file)) (fault_code file)
+abbrev pub header_lines : List ℕ → List ℕ
+header_lines file = shown_text (items_in (file_parts file)) (fault_code file)
 
 -- the line that says what the check of a file finds
-abbrev pub check_text_of : List ℕ → List ℕ
-check_text_of file = last_line (fault_code file)
+abbrev pub check_text : List ℕ → List ℕ
+check_text file = last_line (fault_code file)

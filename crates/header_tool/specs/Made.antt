@@ -1,5 +1,5 @@
 -- What a file is made of: its body, and what its header says (PFH 1990, mandatory, extended and optional header).
-use Rattle.std.specs.Prelude.{ℕ, ◌-◌, List, [], ◌∷◌, ◌++◌, length, replicate, Bool, true, not, ◌&&◌, nat_le, if◌then◌else◌, Option, Some, None, option_map, ◌≡◌, ◌⊎◌, Result, Err}
+use Rattle.std.specs.Prelude.{◌≡◌, ◌⊎◌, ℕ, ◌-◌, List, [], ◌∷◌, ◌++◌, length, replicate, Bool, true, not, ◌&&◌, nat_le, if◌then◌else◌, Option, Some, None, option_map, Result, Err}
 use Rattle.std.specs.List.{list_all}
 use Rattle.std.specs.Option.{option_copied}
 use Rattle.pfh_items.specs.Faults.{IsFaultless}
@@ -104,6 +104,10 @@ title_items (Some title) = item 0x22 title ∷ []
 -- a builder with these other items
 abbrev pub with_others : BuilderValue → List ItemValue → BuilderValue
 with_others builder items = record builder { others = items }
+
+-- with the items of a message
+abbrev pub with_message : BuilderValue → List ℕ → Option (List ℕ) → BuilderValue
+with_message builder source destination = with_others builder (message_items source destination)
 
 -- with these items more
 abbrev pub with_more : BuilderValue → List ItemValue → BuilderValue

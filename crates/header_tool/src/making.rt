@@ -2,7 +2,7 @@
 
 ghost use Rattle.std.specs.Prelude.{◌≡◌, ◌≤◌, [], length, true, None, option_copied, IfOk, OnOk, IsOkUnless, MatchOption};
 ghost use Rattle.header_tool.specs.Made.{IsMade, IsRefused, fits_if_given, fits_item, made_builder, make_refusal, make_value, padded as padded_text, spec_refusal};
-ghost use Rattle.header_tool.specs.Made.{Takes, message_items, no_call, no_moment, nought, title_items, with_item, with_more, with_others};
+ghost use Rattle.header_tool.specs.Made.{Takes, no_call, no_moment, nought, title_items, with_item, with_message, with_more};
 
 use crate::{MakeRefusal, MakeSpec};
 use pfh_items::{
@@ -18,8 +18,8 @@ use std::alloc::Global;
 /// download_count (0), destination, ax25_downloader (blanks), download_time (0), expire_time (0) and priority (0); then the
 /// title, where there is one. Lengths and checksums are the file's. Takes memory.
 ///
-/// Refused as [`MakeSpec::refusal`] says, else exactly where the header would be longer than 65,535 octets or the file longer
-/// than 4,194,304: [`MakeRefusal::TooLong`], where no want of memory comes first.
+/// Refused as [`MakeSpec::refusal`] says, else exactly where the file would be longer than 4,194,304 octets:
+/// [`MakeRefusal::TooLong`], where no want of memory comes first.
 pub fn make(alloc: Global, spec: &MakeSpec<'_>, body: &[u8]) -> Result<FileBytes, MakeRefusal>
     ensures file { IfOk result (IsMade (make_value spec.now) body.now) }
     ensures refused { MatchOption (make_refusal (make_value spec.now) body.now)
@@ -66,7 +66,7 @@ fn put_message(
     requires none { builder.old.others ≡ [] }
     requires source { fits_item source.now ≡ true }
     requires destination { fits_if_given (option_copied destination) ≡ true }
-    ensures { OnOk result (builder.new ≡ with_others builder.old (message_items source.now (option_copied destination.entry))) }
+    ensures { OnOk result (builder.new ≡ with_message builder.old source.now (option_copied destination.entry)) }
 {
     let Some(destination) = destination else {
         return Ok(());

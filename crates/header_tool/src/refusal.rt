@@ -18,10 +18,10 @@ pub enum MakeRefusal {
     /// The source, the destination or the title has more than 255 octets.
     #[error("a source, a destination or a title has at most 255 octets")]
     LongText,
-    /// The header would be longer than 65,535 octets, or the file longer than 4,194,304.
-    #[error("{len} octets are more than a header or a file may have")]
+    /// The file would be longer than 4,194,304 octets.
+    #[error("{len} octets are more than a file may have")]
     TooLong {
-        /// The length in octets: the header's, where that is too long, else the file's.
+        /// The length that it would have, in octets.
         len: usize,
     },
     /// No memory was left.

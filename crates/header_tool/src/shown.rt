@@ -1,7 +1,7 @@
 //! The text that shows a file's header, and that of its check.
 
 ghost use Rattle.std.specs.Prelude.{◌≡◌, ◌≢◌, ◌++◌, IfOk, IfSome};
-ghost use Rattle.header_tool.specs.Lines.{IsCodeOf, check_text_of, header_text_of, item_lines};
+ghost use Rattle.header_tool.specs.Lines.{IsCodeOf, check_text, header_lines, item_lines};
 ghost use Rattle.pfh_items.specs.Faults.{fault_code};
 
 use crate::line::{line_of_check, line_of_item};
@@ -23,7 +23,7 @@ pub struct Shown {
 /// line `ok`, or `fault` and the code of the first rule that the file breaks. A file that is no header and body gives the
 /// last line alone. Takes memory for the text.
 pub fn show(alloc: Global, file: &[u8]) -> Result<Shown, OutOfMemory>
-    ensures text { IfOk result (λ shown. shown.text ≡ header_text_of file.now) }
+    ensures text { IfOk result (λ shown. shown.text ≡ header_lines file.now) }
     ensures code { IfOk result (λ shown. IsCodeOf (fault_code file.now) shown.code) }
 {
     let items = match Header::of_file(file) {
@@ -36,7 +36,7 @@ pub fn show(alloc: Global, file: &[u8]) -> Result<Shown, OutOfMemory>
 /// Shows what the check of a file finds: the line `ok`, or `fault` and the code of the first rule that it breaks. Takes
 /// memory for the text.
 pub fn check_line(alloc: Global, file: &[u8]) -> Result<Shown, OutOfMemory>
-    ensures text { IfOk result (λ shown. shown.text ≡ check_text_of file.now) }
+    ensures text { IfOk result (λ shown. shown.text ≡ check_text file.now) }
     ensures code { IfOk result (λ shown. IsCodeOf (fault_code file.now) shown.code) }
 {
     with_check(FileBytes::new(alloc), file)
@@ -56,11 +56,10 @@ fn text_of_items(alloc: Global, header: &Header<'_>) -> Result<FileBytes, OutOfM
 }
 
 /// A text and, at its end, the line that says what the check of a file finds.
-fn with_check(text: FileBytes, file: &[u8]) -> Result<Shown, OutOfMemory>
-    ensures text { IfOk result (λ shown. shown.text ≡ text ++ check_text_of file.now) }
+fn with_check(mut text: FileBytes, file: &[u8]) -> Result<Shown, OutOfMemory>
+    ensures text { IfOk result (λ shown. shown.text ≡ text ++ check_text file.now) }
     ensures code { IfOk result (λ shown. IsCodeOf (fault_code file.now) shown.code) }
 {
-    let mut text = text;
     let code = first_code(file);
     text.append(line_of_check(code).as_slice())?;
     Ok(Shown {

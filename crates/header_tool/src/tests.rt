@@ -312,7 +312,7 @@ fn refusal_texts(rt: HostRuntime) -> Result<(), Fail> {
         ),
         (
             MakeRefusal::TooLong { len: 4_194_305 },
-            "4194305 octets are more than a header or a file may have",
+            "4194305 octets are more than a file may have",
         ),
         (MakeRefusal::OutOfMemory, "out of memory"),
     ];

@@ -6,7 +6,7 @@ use Rattle.px_base.specs.Shelves.{Holding, content_of}
 use Rattle.px_base.specs.declared.memory.OutOfMemory.{OutOfMemory as NoMemory}
 use Rattle.pfh_items.specs.Faults.{fault_code}
 use Rattle.header_tool.specs.declared.shown.Shown.{Shown}
-use Rattle.header_tool.specs.Lines.{check_text_of, header_text_of}
+use Rattle.header_tool.specs.Lines.{check_text, header_lines}
 use Rattle.frame_lines.specs.FramesText.{FramesText}
 use Rattle.pacsat_cli.specs.declared.files.FileCommand.{FileCommand}
 use Rattle.pacsat_cli.specs.declared.files.FileCommand.TheVariants.{Frames, Show, Check}
@@ -22,8 +22,8 @@ most_octets = 4194304
 -- this is the command's text of a file with these octets
 abbrev pub IsTextOf : FileCommand → List ℕ → List ℕ → Type 0
 IsTextOf Frames octets text = FramesText octets text
-IsTextOf Show octets text = text ≡ header_text_of octets
-IsTextOf Check octets text = text ≡ check_text_of octets
+IsTextOf Show octets text = text ≡ header_lines octets
+IsTextOf Check octets text = text ≡ check_text octets
 
 -- a file with this fault is refused, and one without is not
 abbrev pub fault_status : Option ℕ → Status

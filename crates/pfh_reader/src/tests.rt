@@ -1,9 +1,12 @@
 //! Files worked out by hand from the standard's layout.
 
-ghost use Rattle.std.specs.Prelude.{◌<◌, length};
+ghost use Rattle.std.specs.Prelude.{◌≡◌, ◌<◌, length, IfOk};
+ghost use Rattle.pfh_reader.specs.Check.{joined};
 
 use super::*;
 use pfh_items::Item;
+use px_base::FileBytes;
+use std::alloc::Global;
 use std::process::Abort;
 use std::test::Fail;
 
@@ -150,6 +153,45 @@ fn items_in_any_order(rt: HostRuntime) {
         assert_eq!(rt; items.next(), Some(Item { id, bytes }), "id {id}");
     }
     assert_eq!(rt; items.next(), None);
+}
+
+/// A file cut into pieces of this length, the last one shorter.
+fn cut(alloc: Global, file: &[u8], len: usize) -> Result<Vec<FileBytes>, Fail>
+    requires { 0 < len }
+    ensures { IfOk result (λ pieces. joined pieces.items ≡ file.now) }
+{
+    let mut pieces = Vec::new(alloc);
+    let mut rest = file;
+    while !rest.is_empty() {
+        let (piece, later) = rest.split_at(len.min(rest.len()));
+        pieces.push(FileBytes::copy_of(alloc, piece)?)?;
+        rest = later;
+    }
+    Ok(pieces)
+}
+
+#[test]
+fn checks_cut_files(rt: HostRuntime) -> Result<(), Fail> {
+    let sums = Sums {
+        header_len: 85,
+        body_sum: 0x00B1,
+        header_sum: 0x04D2,
+    };
+    for len in [1, 2, 5, 84, 85, 86, 87, 88] {
+        let pieces = cut(rt.alloc(), &FREE, len)?;
+        assert_eq!(rt;
+            check_pieces(&pieces),
+            Ok(sums),
+            "in pieces of {len} octets"
+        );
+        let pieces = cut(rt.alloc(), &FREE[..86], len)?;
+        assert_eq!(rt;
+            check_pieces(&pieces),
+            Err(HeaderFault { code: 14 }),
+            "in pieces of {len} octets"
+        );
+    }
+    Ok(())
 }
 
 #[test]

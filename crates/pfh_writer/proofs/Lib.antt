@@ -7,4 +7,5 @@ pub mod PieceLemmas
 pub mod ShortLemmas
 pub mod StepLemmas
 pub mod SumLemmas
+pub mod TestLemmas
 pub mod WholeLemmas

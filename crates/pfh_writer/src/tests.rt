@@ -1,12 +1,12 @@
 //! Files and headers worked out by hand from the standard's layout.
 
-ghost use Rattle.std.specs.Prelude.{◌<◌, IfOk};
+ghost use Rattle.std.specs.Prelude.{◌≡◌, ◌<◌, IfOk, flat_map};
 ghost use Rattle.pfh_writer.specs.Given.{IsFaultlessFile};
 
 use super::*;
 use pfh_items::{
     AX25_DOWNLOADER, AX25_UPLOADER, DESTINATION, DOWNLOAD_COUNT, DOWNLOAD_TIME, EXPIRE_TIME,
-    HEADER_CHECKSUM, Header, PRIORITY, SOURCE, TITLE, UPLOAD_TIME,
+    HEADER_CHECKSUM, Header, PRIORITY, SOURCE, Sums, TITLE, UPLOAD_TIME,
 };
 use px_base::{Call, FileBytes};
 use std::alloc::Global;
@@ -236,6 +236,53 @@ fn stamps_pieces(rt: HostRuntime) {
         stamp_in_pieces(&rt, &mut file, len);
         assert_eq!(rt; file, FREE_STAMPED, "in pieces of {len} octets");
     }
+}
+
+#[test]
+fn stamps_in_place(rt: HostRuntime) {
+    let mut file = FREE;
+    stamp(&mut file, 0x0102_0304, call(&rt, "N0CALL"), 0x0506_0708);
+    assert_eq!(rt; file, FREE_STAMPED);
+}
+
+/// A file cut into pieces of this length, the last one shorter.
+fn cut(alloc: Global, file: &[u8], len: usize) -> Result<Vec<Vec<u8>>, Fail>
+    requires { 0 < len }
+    ensures { IfOk result (λ pieces. flat_map (λ piece. piece.items) pieces.items ≡ file.now) }
+{
+    let mut pieces = Vec::new(alloc);
+    let mut rest = file;
+    while !rest.is_empty() {
+        let (piece, later) = rest.split_at(len.min(rest.len()));
+        pieces.push(Vec::from_slice(alloc, piece)?)?;
+        rest = later;
+    }
+    Ok(pieces)
+}
+
+#[test]
+fn stamps_cut_files(rt: HostRuntime) -> Result<(), Fail> {
+    let by = call(&rt, "N0CALL");
+    let sums = Sums {
+        header_len: 128,
+        body_sum: 0x00B1,
+        header_sum: 0x0B57,
+    };
+    let sum = stamped_sum(&sums, &FREE[..128], 0x0102_0304, by, 0x0506_0708);
+    for len in [1, 2, 5, 64, 129, 130, 131] {
+        let mut pieces = cut(rt.alloc(), &FREE, len)?;
+        stamp_pieces(pieces.as_mut_slice(), 0x0102_0304, by, 0x0506_0708, sum);
+        let mut joined = Vec::new(rt.alloc());
+        for piece in &pieces {
+            joined.extend_from_slice(piece.as_slice())?;
+        }
+        assert_eq!(rt;
+            joined.as_slice(),
+            FREE_STAMPED.as_slice(),
+            "in pieces of {len} octets"
+        );
+    }
+    Ok(())
 }
 
 #[test]
