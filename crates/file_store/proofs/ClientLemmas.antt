@@ -11,6 +11,7 @@ use Rattle.pfh_items.proofs.StampLemmas.{AreItems-stamped_items, length-chars, s
 use Rattle.pfh_items.proofs.TextLemmas.{item_at}
 use Rattle.pfh_writer.proofs.FilledLemmas.{id-stamped}
 use Rattle.file_store.specs.KeptFile.{KeptFileLaw, client_items, ids_of}
+use Rattle.file_store.proofs.FaultlessLemmas.{stamped-faultless}
 use Rattle.file_store.proofs.StampedLemmas.{length-stamped, no_fault-code}
 
 -- one of four tests holds
@@ -128,6 +129,7 @@ kept_file stamp file call none = (
   λ octets.
       let is = (no_fault file octets).1 (no_fault-code file none) in
       record {
+        faultless = stamped-faultless stamp call is.0 is.1 file is.2;
         items = is.0;
         kept_items = stamped_items stamp is.0;
         body = is.1;

@@ -5,3 +5,4 @@ pub mod SealLemmas
 pub mod LawLemmas
 pub mod StampedLemmas
 pub mod ClientLemmas
+pub mod FaultlessLemmas

@@ -119,7 +119,7 @@ walk_reaches (suc n) place octets at e =
           inside = omega (arith, length-append (item_text (item_in octets)) (items_text tail.items), length-drop (item_len octets) octets);
         }
 
-length-header : (items : List ItemValue) (body : List ℕ) → length (header_text items ++ body) ≡ length (items_text items) + 5 + length body
+pub length-header : (items : List ItemValue) (body : List ℕ) → length (header_text items ++ body) ≡ length (items_text items) + 5 + length body
 length-header items body = omega (arith, length-append (header_text items) body, length-append (items_text items) end_item)
 
 -- a file is as long as its parts

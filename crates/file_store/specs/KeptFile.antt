@@ -14,9 +14,10 @@ client_items items = filter (λ item. not (is_server_item item)) items
 abbrev pub ids_of : List ItemValue → List ℕ
 ids_of items = map (λ item. item.id) items
 
--- The file that is kept has the body of the one that came, items of the same ids in the same order, and those that the
--- server doesn't fill in with the same data.
+-- The file that is kept has no fault, the body of the one that came, items of the same ids in the same order, and those
+-- that the server doesn't fill in with the same data.
 pub record KeepsClient (came kept : List ℕ) : Type 0 where
+  pub faultless : fault_code kept ≡ None
   pub items : List ItemValue
   pub kept_items : List ItemValue
   pub body : List ℕ
@@ -25,7 +26,7 @@ pub record KeepsClient (came kept : List ℕ) : Type 0 where
   pub ids : ids_of kept_items ≡ ids_of items
   pub client : client_items kept_items ≡ client_items items
 
--- A file without fault has, once it is stamped, the same length, body and ids, and the same items but for the server's.
+-- A file without fault has, once it is stamped, the same length; and, of octets, it keeps what is the client's.
 abbrev pub KeptFileLaw : Type 0
 KeptFileLaw =
     (stamp : StampValue) (file : List ℕ) → IsCall stamp.by → fault_code file ≡ None

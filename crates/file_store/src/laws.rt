@@ -14,7 +14,7 @@ pub fn numbers_law()
     ensures { NumbersLaw }
 {}
 
-/// A file that is kept has the length, the body and the items of the one that came, but for the server's items.
+/// A file that is kept has no fault, and the length, the body and the items of the one that came, but for the server's items.
 pub fn kept_file_law()
     ensures { KeptFileLaw }
 {}

@@ -1,4 +1,5 @@
-//! The store of files: entries under way and complete, over a plain list in memory.
+//! The store of files: entries under way and complete, over a plain list in memory. A whole file is checked by its header
+//! when it is sealed, and kept with the server's stamp (PFH 1990).
 //!
 //! The store is a list of entries, and each call does some of the commands of `specs/Command.antt` to it.
 //! There is no disk yet: where one comes, each of the calls `begin`, `append` and `seal` takes it as its

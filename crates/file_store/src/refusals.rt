@@ -40,10 +40,9 @@ pub enum AppendRefusal {
 pub enum SealRefusal {
     /// Fewer octets came than the file has. The store is as it was, and the upload comes back as it was.
     Short(OpenUpload),
-    /// The file breaks the rule of the file header with this code. Its entry is dropped, and its number
-    /// never comes again.
+    /// The file breaks a rule of file headers. Its entry is dropped, and its number never comes again.
     Header {
-        /// The code of the rule.
+        /// The code of the first rule that it breaks: 6, 7, 14, 15 or 16 (FTL0 1990, error codes).
         code: u8,
     },
     /// No memory was left for the last octets. The store is as it was, and the upload comes back as it was.

@@ -111,8 +111,8 @@ impl StoredFile {
         Ok(())
     }
 
-    /// The file is whole and keeps all rules of headers: it is kept with its stamp, which is its number, its caller and
-    /// this moment. The stamp reads the header and never the body. Takes no memory.
+    /// The file is whole and keeps all rules of headers: it is kept with its stamp, which is its number, its
+    /// caller and this moment. The stamp reads the header and never the body. Takes no memory.
     pub fn seal(&mut self, moment: u32)
         requires partial { IsTrue (is_partial self.old.holding) }
         requires faultless { IsFaultlessFile (octets_of self.old.holding) }

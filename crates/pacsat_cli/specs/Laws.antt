@@ -23,8 +23,8 @@ abbrev pub came_of : (store : Store) (up : Upload) → Holds store up → List �
 came_of store up holds = holds.held ++ up.rest
 
 -- A file of which all octets came, and which has no fault, is acknowledged, and its entry is then complete with exactly
--- these octets, stamped with its number, its caller and the moment. What is kept has the client's body, and the client's
--- items but for those that the server fills in.
+-- these octets, stamped with its number, its caller and the moment. What is kept has no fault, the client's body, and the
+-- client's items but for those that the server fills in.
 abbrev pub AcknowledgedLaw : Type 0
 AcknowledgedLaw =
     (caller : CallSign) (moment : ℕ) (store : Store) (up : Upload) (holds : Holds store up)

@@ -49,7 +49,7 @@ kept_entry number caller file begun moment =
     }
 
 -- The events get UL_GO_RESP with the store's next number, and UL_ACK_RESP. Then the entry of that number is complete
--- with the file, stamped; and what is kept has the client's body, and the client's items but for the server's.
+-- with the file, stamped; and what is kept has no fault, the client's body, and the client's items but for the server's.
 pub record IsAcknowledged (caller : CallSign) (store : Store) (file : List ℕ) (begun moment : ℕ) (events : List Event) :
     Type 0 where
   pub replies : replies_to caller store command events ≡ ul_go_resp store.next 0 ∷ ul_ack_resp ∷ []
