@@ -65,6 +65,27 @@ fn is_selected(rt: &impl Abort, tokens: &[u8], header: &[u8]) -> bool {
     selection.holds(&header)
 }
 
+/// A comparison with no octet of constant, and 63 times not.
+fn all_64() -> [u8; 67] {
+    let mut tokens = [0x22; 67];
+    tokens[0] = 0x10;
+    tokens[1] = 0x18;
+    tokens[2] = 0x00;
+    tokens[3] = 0x00;
+    tokens
+}
+
+/// The same, and an octet more.
+fn more_than_64(last: u8) -> [u8; 68] {
+    let mut tokens = [0x22; 68];
+    tokens[0] = 0x10;
+    tokens[1] = 0x18;
+    tokens[2] = 0x00;
+    tokens[3] = 0x00;
+    tokens[67] = last;
+    tokens
+}
+
 #[test]
 fn faults_from_left_to_right(rt: HostRuntime) {
     let rows: [(&[u8], SelFault); 16] = [
@@ -107,22 +128,13 @@ fn faults_from_left_to_right(rt: HostRuntime) {
 
 #[test]
 fn at_most_64_tokens(rt: HostRuntime) {
-    let mut tokens = [0x22; 72];
-    tokens[0] = 0x10;
-    tokens[1] = 0x18;
-    tokens[2] = 0x00;
-    tokens[3] = 0x00;
-    assert_eq!(rt; fault_of(&rt, &tokens[..67]), None);
-    assert_eq!(rt;
-        fault_of(&rt, &tokens[..68]),
-        Some(SelFault::Many { at: 67 })
-    );
-    assert_eq!(rt; fault_of(&rt, &tokens), Some(SelFault::Many { at: 67 }));
-    for last in [0x10, 0x20, 0x30] {
-        tokens[67] = last;
+    assert_eq!(rt; fault_of(&rt, &all_64()), None);
+    for last in [0x10, 0x20, 0x22, 0x30] {
+        let tokens = more_than_64(last);
         assert_eq!(rt;
-            fault_of(&rt, &tokens[..68]),
-            Some(SelFault::Many { at: 67 })
+            fault_of(&rt, &tokens),
+            Some(SelFault::Many { at: 67 }),
+            "last {last}"
         );
     }
 }

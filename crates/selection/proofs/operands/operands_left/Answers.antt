@@ -1,7 +1,5 @@
-use Rattle.std.proofs.Common.{◌≡◌, arith, length}
+use Rattle.std.proofs.Common.{arith}
 use Rattle.std.proofs.lemmas.Result.{err_from_is_err_and}
-use Rattle.selection.specs.Reading.{step_by, token_in}
-use Rattle.selection.specs.Values.{StepsAs}
 use Rattle.selection.proofs.StepLemmas.{counted-step, counted-fault, counted-many, counted-end}
 use Rattle.selection.proofs.operands.operands_left.Goals as goal
 

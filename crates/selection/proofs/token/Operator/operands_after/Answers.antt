@@ -1,4 +1,4 @@
-use Rattle.std.proofs.Common.{◌≡◌, ℕ, ◌+◌, ◌-◌, ◌≤◌, Some, sym, subst, arith}
+use Rattle.std.proofs.Common.{ℕ, ◌+◌, ◌-◌, ◌≤◌, Some, sym, subst, arith}
 use Rattle.selection.specs.Layout.{operands_of}
 use Rattle.selection.specs.Reading.{operated}
 use Rattle.selection.specs.Values.{LeavesAs}

@@ -1,4 +1,4 @@
-use Rattle.std.proofs.Common.{◌≡◌, ◌∷◌, sym, ap, subst, arith}
+use Rattle.std.proofs.Common.{◌∷◌, ap, arith}
 use Rattle.selection.specs.declared.token.Token.{Token}
 use Rattle.selection.specs.Layout.{Compare}
 use Rattle.selection.specs.Reading.{trees_after}
