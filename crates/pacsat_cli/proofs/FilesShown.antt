@@ -1,7 +1,7 @@
 -- A command shows its text of octets, and so of the content that was loaded.
-use Rattle.std.proofs.Common.{◌≡◌, ℕ, ◌≤◌, List, [], length, refl, ap, sym, subst, ◌∙◌, inl, inr, Bool, true, false}
+use Rattle.std.proofs.Common.{◌≡◌, ℕ, ◌≤◌, List, [], length, refl, ap, sym, subst, ◌∙◌, inl, inr, true}
 use Rattle.std.proofs.lemmas.Bool.{ne_eqb}
-use Rattle.std.specs.Prelude.{Option, None, Some, IfSome, IfOk, Ok, Err, Result, option_map}
+use Rattle.std.specs.Prelude.{Option, None, Some, IfSome, IfOk, Ok, Err, Result}
 use Rattle.px_base.specs.declared.memory.OutOfMemory.{OutOfMemory as NoMemory}
 use Rattle.px_base.specs.declared.shelf.ShelfRefusal.{ShelfRefusal}
 use Rattle.px_base.specs.declared.shelf.ShelfRefusal.TheVariants as refusal
@@ -12,7 +12,6 @@ use Rattle.pfh_items.specs.Faults.{fault_code}
 use Rattle.header_tool.specs.declared.shown.Shown.{Shown}
 use Rattle.header_tool.specs.Lines.{IsCodeOf}
 use Rattle.pacsat_cli.specs.declared.files.FileCommand.{FileCommand}
-use Rattle.pacsat_cli.specs.declared.files.FileCommand.TheVariants as command
 use Rattle.pacsat_cli.specs.declared.status.Status.{Status}
 use Rattle.pacsat_cli.specs.declared.status.Status.TheVariants as status
 use Rattle.pacsat_cli.specs.Files.{FileEnd, FileShown, IsTextOf, IsTextPut, OctetsShown, checks_headers, code_status, end_of, fault_status, is_file_status, most_octets}

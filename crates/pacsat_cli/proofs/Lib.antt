@@ -4,6 +4,7 @@ pub mod FilesShown
 pub mod Invariants
 pub mod Listening
 pub mod Loading
+pub mod MakeEnds
 pub mod Moments
 pub mod NodeLemmas
 pub mod OctetLemmas

@@ -1,10 +1,9 @@
 -- How the loop over turns goes on, and how it ends.
-use Rattle.std.proofs.Common.{◌≡◌, ℕ, ◌+◌, ◌≤◌, ◌<◌, max, List, [], ◌∷◌, ◌++◌, length, refl, ap, sym, subst, ◌∙◌, inl, inr, append_assoc, append-nil, length-append, arith}
+use Rattle.std.proofs.Common.{◌≡◌, ℕ, ◌+◌, ◌<◌, max, List, [], ◌∷◌, ◌++◌, length, refl, ap, sym, subst, ◌∙◌, inl, inr, append_assoc, length-append, arith}
 use Rattle.std.specs.List.{AllByRecursion}
 use Rattle.std.specs.Prelude.{Option, None, Result, Ok, Err, IsSome}
 use Rattle.px_base.specs.CallSign.{CallSign}
 use Rattle.px_base.specs.Moments.{MomentsOf}
-use Rattle.px_base.specs.Octets.{IsFront}
 use Rattle.px_base.specs.Outside.{Gains, Grows}
 use Rattle.px_base.specs.Polling.{IsOpen, octets_of_turn}
 use Rattle.px_base.specs.declared.air.Polled.{Polled}
@@ -21,11 +20,11 @@ use Rattle.pacsat_cli.specs.declared.node.NodeStop.{NodeStop}
 use Rattle.pacsat_cli.specs.declared.node.NodeStop.TheVariants as stop
 use Rattle.pacsat_cli.specs.declared.node.Served.{Served}
 use Rattle.pacsat_cli.specs.declared.node.SessionTerms.{SessionTerms}
-use Rattle.pacsat_cli.specs.Events.{Brings, Event, at_moment}
+use Rattle.pacsat_cli.specs.Events.{Brings, at_moment}
 use Rattle.pacsat_cli.specs.Node.{RunsOver, SaidUntil, SaysText, Serves, StopsOver, TakesTurn, TurnEnds}
 use Rattle.pacsat_cli.specs.ServerState.{ServerState, new_server}
 use Rattle.pacsat_cli.specs.Session.{command, first_unbuilt, greeting, replies_to, texts}
-use Rattle.pacsat_cli.specs.SessionRan.{IsPrompt, ListenedBy, SaidBy, SessionRan, SessionServed, TurnsBy, session_text, session_unbuilt}
+use Rattle.pacsat_cli.specs.SessionRan.{IsPrompt, ListenedBy, SaidBy, SessionServed, TurnsBy, session_text, session_unbuilt}
 use Rattle.pacsat_cli.proofs.EventLemmas.{brings-stream, stream-partial}
 use Rattle.pacsat_cli.proofs.Invariants.{IsListening}
 use Rattle.pacsat_cli.proofs.Moments.{NextMoments, moments-trans, moments_none, next_moments}

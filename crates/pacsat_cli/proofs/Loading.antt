@@ -1,5 +1,5 @@
 -- What a load of the shelf says of the content of a name.
-use Rattle.std.proofs.Common.{◌≡◌, ℕ, ◌<◌, ◌≤◌, List, length, refl, ap, inl, inr, arith, Bool, true, false}
+use Rattle.std.proofs.Common.{◌≡◌, ℕ, ◌<◌, List, length, refl, ap, inl, inr, Bool, true, false}
 use Rattle.std.proofs.lemmas.Bool.Decides.{leb_tells}
 use Rattle.std.specs.Prelude.{Option, None, Some, Ok, Err, nat_le, if◌then◌else◌}
 use Rattle.px_base.specs.declared.shelf.ShelfRefusal.TheVariants as refusal

@@ -12,7 +12,6 @@ use Rattle.pacsat_cli.specs.Events.{Event, at_moment}
 use Rattle.pacsat_cli.specs.Node.{AnswerSaid, GoesOn, RunsOver, SaidUntil, Stops, StopsOver, events_at}
 use Rattle.pacsat_cli.specs.ServerState.{ServerState}
 use Rattle.pacsat_cli.specs.Session.{Row, State, first_unbuilt, replies_to, session_row, texts}
-use Rattle.pacsat_cli.specs.Taking.{Gives}
 
 -- texts of packets joined are joined texts
 pub texts-append : (xs ys : List PacketValue) → texts (xs ++ ys) ≡ texts xs ++ texts ys

@@ -1,5 +1,5 @@
 -- Lists of octets, and what is under way of them.
-use Rattle.std.proofs.Common.{List, ℕ, ◌++◌, [], drop, length, subst, Bool, true, false}
+use Rattle.std.proofs.Common.{List, ℕ, ◌++◌, [], length, subst, Bool, true, false}
 use Rattle.std.proofs.Math.Seq.{drop-append_seam}
 use Rattle.std.specs.Prelude.{if◌then◌else◌}
 use Rattle.px_base.specs.Octets.{IsOctets}

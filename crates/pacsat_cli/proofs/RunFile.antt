@@ -1,6 +1,6 @@
 -- What a run did, where the words ask for the text of a file.
-use Rattle.std.proofs.Common.{◌≡◌, ℕ, ◌≤◌, List, [], refl, ap, sym, subst, ◌∙◌, arith, Bool, true, false}
-use Rattle.std.specs.Prelude.{Option, Some, IfSome}
+use Rattle.std.proofs.Common.{◌≡◌, ℕ, ◌≤◌, List, [], ap, sym, subst, ◌∙◌, arith, Bool, true, false}
+use Rattle.std.specs.Prelude.{Option, IfSome}
 use Rattle.px_base.specs.Outside.{Rose}
 use Rattle.px_base.specs.Shelves.{Holding, content_of}
 use Rattle.pacsat_cli.specs.declared.files.FileCommand.{FileCommand}

@@ -1,11 +1,10 @@
 -- What a run did, where the words ask for a file that is made.
-use Rattle.std.proofs.Common.{◌≡◌, ℕ, List, refl, ap, sym, subst, ◌∙◌, Bool, true, false}
+use Rattle.std.proofs.Common.{◌≡◌, ℕ, List, refl, ap, subst, Bool, true, false}
 use Rattle.std.specs.Prelude.{Option, None, Some, not, ◌&&◌, if◌then◌else◌}
 use Rattle.px_base.specs.Shelves.{Holding}
 use Rattle.command_words.specs.Laws.{Determined}
 use Rattle.command_words.specs.Made.{MakeValue as AskedValue, may_be_made}
 use Rattle.command_words.specs.Words.{IsMake}
-use Rattle.header_tool.specs.declared.refusal.MakeRefusal.{MakeRefusal}
 use Rattle.header_tool.specs.declared.refusal.MakeRefusal.TheVariants.{BadName, BadExt, LongText}
 use Rattle.header_tool.specs.Made.{MakeValue, spec_refusal}
 use Rattle.pacsat_cli.specs.declared.status.Status.{Status}
@@ -23,6 +22,16 @@ none-refused false b c e = absurd (cc)
 -- a header that words may ask for is one that can be made
 pub asked-made : (asked : AskedValue) → may_be_made asked ≡ true → spec_refusal (header_of asked) ≡ None
 asked-made asked e = none-refused _ _ _ e
+
+-- all tests are met where nothing is refused
+refused-none : (a b c : Bool) → (if not a then Some BadName else if not b then Some BadExt else if not c then Some LongText else None) ≡ None → (a && b && c) ≡ true
+refused-none true true true e = refl
+refused-none true true false e = absurd (cc)
+refused-none true false c e = absurd (cc)
+refused-none false b c e = absurd (cc)
+
+pub made-asked : (asked : AskedValue) → spec_refusal (header_of asked) ≡ None → may_be_made asked ≡ true
+made-asked asked e = refused-none _ _ _ e
 
 -- whether a make can end with this status
 abbrev pub is_make_status : Status → Bool

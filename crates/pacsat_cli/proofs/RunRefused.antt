@@ -1,7 +1,7 @@
 -- What a run did, where the words were refused.
 use Rattle.std.proofs.Common.{◌≡◌, ℕ, List, [], ◌∷◌, ◌++◌, refl, ap, sym, subst, ◌∙◌, inl, inr, append-nil, arith, Bool, true, false, Err}
 use Rattle.std.proofs.lemmas.List.{append_cancel_left}
-use Rattle.std.specs.Prelude.{Option, None, Some, IfSome, Result, ◌⊎◌}
+use Rattle.std.specs.Prelude.{Option, None, Some, IfSome, Result}
 use Rattle.px_base.specs.CallSign.{CallSign}
 use Rattle.px_base.specs.Polling.{HasEnd}
 use Rattle.px_base.specs.Shelves.{Holding, content_of}
@@ -16,9 +16,9 @@ use Rattle.header_tool.specs.Made.{MakeValue}
 use Rattle.pacsat_cli.specs.declared.status.Status.{Status}
 use Rattle.pacsat_cli.specs.declared.status.Status.TheVariants as status
 use Rattle.pacsat_cli.specs.declared.files.FileCommand.{FileCommand}
-use Rattle.pacsat_cli.specs.Files.{FileEnd, FileShown, IsNoSuchBy, IsShownBy, IsTooLongBy, end_of}
-use Rattle.pacsat_cli.specs.Making.{IsMakeStatus, MakeRan, make_status}
-use Rattle.pacsat_cli.specs.Run.{AreRefused, IsDoneBy, IsNotBuiltBy, IsSpentBy, IsUnless, RunsSession, SessionHeard, Shows, WhereHeard}
+use Rattle.pacsat_cli.specs.Files.{FileEnd, FileShown, IsNoSuchBy, IsShownBy, IsTooLongBy}
+use Rattle.pacsat_cli.specs.Making.{IsMakeStatus, MakeRan}
+use Rattle.pacsat_cli.specs.Run.{IsDoneBy, IsNotBuiltBy, IsSpentBy, IsUnless, RunsSession, Shows, WhereHeard}
 use Rattle.pacsat_cli.specs.Status.{line_of}
 use Rattle.pacsat_cli.specs.Stops.{status_of_refusal}
 use Rattle.pacsat_cli.specs.Tasks.{AsksText, RunsFile, RunsMake, WhereHeld, header_of}

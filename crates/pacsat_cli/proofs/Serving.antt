@@ -1,15 +1,12 @@
 -- How a server takes packets and octets.
-use Rattle.std.proofs.Common.{◌≡◌, ℕ, suc, true, ◌<◌, ◌≤◌, List, [], ◌∷◌, ◌++◌, length, take, drop, refl, ap, sym, subst, ◌∙◌, append-nil, arith}
+use Rattle.std.proofs.Common.{◌≡◌, ℕ, suc, true, List, [], ◌∷◌, ◌++◌, length, take, drop, refl, ap, sym, subst, ◌∙◌, append-nil, arith}
 use Rattle.std.specs.Prelude.{Option, Some, Result, Ok, Err, ⊤, IsErrAnd, nat_eq}
 use Rattle.std.proofs.lemmas.Bool.Decides.{nat_tests}
 use Rattle.std.proofs.lemmas.Result.{err_from_is_err_and}
-use Rattle.px_base.specs.CallSign.{CallSign}
 use Rattle.px_base.specs.Outside.{Gains}
-use Rattle.px_base.specs.Polling.{Hears, IsOpen, octets_of_turn, turn_of}
+use Rattle.px_base.specs.Polling.{Hears, octets_of_turn}
 use Rattle.px_base.specs.declared.air.Polled.{Polled}
-use Rattle.px_base.specs.declared.air.Polled.TheVariants as polled
 use Rattle.px_base.specs.declared.air.Turn.{Turn}
-use Rattle.px_base.specs.declared.air.Turn.TheVariants as turn
 use Rattle.px_base.proofs.Told.{Gains-front, Gains-none, Gains-trans}
 use Rattle.ftl0_packets.specs.Laws.{IsReadAsStream}
 use Rattle.px_base.specs.Octets.{IsOctets}
@@ -26,10 +23,10 @@ use Rattle.pacsat_cli.specs.declared.node.SessionServer.TheInside.{Inside}
 use Rattle.pacsat_cli.specs.declared.session.Session.{Session}
 use Rattle.pacsat_cli.specs.declared.session.SessionStop.{SessionStop}
 use Rattle.pacsat_cli.specs.declared.session.SessionStop.TheVariants as session_stop
-use Rattle.pacsat_cli.specs.Node.{Replied, FeedsPiece, GoesOn, SaysText, Serves, ServesOctets, Stops, TakesTurn, TurnEnds, node_stop_of}
+use Rattle.pacsat_cli.specs.Node.{Replied, FeedsPiece, GoesOn, SaysText, Serves, ServesOctets, TakesTurn, TurnEnds, node_stop_of}
 use Rattle.pacsat_cli.specs.Server.{IsServer, IsWaiting, server_state}
 use Rattle.pacsat_cli.specs.ServerState.{ServerState, with_octets}
-use Rattle.pacsat_cli.specs.Session.{Row, kind_of_item, session_row, texts}
+use Rattle.pacsat_cli.specs.Session.{Row, kind_of_item, session_row}
 use Rattle.pacsat_cli.specs.Taking.{Gives, TakesPacket, state_of}
 use Rattle.pacsat_cli.proofs.Invariants.{IsHearing}
 use Rattle.pacsat_cli.proofs.NodeLemmas.{goes_on-trans, stops-trans}

@@ -15,11 +15,16 @@ pub record IsMadeOf (spec : MakeValue) (body : List ℕ) (held : Option Holding)
   pub most : length octets ≤ most_octets
   pub made : IsMade spec octets file
 
+-- Keeping a file that is made failed, which leaves the content of the name open; or no file was to be kept, and all stays.
+abbrev pub MakeFails : (List ℕ → Type 0) → List ℕ → Option Holding → Option Holding → Type 0
+MakeFails IsFile name before now = (now ≡ before) ⊎ ((file : List ℕ) × IsFile file × KeepsOthers before now name)
+
 -- How a make ended, by what the shelf held and what it holds now. Done: a file is kept under the name, and all else stays.
--- A fault of the shelf leaves at most the content of the name open. Whatever else ends it, all stays. No other status comes.
+-- A fault of the shelf that came while a file was kept leaves the content of the name open. Whatever else ends it, all stays.
+-- No other status comes.
 abbrev pub MakeEnd : (List ℕ → Type 0) → List ℕ → Option Holding → Option Holding → Status → Type 0
 MakeEnd IsFile name before now Done = (file : List ℕ) × IsFile file × Keeps before now name file
-MakeEnd IsFile name before now Shelf = KeepsOthers before now name
+MakeEnd IsFile name before now Shelf = MakeFails IsFile name before now
 MakeEnd IsFile name before now NoSuch = now ≡ before
 MakeEnd IsFile name before now TooLong = now ≡ before
 MakeEnd IsFile name before now OutOfMemory = now ≡ before

@@ -1,5 +1,5 @@
 -- What a run of the program did for a session, by its words and by what was heard.
-use Rattle.std.specs.Prelude.{◌≡◌, ◌⊎◌, ℕ, ◌+◌, ◌++◌, List, [], ◌∷◌, length, Contains, Option, None, Some, IsSome, Result}
+use Rattle.std.specs.Prelude.{◌≡◌, ◌⊎◌, ℕ, ◌++◌, List, [], ◌∷◌, length, Contains, Option, None, Some, IsSome, Result}
 use Rattle.std.specs.List.{AllByRecursion}
 use Rattle.px_base.specs.CallSign.{CallSign}
 use Rattle.px_base.specs.Moments.{TellsMoments}

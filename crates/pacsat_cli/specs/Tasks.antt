@@ -1,10 +1,10 @@
 -- What the words ask a run to do, and what a run did of it.
-use Rattle.std.specs.Prelude.{◌≡◌, ℕ, List, Option, Some, IfSome}
+use Rattle.std.specs.Prelude.{◌≡◌, ℕ, List, Option, None, Some, true}
 use Rattle.px_base.specs.Shelves.{Holding, content_of}
 use Rattle.command_words.specs.Asked.{make_value as asked_value}
-use Rattle.command_words.specs.Made.{MakeValue as AskedValue}
+use Rattle.command_words.specs.Made.{MakeValue as AskedValue, may_be_made}
 use Rattle.command_words.specs.Words.{IsCheck, IsFrames, IsMake, IsSession, IsShow}
-use Rattle.header_tool.specs.Made.{MakeValue}
+use Rattle.header_tool.specs.Made.{MakeValue, spec_refusal}
 use Rattle.pacsat_cli.specs.declared.files.FileCommand.{FileCommand}
 use Rattle.pacsat_cli.specs.declared.files.FileCommand.TheVariants as command
 use Rattle.pacsat_cli.specs.declared.status.Status.{Status}
@@ -35,6 +35,12 @@ header_of asked =
       destination = asked.destination;
       title = asked.title;
     }
+
+-- A header that the words may ask for is one that isn't refused, and the other way round.
+abbrev pub OneRuleLaw : Type 0
+OneRuleLaw =
+    (asked : AskedValue) → (may_be_made asked ≡ true → spec_refusal (header_of asked) ≡ None)
+    × (spec_refusal (header_of asked) ≡ None → may_be_made asked ≡ true)
 
 -- the words ask for a file that is made of BODY and a header, and kept under a name
 abbrev pub AsksMake : List (List ℕ) → Type 0

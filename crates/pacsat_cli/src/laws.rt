@@ -1,6 +1,7 @@
-//! Laws of the session's table.
+//! Laws of the session's table, and of what the words may ask for.
 
 ghost use Rattle.pacsat_cli.specs.Laws.{AcknowledgedLaw, GrantedLaw};
+ghost use Rattle.pacsat_cli.specs.Tasks.{OneRuleLaw};
 ghost use Rattle.pacsat_cli.specs.Uploaded.{UploadedLaw};
 
 /// A new file that may be begun is granted.
@@ -19,4 +20,9 @@ pub fn acknowledged_law()
 /// server's.
 pub fn uploaded_law()
     ensures { UploadedLaw }
+{}
+
+/// The words of `pfh-make` are in the command set exactly where the header that they ask for isn't refused.
+pub fn one_rule()
+    ensures { OneRuleLaw }
 {}

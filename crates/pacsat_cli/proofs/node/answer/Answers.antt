@@ -1,5 +1,5 @@
 -- A packet that has a row is answered by its replies, and one that stops the session by nothing.
-use Rattle.std.proofs.Common.{Result, Err}
+use Rattle.std.proofs.Common.{Result}
 use Rattle.std.specs.Prelude.{⊤}
 use Rattle.pacsat_cli.specs.declared.node.NodeStop.{NodeStop}
 use Rattle.pacsat_cli.specs.Node.{Replied, node_stop_of}

@@ -1,5 +1,5 @@
 -- A packet that is found is answered, and less than one is waited with.
-use Rattle.std.proofs.Common.{ℕ, [], ◌∷◌, refl, subst, arith, Result, Ok, Err, drop}
+use Rattle.std.proofs.Common.{ℕ, [], ◌∷◌, refl, subst, arith, Result, Ok, Err}
 use Rattle.px_base.proofs.Told.{Gains-none}
 use Rattle.ftl0_packets.specs.Reading.{packets_of, read_item, rest_of}
 use Rattle.pacsat_cli.specs.declared.node.NodeStop.{NodeStop}

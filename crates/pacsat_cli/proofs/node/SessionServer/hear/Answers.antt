@@ -1,5 +1,5 @@
 -- The loop goes on by what is fed, and stops where that stops.
-use Rattle.std.proofs.Common.{◌≡◌, [], ℕ, List, length, arith, Result, Err, ap, sym, ◌∙◌}
+use Rattle.std.proofs.Common.{arith, Result, sym, ◌∙◌}
 use Rattle.std.specs.Prelude.{⊤}
 use Rattle.pacsat_cli.specs.declared.node.NodeStop.{NodeStop}
 use Rattle.pacsat_cli.specs.Node.{ServesOctets}

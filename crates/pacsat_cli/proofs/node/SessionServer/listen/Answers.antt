@@ -1,5 +1,5 @@
 -- The loop over turns.
-use Rattle.std.proofs.Common.{◌≡◌, arith, Result, Err}
+use Rattle.std.proofs.Common.{◌≡◌, arith, Result}
 use Rattle.pacsat_cli.specs.declared.node.NodeStop.{NodeStop}
 use Rattle.pacsat_cli.specs.declared.node.Served.{Served}
 use Rattle.pacsat_cli.specs.SessionRan.{ListenedBy}

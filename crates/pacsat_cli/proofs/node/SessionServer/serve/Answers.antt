@@ -1,5 +1,5 @@
 -- LOGIN_RESP, and then the turns.
-use Rattle.std.proofs.Common.{Result, Err}
+use Rattle.std.proofs.Common.{Result}
 use Rattle.pacsat_cli.specs.declared.node.NodeStop.{NodeStop}
 use Rattle.pacsat_cli.specs.declared.node.Served.{Served}
 use Rattle.pacsat_cli.specs.SessionRan.{SessionServed}
