@@ -1,4 +1,6 @@
 mod Crashes
+mod Reached
+mod Short
 mod Steps
 mod Surfaces
 mod Writes
