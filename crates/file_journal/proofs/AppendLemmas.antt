@@ -1,5 +1,5 @@
 -- What a record put behind the last gate makes of a store, and what a crash leaves of it.
-use Rattle.std.proofs.Common.{◌≡◌, ◌≢◌, inl, inr, ⊎_elim, ℕ, ◌+◌, ◌<◌, ◌≤◌, true, false, List, [], ◌∷◌, ◌++◌, length, get_or, take, drop, Option, Some, IfSome, Result, OnOk, sym, ◌∙◌, ap, ap₂, subst, arith, append_assoc, append-nil, length-append, length-drop, take-append-drop, take-take, get_or-take, true≢false}
+use Rattle.std.proofs.Common.{◌≡◌, ◌≢◌, inl, inr, ⊎_elim, ℕ, ◌+◌, ◌<◌, ◌≤◌, true, false, List, [], ◌∷◌, ◌++◌, length, get_or, take, drop, Some, IfSome, Result, OnOk, sym, ◌∙◌, ap, ap₂, subst, arith, append_assoc, append-nil, length-append, length-drop, take-append-drop, take-take, get_or-take, true≢false}
 use Rattle.std.proofs.lemmas.Bool.{cases_eq}
 use Rattle.std.proofs.lemmas.List.{take_at, drop_at, drop_more, length-take-le, get_or_at}
 use Rattle.std.proofs.lemmas.List.Elements.{All-drop, All-from_get_or}
@@ -9,12 +9,12 @@ use Rattle.px_base.specs.Octets.{IsOctets}
 use Rattle.disk_model.specs.Disk.{HasContent, Only, Torn}
 use Rattle.disk_model.specs.Moments.{LeavesSince}
 use Rattle.disk_model.specs.declared.disk.Disk.{Ghosts}
-use Rattle.file_journal.specs.Appending.{Appends, IsAppending, IsPutting, IsTornFrom, OpensGate, with_gate}
-use Rattle.file_journal.specs.Calls.{IsQuietNow, Leaves, Makes, images_now}
+use Rattle.file_journal.specs.Appending.{Appends, IsAppending, IsPutting, OpensGate, with_gate}
+use Rattle.file_journal.specs.Calls.{Leaves, Makes, images_now}
 use Rattle.file_journal.specs.Header.{HasHeader}
 use Rattle.file_journal.specs.Records.{Record, IsRecord, record_of, record_text, records_text, StartsClosed, Reading, whole, StandsFrom, with_records, reading_from}
 use Rattle.file_journal.specs.Journal.{Standing, store, journal_of, store_of, with_last, IsBeforeOrAfter}
-use Rattle.file_journal.specs.Position.{Position, left_to_read, IsAt, StandsAmong, StandsOn}
+use Rattle.file_journal.specs.Position.{Position, left_to_read, IsAt, StandsOn}
 use Rattle.file_journal.proofs.CallLemmas.{on_ok_both}
 use Rattle.file_journal.proofs.JournalLemmas.{same_header, of_full, store_parts}
 use Rattle.file_journal.proofs.MomentLemmas.{weaker}
@@ -58,7 +58,7 @@ module _ (journal : Position) (passed : List Record) (octets : List ℕ) (end : 
 
   pub ends_from : Ends journal.magic journal.blocks passed journal.place octets
   ends_from =
-      let is_store : journal_of journal.magic octets ≡ store (Some journal.blocks) passed =
+      let is_store : journal_of journal.magic octets ≡ store (Some journal.blocks) (whole passed) =
       at.records ∙ ap (λ (r : Reading). store_of journal.blocks (with_records passed r)) (at.ended end) ∙ ap (store_of journal.blocks) (all_whole passed) in
       let parts = store_parts journal.magic octets journal.blocks passed at.formatted is_store in
       let some : 0 < length (drop 16 octets) = omega (arith, at.formatted, length-drop 16 octets) in
@@ -82,7 +82,7 @@ module _ (magic : List ℕ) (blocks : ℕ) (entries : List Record) (place : ℕ)
       ∙ drop_at (take 16 octets) (records_text entries ++ get_or octets place 0 ∷ drop (place + 1) octets) 16 front
 
   -- it stands for these records
-  pub ends_store : journal_of magic octets ≡ store (Some blocks) entries
+  pub ends_store : journal_of magic octets ≡ store (Some blocks) (whole entries)
   ends_store =
       of_full magic octets blocks ends.head ends.long
       ∙ ap (store_of blocks)

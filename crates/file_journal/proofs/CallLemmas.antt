@@ -1,13 +1,13 @@
 -- How a run of disk calls is put together of others.
-use Rattle.std.proofs.Common.{◌≡◌, ◌⊎◌, inl, inr, ⊎_elim, ℕ, ◌+◌, ◌≤◌, true≢false, List, Option, Some, IfSome, Result, Ok, Err, IsErr, OnOk, refl, sym, ◌∙◌, ap, subst, arith}
+use Rattle.std.proofs.Common.{◌≡◌, inl, inr, ℕ, ◌+◌, ◌≤◌, true≢false, List, Some, IfSome, Result, Ok, Err, IsErr, OnOk, refl, sym, ◌∙◌, subst, arith}
 use Rattle.std.proofs.lemmas.Result.{on_ok_weaker}
-use Rattle.px_base.specs.Outside.{HasCause, Rose}
-use Rattle.disk_model.specs.Disk.{HasContent, Only}
+use Rattle.px_base.specs.Outside.{HasCause}
+use Rattle.disk_model.specs.Disk.{Only}
 use Rattle.disk_model.specs.Moments.{SinceNow, TimePasses}
 use Rattle.disk_model.specs.declared.disk.Disk.{Ghosts}
-use Rattle.file_journal.specs.Calls.{ChangesReads, CountsFault, CountsFaults, IsQuietNow, IsLastCall, Leaves, Makes, Puts, Reads, Runs, StopsAtFault, TellsAlike, images_now}
+use Rattle.file_journal.specs.Calls.{ChangesReads, CountsFault, IsQuietNow, Makes, Puts, Reads, StopsAtFault, TellsAlike, images_now}
 use Rattle.file_journal.proofs.MomentLemmas.{joined, reads, weaker}
-use Rattle.file_journal.proofs.ToldLemmas.{alike_on, alike_same, at_told, content_now, if_told, told_weaker}
+use Rattle.file_journal.proofs.ToldLemmas.{alike_on, alike_same, at_told, if_told, told_weaker}
 
 -- from two facts of an `Ok`
 pub on_ok_both : {T E P Q R : Type 0} (result : Result T E) → (P → Q → R) → OnOk result P → OnOk result Q → OnOk result R
@@ -163,6 +163,17 @@ module _ {D : Type 0} (g : Ghosts D) where
           (weaker g.moment g.images_since mid new (second_leaves m.0) (leaves before) (λ image here. late before m.0 image told m.1 m.2 here) (at_told _ m.0 m.1 second.since)));
       puts = puts_on on old mid new _ _ (λ e. true≢false (sym e)) first.puts second.puts;
     }
+
+  -- no call, and reads that failed exactly where they are said to
+  pub reads_none : (disk : D) (P : Type 0) → ¬ P → g.lasts disk disk → Reads g P disk disk
+  reads_none disk P fine same = record {
+    only = record { same_content = refl; same_images = λ image. (λ now. now, λ was. was); same_moment = refl; same_past = λ t image. (λ now. now, λ was. was); same_write_faults = refl };
+    faults = counts_none _ P fine;
+    lasts = same;
+  }
+
+  pub reads_same : (old new : D) (P Q : Type 0) → (P → Q) → (Q → P) → Reads g P old new → Reads g Q old new
+  reads_same old new P Q there back run = record { only = run.only; faults = counts_same _ _ P Q there back run.faults; lasts = run.lasts }
 
   -- reads change nothing of what a crash since this moment might have left
   pub reads_now : (old new : D) → ChangesReads g old new → (image : List ℕ) → images_now g new image → images_now g old image

@@ -2,7 +2,7 @@
 use Rattle.std.proofs.Common.{◌≡◌, inl, inr, ℕ, ◌+◌, ◌%◌, ◌==◌, nat_lt, ◌≤◌, List, [], ◌∷◌, ◌++◌, length, get_or, take, drop, sym, ◌∙◌, ap, subst, arith, append_assoc, append-nil, length-append, length-drop, take-take, get_or-take, take-append-drop, take_all, eq-eqb, ne_eqb}
 use Rattle.std.proofs.lemmas.List.{drop_all, drop_more, take_at, length-take-le, get_or_at}
 use Rattle.std.proofs.lemmas.Bool.{cases_eq, cond-true, cond-false, lt-ltb, le-ltb}
-use Rattle.file_journal.specs.Journal.{after_finishing, after_recovery, even_selector, header_text}
+use Rattle.file_journal.specs.Journal.{after_finishing, even_selector}
 use Rattle.disk_model.specs.Disk.{Only, Torn, Writes}
 use Rattle.file_journal.specs.Appending.{IsTornFrom}
 use Rattle.file_journal.specs.Formatting.{IsFinishing, IsMakingEven, IsMakingGates, MakesEven, MakesGates}

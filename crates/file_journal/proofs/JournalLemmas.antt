@@ -1,26 +1,24 @@
 -- What the octets of a disk stand for, by their header and their length.
-use Rattle.std.proofs.Common.{◌≡◌, ◌≢◌, ℕ, ◌+◌, ◌<◌, ◌≤◌, true, false, cond, not, nat_le, nat_lt, List, [], ◌∷◌, ◌++◌, length, get_or, take, drop, None, Some, refl, sym, ◌∙◌, ap, subst, arith, append_assoc, append-nil, length-append, length-drop, take-take, get_or-take, inl, inr}
+use Rattle.std.proofs.Common.{◌≡◌, ◌≢◌, ℕ, ◌+◌, ◌<◌, ◌≤◌, true, false, cond, not, nat_le, nat_lt, List, [], ◌∷◌, ◌++◌, length, get_or, take, drop, None, Some, refl, sym, ◌∙◌, ap, subst, arith, append_assoc, append-nil, length-append, take-take, get_or-take, inl, inr}
 use Rattle.std.proofs.lemmas.Bool.{cond-true, cond-false, cases_Bool, cases_lt, and_from, false_from_ne_true, both_ways, not_from_true, not_from_false, le-leb, lt-leb, lt-ltb, le-ltb}
 use Rattle.std.proofs.lemmas.Slice.Eq.{bytes_eq-Decides}
 use Rattle.std.proofs.lemmas.List.{take_at, drop_more, get_or-append-add}
-use Rattle.std.proofs.lemmas.List.Elements.{All-drop}
-use Rattle.px_base.specs.Octets.{IsOctets}
 use Rattle.std.specs.Str.{bytes_eq}
 use Rattle.px_base.specs.Numbers.{le32, le32_octets}
-use Rattle.file_journal.specs.Records.{Record, Reading, whole, broken, reading_from}
-use Rattle.file_journal.specs.Journal.{Standing, store, damaged_at, no_store, is_block_number, store_of, journal_of, header_text, IsSameStore, HasGoodHeader}
+use Rattle.file_journal.specs.Records.{Record, Reading, whole, reading_from}
+use Rattle.file_journal.specs.Journal.{Standing, store, bad_number, no_store, is_block_number, store_of, journal_of, header_text, IsSameStore, HasGoodHeader}
 use Rattle.file_journal.specs.Formatting.{IsMakingGates}
 use Rattle.file_journal.specs.Header.{HasHeader}
-use Rattle.file_journal.proofs.ReadingLemmas.{reading_closed, broken_later}
+use Rattle.file_journal.proofs.ReadingLemmas.{reading_closed}
 
 module _ (magic octets : List ℕ) where
-  pub of_short : length octets ≤ 16 → journal_of magic octets ≡ store None []
+  pub of_short : length octets ≤ 16 → journal_of magic octets ≡ store None (whole [])
   unfolding journal_of
   of_short short = cond-true (nat_le (length octets) 16) _ _ (le-leb (length octets) 16 short)
 
   -- more than 16 octets
-  longer : (rest : Standing) → 16 < length octets → cond (nat_le (length octets) 16) (store None []) rest ≡ rest
-  longer rest long = cond-false (nat_le (length octets) 16) (store None []) rest (lt-leb (length octets) 16 long)
+  longer : (rest : Standing) → 16 < length octets → cond (nat_le (length octets) 16) (store None (whole [])) rest ≡ rest
+  longer rest long = cond-false (nat_le (length octets) 16) (store None (whole [])) rest (lt-leb (length octets) 16 long)
 
   pub of_foreign : 16 < length octets → take 8 octets ≢ magic → journal_of magic octets ≡ no_store (take 8 octets)
   unfolding journal_of
@@ -33,7 +31,7 @@ module _ (magic octets : List ℕ) where
   known : (found rest : Standing) → take 8 octets ≡ magic → cond (not (bytes_eq (take 8 octets) magic)) found rest ≡ rest
   known found rest is = cond-false (not (bytes_eq (take 8 octets) magic)) found rest (not_from_true _ ((bytes_eq-Decides (take 8 octets) magic).1 is))
 
-  pub of_bad_number : 16 < length octets → take 8 octets ≡ magic → is_block_number (le32 octets 8) ≡ false → journal_of magic octets ≡ damaged_at 8
+  pub of_bad_number : 16 < length octets → take 8 octets ≡ magic → is_block_number (le32 octets 8) ≡ false → journal_of magic octets ≡ bad_number
   unfolding journal_of
   of_bad_number long is bad = longer _ long ∙ known _ _ is ∙ cond-true (not (is_block_number (le32 octets 8))) _ _ (not_from_false _ bad)
 
@@ -41,12 +39,12 @@ module _ (magic octets : List ℕ) where
     good : (bad rest : Standing) → cond (not (is_block_number (le32 octets 8))) bad rest ≡ rest
     good bad rest = cond-false (not (is_block_number (le32 octets 8))) bad rest (not_from_true _ (ap is_block_number head.blocks_are ∙ head.is_number))
 
-    pub of_17 : length octets ≡ 17 → journal_of magic octets ≡ store (Some blocks) []
+    pub of_17 : length octets ≡ 17 → journal_of magic octets ≡ store (Some blocks) (whole [])
     unfolding journal_of
     of_17 size =
         longer _ (omega (arith, size)) ∙ known _ _ head.magic_is ∙ good _ _
         ∙ cond-true (nat_lt (length octets) 18) _ _ (lt-ltb (length octets) 18 (omega (arith, size)))
-        ∙ ap (λ (n : ℕ). store (Some n) []) head.blocks_are
+        ∙ ap (λ (n : ℕ). store (Some n) (whole [])) head.blocks_are
 
     pub of_full : 18 ≤ length octets → journal_of magic octets ≡ store_of blocks (reading_from 16 (drop 16 octets))
     unfolding journal_of
@@ -56,7 +54,7 @@ module _ (magic octets : List ℕ) where
         ∙ ap (λ (n : ℕ). store_of n (reading_from 16 (drop 16 octets))) head.blocks_are
 
     -- a store whose first gate isn't open, or isn't there yet
-    pub of_empty : 17 ≤ length octets → (17 < length octets → get_or octets 16 0 ≢ 1) → journal_of magic octets ≡ store (Some blocks) []
+    pub of_empty : 17 ≤ length octets → (17 < length octets → get_or octets 16 0 ≢ 1) → journal_of magic octets ≡ store (Some blocks) (whole [])
     of_empty long shut = elim (cases_lt 17 (length octets)) [
       | inr short ↦ of_17 (omega (arith, long, short))
       | inl more ↦
@@ -67,21 +65,11 @@ module _ (magic octets : List ℕ) where
     ]
 
 -- such octets aren't refused
-pub is_store : (magic octets : List ℕ) (blocks : ℕ) → IsOctets octets → 16 < length octets → HasHeader magic blocks octets → HasGoodHeader (journal_of magic octets)
-is_store magic octets blocks are long head = elim (cases_lt 17 (length octets)) [
+pub is_store : (magic octets : List ℕ) (blocks : ℕ) → 16 < length octets → HasHeader magic blocks octets → HasGoodHeader (journal_of magic octets)
+is_store magic octets blocks long head = elim (cases_lt 17 (length octets)) [
   | inr short ↦ (let is = of_17 magic octets blocks head (omega (arith, long, short)) in (λ found foreign. cc (sym is ∙ foreign), λ bad. cc (sym is ∙ bad)))
-  | inl more ↦ go (reading_from 16 (drop 16 octets)) refl (of_full magic octets blocks head (omega (arith, more))) (omega (arith, more, length-drop 16 octets))
+  | inl more ↦ (let is = of_full magic octets blocks head (omega (arith, more)) in (λ found foreign. cc (sym is ∙ foreign), λ bad. cc (sym is ∙ bad)))
 ]
-  where
-    go : (reading : Reading) → reading_from 16 (drop 16 octets) ≡ reading → journal_of magic octets ≡ store_of blocks reading → 0 < length (drop 16 octets) → HasGoodHeader (journal_of magic octets)
-    go (whole entries) read is some = (λ found foreign. cc (sym is ∙ foreign), λ bad. cc (sym is ∙ bad))
-    go (broken entries at) read is some = (
-      λ found foreign. cc (sym is ∙ foreign),
-      λ bad.
-          let later = broken_later 16 at (drop 16 octets) entries (All-drop (λ octet. octet < 256) 16 octets are) some read in
-          let same : at ≡ 8 = cc (sym is ∙ bad) in
-          omega (arith, later, same),
-    )
 
 -- octets with the same front have the same header
 pub same_header : (n : ℕ) (magic : List ℕ) (blocks : ℕ) (octets image : List ℕ) → 12 ≤ n → take n image ≡ take n octets → HasHeader magic blocks octets → HasHeader magic blocks image
@@ -115,7 +103,7 @@ header_written magic blocks rest eight some most =
     }
 
 -- while the gates of a new store are written
-pub new_gates : (magic : List ℕ) (blocks : ℕ) (image : List ℕ) → length magic ≡ 8 → 1 ≤ blocks → blocks ≤ 65536 → IsMakingGates (header_text magic blocks) image → IsSameStore blocks (store None []) (journal_of magic image)
+pub new_gates : (magic : List ℕ) (blocks : ℕ) (image : List ℕ) → length magic ≡ 8 → 1 ≤ blocks → blocks ≤ 65536 → IsMakingGates (header_text magic blocks) image → IsSameStore blocks (store None (whole [])) (journal_of magic image)
 new_gates magic blocks image eight some most making = elim (cases_lt 16 (length image)) [
   | inr short ↦ inl (of_short magic image short)
   | inl long ↦
@@ -128,7 +116,7 @@ new_gates magic blocks image eight some most making = elim (cases_lt 16 (length 
 ]
 
 -- what a whole store of at least 18 octets has
-pub store_parts : (magic octets : List ℕ) (blocks : ℕ) (entries : List Record) → 18 ≤ length octets → journal_of magic octets ≡ store (Some blocks) entries
+pub store_parts : (magic octets : List ℕ) (blocks : ℕ) (entries : List Record) → 18 ≤ length octets → journal_of magic octets ≡ store (Some blocks) (whole entries)
     → HasHeader magic blocks octets × (reading_from 16 (drop 16 octets) ≡ whole entries)
 store_parts magic octets blocks entries long is = elim (cases_Bool (bytes_eq (take 8 octets) magic)) [
   | inr foreign ↦ absurd (cc (sym is ∙ of_foreign magic octets (omega (arith, long)) (λ same. both_ways _ foreign ((bytes_eq-Decides (take 8 octets) magic).1 same))))
@@ -138,9 +126,8 @@ store_parts magic octets blocks entries long is = elim (cases_Bool (bytes_eq (ta
   ]
 ]
   where
-    fits : (number : ℕ) (reading : Reading) → store_of number reading ≡ store (Some blocks) entries → (number ≡ blocks) × (reading ≡ whole entries)
-    fits number (whole others) same = (cc same, cc same)
-    fits number (broken others at) same = absurd (cc same)
+    fits : (number : ℕ) (reading : Reading) → store_of number reading ≡ store (Some blocks) (whole entries) → (number ≡ blocks) × (reading ≡ whole entries)
+    fits number reading same = (cc same, cc same)
 
     parts : take 8 octets ≡ magic → is_block_number (le32 octets 8) ≡ true → HasHeader magic blocks octets × (reading_from 16 (drop 16 octets) ≡ whole entries)
     parts is_magic good =

@@ -2,6 +2,7 @@ pub mod AppendLemmas
 pub mod CallLemmas
 pub mod FormatLemmas
 pub mod JournalLemmas
+pub mod LedgerLemmas
 pub mod MomentLemmas
 pub mod NextLemmas
 pub mod OctetLemmas
@@ -10,3 +11,5 @@ pub mod PutLemmas
 pub mod ReadingLemmas
 pub mod RecoverLemmas
 pub mod ToldLemmas
+pub mod WalkLawLemmas
+pub mod WalkLemmas

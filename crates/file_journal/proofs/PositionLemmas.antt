@@ -1,5 +1,5 @@
 -- The journal's place among the records.
-use Rattle.std.proofs.Common.{◌≡◌, inl, inr, ℕ, ◌+◌, List, [], ◌∷◌, ◌++◌, length, drop, Option, IfSome, refl, sym, ◌∙◌, ap, arith, append_assoc, length-append}
+use Rattle.std.proofs.Common.{◌≡◌, inl, inr, ℕ, ◌+◌, List, [], ◌∷◌, ◌++◌, length, Option, IfSome, refl, sym, ◌∙◌, ap, arith, append_assoc, length-append}
 use Rattle.std.specs.List.{AllByRecursion}
 use Rattle.file_journal.specs.Records.{Record, IsRecord, record_text, records_text, Reading, with_record, with_records, reading_at}
 use Rattle.file_journal.specs.Journal.{store_of}

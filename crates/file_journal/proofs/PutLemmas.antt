@@ -1,5 +1,5 @@
 -- What a crash leaves while a record is put behind a gate.
-use Rattle.std.proofs.Common.{◌≡◌, inr, ℕ, ◌+◌, ◌<◌, List, [], ◌∷◌, ◌++◌, length, get_or, take, drop, sym, ◌∙◌, ap, ap₂, subst, arith, append_assoc, length-append, take-take}
+use Rattle.std.proofs.Common.{◌≡◌, inr, ℕ, ◌+◌, ◌<◌, List, [], ◌∷◌, ◌++◌, length, get_or, take, drop, sym, ◌∙◌, ap, ap₂, arith, append_assoc, length-append, take-take}
 use Rattle.std.proofs.lemmas.List.{take-append-le, drop_at, length-take-le}
 use Rattle.disk_model.specs.Disk.{Torn, Writes}
 use Rattle.file_journal.specs.Appending.{IsPutting, OpensGate, with_gate}

@@ -243,12 +243,6 @@ stands_from_read (suc most) place (gate ∷ octets) le are some =
     (λ shut. subst (λ (r : Reading). StandsFrom place (gate ∷ octets) r) (sym (reading_closed place gate octets shut)) (gate ∷ octets, tt, refl, shut))
     (cases_eq gate 1)
 
--- Damage stands at the gate or behind it.
-pub broken_later : (place at : ℕ) (octets : List ℕ) (entries : List Record) → IsOctets octets → 0 < length octets → reading_from place octets ≡ broken entries at → place ≤ at
-broken_later place at octets entries are some is =
-    let stands = subst (λ (r : Reading). StandsFrom place octets r) is (stands_from_read (length octets) place octets (omega arith) are some) in
-    omega (arith, stands.4)
-
 -- The gate at a place in octets, and what is read there.
 module _ (place : ℕ) (octets : List ℕ) where
   pub read_past : length octets ≤ place → reading_from place (drop place octets) ≡ broken [] place

@@ -1,7 +1,7 @@
 -- What a recovery leaves of a content, what it answers, and where its journal stands.
-use Rattle.std.proofs.Common.{◌≡◌, ◌↔◌, inl, inr, ℕ, ◌+◌, ◌%◌, ◌<◌, ◌≤◌, nat_le, nat_lt, false, List, [], ◌∷◌, ◌++◌, length, get_or, take, Option, Some, IfSome, Result, Ok, Err, refl, sym, ◌∙◌, ap, subst, arith, append_assoc, length-append, get_or-take, take-take, true≢false}
+use Rattle.std.proofs.Common.{◌≡◌, inl, inr, ℕ, ◌+◌, ◌%◌, ◌<◌, ◌≤◌, nat_le, nat_lt, false, List, [], ◌∷◌, ◌++◌, length, get_or, take, Option, Some, IfSome, Result, Ok, Err, refl, sym, ◌∙◌, ap, subst, arith, append_assoc, length-append, get_or-take, take-take, true≢false}
 use Rattle.std.proofs.lemmas.List.{get_or-append-add, get_or_at, take-append-le, take_at, length-take-le}
-use Rattle.std.proofs.lemmas.Bool.{cases_lt, cond-false, cond-true, le-ltb, le-leb, lt-leb, lt-ltb}
+use Rattle.std.proofs.lemmas.Bool.{cases_lt, cond-false, cond-true, le-leb, lt-leb, lt-ltb}
 use Rattle.px_base.specs.Numbers.{le32_octets}
 use Rattle.px_base.specs.Octets.{IsOctets}
 use Rattle.disk_model.specs.Disk.{HasContent, Only}
@@ -11,18 +11,19 @@ use Rattle.file_journal.specs.declared.faults.RecoverFault.TheVariants as fault
 use Rattle.file_journal.specs.Calls.{ChangesReads, IsQuietNow, Leaves, TellsAlike, images_now}
 use Rattle.file_journal.specs.Formatting.{IsFinishing, IsMakingGates}
 use Rattle.file_journal.specs.Header.{HasHeader}
-use Rattle.file_journal.specs.Journal.{Standing, store, no_store, damaged_at, journal_of, header_text, even_selector, after_finishing, after_recovery, HasGoodHeader, IsSameStore, store_of}
+use Rattle.file_journal.specs.Journal.{Standing, store, no_store, bad_number, journal_of, header_text, even_selector, after_finishing, after_recovery, HasGoodHeader, IsSameStore, store_of}
 use Rattle.file_journal.specs.Position.{Position, left_to_read, IsAt, StandsAmong, StandsOn}
+use Rattle.file_journal.specs.Records.{whole}
 use Rattle.file_journal.specs.Recovery.{IsRecovered, IsRecovering, RefusesExactly}
 use Rattle.file_journal.proofs.FormatLemmas.{finished_before}
-use Rattle.file_journal.proofs.JournalLemmas.{header_length, header_written, new_gates, of_17, of_bad_number, of_empty, of_foreign, of_full, of_short, same_header}
+use Rattle.file_journal.proofs.JournalLemmas.{header_length, header_written, new_gates, of_17, of_empty, of_full, of_short, same_header}
 use Rattle.file_journal.proofs.ToldLemmas.{at_told, content_now, if_told, told_weaker}
 use Rattle.file_journal.proofs.MomentLemmas.{joined, reads, weaker}
 
 -- Refusals.
 module _ (magic before : List ℕ) where
   -- a store is refused nowhere
-  pub refuses_none : {T : Type 0} (x : T) → ((found : List ℕ) → journal_of magic before ≡ no_store found → ⊥) → (journal_of magic before ≡ damaged_at 8 → ⊥) → RefusesExactly magic before (Ok x)
+  pub refuses_none : {T : Type 0} (x : T) → ((found : List ℕ) → journal_of magic before ≡ no_store found → ⊥) → (journal_of magic before ≡ bad_number → ⊥) → RefusesExactly magic before (Ok x)
   refuses_none x foreign bad = record {
     not_a_store = λ found. (λ same. absurd (cc same), λ is. absurd (foreign found is));
     damaged = λ at. (λ same. absurd (cc same), λ is. absurd (bad is.1));
@@ -34,7 +35,7 @@ module _ (magic before : List ℕ) where
     damaged = λ at. (λ same. absurd (cc (sym answer ∙ same)), λ now. absurd (cc (sym is ∙ now.1)));
   }
 
-  pub refuses_bad : {T : Type 0} (result : Result T RecoverFault) → result ≡ Err (fault.Damaged 8) → journal_of magic before ≡ damaged_at 8 → RefusesExactly magic before result
+  pub refuses_bad : {T : Type 0} (result : Result T RecoverFault) → result ≡ Err (fault.Damaged 8) → journal_of magic before ≡ bad_number → RefusesExactly magic before result
   refuses_bad result answer is = record {
     not_a_store = λ found. (λ same. absurd (cc (sym answer ∙ same)), λ now. absurd (cc (sym is ∙ now)));
     damaged = λ at. (λ same. (let n : 8 ≡ at = cc (sym answer ∙ same) in sym n, is), λ now. answer ∙ ap (λ (i : ℕ). Err (fault.Damaged i)) (sym now.0));
@@ -62,7 +63,7 @@ module _ (magic before : List ℕ) where
 -- the refusal of a content by its header
 pub refusal_of : {T : Type 0} (magic octets : List ℕ) (result : Result T RecoverFault) → ((x : T) → result ≡ Ok x → HasGoodHeader (journal_of magic octets))
     → ((found : List ℕ) → result ≡ Err (fault.NotAStore found) → journal_of magic octets ≡ no_store found)
-    → ((at : ℕ) → result ≡ Err (fault.Damaged at) → (at ≡ 8) × (journal_of magic octets ≡ damaged_at 8)) → ¬ (result ≡ Err fault.Disk) → RefusesExactly magic octets result
+    → ((at : ℕ) → result ≡ Err (fault.Damaged at) → (at ≡ 8) × (journal_of magic octets ≡ bad_number)) → ¬ (result ≡ Err fault.Disk) → RefusesExactly magic octets result
 refusal_of magic octets (Ok x) good foreign bad healthy = let is = good x refl in refuses_none magic octets x is.0 is.1
 refusal_of magic octets (Err (fault.NotAStore found)) good foreign bad healthy = refuses_foreign magic octets (Err (fault.NotAStore found)) found refl (foreign found refl)
 refusal_of magic octets (Err (fault.Damaged at)) good foreign bad healthy =
@@ -90,7 +91,7 @@ first_stands magic blocks content images shows = inr (if_told content _ (λ now 
 
 -- a new store
 pub new_store : (magic : List ℕ) (blocks : ℕ) (now : List ℕ) → length magic ≡ 8 → 1 ≤ blocks → blocks ≤ 65536 → now ≡ header_text magic blocks ++ 0 ∷ 0 ∷ []
-    → HasHeader magic blocks now × (18 ≤ length now) × (journal_of magic now ≡ store (Some blocks) [])
+    → HasHeader magic blocks now × (18 ≤ length now) × (journal_of magic now ≡ store (Some blocks) (whole []))
 new_store magic blocks now eight some most is =
     let head = subst (λ (l : List ℕ). HasHeader magic blocks l) (sym is) (header_written magic blocks (0 ∷ 0 ∷ []) eight some most) in
     let size : length now ≡ 18 = ap length is ∙ omega (arith, header_length magic blocks eight, length-append (header_text magic blocks) (0 ∷ 0 ∷ [])) in
@@ -107,9 +108,9 @@ finishing magic blocks before image head making =
 pub finished_store : (magic : List ℕ) (blocks : ℕ) (before now : List ℕ) → 16 < length before → HasHeader magic blocks before → now ≡ after_finishing before
     → HasHeader magic blocks now × (18 ≤ length now) × (journal_of magic now ≡ journal_of magic before)
 finished_store magic blocks before now long head is = elim (cases_lt (length before) 18) [
-  | inr whole ↦
-      let same : now ≡ before = is ∙ sym (finished_before before whole) in
-      (subst (λ (l : List ℕ). HasHeader magic blocks l) (sym same) head, omega (arith, ap length same, whole), ap (journal_of magic) same)
+  | inr full ↦
+      let same : now ≡ before = is ∙ sym (finished_before before full) in
+      (subst (λ (l : List ℕ). HasHeader magic blocks l) (sym same) head, omega (arith, ap length same, full), ap (journal_of magic) same)
   | inl short ↦
       let size : length before ≡ 17 = omega (arith, long, short) in
       let front : length (take 15 before) ≡ 15 = length-take-le 15 before (omega (arith, size)) in
@@ -149,7 +150,7 @@ module _ (magic : List ℕ) (blocks : ℕ) (before : List ℕ) where
     formatted = λ long. refl;
     no_longer = λ short. omega (arith, short);
     header = λ long. elim (cases_lt (length before) 18) [
-      | inr whole ↦ ap (λ (l : List ℕ). take 15 l) (finished_before before whole ∙ sym (known_after long))
+      | inr full ↦ ap (λ (l : List ℕ). take 15 l) (finished_before before full ∙ sym (known_after long))
       | inl short ↦ sym (kept_front long short)
     ];
     even = λ short long. absurd (omega (arith, short, long));

@@ -1,5 +1,5 @@
 -- What holds where content is told.
-use Rattle.std.proofs.Common.{◌≡◌, ◌↔◌, ℕ, List, Option, None, Some, IfSome, is_some, Result, Ok, IfOk, refl, sym, ◌∙◌, ap, subst, true, true≢false}
+use Rattle.std.proofs.Common.{◌≡◌, ℕ, List, Option, None, Some, IfSome, is_some, Result, Ok, IfOk, refl, sym, ◌∙◌, ap, subst, true, true≢false}
 use Rattle.disk_model.specs.Disk.{HasContent}
 use Rattle.file_journal.specs.Calls.{TellsAlike}
 

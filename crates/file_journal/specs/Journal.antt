@@ -2,44 +2,43 @@
 use Rattle.std.specs.Prelude.{◌≡◌, ◌⊎◌, ℕ, ◌%◌, List, [], ◌∷◌, ◌++◌, length, take, drop, slice_index, Bool, not, ◌&&◌, ◌==◌, nat_le, nat_lt, if◌then◌else◌, Option, None, Some}
 use Rattle.std.specs.Str.{bytes_eq}
 use Rattle.px_base.specs.Numbers.{le32, le32_octets}
-use Rattle.file_journal.specs.Records.{Record, Reading, whole, broken, reading_from}
+use Rattle.file_journal.specs.Records.{Record, Reading, whole, reading_from, with_end}
 
--- What octets stand for: for no store, since they begin with these eight octets; for none, by what stands at this
--- place; or for a store with a block number, where it has one yet, and these records.
+-- What octets stand for: for no store, since they begin with these eight octets; for none, since the block number isn't
+-- in 1 to 65,536; or for a store with a block number, where it has one yet, and what is read from its first gate on.
 pub data Standing : Type 0 where
   no_store : List ℕ → Standing
-  damaged_at : ℕ → Standing
-  store : Option ℕ → List Record → Standing
+  bad_number : Standing
+  store : Option ℕ → Reading → Standing
 
 -- a block number is from 1 to 65,536
 abbrev pub is_block_number : ℕ → Bool
 is_block_number blocks = nat_le 1 blocks && nat_le blocks 65536
 
--- a store with this block number and the records that were read
+-- a store with this block number and what was read
 abbrev pub store_of : ℕ → Reading → Standing
-store_of blocks (whole entries) = store (Some blocks) entries
-store_of blocks (broken entries at) = damaged_at at
+store_of blocks reading = store (Some blocks) reading
 
 -- Octets 0 to 7 are the magic, 8 to 11 the block number, 12 to 14 zero, 15 the selector. The first gate stands at 16.
 -- At most 16 octets are a store that isn't formatted yet; with fewer than 18 its formatting was interrupted, and it has
 -- no records.
 unfoldable pub journal_of : List ℕ → List ℕ → Standing
 journal_of magic octets =
-    if nat_le (length octets) 16 then store None []
+    if nat_le (length octets) 16 then store None (whole [])
     else if not (bytes_eq (take 8 octets) magic) then no_store (take 8 octets)
-    else if not (is_block_number (le32 octets 8)) then damaged_at 8
-    else if nat_lt (length octets) 18 then store (Some (le32 octets 8)) []
+    else if not (is_block_number (le32 octets 8)) then bad_number
+    else if nat_lt (length octets) 18 then store (Some (le32 octets 8)) (whole [])
     else store_of (le32 octets 8) (reading_from 16 (drop 16 octets))
 
 -- not refused by its magic or its block number
 abbrev pub HasGoodHeader : Standing → Type 0
-HasGoodHeader standing = ((found : List ℕ) → standing ≡ no_store found → ⊥) × (standing ≡ damaged_at 8 → ⊥)
+HasGoodHeader standing = ((found : List ℕ) → standing ≡ no_store found → ⊥) × (standing ≡ bad_number → ⊥)
 
 -- with one more record at the end
 abbrev pub with_last : Standing → Record → Standing
-with_last (store blocks entries) entry = store blocks (entries ++ entry ∷ [])
+with_last (store blocks reading) entry = store blocks (with_end reading entry)
 with_last (no_store found) entry = no_store found
-with_last (damaged_at at) entry = damaged_at at
+with_last bad_number entry = bad_number
 
 -- the same records, or these and the new one
 abbrev pub IsBeforeOrAfter : Standing → Record → Standing → Type 0
@@ -47,7 +46,8 @@ IsBeforeOrAfter before entry now = (now ≡ before) ⊎ (now ≡ with_last befor
 
 -- the same; but a store that had no block number yet, and so no records, may have got this one
 abbrev pub IsSameStore : ℕ → Standing → Standing → Type 0
-IsSameStore blocks before now = (now ≡ before) ⊎ ((before ≡ store None []) × (now ≡ store (Some blocks) []))
+IsSameStore blocks before now =
+    (now ≡ before) ⊎ ((before ≡ store None (whole [])) × (now ≡ store (Some blocks) (whole [])))
 
 -- The header of a store: magic, block number, zeros, the selector 00.
 abbrev pub header_text : List ℕ → ℕ → List ℕ

@@ -4,7 +4,9 @@ pub mod Formatting
 pub mod Header
 pub mod Journal
 pub mod Laws
+pub mod Ledger
 pub mod Next
 pub mod Position
 pub mod Records
 pub mod Recovery
+pub mod Walk

@@ -1,7 +1,7 @@
 -- What a journal answers of the record at its place.
 use Rattle.std.specs.Prelude.{◌≡◌, ◌↔◌, ℕ, List, [], Option, None, IfOk, IfSome, Result, Ok, IsErrOf}
 use Rattle.file_journal.specs.Position.{Position, left_to_read}
-use Rattle.file_journal.specs.Records.{HasRecord, Reading, broken, reading_at, record_of, whole, with_record}
+use Rattle.file_journal.specs.Records.{HasRecord, broken, reading_at, record_of, whole, with_record}
 use Rattle.file_journal.specs.declared.faults.RecoverFault.{RecoverFault}
 use Rattle.file_journal.specs.declared.faults.RecoverFault.TheVariants as fault
 

@@ -76,6 +76,11 @@ abbrev pub with_records : List Record → Reading → Reading
 with_records [] reading = reading
 with_records (entry ∷ entries) reading = with_record entry (with_records entries reading)
 
+-- with this record behind what was read; nothing is read behind damage
+abbrev pub with_end : Reading → Record → Reading
+with_end (whole entries) entry = whole (entries ++ entry ∷ [])
+with_end (broken entries at) entry = broken entries at
+
 -- what stands from a gate at this place on, with at most so many records
 unfoldable pub reading_within : ℕ → ℕ → List ℕ → Reading
 reading_within zero place octets = broken [] place

@@ -5,7 +5,7 @@ use Rattle.px_base.specs.Outside.{Rose}
 use Rattle.disk_model.specs.Moments.{LeavesSince}
 use Rattle.disk_model.specs.declared.disk.Disk.{Ghosts}
 use Rattle.file_journal.specs.Calls.{IsQuietNow, TakesStep}
-use Rattle.file_journal.specs.Journal.{IsSameStore, after_recovery, damaged_at, journal_of, no_store, store_of}
+use Rattle.file_journal.specs.Journal.{IsSameStore, after_recovery, bad_number, journal_of, no_store, store_of}
 use Rattle.file_journal.specs.Position.{Position, StandsOn, left_to_read}
 use Rattle.file_journal.specs.declared.faults.RecoverFault.{RecoverFault}
 use Rattle.file_journal.specs.declared.faults.RecoverFault.TheVariants as fault
@@ -33,7 +33,7 @@ pub record IsRecovered {D : Type 0} (g : Ghosts D) (magic : List ℕ) (blocks : 
 pub record RefusesExactly {T : Type 0} (magic before : List ℕ) (result : Result T RecoverFault) : Type 0 where
   pub not_a_store :
       (found : List ℕ) → IsErrOf result (fault.NotAStore found) ↔ (journal_of magic before ≡ no_store found)
-  pub damaged : (at : ℕ) → IsErrOf result (fault.Damaged at) ↔ ((at ≡ 8) × (journal_of magic before ≡ damaged_at 8))
+  pub damaged : (at : ℕ) → IsErrOf result (fault.Damaged at) ↔ ((at ≡ 8) × (journal_of magic before ≡ bad_number))
 
 -- but for a fault of the disk, and where the content is told
 abbrev pub Refuses : {T : Type 0} → List ℕ → Option (List ℕ) → Result T RecoverFault → Type 0

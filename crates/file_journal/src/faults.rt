@@ -2,8 +2,10 @@
 
 ghost use Rattle.std.specs.Prelude.{◌≡◌};
 ghost use Rattle.file_journal.specs.declared.faults.RecoverFault.TheVariants.{Disk};
+ghost use Rattle.file_journal.specs.declared.faults.ReadFault.TheVariants.{OutOfMemory as NoMemory};
 
 use disk_model::DiskFault;
+use px_base::OutOfMemory;
 use thiserror::Error;
 
 /// Why a disk's content isn't read as a journal.
@@ -33,6 +35,32 @@ impl From<DiskFault> for RecoverFault {
 
     fn from(_fault: DiskFault) -> RecoverFault {
         RecoverFault::Disk
+    }
+}
+
+/// Why the records of a journal weren't all read and applied.
+#[derive(Clone, Copy, Debug, PartialEq, Eq, Error)]
+pub enum ReadFault {
+    /// The record behind a gate is one that the state before it doesn't allow; or a gate is open, and no whole record
+    /// with a gate behind it follows; or the disk has become shorter than the gate's place.
+    #[error("the store is damaged at octet {at}")]
+    Damaged {
+        /// The place of the gate.
+        at: u64,
+    },
+    /// The disk failed, and its count of faults rose.
+    #[error("the disk failed")]
+    Disk,
+    /// There was no memory for what a record makes of the ledger.
+    #[error("out of memory")]
+    OutOfMemory,
+}
+
+impl From<OutOfMemory> for ReadFault {
+    ghost from_gives = { λ _ fault. fault ≡ NoMemory };
+
+    fn from(_refused: OutOfMemory) -> ReadFault {
+        ReadFault::OutOfMemory
     }
 }
 

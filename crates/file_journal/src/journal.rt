@@ -209,6 +209,13 @@ impl Journal {
         }
     }
 
+    /// The place of the next gate. Takes no memory.
+    pub(crate) fn place(&self) -> u64
+        ensures { result ≡ self.now.place }
+    {
+        self.place
+    }
+
     /// The block number of the store, 1 to 65,536. Takes no memory.
     pub fn blocks(&self) -> u32
         ensures value { result ≡ self.now.blocks }

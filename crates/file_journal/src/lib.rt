@@ -5,6 +5,9 @@
 //! then the next gate. A gate is open where it is 01, and a record counts where its gate is open. A gate stands closed
 //! on the disk before anything is written behind it, and is opened by a write of its own after the record is synced: so
 //! no checksum is needed, and a crash leaves the records from before an append, or these and the new one.
+//!
+//! Records are kept for what they make of a state: they are applied to a ledger in order, and one that the state before
+//! it doesn't allow is damage at its gate.
 #![tactic(auto)]
 
 mod faults;
@@ -12,11 +15,15 @@ mod format;
 mod header;
 mod journal;
 pub mod laws;
+mod ledger;
 mod record;
 mod write;
 
-pub use faults::{JournalFault, RecoverFault};
+pub use faults::{JournalFault, ReadFault, RecoverFault};
 pub use journal::Journal;
+pub use ledger::Ledger;
 
+#[cfg(test)]
+mod ledger_tests;
 #[cfg(test)]
 mod tests;

@@ -3,7 +3,7 @@
 ghost use Rattle.std.specs.Prelude.{◌≡◌, true, false, IfOk};
 ghost use Rattle.file_journal.specs.Position.{StandsOn};
 
-use crate::{Journal, JournalFault, RecoverFault};
+use crate::{Journal, JournalFault, ReadFault, RecoverFault};
 use arrayvec::ArrayVec;
 use disk_model::{Disk, DiskFault, FuseDisk, MemoryDisk};
 use std::test::Fail;
@@ -35,6 +35,17 @@ fn texts_of_the_refusals(rt: HostRuntime) -> Result<(), Fail> {
             "the store is damaged at octet 16",
         ),
         (RecoverFault::Disk, "the disk failed"),
+    ];
+    for (fault, text) in rows {
+        assert_eq!(rt; format!(in alloc; "{fault}")?.as_str(), text);
+    }
+    let rows = [
+        (
+            ReadFault::Damaged { at: 21 },
+            "the store is damaged at octet 21",
+        ),
+        (ReadFault::Disk, "the disk failed"),
+        (ReadFault::OutOfMemory, "out of memory"),
     ];
     for (fault, text) in rows {
         assert_eq!(rt; format!(in alloc; "{fault}")?.as_str(), text);

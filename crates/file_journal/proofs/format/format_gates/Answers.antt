@@ -1,9 +1,8 @@
-use Rattle.std.proofs.Common.{◌≡◌, ℕ, List, [], ◌∷◌, length, Some, IsErr, rules, subst, Ok}
+use Rattle.std.proofs.Common.{ℕ, List, [], ◌∷◌, IsErr, rules, subst}
 use Rattle.disk_model.specs.Disk.{Torn, Writes}
-use Rattle.file_journal.specs.Appending.{IsTornFrom}
 use Rattle.file_journal.specs.Formatting.{IsMakingGates, MakesGates}
 use Rattle.file_journal.proofs.CallLemmas.{makes_failed, makes_on, quiet_images}
-use Rattle.file_journal.proofs.FormatLemmas.{first_gate_crash, gates_by, one_gate, one_gate_by, second_gate_crash, torn_only}
+use Rattle.file_journal.proofs.FormatLemmas.{first_gate_crash, gates_by, one_gate_by, second_gate_crash, torn_only}
 use Rattle.file_journal.proofs.ToldLemmas.{at_told}
 use Rattle.file_journal.proofs.format.format_gates.Goals as goal
 

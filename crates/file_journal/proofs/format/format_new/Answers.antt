@@ -1,6 +1,5 @@
-use Rattle.std.proofs.Common.{◌≡◌, ◌≤◌, ℕ, List, [], ◌∷◌, ◌++◌, length, take, Some, IsErr, rules, sym, ◌∙◌, ap, subst, arith, take_all}
-use Rattle.std.proofs.lemmas.Bool.{cond-true, le-leb}
-use Rattle.disk_model.specs.Disk.{Torn, Writes}
+use Rattle.std.proofs.Common.{◌≡◌, ◌≤◌, ℕ, List, [], ◌∷◌, ◌++◌, length, take, IsErr, rules, sym, ◌∙◌, ap, subst, arith, take_all}
+use Rattle.disk_model.specs.Disk.{Writes}
 use Rattle.file_journal.specs.Calls.{Becomes}
 use Rattle.file_journal.specs.Formatting.{IsMakingGates}
 use Rattle.file_journal.specs.Journal.{after_recovery, header_text}

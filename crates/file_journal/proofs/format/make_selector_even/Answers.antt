@@ -1,7 +1,7 @@
-use Rattle.std.proofs.Common.{◌≡◌, ℕ, ◌%◌, List, get_or, sym, ◌∙◌, ap, arith}
+use Rattle.std.proofs.Common.{arith}
 use Rattle.file_journal.specs.Formatting.{IsMakingEven, MakesEven}
 use Rattle.file_journal.proofs.CallLemmas.{makes_weaker, quiet_images}
-use Rattle.file_journal.proofs.FormatLemmas.{even_before, even_by, even_crash, torn_only}
+use Rattle.file_journal.proofs.FormatLemmas.{even_by, even_crash, torn_only}
 use Rattle.file_journal.proofs.ToldLemmas.{at_told}
 use Rattle.file_journal.proofs.format.make_selector_even.Goals as goal
 

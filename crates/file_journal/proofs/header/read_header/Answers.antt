@@ -24,11 +24,10 @@ returns-clause-refuses g c healthy =
     if_told (g.D.Disk.content disk) _ (λ octets told.
     let front = front16 octets c.read.new.room (at_told _ octets told c.in_ok-read.ensures.room) in
     let long = at_told _ octets told c.requires in
-    let are = (g.met.D.Disk.images_fit disk octets (at_told (g.D.Disk.images disk) octets told (g.met.D.Disk.content_is_image disk))).0 in
     refusal_of magic octets c.parse_header.result
     (λ header is.
     let head = at_ok (λ (header : Header). HasHeader magic header.blocks c.read.new.room) header is says.header in
-    is_store magic octets header.blocks are long (record { magic_is = sym front.2 ∙ head.magic_is; blocks_are = sym front.0 ∙ head.blocks_are; is_number = head.is_number }))
+    is_store magic octets header.blocks long (record { magic_is = sym front.2 ∙ head.magic_is; blocks_are = sym front.0 ∙ head.blocks_are; is_number = head.is_number }))
     (λ found is.
     let other = says.not_a_store found is in
     of_foreign magic octets long (λ same. other.other (other.found_is ∙ front.2 ∙ same)) ∙ ap no_store (sym (other.found_is ∙ front.2)))

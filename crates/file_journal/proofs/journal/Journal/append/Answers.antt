@@ -1,5 +1,4 @@
 use Rattle.std.proofs.Common.{◌≡◌, ◌+◌, [], ◌∷◌, length, Ok, sym, ◌∙◌, ap, subst, arith, length-append}
-use Rattle.px_base.specs.Octets.{IsOctets}
 use Rattle.file_journal.specs.Position.{Position, StandsOn}
 use Rattle.file_journal.specs.Records.{record_of}
 use Rattle.file_journal.proofs.AppendLemmas.{gate_there, is_record, seen_any_moment, seen_appends, seen_leaves, seen_stands}

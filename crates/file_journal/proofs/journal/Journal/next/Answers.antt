@@ -1,5 +1,5 @@
 use Rattle.std.proofs.Common.{◌≡◌, ℕ, ◌+◌, length, sym, ◌∙◌, ap, subst, arith}
-use Rattle.file_journal.specs.Records.{Record, reading_at, record_of, with_record}
+use Rattle.file_journal.specs.Records.{reading_at, record_of, with_record}
 use Rattle.file_journal.specs.Position.{Position, StandsOn}
 use Rattle.file_journal.proofs.CallLemmas.{reads_now}
 use Rattle.file_journal.proofs.PositionLemmas.{moved}

@@ -1,4 +1,4 @@
-use Rattle.std.proofs.Common.{◌≡◌, inl, ⊎_elim, ℕ, ◌+◌, List, sym, ◌∙◌, subst, arith}
+use Rattle.std.proofs.Common.{◌≡◌, inl, ⊎_elim, ℕ, ◌+◌, sym, ◌∙◌, subst, arith}
 use Rattle.file_journal.specs.Calls.{images_now}
 use Rattle.file_journal.specs.Recovery.{IsRecovering}
 use Rattle.disk_model.specs.Disk.{Only}

@@ -1,7 +1,7 @@
-use Rattle.std.proofs.Common.{◌≡◌, ℕ, ◌<◌, [], List, length, None, Ok, Err, rules, refl, sym, ◌∙◌, ap, arith}
+use Rattle.std.proofs.Common.{◌≡◌, [], length, None, Err, rules, refl, sym, ◌∙◌, ap, arith}
 use Rattle.std.proofs.lemmas.Result.{err_from_is_err_and}
-use Rattle.px_base.specs.Octets.{IsOctets}
 use Rattle.file_journal.specs.Journal.{journal_of, store}
+use Rattle.file_journal.specs.Records.{whole}
 use Rattle.file_journal.proofs.JournalLemmas.{of_short}
 use Rattle.file_journal.proofs.RecoverLemmas.{known_formatted, known_leaves, new_formatted, recovered, refuses_none, refuses_same, refuses_still}
 use Rattle.file_journal.proofs.ToldLemmas.{alike_on, alike_same, at_told, if_told, told_weaker}
@@ -21,7 +21,7 @@ returns-then-len-le-FIRST_GATE-clause-recovered g c =
 pub returns-then-len-le-FIRST_GATE-clause-refuses : goal.returns-then-len-le-FIRST_GATE-clause-refuses
 returns-then-len-le-FIRST_GATE-clause-refuses g c healthy =
     if_told (g.D.Disk.content c.args.disk.now) _ (λ before told.
-    let short : journal_of c.args.magic before ≡ store None [] = of_short c.args.magic before (omega (arith, at_told _ before told c.requires.len, c.if-len-le-FIRST_GATE.true)) in
+    let short : journal_of c.args.magic before ≡ store None (whole []) = of_short c.args.magic before (omega (arith, at_told _ before told c.requires.len, c.if-len-le-FIRST_GATE.true)) in
     refuses_none c.args.magic before c.at_first_gate.result (λ found foreign. cc (sym short ∙ foreign)) (λ bad. cc (sym short ∙ bad)))
 
 pub returns-in_err-header-clause-refuses : goal.returns-in_err-header-clause-refuses

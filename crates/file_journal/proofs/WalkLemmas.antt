@@ -1,0 +1,211 @@
+-- What a walk over records comes to, and how appends and recoveries keep what octets stand for.
+use Rattle.std.proofs.Common.{◌≡◌, ◌↔◌, inl, inr, ⊎_elim, ℕ, ◌+◌, true, false, true≢false, List, [], ◌∷◌, ◌++◌, length, Bool, Option, None, Some, IfSome, Result, Ok, Err, IsErrOf, OnOk, refl, sym, ◌∙◌, ap, ap₂, arith, length-append}
+use Rattle.disk_model.specs.declared.disk.Disk.{Ghosts}
+use Rattle.file_journal.specs.Appending.{Appends, LeavesBeforeOrAfter}
+use Rattle.file_journal.specs.Calls.{ChangesReads, Leaves, TakesStep, TellsAlike, images_now}
+use Rattle.file_journal.specs.Journal as journal
+use Rattle.file_journal.specs.Journal.{journal_of, store_of, with_last}
+use Rattle.file_journal.specs.Ledger.{Takes}
+use Rattle.file_journal.specs.Position.{Position, StandsOn, left_to_read}
+use Rattle.file_journal.specs.Records.{Reading, Record, broken, records_text, whole, with_end, with_record, with_records}
+use Rattle.file_journal.specs.Recovery.{IsFailedSync, IsRecovered, IsRecovering, IsSyncedFirst, LeavesSinceSync, Recovers}
+use Rattle.file_journal.specs.Walk.{IsOneStep, KeepsState, LeavesEither, StandAsBefore, StandFor, Stands, StandsForSame, damaged_at, number_or, on_from, stands_for, stands_of, state, walk, walk_left, walk_over}
+use Rattle.file_journal.specs.declared.faults.JournalFault.{JournalFault}
+use Rattle.file_journal.specs.declared.faults.JournalFault.TheVariants as fault
+use Rattle.file_journal.specs.declared.faults.RecoverFault.{RecoverFault}
+use Rattle.file_journal.specs.declared.faults.RecoverFault.TheVariants as recover_fault
+use Rattle.file_journal.proofs.MomentLemmas.{joined, reads, weaker}
+use Rattle.file_journal.proofs.ToldLemmas.{at_told, content_now, if_told, told_weaker}
+
+-- What comes of a gate is what comes of each state behind it.
+on_step : {S : Type 0} (place : ℕ) (o : Option S) (f h : S → Stands S) (now after : S) → ((t : S) → f t ≡ state now → h t ≡ state after)
+    → on_from place o f ≡ state now → on_from place o h ≡ state after
+on_step place None f h now after each is = absurd (cc is)
+on_step place (Some t) f h now after each is = each t is
+
+on_none : {S : Type 0} (place : ℕ) (o : Option S) (f : S → Stands S) (now : S) → ((t : S) → f t ≡ state now → ⊥) → on_from place o f ≡ state now → ⊥
+on_none place None f now each is = cc is
+on_none place (Some t) f now each is = each t is
+
+module _ {S : Type 0} (step : S → Record → Option S) where
+  -- a record in front, which is allowed
+  pub walk_on : (before after : S) (place : ℕ) (entry : Record) (reading : Reading) → step before entry ≡ Some after
+      → walk step before place (with_record entry reading) ≡ walk step after (place + 4 + length entry.content) reading
+  walk_on before after place entry (whole entries) allowed =
+      ap (λ (o : Option S). on_from place o (λ t. walk_over step (λ s. state s) t (place + 4 + length entry.content) entries)) allowed
+  walk_on before after place entry (broken entries at) allowed =
+      ap (λ (o : Option S). on_from place o (λ t. walk_over step (λ s. damaged_at at) t (place + 4 + length entry.content) entries)) allowed
+
+  -- and one that isn't
+  pub walk_refused : (before : S) (place : ℕ) (entry : Record) (reading : Reading) → step before entry ≡ None → walk step before place (with_record entry reading) ≡ damaged_at place
+  walk_refused before place entry (whole entries) refused =
+      ap (λ (o : Option S). on_from place o (λ t. walk_over step (λ s. state s) t (place + 4 + length entry.content) entries)) refused
+  walk_refused before place entry (broken entries at) refused =
+      ap (λ (o : Option S). on_from place o (λ t. walk_over step (λ s. damaged_at at) t (place + 4 + length entry.content) entries)) refused
+
+  -- records in front, each of which is allowed
+  pub walk_on_all : (entries : List Record) (before after : S) (place : ℕ) (reading : Reading) → Takes step before entries after
+      → walk step before place (with_records entries reading) ≡ walk step after (place + length (records_text entries)) reading
+  walk_on_all [] before after place reading takes =
+      ap₂ (λ (s : S) (n : ℕ). walk step s n reading) (sym takes) (let same : place ≡ place + 0 = omega arith in same)
+  walk_on_all (entry ∷ entries) before after place reading takes =
+      let at : place + 4 + length entry.content + length (records_text entries) ≡ place + length (records_text (entry ∷ entries)) =
+      omega (arith, length-append entry.content (records_text entries)) in
+      walk_on before takes.0 place entry (with_records entries reading) takes.1
+      ∙ walk_on_all entries takes.0 after (place + 4 + length entry.content) reading takes.2
+      ∙ ap (λ (n : ℕ). walk step after n reading) at
+
+  -- one record more
+  pub takes_more : (entries : List Record) (before now after : S) (entry : Record) → Takes step before entries now → step now entry ≡ Some after → Takes step before (entries ++ entry ∷ []) after
+  takes_more [] before now after entry takes allowed = (after, ap (λ (s : S). step s entry) (sym takes) ∙ allowed, refl)
+  takes_more (first ∷ entries) before now after entry takes allowed = (takes.0, takes.1, takes_more entries takes.0 now after entry takes.2 allowed)
+
+  -- no state stands before damage
+  broken_no_state : (entries : List Record) (before now : S) (place at : ℕ) → walk_over step (λ s. damaged_at at) before place entries ≡ state now → ⊥
+  broken_no_state [] before now place at is = cc is
+  broken_no_state (entry ∷ entries) before now place at is =
+      on_none place (step before entry) (λ t. walk_over step (λ s. damaged_at at) t (place + 4 + length entry.content) entries) now
+      (λ t. broken_no_state entries t now (place + 4 + length entry.content) at) is
+
+  -- a record behind whole ones
+  whole_end : (entries : List Record) (before now after : S) (place : ℕ) (entry : Record) → walk_over step (λ s. state s) before place entries ≡ state now → step now entry ≡ Some after
+      → walk_over step (λ s. state s) before place (entries ++ entry ∷ []) ≡ state after
+  whole_end [] before now after place entry is allowed =
+      let same : before ≡ now = cc is in
+      ap (λ (o : Option S). on_from place o (λ t. state t)) (ap (λ (s : S). step s entry) same ∙ allowed)
+  whole_end (first ∷ entries) before now after place entry is allowed =
+      on_step place (step before first) (λ t. walk_over step (λ s. state s) t (place + 4 + length first.content) entries)
+      (λ t. walk_over step (λ s. state s) t (place + 4 + length first.content) (entries ++ entry ∷ [])) now after
+      (λ t here. whole_end entries t now after (place + 4 + length first.content) entry here allowed) is
+
+  -- a record behind what was read
+  pub walk_end : (reading : Reading) (before now after : S) (place : ℕ) (entry : Record) → walk step before place reading ≡ state now → step now entry ≡ Some after
+      → walk step before place (with_end reading entry) ≡ state after
+  walk_end (whole entries) before now after place entry is allowed = whole_end entries before now after place entry is allowed
+  walk_end (broken entries at) before now after place entry is allowed = absurd (broken_no_state entries before now place at is)
+
+  pub one_step : IsOneStep step
+  one_step fresh blocks (journal.no_store found) before after entry is allowed = absurd (cc is)
+  one_step fresh blocks journal.bad_number before after entry is allowed = absurd (cc is)
+  one_step fresh blocks (journal.store number reading) before after entry is allowed = walk_end reading (fresh (number_or blocks number)) before after 16 entry is allowed
+
+  pub for_same : StandsForSame step
+  for_same fresh blocks before now (inl same) = ap (stands_of fresh step blocks) same
+  for_same fresh blocks before now (inr new) = ap (stands_of fresh step blocks) new.1 ∙ sym (ap (stands_of fresh step blocks) new.0)
+
+  -- A recovery.
+  module _ (fresh : ℕ → S) (magic : List ℕ) (blocks : ℕ) where
+    -- what a crash in it leaves
+    pub for_recovering : (before image : List ℕ) → IsRecovering magic blocks before image → StandAsBefore fresh step magic blocks before image
+    for_recovering before image left = for_same fresh blocks (journal_of magic before) (journal_of magic image) left.same
+
+    -- what it makes
+    pub for_recovered : (first : Position) (before now : List ℕ) → Recovers magic blocks first before now → StandAsBefore fresh step magic blocks before now
+    for_recovered first before now made = for_same fresh blocks (journal_of magic before) (journal_of magic now) made.same
+
+    -- all is left to read
+    pub recovered_walk : (first : Position) (before now : List ℕ) → Recovers magic blocks first before now → first.place ≡ 16
+        → stands_for fresh step magic blocks before ≡ walk_left step first (fresh first.blocks) now
+    recovered_walk first before now made at =
+        sym (for_recovered first before now made)
+        ∙ ap (stands_of fresh step blocks) made.whole
+        ∙ ap (λ (n : ℕ). walk step (fresh first.blocks) n (left_to_read first now)) (sym at)
+
+-- What a recovery leaves, and a reading behind it.
+module _ {D S : Type 0} (g : Ghosts D) (fresh : ℕ → S) (step : S → Record → Option S) (magic : List ℕ) (blocks : ℕ) (old mid new : D) (only : ChangesReads g mid new) where
+  -- since its start
+  pub leaves_as_before : Leaves g old mid (IsRecovering magic blocks) → Leaves g old new (StandAsBefore fresh step magic blocks)
+  leaves_as_before leaves = told_weaker (g.content old) _ _ (λ before told left.
+      joined g.moment g.images_since old mid new (StandAsBefore fresh step magic blocks before)
+      (weaker g.moment g.images_since old mid (IsRecovering magic blocks before) (StandAsBefore fresh step magic blocks before) (for_recovering step fresh magic blocks before) left)
+      (reads g.moment g.images_since mid new (StandAsBefore fresh step magic blocks before) only.same_moment only.same_past)) leaves
+
+  -- since the end of its first sync
+  pub synced_as_before : {T : Type 0} (result : Result T RecoverFault) → ¬ IsErrOf result recover_fault.Disk → LeavesSinceSync g result old mid (IsRecovering magic blocks)
+      → IfSome (g.content old) (λ before. IsSyncedFirst g old new (StandAsBefore fresh step magic blocks before))
+  synced_as_before result healthy leaves = told_weaker (g.content old) _ _ (λ before told left. ⊎_elim
+      (λ (synced : IsSyncedFirst g old mid (IsRecovering magic blocks before)). let now : IsSyncedFirst g old new (StandAsBefore fresh step magic blocks before) = record {
+        later = omega (arith, synced.later, only.same_moment);
+        each = λ image since. for_recovering step fresh magic blocks before image (synced.each image ((only.same_past (g.moment old + 1) image).0 since));
+      } in now)
+      (λ (failed : IsErrOf result recover_fault.Disk × IsFailedSync g old mid). absurd (healthy failed.0))
+      left) leaves
+
+-- What a journal keeps.
+module _ {D S : Type 0} (g : Ghosts D) (fresh : ℕ → S) (step : S → Record → Option S) where
+  -- one that has failed keeps any state
+  pub failed_keeps : (position : Position) (now : S) (disk : D) → position.failed ≡ true → StandsOn g position disk → KeepsState fresh step g position now disk
+  failed_keeps position now disk failed stands = record {
+    stands_on = stands;
+    ended = λ fine. absurd (true≢false (sym failed ∙ fine));
+    content = λ fine. absurd (true≢false (sym failed ∙ fine));
+    images = λ fine. absurd (true≢false (sym failed ∙ fine));
+  }
+
+  -- each image is the content's store
+  same_images : (position : Position) (disk : D) → position.failed ≡ false → StandsOn g position disk
+      → IfSome (g.content disk) (λ octets. (image : List ℕ) → images_now g disk image → journal_of position.magic image ≡ journal_of position.magic octets)
+  same_images position disk fine (inl failed) = absurd (true≢false (sym failed ∙ fine))
+  same_images position disk fine (inr stands) = if_told (g.content disk) _ (λ octets told image here.
+      let at = at_told _ octets told stands in
+      let there = at.2 image here in
+      there.0.records ∙ ap (λ (r : Reading). store_of position.blocks (with_records at.0 r)) there.1 ∙ sym at.1.records)
+
+  -- one that stands on its disk and has read its end keeps what the content stands for
+  pub stands_keeps : (position : Position) (now : S) (disk : D) → StandsOn g position disk → (position.failed ≡ false → position.ended ≡ true)
+      → (position.failed ≡ false → IfSome (g.content disk) (StandFor fresh step position now)) → KeepsState fresh step g position now disk
+  stands_keeps position now disk stands ended content = record {
+    stands_on = stands;
+    ended = ended;
+    content = content;
+    images = λ fine. if_told (g.content disk) _ (λ octets told image here.
+        ap (stands_of fresh step position.blocks) (at_told _ octets told (same_images position disk fine stands) image here)
+        ∙ at_told (StandFor fresh step position now) octets told (content fine));
+  }
+
+  -- One that was recovered and read to its end.
+  pub read_keeps : (magic : List ℕ) (blocks : ℕ) (old mid new : D) (first position : Position) (now : S)
+      → IsRecovered g magic blocks old mid first → TellsAlike (g.content old) (g.content mid)
+      → StandsOn g position new → position ≡ record first { place = position.place; ended = position.ended } → position.ended ≡ true
+      → ChangesReads g mid new → IfSome (g.content mid) (λ octets. walk_left step first (fresh first.blocks) octets ≡ state now)
+      → KeepsState fresh step g position now new
+  read_keeps magic blocks old mid new first position now recovered alike stands same ended only comes =
+      stands_keeps position now new stands (λ fine. ended)
+      (λ fine. if_told (g.content new) _ (λ octets told.
+      let told_mid = sym only.same_content ∙ told in
+      let was = content_now _ _ (Recovers magic blocks first) octets alike recovered.content told_mid in
+      let is_magic : position.magic ≡ magic = ap (λ (p : Position). p.magic) same ∙ recovered.magic_is in
+      ap (λ (l : List ℕ). stands_of fresh step position.blocks (journal_of l octets)) is_magic
+      ∙ ap (stands_of fresh step position.blocks) was.2.whole
+      ∙ ap (λ (n : ℕ). walk step (fresh first.blocks) n (left_to_read first octets)) (sym recovered.place)
+      ∙ at_told _ octets told_mid comes))
+
+  -- An append of a record that the state allows.
+  module _ (old new : D) (position after : Position) (s t : S) (entry : Record) (keeps : KeepsState fresh step g position s old) (allowed : step s entry ≡ Some t) where
+    for_next : (octets now : List ℕ) → StandFor fresh step position s octets → journal_of position.magic now ≡ with_last (journal_of position.magic octets) entry → StandFor fresh step position t now
+    for_next octets now is made =
+        ap (stands_of fresh step position.blocks) made ∙ one_step step fresh position.blocks (journal_of position.magic octets) s t entry is allowed
+
+    pub append_leaves : LeavesBeforeOrAfter g position entry old new → LeavesEither fresh step g position s t old new
+    append_leaves leaves healthy = if_told (g.content old) _ (λ octets told image since.
+        let is = at_told (StandFor fresh step position s) octets told (keeps.content healthy) in
+        ⊎_elim
+        (λ (same : journal_of position.magic image ≡ journal_of position.magic octets). inl (ap (stands_of fresh step position.blocks) same ∙ is))
+        (λ made. inr (for_next octets image is made))
+        (at_told _ octets told (leaves healthy) image since))
+
+    pub append_keeps : {T : Type 0} (result : Result T JournalFault) → StandsOn g after new → after ≡ record position { place = after.place; failed = after.failed }
+        → OnOk result (TakesStep g old new (Appends position entry)) → IsErrOf result fault.Failed ↔ (position.failed ≡ true) → TellsAlike (g.content old) (g.content new)
+        → OnOk result (KeepsState fresh step g after t new)
+    append_keeps (Err e) stands same ok failed alike = tt
+    append_keeps (Ok x) stands same ok failed alike =
+        let healthy : position.failed ≡ false = not_failed position.failed refl in
+        stands_keeps after t new stands (λ fine. ap (λ (p : Position). p.ended) same ∙ keeps.ended healthy)
+        (λ fine. if_told (g.content new) _ (λ octets told.
+        let was = content_now _ _ (Appends position entry) octets alike ok told in
+        let is = at_told (StandFor fresh step position s) was.0 was.1 (keeps.content healthy) in
+        ap (λ (p : Position). stands_for fresh step p.magic p.blocks octets) same ∙ for_next was.0 octets is was.2.store))
+      where
+        not_failed : (b : Bool) → position.failed ≡ b → position.failed ≡ false
+        not_failed true is = absurd (cc (failed.1 is))
+        not_failed false is = is

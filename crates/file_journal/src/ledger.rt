@@ -1,0 +1,106 @@
+//! What the records of a journal are applied to.
+
+ghost use Rattle.std.specs.Prelude.{◌≡◌, ◌+◌, ◌^◌, ◌<◌, ◌≤◌, ℕ, List, length, true, false, Option, None, Some, IfSome, IsErrOf, OnErr, OnOk};
+ghost use Rattle.file_journal.specs.Calls.{Reads};
+ghost use Rattle.file_journal.specs.Ledger.{AnswersAll, AppliesNext, AppliesSome};
+ghost use Rattle.file_journal.specs.Position.{StandsOn};
+ghost use Rattle.file_journal.specs.Records.{Record, record_of};
+
+use crate::{Journal, ReadFault, RecoverFault};
+use arrayvec::ArrayVec;
+use disk_model::Disk;
+use px_base::OutOfMemory;
+
+/// What the records of a journal are applied to, in order.
+pub trait Ledger {
+    /// The state after a record, where the state before it allows that record.
+    ghost step: { Self → Record → Option Self };
+
+    /// Applies a record, and answers whether the state allows it; one that it doesn't allow changes nothing. The
+    /// content has at most 600 octets. Takes memory.
+    ///
+    /// `OutOfMemory`: nothing is said of the ledger any more.
+    fn apply(&mut self, kind: u8, content: &[u8]) -> Result<bool, OutOfMemory>
+        requires { length content.now ≤ 600 }
+        ensures allowed { result ≡ Ok true → step self.old (record_of kind content.now) ≡ Some self.new }
+        ensures refused { result ≡ Ok false → step self.old (record_of kind content.now) ≡ None }
+        ensures same { result ≡ Ok false → self.new ≡ self.old };
+}
+
+/// The fault of a reading, which answers no `NotAStore`.
+fn reading_fault(fault: RecoverFault) -> ReadFault
+    requires { (found : List ℕ) → fault ≡ RecoverFault.NotAStore found → ⊥ }
+    ensures damaged { (at : ℕ) → result ≡ ReadFault.Damaged at → fault ≡ RecoverFault.Damaged at }
+    ensures disk { fault ≡ RecoverFault.Disk → result ≡ ReadFault.Disk }
+    ensures no_disk { result ≡ ReadFault.Disk → fault ≡ RecoverFault.Disk }
+    ensures memory { result ≡ ReadFault.OutOfMemory → ⊥ }
+{
+    match fault {
+        RecoverFault::Damaged { at } => ReadFault::Damaged { at },
+        RecoverFault::Disk => ReadFault::Disk,
+        RecoverFault::NotAStore { .. } => unreachable!(),
+    }
+}
+
+impl Journal {
+    /// Reads all records that are left, and applies each to the ledger, in order. No append failed before. It reads
+    /// each record once. The ledger may take memory.
+    ///
+    /// `Damaged`: what is left comes to damage at this place: a record that the state before it doesn't allow, or, where
+    /// each before it is allowed, an open gate that no whole record with a gate behind it follows. After it and after
+    /// `Disk` the ledger has the state after some of the records, from the first on; after `OutOfMemory` nothing is said
+    /// of it. The journal stays on its disk, and no octet is changed.
+    pub fn read_into<D: Disk, L: Ledger>(
+        &mut self,
+        disk: &mut D,
+        ledger: &mut L,
+    ) -> Result<(), ReadFault>
+        requires stands_on { StandsOn D.Disk self.old disk.old }
+        requires healthy { self.old.failed ≡ false }
+        ensures stands_on { StandsOn D.Disk self.new disk.new }
+        ensures journal { self.new ≡ record self.old { place = self.new.place; ended = self.new.ended } }
+        ensures ended { OnOk result (self.new.ended ≡ true) }
+
+        // But for a fault of the disk and want of memory, it answers exactly what the records that are left come to.
+        ensures all { AnswersAll L.step self.old ledger.old ledger.new (D.content disk.old) result }
+        ensures some { ¬ IsErrOf result ReadFault.OutOfMemory
+            → IfSome (D.content disk.old) (AppliesSome L.step self.old ledger.old ledger.new) }
+        ensures reads { Reads D.Disk (IsErrOf result ReadFault.Disk) disk.old disk.new }
+    {
+        while self.apply_next(disk, ledger)? {}
+        Ok(())
+    }
+
+    /// Reads the next record that is left, and applies it: whether there was one.
+    fn apply_next<D: Disk, L: Ledger>(
+        &mut self,
+        disk: &mut D,
+        ledger: &mut L,
+    ) -> Result<bool, ReadFault>
+        requires stands_on { StandsOn D.Disk self.old disk.old }
+        requires healthy { self.old.failed ≡ false }
+        ensures stands_on { StandsOn D.Disk self.new disk.new }
+        ensures journal { self.new ≡ record self.old { place = self.new.place; ended = self.new.ended } }
+        ensures ended { result ≡ Ok false → self.new.ended ≡ true }
+        ensures moves { result ≡ Ok true → self.old.place < self.new.place }
+        ensures fits { self.new.place < 2 ^ 63 }
+        ensures next { ¬ IsErrOf result ReadFault.Disk → ¬ IsErrOf result ReadFault.OutOfMemory
+            → IfSome (D.content disk.old) (λ octets.
+            AppliesNext L.step self.old self.new ledger.old ledger.new octets result) }
+        ensures same { ¬ IsErrOf result ReadFault.OutOfMemory → OnErr result (ledger.new ≡ ledger.old) }
+        ensures reads { Reads D.Disk (IsErrOf result ReadFault.Disk) disk.old disk.new }
+    {
+        let gate = self.place();
+        let mut room = ArrayVec::new();
+        match self.next(disk, &mut room) {
+            Ok(None) => Ok(false),
+            Ok(Some(kind)) => {
+                if !ledger.apply(kind, room.as_slice())? {
+                    return Err(ReadFault::Damaged { at: gate });
+                }
+                Ok(true)
+            }
+            Err(fault) => Err(reading_fault(fault)),
+        }
+    }
+}
