@@ -3,17 +3,28 @@
 ghost use Rattle.std.specs.Prelude.{◌≤◌, length, IfOk};
 
 use anyhow::{Context, Result};
+use disk_model::MemoryDisk;
 use pacsat_cli::{Words, run};
 use px_base::{MemoryAir, MemoryClock, MemoryOut, MemoryShelf, Shelf};
-use row_words::{read_numbers, read_words, written};
+use row_words::{Player, read_numbers, read_words, written};
 use std::alloc::Global;
 
 /// The name of the content that is shown after a run.
 const KEPT: &str = "kept";
 
-/// Plays a row over a closed air, and gives the status's number, the octets said in hexadecimal, the lines that were
+/// Plays each row by itself.
+#[derive(Drop)]
+pub struct CommandRows;
+
+impl Player for CommandRows {
+    fn play(&mut self, alloc: Global, row: &str) -> Result<String> {
+        play(alloc, row)
+    }
+}
+
+/// Plays a row over a closed air and a disk without octets, and gives the status's number, the octets said in hexadecimal, the lines that were
 /// shown, each ended by `|`, and what the shelf then has under the name `kept`, if it has that, in hexadecimal.
-pub fn play(alloc: Global, row: &str) -> Result<String> {
+fn play(alloc: Global, row: &str) -> Result<String> {
     let (words, rest) = row.split_once(';').context("no words")?;
     let (content, rest) = rest.split_once(';').context("no shelf")?;
     let (failing_shelf, rest) = rest.split_once(';').context("no failing calls")?;
@@ -28,7 +39,7 @@ pub fn play(alloc: Global, row: &str) -> Result<String> {
     Ok(format!(in alloc; "{ended}{kept}")?)
 }
 
-/// Runs the words over a closed air, this shelf and output, and a clock that gives these moments.
+/// Runs the words over a disk without octets, a closed air, this shelf and output, and a clock that gives these moments.
 fn run_over(
     alloc: Global,
     words: &Words,
@@ -36,9 +47,10 @@ fn run_over(
     out: &mut MemoryOut,
     moments: &str,
 ) -> Result<String> {
+    let mut disk = MemoryDisk::new(alloc, &[], &[])?;
     let mut air = MemoryAir::new(alloc, Vec::new(alloc), &[])?;
     let mut clock = MemoryClock::new(alloc, read_moments(alloc, moments)?.as_slice())?;
-    let number = run(alloc, words, &mut air, shelf, out, &mut clock).number();
+    let number = run(alloc, words, &mut disk, &mut air, shelf, out, &mut clock).number();
     let said = hex::encode(alloc, air.said())?;
     let shown = shown_text(alloc, out.shown())?;
     Ok(format!(in alloc; "{number};{said};{shown}")?)

@@ -8,10 +8,10 @@ use Rattle.px_base.proofs.Calls.{call_is, cut_of}
 use Rattle.clap.specs.Lexer.{has_byte}
 use Rattle.command_words.specs.Grammar.{Line, line_places, line_value}
 use Rattle.command_words.specs.Lines.{are_places, is_option_name}
-use Rattle.command_words.specs.Made.{MakeValue, may_be_made}
-use Rattle.command_words.specs.Making.{IsNumberOrZero, MakeOptions, MakeSays, MakeText, make_options, options_given}
-use Rattle.command_words.specs.Numbers.{IsDigit, NumberText, number_after}
-use Rattle.command_words.specs.Words.{GivesNumber, IsAir, IsHostPort, NameText, SessionText, session_options}
+use Rattle.header_tool.specs.Made.{MakeValue, spec_refusal}
+use Rattle.command_words.specs.Making.{MakeOptions, MakeSays, MakeText, make_options, options_given}
+use Rattle.command_words.specs.Numbers.{GivesNumber, IsDigit, IsNumberOr, NumberText, number_after}
+use Rattle.command_words.specs.Words.{IsAir, IsHostPort, NameText, SessionText, default_blocks, default_polls, session_options}
 use Rattle.command_words.proofs.Bytes.{after_first-append, before_first-append, before_first-lacks, has_byte-append, split_at_byte}
 use Rattle.command_words.proofs.HostPorts.{all_lack, lack_all}
 use Rattle.command_words.proofs.Uses.{Text, Uses, text_eq, text_same}
@@ -72,6 +72,10 @@ gives_decided low high (Some text) = elim (number_decided low high text) [
     of_one : (number : Option ℕ) → GivesNumber low high (Some text) number → (n : ℕ) × NumberText low high text n
     of_one None e = absurd cc
     of_one (Some n) (other, e, is) = let same : other ≡ text = cc in (n, subst (λ (t : Text). NumberText low high t n) same is)
+
+number_or_decided : (otherwise low high : ℕ) (value : Option Text) → Decided ((number : ℕ) × IsNumberOr otherwise low high value number)
+number_or_decided otherwise low high None = inl (otherwise, refl)
+number_or_decided otherwise low high (Some text) = number_decided low high text
 
 -- ---- calls
 
@@ -185,11 +189,11 @@ line_decided names ids placed options words = decide (run names ids words None (
 
 -- the words after `session` give a call and numbers
 abbrev pub GivesText : List Text → Type 0
-GivesText others = (caller : CallSign) × (moment : Option ℕ) × (blocks : Option ℕ) × (polls : Option ℕ) × SessionText others caller moment blocks polls
+GivesText others = (caller : CallSign) × (moment : Option ℕ) × (blocks : ℕ) × (polls : ℕ) × SessionText others caller moment blocks polls
 
 module _ (others : List Text) (line : Line session_options others 1) (call_text : Text) (place : line_places line ≡ call_text ∷ []) where
   -- another reading of them has the same call
-  same_call : (caller : CallSign) (moment blocks polls : Option ℕ) → SessionText others caller moment blocks polls → CallText caller call_text
+  same_call : (caller : CallSign) (moment : Option ℕ) (blocks polls : ℕ) → SessionText others caller moment blocks polls → CallText caller call_text
   same_call caller moment blocks polls text =
       let given = session_given text line in
       let same : given.call_text ∷ [] ≡ call_text ∷ [] = sym given.place ∙ place in
@@ -201,9 +205,9 @@ module _ (others : List Text) (line : Line session_options others 1) (call_text 
     | inr none ↦ inr (λ (caller, moment, blocks, polls, text). none (caller, same_call caller moment blocks polls text))
     | inl (caller, call) ↦ elim (gives_decided 0 4294967295 (line_value line (codes "moment"))) [
       | inr none ↦ inr (λ (caller, moment, blocks, polls, text). none (moment, (session_given text line).moment_given))
-      | inl (moment, moment_given) ↦ elim (gives_decided 1 65536 (line_value line (codes "blocks"))) [
+      | inl (moment, moment_given) ↦ elim (number_or_decided default_blocks 1 65536 (line_value line (codes "blocks"))) [
         | inr none ↦ inr (λ (caller, moment, blocks, polls, text). none (blocks, (session_given text line).blocks_given))
-        | inl (blocks, blocks_given) ↦ elim (gives_decided 1 18446744073709551615 (line_value line (codes "polls"))) [
+        | inl (blocks, blocks_given) ↦ elim (number_or_decided default_polls 1 18446744073709551615 (line_value line (codes "polls"))) [
           | inr none ↦ inr (λ (caller, moment, blocks, polls, text). none (polls, (session_given text line).polls_given))
           | inl (polls, polls_given) ↦ inl (
             caller,
@@ -235,18 +239,14 @@ name_decided others = elim (line_decided [] (codes "name" ∷ []) refl refl othe
 
 -- ---- the words after `pfh-make`
 
-zero_decided : (high : ℕ) (value : Option Text) → Decided ((number : ℕ) × IsNumberOrZero high value number)
-zero_decided high None = inl (0, refl)
-zero_decided high (Some text) = number_decided 0 high text
-
 says_decided : (options : MakeOptions) → Decided ((spec : MakeValue) × MakeSays options spec)
 says_decided options = named options.name refl
   where
     named : (name : Option Text) → options.name ≡ name → Decided ((spec : MakeValue) × MakeSays options spec)
     named None e = inr (λ (spec, says). let none : None ≡ Some spec.name = sym e ∙ says.name in absurd cc)
-    named (Some name) e = elim (zero_decided 255 options.file_type) [
+    named (Some name) e = elim (number_or_decided 0 0 255 options.file_type) [
       | inr none ↦ inr (λ (spec, says). none (spec.file_type, says.file_type))
-      | inl (file_type, type_is) ↦ elim (zero_decided 4294967295 options.time) [
+      | inl (file_type, type_is) ↦ elim (number_or_decided 0 0 4294967295 options.time) [
         | inr none ↦ inr (λ (spec, says). none (spec.time, says.time))
         | inl (time, time_is) ↦ inl (
           record {
@@ -273,14 +273,18 @@ two_texts (one ∷ []) e = absurd (omega arith)
 two_texts (one ∷ other ∷ []) e = (one, other, refl)
 two_texts (one ∷ other ∷ more ∷ texts) e = absurd (omega arith)
 
+none_decided : {A : Type 0} (value : Option A) → Decided (value ≡ None)
+none_decided None = inl refl
+none_decided (Some x) = inr (λ e. absurd cc)
+
 make_on : (others : List Text) (line : Line make_options others 2) (body kept : Text) → line_places line ≡ body ∷ kept ∷ [] → Decided (GivesMake others)
 make_on others line body kept places = elim (says_decided (options_given (line_value line))) [
   | inr none ↦ inr (λ (b, k, spec, text). none (spec, (make_says text line).1))
-  | inl (spec, says) ↦ elim (cases_Bool (may_be_made spec)) [
+  | inl (spec, says) ↦ elim (none_decided (spec_refusal spec)) [
     | inl possible ↦ inl (body, kept, spec, record { line = line; places = places; says = says; possible = possible })
     | inr impossible ↦ inr (λ (b, k, other, text).
         let same : other ≡ spec = says_one (options_given (line_value line)) other spec (make_says text line).1 says in
-        true≢false (sym text.possible ∙ ap may_be_made same ∙ impossible))
+        impossible (sym (ap spec_refusal same) ∙ text.possible))
   ]
 ]
 

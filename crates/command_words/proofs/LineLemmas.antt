@@ -3,7 +3,7 @@ use Rattle.std.proofs.Common.{◌≡◌, true, List, [], ◌∷◌, length, map,
 use Rattle.std.specs.Prelude.{slice_get}
 use Rattle.std.specs.List.{AllByRecursion}
 use Rattle.std.specs.declared.string.String.{String}
-use Rattle.clap.specs.Walk.{Rule, first_of, rows_of}
+use Rattle.clap.specs.Walk.{first_of, rows_of}
 use Rattle.clap.specs.Simple.{App, HasMatchesOf, matches_of, with_rule}
 use Rattle.clap.specs.Matches.{first_value, found_of}
 use Rattle.clap.specs.Takes.{takes}
@@ -76,10 +76,6 @@ session_line app e = record { command = codes "session"; written = e; placed = r
 
 pub make_line : (app : App) → app ≡ make_app → IsLine app (codes "body" ∷ codes "kept" ∷ []) make_options
 make_line app e = record { command = codes "pfh-make"; written = e; placed = refl; apart = refl }
-
--- a rule that is added to what is known
-pub added : {before known after : App} (rule : Rule) → before ≡ known → after ≡ with_rule before rule → after ≡ with_rule known rule
-added rule is more = more ∙ ap (λ (app : App). with_rule app rule) is
 
 -- the texts behind what is got
 copied-map : (o : Option (Bor Text)) → option_copied o ≡ option_map (λ s. s.now) o

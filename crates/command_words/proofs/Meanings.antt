@@ -1,15 +1,17 @@
 -- What the words of the built commands mean, and that they mean only that.
-use Rattle.std.proofs.Common.{◌≡◌, ◌≢◌, ◌≤◌, ◌⊎◌, ℕ, true, false, List, [], ◌∷◌, length, map, drop, Option, None, Some, refl, sym, ap, ap₂, ◌∙◌, subst, arith, inl, inr, codes, true≢false, get_or, string_bytes, take, take_all, ◌-◌}
+use Rattle.std.proofs.Common.{◌≡◌, ◌≤◌, ◌⊎◌, ℕ, true, List, [], ◌∷◌, ◌++◌, append_assoc, length, map, drop, Option, None, Some, refl, sym, ap, ap₂, ◌∙◌, subst, arith, cond, inl, inr, codes, true≢false, get_or, string_bytes, take, take_all, ◌-◌}
 use Rattle.std.specs.declared.string.String.{String}
-use Rattle.std.specs.Prelude.{Contains, IfSome, is_some, slice_get}
+use Rattle.std.specs.Prelude.{IfSome, is_some, slice_get}
 use Rattle.std.specs.List.{list_all}
 use Rattle.std.specs.Str.{bytes_eq}
 use Rattle.std.proofs.lemmas.Bool.{cases_Bool}
 use Rattle.px_base.specs.CallSign.{CallSign, CallText}
+use Rattle.clap.specs.Lexer.{has_byte}
 use Rattle.command_words.specs.Grammar.{Line, line_places, line_value}
 use Rattle.command_words.specs.Lines.{MakeLine, SessionLine, are_places, is_option_name, options_read}
-use Rattle.command_words.specs.Made.{MakeValue, may_be_made}
-use Rattle.command_words.specs.Making.{IsNumberOrZero, MakeOptions, MakeSays, MakeText, make_options, options_given}
+use Rattle.header_tool.specs.Made.{MakeValue, spec_refusal}
+use Rattle.command_words.specs.Making.{MakeOptions, MakeSays, MakeText, make_options, options_given}
+use Rattle.command_words.specs.Numbers.{GivesNumber, IsNumberOr}
 use Rattle.command_words.specs.Commands.{IsCommandOf, word_of}
 use Rattle.command_words.specs.declared.command.CommandWord.{CommandWord}
 use Rattle.command_words.specs.declared.command.CommandWord.TheVariants as word
@@ -19,8 +21,12 @@ use Rattle.command_words.specs.declared.line.MakeTexts.{MakeTexts}
 use Rattle.command_words.specs.Airs.{IsAirOf}
 use Rattle.command_words.specs.declared.air.AirWord.{AirWord}
 use Rattle.command_words.specs.declared.air.AirWord.TheVariants.{HostPort, Nothing, Standard}
-use Rattle.command_words.specs.Words.{BeyondSession, GivesNumber, IsAir, IsCheck, IsFrames, IsHostPort, IsMake, IsNamed, IsOther, IsShow, IsSomeSession, IsUsage, NeedsNeither, SessionGiven, SessionText, session_options, unbuilt_commands}
-use Rattle.command_words.proofs.Uses.{Text, Uses, text_eq, values}
+use Rattle.command_words.specs.Disks.{IsDiskOf}
+use Rattle.command_words.specs.declared.disk.DiskWord.{DiskWord}
+use Rattle.command_words.specs.declared.disk.DiskWord.TheVariants.{Fresh, Named}
+use Rattle.command_words.specs.Words.{BeyondSession, InSet, IsAir, IsHostPort, IsMake, IsNamed, IsOther, IsSomeSession, IsUsage, NeedsNeither, SessionGiven, SessionText, default_blocks, default_polls, session_options, unbuilt_commands}
+use Rattle.command_words.proofs.Bytes.{has_byte-append}
+use Rattle.command_words.proofs.Uses.{Text, Uses, text_eq, text_same, values}
 use Rattle.command_words.proofs.Machine.{is_name, is_name-from}
 use Rattle.command_words.proofs.Rules.{AreApart}
 use Rattle.command_words.proofs.Readings.{all_good, apart_names, distinct_places, is_distinct, line-run, line_places_are, line_value_is, no_values, some_texts, uses_in}
@@ -80,19 +86,19 @@ one_text (text ∷ other ∷ texts) e = absurd (omega arith)
 -- ---- sessions' texts
 
 -- the texts of a session's words, seen from any line of them
-pub session_given : {others : List Text} {caller : CallSign} {moment blocks polls : Option ℕ} → SessionText others caller moment blocks polls
+pub session_given : {others : List Text} {caller : CallSign} {moment : Option ℕ} {blocks polls : ℕ} → SessionText others caller moment blocks polls
     → (line : Line session_options others 1) → SessionGiven (line_places line) (line_value line) caller moment blocks polls
 session_given {caller = caller} {moment = moment} {blocks = blocks} {polls = polls} text line =
     of_line session_options (codes "caller" ∷ []) refl refl (λ places value. SessionGiven places value caller moment blocks polls) text.line line text.given
 
 -- what a line gives is what its words mean
-pub record Agreed (caller : Text) (moment blocks polls : Option Text) (call : CallSign) (seconds blocks_no polls_no : Option ℕ) : Type 0 where
+pub record Agreed (caller : Text) (moment blocks polls : Option Text) (call : CallSign) (seconds : Option ℕ) (blocks_no polls_no : ℕ) : Type 0 where
   pub called : CallText call caller
   pub moments : GivesNumber 0 4294967295 moment seconds
-  pub blocks_given : GivesNumber 1 65536 blocks blocks_no
-  pub polls_given : GivesNumber 1 18446744073709551615 polls polls_no
+  pub blocks_given : IsNumberOr default_blocks 1 65536 blocks blocks_no
+  pub polls_given : IsNumberOr default_polls 1 18446744073709551615 polls polls_no
 
-pub text_agrees : {others : List Text} {caller : Text} {moment blocks polls : Option Text} {call : CallSign} {seconds blocks_no polls_no : Option ℕ}
+pub text_agrees : {others : List Text} {caller : Text} {moment blocks polls : Option Text} {call : CallSign} {seconds : Option ℕ} {blocks_no polls_no : ℕ}
     → SessionLine others caller moment blocks polls → SessionText others call seconds blocks_no polls_no → Agreed caller moment blocks polls call seconds blocks_no polls_no
 text_agrees {caller = caller} {call = call} {seconds = seconds} {blocks_no = blocks_no} {polls_no = polls_no} line text =
     let given = session_given text line.line in
@@ -101,12 +107,12 @@ text_agrees {caller = caller} {call = call} {seconds = seconds} {blocks_no = blo
     record {
       called = subst (λ (t : Text). CallText call t) call_is given.call;
       moments = subst (λ (o : Option Text). GivesNumber 0 4294967295 o seconds) line.moment_given given.moment_given;
-      blocks_given = subst (λ (o : Option Text). GivesNumber 1 65536 o blocks_no) line.blocks_given given.blocks_given;
-      polls_given = subst (λ (o : Option Text). GivesNumber 1 18446744073709551615 o polls_no) line.polls_given given.polls_given;
+      blocks_given = subst (λ (o : Option Text). IsNumberOr default_blocks 1 65536 o blocks_no) line.blocks_given given.blocks_given;
+      polls_given = subst (λ (o : Option Text). IsNumberOr default_polls 1 18446744073709551615 o polls_no) line.polls_given given.polls_given;
     }
 
 -- and what they mean is what a line gives
-pub text_from : {others : List Text} {caller : Text} {moment blocks polls : Option Text} (call : CallSign) (seconds blocks_no polls_no : Option ℕ)
+pub text_from : {others : List Text} {caller : Text} {moment blocks polls : Option Text} (call : CallSign) (seconds : Option ℕ) (blocks_no polls_no : ℕ)
     → SessionLine others caller moment blocks polls → Agreed caller moment blocks polls call seconds blocks_no polls_no → SessionText others call seconds blocks_no polls_no
 text_from {caller = caller} call seconds blocks_no polls_no line agreed = record {
   line = line.line;
@@ -115,8 +121,8 @@ text_from {caller = caller} call seconds blocks_no polls_no line agreed = record
     place = line.place;
     call = agreed.called;
     moment_given = subst (λ (o : Option Text). GivesNumber 0 4294967295 o seconds) (sym line.moment_given) agreed.moments;
-    blocks_given = subst (λ (o : Option Text). GivesNumber 1 65536 o blocks_no) (sym line.blocks_given) agreed.blocks_given;
-    polls_given = subst (λ (o : Option Text). GivesNumber 1 18446744073709551615 o polls_no) (sym line.polls_given) agreed.polls_given;
+    blocks_given = subst (λ (o : Option Text). IsNumberOr default_blocks 1 65536 o blocks_no) (sym line.blocks_given) agreed.blocks_given;
+    polls_given = subst (λ (o : Option Text). IsNumberOr default_polls 1 18446744073709551615 o polls_no) (sym line.polls_given) agreed.polls_given;
   };
 }
 
@@ -133,9 +139,6 @@ module _ {command : Text} {P : List Text → Type 0} where
   pub neither_from : (d a : Text) (others : List Text) → (a ≡ codes "none") ⊎ IsAir a → P others → NeedsNeither command P (d ∷ a ∷ command ∷ others)
   neither_from d a others form text = record { disk = d; air = a; others = others; written = refl; air_form = form; text = text }
 
-  pub neither_command : {words : List Text} {d a c : Text} {others : List Text} → words ≡ d ∷ a ∷ c ∷ others → NeedsNeither command P words → c ≡ command
-  neither_command whole asks = let written = asks.written in cc
-
 -- ---- the word AIR
 
 air_of : (word : Text) (air : AirWord) → IsAirOf word air → (word ≡ codes "none") ⊎ IsAir word
@@ -151,48 +154,52 @@ air_read word (Some air) is e = air_of word air is
 
 -- the words after `session` in a session's words
 pub text_of : {disk air : Text} {others : List Text} → IsSomeSession (disk ∷ air ∷ codes "session" ∷ others)
-    → (caller : CallSign) × (moment : Option ℕ) × (blocks : Option ℕ) × (polls : Option ℕ) × SessionText others caller moment blocks polls
+    → (caller : CallSign) × (moment : Option ℕ) × (blocks : ℕ) × (polls : ℕ) × SessionText others caller moment blocks polls
 text_of {others = others} some =
     let session = some.session in
+    let asked = some.asked in
     let same : session.others ≡ others = let whole = session.written in cc in
-    (some.caller, some.moment, some.blocks, some.polls, subst (λ (ws : List Text). SessionText ws some.caller some.moment some.blocks some.polls) same session.text)
+    (asked.caller, asked.moment, asked.blocks, asked.polls, subst (λ (ws : List Text). SessionText ws asked.caller asked.moment asked.blocks asked.polls) same session.text)
 
--- the word names an air
-air_form : (word : Text) (air : AirWord) → IsAirOf word air → (air ≡ Nothing → ⊥) → IsAir word
-air_form word Nothing is other = absurd (other refl)
-air_form word Standard is other = inl is
-air_form word HostPort is other = inr is
+-- the word AIR in a session's words
+pub air_in : {disk air : Text} {others : List Text} → IsSomeSession (disk ∷ air ∷ codes "session" ∷ others) → IsAir air
+air_in {air = air} some =
+    let same : some.air ≡ air = let whole = some.session.written in cc in
+    subst IsAir same some.session.air_form
 
-host_port_form : (word : Text) (air : AirWord) → IsAirOf word air → air ≡ HostPort → IsHostPort word
-host_port_form word Nothing is e = absurd cc
-host_port_form word Standard is e = absurd cc
-host_port_form word HostPort is e = is
+-- which isn't `none`
+pub no_air : (air : Text) → air ≡ codes "none" → IsAir air → ⊥
+no_air air nothing (inl standard) = let same : codes "none" ≡ codes "-" = sym nothing ∙ standard in absurd cc
+no_air air nothing (inr is) =
+    let written : codes "none" ≡ is.host ++ 58 ∷ is.port = sym nothing ∙ is.written ∙ append_assoc is.host (58 ∷ []) is.port in
+    true≢false (sym (has_byte-append 58 is.host is.port) ∙ sym (ap (has_byte 58) written))
 
--- the words of a session over this disk and air
-abbrev session_of : (disk word : Text) (air : AirWord) (others : List Text) → IsAirOf word air → (air ≡ Nothing → ⊥) → (caller : CallSign) (moment blocks polls : Option ℕ)
-    → SessionText others caller moment blocks polls → IsSomeSession (disk ∷ word ∷ codes "session" ∷ others)
-session_of disk word air others is other caller moment blocks polls text = record {
-  disk = disk;
-  air = word;
-  caller = caller;
-  moment = moment;
-  blocks = blocks;
-  polls = polls;
-  session = record { others = others; written = refl; air_form = air_form word air is other; text = text };
-}
+-- the disk that a word names,
+pub disk_of : (disk : Text) → (which : DiskWord) × IsDiskOf disk which
+disk_of disk = elim (cases_Bool (bytes_eq disk (codes "none"))) [
+  | inl same ↦ (Fresh, text_same disk (codes "none") same)
+  | inr other ↦ (Named, λ same. true≢false (sym (text_eq disk (codes "none") same) ∙ other))
+]
 
--- A session asks for what isn't built by its disk, its air, its blocks or its polls.
-pub beyond : (disk word : Text) (air : AirWord) (others : List Text) → IsAirOf word air → (air ≡ Nothing → ⊥) → (caller : CallSign) (moment blocks polls : Option ℕ)
-    → SessionText others caller moment blocks polls
-    → (disk ≢ codes "none") ⊎ ((air ≡ HostPort) ⊎ ((is_some blocks ≡ true) ⊎ (is_some polls ≡ true)))
-    → BeyondSession (disk ∷ word ∷ codes "session" ∷ others)
-beyond disk word air others is other caller moment blocks polls text (inl h) = (session_of disk word air others is other caller moment blocks polls text, inl h)
-beyond disk word air others is other caller moment blocks polls text (inr (inl h)) =
-    (session_of disk word air others is other caller moment blocks polls text, inr (inl (host_port_form word air is h)))
-beyond disk word air others is other caller moment blocks polls text (inr (inr (inl h))) =
-    (session_of disk word air others is other caller moment blocks polls text, inr (inr (inl h)))
-beyond disk word air others is other caller moment blocks polls text (inr (inr (inr h))) =
-    (session_of disk word air others is other caller moment blocks polls text, inr (inr (inr h)))
+-- and no other
+pub one_disk : (disk : Text) (one other : DiskWord) → IsDiskOf disk one → IsDiskOf disk other → one ≡ other
+one_disk disk Fresh Fresh is also = refl
+one_disk disk Fresh Named is also = absurd (also is)
+one_disk disk Named Fresh is also = absurd (is also)
+one_disk disk Named Named is also = refl
+
+-- the words of a session over a host and port
+pub beyond : (disk air : Text) (others : List Text) → IsHostPort air → (caller : CallSign) (moment : Option ℕ) (blocks polls : ℕ)
+    → SessionText others caller moment blocks polls → BeyondSession (disk ∷ air ∷ codes "session" ∷ others)
+beyond disk air others host_port caller moment blocks polls text =
+    let (which, named) = disk_of disk in (
+      record {
+        air = air;
+        asked = record { disk = which; caller = caller; moment = moment; blocks = blocks; polls = polls };
+        session = record { disk = disk; others = others; written = refl; disk_named = named; air_form = inr host_port; text = text };
+      },
+      host_port,
+    )
 
 -- ---- the three words by place
 
@@ -212,68 +219,90 @@ three_words (x ∷ y ∷ z ∷ words) disk air command d a c some d_at a_at c_at
     ap (λ ws. drop 1 (map string_bytes ws)) rest in
     cc
 
--- the command of each kind of words
-pub other_command : {words : List Text} {d a c : Text} {others : List Text} → words ≡ d ∷ a ∷ c ∷ others → IsOther words → Contains unbuilt_commands c
-other_command {words} {d} {a} {c} {others} whole other =
-    let same : other.command ≡ c = let written = other.written in cc in
-    subst (λ (t : Text). Contains unbuilt_commands t) same other.unbuilt
+-- ---- the command of words
 
-pub session_command : {words : List Text} {d a c : Text} {others : List Text} → words ≡ d ∷ a ∷ c ∷ others → IsSomeSession words → c ≡ codes "session"
-session_command whole some = let written = some.session.written in cc
+-- the words of each command
+abbrev pub AreOf : CommandWord → List Text → Type 0
+AreOf word.Session words = IsSomeSession words
+AreOf (word.Named command) words = (name : Text) × IsNamed (word_of command) words name
+AreOf word.PfhMake words = (body kept : Text) × (spec : MakeValue) × IsMake words body kept spec
+AreOf word.Unbuilt words = IsOther words
 
--- texts that differ aren't one
-pub differ : (one other : Text) → bytes_eq one other ≡ false → one ≡ other → ⊥
-differ one other apart same = true≢false (sym (text_eq one other same) ∙ apart)
+-- words in the command set are those of some command,
+pub of_set : {words : List Text} → InSet words → (command : CommandWord) × AreOf command words
+of_set (inl other) = (word.Unbuilt, other)
+of_set (inr (inl some)) = (word.Session, some)
+of_set (inr (inr (inl frames))) = (word.Named Frames, frames)
+of_set (inr (inr (inr (inl check)))) = (word.Named PfhCheck, check)
+of_set (inr (inr (inr (inr (inl show))))) = (word.Named PfhShow, show)
+of_set (inr (inr (inr (inr (inr make))))) = (word.PfhMake, make)
 
--- a command that is built isn't one that isn't
-pub built_not : (c : Text) → is_name unbuilt_commands c ≡ false → Contains unbuilt_commands c → ⊥
-built_not c other unbuilt = true≢false (sym (is_name-from unbuilt_commands c unbuilt) ∙ other)
+-- which their third word names
+pub third_word : {words : List Text} (command : CommandWord) → AreOf command words
+    → (d a c : Text) × (others : List Text) × (words ≡ d ∷ a ∷ c ∷ others) × IsCommandOf c command
+third_word word.Session some = (some.session.disk, some.air, codes "session", some.session.others, some.session.written, refl)
+third_word (word.Named command) (name, asks) = (asks.disk, asks.air, word_of command, asks.others, asks.written, refl)
+third_word word.PfhMake (body, kept, spec, asks) = (asks.disk, asks.air, codes "pfh-make", asks.others, asks.written, refl)
+third_word word.Unbuilt other = (other.disk, other.air, other.command, other.others, other.written, other.unbuilt)
 
--- Words aren't in the command set, where their command has no such words.
-pub usage_unless : {words : List Text} {d a c : Text} {others : List Text} → words ≡ d ∷ a ∷ c ∷ others → (Contains unbuilt_commands c → ⊥)
-    → (c ≡ codes "session" → IsSomeSession words → ⊥) → (c ≡ codes "frames" → (name : Text) → IsFrames words name → ⊥)
-    → (c ≡ codes "pfh-check" → (name : Text) → IsCheck words name → ⊥) → (c ≡ codes "pfh-show" → (name : Text) → IsShow words name → ⊥)
-    → (c ≡ codes "pfh-make" → (body kept : Text) (spec : MakeValue) → IsMake words body kept spec → ⊥) → IsUsage words
-usage_unless whole unbuilt session frames check show make (inl other) = unbuilt (other_command whole other)
-usage_unless whole unbuilt session frames check show make (inr (inl some)) = session (session_command whole some) some
-usage_unless whole unbuilt session frames check show make (inr (inr (inl (name, asks)))) = frames (neither_command whole asks) name asks
-usage_unless whole unbuilt session frames check show make (inr (inr (inr (inl (name, asks))))) = check (neither_command whole asks) name asks
-usage_unless whole unbuilt session frames check show make (inr (inr (inr (inr (inl (name, asks)))))) = show (neither_command whole asks) name asks
-usage_unless whole unbuilt session frames check show make (inr (inr (inr (inr (inr (body, kept, spec, asks)))))) = make (neither_command whole asks) body kept spec asks
+pub command_in : {words : List Text} {d a c : Text} {others : List Text} → words ≡ d ∷ a ∷ c ∷ others → (command : CommandWord) → AreOf command words
+    → IsCommandOf c command
+command_in {c = c} whole command asks =
+    let (disk, air, third, rest, written, is) = third_word command asks in
+    let same : third ≡ c = cc in
+    subst (λ (t : Text). IsCommandOf t command) same is
 
--- words of `session` that are no session's aren't in the command set,
+-- the command that a word names, if it names one
+abbrev pub named_by : Text → Option CommandWord
+named_by c =
+    cond (is_name unbuilt_commands c) (Some word.Unbuilt)
+    (cond (bytes_eq c (codes "session")) (Some word.Session)
+    (cond (bytes_eq c (codes "frames")) (Some (word.Named Frames))
+    (cond (bytes_eq c (codes "pfh-check")) (Some (word.Named PfhCheck))
+    (cond (bytes_eq c (codes "pfh-show")) (Some (word.Named PfhShow))
+    (cond (bytes_eq c (codes "pfh-make")) (Some word.PfhMake) None)))))
+
+pub names : (c : Text) (command : CommandWord) → IsCommandOf c command → named_by c ≡ Some command
+names c word.Session is = ap named_by is
+names c (word.Named Frames) is = ap named_by is
+names c (word.Named PfhCheck) is = ap named_by is
+names c (word.Named PfhShow) is = ap named_by is
+names c word.PfhMake is = ap named_by is
+names c word.Unbuilt is = rw (is_name-from unbuilt_commands c is) refl
+
+one_command : (c : Text) (one other : CommandWord) → IsCommandOf c one → IsCommandOf c other → one ≡ other
+one_command c one other is also = let same : Some one ≡ Some other = sym (names c one is) ∙ names c other also in cc
+
+-- Words are those of one command.
+pub not_both : (words : List Text) (one other : CommandWord) → (one ≡ other → ⊥) → AreOf one words → AreOf other words → ⊥
+not_both words one other differ asks also =
+    let (disk, air, c, others, whole, is) = third_word one asks in
+    differ (one_command c one other is (command_in whole other also))
+
+-- Words aren't in the command set where their command has no such words,
+usage_of : {words : List Text} {d a c : Text} {others : List Text} (command : CommandWord) → IsCommandOf c command → words ≡ d ∷ a ∷ c ∷ others
+    → (AreOf command (d ∷ a ∷ c ∷ others) → ⊥) → IsUsage words
+usage_of {words = words} {c = c} command is whole none set =
+    let (other, asks) = of_set set in
+    let same : other ≡ command = one_command c other command (command_in whole other asks) is in
+    none (subst (AreOf command) whole (subst (λ (k : CommandWord). AreOf k words) same asks))
+
 pub session_usage : {words : List Text} {d a : Text} {others : List Text} → words ≡ d ∷ a ∷ codes "session" ∷ others
     → (IsSomeSession (d ∷ a ∷ codes "session" ∷ others) → ⊥) → IsUsage words
-session_usage whole none = usage_unless whole (built_not (codes "session") refl) (λ same some. none (subst IsSomeSession whole some))
-    (λ same name asks. differ (codes "session") (codes "frames") refl same) (λ same name asks. differ (codes "session") (codes "pfh-check") refl same)
-    (λ same name asks. differ (codes "session") (codes "pfh-show") refl same) (λ same body kept spec asks. differ (codes "session") (codes "pfh-make") refl same)
+session_usage whole none = usage_of word.Session refl whole none
 
--- nor words of a command with a name that have none,
 pub name_usage : (command : NameCommand) {words : List Text} {d a : Text} {others : List Text} → words ≡ d ∷ a ∷ word_of command ∷ others
     → ((name : Text) → IsNamed (word_of command) (d ∷ a ∷ word_of command ∷ others) name → ⊥) → IsUsage words
-name_usage Frames whole none = usage_unless whole (built_not (codes "frames") refl) (λ same some. differ (codes "frames") (codes "session") refl same)
-    (λ same name asks. none name (subst (λ (ws : List Text). IsFrames ws name) whole asks)) (λ same name asks. differ (codes "frames") (codes "pfh-check") refl same)
-    (λ same name asks. differ (codes "frames") (codes "pfh-show") refl same) (λ same body kept spec asks. differ (codes "frames") (codes "pfh-make") refl same)
-name_usage PfhCheck whole none = usage_unless whole (built_not (codes "pfh-check") refl) (λ same some. differ (codes "pfh-check") (codes "session") refl same)
-    (λ same name asks. differ (codes "pfh-check") (codes "frames") refl same) (λ same name asks. none name (subst (λ (ws : List Text). IsCheck ws name) whole asks))
-    (λ same name asks. differ (codes "pfh-check") (codes "pfh-show") refl same) (λ same body kept spec asks. differ (codes "pfh-check") (codes "pfh-make") refl same)
-name_usage PfhShow whole none = usage_unless whole (built_not (codes "pfh-show") refl) (λ same some. differ (codes "pfh-show") (codes "session") refl same)
-    (λ same name asks. differ (codes "pfh-show") (codes "frames") refl same) (λ same name asks. differ (codes "pfh-show") (codes "pfh-check") refl same)
-    (λ same name asks. none name (subst (λ (ws : List Text). IsShow ws name) whole asks)) (λ same body kept spec asks. differ (codes "pfh-show") (codes "pfh-make") refl same)
+name_usage command whole none = usage_of (word.Named command) refl whole (λ (name, asks). none name asks)
 
--- and words of `pfh-make` of which no file is made
 pub make_usage : {words : List Text} {d a : Text} {others : List Text} → words ≡ d ∷ a ∷ codes "pfh-make" ∷ others
     → ((body kept : Text) (spec : MakeValue) → IsMake (d ∷ a ∷ codes "pfh-make" ∷ others) body kept spec → ⊥) → IsUsage words
-make_usage whole none = usage_unless whole (built_not (codes "pfh-make") refl) (λ same some. differ (codes "pfh-make") (codes "session") refl same)
-    (λ same name asks. differ (codes "pfh-make") (codes "frames") refl same) (λ same name asks. differ (codes "pfh-make") (codes "pfh-check") refl same)
-    (λ same name asks. differ (codes "pfh-make") (codes "pfh-show") refl same)
-    (λ same body kept spec asks. none body kept spec (subst (λ (ws : List Text). IsMake ws body kept spec) whole asks))
+make_usage whole none = usage_of word.PfhMake refl whole (λ (body, kept, spec, asks). none body kept spec asks)
 
--- words whose command is none aren't in it either
+-- nor where their command is none
 pub no_command_usage : {words : List Text} {d a c : Text} {others : List Text} → words ≡ d ∷ a ∷ c ∷ others
     → ((command : CommandWord) → IsCommandOf c command → ⊥) → IsUsage words
-no_command_usage whole none = usage_unless whole (none word.Unbuilt) (λ same some. none word.Session same) (λ same name asks. none (word.Named Frames) same)
-    (λ same name asks. none (word.Named PfhCheck) same) (λ same name asks. none (word.Named PfhShow) same) (λ same body kept spec asks. none word.PfhMake same)
+no_command_usage whole none set = let (command, asks) = of_set set in none command (command_in whole command asks)
 
 -- ---- what a header is made of
 
@@ -290,7 +319,7 @@ pub make_agrees : {others : List Text} {texts : MakeTexts} {body kept : Text} {s
 make_agrees {spec = spec} line text = subst (λ (options : MakeOptions). MakeSays options spec) line.options (make_says text line.line).1
 
 pub make_from : {others : List Text} {texts : MakeTexts} (body kept : Text) (spec : MakeValue) → MakeLine texts others
-    → body ≡ texts.body.now → kept ≡ texts.kept.now → MakeSays (options_read texts) spec → may_be_made spec ≡ true → MakeText body kept spec others
+    → body ≡ texts.body.now → kept ≡ texts.kept.now → MakeSays (options_read texts) spec → spec_refusal spec ≡ None → MakeText body kept spec others
 make_from body kept spec line body_is kept_is says possible = record {
   line = line.line;
   places = line.places ∙ ap₂ (λ (b k : Text). b ∷ k ∷ []) (sym body_is) (sym kept_is);
@@ -298,9 +327,11 @@ make_from body kept spec line body_is kept_is says possible = record {
   possible = possible;
 }
 
-number_one : (high : ℕ) (value : Option Text) (one other : ℕ) → IsNumberOrZero high value one → IsNumberOrZero high value other → one ≡ other
-number_one high None one other e f = e ∙ sym f
-number_one high (Some text) one other is is2 = is.value ∙ sym is2.value
+-- an option's number is one
+pub number_one : (otherwise low high : ℕ) (value : Option Text) (one other : ℕ) → IsNumberOr otherwise low high value one → IsNumberOr otherwise low high value other
+    → one ≡ other
+number_one otherwise low high None one other e f = e ∙ sym f
+number_one otherwise low high (Some text) one other is is2 = is.value ∙ sym is2.value
 
 -- what is said is one thing
 pub says_one : (options : MakeOptions) (one other : MakeValue) → MakeSays options one → MakeSays options other → one ≡ other
@@ -308,8 +339,8 @@ says_one options one other says also =
     let names : Some one.name ≡ Some other.name = sym says.name ∙ also.name in
     let name : one.name ≡ other.name = cc in
     let ext : one.ext ≡ other.ext = sym says.ext ∙ also.ext in
-    let file_type : one.file_type ≡ other.file_type = number_one 255 options.file_type one.file_type other.file_type says.file_type also.file_type in
-    let time : one.time ≡ other.time = number_one 4294967295 options.time one.time other.time says.time also.time in
+    let file_type : one.file_type ≡ other.file_type = number_one 0 0 255 options.file_type one.file_type other.file_type says.file_type also.file_type in
+    let time : one.time ≡ other.time = number_one 0 0 4294967295 options.time one.time other.time says.time also.time in
     let source : one.source ≡ other.source = sym says.source ∙ also.source in
     let destination : one.destination ≡ other.destination = sym says.destination ∙ also.destination in
     let title : one.title ≡ other.title = sym says.title ∙ also.title in

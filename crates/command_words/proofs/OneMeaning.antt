@@ -1,6 +1,5 @@
 -- Each list of words has one meaning.
-use Rattle.std.proofs.Common.{◌≡◌, ◌≤◌, ◌⊎◌, ℕ, false, List, [], ◌∷◌, ◌++◌, length, Option, None, Some, refl, sym, ap, ◌∙◌, subst, arith, inl, inr, codes, true≢false, append_assoc, is_some, length-append}
-use Rattle.std.specs.Prelude.{IsSome}
+use Rattle.std.proofs.Common.{◌≡◌, ◌≤◌, ◌⊎◌, ℕ, List, [], ◌∷◌, ◌++◌, length, Option, None, Some, refl, sym, ap, ◌∙◌, subst, arith, inl, inr, codes, true≢false, append_assoc, length-append}
 use Rattle.std.specs.Str.{bytes_eq}
 use Rattle.std.proofs.lemmas.Bool.{cases_Bool}
 use Rattle.px_base.specs.CallSign.{CallSign, CallText}
@@ -10,13 +9,16 @@ use Rattle.command_words.specs.declared.command.CommandWord.{CommandWord}
 use Rattle.command_words.specs.declared.command.CommandWord.TheVariants as word
 use Rattle.command_words.specs.declared.command.NameCommand.{NameCommand}
 use Rattle.command_words.specs.declared.command.NameCommand.TheVariants.{Frames, PfhCheck, PfhShow}
+use Rattle.command_words.specs.Disks.{IsDiskOf}
 use Rattle.command_words.specs.Grammar.{line_value}
 use Rattle.command_words.specs.Laws.{AsksFrames, AsksSession, Determined, OnlyMake, OnlyOne}
 use Rattle.command_words.specs.Making.{options_given}
-use Rattle.command_words.specs.Words.{AsksHeader, BeyondSession, GivesNumber, IsAir, IsHostPort, IsNamed, IsSession, IsSomeSession, IsUnbuilt, IsUsage, NameText, NeedsNeither, SessionText, SessionWords, unbuilt_commands}
+use Rattle.command_words.specs.Numbers.{GivesNumber}
+use Rattle.command_words.specs.declared.request.SessionRequest.{SessionRequest}
+use Rattle.command_words.specs.Words.{AsksHeader, BeyondSession, IsAir, IsHostPort, IsNamed, IsSomeSession, IsUnbuilt, IsUsage, NameText, NeedsNeither, SessionText, SessionWords, default_blocks, default_polls, unbuilt_commands}
 use Rattle.command_words.proofs.Uses.{Text, text_eq, text_same}
 use Rattle.command_words.proofs.Machine.{is_name, is_name-to}
-use Rattle.command_words.proofs.Meanings.{built_not, differ, make_says, make_usage, name_usage, neither_command, neither_from, neither_text, no_command_usage, other_command, same_places, says_one, session_command, session_given, session_usage}
+use Rattle.command_words.proofs.Meanings.{AreOf, air_in, beyond, disk_of, make_says, make_usage, name_usage, named_by, names, neither_from, neither_text, no_command_usage, not_both, number_one, of_set, one_disk, same_places, says_one, session_given, session_usage, third_word}
 use Rattle.command_words.proofs.Decided.{Decided, GivesText, air_decided, make_decided, name_decided, text_decided}
 
 -- ---- two lines
@@ -37,15 +39,15 @@ same_caller one other text s t =
     λ i. record { chars = chars i; ssid = ssid i }
 
 -- the texts of two sessions of the same words give the same call and numbers
-pub record Same (caller other : CallSign) (moment moment2 blocks blocks2 polls polls2 : Option ℕ) : Type 0 where
+pub record Same (caller other : CallSign) (moment moment2 : Option ℕ) (blocks blocks2 polls polls2 : ℕ) : Type 0 where
   pub callers : caller ≡ other
   pub moments : moment ≡ moment2
   pub blocks_nos : blocks ≡ blocks2
   pub polls_nos : polls ≡ polls2
 
-same_asked : {others : List Text} {caller other : CallSign} {moment blocks polls moment2 blocks2 polls2 : Option ℕ}
+same_texts : {others : List Text} {caller other : CallSign} {moment moment2 : Option ℕ} {blocks polls blocks2 polls2 : ℕ}
     → SessionText others caller moment blocks polls → SessionText others other moment2 blocks2 polls2 → Same caller other moment moment2 blocks blocks2 polls polls2
-same_asked {caller = caller} {other = other} {moment = moment} {blocks = blocks} {polls = polls} {moment2 = moment2} {blocks2 = blocks2} {polls2 = polls2} one two =
+same_texts {caller = caller} {other = other} {moment = moment} {moment2 = moment2} {blocks = blocks} {polls = polls} {blocks2 = blocks2} {polls2 = polls2} one two =
     let first = one.given in
     let second = session_given two one.line in
     let both : first.call_text ∷ [] ≡ second.call_text ∷ [] = sym first.place ∙ second.place in
@@ -53,20 +55,24 @@ same_asked {caller = caller} {other = other} {moment = moment} {blocks = blocks}
     record {
       callers = same_caller caller other second.call_text (subst (λ (t : Text). CallText caller t) text first.call) second.call;
       moments = gives_same 0 4294967295 _ moment moment2 first.moment_given second.moment_given;
-      blocks_nos = gives_same 1 65536 _ blocks blocks2 first.blocks_given second.blocks_given;
-      polls_nos = gives_same 1 18446744073709551615 _ polls polls2 first.polls_given second.polls_given;
+      blocks_nos = number_one default_blocks 1 65536 _ blocks blocks2 first.blocks_given second.blocks_given;
+      polls_nos = number_one default_polls 1 18446744073709551615 _ polls polls2 first.polls_given second.polls_given;
     }
 
-same_words : {words : List Text} {disk air disk2 air2 : Text} {caller other : CallSign} {moment blocks polls moment2 blocks2 polls2 : Option ℕ}
-    → SessionWords words disk air caller moment blocks polls → SessionWords words disk2 air2 other moment2 blocks2 polls2
-    → (disk ≡ disk2) × (air ≡ air2) × Same caller other moment moment2 blocks blocks2 polls polls2
-same_words {disk = disk} {air = air} {disk2 = disk2} {air2 = air2} {caller = caller} {moment = moment} {blocks = blocks} {polls = polls} one two =
+-- two sessions of the same words are one, over one air
+same_words : {words : List Text} {air air2 : Text} {asked other : SessionRequest} → SessionWords words air asked → SessionWords words air2 other
+    → (air ≡ air2) × (asked ≡ other)
+same_words {air = air} {air2 = air2} {asked = asked} {other = other} one two =
     let e = one.written in
     let f = two.written in
     let others : one.others ≡ two.others = cc in
-    let disks : disk ≡ disk2 = cc in
+    let disks : one.disk ≡ two.disk = cc in
     let airs : air ≡ air2 = cc in
-    (disks, airs, same_asked (subst (λ (ws : List Text). SessionText ws caller moment blocks polls) others one.text) two.text)
+    let same = same_texts (subst (λ (ws : List Text). SessionText ws asked.caller asked.moment asked.blocks asked.polls) others one.text) two.text in
+    let disk : asked.disk ≡ other.disk = one_disk two.disk asked.disk other.disk (subst (λ (t : Text). IsDiskOf t asked.disk) disks one.disk_named) two.disk_named in (
+      airs,
+      λ i. record { disk = disk i; caller = same.callers i; moment = same.moments i; blocks = same.blocks_nos i; polls = same.polls_nos i },
+    )
 
 -- ---- only one meaning
 
@@ -79,37 +85,22 @@ no_host_port air e is =
     longer : (host port : Text) → 1 ≤ length host → length (host ++ 58 ∷ port) ≡ 1 → ⊥
     longer host port some one = omega (arith, length-append host (58 ∷ port))
 
-not_some : (n : Option ℕ) → n ≡ None → IsSome n → ⊥
-not_some n e some = true≢false (sym some ∙ ap (λ (o : Option ℕ). is_some o) e)
-
 not_beyond : {words : List Text} → BeyondSession words → AsksSession words → ⊥
-not_beyond (some, beyond) (caller, moment, session) =
-    let (disk, air, same) = same_words some.session session in
-    elim beyond [
-      | inl other ↦ other disk
-      | inr (inl host_port) ↦ no_host_port some.air air host_port
-      | inr (inr (inl blocks)) ↦ not_some some.blocks same.blocks_nos blocks
-      | inr (inr (inr polls)) ↦ not_some some.polls same.polls_nos polls
-    ]
+not_beyond (some, host_port) (asked, session) = no_host_port some.air (same_words some.session session).0 host_port
 
 a_session : {words : List Text} → AsksSession words → IsSomeSession words
-a_session (caller, moment, session) = record { disk = codes "none"; air = codes "-"; caller = caller; moment = moment; blocks = None; polls = None; session = session }
+a_session (asked, session) = record { air = codes "-"; asked = asked; session = session }
 
 unbuilt_in_set : {words : List Text} → IsUnbuilt words → IsUsage words → ⊥
 unbuilt_in_set (inl other) usage = usage (inl other)
 unbuilt_in_set (inr (some, beyond)) usage = usage (inr (inl some))
 
--- words of two commands are of neither
-two_commands : {c e : Text} {P Q : List Text → Type 0} {words : List Text} → bytes_eq c e ≡ false → NeedsNeither c P words → NeedsNeither e Q words → ⊥
-two_commands {c} {e} apart one two = differ c e apart (neither_command one.written two)
-
-two_session : {c : Text} {P : List Text → Type 0} {words : List Text} → bytes_eq c (codes "session") ≡ false → NeedsNeither c P words → AsksSession words → ⊥
-two_session {c} apart one session = differ c (codes "session") apart (session_command one.written (a_session session))
-
-two_unbuilt : {c : Text} {P : List Text → Type 0} {words : List Text} → is_name unbuilt_commands c ≡ false → bytes_eq c (codes "session") ≡ false
-    → NeedsNeither c P words → IsUnbuilt words → ⊥
-two_unbuilt {c} unbuilt apart one (inl other) = built_not c unbuilt (other_command one.written other)
-two_unbuilt {c} unbuilt apart one (inr (some, beyond)) = differ c (codes "session") apart (session_command one.written some)
+-- words that ask for a header are of no other command
+header_apart : (words : List Text) (other : CommandWord) → (other ≡ word.Named PfhCheck → ⊥) → (other ≡ word.Named PfhShow → ⊥) → (other ≡ word.PfhMake → ⊥)
+    → AreOf other words → AsksHeader words → ⊥
+header_apart words other no_check no_show no_make asks (inl check) = not_both words other (word.Named PfhCheck) no_check asks check
+header_apart words other no_check no_show no_make asks (inr (inl show)) = not_both words other (word.Named PfhShow) no_show asks show
+header_apart words other no_check no_show no_make asks (inr (inr make)) = not_both words other word.PfhMake no_make asks make
 
 pub only_one : (words : List Text) → OnlyOne words
 only_one words = record {
@@ -118,29 +109,23 @@ only_one words = record {
   usage_frames = λ usage frames. usage (inr (inr (inl frames)));
   usage_header = λ usage header. usage (inr (inr (inr header)));
   unbuilt_session = λ unbuilt session. elim unbuilt [
-    | inl other ↦ built_not (codes "session") refl (other_command session.2.written other)
+    | inl other ↦ not_both words word.Unbuilt word.Session (λ same. cc) other (a_session session)
     | inr beyond ↦ not_beyond beyond session
   ];
-  unbuilt_frames = λ unbuilt (name, frames). two_unbuilt refl refl frames unbuilt;
-  unbuilt_header = λ unbuilt header. elim header [
-    | inl (name, check) ↦ two_unbuilt refl refl check unbuilt
-    | inr (inl (name, show)) ↦ two_unbuilt refl refl show unbuilt
-    | inr (inr (body, kept, spec, make)) ↦ two_unbuilt refl refl make unbuilt
+  unbuilt_frames = λ unbuilt frames. elim unbuilt [
+    | inl other ↦ not_both words word.Unbuilt (word.Named Frames) (λ same. cc) other frames
+    | inr (some, beyond) ↦ not_both words word.Session (word.Named Frames) (λ same. cc) some frames
   ];
-  session_frames = λ session (name, frames). two_session refl frames session;
-  session_header = λ session header. elim header [
-    | inl (name, check) ↦ two_session refl check session
-    | inr (inl (name, show)) ↦ two_session refl show session
-    | inr (inr (body, kept, spec, make)) ↦ two_session refl make session
+  unbuilt_header = λ unbuilt header. elim unbuilt [
+    | inl other ↦ header_apart words word.Unbuilt (λ same. cc) (λ same. cc) (λ same. cc) other header
+    | inr (some, beyond) ↦ header_apart words word.Session (λ same. cc) (λ same. cc) (λ same. cc) some header
   ];
-  frames_header = λ (named, frames) header. elim header [
-    | inl (name, check) ↦ two_commands refl frames check
-    | inr (inl (name, show)) ↦ two_commands refl frames show
-    | inr (inr (body, kept, spec, make)) ↦ two_commands refl frames make
-  ];
-  check_show = λ name other check show. two_commands refl check show;
-  check_make = λ name body kept spec check make. two_commands refl check make;
-  show_make = λ name body kept spec show make. two_commands refl show make;
+  session_frames = λ session frames. not_both words word.Session (word.Named Frames) (λ same. cc) (a_session session) frames;
+  session_header = λ session header. header_apart words word.Session (λ same. cc) (λ same. cc) (λ same. cc) (a_session session) header;
+  frames_header = λ frames header. header_apart words (word.Named Frames) (λ same. cc) (λ same. cc) (λ same. cc) frames header;
+  check_show = λ name other check show. not_both words (word.Named PfhCheck) (word.Named PfhShow) (λ same. cc) (name, check) (other, show);
+  check_make = λ name body kept spec check make. not_both words (word.Named PfhCheck) word.PfhMake (λ same. cc) (name, check) (body, kept, spec, make);
+  show_make = λ name body kept spec show make. not_both words (word.Named PfhShow) word.PfhMake (λ same. cc) (name, show) (body, kept, spec, make);
 }
 
 -- ---- determined
@@ -177,9 +162,7 @@ make_same words body other kept another spec later one two =
 
 pub determined : (words : List Text) → Determined words
 determined words = record {
-  session = λ caller other moment later one two.
-      let (disk, air, same) = same_words one two in
-      (same.callers, same.moments);
+  session = λ asked other one two. (same_words one two).1;
   frames = λ name other one two. named_same (codes "frames") words name other one two;
   check = λ name other one two. named_same (codes "pfh-check") words name other one two;
   show = λ name other one two. named_same (codes "pfh-show") words name other one two;
@@ -193,71 +176,28 @@ Meant words = IsUsage words ⊎ (IsUnbuilt words ⊎ (AsksSession words ⊎ (Ask
 
 -- too few words
 few : (words : List Text) → length words ≤ 2 → IsUsage words
-few words short (inl other) = let longer = ap length other.written in omega arith
-few words short (inr (inl some)) = let longer = ap length some.session.written in omega arith
-few words short (inr (inr (inl (name, frames)))) = let longer = ap length frames.written in omega arith
-few words short (inr (inr (inr (inl (name, check))))) = let longer = ap length check.written in omega arith
-few words short (inr (inr (inr (inr (inl (name, show)))))) = let longer = ap length show.written in omega arith
-few words short (inr (inr (inr (inr (inr (body, kept, spec, make)))))) = let longer = ap length make.written in omega arith
-
-numbers_given : (n : Option ℕ) → (n ≡ None) ⊎ IsSome n
-numbers_given None = inl refl
-numbers_given (Some k) = inr refl
-
-abbrev session_with : (disk air : Text) (others : List Text) (caller : CallSign) (moment blocks polls : Option ℕ) → SessionText others caller moment blocks polls → IsAir air
-    → IsSomeSession (disk ∷ air ∷ codes "session" ∷ others)
-session_with disk air others caller moment blocks polls text is = record {
-  disk = disk;
-  air = air;
-  caller = caller;
-  moment = moment;
-  blocks = blocks;
-  polls = polls;
-  session = record { others = others; written = refl; air_form = is; text = text };
-}
-
-built_with : (disk air : Text) (others : List Text) (caller : CallSign) (moment blocks polls : Option ℕ) → SessionText others caller moment blocks polls
-    → disk ≡ codes "none" → air ≡ codes "-" → blocks ≡ None → polls ≡ None → IsSession (disk ∷ air ∷ codes "session" ∷ others) caller moment
-built_with disk air others caller moment blocks polls text no_disk standard no_blocks no_polls =
-    let no_more : SessionText others caller moment None polls = subst (λ (b : Option ℕ). SessionText others caller moment b polls) no_blocks text in
-    record {
-      others = others;
-      written = rw (no_disk, standard) refl;
-      air_form = inl refl;
-      text = subst (λ (p : Option ℕ). SessionText others caller moment None p) no_polls no_more;
-    }
+few words short set =
+    let (command, asks) = of_set set in
+    let (disk, air, third, others, whole, is) = third_word command asks in
+    omega (arith, ap length whole)
 
 session_meant : (disk air : Text) (others : List Text) → Meant (disk ∷ air ∷ codes "session" ∷ others)
 session_meant disk air others = elim (text_decided others) [
   | inr none ↦ inl (session_usage refl (λ some. none (given some)))
   | inl (caller, moment, blocks, polls, text) ↦ elim (air_decided air) [
-    | inr (inr none) ↦ inl (session_usage refl (λ some. none (in_form some)))
-    | inr (inl host_port) ↦
-        let some = session_with disk air others caller moment blocks polls text (inr host_port) in
-        inr (inl (inr (some, inr (inl host_port))))
+    | inr (inr none) ↦ inl (session_usage refl (λ some. none (air_in some)))
+    | inr (inl host_port) ↦ inr (inl (inr (beyond disk air others host_port caller moment blocks polls text)))
     | inl standard ↦
-        let some = session_with disk air others caller moment blocks polls text (inl standard) in
-        elim (cases_Bool (bytes_eq disk (codes "none"))) [
-          | inr other ↦ inr (inl (inr (some, inl (λ same. true≢false (sym (text_eq disk (codes "none") same) ∙ other)))))
-          | inl no_disk ↦ elim (numbers_given blocks) [
-            | inr given_blocks ↦ inr (inl (inr (some, inr (inr (inl given_blocks)))))
-            | inl no_blocks ↦ elim (numbers_given polls) [
-              | inr given_polls ↦ inr (inl (inr (some, inr (inr (inr given_polls)))))
-              | inl no_polls ↦ inr (inr (inl (caller, moment, built_with disk air others caller moment blocks polls text (text_same disk (codes "none") no_disk) standard no_blocks no_polls)))
-            ]
-          ]
-        ]
+        let (which, named) = disk_of disk in
+        inr (inr (inl (
+          record { disk = which; caller = caller; moment = moment; blocks = blocks; polls = polls },
+          record { disk = disk; others = others; written = rw standard refl; disk_named = named; air_form = inl refl; text = text },
+        )))
   ]
 ]
   where
     given : IsSomeSession (disk ∷ air ∷ codes "session" ∷ others) → GivesText others
     given some = Rattle.command_words.proofs.Meanings.text_of some
-
-    in_form : IsSomeSession (disk ∷ air ∷ codes "session" ∷ others) → IsAir air
-    in_form some =
-        let written = some.session.written in
-        let same : some.air ≡ air = cc in
-        subst IsAir same some.session.air_form
 
 -- AIR has one of its forms
 form_decided : (air : Text) → Decided ((air ≡ codes "none") ⊎ IsAir air)
@@ -301,34 +241,27 @@ make_meant disk air others = elim (make_decided others) [
 
 -- each word names a command or none
 command_decided : (c : Text) → Decided ((command : CommandWord) × IsCommandOf c command)
-command_decided c = elim (cases_Bool (bytes_eq c (codes "session"))) [
-  | inl is ↦ inl (word.Session, text_same c (codes "session") is)
-  | inr no_session ↦ elim (cases_Bool (bytes_eq c (codes "frames"))) [
-    | inl is ↦ inl (word.Named Frames, text_same c (codes "frames") is)
-    | inr no_frames ↦ elim (cases_Bool (bytes_eq c (codes "pfh-check"))) [
-      | inl is ↦ inl (word.Named PfhCheck, text_same c (codes "pfh-check") is)
-      | inr no_check ↦ elim (cases_Bool (bytes_eq c (codes "pfh-show"))) [
-        | inl is ↦ inl (word.Named PfhShow, text_same c (codes "pfh-show") is)
-        | inr no_show ↦ elim (cases_Bool (bytes_eq c (codes "pfh-make"))) [
-          | inl is ↦ inl (word.PfhMake, text_same c (codes "pfh-make") is)
-          | inr no_make ↦ elim (cases_Bool (is_name unbuilt_commands c)) [
-            | inl is ↦ inl (word.Unbuilt, is_name-to unbuilt_commands c is)
-            | inr no_other ↦ inr (λ (command, is). none_of no_session no_frames no_check no_show no_make no_other command is)
+command_decided c = elim (cases_Bool (is_name unbuilt_commands c)) [
+  | inl is ↦ inl (word.Unbuilt, is_name-to unbuilt_commands c is)
+  | inr no_other ↦ elim (cases_Bool (bytes_eq c (codes "session"))) [
+    | inl is ↦ inl (word.Session, text_same c (codes "session") is)
+    | inr no_session ↦ elim (cases_Bool (bytes_eq c (codes "frames"))) [
+      | inl is ↦ inl (word.Named Frames, text_same c (codes "frames") is)
+      | inr no_frames ↦ elim (cases_Bool (bytes_eq c (codes "pfh-check"))) [
+        | inl is ↦ inl (word.Named PfhCheck, text_same c (codes "pfh-check") is)
+        | inr no_check ↦ elim (cases_Bool (bytes_eq c (codes "pfh-show"))) [
+          | inl is ↦ inl (word.Named PfhShow, text_same c (codes "pfh-show") is)
+          | inr no_show ↦ elim (cases_Bool (bytes_eq c (codes "pfh-make"))) [
+            | inl is ↦ inl (word.PfhMake, text_same c (codes "pfh-make") is)
+            | inr no_make ↦
+                let none : named_by c ≡ None = rw (no_other, no_session, no_frames, no_check, no_show, no_make) refl in
+                inr (λ (command, is). let no : Some command ≡ None = sym (names c command is) ∙ none in absurd cc)
           ]
         ]
       ]
     ]
   ]
 ]
-  where
-    none_of : bytes_eq c (codes "session") ≡ false → bytes_eq c (codes "frames") ≡ false → bytes_eq c (codes "pfh-check") ≡ false → bytes_eq c (codes "pfh-show") ≡ false
-        → bytes_eq c (codes "pfh-make") ≡ false → is_name unbuilt_commands c ≡ false → (command : CommandWord) → IsCommandOf c command → ⊥
-    none_of session frames check show make other word.Session is = differ c (codes "session") session is
-    none_of session frames check show make other (word.Named Frames) is = differ c (codes "frames") frames is
-    none_of session frames check show make other (word.Named PfhCheck) is = differ c (codes "pfh-check") check is
-    none_of session frames check show make other (word.Named PfhShow) is = differ c (codes "pfh-show") show is
-    none_of session frames check show make other word.PfhMake is = differ c (codes "pfh-make") make is
-    none_of session frames check show make other word.Unbuilt is = built_not c other is
 
 meant_by : (d a c : Text) (others : List Text) (command : CommandWord) → IsCommandOf c command → Meant (d ∷ a ∷ c ∷ others)
 meant_by d a c others word.Session is = subst (λ (t : Text). Meant (d ∷ a ∷ t ∷ others)) (sym is) (session_meant d a others)

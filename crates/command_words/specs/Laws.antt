@@ -1,12 +1,12 @@
 -- Each list of words has one meaning.
-use Rattle.std.specs.Prelude.{◌≡◌, ℕ, ◌⊎◌, List, Option}
-use Rattle.px_base.specs.CallSign.{CallSign}
-use Rattle.command_words.specs.Made.{MakeValue}
+use Rattle.std.specs.Prelude.{◌≡◌, ℕ, ◌⊎◌, List}
+use Rattle.header_tool.specs.Made.{MakeValue}
+use Rattle.command_words.specs.declared.request.SessionRequest.{SessionRequest}
 use Rattle.command_words.specs.Words.{AsksHeader, IsCheck, IsFrames, IsMake, IsSession, IsShow, IsUnbuilt, IsUsage}
 
 -- the words ask for a session that is built
 abbrev pub AsksSession : List (List ℕ) → Type 0
-AsksSession words = (caller : CallSign) × (moment : Option ℕ) × IsSession words caller moment
+AsksSession words = (asked : SessionRequest) × IsSession words asked
 
 -- the words ask for the frames of a name
 abbrev pub AsksFrames : List (List ℕ) → Type 0
@@ -39,11 +39,9 @@ OnlyMake words =
     (body other kept another : List ℕ) (spec later : MakeValue) → IsMake words body kept spec → IsMake words other another later
     → (body ≡ other) × (kept ≡ another) × (spec ≡ later)
 
--- and for one caller, moment and name.
+-- and for one session (of one disk, caller, moment, number of blocks and number of polls) and one name.
 pub record Determined (words : List (List ℕ)) : Type 0 where
-  pub session :
-      (caller other : CallSign) (moment later : Option ℕ) → IsSession words caller moment → IsSession words other later
-      → (caller ≡ other) × (moment ≡ later)
+  pub session : (asked other : SessionRequest) → IsSession words asked → IsSession words other → asked ≡ other
   pub frames : (name other : List ℕ) → IsFrames words name → IsFrames words other → name ≡ other
   pub check : (name other : List ℕ) → IsCheck words name → IsCheck words other → name ≡ other
   pub show : (name other : List ℕ) → IsShow words name → IsShow words other → name ≡ other

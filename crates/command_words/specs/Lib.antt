@@ -1,10 +1,10 @@
 pub mod Airs
 pub mod Asked
 pub mod Commands
+pub mod Disks
 pub mod Grammar
 pub mod Laws
 pub mod Lines
-pub mod Made
 pub mod Making
 pub mod Numbers
 pub mod Words

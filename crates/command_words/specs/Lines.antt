@@ -4,7 +4,7 @@ use Rattle.std.specs.List.{list_all, list_any}
 use Rattle.std.specs.Option.{option_copied}
 use Rattle.std.specs.Str.{bytes_eq}
 use Rattle.clap.specs.Lexer.{has_byte}
-use Rattle.clap.specs.Words.{App, Rule, first_value, found_of, new_rule}
+use Rattle.clap.specs.Words.{App, Rule, first_value, found_of, new_rule, with_rule}
 use Rattle.clap.specs.Simple.{new_shape}
 use Rattle.clap.specs.declared.builder.action.ArgAction.TheVariants.{Set}
 use Rattle.clap.specs.declared.parser.matches.ArgMatches.{ArgMatches}
@@ -16,6 +16,11 @@ use Rattle.command_words.specs.Words.{session_options}
 -- an option with a value
 abbrev pub option_of : List ℕ → Rule
 option_of name = record (new_rule name) { long = Some name; action = Some Set }
+
+-- with an option of each of these names more
+abbrev pub options_added : App → List (List ℕ) → App
+options_added app [] = app
+options_added app (name ∷ names) = options_added (with_rule app (option_of name)) names
 
 -- a place that has to be there
 abbrev pub place_of : List ℕ → Rule

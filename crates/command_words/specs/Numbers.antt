@@ -1,5 +1,5 @@
 -- Numbers among the words.
-use Rattle.std.specs.Prelude.{◌≡◌, ℕ, ◌+◌, ◌-◌, ◌*◌, ◌≤◌, List, [], ◌∷◌, length}
+use Rattle.std.specs.Prelude.{◌≡◌, ℕ, ◌+◌, ◌-◌, ◌*◌, ◌≤◌, List, [], ◌∷◌, length, Option, None, Some}
 use Rattle.std.specs.List.{AllByRecursion}
 
 -- a decimal digit
@@ -19,3 +19,13 @@ pub record NumberText (low high : ℕ) (text : List ℕ) (number : ℕ) : Type 0
   pub value : number ≡ number_after 0 text
   pub least : low ≤ number
   pub most : number ≤ high
+
+-- no value is given, or one that writes this number of the range
+abbrev pub GivesNumber : ℕ → ℕ → Option (List ℕ) → Option ℕ → Type 0
+GivesNumber low high value None = value ≡ None
+GivesNumber low high value (Some number) = (text : List ℕ) × (value ≡ Some text) × NumberText low high text number
+
+-- a value writes this number of the range, or none is given and it is the one that stands for it
+abbrev pub IsNumberOr : ℕ → ℕ → ℕ → Option (List ℕ) → ℕ → Type 0
+IsNumberOr otherwise low high None number = number ≡ otherwise
+IsNumberOr otherwise low high (Some text) number = NumberText low high text number

@@ -1,11 +1,13 @@
 -- The command set: what each list of words asks for.
-use Rattle.std.specs.Prelude.{◌≡◌, ◌≢◌, ℕ, ◌≤◌, ◌⊎◌, List, [], ◌∷◌, ◌++◌, length, Option, None, Some, IsSome, Contains, codes}
+use Rattle.std.specs.Prelude.{◌≡◌, ◌≢◌, ℕ, ◌≤◌, ◌⊎◌, List, [], ◌∷◌, ◌++◌, length, Option, Contains, codes}
 use Rattle.std.specs.List.{AllByRecursion}
 use Rattle.px_base.specs.CallSign.{CallSign, CallText}
+use Rattle.header_tool.specs.Made.{MakeValue}
+use Rattle.command_words.specs.declared.request.SessionRequest.{SessionRequest}
+use Rattle.command_words.specs.Disks.{IsDiskOf}
 use Rattle.command_words.specs.Grammar.{Line, line_places, line_value}
-use Rattle.command_words.specs.Made.{MakeValue}
 use Rattle.command_words.specs.Making.{MakeText}
-use Rattle.command_words.specs.Numbers.{NumberText}
+use Rattle.command_words.specs.Numbers.{GivesNumber, IsNumberOr, NumberText}
 
 -- the commands that aren't built yet
 abbrev pub unbuilt_commands : List (List ℕ)
@@ -35,31 +37,36 @@ IsAir air = (air ≡ codes "-") ⊎ IsHostPort air
 abbrev pub session_options : List (List ℕ)
 session_options = codes "moment" ∷ codes "blocks" ∷ codes "polls" ∷ []
 
--- no value is given, or one that writes this number of the range
-abbrev pub GivesNumber : ℕ → ℕ → Option (List ℕ) → Option ℕ → Type 0
-GivesNumber low high value None = value ≡ None
-GivesNumber low high value (Some number) = (text : List ℕ) × (value ≡ Some text) × NumberText low high text number
+-- how many blocks of 512 octets a store has, where the words don't say
+abbrev pub default_blocks : ℕ
+default_blocks = 65536
 
--- The place is CALLER, and the options give these numbers.
-pub record SessionGiven (places : List (List ℕ)) (value : List ℕ → Option (List ℕ)) (caller : CallSign) (moment blocks polls : Option ℕ) : Type 0 where
+-- how many polls a run makes at most, where the words don't say
+abbrev pub default_polls : ℕ
+default_polls = 1000000000000
+
+-- The place is CALLER, and the options give these numbers: a moment where there is one, blocks and polls in any case.
+pub record SessionGiven (places : List (List ℕ)) (value : List ℕ → Option (List ℕ)) (caller : CallSign) (moment : Option ℕ) (blocks polls : ℕ) : Type 0 where
   pub call_text : List ℕ
   pub place : places ≡ call_text ∷ []
   pub call : CallText caller call_text
   pub moment_given : GivesNumber 0 4294967295 (value (codes "moment")) moment
-  pub blocks_given : GivesNumber 1 65536 (value (codes "blocks")) blocks
-  pub polls_given : GivesNumber 1 18446744073709551615 (value (codes "polls")) polls
+  pub blocks_given : IsNumberOr default_blocks 1 65536 (value (codes "blocks")) blocks
+  pub polls_given : IsNumberOr default_polls 1 18446744073709551615 (value (codes "polls")) polls
 
 -- The words after `session` are CALLER and at most one value for each option, in any order.
-pub record SessionText (others : List (List ℕ)) (caller : CallSign) (moment blocks polls : Option ℕ) : Type 0 where
+pub record SessionText (others : List (List ℕ)) (caller : CallSign) (moment : Option ℕ) (blocks polls : ℕ) : Type 0 where
   pub line : Line session_options others 1
   pub given : SessionGiven (line_places line) (line_value line) caller moment blocks polls
 
--- The words are `DISK AIR session` and such words.
-pub record SessionWords (words : List (List ℕ)) (disk air : List ℕ) (caller : CallSign) (moment blocks polls : Option ℕ) : Type 0 where
+-- The words are DISK, this AIR, `session` and such words, and give this.
+pub record SessionWords (words : List (List ℕ)) (air : List ℕ) (asked : SessionRequest) : Type 0 where
+  pub disk : List ℕ
   pub others : List (List ℕ)
   pub written : words ≡ disk ∷ air ∷ codes "session" ∷ others
+  pub disk_named : IsDiskOf disk asked.disk
   pub air_form : IsAir air
-  pub text : SessionText others caller moment blocks polls
+  pub text : SessionText others asked.caller asked.moment asked.blocks asked.polls
 
 -- The words are DISK, AIR, this command, which needs neither of them, and others of which this holds.
 pub record NeedsNeither (command : List ℕ) (P : List (List ℕ) → Type 0) (words : List (List ℕ)) : Type 0 where
@@ -101,9 +108,9 @@ AsksHeader words =
     ((name : List ℕ) × IsCheck words name)
     ⊎ (((name : List ℕ) × IsShow words name) ⊎ ((body kept : List ℕ) × (spec : MakeValue) × IsMake words body kept spec))
 
--- The words ask for the session of this caller, over standard input and output and with a store in memory.
-abbrev pub IsSession : List (List ℕ) → CallSign → Option ℕ → Type 0
-IsSession words caller moment = SessionWords words (codes "none") (codes "-") caller moment None None
+-- The words ask for this session, over standard input and output.
+abbrev pub IsSession : List (List ℕ) → SessionRequest → Type 0
+IsSession words asked = SessionWords words (codes "-") asked
 
 -- the words name a command that isn't built yet, with whatever other words
 pub record IsOther (words : List (List ℕ)) : Type 0 where
@@ -116,21 +123,13 @@ pub record IsOther (words : List (List ℕ)) : Type 0 where
 
 -- the words are a session's in the command set
 pub record IsSomeSession (words : List (List ℕ)) : Type 0 where
-  pub disk : List ℕ
   pub air : List ℕ
-  pub caller : CallSign
-  pub moment : Option ℕ
-  pub blocks : Option ℕ
-  pub polls : Option ℕ
-  pub session : SessionWords words disk air caller moment blocks polls
+  pub asked : SessionRequest
+  pub session : SessionWords words air asked
 
--- the session has a disk, an air that is a host and port, a number of blocks or of polls: none of these is built yet
-abbrev pub IsBeyond : {words : List (List ℕ)} → IsSomeSession words → Type 0
-IsBeyond session = (session.disk ≢ codes "none") ⊎ (IsHostPort session.air ⊎ (IsSome session.blocks ⊎ IsSome session.polls))
-
--- the words are such a session's
+-- the words are those of a session over a host and port, which isn't built yet
 abbrev pub BeyondSession : List (List ℕ) → Type 0
-BeyondSession words = (session : IsSomeSession words) × IsBeyond session
+BeyondSession words = (session : IsSomeSession words) × IsHostPort session.air
 
 -- The words are in the command set. As long as a command isn't built, all of its words are taken to be.
 abbrev pub InSet : List (List ℕ) → Type 0

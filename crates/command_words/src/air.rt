@@ -7,7 +7,7 @@ ghost use Rattle.command_words.specs.Words.{IsAir, IsHostPort};
 use crate::number::read_number;
 
 /// What the word AIR names.
-#[derive(Clone, Copy, PartialEq, Eq)]
+#[derive(Clone, Copy)]
 pub(crate) enum AirWord {
     /// Nothing, `none`.
     Nothing,

@@ -2,11 +2,13 @@
 //! `clap`.
 //!
 //! `specs/Words.antt` is the command set, as far as it is built, `specs/Grammar.antt` the grammar of the words after
-//! COMMAND, and `specs/Numbers.antt` that of numbers; `specs/Making.antt` says what `pfh-make` asks for.
+//! COMMAND, and `specs/Numbers.antt` that of numbers; `specs/Making.antt` says what `pfh-make` asks for. What a
+//! header may be made of is the rule of `header_tool`.
 #![tactic(auto)]
 
 mod air;
 mod command;
+mod disk;
 pub mod laws;
 mod line;
 mod make;
@@ -14,8 +16,9 @@ mod number;
 mod request;
 mod words;
 
+pub use disk::DiskWord;
 pub use make::MakeRequest;
-pub use request::{Refusal, Request, SessionRequest, read};
+pub use request::{BLOCKS, POLLS, Refusal, Request, SessionRequest, read};
 pub use words::Words;
 
 #[cfg(test)]

@@ -3,7 +3,7 @@
 ghost use Rattle.std.specs.Prelude.{◌≡◌, List, [], ◌∷◌, false, IfOk, IsErrOf, codes, drop, map, option_copied, string_bytes};
 ghost use Rattle.clap.specs.Words.{app_of, kind_of, rule_of, with_rule};
 ghost use Rattle.command_words.specs.Grammar.{Line};
-ghost use Rattle.command_words.specs.Lines.{FindsLine, MakeLine, RefusesLine, SessionLine, command_of, make_app, option_of, place_of, session_app};
+ghost use Rattle.command_words.specs.Lines.{FindsLine, MakeLine, RefusesLine, SessionLine, command_of, make_app, option_of, options_added, place_of, session_app};
 ghost use Rattle.command_words.specs.Making.{make_options};
 ghost use Rattle.command_words.specs.Words.{NameText, session_options};
 
@@ -119,9 +119,7 @@ fn session_command<'a>(alloc: Global) -> Result<Command<'a>, AllocError>
     ensures { IfOk result (λ command. app_of command ≡ session_app) }
 {
     let command = line_command(alloc, "session", "caller")?;
-    let command = with_option(alloc, command, "moment")?;
-    let command = with_option(alloc, command, "blocks")?;
-    with_option(alloc, command, "polls")
+    with_options(alloc, command, &["moment", "blocks", "polls"])
 }
 
 /// The command `pfh-make` with its two places and its options.
@@ -129,13 +127,16 @@ fn make_command<'a>(alloc: Global) -> Result<Command<'a>, AllocError>
     ensures { IfOk result (λ command. app_of command ≡ make_app) }
 {
     let command = line_command(alloc, "pfh-make", "body")?.arg(place(alloc, "kept"))?;
-    let command = with_option(alloc, command, "name")?;
-    let command = with_option(alloc, command, "ext")?;
-    let command = with_option(alloc, command, "type")?;
-    let command = with_option(alloc, command, "time")?;
-    let command = with_option(alloc, command, "source")?;
-    let command = with_option(alloc, command, "destination")?;
-    with_option(alloc, command, "title")
+    let options = [
+        "name",
+        "ext",
+        "type",
+        "time",
+        "source",
+        "destination",
+        "title",
+    ];
+    with_options(alloc, command, &options)
 }
 
 /// A command with one place and no options yet.
@@ -149,6 +150,22 @@ fn line_command<'a>(
     Command::new(alloc, name)
         .disable_help_flag(true)
         .arg(place(alloc, place_name))
+}
+
+/// The command with an option more of each of these names.
+fn with_options<'a>(
+    alloc: Global,
+    command: Command<'a>,
+    names: &[&'a str],
+) -> Result<Command<'a>, AllocError>
+    ensures { IfOk result (λ more.
+        app_of more ≡ options_added (app_of command.entry) (map (λ name. name.now) names.now)) }
+{
+    let mut command = command;
+    for name in names {
+        command = with_option(alloc, command, name)?;
+    }
+    Ok(command)
 }
 
 /// The command with one more option.

@@ -1,11 +1,39 @@
 //! Numbers among the words.
 
-ghost use Rattle.std.specs.Prelude.{◌≡◌, ℕ, ◌+◌, ◌-◌, ◌*◌, ◌<◌, ◌≤◌, ◌^◌, IfNone, IfSome, SomeIff};
+ghost use Rattle.std.specs.Prelude.{◌≡◌, ℕ, ◌+◌, ◌-◌, ◌*◌, ◌<◌, ◌≤◌, ◌^◌, Option, IfNone, IfSome, SomeIff, option_copied};
 ghost use Rattle.std.specs.List.{AllByRecursion};
-ghost use Rattle.command_words.specs.Numbers.{IsDigit, NumberText, number_after as digits_after};
+ghost use Rattle.command_words.specs.Numbers.{GivesNumber, IsDigit, IsNumberOr, NumberText, number_after as digits_after};
 
 /// The last moment that can be told, in seconds since 1 January 1970.
 pub(crate) const LAST_MOMENT: u64 = 4_294_967_295;
+
+/// The moment that an option's value writes, in seconds since 1 January 1970, where it is given; or nothing where a
+/// value writes none.
+pub(crate) fn optional_moment(value: Option<&str>) -> Option<Option<u32>>
+    ensures some { IfSome result (λ moment. GivesNumber 0 4294967295 (option_copied value.entry) moment) }
+    ensures none { IfNone result ((moment : Option ℕ) →
+        GivesNumber 0 4294967295 (option_copied value.entry) moment → ⊥) }
+{
+    match value {
+        Some(text) => Some(Some(read_number(0, LAST_MOMENT, text)? as u32)),
+        None => Some(None),
+    }
+}
+
+/// The number of this range that an option's value writes, or the one that stands for it where none is given; or nothing
+/// where a value writes none.
+pub(crate) fn number_or(otherwise: u64, low: u64, high: u64, value: Option<&str>) -> Option<u64>
+    requires { otherwise ≤ high }
+    ensures some { IfSome result (IsNumberOr otherwise low high (option_copied value.entry)) }
+    ensures most { IfSome result (λ number. number ≤ high) }
+    ensures none { IfNone result ((number : ℕ) →
+        IsNumberOr otherwise low high (option_copied value.entry) number → ⊥) }
+{
+    match value {
+        Some(text) => read_number(low, high, text),
+        None => Some(otherwise),
+    }
+}
 
 /// The number of this range that one to twenty decimal digits write.
 pub(crate) fn read_number(low: u64, high: u64, text: &str) -> Option<u64>

@@ -1,32 +1,45 @@
 //! What the words ask for.
 
-ghost use Rattle.std.specs.Prelude.{◌≡◌, ◌<◌, ◌^◌, ◌∷◌, ℕ, List, Option, IfNone, IfOk, IfSome, IsErrOf, codes, drop, map, option_copied, string_bytes};
+ghost use Rattle.std.specs.Prelude.{◌≡◌, ◌∷◌, ℕ, List, Option, IfOk, IsErrOf, codes, drop, map, string_bytes};
 ghost use Rattle.px_base.specs.CallSign.{CallSign};
 ghost use Rattle.command_words.specs.Asked.{AsksFor};
 ghost use Rattle.command_words.specs.Commands.{word_of};
 ghost use Rattle.command_words.specs.declared.request.Refusal.TheVariants.{OutOfMemory as refused_memory};
-ghost use Rattle.command_words.specs.Words.{BeyondSession, GivesNumber, IsNamed, IsSomeSession, IsUnbuilt, IsUsage, NamesBuilt, SessionText};
+ghost use Rattle.command_words.specs.Words.{BeyondSession, IsNamed, IsSomeSession, IsUnbuilt, IsUsage, NamesBuilt, SessionText};
 
 use crate::air::{AirWord, read_air};
 use crate::command::{CommandWord, NameCommand, read_command};
+use crate::disk::{DiskWord, read_disk};
 use crate::line;
 use crate::make::{MakeRequest, make_request};
-use crate::number::{LAST_MOMENT, read_number};
+use crate::number::{number_or, optional_moment};
 use crate::words::Words;
 use px_base::Call;
 use std::alloc::{AllocError, Global};
 use thiserror::Error;
 
+/// How many blocks of 512 octets a session's store has, where the words don't say.
+pub const BLOCKS: u32 = 65_536;
+
+/// How many polls a session makes at most, where the words don't say.
+pub const POLLS: u64 = 1_000_000_000_000;
+
 /// How many blocks of 512 octets a store may have at most.
 const MOST_BLOCKS: u64 = 65_536;
 
-/// The session that the words ask for, over standard input and output, with a store in memory.
+/// The session that the words ask for, over standard input and output.
 #[derive(Clone, Copy, Debug, PartialEq, Eq)]
 pub struct SessionRequest {
+    /// On which disk its store lies.
+    pub disk: DiskWord,
     /// Whose session it is.
     pub caller: Call,
     /// Its moment, in seconds since 1 January 1970, where the words give one.
     pub moment: Option<u32>,
+    /// How many blocks of 512 octets its store has: 1 to 65,536; [`BLOCKS`] where the words give none.
+    pub blocks: u32,
+    /// How many polls it makes at most: 1 or more; [`POLLS`] where the words give none.
+    pub polls: u64,
 }
 
 /// What the words ask for.
@@ -79,9 +92,9 @@ impl From<AllocError> for Refusal {
 #[derive(Clone, Copy)]
 struct SessionAsked {
     caller: Call,
-    moment: Option<u64>,
-    block_count: Option<u64>,
-    poll_count: Option<u64>,
+    moment: Option<u32>,
+    blocks: u32,
+    polls: u64,
 }
 
 /// Reads the program's words, `DISK AIR COMMAND` and those after it: what they ask for, or the refusal. They aren't in
@@ -125,28 +138,25 @@ fn session_request<'a>(
     let Some(air) = read_air(air) else {
         return Err(Refusal::Usage);
     };
-    if air == AirWord::Nothing {
-        return Err(Refusal::Usage);
-    }
     let asked = read_texts(alloc, line)?;
-    if disk != "none"
-        || air == AirWord::HostPort
-        || asked.block_count.is_some()
-        || asked.poll_count.is_some()
-    {
-        return Err(Refusal::NotBuilt);
+    match air {
+        AirWord::Standard => Ok(Request::Session(SessionRequest {
+            disk: read_disk(disk),
+            caller: asked.caller,
+            moment: asked.moment,
+            blocks: asked.blocks,
+            polls: asked.polls,
+        })),
+        AirWord::HostPort => Err(Refusal::NotBuilt),
+        AirWord::Nothing => Err(Refusal::Usage),
     }
-    Ok(Request::Session(SessionRequest {
-        caller: asked.caller,
-        moment: seconds(asked.moment),
-    }))
 }
 
 /// Reads the line from `session` on. Takes memory.
 fn read_texts(alloc: Global, line: &[String]) -> Result<SessionAsked, Refusal>
     ensures text { IfOk result (λ asked. SessionText (drop 1 (map string_bytes line.now)) asked.caller asked.moment
-        asked.block_count asked.poll_count) }
-    ensures usage { IsErrOf result Refusal.Usage → (caller : CallSign) (moment blocks polls : Option ℕ) →
+        asked.blocks asked.polls) }
+    ensures usage { IsErrOf result Refusal.Usage → (caller : CallSign) (moment : Option ℕ) (blocks polls : ℕ) →
         SessionText (drop 1 (map string_bytes line.now)) caller moment blocks polls → ⊥ }
     ensures built { IsErrOf result Refusal.NotBuilt → ⊥ }
 {
@@ -154,41 +164,21 @@ fn read_texts(alloc: Global, line: &[String]) -> Result<SessionAsked, Refusal>
     let Ok(caller) = Call::read(texts.caller) else {
         return Err(Refusal::Usage);
     };
-    let Some(moment) = optional_number(0, LAST_MOMENT, texts.moment) else {
+    let Some(moment) = optional_moment(texts.moment) else {
         return Err(Refusal::Usage);
     };
-    let Some(block_count) = optional_number(1, MOST_BLOCKS, texts.blocks) else {
+    let Some(block_count) = number_or(u64::from(BLOCKS), 1, MOST_BLOCKS, texts.blocks) else {
         return Err(Refusal::Usage);
     };
-    let Some(poll_count) = optional_number(1, u64::MAX, texts.polls) else {
+    let Some(poll_count) = number_or(POLLS, 1, u64::MAX, texts.polls) else {
         return Err(Refusal::Usage);
     };
     Ok(SessionAsked {
         caller,
         moment,
-        block_count,
-        poll_count,
+        blocks: block_count as u32,
+        polls: poll_count,
     })
-}
-
-/// The number of this range that an option's value writes, where it is given; or nothing where a value writes none.
-fn optional_number(low: u64, high: u64, value: Option<&str>) -> Option<Option<u64>>
-    ensures some { IfSome result (λ number. GivesNumber low high (option_copied value.entry) number) }
-    ensures none { IfNone result ((number : Option ℕ) →
-        GivesNumber low high (option_copied value.entry) number → ⊥) }
-{
-    match value {
-        Some(text) => read_number(low, high, text).map(Some),
-        None => Some(None),
-    }
-}
-
-/// A moment in its own type.
-fn seconds(moment: Option<u64>) -> Option<u32>
-    requires { IfSome moment (λ seconds. seconds < 2 ^ 32) }
-    ensures { result ≡ moment }
-{
-    moment.map(|seconds| seconds as u32)
 }
 
 /// Reads the words of a command with one place, a name: AIR and the line from the command on. Takes memory.

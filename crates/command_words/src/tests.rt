@@ -1,6 +1,6 @@
 //! What the words ask for, from outside.
 
-use crate::{MakeRequest, Refusal, Request, Words, read};
+use crate::{DiskWord, MakeRequest, Refusal, Request, SessionRequest, Words, read};
 use px_base::OutOfMemory;
 use std::alloc::{AllocError, Global};
 use std::test::Fail;
@@ -10,36 +10,74 @@ const USAGE: &str = "the words are not in the command set";
 const NOT_BUILT: &str = "the words ask for what is not built yet";
 
 /// Words, split at blanks, and what they ask for. More rows, played by a whole run, stand in the crate `command_rows`.
-const WORDS: [(&str, &str); 50] = [
+const WORDS: [(&str, &str); 70] = [
     ("", USAGE),
     ("none - SESSION NOCALL", USAGE),
-    ("none - session NOCALL", "session NOCALL"),
-    ("none - session NOCALL-0", "session NOCALL"),
-    ("none - session PE1ABC-15", "session PE1ABC-15"),
+    (
+        "none - session NOCALL",
+        "session NOCALL - fresh 65536 1000000000000",
+    ),
+    (
+        "none - session NOCALL-0",
+        "session NOCALL - fresh 65536 1000000000000",
+    ),
+    (
+        "none - session PE1ABC-15",
+        "session PE1ABC-15 - fresh 65536 1000000000000",
+    ),
     ("none - session PE1ABC-16", USAGE),
     ("none - session TOOLONG", USAGE),
     ("none - session NOCALL OTHER", USAGE),
     ("none - session NOCALL ", USAGE),
     ("none - session -- NOCALL --", USAGE),
     ("none - session -- --moment 1 NOCALL", USAGE),
-    ("none - session --moment 5 -- NOCALL", "session NOCALL 5"),
+    (
+        "none - session --moment 5 -- NOCALL",
+        "session NOCALL 5 fresh 65536 1000000000000",
+    ),
     ("none - session --moment -- 5 NOCALL", USAGE),
-    ("none - session NOCALL --moment 1", "session NOCALL 1"),
     ("none - session NOCALL --moment 1 --moment 1", USAGE),
     ("none - session NOCALL --moment=1 --moment=1", USAGE),
     ("none - session --moment --moment=1 NOCALL", USAGE),
     ("none - session --moment=NOCALL 5", USAGE),
     ("none - session NOCALL --moment=5=6", USAGE),
-    ("none - session NOCALL --moment 0", "session NOCALL 0"),
-    ("none - session NOCALL --moment 99999999999999999999", USAGE),
-    ("none - session NOCALL --blocks 1", NOT_BUILT),
     (
-        "none - session NOCALL --polls=18446744073709551615",
-        NOT_BUILT,
+        "none - session NOCALL --moment 0",
+        "session NOCALL 0 fresh 65536 1000000000000",
+    ),
+    ("none - session NOCALL --moment 99999999999999999999", USAGE),
+    (
+        "none - session NOCALL --blocks 1",
+        "session NOCALL - fresh 1 1000000000000",
     ),
     (
+        "none - session NOCALL --blocks=00000000000000065536",
+        "session NOCALL - fresh 65536 1000000000000",
+    ),
+    ("none - session NOCALL --blocks 0", USAGE),
+    ("none - session NOCALL --blocks 65537", USAGE),
+    (
+        "none - session NOCALL --blocks=000000000000000065536",
+        USAGE,
+    ),
+    ("none - session NOCALL --blocks=", USAGE),
+    ("none - session NOCALL --blocks -1", USAGE),
+    ("none - session NOCALL --blocks 8 --blocks=8", USAGE),
+    (
+        "none - session NOCALL --polls 1",
+        "session NOCALL - fresh 65536 1",
+    ),
+    (
+        "none - session NOCALL --polls=18446744073709551615",
+        "session NOCALL - fresh 65536 18446744073709551615",
+    ),
+    ("none - session NOCALL --polls 0", USAGE),
+    ("none - session NOCALL --polls 18446744073709551616", USAGE),
+    ("none - session NOCALL --polls 1x", USAGE),
+    ("none - session NOCALL --polls 2 --polls 2", USAGE),
+    (
         "none - session --polls 2 --blocks=3 NOCALL --moment 4",
-        NOT_BUILT,
+        "session NOCALL 4 fresh 3 2",
     ),
     ("none - session nocall --polls 2", USAGE),
     ("none - session NOCALL --blockss 8", USAGE),
@@ -48,10 +86,31 @@ const WORDS: [(&str, &str); 50] = [
     ("none - session --version", USAGE),
     ("none - session NOCALL --=1", USAGE),
     ("none - session NOCALL ---", USAGE),
-    ("none host:00001 session NOCALL", NOT_BUILT),
-    ("none :1 session NOCALL", USAGE),
-    ("disk.img - session NOCALL", NOT_BUILT),
+    (
+        "disk.img - session NOCALL",
+        "session NOCALL - named 65536 1000000000000",
+    ),
+    (
+        "disk.img - session --blocks 8 NOCALL --polls=9",
+        "session NOCALL - named 8 9",
+    ),
+    ("disk.img - session NOCALL --blocks 0", USAGE),
     ("disk.img - session nocall", USAGE),
+    ("disk.img none session NOCALL", USAGE),
+    (
+        "NONE - session NOCALL",
+        "session NOCALL - named 65536 1000000000000",
+    ),
+    (
+        " - session NOCALL",
+        "session NOCALL - named 65536 1000000000000",
+    ),
+    ("none host:00001 session NOCALL", NOT_BUILT),
+    ("none x:1 session NOCALL --blocks 8 --polls 9", NOT_BUILT),
+    ("disk.img x:1 session NOCALL", NOT_BUILT),
+    ("disk.img x:1 session NOCALL --blocks 65537", USAGE),
+    ("none x:1 session NOCALL --polls 0", USAGE),
+    ("none :1 session NOCALL", USAGE),
     ("none none frames NAME", "frames NAME"),
     ("disk.img host:8001 frames a.kss", "frames a.kss"),
     ("none - frames ", "frames "),
@@ -96,10 +155,7 @@ fn words_of(alloc: Global, text: &str) -> Result<Words, OutOfMemory> {
 /// A request or a refusal as text.
 fn told(alloc: Global, asked: &Result<Request<'_>, Refusal>) -> Result<String, AllocError> {
     match asked {
-        Ok(Request::Session(session)) => match session.moment {
-            Some(moment) => format!(in alloc; "session {} {moment}", session.caller),
-            None => format!(in alloc; "session {}", session.caller),
-        },
+        Ok(Request::Session(session)) => told_session(alloc, session),
         Ok(Request::Frames { name }) => format!(in alloc; "frames {name}"),
         Ok(Request::PfhCheck { name }) => format!(in alloc; "check {name}"),
         Ok(Request::PfhShow { name }) => format!(in alloc; "show {name}"),
@@ -108,19 +164,36 @@ fn told(alloc: Global, asked: &Result<Request<'_>, Refusal>) -> Result<String, A
     }
 }
 
+/// A session as text: caller, moment, disk, blocks and polls.
+fn told_session(alloc: Global, session: &SessionRequest) -> Result<String, AllocError> {
+    let disk = match session.disk {
+        DiskWord::Fresh => "fresh",
+        DiskWord::Named => "named",
+    };
+    let moment = match session.moment {
+        Some(moment) => format!(in alloc; "{moment}")?,
+        None => String::from_str(alloc, "-")?,
+    };
+    format!(in alloc;
+        "session {} {moment} {disk} {} {}",
+        session.caller, session.blocks, session.polls
+    )
+}
+
 /// What is to be made, as text: the names on the shelf, name and extension, type, time, source and destination, and title.
 fn told_make(alloc: Global, request: &MakeRequest<'_>) -> Result<String, AllocError> {
-    let destination = request.destination.unwrap_or("-");
-    let title = request.title.unwrap_or("-");
+    let header = request.header;
+    let destination = header.destination.unwrap_or("-");
+    let title = header.title.unwrap_or("-");
     format!(in alloc;
         "make {} {} {}.{} {} {} {}>{destination} {title}",
         request.body,
         request.kept,
-        request.name,
-        request.ext,
-        request.file_type,
-        request.time,
-        request.source
+        header.name,
+        header.ext,
+        header.file_type,
+        header.time,
+        header.source
     )
 }
 

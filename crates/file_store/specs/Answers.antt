@@ -1,87 +1,121 @@
--- Words for the answers of the store's calls.
-use Rattle.std.specs.Prelude.{◌≡◌, ℕ, ◌≤◌, ◌<◌, Bool, true, false, Option, Some, IsTrue, Result, Ok, Err, ⊤}
-use Rattle.file_store.specs.declared.limits.TheConstants.{LAST_NEXT, LONGEST_FILE, MOST_ENTRIES}
-use Rattle.file_store.specs.Store.{Store, entry_count, blocks_for, free_blocks}
-use Rattle.file_store.specs.Command.{DoesAll}
+-- The answers of the store's calls, and where each comes.
+use Rattle.std.specs.Prelude.{◌≡◌, ℕ, ◌+◌, ◌<◌, List, length, Bool, true, false, Option, None, Some, Result, Ok, Err}
+use Rattle.px_base.specs.CallSign.{CallSign}
 use Rattle.pfh_items.specs.Faults.{fault_code}
-use Rattle.file_store.specs.Upload.{Upload, came, dropping, octets_come}
+use Rattle.file_entries.specs.Bars.{Bars}
+use Rattle.file_entries.specs.Command.{MayBegin}
+use Rattle.file_entries.specs.Info.{is_complete}
+use Rattle.file_entries.specs.Store.{Entry, entry_of}
+use Rattle.file_entries.specs.declared.entries.BeginBar.TheVariants as bar
+use Rattle.file_store.specs.State.{HasFailed, StoreState, store_in}
+use Rattle.file_store.specs.Upload.{Upload, came, octets_come}
 use Rattle.file_store.specs.declared.refusals.BeginRefusal.{BeginRefusal}
-use Rattle.file_store.specs.declared.refusals.BeginRefusal.TheVariants.{TooLong, TooMany, NumbersGone, NoRoom, OutOfMemory}
+use Rattle.file_store.specs.declared.refusals.BeginRefusal.TheVariants as begin_refusal
+use Rattle.file_store.specs.declared.refusals.ResumeRefusal.{ResumeRefusal}
+use Rattle.file_store.specs.declared.refusals.ResumeRefusal.TheVariants as resume_refusal
 use Rattle.file_store.specs.declared.refusals.AppendRefusal.{AppendRefusal}
 use Rattle.file_store.specs.declared.refusals.AppendRefusal.TheVariants as append_refusal
 use Rattle.file_store.specs.declared.refusals.SealRefusal.{SealRefusal}
 use Rattle.file_store.specs.declared.refusals.SealRefusal.TheVariants as seal_refusal
 
--- The refusal tells that the file can't be begun; want of memory tells that it could.
-abbrev pub Tells : BeginRefusal → Bool → Type 0
-Tells OutOfMemory can = IsTrue can
-Tells TooLong can = can ≡ false
-Tells TooMany can = can ≡ false
-Tells NumbersGone can = can ≡ false
-Tells (NoRoom blocks free) can = can ≡ false
+-- Where a refusal to begin a file of this length comes, in the order in which the causes are looked for. Want of memory
+-- and a fault of the disk come only where nothing else does.
+abbrev pub RefusesBegin : StoreState → ℕ → BeginRefusal → Type 0
+RefusesBegin self file_length begin_refusal.TooLong = Bars bar.TooLong (store_in self) file_length
+RefusesBegin self file_length begin_refusal.TooMany = Bars bar.TooMany (store_in self) file_length
+RefusesBegin self file_length begin_refusal.NumbersGone = Bars bar.NumbersGone (store_in self) file_length
+RefusesBegin self file_length (begin_refusal.NoRoom blocks free) =
+    Bars (bar.NoRoom blocks free) (store_in self) file_length
+RefusesBegin self file_length begin_refusal.Failed = MayBegin (store_in self) file_length × HasFailed self
+RefusesBegin self file_length begin_refusal.Disk = MayBegin (store_in self) file_length × ¬ HasFailed self
+RefusesBegin self file_length begin_refusal.OutOfMemory = MayBegin (store_in self) file_length × ¬ HasFailed self
 
--- the refusal comes by this cause, and by none that is looked at before
-abbrev pub Refuses : BeginRefusal → Store → ℕ → Type 0
-Refuses TooLong store file_length = LONGEST_FILE < file_length
-Refuses TooMany store file_length = (file_length ≤ LONGEST_FILE) × (MOST_ENTRIES ≤ entry_count store)
-Refuses NumbersGone store file_length =
-    (file_length ≤ LONGEST_FILE) × (entry_count store < MOST_ENTRIES) × (store.next ≡ LAST_NEXT)
-Refuses (NoRoom blocks free) store file_length =
-    (file_length ≤ LONGEST_FILE) × (entry_count store < MOST_ENTRIES) × (store.next < LAST_NEXT)
-    × (free_blocks store < blocks_for file_length) × (blocks ≡ blocks_for file_length) × (free ≡ free_blocks store)
-Refuses OutOfMemory store file_length = ⊥
+-- the entry of this number is this one
+abbrev pub IsEntry : StoreState → ℕ → Entry → Type 0
+IsEntry self number entry = entry_of (store_in self) number ≡ Some entry
 
--- a refusal for want of room names these numbers of blocks
-abbrev pub Names : BeginRefusal → ℕ → ℕ → Type 0
-Names (NoRoom taken left) blocks free = (taken ≡ blocks) × (left ≡ free)
-Names TooLong blocks free = ⊤
-Names TooMany blocks free = ⊤
-Names NumbersGone blocks free = ⊤
-Names OutOfMemory blocks free = ⊤
+-- an entry of this number stands, and is of this caller and this length
+abbrev pub IsTheirs : StoreState → ℕ → CallSign → ℕ → Entry → Type 0
+IsTheirs self number caller file_length entry =
+    IsEntry self number entry × (entry.caller ≡ caller) × (entry.length ≡ file_length)
 
--- whether more octets would have come than the file has
-abbrev pub is_too_much : Result Upload AppendRefusal → Bool
-is_too_much (Ok up) = false
-is_too_much (Err (append_refusal.TooMuch up)) = true
-is_too_much (Err (append_refusal.OutOfMemory up)) = false
+-- an entry of this number stands, and isn't of this caller or not of this length
+abbrev pub IsAnothers : StoreState → ℕ → CallSign → ℕ → Type 0
+IsAnothers self number caller file_length =
+    (entry : Entry) × IsEntry self number entry × ¬ ((entry.caller ≡ caller) × (entry.length ≡ file_length))
 
--- the upload that comes back
-abbrev pub back_of : AppendRefusal → Upload
-back_of (append_refusal.TooMuch up) = up
-back_of (append_refusal.OutOfMemory up) = up
+-- Where a refusal to go on with an upload comes: exactly one answer is each store's.
+abbrev pub RefusesResume : StoreState → ℕ → CallSign → ℕ → ResumeRefusal → Type 0
+RefusesResume self number caller file_length resume_refusal.NoSuch = entry_of (store_in self) number ≡ None
+RefusesResume self number caller file_length resume_refusal.Bad = IsAnothers self number caller file_length
+RefusesResume self number caller file_length resume_refusal.Complete =
+    (entry : Entry) × IsTheirs self number caller file_length entry × (is_complete entry.holding ≡ true)
+RefusesResume self number caller file_length resume_refusal.Failed =
+    (entry : Entry) × IsTheirs self number caller file_length entry × (is_complete entry.holding ≡ false) × HasFailed self
 
--- whether fewer octets came than the file has
-abbrev pub is_short : Result ℕ SealRefusal → Bool
-is_short (Ok number) = false
-is_short (Err (seal_refusal.Short up)) = true
-is_short (Err (seal_refusal.Header code)) = false
-is_short (Err (seal_refusal.OutOfMemory up)) = false
+-- the entry with which the upload goes on
+abbrev pub Resumes : StoreState → ℕ → CallSign → ℕ → Entry → Type 0
+Resumes self number caller file_length entry =
+    IsTheirs self number caller file_length entry × (is_complete entry.holding ≡ false) × ¬ HasFailed self
 
--- The upload comes back and the store is as it was, but for a file with a fault.
-abbrev pub HandsBack : SealRefusal → Upload → Store → Store → Type 0
-HandsBack (seal_refusal.Short back) up before now = (back ≡ up) × (now ≡ before)
-HandsBack (seal_refusal.Header code) up before now = ⊤
-HandsBack (seal_refusal.OutOfMemory back) up before now = (back ≡ up) × (now ≡ before)
+-- more octets would come of the upload's file than it has
+abbrev pub IsTooMuch : StoreState → Upload → List ℕ → Type 0
+IsTooMuch self up bytes = up.length < came self up + length bytes
 
--- this holds of the upload that comes back, where one does
-abbrev pub OnBack : SealRefusal → (Upload → Type 0) → Type 0
-OnBack (seal_refusal.Short back) P = P back
-OnBack (seal_refusal.Header code) P = ⊤
-OnBack (seal_refusal.OutOfMemory back) P = P back
+-- Where a refusal to append these octets comes; the upload that comes back is this one.
+abbrev pub RefusesAppend : StoreState → Upload → List ℕ → AppendRefusal → Type 0
+RefusesAppend self up bytes (append_refusal.TooMuch back) = IsTooMuch self up bytes × (back ≡ up)
+RefusesAppend self up bytes append_refusal.Failed = ¬ IsTooMuch self up bytes × HasFailed self
+RefusesAppend self up bytes append_refusal.Disk = ¬ IsTooMuch self up bytes × ¬ HasFailed self
+RefusesAppend self up bytes (append_refusal.OutOfMemory back) =
+    ¬ IsTooMuch self up bytes × ¬ HasFailed self × (back ≡ up)
 
--- this holds of the code of the fault, where the file has one
-abbrev pub OnHeader : SealRefusal → (ℕ → Type 0) → Type 0
-OnHeader (seal_refusal.Short back) P = ⊤
-OnHeader (seal_refusal.Header code) P = P code
-OnHeader (seal_refusal.OutOfMemory back) P = ⊤
+-- fewer octets came than the file has
+abbrev pub IsShort : StoreState → Upload → Type 0
+IsShort self up = came self up < up.length
 
--- all octets of the upload's file came, this is the code of the first fault of the file, and its entry is dropped
-abbrev pub DropsFaulty : Store → Store → Upload → ℕ → Type 0
-DropsFaulty before now up code =
-    (came up ≡ up.length) × (fault_code (octets_come before up) ≡ Some code) × DoesAll before now (dropping up)
+-- Where a refusal to seal comes; the upload that comes back is this one, and the code is that of the file's first fault.
+abbrev pub RefusesSeal : StoreState → Upload → SealRefusal → Type 0
+RefusesSeal self up (seal_refusal.Short back) = IsShort self up × (back ≡ up)
+RefusesSeal self up (seal_refusal.Header code) =
+    ¬ IsShort self up × ¬ HasFailed self × (fault_code (octets_come self up) ≡ Some code)
+RefusesSeal self up seal_refusal.Failed = ¬ IsShort self up × HasFailed self
+RefusesSeal self up seal_refusal.Disk = ¬ IsShort self up × ¬ HasFailed self
 
--- the file was refused for the fault with this code
-abbrev pub IsHeader : SealRefusal → Option ℕ → Type 0
-IsHeader (seal_refusal.Short back) fault = ⊥
-IsHeader (seal_refusal.Header code) fault = fault ≡ Some code
-IsHeader (seal_refusal.OutOfMemory back) fault = ⊥
+-- A call of the store reached the disk: it did its commands, or the disk failed in one.
+abbrev pub begin_reaches : {T : Type 0} → Result T BeginRefusal → Bool
+begin_reaches (Ok up) = true
+begin_reaches (Err begin_refusal.Disk) = true
+begin_reaches (Err begin_refusal.TooLong) = false
+begin_reaches (Err begin_refusal.TooMany) = false
+begin_reaches (Err begin_refusal.NumbersGone) = false
+begin_reaches (Err (begin_refusal.NoRoom blocks free)) = false
+begin_reaches (Err begin_refusal.Failed) = false
+begin_reaches (Err begin_refusal.OutOfMemory) = false
+
+abbrev pub append_reaches : {T : Type 0} → Result T AppendRefusal → Bool
+append_reaches (Ok up) = true
+append_reaches (Err append_refusal.Disk) = true
+append_reaches (Err (append_refusal.TooMuch back)) = false
+append_reaches (Err append_refusal.Failed) = false
+append_reaches (Err (append_refusal.OutOfMemory back)) = false
+
+abbrev pub seal_reaches : {T : Type 0} → Result T SealRefusal → Bool
+seal_reaches (Ok receipt) = true
+seal_reaches (Err (seal_refusal.Header code)) = true
+seal_reaches (Err seal_refusal.Disk) = true
+seal_reaches (Err (seal_refusal.Short back)) = false
+seal_reaches (Err seal_refusal.Failed) = false
+
+-- the upload that comes back, if one does
+abbrev pub back_of_append : AppendRefusal → Option Upload
+back_of_append (append_refusal.TooMuch back) = Some back
+back_of_append append_refusal.Failed = None
+back_of_append append_refusal.Disk = None
+back_of_append (append_refusal.OutOfMemory back) = Some back
+
+abbrev pub back_of_seal : SealRefusal → Option Upload
+back_of_seal (seal_refusal.Short back) = Some back
+back_of_seal (seal_refusal.Header code) = None
+back_of_seal seal_refusal.Failed = None
+back_of_seal seal_refusal.Disk = None

@@ -1,23 +1,63 @@
--- Laws of the commands, over every store and every command whose condition holds.
-use Rattle.std.specs.Prelude.{◌≡◌, ℕ, ◌≤◌, ◌<◌, List, None, IsTrue}
-use Rattle.file_store.specs.Command.{Command, HasCall, is_allowed, after, after_all, AreAllowed}
-use Rattle.file_store.specs.IsStore.{IsStore}
-use Rattle.file_store.specs.Kept.{KeepsComplete}
-use Rattle.file_store.specs.Store.{Store, empty_store, entry_of}
+-- Laws of a store on a disk.
+use Rattle.std.specs.Prelude.{◌≡◌, ◌⊎◌, ◌↔◌, ℕ, ◌≤◌, List, length, map, Option, None, Some, IfSome, IsTrue}
+use Rattle.std.specs.List.{AllByRecursion}
+use Rattle.px_base.specs.Octets.{IsOctets}
+use Rattle.disk_model.specs.declared.disk.Disk.{Ghosts}
+use Rattle.file_journal.specs.Calls.{images_now}
+use Rattle.file_journal.specs.Journal.{journal_of, store}
+use Rattle.file_journal.specs.Records.{whole}
+use Rattle.file_entries.specs.Command.{AreAllowed, Command, after_all}
+use Rattle.file_entries.specs.Info.{is_complete}
+use Rattle.file_entries.specs.Records.{IsWritable, record_of_command, store_magic}
+use Rattle.file_entries.specs.Store.{Entry, Store, complete, empty_store, entry_of, partial}
+use Rattle.file_store.specs.OnDisk.{MakesBetween}
+use Rattle.file_store.specs.State.{StandsFor}
+use Rattle.file_store.specs.Upload.{Upload, entry_for}
 
--- An empty store keeps the rules of a store, and so does each command, where the caller that it names is a call: the
--- numbers rise and are below the next one, no entry holds more than its file has, a complete one as much, and no more
--- entries and blocks are taken than may be.
--- No command changes a complete entry, and the next number never falls.
-abbrev pub CommandsLaw : Type 0
-CommandsLaw =
-    ((blocks : ℕ) → 1 ≤ blocks → blocks ≤ 65536 → IsStore (empty_store blocks))
-    × ((store : Store) (command : Command) → IsStore store → HasCall command → IsTrue (is_allowed store command)
-    → IsStore (after store command) × KeepsComplete store (after store command)
-    × (store.next ≤ (after store command).next))
+-- The octets are a journal of this block number, or have none yet, and its records are these commands, each of which the
+-- store before it allows, from the empty store on; and this is the store after them.
+pub record IsStoreAfter (octets : List ℕ) (files : Store) (commands : List Command) : Type 0 where
+  pub number : Option ℕ
+  pub is_number : (number ≡ None) ⊎ (number ≡ Some files.blocks)
+  pub records : journal_of store_magic octets ≡ store number (whole (map record_of_command commands))
+  pub writable : AllByRecursion IsWritable commands
+  pub allowed : AreAllowed (empty_store files.blocks) commands
+  pub after : files ≡ after_all (empty_store files.blocks) commands
 
--- A number that was given, and has no entry any more, never gets one again, whatever commands follow.
-abbrev pub NumbersLaw : Type 0
-NumbersLaw =
-    (store : Store) (commands : List Command) (number : ℕ) → AreAllowed store commands → number < store.next
-    → entry_of store number ≡ None → entry_of (after_all store commands) number ≡ None
+-- octets stand for a store exactly where they are the records of commands that make it
+abbrev pub StandingLaw : Type 0
+StandingLaw =
+    (octets : List ℕ) (files : Store) → IsOctets octets
+    → StandsFor octets files ↔ ((commands : List Command) × IsStoreAfter octets files commands)
+
+-- in the store that the image stands for, the upload's entry is under way and holds at least as many octets as it says
+abbrev pub HoldsIn : Upload → List ℕ → Type 0
+HoldsIn up image =
+    (files : Store) × (begun : ℕ) × (held : List ℕ) × StandsFor image files
+    × (entry_of files up.number ≡ Some (entry_for up begun (partial held))) × (up.held ≤ length held)
+
+-- the same of each image of a disk that tells
+abbrev pub HoldsInEach : {D : Type 0} → Ghosts D → Upload → D → Type 0
+HoldsInEach g up disk = IfSome (g.content disk) (λ _. (image : List ℕ) → images_now g disk image → HoldsIn up image)
+
+-- in the store that each image of a disk that tells stands for, this entry stands
+abbrev pub StandsInEach : {D : Type 0} → Ghosts D → ℕ → Entry → D → Type 0
+StandsInEach g number entry disk =
+    IfSome (g.content disk) (λ _. (image : List ℕ) → images_now g disk image
+    → (files : Store) × StandsFor image files × (entry_of files number ≡ Some entry))
+
+-- in the store that each image of a disk that tells stands for, the upload's file is complete with these octets
+abbrev pub IsKeptInEach : {D : Type 0} → Ghosts D → Upload → List ℕ → ℕ → D → Type 0
+IsKeptInEach g up octets moment disk =
+    IfSome (g.content disk) (λ _. (image : List ℕ) → images_now g disk image
+    → (files : Store) × (begun : ℕ) × StandsFor image files
+    × (entry_of files up.number ≡ Some (entry_for up begun (complete octets moment))))
+
+-- An entry that is complete stays as it is through any commands, each of which the store before it allows: so it stands
+-- in the store of each image that has the first of them, for whatever number.
+abbrev pub ReceiptLaw : Type 0
+ReceiptLaw =
+    (store : Store) (commands : List Command) (low high number : ℕ) (entry : Entry) (image : List ℕ)
+    → AreAllowed store commands → entry_of store number ≡ Some entry → IsTrue (is_complete entry.holding)
+    → MakesBetween low high store commands image
+    → (files : Store) × StandsFor image files × (entry_of files number ≡ Some entry)

@@ -1,9 +1,9 @@
 pub mod Answers
-pub mod Command
-pub mod Info
-pub mod IsStore
 pub mod Kept
-pub mod KeptFile
 pub mod Laws
-pub mod Store
+pub mod OnDisk
+pub mod Putting
+pub mod Recovery
+pub mod Refusals
+pub mod State
 pub mod Upload

@@ -1,279 +1,573 @@
 //! The store of files.
 
-ghost use Rattle.std.specs.Prelude.{◌≡◌, ◌↔◌, ◌+◌, ◌≤◌, ◌<◌, ◌++◌, length, IsTrue, IsErrOf, OnOk, OnErr, IfOk, IfErr, MatchResult, IfSome, IfNone};
+ghost use Rattle.std.specs.Prelude.{◌≡◌, ◌↔◌, ℕ, ◌+◌, ◌≤◌, ◌<◌, ◌/◌, ◌*◌, ◌⊎◌, List, [], ◌∷◌, ◌++◌, drop, length, true, false, take, IsTrue, IsErr, IsErrOf, IfOk, IfErr, IfSome, OnOk, OnErr, None, Some};
 ghost use Rattle.std.specs.Option.{option_map};
-ghost use Rattle.file_store.specs.Answers.{DropsFaulty, HandsBack, IsHeader, Names, OnBack, OnHeader, Refuses, Tells, back_of, is_short, is_too_much};
-ghost use Rattle.file_store.specs.Command.{AreAllowed, DoesAll, HasRoom, MayBegin, after, after_all, begin, can_begin, drop_entry, fault_at, grown, is_whole, last_grow, passes, seal, whole_grows, with_holding};
+ghost use Rattle.px_base.specs.CallSign.{CallSign};
+ghost use Rattle.disk_model.specs.Disk.{FillsRoom};
 ghost use Rattle.pfh_items.specs.Faults.{fault_code};
-ghost use Rattle.file_store.specs.Info.{info_of};
-ghost use Rattle.file_store.specs.IsStore.{IsStore};
-ghost use Rattle.file_store.specs.Kept.{KeepsComplete, KeepsUploads, KeepsOthers};
-ghost use Rattle.file_store.specs.Store.{blocks_for, complete, empty_store, entry_of, free_blocks, holding_of_number};
-ghost use Rattle.file_store.specs.Upload.{Holds, HoldsAll, appended, came, kept_file, new_upload, octets_come, sealing};
+ghost use Rattle.file_journal.specs.Calls.{Becomes, Leaves, Runs, TakesStep};
+ghost use Rattle.file_journal.specs.Journal.{after_recovery};
+ghost use Rattle.file_entries.specs.Command.{begin, drop_entry, fault_at, grow, grows, is_allowed, last_grow, seal, unfilled_block};
+ghost use Rattle.file_entries.specs.Files.{ChangesRest, IsOut, KeepsRests, octets_or_none};
+ghost use Rattle.file_entries.specs.Info.{IsCompleteIn, IsNextComplete, info_of};
+ghost use Rattle.file_entries.specs.IsStore.{IsStore};
+ghost use Rattle.file_entries.specs.Kept.{KeepsComplete};
+ghost use Rattle.file_entries.specs.Records.{store_magic};
+ghost use Rattle.file_entries.specs.Store.{complete, entry_of, holding_of_number, octets_at};
+ghost use Rattle.file_store.specs.Answers.{RefusesAppend, RefusesBegin, RefusesResume, RefusesSeal, Resumes};
+ghost use Rattle.file_store.specs.Answers.{append_reaches, back_of_append, back_of_seal, begin_reaches, seal_reaches};
+ghost use Rattle.file_store.specs.Kept.{KeepsOthers, KeepsUploads};
+ghost use Rattle.file_store.specs.Laws.{HoldsInEach, IsKeptInEach};
+ghost use Rattle.file_store.specs.OnDisk.{Does};
+ghost use Rattle.file_store.specs.Recovery.{IsRecovered, LeavesAlikeSinceSync, RefusesRecovery, StandsAlike};
+ghost use Rattle.file_store.specs.State.{IsRead, StandsOn, rest_in, store_in};
+ghost use Rattle.file_store.specs.Upload.{FitsWaiting, HasEntry, Holds, IsHeldWhole, IsWholeWaiting, MayResume, Upload, WaitFew, appended, appending, came, come_of, ending, kept_file, new_upload, octets_come, sealing, sealing_of, upload_of, with_bytes};
 
-use crate::entries::{self, blocks_taken, place_of};
-use crate::header::header_fault;
-use crate::limits::{BLOCK, LAST_NEXT, LONGEST_FILE, MOST_ENTRIES, blocks_of_length};
-use crate::stored_file::StoredFile;
-use crate::{AppendRefusal, BeginRefusal, Info, Limits, OpenUpload, Receipt, SealRefusal};
+use crate::put::{put_command, put_grow};
+use crate::{
+    AppendRefusal, BeginRefusal, Info, Limits, OpenUpload, Receipt, ResumeRefusal, SealRefusal,
+    StoreFault,
+};
+use disk_model::{Disk, DiskFault};
+use file_entries::{BLOCK, Command, Entries, Recovered};
+use file_journal::Journal;
 use px_base::{Call, OutOfMemory};
 use std::alloc::Global;
 use std::marker::Model;
 
-/// The files that are held. Contracts see it as a `Store`.
+/// The first eight octets of a store's disk.
+const MAGIC: [u8; 8] = *b"PXSTORE0";
+
+/// The files that are held, and where their commands stand on a disk, which it doesn't hold. Contracts see it as a
+/// `StoreState`.
 #[derive(Drop)]
 pub struct FileStore {
-    alloc: Global,
-    /// In rising number.
-    entries: Vec<StoredFile>,
-    /// The number that the next file gets.
-    next: u32,
-    blocks: u32,
+    entries: Entries,
+    journal: Journal,
 }
 
 impl Model for FileStore {
-    ghost use Rattle.file_store.specs.Store.{Store, store_from};
-    ghost use Rattle.file_store.specs.IsStore.{IsStore};
+    ghost use Rattle.std.specs.Prelude.{◌≡◌, true};
+    ghost use Rattle.file_store.specs.State.{StoreState, IsRead};
 
-    ghost Value = { Store };
+    ghost Value = { StoreState };
 
-    ghost view = { λ a. store_from a.entries.items a.next a.blocks };
+    ghost view = { λ a. record { files = a.entries.files; journal = a.journal } };
 
-    ghost invariant = { λ a. IsStore (store_from a.entries.items a.next a.blocks) };
+    ghost invariant = { λ a. IsRead a.journal };
 }
 
 impl FileStore {
-    /// A store that holds nothing. Takes no memory yet.
-    pub fn plain(alloc: Global, limits: Limits) -> FileStore
+    /// Recovers the store from whatever a crash, a fault or a killed program left on the disk: the store that its content
+    /// stands for. It syncs before it reads. A disk of at most 16 octets is formatted with the limits' block number; one
+    /// whose formatting was interrupted is formatted to its end. It may be cut at any of its writes and syncs, and is then
+    /// done again. The work is that of the records. Takes memory.
+    ///
+    /// `NotAStore` and `Damaged` leave the content as it was. After `Disk` and `OutOfMemory` the disk is to be recovered
+    /// again.
+    pub fn recover<D: Disk>(
+        alloc: Global,
+        disk: &mut D,
+        limits: Limits,
+    ) -> Result<FileStore, StoreFault>
         requires some { 1 ≤ limits.blocks }
         requires most { limits.blocks ≤ 65536 }
-        ensures { result ≡ empty_store limits.blocks }
+        ensures recovered { IfOk result (IsRecovered D.Disk limits.blocks disk.old disk.new) }
+
+        // It changes no octet of a formatted store, and makes a formatted one of any other.
+        ensures octets { OnOk result
+            (TakesStep D.Disk disk.old disk.new (Becomes (after_recovery store_magic limits.blocks))) }
+
+        // But for a fault of the disk and want of memory, each refusal comes exactly where the content stands for it.
+        ensures refuses { RefusesRecovery limits.blocks (D.content disk.old) result }
+        ensures untouched { (found : List ℕ) → IsErrOf result (StoreFault.NotAStore found)
+            → D.content disk.new ≡ D.content disk.old }
+        ensures untouched_damage { (at : ℕ) → IsErrOf result (StoreFault.Damaged at)
+            → D.content disk.new ≡ D.content disk.old }
+        ensures runs { Runs D.Disk (IsErrOf result StoreFault.Disk) disk.old disk.new }
+
+        // A crash since the start leaves what it might have left before, or what stands for the same, and a content of 18
+        // octets or more as it is; since the end of the first sync the latter, but where that sync failed.
+        ensures since_start { Leaves D.Disk disk.old disk.new (StandsAlike limits.blocks) }
+        ensures since_sync { LeavesAlikeSinceSync D.Disk limits.blocks result disk.old disk.new }
     {
-        FileStore {
-            alloc,
-            entries: Vec::new(alloc),
-            next: 1,
-            blocks: limits.blocks,
-        }
+        let mut journal = Journal::recover(disk, MAGIC, limits.blocks)?;
+        let mut recovered = Recovered::new(alloc, journal.blocks());
+        journal.read_into(disk, &mut recovered)?;
+        Ok(FileStore {
+            entries: recovered.end(),
+            journal,
+        })
     }
 
-    /// Begins a file of `length` octets: an entry of the next number, of which no octet is held.
+    /// Begins a file of `length` octets: an entry of the next number, of which no octet is held. Its upload is out then.
     ///
-    /// The refusals are looked for in the order of `BeginRefusal`, and leave the store as it was.
-    /// Takes memory.
-    pub fn begin(
+    /// The refusals are looked for in the order of `BeginRefusal`. Takes memory, before it touches the disk.
+    pub fn begin<D: Disk>(
         &mut self,
+        disk: &mut D,
         caller: Call,
         length: u32,
         moment: u32,
     ) -> Result<OpenUpload, BeginRefusal>
-        // Each refusal comes exactly where its cause holds and none that is looked at before.
-        ensures too_long { IsErrOf result BeginRefusal.TooLong ↔ Refuses BeginRefusal.TooLong self.old length }
-        ensures too_many { IsErrOf result BeginRefusal.TooMany ↔ Refuses BeginRefusal.TooMany self.old length }
-        ensures numbers_gone { IsErrOf result BeginRefusal.NumbersGone
-            ↔ Refuses BeginRefusal.NumbersGone self.old length }
-        ensures no_room { let refusal = BeginRefusal.NoRoom (blocks_for length) (free_blocks self.old) in
-            IsErrOf result refusal ↔ Refuses refusal self.old length }
-        ensures numbers { IfErr result (λ refusal. Names refusal (blocks_for length) (free_blocks self.old)) }
-        ensures can { MatchResult result (λ _. IsTrue (can_begin self.old length))
-            (λ refusal. Tells refusal (can_begin self.old length)) }
+        requires { StandsOn D.Disk self.old disk.old }
 
-        ensures ok { OnOk result (self.new ≡ after self.old (begin self.old.next caller length moment)) }
-        ensures upload { IfOk result (λ up. up ≡ new_upload self.old.next caller length) }
-        ensures holds { IfOk result (λ up. Holds self.new up) }
-        ensures err { OnErr result (self.new ≡ self.old) }
+        // Each refusal comes exactly where its cause holds; a fault of the disk only where it counts one.
+        ensures refused { IfErr result (RefusesBegin self.old length) }
+        ensures can { IfOk result (λ _. RefusesBegin self.old length BeginRefusal.OutOfMemory) }
+        ensures untouched { IsTrue (begin_reaches result) ⊎ ((self.new ≡ self.old) × (disk.new ≡ disk.old)) }
 
+        // The command is on the disk before the answer, and a crash at any moment leaves the store before it or after it.
+        ensures does { IsTrue (begin_reaches result) → Does D.Disk (IsErr result) self.old self.new disk.old disk.new
+            (begin (store_in self.old).next caller length moment ∷ []) }
+        ensures upload { IfOk result (λ up. up ≡ new_upload (store_in self.old).next caller length) }
+        ensures holds { IfOk result (λ up. Holds self.new up × (rest_in self.new up.number ≡ Some [])) }
+        ensures every_image { IfOk result (λ up. HoldsInEach D.Disk up disk.new) }
+        ensures fresh { IfOk result (λ up. rest_in self.old up.number ≡ None) }
+
+        ensures stands_on { StandsOn D.Disk self.new disk.new }
         ensures uploads { KeepsUploads self.old self.new }
-        ensures kept { KeepsComplete self.old self.new }
+        ensures rests { KeepsRests self.old.files self.new.files (store_in self.old).next }
+        ensures kept { KeepsComplete (store_in self.old) (store_in self.new) }
     {
-        if let Some(refusal) = self.begin_refusal(length) {
-            return Err(refusal);
+        if let Some(bar) = self.entries.begin_bar(length) {
+            return Err(BeginRefusal::from(bar));
         }
-        let number = self.next;
-        match self.add(caller, length, moment) {
-            Ok(()) => Ok(OpenUpload::new(number, caller, length)),
-            Err(OutOfMemory) => Err(BeginRefusal::OutOfMemory),
+        if self.journal.failed() {
+            return Err(BeginRefusal::Failed);
         }
+        self.entries.reserve()?;
+        let number = self.entries.next();
+        // A crash before the record's gate is synced leaves the store without the file, and its number is given again: the
+        // caller hasn't been told of it.
+        let begin = Command::Begin {
+            number,
+            caller,
+            length,
+            moment,
+        };
+        put_command(&mut self.journal, disk, &begin)?;
+        self.entries.begin(caller, length, moment);
+        self.entries.take_out(number);
+        Ok(OpenUpload::new(number, caller, length, 0))
     }
 
-    /// Adds octets to an upload. Each whole 512 of those that came become held; the others, fewer than
-    /// 512, stay in the upload.
-    ///
-    /// `TooMuch`, where more octets would come than the file has, is looked at first; no octet is taken then.
-    /// A refusal leaves the store as it was, and hands the upload back. Takes memory. The work is that of
-    /// finding the entry and of the octets that come, however many are held.
-    pub fn append(&mut self, up: OpenUpload, bytes: &[u8]) -> Result<OpenUpload, AppendRefusal>
-        requires { Holds self.old up }
-        ensures too_much { IsTrue (is_too_much result) ↔ (up.length < came up + length bytes.entry.now) }
-        ensures back { IfErr result (λ refusal. back_of refusal ≡ up) }
+    /// Goes on with the upload of this number, caller and length, which isn't out: its entry is under way, and the upload
+    /// says how many octets are held of it. The refusals are looked for in the order of `ResumeRefusal`. Takes no memory.
+    pub fn resume(
+        &mut self,
+        number: u32,
+        caller: Call,
+        length: u32,
+    ) -> Result<OpenUpload, ResumeRefusal>
+        requires { MayResume self.old number caller }
+        ensures refused { IfErr result (RefusesResume self.old number caller length) }
+        ensures resumed { IfOk result (λ up. (entry : _) × Resumes self.old number caller length entry
+            × (up ≡ upload_of entry)) }
+        ensures holds { IfOk result (λ up. Holds self.new up × (rest_in self.new up.number ≡ Some [])) }
+        ensures fresh { IfOk result (λ up. rest_in self.old up.number ≡ None) }
+        ensures rest { OnOk result (ChangesRest self.old.files self.new.files number (Some [])) }
         ensures err { OnErr result (self.new ≡ self.old) }
-
-        ensures ok { OnOk result (self.new ≡ after_all self.old (whole_grows up.number (up.rest ++ bytes.entry.now))) }
-        ensures allowed { OnOk result (AreAllowed self.old (whole_grows up.number (up.rest ++ bytes.entry.now))) }
-        ensures upload { IfOk result (λ next. next ≡ appended up bytes.entry.now) }
-        ensures holds { MatchResult result (λ next. Holds self.new next) (λ refusal. Holds self.new (back_of refusal)) }
-
-        ensures uploads { KeepsOthers self.old self.new up.number }
-        ensures kept { KeepsComplete self.old self.new }
+        ensures journal { self.new.journal ≡ self.old.journal }
+        ensures uploads { KeepsUploads self.old self.new }
     {
-        if bytes.len() > up.missing() {
+        let Some(info) = self.entries.info(number) else {
+            return Err(ResumeRefusal::NoSuch);
+        };
+        if !is_theirs(&info, caller, length) {
+            return Err(ResumeRefusal::Bad);
+        }
+        if info.complete {
+            return Err(ResumeRefusal::Complete);
+        }
+        if self.journal.failed() {
+            return Err(ResumeRefusal::Failed);
+        }
+        self.entries.take_out(number);
+        Ok(OpenUpload::new(number, caller, length, info.held))
+    }
+
+    /// Adds octets to an upload. Each whole 512 of those that wait then become held; the others, fewer than 512, wait on.
+    ///
+    /// `TooMuch`, where more octets would come than the file has, is looked at first, then `Failed`. Takes memory, before
+    /// it touches the disk. The work is that of finding the entry and of the octets that come, however many are held; the
+    /// disk takes two writes and two syncs for each 512.
+    pub fn append<D: Disk>(
+        &mut self,
+        disk: &mut D,
+        up: OpenUpload,
+        bytes: &[u8],
+    ) -> Result<OpenUpload, AppendRefusal>
+        requires holds { Holds self.old up }
+        requires stands_on { StandsOn D.Disk self.old disk.old }
+        ensures refused { IfErr result (RefusesAppend self.old up bytes.entry.now) }
+        ensures can { IfOk result (λ _. RefusesAppend self.old up bytes.entry.now AppendRefusal.Disk) }
+        ensures untouched { IsTrue (append_reaches result) ⊎ (disk.new ≡ disk.old) }
+        ensures back { IfErr result (λ refusal. IfSome (back_of_append refusal) (λ _. self.new ≡ self.old)) }
+        ensures spent { IfErr result (λ refusal. back_of_append refusal ≡ None → rest_in self.new up.number ≡ None) }
+        ensures failed { IsErrOf result AppendRefusal.Failed
+            → ChangesRest self.old.files self.new.files up.number None × (self.new.journal ≡ self.old.journal) }
+
+        // The commands are on the disk before the answer; a crash at any moment leaves the first of them.
+        ensures does { IsTrue (append_reaches result) → Does D.Disk (IsErr result) self.old self.new disk.old disk.new
+            (appending self.old up bytes.entry.now) }
+        ensures upload { IfOk result (λ next. next ≡ appended self.old up bytes.entry.now) }
+        ensures rest { OnOk result
+            (rest_in self.new up.number ≡ Some (unfilled_block (with_bytes self.old up bytes.entry.now))) }
+        ensures holds { IfOk result (λ next. Holds self.new next) }
+        ensures every_image { IfOk result (λ next. HoldsInEach D.Disk next disk.new) }
+
+        ensures stands_on { StandsOn D.Disk self.new disk.new }
+        ensures uploads { KeepsOthers self.old self.new up.number }
+        ensures rests { KeepsRests self.old.files self.new.files up.number }
+        ensures kept { KeepsComplete (store_in self.old) (store_in self.new) }
+    {
+        if bytes.len() > self.missing(&up) {
             return Err(AppendRefusal::TooMuch(up));
         }
-        let blocks = (up.rest().len() + bytes.len()) / BLOCK;
-        if blocks == 0 {
-            return Ok(up.with_rest(bytes));
+        if self.journal.failed() {
+            self.park(up);
+            return Err(AppendRefusal::Failed);
         }
-        let (now, later) = bytes.split_at(BLOCK * blocks - up.rest().len());
-        match self.grow(up.number(), up.rest(), now) {
-            Ok(()) => Ok(up.moved_on(BLOCK * blocks, later)),
-            Err(OutOfMemory) => Err(AppendRefusal::OutOfMemory(up)),
+        let number = up.number();
+        if let Err(OutOfMemory) = self.entries.bring(number, bytes) {
+            return Err(AppendRefusal::OutOfMemory(up));
+        }
+        let blocks = self.entries.waiting(number).len() / BLOCK;
+        match self.hold_blocks(disk, number, blocks) {
+            Ok(()) => Ok(up.moved_on(BLOCK * blocks)),
+            Err(DiskFault) => {
+                self.entries.park(up.end());
+                Err(AppendRefusal::Disk)
+            }
         }
     }
 
-    /// Seals a file of which all octets came: those of the upload that aren't held yet become held, and the
-    /// file is checked by its header (PFH 1990). A file without fault is complete from then on, and kept with
-    /// its stamp: its number, its caller and this moment. The entry of one with a fault is dropped, the answer
-    /// is the code of its first fault, and the upload is spent. The other refusals leave the store as it was,
-    /// and hand the upload back. Takes memory.
-    pub fn seal(&mut self, up: OpenUpload, moment: u32) -> Result<Receipt, SealRefusal>
-        requires { Holds self.old up }
-        ensures short { IsTrue (is_short result) ↔ (came up < up.length) }
-        ensures refused { IfErr result (λ refusal. HandsBack refusal up self.old self.new) }
-        ensures holds { IfErr result (λ refusal. OnBack refusal (λ back. Holds self.new back)) }
+    /// Seals a file of which all octets came: those that wait become held, and the file is checked by its header (PFH
+    /// 1990). A file without fault is complete from then on, and kept with its stamp: its number, its caller and this
+    /// moment. The entry of one with a fault is dropped, and the answer is the code of its first fault. Takes no memory.
+    ///
+    /// `Short`, where fewer octets came than the file has, is looked at first, then `Failed`.
+    pub fn seal<D: Disk>(
+        &mut self,
+        disk: &mut D,
+        up: OpenUpload,
+        moment: u32,
+    ) -> Result<Receipt, SealRefusal>
+        requires holds { Holds self.old up }
+        requires stands_on { StandsOn D.Disk self.old disk.old }
+        ensures refused { IfErr result (RefusesSeal self.old up) }
+        ensures can { IfOk result (λ _. RefusesSeal self.old up SealRefusal.Disk) }
+        ensures untouched { IsTrue (seal_reaches result) ⊎ (disk.new ≡ disk.old) }
+        ensures back { IfErr result (λ refusal. IfSome (back_of_seal refusal) (λ _. self.new ≡ self.old)) }
+        ensures spent { IfErr result (λ refusal. back_of_seal refusal ≡ None → rest_in self.new up.number ≡ None) }
+        ensures failed { IsErrOf result SealRefusal.Failed
+            → ChangesRest self.old.files self.new.files up.number None × (self.new.journal ≡ self.old.journal) }
 
-        // A file without fault is complete: the octets that came, stamped.
-        ensures good { OnOk result ((came up ≡ up.length) × (fault_code (octets_come self.old up) ≡ None)) }
+        // The commands are on the disk before the answer; a crash at any moment leaves the first of them.
+        ensures does { IsTrue (seal_reaches result) → Does D.Disk (IsErrOf result SealRefusal.Disk)
+            self.old self.new disk.old disk.new (sealing self.old up moment) }
+
+        // A file without fault is complete: the octets that came, stamped. In every image it stands so.
+        ensures good { OnOk result (fault_code (octets_come self.old up) ≡ None) }
         ensures receipt { IfOk result (λ receipt. receipt ≡ up.number) }
-        ensures ok { OnOk result (DoesAll self.old self.new (sealing up moment)) }
         ensures complete { OnOk result
-            (holding_of_number self.new up.number ≡ Some (complete (kept_file self.old up moment) moment)) }
+            (holding_of_number (store_in self.new) up.number ≡ Some (complete (kept_file self.old up moment) moment)) }
+        ensures every_image { OnOk result (IsKeptInEach D.Disk up (kept_file self.old up moment) moment disk.new) }
+        ensures ended { OnOk result (rest_in self.new up.number ≡ None) }
 
-        // The entry of a file with a fault is dropped.
-        ensures header { IfErr result (λ refusal. OnHeader refusal (DropsFaulty self.old self.new up)) }
-
+        ensures stands_on { StandsOn D.Disk self.new disk.new }
         ensures uploads { KeepsOthers self.old self.new up.number }
-        ensures kept { KeepsComplete self.old self.new }
+        ensures rests { KeepsRests self.old.files self.new.files up.number }
+        ensures kept { KeepsComplete (store_in self.old) (store_in self.new) }
     {
-        if up.missing() > 0 {
+        if self.missing(&up) > 0 {
             return Err(SealRefusal::Short(up));
         }
-        match self.hold_rest(&up) {
-            Ok(()) => self.finish(up.end(), moment),
-            Err(OutOfMemory) => Err(SealRefusal::OutOfMemory(up)),
+        if self.journal.failed() {
+            self.park(up);
+            return Err(SealRefusal::Failed);
+        }
+        let number = up.end();
+        match self.end_file(disk, number, moment) {
+            Ok(None) => Ok(Receipt::of(number)),
+            Ok(Some(code)) => Err(SealRefusal::Header { code }),
+            Err(DiskFault) => {
+                self.entries.park(number);
+                Err(SealRefusal::Disk)
+            }
         }
     }
 
-    /// Gives an upload up. The octets held stay; those that aren't held yet, fewer than 512, are lost.
-    /// Takes no memory.
+    /// Gives an upload up. The octets held stay; those that wait, fewer than 512, are lost. Takes no memory.
     pub fn park(&mut self, up: OpenUpload)
         requires { Holds self.old up }
-        ensures { self.new ≡ self.old }
+        ensures rest { ChangesRest self.old.files self.new.files up.number None }
+        ensures journal { self.new.journal ≡ self.old.journal }
+        ensures uploads { KeepsOthers self.old self.new up.number }
     {
-        up.end();
+        self.entries.park(up.end());
     }
 
-    /// What the store tells of the entry of this number, or `None` exactly where there is none.
-    /// Takes no memory.
+    /// Whether the store holds this upload: it is out, and its entry is as the upload says. Takes no memory.
+    pub fn holds(&self, up: &OpenUpload) -> bool
+        ensures { IsTrue result ↔ Holds self.now up.now }
+    {
+        self.is_out(up.number()) && self.has_entry(up) && self.waits_few(up)
+    }
+
+    /// Whether the upload's entry is under way, and is as the upload says.
+    fn has_entry(&self, up: &OpenUpload) -> bool
+        ensures { IsTrue result ↔ HasEntry self.now up.now }
+    {
+        let Some(info) = self.entries.info(up.number()) else {
+            return false;
+        };
+        if info.complete {
+            return false;
+        }
+        if info.held != up.held() {
+            return false;
+        }
+        is_theirs(&info, up.caller(), up.length())
+    }
+
+    /// Whether fewer than 512 octets wait of the upload, and no more came than the file has.
+    fn waits_few(&self, up: &OpenUpload) -> bool
+        ensures { IsTrue result ↔ WaitFew self.now up.now }
+    {
+        let waiting = self.entries.waiting(up.number()).len();
+        waiting < BLOCK && waiting <= (up.length() - up.held()) as usize
+    }
+
+    /// Whether an upload of this number is out. Takes no memory.
+    pub fn is_out(&self, number: u32) -> bool
+        ensures { IsTrue result ↔ IsOut self.now.files number }
+    {
+        self.entries.is_out(number)
+    }
+
+    /// What the store tells of the entry of this number, or `None` exactly where there is none. Takes no memory.
     pub fn info(&self, number: u32) -> Option<Info>
-        ensures info { result ≡ option_map info_of (entry_of self.now number) }
-        ensures rules { IsStore self.now }
+        ensures info { result ≡ option_map info_of (entry_of (store_in self.now) number) }
+        ensures rules { IsStore (store_in self.now) }
     {
-        let place = place_of(&self.entries, number)?;
-        Some(self.entries[place].info())
+        self.entries.info(number)
     }
 
-    /// The octets held of the entry of this number.
-    #[cfg(test)]
-    pub(crate) fn octets(&self, number: u32) -> Option<&[u8]> {
-        let place = place_of(&self.entries, number)?;
-        Some(self.entries[place].octets())
+    /// The number that the next file gets. Takes no memory.
+    pub fn next_number(&self) -> u32
+        ensures { result ≡ (store_in self.now).next }
+    {
+        self.entries.next()
     }
 
-    /// Why a file of this length can't be begun, other than want of memory.
-    fn begin_refusal(&self, length: u32) -> Option<BeginRefusal>
-        ensures some { IfSome result (λ refusal. Refuses refusal self.now length) }
-        ensures none { IfNone result (MayBegin self.now length) }
+    /// Whether a call answered `Disk`: then the store is to be recovered anew. Takes no memory.
+    pub fn failed(&self) -> bool
+        ensures { result ≡ self.now.journal.failed }
     {
-        if length > LONGEST_FILE {
-            return Some(BeginRefusal::TooLong);
-        }
-        if self.entries.len() >= MOST_ENTRIES {
-            return Some(BeginRefusal::TooMany);
-        }
-        if self.next == LAST_NEXT {
-            return Some(BeginRefusal::NumbersGone);
-        }
-        let blocks = blocks_of_length(length);
-        let free = self.blocks - blocks_taken(&self.entries);
-        if blocks > free {
-            return Some(BeginRefusal::NoRoom { blocks, free });
-        }
-        None
+        self.journal.failed()
     }
 
-    // The commands. Where a disk stands, each is put on it by a record before the entries change.
-
-    /// Begins a file, or changes nothing where there is no memory. Takes memory.
-    fn add(&mut self, caller: Call, length: u32, moment: u32) -> Result<(), OutOfMemory>
-        requires { MayBegin self.old length }
-        ensures rules { IsStore self.old }
-        ensures ok { OnOk result (self.new ≡ after self.old (begin self.old.next caller length moment)) }
-        ensures err { OnErr result (self.new ≡ self.old) }
+    /// The least number above this one of a complete file, or `None` exactly where there is none. Takes no memory.
+    pub fn numbers(&self, after: u32) -> Option<u32>
+        ensures { IsNextComplete (store_in self.now) after result }
     {
-        let file = StoredFile::new(self.alloc, self.next, caller, length, moment);
-        self.entries.push(file)?;
-        self.next += 1;
+        self.entries.next_complete(after)
+    }
+
+    /// Fills the room with the octets from this place on of a complete file; they have to be there. The octets are in
+    /// memory, so it can't fail and leaves the disk alone. Takes no memory.
+    pub fn read_at<D: Disk>(
+        &mut self,
+        disk: &mut D,
+        number: u32,
+        offset: u32,
+        room: &mut [u8],
+    ) -> Result<(), DiskFault>
+        requires healthy { self.old.journal.failed ≡ false }
+        requires complete { IsCompleteIn (store_in self.old) number }
+        requires there { offset + length room.old ≤ length (octets_at (entry_of (store_in self.old) number)) }
+        requires stands_on { StandsOn D.Disk self.old disk.old }
+        ensures ok { result ≡ Ok tt }
+        ensures room { FillsRoom (octets_at (entry_of (store_in self.old) number)) offset (length room.old) room.new }
+        ensures untouched { (self.new ≡ self.old) × (disk.new ≡ disk.old) }
+    {
+        let start = offset as usize;
+        let octets = self.entries.octets(number);
+        room.copy_from_slice(&octets[start..start + room.len()]);
         Ok(())
     }
 
-    /// Puts octets at the end of those held, or changes nothing where there is no memory. Takes memory.
-    fn grow(&mut self, number: u32, first: &[u8], second: &[u8]) -> Result<(), OutOfMemory>
-        requires { HasRoom self.old number (length first.now + length second.now) }
-        ensures rules { IsStore self.old }
-        ensures ok { OnOk result (self.new ≡ with_holding self.old number (grown (first.now ++ second.now))) }
-        ensures err { OnErr result (self.new ≡ self.old) }
+    /// Its journal has the store's magic, and was read to its end.
+    pub(crate) fn read_law(&self)
+        ensures { IsRead self.now.journal }
     {
-        let place = place_of(&self.entries, number).unwrap();
-        let entry = &mut self.entries[place];
-        entry.grow(first, second)?;
+        let _failed = self.journal.failed();
+    }
+
+    /// How many octets of the upload's file are still to come.
+    fn missing(&self, up: &OpenUpload) -> usize
+        requires { Holds self.now up.now }
+        ensures missing { came self.now up.now + result ≡ up.now.length }
+    {
+        let waiting = self.entries.waiting(up.number()).len();
+        (up.length() - up.held()) as usize - waiting
+    }
+
+    /// So many whole 512 octets of those that wait of the upload of this number become held, one Grow each.
+    fn hold_blocks<D: Disk>(
+        &mut self,
+        disk: &mut D,
+        number: u32,
+        blocks: usize,
+    ) -> Result<(), DiskFault>
+        requires healthy { self.old.journal.failed ≡ false }
+        requires stands_on { StandsOn D.Disk self.old disk.old }
+        requires fits { FitsWaiting self.old number }
+        requires there { BLOCK * blocks ≤ length (octets_or_none (rest_in self.old number)) }
+        ensures does { Does D.Disk (IsErr result) self.old self.new disk.old disk.new
+            (grows number blocks (octets_or_none (rest_in self.old number))) }
+        ensures rest { OnOk result
+            (rest_in self.new number ≡ option_map (drop (BLOCK * blocks)) (rest_in self.old number)) }
+        ensures rests { KeepsRests self.old.files self.new.files number }
+    {
+        for block in 0..blocks {
+            self.hold(disk, number, BLOCK)?;
+        }
         Ok(())
     }
 
-    /// The upload's octets that aren't held yet become held, or nothing changes where there is no memory.
-    /// Takes memory.
-    fn hold_rest(&mut self, up: &OpenUpload) -> Result<(), OutOfMemory>
-        requires holds { Holds self.old up.now }
-        requires all { came up.now ≡ up.now.length }
-        ensures rules { IsStore self.old }
-        ensures ok { OnOk result (DoesAll self.old self.new (last_grow up.now.number up.now.rest)) }
-        ensures whole { OnOk result (HoldsAll self.new up.now (octets_come self.old up.now)) }
-        ensures err { OnErr result (self.new ≡ self.old) }
+    /// The first octets that wait of the upload of this number become held, by one Grow.
+    fn hold<D: Disk>(&mut self, disk: &mut D, number: u32, count: usize) -> Result<(), DiskFault>
+        requires healthy { self.old.journal.failed ≡ false }
+        requires stands_on { StandsOn D.Disk self.old disk.old }
+        requires fits { FitsWaiting self.old number }
+        requires some { 1 ≤ count }
+        requires most { count ≤ BLOCK }
+        requires there { count ≤ length (octets_or_none (rest_in self.old number)) }
+        ensures does { Does D.Disk (IsErr result) self.old self.new disk.old disk.new
+            (grow number (take count (octets_or_none (rest_in self.old number))) ∷ []) }
+        ensures rest { OnOk result (rest_in self.new number ≡ option_map (drop count) (rest_in self.old number)) }
+        ensures rests { KeepsRests self.old.files self.new.files number }
     {
-        self.grow(up.number(), up.rest(), &[])?;
+        let octets = &self.entries.waiting(number)[..count];
+        // A crash before the record's gate is synced leaves the octets not held: the entry says that they are only after it.
+        put_grow(&mut self.journal, disk, number, octets)?;
+        self.entries.hold(number, count);
         Ok(())
     }
 
-    /// Completes the entry of this number, of which all octets are held, with its stamp where it has no fault, and
-    /// drops it where it has one. Takes no memory.
-    fn finish(&mut self, number: u32, moment: u32) -> Result<Receipt, SealRefusal>
-        requires { IsTrue (passes (λ e. is_whole e.holding e.length) (entry_of self.old number)) }
-        ensures rules { IsStore self.old }
-        ensures good { IfOk result (λ receipt. (receipt ≡ number) × (fault_at self.old number ≡ None)) }
-        ensures sealed { OnOk result (self.new ≡ after self.old (seal number moment)) }
-        ensures dropped { IfErr result (λ refusal. IsHeader refusal (fault_at self.old number)
-            × (self.new ≡ after self.old (drop_entry number))) }
+    /// Ends the file of this number, of which all octets came: those that wait become held, and it is sealed, or dropped
+    /// where it has a fault, of which this is the code.
+    fn end_file<D: Disk>(
+        &mut self,
+        disk: &mut D,
+        number: u32,
+        moment: u32,
+    ) -> Result<Option<u8>, DiskFault>
+        requires healthy { self.old.journal.failed ≡ false }
+        requires stands_on { StandsOn D.Disk self.old disk.old }
+        requires whole { IsWholeWaiting self.old number }
+        ensures does { Does D.Disk (IsErr result) self.old self.new disk.old disk.new
+            (sealing_of self.old number moment) }
+        ensures fault { IfOk result (λ fault. fault ≡ fault_code (come_of self.old number)) }
+        ensures rest { OnOk result (rest_in self.new number ≡ None) }
+        ensures rests { KeepsRests self.old.files self.new.files number }
     {
-        let place = place_of(&self.entries, number).unwrap();
-        match header_fault(self.entries[place].octets()) {
+        self.hold_rest(disk, number)?;
+        self.entries.park(number);
+        self.seal_or_drop(disk, number, moment)
+    }
+
+    /// The octets that wait of the upload of this number, of whose file all came, become held, by one Grow where there are
+    /// any.
+    fn hold_rest<D: Disk>(&mut self, disk: &mut D, number: u32) -> Result<(), DiskFault>
+        requires healthy { self.old.journal.failed ≡ false }
+        requires stands_on { StandsOn D.Disk self.old disk.old }
+        requires whole { IsWholeWaiting self.old number }
+        ensures does { Does D.Disk (IsErr result) self.old self.new disk.old disk.new
+            (last_grow number (octets_or_none (rest_in self.old number))) }
+        ensures rests { KeepsRests self.old.files self.new.files number }
+    {
+        let waiting = self.entries.waiting(number).len();
+        if waiting == 0 {
+            return Ok(());
+        }
+        self.hold(disk, number, waiting)
+    }
+
+    /// Seals the file of this number, of which all octets are held, or drops it where it has a fault, of which this is the
+    /// code.
+    fn seal_or_drop<D: Disk>(
+        &mut self,
+        disk: &mut D,
+        number: u32,
+        moment: u32,
+    ) -> Result<Option<u8>, DiskFault>
+        requires healthy { self.old.journal.failed ≡ false }
+        requires stands_on { StandsOn D.Disk self.old disk.old }
+        requires held { IsHeldWhole self.old number }
+        requires in_ { rest_in self.old number ≡ None }
+        ensures does { Does D.Disk (IsErr result) self.old self.new disk.old disk.new
+            (ending number moment (fault_at (store_in self.old) number) ∷ []) }
+        ensures fault { IfOk result (λ fault. fault ≡ fault_at (store_in self.old) number) }
+        ensures rest { OnOk result (rest_in self.new number ≡ None) }
+        ensures rests { KeepsRests self.old.files self.new.files number }
+    {
+        match self.entries.fault(number) {
             None => {
-                let entry = &mut self.entries[place];
-                entry.seal(moment);
-                Ok(Receipt::of(number))
+                self.seal_entry(disk, number, moment)?;
+                Ok(None)
             }
             Some(code) => {
-                entries::drop_entry(&mut self.entries, number);
-                Err(SealRefusal::Header { code })
+                self.drop_entry(disk, number)?;
+                Ok(Some(code))
             }
         }
     }
+
+    /// Seals the entry of this number, of which all octets are held and which has no fault.
+    fn seal_entry<D: Disk>(
+        &mut self,
+        disk: &mut D,
+        number: u32,
+        moment: u32,
+    ) -> Result<(), DiskFault>
+        requires healthy { self.old.journal.failed ≡ false }
+        requires stands_on { StandsOn D.Disk self.old disk.old }
+        requires allowed { IsTrue (is_allowed (store_in self.old) (seal number moment)) }
+        requires in_ { rest_in self.old number ≡ None }
+        ensures does { Does D.Disk (IsErr result) self.old self.new disk.old disk.new (seal number moment ∷ []) }
+        ensures rest { OnOk result (rest_in self.new number ≡ None) }
+        ensures rests { KeepsRests self.old.files self.new.files number }
+    {
+        // A crash before the record's gate is synced leaves the file whole and under way: the caller goes on with it and
+        // ends it again. No receipt is given before.
+        put_command(&mut self.journal, disk, &Command::Seal { number, moment })?;
+        self.entries.seal(number, moment);
+        Ok(())
+    }
+
+    /// Drops the entry of this number, which is under way.
+    fn drop_entry<D: Disk>(&mut self, disk: &mut D, number: u32) -> Result<(), DiskFault>
+        requires healthy { self.old.journal.failed ≡ false }
+        requires stands_on { StandsOn D.Disk self.old disk.old }
+        requires allowed { IsTrue (is_allowed (store_in self.old) (drop_entry number)) }
+        ensures does { Does D.Disk (IsErr result) self.old self.new disk.old disk.new (drop_entry number ∷ []) }
+        ensures rest { OnOk result (rest_in self.new number ≡ None) }
+        ensures rests { KeepsRests self.old.files self.new.files number }
+    {
+        // A crash before the record's gate is synced leaves the file whole and under way; it is found faulty again.
+        put_command(&mut self.journal, disk, &Command::Drop { number })?;
+        self.entries.drop_entry(number);
+        Ok(())
+    }
+}
+
+/// Whether an entry of which this is told is of this caller and this length.
+fn is_theirs(info: &Info, caller: Call, length: u32) -> bool
+    ensures { IsTrue result ↔ ((info.now.caller ≡ caller) × (info.now.length ≡ length)) }
+{
+    info.caller == caller && info.length == length
 }

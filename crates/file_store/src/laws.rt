@@ -1,20 +1,54 @@
-//! Laws of the store's commands.
+//! Laws of a store on a disk.
 
-ghost use Rattle.file_store.specs.KeptFile.{KeptFileLaw};
-ghost use Rattle.file_store.specs.Laws.{CommandsLaw, NumbersLaw};
+ghost use Rattle.std.specs.Prelude.{◌≡◌, ℕ, Some, IsTrue, false};
+ghost use Rattle.file_entries.specs.Info.{is_complete};
+ghost use Rattle.file_entries.specs.IsStore.{IsStore};
+ghost use Rattle.file_entries.specs.Store.{Entry, entry_of};
+ghost use Rattle.file_store.specs.Laws.{HoldsInEach, ReceiptLaw, StandingLaw, StandsInEach};
+ghost use Rattle.file_store.specs.State.{IsRead, StandsOn, store_in};
+ghost use Rattle.file_store.specs.Upload.{Holds};
 
-/// Each command whose condition holds keeps the rules of a store and each complete entry, and the next
-/// number never falls.
-pub fn commands_law()
-    ensures { CommandsLaw }
+use crate::{FileStore, OpenUpload};
+use disk_model::Disk;
+
+/// What octets stand for: the store after the commands that their records are, and no other.
+pub fn standing_law()
+    ensures { StandingLaw }
 {}
 
-/// A number whose entry was dropped never gets an entry again.
-pub fn numbers_law()
-    ensures { NumbersLaw }
-{}
+/// What a store is: its journal was read to its end, and its entries keep the rules. Takes no memory.
+pub fn state_law(store: &FileStore)
+    ensures read { IsRead store.now.journal }
+    ensures rules { IsStore (store_in store.now) }
+{
+    store.read_law();
+    let _info = store.info(0);
+}
 
-/// A file that is kept has no fault, and the length, the body and the items of the one that came, but for the server's items.
-pub fn kept_file_law()
-    ensures { KeptFileLaw }
+/// What an upload that is out knows: in every image of a disk on which the store stands, its entry is under way and holds
+/// at least the octets that the upload says. The store hasn't failed. Takes no memory.
+pub fn token_law<D: Disk>(store: &FileStore, up: &OpenUpload, disk: &D)
+    requires healthy { store.now.journal.failed ≡ false }
+    requires holds { Holds store.now up.now }
+    requires stands_on { StandsOn D.Disk store.now disk.now }
+    ensures { HoldsInEach D.Disk up.now disk.now }
+{
+    store.read_law();
+}
+
+/// What stays of a file that is complete: in every image of a disk on which the store stands, the entry stands as it is.
+/// The store hasn't failed; each of its calls keeps each complete entry. Takes no memory.
+pub fn complete_law<D: Disk>(store: &FileStore, disk: &D)
+    requires healthy { store.now.journal.failed ≡ false }
+    requires stands_on { StandsOn D.Disk store.now disk.now }
+    ensures { (number : ℕ) (entry : Entry) → entry_of (store_in store.now) number ≡ Some entry
+        → IsTrue (is_complete entry.holding) → StandsInEach D.Disk number entry disk.now }
+{
+    store.read_law();
+}
+
+/// What a receipt is good for: its file's entry stands as it is in every image that later commands of the store leave, at
+/// every moment of them and whether the disk failed in one or not.
+pub fn receipt_law()
+    ensures { ReceiptLaw }
 {}

@@ -1,27 +1,23 @@
-//! The store of files: entries under way and complete, over a plain list in memory. A whole file is checked by its header
-//! when it is sealed, and kept with the server's stamp (PFH 1990).
+//! The store of files on a disk that may lose power at any moment: partial and complete files, and the uploads under way.
 //!
-//! The store is a list of entries, and each call does some of the commands of `specs/Command.antt` to it.
-//! There is no disk yet: where one comes, each of the calls `begin`, `append` and `seal` takes it as its
-//! first parameter after `self`, and answers `Disk` and `Failed` too.
+//! The store is a list of entries (crate `file_entries`), and each call does some of its commands. Each command is a record
+//! of a journal (crate `file_journal`): it is on the disk, synced, before the entries change in memory, and so before the
+//! caller can say anything of it. A crash leaves the store after the first of the commands, none skipped.
 #![tactic(auto)]
 
-mod entries;
 mod file_store;
-mod header;
-mod info;
 pub mod laws;
 mod limits;
 mod open_upload;
+mod put;
 mod receipt;
 mod refusals;
-mod stored_file;
 #[cfg(test)]
 mod tests;
 
+pub use file_entries::{Info, LAST_NEXT, LONGEST_FILE, MOST_ENTRIES};
 pub use file_store::FileStore;
-pub use info::Info;
-pub use limits::{LAST_NEXT, LONGEST_FILE, Limits, MOST_ENTRIES};
+pub use limits::Limits;
 pub use open_upload::OpenUpload;
 pub use receipt::Receipt;
-pub use refusals::{AppendRefusal, BeginRefusal, SealRefusal};
+pub use refusals::{AppendRefusal, BeginRefusal, ResumeRefusal, SealRefusal, StoreFault};

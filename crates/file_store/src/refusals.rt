@@ -1,9 +1,65 @@
 //! Why a call of the store did not do what it was asked.
 
+ghost use Rattle.std.specs.Prelude.{◌≡◌};
+ghost use Rattle.file_store.specs.Refusals.{fault_of_read, fault_of_recovery, refusal_of_bar};
+ghost use Rattle.file_store.specs.declared.refusals.BeginRefusal.TheVariants.{Disk as begin_disk, OutOfMemory as begin_memory};
+
 use crate::OpenUpload;
+use disk_model::DiskFault;
+use file_entries::BeginBar;
+use file_journal::{ReadFault, RecoverFault};
+use px_base::OutOfMemory;
 use thiserror::Error;
 
-/// Why a file was not begun. The store is as it was.
+/// Why a disk's content isn't read as a store of files.
+#[derive(Clone, Copy, Debug, PartialEq, Eq, Error)]
+pub enum StoreFault {
+    /// There are more than 16 octets, and they don't begin with the store's magic.
+    #[error("no store: it begins with {found:?}")]
+    NotAStore {
+        /// The first eight octets.
+        found: [u8; 8],
+    },
+    /// The block number isn't in 1..=65,536; or the record behind an open gate is cut, or is no command that the store
+    /// before it allows.
+    #[error("the store is damaged at octet {at}")]
+    Damaged {
+        /// 8 for the block number, else the place of the gate.
+        at: u64,
+    },
+    /// The disk failed, and its count of faults rose.
+    #[error("the disk failed")]
+    Disk,
+    /// No memory was left for the entries.
+    #[error("out of memory")]
+    OutOfMemory,
+}
+
+impl From<RecoverFault> for StoreFault {
+    ghost from_gives = { λ fault result. result ≡ fault_of_recovery fault };
+
+    fn from(fault: RecoverFault) -> StoreFault {
+        match fault {
+            RecoverFault::NotAStore { found } => StoreFault::NotAStore { found },
+            RecoverFault::Damaged { at } => StoreFault::Damaged { at },
+            RecoverFault::Disk => StoreFault::Disk,
+        }
+    }
+}
+
+impl From<ReadFault> for StoreFault {
+    ghost from_gives = { λ fault result. result ≡ fault_of_read fault };
+
+    fn from(fault: ReadFault) -> StoreFault {
+        match fault {
+            ReadFault::Damaged { at } => StoreFault::Damaged { at },
+            ReadFault::Disk => StoreFault::Disk,
+            ReadFault::OutOfMemory => StoreFault::OutOfMemory,
+        }
+    }
+}
+
+/// Why a file was not begun. But for `Disk` neither the store nor its disk was touched.
 #[derive(Clone, Copy, Debug, PartialEq, Eq, Error)]
 pub enum BeginRefusal {
     /// The length is above 4,194,304 octets.
@@ -23,28 +79,88 @@ pub enum BeginRefusal {
         /// How many blocks are free.
         free: u32,
     },
+    /// This store answered `Disk` before; it is to be recovered anew.
+    #[error("the store failed before")]
+    Failed,
+    /// A write or a sync of the disk failed, and its count of write faults rose. The file may be begun or not.
+    #[error("the disk failed")]
+    Disk,
     /// No memory was left for the entry.
     #[error("out of memory")]
     OutOfMemory,
 }
 
-/// Why octets were not appended. The store is as it was, and the upload comes back as it was.
+impl From<BeginBar> for BeginRefusal {
+    ghost from_gives = { λ bar refusal. refusal ≡ refusal_of_bar bar };
+
+    fn from(bar: BeginBar) -> BeginRefusal {
+        match bar {
+            BeginBar::TooLong => BeginRefusal::TooLong,
+            BeginBar::TooMany => BeginRefusal::TooMany,
+            BeginBar::NumbersGone => BeginRefusal::NumbersGone,
+            BeginBar::NoRoom { blocks, free } => BeginRefusal::NoRoom { blocks, free },
+        }
+    }
+}
+
+impl From<OutOfMemory> for BeginRefusal {
+    ghost from_gives = { λ _ refusal. refusal ≡ begin_memory };
+
+    fn from(_refused: OutOfMemory) -> BeginRefusal {
+        BeginRefusal::OutOfMemory
+    }
+}
+
+impl From<DiskFault> for BeginRefusal {
+    ghost from_gives = { λ _ refusal. refusal ≡ begin_disk };
+
+    fn from(_fault: DiskFault) -> BeginRefusal {
+        BeginRefusal::Disk
+    }
+}
+
+/// Why an upload was not gone on with. The store is as it was.
+#[derive(Clone, Copy, Debug, PartialEq, Eq, Error)]
+pub enum ResumeRefusal {
+    /// No entry of the number stands.
+    #[error("no such file")]
+    NoSuch,
+    /// The entry is another caller's, or the file has another length.
+    #[error("the file is another's, or of another length")]
+    Bad,
+    /// The file is complete.
+    #[error("the file is complete")]
+    Complete,
+    /// This store answered `Disk` before; it is to be recovered anew.
+    #[error("the store failed before")]
+    Failed,
+}
+
+/// Why octets were not appended.
 pub enum AppendRefusal {
-    /// More octets would come than the file has. None of them is taken.
+    /// More octets would come than the file has. None of them is taken; neither the store nor its disk was touched.
     TooMuch(OpenUpload),
-    /// No memory was left for the octets.
+    /// This store answered `Disk` before; it is to be recovered anew. The upload is spent.
+    Failed,
+    /// A write or a sync of the disk failed, and its count of write faults rose. Some of the octets may be held. The upload
+    /// is spent.
+    Disk,
+    /// No memory was left for the octets. Neither the store nor its disk was touched.
     OutOfMemory(OpenUpload),
 }
 
 /// Why a file was not sealed.
 pub enum SealRefusal {
-    /// Fewer octets came than the file has. The store is as it was, and the upload comes back as it was.
+    /// Fewer octets came than the file has. Neither the store nor its disk was touched.
     Short(OpenUpload),
-    /// The file breaks a rule of file headers. Its entry is dropped, and its number never comes again.
+    /// The file breaks a rule of file headers. Its entry is dropped, and its number never comes again. The upload is spent.
     Header {
         /// The code of the first rule that it breaks: 6, 7, 14, 15 or 16 (FTL0 1990, error codes).
         code: u8,
     },
-    /// No memory was left for the last octets. The store is as it was, and the upload comes back as it was.
-    OutOfMemory(OpenUpload),
+    /// This store answered `Disk` before; it is to be recovered anew. The upload is spent.
+    Failed,
+    /// A write or a sync of the disk failed, and its count of write faults rose. The file may be complete, dropped or under
+    /// way. The upload is spent.
+    Disk,
 }

@@ -1,9 +1,14 @@
-//! What no clause says: the texts of the refusals, that the calls succeed, and a stamp worked out by hand.
+//! What no clause says: the texts of the refusals, that the calls succeed, a stamp worked out by hand, and recoveries after a
+//! stop at each write and sync.
 
-ghost use Rattle.std.specs.Prelude.{◌≡◌};
+ghost use Rattle.std.specs.Prelude.{◌≡◌, ◌≤◌, false, length};
+ghost use Rattle.file_store.specs.State.{StandsOn};
+ghost use Rattle.file_store.specs.Upload.{Holds};
 
 use super::*;
+use disk_model::{Disk, FuseDisk, MemoryDisk};
 use px_base::Call;
+use std::alloc::Global;
 use std::process::Abort;
 use std::test::Fail;
 
@@ -16,35 +21,10 @@ const FILE: [u8; 73] = [
     0x03, 0x0B, 0x00, 0x02, 0x49, 0x00, 0x00, 0x00, 0x00,
 ];
 
-/// The header of a message with a body of 4,300 octets 55, from KA9XYZ to KB0ABC.
-const MESSAGE_HEADER: [u8; 146] = [
-    0xAA, 0x55, 0x01, 0x00, 0x04, 0x00, 0x00, 0x00, 0x00, 0x02, 0x00, 0x08, 0x4D, 0x53, 0x47, 0x20,
-    0x20, 0x20, 0x20, 0x20, 0x03, 0x00, 0x03, 0x54, 0x58, 0x54, 0x04, 0x00, 0x04, 0x5E, 0x11, 0x00,
-    0x00, 0x05, 0x00, 0x04, 0x00, 0x00, 0x00, 0x00, 0x06, 0x00, 0x04, 0x00, 0x00, 0x00, 0x00, 0x07,
-    0x00, 0x01, 0x00, 0x08, 0x00, 0x01, 0x00, 0x09, 0x00, 0x02, 0xBC, 0x93, 0x0A, 0x00, 0x02, 0x03,
-    0x0E, 0x0B, 0x00, 0x02, 0x92, 0x00, 0x10, 0x00, 0x06, 0x4B, 0x41, 0x39, 0x58, 0x59, 0x5A, 0x11,
-    0x00, 0x06, 0x20, 0x20, 0x20, 0x20, 0x20, 0x20, 0x12, 0x00, 0x04, 0x00, 0x00, 0x00, 0x00, 0x13,
-    0x00, 0x01, 0x00, 0x14, 0x00, 0x06, 0x4B, 0x42, 0x30, 0x41, 0x42, 0x43, 0x15, 0x00, 0x06, 0x20,
-    0x20, 0x20, 0x20, 0x20, 0x20, 0x16, 0x00, 0x04, 0x00, 0x00, 0x00, 0x00, 0x17, 0x00, 0x04, 0x00,
-    0x00, 0x00, 0x00, 0x18, 0x00, 0x01, 0x00, 0x22, 0x00, 0x05, 0x48, 0x65, 0x6C, 0x6C, 0x6F, 0x00,
-    0x00, 0x00,
-];
+const LIMITS: Limits = Limits { blocks: 8 };
 
-fn caller() -> Call {
-    Call {
-        chars: [b'N', b'O', b'C', b'A', b'L', b'L'],
-        ssid: 0,
-    }
-}
-
-fn appended(rt: &impl Abort, answer: Result<OpenUpload, AppendRefusal>) -> OpenUpload
-    ensures { answer ≡ Ok result }
-{
-    match answer {
-        Ok(up) => up,
-        Err(AppendRefusal::TooMuch(_up)) => panic!(rt; "too much"),
-        Err(AppendRefusal::OutOfMemory(_up)) => panic!(rt; "out of memory"),
-    }
+fn caller(rt: &impl Abort) -> Call {
+    Call::read("NOCALL").expect(rt, "no call")
 }
 
 #[test]
@@ -60,139 +40,270 @@ fn texts_of_refusals(rt: HostRuntime) -> Result<(), Fail> {
             BeginRefusal::NoRoom { blocks: 9, free: 8 },
             "the file takes 9 blocks, and 8 are free",
         ),
+        (BeginRefusal::Failed, "the store failed before"),
+        (BeginRefusal::Disk, "the disk failed"),
         (BeginRefusal::OutOfMemory, "out of memory"),
     ];
     for (refusal, text) in texts {
         assert_eq!(rt; format!(in rt.alloc(); "{refusal}")?.as_str(), text);
     }
+    let texts = [
+        (ResumeRefusal::NoSuch, "no such file"),
+        (
+            ResumeRefusal::Bad,
+            "the file is another's, or of another length",
+        ),
+        (ResumeRefusal::Complete, "the file is complete"),
+        (ResumeRefusal::Failed, "the store failed before"),
+    ];
+    for (refusal, text) in texts {
+        assert_eq!(rt; format!(in rt.alloc(); "{refusal}")?.as_str(), text);
+    }
+    let found = *b"not a st";
+    let texts = [
+        (
+            StoreFault::NotAStore { found },
+            "no store: it begins with [110, 111, 116, 32, 97, 32, 115, 116]",
+        ),
+        (
+            StoreFault::Damaged { at: 39 },
+            "the store is damaged at octet 39",
+        ),
+        (StoreFault::Disk, "the disk failed"),
+        (StoreFault::OutOfMemory, "out of memory"),
+    ];
+    for (fault, text) in texts {
+        assert_eq!(rt; format!(in rt.alloc(); "{fault}")?.as_str(), text);
+    }
     Ok(())
 }
 
-#[test]
-fn seals_a_file(rt: HostRuntime) -> Result<(), Fail> {
-    let mut store = FileStore::plain(rt.alloc(), Limits { blocks: 8 });
-    let up = store.begin(caller(), 73, 5)?;
-    assert_eq!(rt;
-        (up.number(), up.caller().ssid, up.length(), up.held()),
-        (1, 0, 73, 0)
-    );
-    let up = appended(&rt, store.append(up, &FILE));
-    assert_eq!(rt; up.held(), 0);
-    match store.seal(up, 6) {
-        Ok(receipt) => {
-            assert_eq!(rt; receipt.number(), 1);
-            assert_eq!(rt; receipt.spend(), 1);
-        }
+/// The upload, to which octets were appended.
+fn appended(rt: &impl Abort, answer: Result<OpenUpload, AppendRefusal>) -> OpenUpload
+    ensures { answer ≡ Ok result }
+{
+    match answer {
+        Ok(up) => up,
+        Err(AppendRefusal::TooMuch(_up)) => panic!(rt; "too much"),
+        Err(AppendRefusal::Failed) => panic!(rt; "failed before"),
+        Err(AppendRefusal::Disk) => panic!(rt; "the disk failed"),
+        Err(AppendRefusal::OutOfMemory(_up)) => panic!(rt; "out of memory"),
+    }
+}
+
+/// The number of the file that was sealed.
+fn sealed(rt: &impl Abort, answer: Result<Receipt, SealRefusal>) -> u32 {
+    match answer {
+        Ok(receipt) => receipt.spend(),
+        Err(SealRefusal::Short(_up)) => panic!(rt; "short"),
         Err(_refusal) => panic!(rt; "not sealed"),
     }
-    // The stamp: file_number is 1, and so the header's sum is one more.
+}
+
+/// Reads a complete file of 73 octets: whether it is one.
+fn read_whole<D: Disk>(
+    store: &mut FileStore,
+    disk: &mut D,
+    number: u32,
+    room: &mut [u8; 73],
+) -> bool
+    requires healthy { store.old.journal.failed ≡ false }
+    requires stands_on { StandsOn D.Disk store.old disk.old }
+{
+    match store.info(number) {
+        Some(info) if info.complete && info.held == 73 => {
+            store.read_at(disk, number, 0, room).is_ok()
+        }
+        _ => false,
+    }
+}
+
+#[test]
+fn two_uploads_out(rt: HostRuntime) -> Result<(), Fail> {
+    let mut disk = MemoryDisk::new(rt.alloc(), &[], &[])?;
+    let mut store = FileStore::recover(rt.alloc(), &mut disk, LIMITS)?;
+    let first = store.begin(&mut disk, caller(&rt), 73, 5)?;
+    assert_eq!(rt;
+        (
+            first.number(),
+            first.caller().ssid,
+            first.length(),
+            first.held()
+        ),
+        (1, 0, 73, 0)
+    );
+    let second = match store.begin(&mut disk, caller(&rt), 73, 7) {
+        Ok(up) => up,
+        Err(_refusal) => panic!(rt; "not begun"),
+    };
+    let second = appended(&rt, store.append(&mut disk, second, &FILE));
+    assert!(rt; store.is_out(2));
+    assert_eq!(rt; sealed(&rt, store.seal(&mut disk, second, 8)), 2);
+    assert!(rt; !store.is_out(2));
+    assert!(rt; store.holds(&first));
+    let first = appended(&rt, store.append(&mut disk, first, &FILE[..70]));
+    let number = first.number();
+    store.park(first);
+    let first = match store.resume(number, caller(&rt), 73) {
+        Ok(up) => up,
+        Err(_refusal) => panic!(rt; "not resumed"),
+    };
+    assert_eq!(rt; first.held(), 0);
+    assert!(rt; store.holds(&first));
+    let first = appended(&rt, store.append(&mut disk, first, &FILE));
+    assert_eq!(rt; sealed(&rt, store.seal(&mut disk, first, 6)), 1);
+    // The stamp: file_number is 1, and so the header's sum is one more. So it is on the disk.
     let mut stamped = FILE;
     stamped[5] = 0x01;
     stamped[63] = 0x57;
-    assert_eq!(rt; store.octets(1).expect(&rt, "no entry"), stamped.as_slice());
-    let info = store.info(1).expect(&rt, "no entry");
-    assert_eq!(rt; (info.number, info.caller.ssid, info.length), (1, 0, 73));
-    assert_eq!(rt; (info.held, info.complete, info.begun), (73, true, 5));
-    Ok(())
-}
-
-#[test]
-fn holds_whole_blocks(rt: HostRuntime) -> Result<(), Fail> {
-    let mut store = FileStore::plain(rt.alloc(), Limits { blocks: 8 });
-    // The header of `FILE` with another length and its sum, and a body of zeros.
-    let mut octets = [0u8; 1_100];
-    octets[..73].copy_from_slice(&FILE);
-    octets[29] = 0x4C;
-    octets[30] = 0x04;
-    octets[63] = 0x5D;
-    let up = store.begin(caller(), 1_100, 5)?;
-    let up = appended(&rt, store.append(up, &octets[..700]));
-    assert_eq!(rt; up.held(), 512);
-    let info = store.info(1).expect(&rt, "no entry");
+    let mut store = FileStore::recover(rt.alloc(), &mut disk, LIMITS)?;
+    let mut room = [0; 73];
+    assert!(rt; read_whole(&mut store, &mut disk, 1, &mut room));
+    assert_eq!(rt; room.as_slice(), stamped.as_slice());
     assert_eq!(rt;
-        (info.length, info.held, info.complete),
-        (1_100, 512, false)
+        (store.numbers(0), store.numbers(1), store.numbers(2)),
+        (Some(1), Some(2), None)
     );
-    let up = appended(&rt, store.append(up, &octets[700..]));
-    assert_eq!(rt; up.held(), 1_024);
-    match store.seal(up, 6) {
-        Ok(receipt) => assert_eq!(rt; receipt.spend(), 1),
-        Err(_refusal) => panic!(rt; "not sealed"),
-    }
-    let info = store.info(1).expect(&rt, "no entry");
-    assert_eq!(rt;
-        (info.length, info.held, info.complete),
-        (1_100, 1_100, true)
-    );
+    let info = store.info(2).expect(&rt, "no entry");
+    assert_eq!(rt; (info.number, info.caller.ssid, info.length), (2, 0, 73));
+    assert_eq!(rt; (info.held, info.complete, info.begun), (73, true, 7));
     Ok(())
 }
 
 #[test]
-fn stamps_number_caller_and_moment(rt: HostRuntime) -> Result<(), Fail> {
-    let mut store = FileStore::plain(rt.alloc(), Limits { blocks: 16 });
-    let first = store.begin(caller(), 0, 5)?;
-    store.park(first);
-    let mut octets = [0x55u8; 4_446];
-    octets[..146].copy_from_slice(&MESSAGE_HEADER);
-    let uploader = Call::read("KA9XYZ").expect(&rt, "no call");
-    let up = store.begin(uploader, 4_446, 900)?;
-    let up = appended(&rt, store.append(up, &octets));
-    match store.seal(up, 1_000) {
-        Ok(receipt) => assert_eq!(rt; receipt.spend(), 2),
-        Err(_refusal) => panic!(rt; "not sealed"),
-    }
-    // file_number, header_checksum, ax25_uploader, upload_time.
-    octets[5] = 0x02;
-    octets[63..65].copy_from_slice(&[0x00, 0x10]);
-    octets[82..88].copy_from_slice(b"KA9XYZ");
-    octets[91..93].copy_from_slice(&[0xE8, 0x03]);
-    assert_eq!(rt; store.octets(2).expect(&rt, "no entry"), octets.as_slice());
-    Ok(())
-}
-
-#[test]
-fn drops_each_fault(rt: HostRuntime) -> Result<(), Fail> {
-    let mut store = FileStore::plain(rt.alloc(), Limits { blocks: 8 });
-    // The number that the file gets, two places in it with the octets there, and the code of its fault.
-    for (number, first, second, code) in [
-        (1, (63, 0x55), (64, 0x03), 15),
-        (2, (0, 0xAB), (1, 0x55), 7),
-        (3, (70, 0x01), (71, 0x00), 14),
-        (4, (2, 0x0C), (3, 0x00), 6),
-        (5, (29, 0x4A), (63, 0x57), 14),
-        (6, (58, 0x01), (63, 0x57), 16),
-    ] {
-        let mut octets = FILE;
-        octets[first.0] = first.1;
-        octets[second.0] = second.1;
-        let up = store.begin(caller(), 73, 5)?;
-        assert_eq!(rt; up.number(), number);
-        let up = appended(&rt, store.append(up, &octets));
-        match store.seal(up, 6) {
-            Err(SealRefusal::Header { code: found }) => assert_eq!(rt; found, code),
-            _ => panic!(rt; "no fault of the header"),
-        }
-        assert!(rt; store.info(number).is_none());
-    }
-    Ok(())
-}
-
-#[test]
-fn refuses_and_drops(rt: HostRuntime) -> Result<(), Fail> {
-    let mut store = FileStore::plain(rt.alloc(), Limits { blocks: 8 });
-    let up = store.begin(caller(), 0, 5)?;
-    match store.seal(up, 6) {
-        Err(SealRefusal::Header { code }) => assert_eq!(rt; code, 7),
-        _ => panic!(rt; "no fault of the header"),
-    }
-    assert!(rt; store.info(1).is_none());
-    let up = store.begin(caller(), 4_096, 5)?;
-    assert_eq!(rt; up.number(), 2);
+fn no_room(rt: HostRuntime) -> Result<(), Fail> {
+    let mut disk = MemoryDisk::new(rt.alloc(), &[], &[])?;
+    let mut store = FileStore::recover(rt.alloc(), &mut disk, LIMITS)?;
+    let up = store.begin(&mut disk, caller(&rt), 4_096, 5)?;
     store.park(up);
-    assert_eq!(rt; store.info(2).expect(&rt, "no entry").held, 0);
-    match store.begin(caller(), 1, 5) {
+    match store.begin(&mut disk, caller(&rt), 1, 5) {
         Err(refusal) => assert_eq!(rt; refusal, BeginRefusal::NoRoom { blocks: 1, free: 0 }),
         Ok(_up) => panic!(rt; "begun without room"),
+    }
+    Ok(())
+}
+
+/// How far a script came: a store is made or recovered, a file is begun, all its octets are appended, and it is sealed.
+#[derive(Clone, Copy, Debug, PartialEq, Eq)]
+enum Ended {
+    NotRecovered,
+    NotBegun,
+    NotAppended,
+    NotSealed,
+    Dropped,
+    Sealed,
+}
+
+/// Plays the script, up to the first call that fails.
+fn play<D: Disk>(alloc: Global, disk: &mut D, caller: Call, file: &[u8]) -> Ended
+    requires { length file.now ≤ 2000 }
+{
+    let mut store = match FileStore::recover(alloc, disk, LIMITS) {
+        Ok(store) => store,
+        Err(_fault) => return Ended::NotRecovered,
+    };
+    let up = match store.begin(disk, caller, file.len() as u32, 5) {
+        Ok(up) => up,
+        Err(_refusal) => return Ended::NotBegun,
+    };
+    match store.append(disk, up, file) {
+        Ok(up) => seal_end(&mut store, disk, up),
+        Err(AppendRefusal::TooMuch(up)) => {
+            store.park(up);
+            Ended::NotAppended
+        }
+        Err(AppendRefusal::OutOfMemory(up)) => {
+            store.park(up);
+            Ended::NotAppended
+        }
+        Err(AppendRefusal::Failed) => Ended::NotAppended,
+        Err(AppendRefusal::Disk) => Ended::NotAppended,
+    }
+}
+
+/// Seals the upload's file, and says how the script ended.
+fn seal_end<D: Disk>(store: &mut FileStore, disk: &mut D, up: OpenUpload) -> Ended
+    requires holds { Holds store.old up }
+    requires stands_on { StandsOn D.Disk store.old disk.old }
+{
+    match store.seal(disk, up, 6) {
+        Ok(receipt) => {
+            receipt.spend();
+            Ended::Sealed
+        }
+        Err(SealRefusal::Header { code: _ }) => Ended::Dropped,
+        Err(SealRefusal::Short(up)) => {
+            store.park(up);
+            Ended::NotSealed
+        }
+        Err(SealRefusal::Failed) => Ended::NotSealed,
+        Err(SealRefusal::Disk) => Ended::NotSealed,
+    }
+}
+
+/// How many octets are held of the first entry, and whether it is complete.
+type Seen = Option<(u32, bool)>;
+
+/// Whether a script that ended so with a file of this length may leave this: each command before the end stands, and the
+/// one under way does or doesn't.
+fn may_leave(ended: Ended, length: u32, faulty: bool, seen: Seen) -> bool {
+    match (ended, seen) {
+        (Ended::NotRecovered | Ended::NotBegun | Ended::Dropped, None) => true,
+        (Ended::NotBegun, Some((held, complete))) => held == 0 && !complete,
+        (Ended::NotAppended, Some((held, complete))) => held % 512 == 0 && !complete,
+        (Ended::NotSealed, None) => faulty,
+        (Ended::NotSealed, Some((held, true))) => held == length && !faulty,
+        (Ended::NotSealed, Some((held, false))) => held == length || (held == 0 && length < 512),
+        (Ended::Sealed, seen) => seen == Some((length, true)),
+        _ => false,
+    }
+}
+
+/// Plays the script on a new disk that stops after so many writes and syncs and then loses power, and gives how it ended and
+/// what the recovered store has.
+fn crashed(
+    alloc: Global,
+    caller: Call,
+    file: &[u8],
+    calls: u64,
+    pick: u64,
+) -> Result<(Ended, Seen), Fail>
+    requires { length file.now ≤ 2000 }
+{
+    let mut fuse = FuseDisk::new(MemoryDisk::new(alloc, &[], &[])?, calls);
+    let ended = play(alloc, &mut fuse, caller, file);
+    let mut disk = fuse.into_disk().crash(pick)?;
+    let store = FileStore::recover(alloc, &mut disk, LIMITS)?;
+    Ok((ended, store.info(1).map(|info| (info.held, info.complete))))
+}
+
+#[test]
+fn stops_at_each_call(rt: HostRuntime) -> Result<(), Fail> {
+    let mut faulty = FILE;
+    faulty[63] = 0x55;
+    // The header of `FILE` with another length and its sum, and a body of zeros: three blocks.
+    let mut long = [0u8; 1_536];
+    long[..73].copy_from_slice(&FILE);
+    long[29] = 0x00;
+    long[30] = 0x06;
+    long[63] = 0x13;
+    let rows: [(&[u8], bool, Ended); 3] = [
+        (&FILE, false, Ended::Sealed),
+        (&faulty, true, Ended::Dropped),
+        (&long, false, Ended::Sealed),
+    ];
+    for (file, is_faulty, whole) in rows {
+        for calls in 0..32u64 {
+            // Nothing of what was written, all of it, each octet the same, and drawn ones.
+            for pick in [0, 1, 2, 2 + 4, 2 + 4 * 0xFF, 3, 7, 11] {
+                let (ended, seen) = crashed(rt.alloc(), caller(&rt), file, calls, pick)?;
+                assert!(rt;
+                    may_leave(ended, file.len() as u32, is_faulty, seen),
+                    "{calls} calls, pick {pick}: {ended:?}, {seen:?}"
+                );
+                assert!(rt; calls < 31 || ended == whole, "{ended:?}");
+            }
+        }
     }
     Ok(())
 }

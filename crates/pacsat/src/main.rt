@@ -1,6 +1,7 @@
 //! The program `pacsat`: makes the real objects, hands them to the top call, and ends with its number.
 #![tactic(auto)]
 
+use disk_model::FileDisk;
 use pacsat_cli::{Status, Words, end_with, run};
 use px_base::{FolderShelf, Out, StdAir, StdOut, SystemClock};
 use std::env;
@@ -18,12 +19,22 @@ fn main(rt: HostRuntime) -> ExitCode {
     ExitCode::from(status.number())
 }
 
-/// Does what the words ask for, over standard input and output, the working folder, this output and the system's clock.
+/// Does what the words ask for, over the file that the first word names, standard input and output, the working folder, this
+/// output and the system's clock. A command that uses no disk doesn't open the file.
 fn play<O: Out>(rt: &HostRuntime, words: &Words, out: &mut O) -> Status {
+    let mut disk = FileDisk::new(rt, words.get(0).unwrap_or(""));
     let mut air = StdAir::new(rt.stdin(), rt.stdout());
     let mut shelf = FolderShelf::new(rt);
     let mut clock = SystemClock::new(rt);
-    run(rt.alloc(), words, &mut air, &mut shelf, out, &mut clock)
+    run(
+        rt.alloc(),
+        words,
+        &mut disk,
+        &mut air,
+        &mut shelf,
+        out,
+        &mut clock,
+    )
 }
 
 /// The words after the program's name. Words that aren't UTF-8 are no command.

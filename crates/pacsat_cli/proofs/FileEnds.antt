@@ -3,7 +3,7 @@ use Rattle.std.proofs.Common.{◌≡◌, ℕ, ◌<◌, List, length, refl, ap, s
 use Rattle.std.specs.Prelude.{Option, None, Some}
 use Rattle.pacsat_cli.specs.declared.files.FileCommand.{FileCommand}
 use Rattle.pacsat_cli.specs.declared.status.Status.{Status}
-use Rattle.pacsat_cli.specs.declared.status.Status.TheVariants.{Done, Refused, Usage, AirRead, AirWrite, NoSuch, OutOfMemory, Spent, Out, Shelf, TooLong, NotBuilt}
+use Rattle.pacsat_cli.specs.declared.status.Status.TheVariants.{Done, Refused, Usage, AirRead, AirWrite, Disk, NoSuch, BadStore, OutOfMemory, Spent, Out, Shelf, TooLong, NotBuilt}
 use Rattle.pacsat_cli.specs.Files.{FileEnd, FileText, IsNoSuchBy, IsShownBy, IsTooLongBy, end_of, most_octets}
 
 -- content that isn't there isn't content that may be shown
@@ -33,6 +33,8 @@ no_such-end command content text OutOfMemory h none = inr (1, omega arith, refl)
 no_such-end command content text Usage h none = absurd h
 no_such-end command content text AirRead h none = absurd h
 no_such-end command content text AirWrite h none = absurd h
+no_such-end command content text Disk h none = absurd h
+no_such-end command content text (BadStore why) h none = absurd h
 no_such-end command content text Spent h none = absurd h
 no_such-end command content text NotBuilt h none = absurd h
 
@@ -47,6 +49,8 @@ too_long-end command content text OutOfMemory h octets there long = inr (1, omeg
 too_long-end command content text Usage h octets there long = absurd h
 too_long-end command content text AirRead h octets there long = absurd h
 too_long-end command content text AirWrite h octets there long = absurd h
+too_long-end command content text Disk h octets there long = absurd h
+too_long-end command content text (BadStore why) h octets there long = absurd h
 too_long-end command content text Spent h octets there long = absurd h
 too_long-end command content text NotBuilt h octets there long = absurd h
 
@@ -63,5 +67,7 @@ shown-end command content text OutOfMemory h octets there short = inr (2, omega 
 shown-end command content text Usage h octets there short = absurd h
 shown-end command content text AirRead h octets there short = absurd h
 shown-end command content text AirWrite h octets there short = absurd h
+shown-end command content text Disk h octets there short = absurd h
+shown-end command content text (BadStore why) h octets there short = absurd h
 shown-end command content text Spent h octets there short = absurd h
 shown-end command content text NotBuilt h octets there short = absurd h

@@ -4,7 +4,7 @@ use Rattle.std.specs.Prelude.{Option, None, Some, IfSome, Ok}
 use Rattle.px_base.specs.Shelves.{Holding, Loads, content_of}
 use Rattle.header_tool.specs.Made.{IsMade, MakeValue}
 use Rattle.pacsat_cli.specs.declared.status.Status.{Status}
-use Rattle.pacsat_cli.specs.declared.status.Status.TheVariants.{Done, Refused, Usage, AirRead, AirWrite, NoSuch, OutOfMemory, Spent, Out, Shelf, TooLong, NotBuilt}
+use Rattle.pacsat_cli.specs.declared.status.Status.TheVariants.{Done, Refused, Usage, AirRead, AirWrite, Disk, NoSuch, BadStore, OutOfMemory, Spent, Out, Shelf, TooLong, NotBuilt}
 use Rattle.pacsat_cli.specs.Files.{most_octets}
 use Rattle.pacsat_cli.specs.Making.{IsMadeOf, IsMakeStatus, MakeEnd, MakeRan, OctetsMade}
 use Rattle.pacsat_cli.proofs.Loading.{loaded}
@@ -24,6 +24,8 @@ ends-of IsFile Other f name before now Refused h = h
 ends-of IsFile Other f name before now Usage h = h
 ends-of IsFile Other f name before now AirRead h = h
 ends-of IsFile Other f name before now AirWrite h = h
+ends-of IsFile Other f name before now Disk h = h
+ends-of IsFile Other f name before now (BadStore why) h = h
 ends-of IsFile Other f name before now Spent h = h
 ends-of IsFile Other f name before now Out h = h
 ends-of IsFile Other f name before now NotBuilt h = h

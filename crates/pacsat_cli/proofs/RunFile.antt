@@ -17,6 +17,8 @@ abbrev pub isnt_file_status : Status → Bool
 isnt_file_status status.Usage = true
 isnt_file_status status.AirRead = true
 isnt_file_status status.AirWrite = true
+isnt_file_status status.Disk = true
+isnt_file_status (status.BadStore why) = true
 isnt_file_status status.Spent = true
 isnt_file_status status.NotBuilt = true
 isnt_file_status s = false
@@ -25,6 +27,8 @@ never : (command : FileCommand) (other : Status) → isnt_file_status other ≡ 
 never command status.Usage isnt is = cc
 never command status.AirRead isnt is = cc
 never command status.AirWrite isnt is = cc
+never command status.Disk isnt is = cc
+never command (status.BadStore why) isnt is = cc
 never command status.Spent isnt is = cc
 never command status.NotBuilt isnt is = cc
 never command status.Done isnt is = cc

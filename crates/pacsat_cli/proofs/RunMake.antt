@@ -1,37 +1,14 @@
 -- What a run did, where the words ask for a file that is made.
 use Rattle.std.proofs.Common.{◌≡◌, ℕ, List, refl, ap, subst, Bool, true, false}
-use Rattle.std.specs.Prelude.{Option, None, Some, not, ◌&&◌, if◌then◌else◌}
+use Rattle.std.specs.Prelude.{Option}
 use Rattle.px_base.specs.Shelves.{Holding}
 use Rattle.command_words.specs.Laws.{Determined}
-use Rattle.command_words.specs.Made.{MakeValue as AskedValue, may_be_made}
 use Rattle.command_words.specs.Words.{IsMake}
-use Rattle.header_tool.specs.declared.refusal.MakeRefusal.TheVariants.{BadName, BadExt, LongText}
-use Rattle.header_tool.specs.Made.{MakeValue, spec_refusal}
+use Rattle.header_tool.specs.Made.{MakeValue}
 use Rattle.pacsat_cli.specs.declared.status.Status.{Status}
 use Rattle.pacsat_cli.specs.declared.status.Status.TheVariants as status
 use Rattle.pacsat_cli.specs.Making.{MakeEnd, MakeRan}
-use Rattle.pacsat_cli.specs.Tasks.{RunsMake, header_of}
-
--- nothing is refused where all tests are met
-none-refused : (a b c : Bool) → (a && b && c) ≡ true → (if not a then Some BadName else if not b then Some BadExt else if not c then Some LongText else None) ≡ None
-none-refused true true true e = refl
-none-refused true true false e = absurd (cc)
-none-refused true false c e = absurd (cc)
-none-refused false b c e = absurd (cc)
-
--- a header that words may ask for is one that can be made
-pub asked-made : (asked : AskedValue) → may_be_made asked ≡ true → spec_refusal (header_of asked) ≡ None
-asked-made asked e = none-refused _ _ _ e
-
--- all tests are met where nothing is refused
-refused-none : (a b c : Bool) → (if not a then Some BadName else if not b then Some BadExt else if not c then Some LongText else None) ≡ None → (a && b && c) ≡ true
-refused-none true true true e = refl
-refused-none true true false e = absurd (cc)
-refused-none true false c e = absurd (cc)
-refused-none false b c e = absurd (cc)
-
-pub made-asked : (asked : AskedValue) → spec_refusal (header_of asked) ≡ None → may_be_made asked ≡ true
-made-asked asked e = refused-none _ _ _ e
+use Rattle.pacsat_cli.specs.Tasks.{RunsMake}
 
 -- whether a make can end with this status
 abbrev pub is_make_status : Status → Bool
@@ -52,6 +29,8 @@ make-status IsFile name before now status.Refused h = absurd h
 make-status IsFile name before now status.Usage h = absurd h
 make-status IsFile name before now status.AirRead h = absurd h
 make-status IsFile name before now status.AirWrite h = absurd h
+make-status IsFile name before now status.Disk h = absurd h
+make-status IsFile name before now (status.BadStore why) h = absurd h
 make-status IsFile name before now status.Spent h = absurd h
 make-status IsFile name before now status.Out h = absurd h
 make-status IsFile name before now status.NotBuilt h = absurd h
@@ -63,12 +42,12 @@ module _ (spec : MakeValue) (body name : List ℕ) (before now : Option Holding)
 
 -- the words ask for this file alone
 pub make-runs :
-    {S : Type 0} (words : List (List ℕ)) (holds : S → Option Holding) (shelf shelf_now : S) (body name : List ℕ) (asked : AskedValue) (s : Status)
-    → IsMake words body name asked → Determined words → MakeRan (header_of asked) body name (holds shelf) (holds shelf_now) s
+    {S : Type 0} (words : List (List ℕ)) (holds : S → Option Holding) (shelf shelf_now : S) (body name : List ℕ) (asked : MakeValue) (s : Status)
+    → IsMake words body name asked → Determined words → MakeRan asked body name (holds shelf) (holds shelf_now) s
     → RunsMake words holds shelf shelf_now s
 make-runs words holds shelf shelf_now body name asked s is determined ran = λ other another later too.
     let same = determined.make body other name another asked later is too in
-    let at_body : List ℕ → Type 0 = λ b. MakeRan (header_of asked) b name (holds shelf) (holds shelf_now) s in
-    let at_name : List ℕ → Type 0 = λ n. MakeRan (header_of asked) other n (holds shelf) (holds shelf_now) s in
-    let at_asked : AskedValue → Type 0 = λ a. MakeRan (header_of a) other another (holds shelf) (holds shelf_now) s in
+    let at_body : List ℕ → Type 0 = λ b. MakeRan asked b name (holds shelf) (holds shelf_now) s in
+    let at_name : List ℕ → Type 0 = λ n. MakeRan asked other n (holds shelf) (holds shelf_now) s in
+    let at_asked : MakeValue → Type 0 = λ a. MakeRan a other another (holds shelf) (holds shelf_now) s in
     subst at_asked same.2 (subst at_name same.1 (subst at_body same.0 ran))

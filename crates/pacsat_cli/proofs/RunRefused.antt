@@ -1,14 +1,12 @@
 -- What a run did, where the words were refused.
-use Rattle.std.proofs.Common.{◌≡◌, ℕ, List, [], ◌∷◌, ◌++◌, refl, ap, sym, subst, ◌∙◌, inl, inr, append-nil, arith, Bool, true, false, Err}
-use Rattle.std.proofs.lemmas.List.{append_cancel_left}
+use Rattle.std.proofs.Common.{◌≡◌, ℕ, List, [], ◌∷◌, ◌++◌, refl, ap, sym, subst, ◌∙◌, inl, inr, arith, Bool, true, false, Err}
 use Rattle.std.specs.Prelude.{Option, None, Some, IfSome, Result}
-use Rattle.px_base.specs.CallSign.{CallSign}
-use Rattle.px_base.specs.Polling.{HasEnd}
 use Rattle.px_base.specs.Shelves.{Holding, content_of}
-use Rattle.px_base.specs.declared.air.Turn.{Turn}
+use Rattle.px_base.specs.declared.air.Air.{Ghosts as AirGhosts}
+use Rattle.disk_model.specs.declared.disk.Disk.{Ghosts}
+use Rattle.command_words.specs.declared.request.SessionRequest.{SessionRequest}
 use Rattle.px_base.proofs.Told.{Gains-none}
 use Rattle.command_words.specs.Laws.{OnlyOne}
-use Rattle.command_words.specs.Made.{MakeValue as AskedValue}
 use Rattle.command_words.specs.Words.{IsMake, IsSession, IsUnbuilt, IsUsage, NamesBuilt}
 use Rattle.command_words.specs.declared.request.Refusal.{Refusal}
 use Rattle.command_words.specs.declared.request.Refusal.TheVariants as refusal
@@ -18,10 +16,12 @@ use Rattle.pacsat_cli.specs.declared.status.Status.TheVariants as status
 use Rattle.pacsat_cli.specs.declared.files.FileCommand.{FileCommand}
 use Rattle.pacsat_cli.specs.Files.{FileEnd, FileShown, IsNoSuchBy, IsShownBy, IsTooLongBy}
 use Rattle.pacsat_cli.specs.Making.{IsMakeStatus, MakeRan}
-use Rattle.pacsat_cli.specs.Run.{IsDoneBy, IsNotBuiltBy, IsSpentBy, IsUnless, RunsSession, Shows, WhereHeard}
+use Rattle.pacsat_cli.specs.Run.{IsUnless, Shows}
+use Rattle.pacsat_cli.specs.Sessions.{HasDiskCause, HasStoreCause, IsDoneBy, IsNotBuiltBy, IsSpentBy, RunsSession, WhereHeard}
 use Rattle.pacsat_cli.specs.Status.{line_of}
 use Rattle.pacsat_cli.specs.Stops.{status_of_refusal}
-use Rattle.pacsat_cli.specs.Tasks.{AsksText, RunsFile, RunsMake, WhereHeld, header_of}
+use Rattle.pacsat_cli.specs.Tasks.{AsksText, RunsFile, RunsMake, WhereHeld}
+use Rattle.pacsat_cli.proofs.RunSession.{Early, early-complete, is_early_status}
 use Rattle.pacsat_cli.proofs.OneTask.{unbuilt-file, unbuilt-make, usage-file, usage-make}
 
 -- why words were refused
@@ -69,38 +69,52 @@ module _ (words : List (List ℕ)) (only : OnlyOne words) where
   refused-unread refusal.OutOfMemory h is = h
 
   -- words that ask for something that is built are refused only for want of memory
-  session-memory : (why : Refusal) → MeansOf words why → (caller : CallSign) (moment : Option ℕ) → IsSession words caller moment → status_of_refusal why ≡ status.OutOfMemory
-  session-memory refusal.Usage h caller moment is = absurd (only.usage_session h (caller, moment, is))
-  session-memory refusal.NotBuilt h caller moment is = absurd (only.unbuilt_session h (caller, moment, is))
-  session-memory refusal.OutOfMemory h caller moment is = refl
+  session-memory : (why : Refusal) → MeansOf words why → (asked : SessionRequest) → IsSession words asked → status_of_refusal why ≡ status.OutOfMemory
+  session-memory refusal.Usage h asked is = absurd (only.usage_session h (asked, is))
+  session-memory refusal.NotBuilt h asked is = absurd (only.unbuilt_session h (asked, is))
+  session-memory refusal.OutOfMemory h asked is = refl
 
   file-memory : (why : Refusal) → MeansOf words why → (command : FileCommand) (name : List ℕ) → AsksText words command name → status_of_refusal why ≡ status.OutOfMemory
   file-memory refusal.Usage h command name is = absurd (usage-file words only h (command, name, is))
   file-memory refusal.NotBuilt h command name is = absurd (unbuilt-file words only h (command, name, is))
   file-memory refusal.OutOfMemory h command name is = refl
 
-  make-memory : (why : Refusal) → MeansOf words why → (body name : List ℕ) (asked : AskedValue) → IsMake words body name asked → status_of_refusal why ≡ status.OutOfMemory
+  make-memory : (why : Refusal) → MeansOf words why → (body name : List ℕ) (asked : MakeValue) → IsMake words body name asked → status_of_refusal why ≡ status.OutOfMemory
   make-memory refusal.Usage h body name asked is = absurd (usage-make words only h (body, name, asked, is))
   make-memory refusal.NotBuilt h body name asked is = absurd (unbuilt-make words only h (body, name, asked, is))
   make-memory refusal.OutOfMemory h body name asked is = refl
 
   module _ (why : Refusal) (h : MeansOf words why) where
-    module _ {A C : Type 0} (heard : A → Option (List Turn)) (said : A → Option (List ℕ)) (given : C → Option (List ℕ)) (air : A) (clock : C) where
-      pub refused-session : RunsSession words heard said given air air clock clock (status_of_refusal why)
-      refused-session = λ request is. inl (session-memory why h request.caller request.moment is, refl, refl)
+    module _ {A : Type 0} (air : AirGhosts A) (before : A) where
+      pub refused-session : {C D : Type 0} (g : Ghosts D) (given : C → Option (List ℕ)) (disk : D) (clock : C) → RunsSession words g air given disk disk before before clock clock (status_of_refusal why)
+      refused-session g given disk clock = λ asked is. inl ((session-memory why h asked is, refl, refl), refl)
 
-      -- where nothing was heard, there is no end
-      pub refused-complete : WhereHeard words heard given air air clock clock (IsDoneBy (status_of_refusal why))
-      refused-complete = λ told end.
-          let all : told.earlier ++ [] ≡ told.earlier ++ told.turns = (let same = sym told.told_before ∙ told.told_now in let nil = append-nil told.earlier in cc) in
-          let P : List Turn → Type 0 = λ x. HasEnd x in
-          absurd (subst P (sym (append_cancel_left told.earlier [] told.turns all)) end)
+      -- words that ask for a session were refused before anything was heard
+      early : (asked : SessionRequest) → IsSession words asked → Early before before (status_of_refusal why)
+      early asked is = record { kind = ap is_early_status (session-memory why h asked is); same = refl }
 
-      pub refused-not_built : WhereHeard words heard given air air clock clock (IsNotBuiltBy (status_of_refusal why))
-      refused-not_built = λ told some. inr (1, omega arith, sym (session-memory why h told.caller told.moment told.asks))
+      pub refused-complete : WhereHeard words air.heard before before (IsDoneBy (status_of_refusal why))
+      refused-complete = λ told. early-complete air before before (status_of_refusal why) words (early told.asked told.asks) told
 
-      pub refused-spent : WhereHeard words heard given air air clock clock (IsSpentBy (status_of_refusal why))
-      refused-spent = λ told counted all_open built. inr (1, omega arith, sym (session-memory why h told.caller told.moment told.asks))
+      pub refused-not_built : WhereHeard words air.heard before before (IsNotBuiltBy (status_of_refusal why))
+      refused-not_built = λ told some. inr (2, omega arith, sym (session-memory why h told.asked told.asks))
+
+      pub refused-spent : WhereHeard words air.heard before before (IsSpentBy (status_of_refusal why))
+      refused-spent = λ told counted all_open built. inr (2, omega arith, sym (session-memory why h told.asked told.asks))
+
+    -- a disk that stayed has no cause
+    pub refused-disk : {A D : Type 0} (reads writes : D → ℕ) (disk : D) (before : A) → HasDiskCause words reads writes disk disk before before (status_of_refusal why)
+    refused-disk reads writes disk before = record {
+      asked = λ e. absurd (refused-not why status.Disk refl e);
+      rose = λ e. absurd (refused-not why status.Disk refl e);
+      same = λ _. (refl, refl);
+    }
+
+    pub refused-bad_store : (content : Option (List ℕ)) → HasStoreCause words content (status_of_refusal why)
+    refused-bad_store content = record {
+      asked = λ bad e. absurd (refused-not why (status.BadStore bad) refl e);
+      exact = λ asked is named disk_not memory_not. absurd (memory_not (session-memory why h asked is));
+    }
 
     -- want of memory says nothing of the content
     memory_end : (command : FileCommand) (held : Option Holding) (name : List ℕ) → IfSome held (λ shelf. FileEnd command (content_of shelf name) [] status.OutOfMemory)
@@ -143,6 +157,6 @@ module _ (words : List (List ℕ)) (only : OnlyOne words) where
 
     pub refused-made : {S : Type 0} (holds : S → Option Holding) (shelf : S) → RunsMake words holds shelf shelf (status_of_refusal why)
     refused-made holds shelf = λ body name asked is.
-        let at_status : Status → Type 0 = λ s. MakeRan (header_of asked) body name (holds shelf) (holds shelf) s in
+        let at_status : Status → Type 0 = λ s. MakeRan asked body name (holds shelf) (holds shelf) s in
         subst at_status (sym (make-memory why h body name asked is))
-        (record { ends = refl; told = memory_status (header_of asked) body (holds shelf) })
+        (record { ends = refl; told = memory_status asked body (holds shelf) })

@@ -1,193 +1,405 @@
 -- What a run did, where the words ask for a session.
-use Rattle.std.proofs.Common.{◌≡◌, ℕ, List, [], ◌∷◌, ◌++◌, refl, ap, sym, subst, ◌∙◌, inl, inr, Bool, true, false, arith}
+use Rattle.std.proofs.Common.{◌≡◌, ℕ, ◌≤◌, List, [], ◌∷◌, ◌++◌, refl, ap, sym, subst, ◌∙◌, inl, inr, Bool, true, false, arith, append-nil, length}
 use Rattle.std.proofs.lemmas.List.{append_cancel_left}
-use Rattle.std.specs.List.{AllByRecursion}
-use Rattle.std.specs.Prelude.{Option, Some, None, IsSome, Result, Ok, Err}
+use Rattle.std.specs.Prelude.{◌⊎◌, Option, Some, None, IsSome, IfSome, Result, Ok, Err, IsErrOf}
 use Rattle.px_base.specs.CallSign.{CallSign}
-use Rattle.px_base.specs.Moments.{MomentsOf, TellsMoments}
-use Rattle.px_base.specs.Outside.{Grows}
-use Rattle.px_base.specs.Polling.{EndsWith, HasEnd, IsOpen}
+use Rattle.px_base.specs.Outside.{Rose}
+use Rattle.px_base.specs.Polling.{HasEnd, HearsAll, octets_heard}
+use Rattle.px_base.specs.declared.air.Air.{Ghosts as AirGhosts}
 use Rattle.px_base.specs.declared.air.Turn.{Turn}
-use Rattle.px_base.specs.declared.air.Turn.TheVariants as turn
-use Rattle.ftl0_packets.specs.Laws.{IsOneStream}
+use Rattle.disk_model.specs.declared.disk.Disk.{Ghosts}
+use Rattle.ftl0_packets.specs.Laws.{IsOneStream, IsReadAsStream}
 use Rattle.ftl0_packets.specs.Layout.{Item}
-use Rattle.command_words.specs.Laws.{Determined}
-use Rattle.command_words.specs.Words.{IsSession}
+use Rattle.ftl0_packets.specs.Reading.{packets_of, rest_of}
+use Rattle.ftl0_packets.specs.Stream.{Stream}
+use Rattle.ftl0_packets.proofs.OctetLemmas.{IsOctets-nil}
+use Rattle.file_entries.specs.Command.{Command}
+use Rattle.file_entries.specs.Store.{Store, empty_store}
+use Rattle.file_journal.specs.Walk.{damaged_at, no_store}
+use Rattle.file_store.specs.State.{standing_of}
+use Rattle.file_store.specs.declared.refusals.StoreFault.{StoreFault}
+use Rattle.file_store.specs.declared.refusals.StoreFault.TheVariants as fault
+use Rattle.ftl0_server.specs.Events.{packets_in}
+use Rattle.server_node.specs.SessionRan.{SessionEnds, SessionRan}
+use Rattle.server_node.specs.Stops.{CountsBy, EndsExactly, stop_of_fault}
+use Rattle.server_node.specs.declared.stop.NodeStop.{NodeStop}
+use Rattle.server_node.specs.declared.stop.NodeStop.TheVariants as stop
+use Rattle.server_node.specs.declared.terms.Served.{Served}
+use Rattle.command_words.specs.declared.disk.DiskWord.{DiskWord}
+use Rattle.command_words.specs.declared.disk.DiskWord.TheVariants.{Fresh, Named}
 use Rattle.command_words.specs.declared.request.SessionRequest.{SessionRequest}
-use Rattle.pacsat_cli.specs.declared.node.NodeStop.{NodeStop}
-use Rattle.pacsat_cli.specs.declared.node.NodeStop.TheVariants as stop
-use Rattle.pacsat_cli.specs.declared.node.Served.{Served}
+use Rattle.command_words.specs.Laws.{AsksSession, Determined}
+use Rattle.command_words.specs.Numbers.{IsNumberOr}
+use Rattle.command_words.specs.Words.{IsSession}
+use Rattle.pacsat_cli.specs.declared.status.BadStore.{BadStore}
+use Rattle.pacsat_cli.specs.declared.status.BadStore.TheVariants as bad
 use Rattle.pacsat_cli.specs.declared.status.Status.{Status}
 use Rattle.pacsat_cli.specs.declared.status.Status.TheVariants as status
-use Rattle.pacsat_cli.specs.Events.{Brings, Event}
-use Rattle.pacsat_cli.specs.Run.{AsksMoment, HasStatusCause, IsDoneAtEnd, IsDoneBy, IsNotBuiltBy, IsSpentBy, RunsSession, SessionEnded, SessionHeard, WhereHeard, most_polls, store_blocks}
-use Rattle.pacsat_cli.specs.SessionRan.{SaidBy, TurnsBy, session_text, session_unbuilt}
-use Rattle.pacsat_cli.specs.Stops.{status_of}
-use Rattle.pacsat_cli.proofs.EventLemmas.{brings-only, brings-same}
+use Rattle.pacsat_cli.specs.Run.{HasStatusCause, IsUnless}
+use Rattle.pacsat_cli.specs.Sessions.{AsksDisk, AsksFresh, AsksMoment, HasDiskCause, HasStoreCause, HasWriteCause, InMemory, IsDoneAtEnd, IsDoneBy, IsNotBuiltBy, IsOver, IsSpentBy, OverDisk, OverNamed, ReadsEnd, RefusesExactly, RunsSession, SessionHeard, WhereHeard, has_unbuilt, run_terms}
+use Rattle.pacsat_cli.specs.Stops.{status_in_memory, status_of}
+use Rattle.pacsat_cli.proofs.Ended.{damaged-end, disk-end, done_by, heard-not_bad, memory-not_disk, mended, mended-disk, mended-memory, not_a_store-end, not_built_by, read_cause, reads_end, spent_by, told-same, write_cause}
 
 -- whether a session can end with this status
 abbrev pub is_session_status : Status → Bool
 is_session_status status.Done = true
 is_session_status status.AirRead = true
 is_session_status status.AirWrite = true
+is_session_status status.Disk = true
+is_session_status (status.BadStore why) = true
 is_session_status status.OutOfMemory = true
 is_session_status status.Spent = true
 is_session_status status.NotBuilt = true
 is_session_status s = false
 
-pub status_of-session : (ended : Result Served NodeStop) → is_session_status (status_of ended) ≡ true
-status_of-session (Ok served) = refl
-status_of-session (Err (stop.NotBuilt kind)) = refl
-status_of-session (Err stop.AirRead) = refl
-status_of-session (Err stop.AirWrite) = refl
-status_of-session (Err stop.Spent) = refl
-status_of-session (Err stop.OutOfMemory) = refl
+mended-session : (memory : Bool) (ended : Result Served NodeStop) → is_session_status (mended memory (status_of ended)) ≡ true
+mended-session memory (Ok served) = refl
+mended-session memory (Err stop.AirRead) = refl
+mended-session memory (Err stop.AirWrite) = refl
+mended-session true (Err stop.Disk) = refl
+mended-session false (Err stop.Disk) = refl
+mended-session memory (Err (stop.NotAStore found)) = refl
+mended-session memory (Err (stop.Damaged at)) = refl
+mended-session memory (Err stop.Spent) = refl
+mended-session memory (Err (stop.NotBuilt kind)) = refl
+mended-session memory (Err stop.OutOfMemory) = refl
 
--- a moment is given where the words give one
-pub asked_moment : (words : List (List ℕ)) (caller : CallSign) (moment : Option ℕ) → IsSession words caller moment → Determined words → AsksMoment words → IsSome moment
-asked_moment words caller moment asks determined given =
-    let same = determined.session caller given.0 moment (Some given.1) asks given.2 in
-    let P : Option ℕ → Type 0 = λ m. IsSome m in
-    subst P (sym same.1) refl
+-- whether a session can end with this status before anything is heard or said
+abbrev pub is_early_status : Status → Bool
+is_early_status status.Disk = true
+is_early_status (status.BadStore why) = true
+is_early_status status.OutOfMemory = true
+is_early_status s = false
 
--- open turns have no end
-open-no_end : (turns : List Turn) → AllByRecursion IsOpen turns → HasEnd turns → ⊥
-open-no_end [] h e = e
-open-no_end ((turn.Bytes octets) ∷ turns) h e = open-no_end turns h.1 e
-open-no_end (turn.Quiet ∷ turns) h e = open-no_end turns h.1 e
-open-no_end (turn.Fail ∷ turns) h e = h.0
-open-no_end (turn.End ∷ turns) h e = h.0
+fault-early : (why : StoreFault) → is_early_status (status_of (Err (stop_of_fault why))) ≡ true
+fault-early (fault.NotAStore found) = refl
+fault-early (fault.Damaged at) = refl
+fault-early fault.Disk = refl
+fault-early fault.OutOfMemory = refl
 
--- nor have open ones with a failed one after them
-failed-no_end : (earlier : List Turn) → AllByRecursion IsOpen earlier → HasEnd (earlier ++ turn.Fail ∷ []) → ⊥
-failed-no_end [] h e = e
-failed-no_end ((turn.Bytes octets) ∷ turns) h e = failed-no_end turns h.1 e
-failed-no_end (turn.Quiet ∷ turns) h e = failed-no_end turns h.1 e
-failed-no_end (turn.Fail ∷ turns) h e = h.0
-failed-no_end (turn.End ∷ turns) h e = h.0
+early-session : (s : Status) → is_early_status s ≡ true → is_session_status s ≡ true
+early-session status.Disk e = refl
+early-session (status.BadStore why) e = refl
+early-session status.OutOfMemory e = refl
+early-session status.Done e = refl
+early-session status.AirRead e = refl
+early-session status.AirWrite e = refl
+early-session status.Spent e = refl
+early-session status.NotBuilt e = refl
+early-session status.Refused e = absurd (cc)
+early-session status.Usage e = absurd (cc)
+early-session status.NoSuch e = absurd (cc)
+early-session status.Out e = absurd (cc)
+early-session status.Shelf e = absurd (cc)
+early-session status.TooLong e = absurd (cc)
 
--- where the end was heard, the run is done
-done_by : (ended : Result Served NodeStop) (polls : ℕ) (turns : List Turn) (unbuilt : Option Item) → TurnsBy ended polls turns → IsDoneBy (status_of ended) turns unbuilt
-done_by (Ok served) polls turns unbuilt h end = refl
-done_by (Err stop.AirRead) polls turns unbuilt h end = let P : List Turn → Type 0 = λ x. HasEnd x in absurd (failed-no_end h.0 h.2 (subst P h.1 end))
-done_by (Err stop.AirWrite) polls turns unbuilt h end = absurd (open-no_end turns h end)
-done_by (Err stop.Spent) polls turns unbuilt h end = absurd (open-no_end turns h.1 end)
-done_by (Err (stop.NotBuilt kind)) polls turns unbuilt h end = absurd (open-no_end turns h end)
-done_by (Err stop.OutOfMemory) polls turns unbuilt h end = absurd (open-no_end turns h end)
+-- Nothing was heard or said, and the session ended early.
+pub record Early {A : Type 0} (before now : A) (s : Status) : Type 0 where
+  pub kind : is_early_status s ≡ true
+  pub same : now ≡ before
 
--- each row is built, and one isn't
-built-not : (unbuilt : Option Item) → unbuilt ≡ None → IsSome unbuilt → ⊥
-built-not None none some = absurd (cc)
-built-not (Some item) none some = absurd (cc)
+-- The session was served, over the disk or over one in memory.
+pub record Heard {A : Type 0} (air : AirGhosts A) (polls : ℕ) (memory : Bool) (before now : A) (s : Status) : Type 0 where
+  pub ended : Result Served NodeStop
+  pub caller : CallSign
+  pub start : Store
+  pub turns : List Turn
+  pub moments : List ℕ
+  pub text : List ℕ
+  pub done : List Command
+  pub cut : List Command
+  pub turns_heard : HearsAll (air.heard before) (air.heard now) turns
+  pub ran : SessionRan caller moments start polls turns (air.write_faults before) (air.write_faults now) text done cut ended
+  pub counts : CountsBy ended (air.read_faults before) (air.read_faults now) (air.write_faults before) (air.write_faults now)
+  pub status_is : s ≡ mended memory (status_of ended)
 
--- where a packet's row isn't built, the run is not built, but for a fault of saying or want of memory
-not_built_by : (ended : Result Served NodeStop) (all : List Event → List ℕ) (unbuilt : List Event → Option Item) (events : List Event) (turns : List Turn) (text : List ℕ) → SaidBy ended all unbuilt events text → IsNotBuiltBy (status_of ended) turns (unbuilt events)
-not_built_by (Ok served) all unbuilt events turns text h some = absurd (built-not (unbuilt events) h.0 some)
-not_built_by (Err stop.AirRead) all unbuilt events turns text h some = absurd (built-not (unbuilt events) h.0 some)
-not_built_by (Err stop.AirWrite) all unbuilt events turns text h some = inr (0, omega arith, refl)
-not_built_by (Err stop.Spent) all unbuilt events turns text h some = absurd (built-not (unbuilt events) h.0 some)
-not_built_by (Err (stop.NotBuilt kind)) all unbuilt events turns text h some = inl refl
-not_built_by (Err stop.OutOfMemory) all unbuilt events turns text h some = inr (1, omega arith, refl)
+module _ (words : List (List ℕ)) (asked : SessionRequest) (asks : IsSession words asked) where
+  -- a number of the words is in its range
+  in_range : (otherwise low high : ℕ) (value : Option (List ℕ)) (number : ℕ) → low ≤ otherwise → otherwise ≤ high → IsNumberOr otherwise low high value number → (low ≤ number) × (number ≤ high)
+  in_range otherwise low high None number least most h = omega (arith, least, most, h)
+  in_range otherwise low high (Some text) number least most h = (h.least, h.most)
 
--- turns that end with a turn that isn't open aren't open ones
-closed-not_open : (earlier : List Turn) (last : Turn) → AllByRecursion IsOpen (earlier ++ last ∷ []) → IsOpen last
-closed-not_open [] last h = h.0
-closed-not_open (t ∷ earlier) last h = closed-not_open earlier last h.1
+  pub some_blocks : 1 ≤ asked.blocks
+  some_blocks = (in_range _ _ _ _ asked.blocks (omega arith) (omega arith) asks.text.given.blocks_given).0
 
-ends_with-not_open : (turns : List Turn) (last : Turn) → EndsWith turns last → AllByRecursion IsOpen turns → IsOpen last
-ends_with-not_open turns last h all_open =
-    let P : List Turn → Type 0 = λ x. AllByRecursion IsOpen x in
-    closed-not_open h.0 last (subst P h.1 all_open)
+  pub most_blocks : asked.blocks ≤ 65536
+  most_blocks = (in_range _ _ _ _ asked.blocks (omega arith) (omega arith) asks.text.given.blocks_given).1
 
--- where all turns are open ones and each row is built, the run is spent, but for a fault of saying or want of memory
-spent_by : (ended : Result Served NodeStop) (polls : ℕ) (all : List Event → List ℕ) (unbuilt : List Event → Option Item) (events : List Event) (turns : List Turn) (text : List ℕ) → TurnsBy ended polls turns → SaidBy ended all unbuilt events text → IsSpentBy (status_of ended) turns (unbuilt events)
-spent_by (Ok served) polls all unbuilt events turns text h said count all_open built = absurd (ends_with-not_open turns turn.End h.0 all_open)
-spent_by (Err stop.AirRead) polls all unbuilt events turns text h said count all_open built = absurd (ends_with-not_open turns turn.Fail h all_open)
-spent_by (Err stop.AirWrite) polls all unbuilt events turns text h said count all_open built = inr (0, omega arith, refl)
-spent_by (Err stop.Spent) polls all unbuilt events turns text h said count all_open built = inl refl
-spent_by (Err (stop.NotBuilt kind)) polls all unbuilt events turns text h said count all_open built = absurd (let e = sym said.1 ∙ built in cc)
-spent_by (Err stop.OutOfMemory) polls all unbuilt events turns text h said count all_open built = inr (1, omega arith, refl)
+  pub some_polls : 1 ≤ asked.polls
+  some_polls = (in_range _ _ _ _ asked.polls (omega arith) (omega arith) asks.text.given.polls_given).0
 
--- what is told to have come since is what came
-told-same : {X : Type 0} (before now : Option (List X)) (earlier xs ys : List X) → before ≡ Some earlier → now ≡ Some (earlier ++ xs) → Grows before now ys → ys ≡ xs
-told-same {X} before now earlier xs ys e f h =
-    let P : Option (List X) → Type 0 = λ o. Grows before o ys in
-    let told = subst P f h in
-    let first : earlier ≡ told.0 = (let same = sym e ∙ told.1 in cc) in
-    sym (append_cancel_left told.0 xs ys (ap (λ x. x ++ xs) (sym first) ∙ told.2))
+  -- a moment is given where the words give one
+  pub asked_moment : Determined words → AsksMoment words → IsSome asked.moment
+  asked_moment determined given =
+      let same = determined.session asked given.0 asks given.1 in
+      let P : Option ℕ → Type 0 = λ m. IsSome m in
+      subst P (sym (ap (λ (r : SessionRequest). r.moment) same ∙ given.2.1)) refl
 
--- turns bring the same events at the moments that are told as at those that they had
-events-same : IsOneStream → (moment : Option ℕ) (given given_now : Option (List ℕ)) (turns : List Turn) (told moments : List ℕ) (events others : List Event) (rest left : List ℕ) → TellsMoments moment given given_now told → MomentsOf moment given given_now moments → Brings [] turns told events rest → Brings [] turns moments others left → others ≡ events
-events-same law None given given_now turns told moments events others rest left h k brings brought =
-    let P : List ℕ → Type 0 = λ ms. Brings [] turns ms others left in
-    brings-only law [] turns told others events left rest (subst P (told-same given given_now h.0 told moments h.1 h.2 k) brought) brings
-events-same law (Some moment) given given_now turns told moments events others rest left h k brings brought =
-    brings-same law [] turns moment moments told others events left rest k.0 h brought brings
+-- nothing is heard of no octets
+none-heard : IsReadAsStream → IsOneStream → (packets : List Item) (rest : List ℕ) → Stream [] packets rest → has_unbuilt packets ≡ false
+unfolding packets_of
+none-heard read law packets rest h =
+    let nothing : Stream [] [] (rest_of []) = read [] IsOctets-nil in
+    ap has_unbuilt (law [] packets [] rest (rest_of []) h nothing).0
 
--- where the end of the air was read
-reads_end : (ended : Result Served NodeStop) (polls : ℕ) (turns : List Turn) → TurnsBy ended polls turns → status_of ended ≡ status.Done → EndsWith turns turn.End
-reads_end (Ok served) polls turns h done = h.0
-reads_end (Err stop.AirRead) polls turns h done = absurd (cc)
-reads_end (Err stop.AirWrite) polls turns h done = absurd (cc)
-reads_end (Err stop.Spent) polls turns h done = absurd (cc)
-reads_end (Err (stop.NotBuilt kind)) polls turns h done = absurd (cc)
-reads_end (Err stop.OutOfMemory) polls turns h done = absurd (cc)
+module _ {A : Type 0} (air : AirGhosts A) (before now : A) (s : Status) (words : List (List ℕ)) where
+  -- where all stayed no turns were heard
+  no-turns : now ≡ before → (told : SessionHeard words air.heard before now) → told.turns ≡ []
+  no-turns same told =
+      let P : A → Type 0 = λ a. air.heard a ≡ Some (told.earlier ++ told.turns) in
+      let all : told.earlier ++ [] ≡ told.earlier ++ told.turns = (let one = sym told.told_before ∙ subst P same told.told_now in let nil = append-nil told.earlier in cc) in
+      sym (append_cancel_left told.earlier [] told.turns all)
 
-module _ {A C : Type 0} (heard : A → Option (List Turn)) (said : A → Option (List ℕ)) (given : C → Option (List ℕ)) (before now : A) (clock clock_n : C) (request : SessionRequest) (s : Status) (ended : SessionEnded heard said given before now clock clock_n request s) where
-  -- no session ends with another command's status
-  pub session-not : (other : Status) → is_session_status other ≡ false → s ≡ other → ⊥
-  session-not other isnt is = let yes = status_of-session ended.0 in let same = ap is_session_status (sym is ∙ ended.2) in absurd (cc)
+  module _ (early : Early before now s) where
+    pub early-not : (other : Status) → is_session_status other ≡ false → s ≡ other → ⊥
+    early-not other isnt is = let yes = early-session s early.kind in let same = ap is_session_status is in absurd (cc)
 
-  -- where it is done, the end of the air was read, and no count rose
-  pub session-done : (words : List (List ℕ)) (reads writes : A → ℕ) → HasStatusCause status.AirRead (reads before) (reads now) s → HasStatusCause status.AirWrite (writes before) (writes now) s → IsDoneAtEnd words heard reads writes before now s
-  session-done words reads writes read write asks done = (
-    (ended.1.turns, ended.1.turns_heard, reads_end ended.0 most_polls ended.1.turns ended.1.ran.ends (sym ended.2 ∙ done)),
-    read.same (λ e. let other = sym done ∙ e in cc),
-    write.same (λ e. let other = sym done ∙ e in cc),
-  )
+    pub early-complete : WhereHeard words air.heard before now (IsDoneBy s)
+    early-complete = λ told end. let P : List Turn → Type 0 = λ x. HasEnd x in absurd (subst P (no-turns early.same told) end)
 
-  module _ (words : List (List ℕ)) (asks : IsSession words request.caller request.moment) (determined : Determined words) where
-    -- the words ask for this session alone
-    pub session-runs : RunsSession words heard said given before now clock clock_n s
-    session-runs = λ other is.
-        let same = determined.session request.caller other.caller request.moment other.moment asks is in
-        let at_caller : CallSign → Type 0 = λ x. SessionEnded heard said given before now clock clock_n (record { caller = x; moment = request.moment }) s in
-        let at_moment : Option ℕ → Type 0 = λ x. SessionEnded heard said given before now clock clock_n (record { caller = other.caller; moment = x }) s in
-        inr (subst at_moment same.1 (subst at_caller same.0 ended))
+    pub early-not_built : IsReadAsStream → IsOneStream → WhereHeard words air.heard before now (IsNotBuiltBy s)
+    early-not_built read law = λ told some.
+        let P : List Turn → Type 0 = λ x. Stream (octets_heard x) told.packets told.rest in
+        let none = none-heard read law told.packets told.rest (subst P (no-turns early.same told) told.stream) in
+        absurd (let e = sym some ∙ none in cc)
 
-    module _ (law : IsOneStream) (told : SessionHeard words heard given before now clock clock_n) where
-      -- the turns that are told are those that were heard, and they bring the same events
-      turns_told : ended.1.turns ≡ told.turns
-      turns_told = told-same (heard before) (heard now) told.earlier told.turns ended.1.turns told.told_before told.told_now ended.1.turns_heard
+    pub early-spent : WhereHeard words air.heard before now (IsSpentBy s)
+    early-spent = λ told count all_open built.
+        let some = some_polls words told.asked told.asks in
+        let none = ap length (no-turns early.same told) in
+        absurd (omega (arith, some, none, count))
 
-      unbuilt_told : session_unbuilt request.caller store_blocks ended.1.ran.events ≡ session_unbuilt told.caller store_blocks told.events
-      unbuilt_told =
-          let same = determined.session request.caller told.caller request.moment told.moment asks told.asks in
-          let at_turns : List Turn → Type 0 = λ x. Brings [] x ended.1.moments ended.1.ran.events ended.1.ran.rest in
-          let at_moment : Option ℕ → Type 0 = λ m. MomentsOf m (given clock) (given clock_n) ended.1.moments in
-          ap (λ call. session_unbuilt call store_blocks ended.1.ran.events) same.0
-          ∙ ap (session_unbuilt told.caller store_blocks)
-          (events-same law told.moment (given clock) (given clock_n) told.turns told.moments ended.1.moments told.events ended.1.ran.events told.rest ended.1.ran.rest
-          told.told_moments (subst at_moment same.1 ended.1.moments_given) told.brings (subst at_turns turns_told ended.1.ran.brings))
+    pub early-read : HasStatusCause status.AirRead (air.read_faults before) (air.read_faults now) s
+    early-read = record {
+      rose = λ e. let other = ap is_early_status e in let yes = early.kind in absurd (cc);
+      same = λ _. ap air.read_faults early.same;
+    }
+
+    pub early-write : HasWriteCause words (air.write_faults before) (air.write_faults now) s
+    early-write = record {
+      rose = λ e. let other = ap is_early_status e in let yes = early.kind in absurd (cc);
+      same = λ _ _ _. ap air.write_faults early.same;
+    }
+
+  module _ (polls : ℕ) (memory : Bool) (h : Heard air polls memory before now s) where
+    pub heard-not : (other : Status) → is_session_status other ≡ false → s ≡ other → ⊥
+    heard-not other isnt is = let yes = mended-session memory h.ended in let same = ap is_session_status (sym is ∙ h.status_is) in absurd (cc)
+
+    pub heard-read : HasStatusCause status.AirRead (air.read_faults before) (air.read_faults now) s
+    heard-read =
+        let P : Status → Type 0 = λ t. HasStatusCause status.AirRead (air.read_faults before) (air.read_faults now) t in
+        subst P (sym h.status_is) (read_cause memory h.ended (air.read_faults before) (air.read_faults now) (air.write_faults before) (air.write_faults now) h.counts)
+
+    pub heard-write : (memory ≡ true → AsksFresh words) → HasWriteCause words (air.write_faults before) (air.write_faults now) s
+    heard-write fresh =
+        let P : Status → Type 0 = λ t. HasWriteCause words (air.write_faults before) (air.write_faults now) t in
+        subst P (sym h.status_is) (write_cause memory words h.ended (air.read_faults before) (air.read_faults now) (air.write_faults before) (air.write_faults now) fresh h.counts)
+
+    pub heard-end : s ≡ status.Done → ReadsEnd (air.heard before) (air.heard now)
+    heard-end done = (h.turns, h.turns_heard, reads_end memory h.ended polls h.turns h.ran.ends (sym h.status_is ∙ done))
+
+    module _ (law : IsOneStream) (told : SessionHeard words air.heard before now) where
+      turns_told : h.turns ≡ told.turns
+      turns_told = told-same (air.heard before) (air.heard now) told.earlier told.turns h.turns told.told_before told.told_now h.turns_heard
+
+      packets_told : packets_in h.ran.events ≡ told.packets
+      packets_told =
+          let P : List Turn → Type 0 = λ x. Stream (octets_heard x) (packets_in h.ran.events) h.ran.rest in
+          (law (octets_heard told.turns) (packets_in h.ran.events) told.packets h.ran.rest told.rest (subst P turns_told h.ran.stream) told.stream).0
 
       -- what holds of the session's end holds of the status, by what is told
-      by_told : (P : Status → List Turn → Option Item → Type 0) → P (status_of ended.0) ended.1.turns (session_unbuilt request.caller store_blocks ended.1.ran.events) → P s told.turns (session_unbuilt told.caller store_blocks told.events)
-      by_told P h =
-          let at_status : Status → Type 0 = λ x. P x told.turns (session_unbuilt told.caller store_blocks told.events) in
-          let at_turns : List Turn → Type 0 = λ x. P (status_of ended.0) x (session_unbuilt told.caller store_blocks told.events) in
-          let at_unbuilt : Option Item → Type 0 = λ x. P (status_of ended.0) ended.1.turns x in
-          subst at_status (sym ended.2) (subst at_turns turns_told (subst at_unbuilt unbuilt_told h))
+      by_told : (P : Status → ℕ → List Turn → List Item → Type 0) → P (mended memory (status_of h.ended)) told.asked.polls h.turns (packets_in h.ran.events) → P s told.asked.polls told.turns told.packets
+      by_told P k =
+          let at_status : Status → Type 0 = λ x. P x told.asked.polls told.turns told.packets in
+          let at_turns : List Turn → Type 0 = λ x. P (mended memory (status_of h.ended)) told.asked.polls x told.packets in
+          let at_packets : List Item → Type 0 = λ x. P (mended memory (status_of h.ended)) told.asked.polls h.turns x in
+          subst at_status (sym h.status_is) (subst at_turns turns_told (subst at_packets packets_told k))
 
-    pub session-complete : IsOneStream → WhereHeard words heard given before now clock clock_n (IsDoneBy s)
-    session-complete law = λ told.
-        by_told law told IsDoneBy (done_by ended.0 most_polls ended.1.turns (session_unbuilt request.caller store_blocks ended.1.ran.events) ended.1.ran.ends)
+    pub heard-complete : IsOneStream → WhereHeard words air.heard before now (IsDoneBy s)
+    heard-complete law = λ told. by_told law told IsDoneBy (done_by memory h.ended polls told.asked.polls h.turns (packets_in h.ran.events) h.ran.ends)
 
-    pub session-not_built : IsOneStream → WhereHeard words heard given before now clock clock_n (IsNotBuiltBy s)
-    session-not_built law = λ told.
-        by_told law told IsNotBuiltBy
-        (not_built_by ended.0 (session_text request.caller ended.1.moments store_blocks) (session_unbuilt request.caller store_blocks) ended.1.ran.events ended.1.turns ended.1.text ended.1.ran.said)
+    pub heard-not_built : IsOneStream → WhereHeard words air.heard before now (IsNotBuiltBy s)
+    heard-not_built law = λ told. by_told law told IsNotBuiltBy (not_built_by memory h.caller h.moments h.start h.ran.events _ _ h.turns h.text h.done h.cut h.ended polls told.asked.polls h.ran.ends h.ran.said)
 
-    pub session-spent : IsOneStream → WhereHeard words heard given before now clock clock_n (IsSpentBy s)
-    session-spent law = λ told.
-        by_told law told IsSpentBy
-        (spent_by ended.0 most_polls (session_text request.caller ended.1.moments store_blocks) (session_unbuilt request.caller store_blocks) ended.1.ran.events ended.1.turns ended.1.text ended.1.ran.ends ended.1.ran.said)
+    pub heard-spent : IsOneStream → WhereHeard words air.heard before now (IsSpentBy s)
+    heard-spent law = λ told. by_told law told IsSpentBy (spent_by memory h.caller h.moments h.start h.ran.events _ _ h.turns h.text h.done h.cut h.ended polls told.asked.polls h.ran.ends h.ran.said)
+
+-- How it was: early, or heard.
+abbrev pub Was : {A : Type 0} → AirGhosts A → ℕ → DiskWord → A → A → Status → Type 0
+Was air polls Named before now s = Early before now s ⊎ Heard air polls false before now s
+Was air polls Fresh before now s = Early before now s ⊎ Heard air polls true before now s
+
+module _ {A C D : Type 0} (g : Ghosts D) (air : AirGhosts A) (given : C → Option (List ℕ)) (disk disk_now : D) (before now : A) (clock clock_n : C) (asked : SessionRequest) (s : Status) where
+  was-by : (word : DiskWord) → OverNamed word g air given disk disk_now before now clock clock_n (run_terms asked) s → Was air asked.polls word before now s
+  was-by Named over =
+      elim over.ends [
+        | inl refused ↦ inl (record { kind = ap is_early_status (over.status_is ∙ ap status_of refused.answer) ∙ fault-early refused.fault; same = refused.air })
+        | inr served ↦
+            inr
+            (record {
+              ended = over.ended;
+              caller = asked.caller;
+              start = served.start;
+              turns = served.turns;
+              moments = served.moments;
+              text = served.text;
+              done = served.done;
+              cut = served.cut;
+              turns_heard = served.turns_heard;
+              ran = served.ran;
+              counts = over.counts;
+              status_is = over.status_is ∙ sym (mended-disk over.ended);
+            })
+      ]
+  was-by Fresh over =
+      elim over.1 [
+        | inl none ↦ inl (record { kind = ap is_early_status none.0; same = none.1 })
+        | inr served ↦
+            inr
+            (record {
+              ended = served.ended;
+              caller = asked.caller;
+              start = empty_store asked.blocks;
+              turns = served.turns;
+              moments = served.moments;
+              text = served.text;
+              done = served.done;
+              cut = served.cut;
+              turns_heard = served.turns_heard;
+              ran = served.ran;
+              counts = served.counts;
+              status_is = served.status_is ∙ sym (mended-memory served.ended);
+            })
+      ]
+
+  -- the disk's counts by how the session ended
+  disk-cause : (words : List (List ℕ)) (word : DiskWord) → (word ≡ Named → AsksDisk words) → OverNamed word g air given disk disk_now before now clock clock_n (run_terms asked) s → HasDiskCause words g.read_faults g.write_faults disk disk_now before now s
+  disk-cause words Named names over = record {
+    asked = λ _. names refl;
+    rose = λ e.
+        let failed = disk-end over.ended (sym over.status_is ∙ e) in
+        elim over.ends [
+          | inl refused ↦ elim (over.runs.faults.rose failed) [ inl reads ↦ inr (reads, refused.air) | inr writes ↦ inl writes ]
+          | inr served ↦ inl (served.puts.faults.rose failed)
+        ];
+    same = λ isnt. over.runs.faults.same (λ failed. isnt (over.status_is ∙ ap status_of failed));
+  }
+  disk-cause words Fresh names over =
+      let isnt : s ≡ status.Disk → ⊥ =
+      λ e. elim over.1 [
+        | inl none ↦ (let told = sym none.0 ∙ e in cc)
+        | inr served ↦ memory-not_disk (status_of served.ended) (sym served.status_is ∙ e)
+      ] in
+      record {
+        asked = λ e. absurd (isnt e);
+        rose = λ e. absurd (isnt e);
+        same = λ _. (ap g.read_faults over.0, ap g.write_faults over.0);
+      }
+
+  -- no content is refused over a disk in memory
+  memory-not_bad : OverNamed Fresh g air given disk disk_now before now clock clock_n (run_terms asked) s → (why : BadStore) → s ≡ status.BadStore why → ⊥
+  memory-not_bad over why e =
+      elim over.1 [
+        | inl none ↦ (let told = sym none.0 ∙ e in cc)
+        | inr served ↦ heard-not_bad true served.ended asked.polls served.turns why served.ran.ends (mended-memory served.ended ∙ sym served.status_is ∙ e)
+      ]
+
+  -- each refusal over the disk, by what the content stands for
+  exact-of : (blocks : ℕ) (octets : List ℕ) (ended : Result Served NodeStop) → s ≡ status_of ended → EndsExactly blocks octets ended → RefusesExactly blocks octets s
+  exact-of blocks octets ended is h = record {
+    not_a_store = λ found. (
+      λ e. (h.not_a_store found).0 (not_a_store-end ended found (sym is ∙ e)),
+      λ stands. is ∙ ap status_of ((h.not_a_store found).1 stands),
+    );
+    damaged = λ at. (
+      λ e. (h.damaged at).0 (damaged-end ended at (sym is ∙ e)),
+      λ stands. is ∙ ap status_of ((h.damaged at).1 stands),
+    );
+  }
+
+  told-exact : (blocks : ℕ) (content : Option (List ℕ)) (ended : Result Served NodeStop) → s ≡ status_of ended → IfSome content (λ octets. EndsExactly blocks octets ended) → IfSome content (λ octets. RefusesExactly blocks octets s)
+  told-exact blocks None ended is h = tt
+  told-exact blocks (Some octets) ended is h = exact-of blocks octets ended is h
+
+  -- the words ask for one session
+  module _ (words : List (List ℕ)) (asks : IsSession words asked) (determined : Determined words) where
+    one : (other : SessionRequest) → IsSession words other → asked ≡ other
+    one other is = determined.session asked other asks is
+
+    store-cause : (word : DiskWord) → asked.disk ≡ word → OverNamed word g air given disk disk_now before now clock clock_n (run_terms asked) s → HasStoreCause words (g.content disk) s
+    store-cause Named is over = record {
+      asked = λ _ _. (asked, asks, is);
+      exact = λ other asks_other named disk_not memory_not.
+          let at_blocks : ℕ → Type 0 = λ b. IfSome (g.content disk) (λ octets. RefusesExactly b octets s) in
+          subst at_blocks (ap (λ (r : SessionRequest). r.blocks) (one other asks_other))
+          (told-exact asked.blocks (g.content disk) over.ended over.status_is
+          (over.refuses (λ failed. disk_not (over.status_is ∙ ap status_of failed)) (λ failed. memory_not (over.status_is ∙ ap status_of failed))));
+    }
+    store-cause Fresh is over = record {
+      asked = λ why e. absurd (memory-not_bad over why e);
+      exact = λ other asks_other named _ _. absurd (let same = ap (λ (r : SessionRequest). r.disk) (one other asks_other) in cc);
+    }
+
+    alone : (word : DiskWord) → asked.disk ≡ word → OverNamed word g air given disk disk_now before now clock clock_n (run_terms asked) s → (AsksDisk words → ⊥) → disk_now ≡ disk
+    alone Named is over none = absurd (none (asked, asks, is))
+    alone Fresh is over none = over.0
+
+    fresh-by : (word : DiskWord) (memory : Bool) → asked.disk ≡ Fresh → memory ≡ true → AsksFresh words
+    fresh-by word memory is _ = (asked, asks, is)
+
+    module _ (over : IsOver asked g air given disk disk_now before now clock clock_n s) (read : IsReadAsStream) (law : IsOneStream) where
+      was : Was air asked.polls asked.disk before now s
+      was = was-by asked.disk over
+
+      by-was : (P : Type 0) → (Early before now s → P) → ((memory : Bool) → (memory ≡ true → AsksFresh words) → Heard air asked.polls memory before now s → P) → (word : DiskWord) → asked.disk ≡ word → Was air asked.polls word before now s → P
+      by-was P early heard Named is w = elim w [ inl e ↦ early e | inr h ↦ heard false (λ never. absurd (cc)) h ]
+      by-was P early heard Fresh is w = elim w [ inl e ↦ early e | inr h ↦ heard true (λ _. (asked, asks, is)) h ]
+
+      by : (P : Type 0) → (Early before now s → P) → ((memory : Bool) → (memory ≡ true → AsksFresh words) → Heard air asked.polls memory before now s → P) → P
+      by P early heard = by-was P early heard asked.disk refl was
+
+      -- no session ends with another command's status
+      pub session-not : (other : Status) → is_session_status other ≡ false → s ≡ other → ⊥
+      session-not other isnt is = by ⊥ (λ e. early-not air before now s words e other isnt is) (λ memory _ h. heard-not air before now s words asked.polls memory h other isnt is)
+
+      -- the words ask for this session alone
+      pub session-runs : RunsSession words g air given disk disk_now before now clock clock_n s
+      session-runs = λ other is.
+          let P : SessionRequest → Type 0 = λ r. IsOver r g air given disk disk_now before now clock clock_n s in
+          inr (subst P (one other is) over)
+
+      pub session-alone : (AsksDisk words → ⊥) → disk_now ≡ disk
+      session-alone = alone asked.disk refl over
+
+      pub session-complete : WhereHeard words air.heard before now (IsDoneBy s)
+      session-complete = by _ (early-complete air before now s words) (λ memory _ h. heard-complete air before now s words asked.polls memory h law)
+
+      pub session-not_built : WhereHeard words air.heard before now (IsNotBuiltBy s)
+      session-not_built = by _ (λ e. early-not_built air before now s words e read law) (λ memory _ h. heard-not_built air before now s words asked.polls memory h law)
+
+      pub session-spent : WhereHeard words air.heard before now (IsSpentBy s)
+      session-spent = by _ (early-spent air before now s words) (λ memory _ h. heard-spent air before now s words asked.polls memory h law)
+
+      pub session-read : HasStatusCause status.AirRead (air.read_faults before) (air.read_faults now) s
+      session-read = by _ (early-read air before now s words) (λ memory _ h. heard-read air before now s words asked.polls memory h)
+
+      pub session-write : HasWriteCause words (air.write_faults before) (air.write_faults now) s
+      session-write = by _ (early-write air before now s words) (λ memory fresh h. heard-write air before now s words asked.polls memory h fresh)
+
+      pub session-disk : HasDiskCause words g.read_faults g.write_faults disk disk_now before now s
+      session-disk = disk-cause words asked.disk (λ is. (asked, asks, is)) over
+
+      pub session-bad_store : HasStoreCause words (g.content disk) s
+      session-bad_store = store-cause asked.disk refl over
+
+      -- where it is done, the end of the air was read, and no count rose
+      pub session-done : s ≡ status.Done → IsDoneAtEnd air g.read_faults g.write_faults before now disk disk_now
+      session-done done =
+          let disks = session-disk.same (λ e. let other = sym done ∙ e in cc) in
+          record {
+            end = by _ (λ e. absurd (let kind = sym e.kind ∙ ap is_early_status done in cc)) (λ memory _ h. heard-end air before now s words asked.polls memory h done);
+            air_reads = session-read.same (λ e. let other = sym done ∙ e in cc);
+            air_writes = session-write.same (λ e. let other = sym done ∙ e in cc) (λ e. let other = sym done ∙ e in cc) (λ e. let other = sym done ∙ e in absurd (cc));
+            disk_reads = disks.0;
+            disk_writes = disks.1;
+          }

@@ -11,7 +11,7 @@ use Rattle.frame_lines.specs.FramesText.{FramesText}
 use Rattle.pacsat_cli.specs.declared.files.FileCommand.{FileCommand}
 use Rattle.pacsat_cli.specs.declared.files.FileCommand.TheVariants.{Frames, Show, Check}
 use Rattle.pacsat_cli.specs.declared.status.Status.{Status}
-use Rattle.pacsat_cli.specs.declared.status.Status.TheVariants.{Done, Refused, Usage, AirRead, AirWrite, NoSuch, OutOfMemory, Spent, Out, Shelf, TooLong, NotBuilt}
+use Rattle.pacsat_cli.specs.declared.status.Status.TheVariants.{Done, Refused, Usage, AirRead, AirWrite, Disk, NoSuch, BadStore, OutOfMemory, Spent, Out, Shelf, TooLong, NotBuilt}
 use Rattle.pacsat_cli.specs.Run.{HasStatusCause, IsUnless, Shows}
 use Rattle.pacsat_cli.specs.Status.{line_of}
 
@@ -63,6 +63,8 @@ FileEnd command content text OutOfMemory = text ≡ []
 FileEnd command content text Usage = ⊥
 FileEnd command content text AirRead = ⊥
 FileEnd command content text AirWrite = ⊥
+FileEnd command content text Disk = ⊥
+FileEnd command content text (BadStore why) = ⊥
 FileEnd command content text Spent = ⊥
 FileEnd command content text NotBuilt = ⊥
 
@@ -84,6 +86,8 @@ is_file_status command OutOfMemory = true
 is_file_status command Usage = false
 is_file_status command AirRead = false
 is_file_status command AirWrite = false
+is_file_status command Disk = false
+is_file_status command (BadStore why) = false
 is_file_status command Spent = false
 is_file_status command NotBuilt = false
 

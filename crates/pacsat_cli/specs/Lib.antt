@@ -1,16 +1,7 @@
-pub mod Asked
-pub mod Events
 pub mod Files
-pub mod Laws
 pub mod Making
-pub mod Node
 pub mod Run
-pub mod Server
-pub mod ServerState
-pub mod Session
-pub mod SessionRan
+pub mod Sessions
 pub mod Status
 pub mod Stops
-pub mod Taking
 pub mod Tasks
-pub mod Uploaded

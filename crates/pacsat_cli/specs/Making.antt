@@ -4,7 +4,7 @@ use Rattle.px_base.specs.Shelves.{Holding, Keeps, KeepsOthers, content_of}
 use Rattle.pfh_writer.specs.Built.{passing_len}
 use Rattle.header_tool.specs.Made.{IsMade, MakeValue, made_builder}
 use Rattle.pacsat_cli.specs.declared.status.Status.{Status}
-use Rattle.pacsat_cli.specs.declared.status.Status.TheVariants.{Done, Refused, Usage, AirRead, AirWrite, NoSuch, OutOfMemory, Spent, Out, Shelf, TooLong, NotBuilt}
+use Rattle.pacsat_cli.specs.declared.status.Status.TheVariants.{Done, Refused, Usage, AirRead, AirWrite, Disk, NoSuch, BadStore, OutOfMemory, Spent, Out, Shelf, TooLong, NotBuilt}
 use Rattle.pacsat_cli.specs.Files.{most_octets}
 use Rattle.pacsat_cli.specs.Run.{IsUnless}
 
@@ -32,6 +32,8 @@ MakeEnd IsFile name before now Refused = ⊥
 MakeEnd IsFile name before now Usage = ⊥
 MakeEnd IsFile name before now AirRead = ⊥
 MakeEnd IsFile name before now AirWrite = ⊥
+MakeEnd IsFile name before now Disk = ⊥
+MakeEnd IsFile name before now (BadStore why) = ⊥
 MakeEnd IsFile name before now Spent = ⊥
 MakeEnd IsFile name before now Out = ⊥
 MakeEnd IsFile name before now NotBuilt = ⊥

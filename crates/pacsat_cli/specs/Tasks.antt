@@ -1,10 +1,8 @@
 -- What the words ask a run to do, and what a run did of it.
-use Rattle.std.specs.Prelude.{◌≡◌, ℕ, List, Option, None, Some, true}
+use Rattle.std.specs.Prelude.{◌≡◌, ℕ, List, Option, Some}
 use Rattle.px_base.specs.Shelves.{Holding, content_of}
-use Rattle.command_words.specs.Asked.{make_value as asked_value}
-use Rattle.command_words.specs.Made.{MakeValue as AskedValue, may_be_made}
 use Rattle.command_words.specs.Words.{IsCheck, IsFrames, IsMake, IsSession, IsShow}
-use Rattle.header_tool.specs.Made.{MakeValue, spec_refusal}
+use Rattle.header_tool.specs.Made.{MakeValue, make_value}
 use Rattle.pacsat_cli.specs.declared.files.FileCommand.{FileCommand}
 use Rattle.pacsat_cli.specs.declared.files.FileCommand.TheVariants as command
 use Rattle.pacsat_cli.specs.declared.status.Status.{Status}
@@ -23,34 +21,15 @@ AsksText words command.Check name = IsCheck words name
 abbrev pub AsksFile : List (List ℕ) → Type 0
 AsksFile words = (command : FileCommand) × (name : List ℕ) × AsksText words command name
 
--- what the header is made of that the words ask for
-abbrev pub header_of : AskedValue → MakeValue
-header_of asked =
-    record {
-      name = asked.name;
-      ext = asked.ext;
-      file_type = asked.file_type;
-      time = asked.time;
-      source = asked.source;
-      destination = asked.destination;
-      title = asked.title;
-    }
-
--- A header that the words may ask for is one that isn't refused, and the other way round.
-abbrev pub OneRuleLaw : Type 0
-OneRuleLaw =
-    (asked : AskedValue) → (may_be_made asked ≡ true → spec_refusal (header_of asked) ≡ None)
-    × (spec_refusal (header_of asked) ≡ None → may_be_made asked ≡ true)
-
 -- the words ask for a file that is made of BODY and a header, and kept under a name
 abbrev pub AsksMake : List (List ℕ) → Type 0
-AsksMake words = (body name : List ℕ) × (asked : AskedValue) × IsMake words body name asked
+AsksMake words = (body name : List ℕ) × (spec : MakeValue) × IsMake words body name spec
 
 -- the words ask for this
 abbrev pub AsksTask : List (List ℕ) → Task → Type 0
-AsksTask words (Session request) = IsSession words request.caller request.moment
+AsksTask words (Session request) = IsSession words request
 AsksTask words (File command name) = AsksText words command name.now
-AsksTask words (Make request) = IsMake words request.body.now request.kept.now (asked_value request)
+AsksTask words (Make request) = IsMake words request.body.now request.kept.now (make_value request.header)
 
 -- where the words ask for the text of a file, it is shown so
 abbrev pub RunsFile : {S O : Type 0} → List (List ℕ) → (S → Option Holding) → (O → Option (List ℕ)) → (O → ℕ) → S → O → O → Status → Type 0
@@ -67,5 +46,5 @@ WhereHeld words held P =
 -- where the words ask for a file that is made, it is made and kept so
 abbrev pub RunsMake : {S : Type 0} → List (List ℕ) → (S → Option Holding) → S → S → Status → Type 0
 RunsMake words held before now status =
-    (body name : List ℕ) (asked : AskedValue) → IsMake words body name asked
-    → MakeRan (header_of asked) body name (held before) (held now) status
+    (body name : List ℕ) (spec : MakeValue) → IsMake words body name spec
+    → MakeRan spec body name (held before) (held now) status

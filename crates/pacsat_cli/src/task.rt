@@ -1,13 +1,11 @@
 //! What a run does.
 
-ghost use Rattle.std.specs.Prelude.{◌≡◌, ℕ, List};
-ghost use Rattle.command_words.specs.Asked.{AsksFor, make_value as asked_value};
-ghost use Rattle.header_tool.specs.Made.{make_value};
-ghost use Rattle.pacsat_cli.specs.Tasks.{AsksTask, header_of};
+ghost use Rattle.std.specs.Prelude.{ℕ, List};
+ghost use Rattle.command_words.specs.Asked.{AsksFor};
+ghost use Rattle.pacsat_cli.specs.Tasks.{AsksTask};
 
 use crate::files::FileCommand;
 use command_words::{MakeRequest, Request, SessionRequest};
-use header_tool::MakeSpec;
 
 /// What a run does, by what the words ask for.
 #[derive(Clone, Copy)]
@@ -44,20 +42,5 @@ pub(crate) fn task_of<'a>(request: &Request<'a>) -> Task<'a>
             name,
         },
         Request::PfhMake(make) => Task::Make(make),
-    }
-}
-
-/// What the header is made of that is asked for.
-pub(crate) fn header_asked<'a>(request: &MakeRequest<'a>) -> MakeSpec<'a>
-    ensures { make_value result ≡ header_of (asked_value request.now) }
-{
-    MakeSpec {
-        name: request.name,
-        ext: request.ext,
-        file_type: request.file_type,
-        time: request.time,
-        source: request.source,
-        destination: request.destination,
-        title: request.title,
     }
 }

@@ -1,44 +1,41 @@
 //! The top call.
 
-ghost use Rattle.std.specs.Prelude.{◌≡◌, ◌≤◌, [], ◌∷◌, IsSome};
+ghost use Rattle.std.specs.Prelude.{◌≡◌, ◌≤◌, [], ◌∷◌};
 ghost use Rattle.command_words.specs.Laws.{AsksSession};
 ghost use Rattle.command_words.specs.Words.{IsUnbuilt, IsUsage, NamesBuilt};
+ghost use Rattle.server_node.specs.Laws.{AcknowledgedStandsLaw};
 ghost use Rattle.px_base.specs.Outside.{Rose};
 ghost use Rattle.pacsat_cli.specs.Files.{IsNoSuchBy, IsShownBy, IsTooLongBy};
-ghost use Rattle.pacsat_cli.specs.Run.{AreRefused, AsksMoment, HasShelfCause, HasStatusCause, IsUnless, Shows, Stays};
-ghost use Rattle.pacsat_cli.specs.Run.{IsDoneAtEnd, IsDoneBy, IsNotBuiltBy, IsSpentBy, WhereHeard};
-ghost use Rattle.pacsat_cli.specs.Run.{RunsSession, SessionEnded};
+ghost use Rattle.pacsat_cli.specs.Run.{AreRefused, HasShelfCause, HasStatusCause, IsUnless, Shows, Stays};
+ghost use Rattle.pacsat_cli.specs.Sessions.{AsksDisk, AsksMoment, HasDiskCause, HasStoreCause, HasWriteCause, IsDoneAtEnd};
+ghost use Rattle.pacsat_cli.specs.Sessions.{IsDoneBy, IsNotBuiltBy, IsSpentBy, RunsSession, WhereHeard};
 ghost use Rattle.pacsat_cli.specs.Status.{line_of};
-ghost use Rattle.pacsat_cli.specs.Stops.{status_of as status_of_session, status_of_refusal};
+ghost use Rattle.pacsat_cli.specs.Stops.{status_of_refusal};
 ghost use Rattle.pacsat_cli.specs.Tasks.{AsksFile, AsksMake, RunsFile, RunsMake, WhereHeld};
 
 use crate::files::run_file;
 use crate::making::run_make;
-use crate::node::{NodeStop, Served, SessionTerms, serve_session};
-use crate::task::{Task, header_asked, task_of};
+use crate::serving::run_session;
+use crate::task::{Task, task_of};
 use crate::{Status, Words};
+use command_words::Refusal;
 use command_words::laws::one_meaning;
-use command_words::{Refusal, SessionRequest};
-use file_store::Limits;
+use disk_model::Disk;
 use ftl0_packets::laws::stream_law;
 use px_base::{Air, Clock, Out, Shelf};
+use server_node::laws::acknowledged_stands_law;
 use std::alloc::Global;
 
-/// How many polls a run makes at most.
-pub const POLLS: u64 = 1_000_000_000_000;
-
-/// How many blocks of 512 octets the store of a session has.
-pub const BLOCKS: u32 = 65_536;
-
-/// Does what the words ask for, over this air, shelf, output and clock, and shows the status's line on the output.
+/// Does what the words ask for, over this disk, air, shelf, output and clock, and shows the status's line on the output.
 ///
-/// These commands are built: `session`, one session over FTL0 octets on standard input and output, with a store in
-/// memory; `frames`, `pfh-show` and `pfh-check`, which show a text of a file on the shelf; and `pfh-make`, which makes a
-/// file of one on the shelf and keeps it there. Places for a disk before the air and for a bench after the clock come
-/// with the commands that use them. Takes memory.
-pub fn run<A: Air, S: Shelf, O: Out, C: Clock>(
+/// These commands are built: `session`, one session over FTL0 octets on standard input and output, with a store on the
+/// disk, or, where DISK is `none`, on a fresh one in memory; `frames`, `pfh-show` and `pfh-check`, which show a text of a
+/// file on the shelf; and `pfh-make`, which makes a file of one on the shelf and keeps it there. A place for a bench after
+/// the clock comes with the command that uses it. Takes memory.
+pub fn run<D: Disk, A: Air, S: Shelf, O: Out, C: Clock>(
     alloc: Global,
     words: &Words,
+    disk: &mut D,
     air: &mut A,
     shelf: &mut S,
     out: &mut O,
@@ -54,17 +51,28 @@ pub fn run<A: Air, S: Shelf, O: Out, C: Clock>(
     ensures untouched { AreRefused words.now → (air.new ≡ air.old) × (shelf.new ≡ shelf.old) × (clock.new ≡ clock.old) }
     ensures held { (AsksMake words.now → ⊥) → Stays S.held shelf.old shelf.new }
 
-    // A session says the replies of its table for the packets of the octets heard, LOGIN_RESP first, and ends with a
-    // status that has its cause; or there was no memory to read the words. With a moment given the clock isn't asked.
-    ensures session { RunsSession words.now A.heard A.said C.given air.old air.new clock.old clock.new result }
+    // A session says the replies of its table for the packets of the octets heard, LOGIN_RESP first, from the store for
+    // which its disk's content stands, and ends with a status that has its cause. At every moment since the first sync of
+    // the recovery each image stands for that store after the first of the session's commands, none skipped. Or there was no
+    // memory to read the words. With a moment given the clock isn't asked.
+    ensures session { RunsSession words.now D.Disk A.Air C.given disk.old disk.new air.old air.new clock.old clock.new
+        result }
     ensures session_alone { AsksSession words.now → shelf.new ≡ shelf.old }
     ensures clock_unasked { AsksMoment words.now → clock.new ≡ clock.old }
 
-    // Where the end of the air was heard, the run is done. Where a packet's row isn't built, or all polls were made and
-    // none was the end or failed, only want of memory or a fault of saying comes before.
-    ensures complete { WhereHeard words.now A.heard C.given air.old air.new clock.old clock.new (IsDoneBy result) }
-    ensures not_built { WhereHeard words.now A.heard C.given air.old air.new clock.old clock.new (IsNotBuiltBy result) }
-    ensures spent { WhereHeard words.now A.heard C.given air.old air.new clock.old clock.new (IsSpentBy result) }
+    // So what was acknowledged stands: once DATA_END's row replied UL_ACK_RESP, the file's entry is complete, with exactly the
+    // octets that came, stamped, in every image in which its commands are done, whatever comes behind them.
+    ensures acknowledged { AcknowledgedStandsLaw }
+
+    // No other command touches the disk, nor does a session with `none` for DISK.
+    ensures disk_alone { (AsksDisk words.now → ⊥) → disk.new ≡ disk.old }
+
+    // Where the end of the air was heard, the run is done. Where a packet of a type that isn't built was heard, or all
+    // polls were made and none was the end or failed, only want of memory, a fault of saying or one of the disk comes
+    // before.
+    ensures complete { WhereHeard words.now A.heard air.old air.new (IsDoneBy result) }
+    ensures not_built { WhereHeard words.now A.heard air.old air.new (IsNotBuiltBy result) }
+    ensures spent { WhereHeard words.now A.heard air.old air.new (IsSpentBy result) }
 
     // `frames`, `pfh-show` and `pfh-check` show the command's text of what the shelf has under the name, then the
     // status's line, and end with a status that has its cause; neither air nor clock is touched.
@@ -83,23 +91,29 @@ pub fn run<A: Air, S: Shelf, O: Out, C: Clock>(
     ensures made_alone { AsksMake words.now → (air.new ≡ air.old) × (clock.new ≡ clock.old) }
 
     // A fault is answered only where its count rose; and where it isn't answered, its count stayed, but for the
-    // status's line, and for a shelf that finds no memory.
+    // status's line, for a shelf that finds no memory, and for a reply that was to be said after a fault of the disk.
     ensures air_read { HasStatusCause Status.AirRead (A.read_faults air.old) (A.read_faults air.new) result }
-    ensures air_write { HasStatusCause Status.AirWrite (A.write_faults air.old) (A.write_faults air.new) result }
+    ensures air_write { HasWriteCause words.now (A.write_faults air.old) (A.write_faults air.new) result }
+    ensures disk { HasDiskCause words.now D.read_faults D.write_faults disk.old disk.new air.old air.new result }
     ensures shelf { HasShelfCause (S.faults shelf.old) (S.faults shelf.new) result }
     ensures out { result ≡ Status.Out → Rose (O.faults out.old) (O.faults out.new) }
 
+    // The content of a session's disk is refused exactly where it stands for no store.
+    ensures bad_store { HasStoreCause words.now (D.content disk.old) result }
+
     // Done says that no count rose, and of a session on an air that tells, that its end was read.
-    ensures session_done { IsDoneAtEnd words.now A.heard A.read_faults A.write_faults air.old air.new result }
+    ensures session_done { AsksSession words.now → result ≡ Status.Done
+        → IsDoneAtEnd A.Air D.read_faults D.write_faults air.old air.new disk.old disk.new }
     ensures done { result ≡ Status.Done → Stays S.faults shelf.old shelf.new × Stays O.faults out.old out.new }
 
     // But for the text of a file the status's line alone is shown, or the output's count of faults rose.
     ensures unshown { result ≡ Status.Done → (AsksFile words.now → ⊥) → out.new ≡ out.old }
     ensures shown { (AsksFile words.now → ⊥) → Shows O.shown O.faults out.old out.new (line_of result) }
 {
-    // Whatever is heard is one stream of packets, and the words ask for one thing.
+    // Whatever is heard is one stream of packets, the words ask for one thing, and what was acknowledged stands.
     stream_law();
     one_meaning();
+    acknowledged_stands_law();
     let request = match command_words::read(alloc, words) {
         Ok(request) => request,
         Err(refusal) => {
@@ -110,7 +124,7 @@ pub fn run<A: Air, S: Shelf, O: Out, C: Clock>(
     };
     match task_of(&request) {
         Task::Session(request) => {
-            let status = run_session(alloc, air, clock, request);
+            let status = run_session(alloc, &request, disk, air, clock);
             show_line(status, out);
             status
         }
@@ -120,8 +134,7 @@ pub fn run<A: Air, S: Shelf, O: Out, C: Clock>(
             status
         }
         Task::Make(request) => {
-            let header = header_asked(&request);
-            let status = run_make(alloc, &header, request.body, request.kept, shelf);
+            let status = run_make(alloc, &request.header, request.body, request.kept, shelf);
             show_line(status, out);
             status
         }
@@ -146,42 +159,7 @@ fn show_line<O: Out>(status: Status, out: &mut O)
 {
     let line = status.line();
     if !line.is_empty() {
-        let _ = out.put(line.as_bytes());
-    }
-}
-
-/// Serves the session that is asked for.
-fn run_session<A: Air, C: Clock>(
-    alloc: Global,
-    air: &mut A,
-    clock: &mut C,
-    request: SessionRequest,
-) -> Status
-    ensures ended { SessionEnded A.heard A.said C.given air.old air.new clock.old clock.new request result }
-    ensures clock { IsSome request.moment → clock.new ≡ clock.old }
-    ensures air_read { HasStatusCause Status.AirRead (A.read_faults air.old) (A.read_faults air.new) result }
-    ensures air_write { HasStatusCause Status.AirWrite (A.write_faults air.old) (A.write_faults air.new) result }
-{
-    let terms = SessionTerms {
-        caller: request.caller,
-        moment: request.moment,
-        limits: Limits { blocks: BLOCKS },
-        polls: POLLS,
-    };
-    status_of_ended(serve_session(alloc, air, clock, &terms))
-}
-
-/// The status of a session that ended so.
-fn status_of_ended(ended: Result<Served, NodeStop>) -> Status
-    ensures { result ≡ status_of_session ended }
-{
-    match ended {
-        Ok(_) => Status::Done,
-        Err(NodeStop::AirRead) => Status::AirRead,
-        Err(NodeStop::AirWrite) => Status::AirWrite,
-        Err(NodeStop::Spent) => Status::Spent,
-        Err(NodeStop::NotBuilt { .. }) => Status::NotBuilt,
-        Err(NodeStop::OutOfMemory) => Status::OutOfMemory,
+        let _ = out.put(line.as_slice());
     }
 }
 

@@ -11,13 +11,14 @@ use std::io::{Input, Print};
 #[cfg(test)]
 mod tests;
 
-/// Plays each row of standard input, and prints what `play` gives for it. A line that is no row is printed as it is.
-pub fn play_rows<R: AllocGlobal + Input + Print, F: Fn(Global, &str) -> Result<String>>(
-    rt: &R,
-    play: F,
-) -> Result<()>
-    requires { F.IsAlwaysCallable play }
-{
+/// What plays rows, one after another.
+pub trait Player {
+    /// Plays a row, and gives what is printed for it. Takes memory.
+    fn play(&mut self, alloc: Global, row: &str) -> Result<String>;
+}
+
+/// Plays each row of standard input, and prints what the player gives for it. A line that is no row is printed as it is.
+pub fn play_rows<R: AllocGlobal + Input + Print, P: Player>(rt: &R, player: &mut P) -> Result<()> {
     for line in rt.lines(rt.alloc()) {
         let line = line?;
         let text = line.as_str();
@@ -25,7 +26,9 @@ pub fn play_rows<R: AllocGlobal + Input + Print, F: Fn(Global, &str) -> Result<S
             println!(rt; "{text}")?;
             continue;
         }
-        let shown = play(rt.alloc(), text).context(format_args!("in the row {text}"))?;
+        let shown = player
+            .play(rt.alloc(), text)
+            .context(format_args!("in the row {text}"))?;
         println!(rt; "{shown}")?;
     }
     Ok(())

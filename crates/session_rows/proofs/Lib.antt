@@ -1,1 +1,2 @@
+pub mod Infos
 pub mod TurnsKept

@@ -1,20 +1,60 @@
 //! One row: what is run, and what it says.
 
+use crate::disk::{disk_after, octets_before};
+use crate::standing::standing_text;
 use crate::turns::turns_of;
 use anyhow::{Context, Result, ensure};
+use disk_model::{Disk, MemoryDisk};
 use pacsat_cli::{Words, run};
 use px_base::{MemoryAir, MemoryClock, MemoryOut, MemoryShelf};
-use row_words::{read_numbers, read_words};
+use row_words::{Player, read_numbers, read_words};
 use std::alloc::Global;
 
-/// Plays a row at the constant moment 1, and gives the octets said in hexadecimal, the status's number, and the line that was shown.
-pub fn play(alloc: Global, row: &str) -> Result<String> {
+/// Plays rows, each of which may begin on what the row before left on its disk.
+#[derive(Drop)]
+pub struct SessionRows {
+    before: Option<MemoryDisk>,
+}
+
+impl SessionRows {
+    /// Before the first row.
+    pub fn new() -> SessionRows {
+        SessionRows { before: None }
+    }
+}
+
+impl Player for SessionRows {
+    /// Plays a row, and keeps its disk for the next one.
+    fn play(&mut self, alloc: Global, row: &str) -> Result<String> {
+        let (row, failing) = row
+            .rsplit_once(';')
+            .context("no failing calls of the disk")?;
+        let (row, octets) = row.rsplit_once(';').context("no disk")?;
+        let octets = octets_before(alloc, octets, self.before.take())?;
+        let (ended, disk) = disk_after(alloc, row, octets.as_slice(), failing)?;
+        let standing = content_text(alloc, row, disk.bytes())?;
+        self.before = Some(disk);
+        Ok(format!(in alloc; "{ended} | {standing}")?)
+    }
+}
+
+/// What the content of the disk of a row stands for, where it has one.
+fn content_text(alloc: Global, row: &str, octets: &[u8]) -> Result<String> {
+    if row.starts_with("none ") {
+        return Ok(String::from_str(alloc, "none")?);
+    }
+    standing_text(alloc, octets)
+}
+
+/// Plays a row over a disk at the constant moment 1, and gives the octets said in hexadecimal, the status's number, and the
+/// line that was shown.
+pub fn play_over<D: Disk>(alloc: Global, row: &str, disk: &mut D) -> Result<String> {
     let (words, rest) = row.split_once(';').context("no words")?;
     let (failing, heard) = rest.split_once(';').context("no failing calls")?;
     let words = read_words(alloc, words)?;
     let mut air = read_air(alloc, failing, heard)?;
     let mut out = MemoryOut::new(alloc, &[])?;
-    let number = run_over(alloc, &words, &mut air, &mut out)?;
+    let number = run_over(alloc, &words, disk, &mut air, &mut out)?;
     let said = hex::encode(alloc, air.said())?;
     let shown = shown_text(alloc, out.shown())?;
     Ok(format!(in alloc; "{said};{number};{shown}")?)
@@ -31,11 +71,17 @@ fn read_air(alloc: Global, failing: &str, heard: &str) -> Result<MemoryAir> {
     Ok(MemoryAir::new(alloc, turns, failing.as_slice())?)
 }
 
-/// Runs the words over this air and output, and gives the status's number.
-fn run_over(alloc: Global, words: &Words, air: &mut MemoryAir, out: &mut MemoryOut) -> Result<u8> {
+/// Runs the words over this disk, air and output, and gives the status's number.
+fn run_over<D: Disk>(
+    alloc: Global,
+    words: &Words,
+    disk: &mut D,
+    air: &mut MemoryAir,
+    out: &mut MemoryOut,
+) -> Result<u8> {
     let mut shelf = MemoryShelf::new(alloc, &[])?;
     let mut clock = MemoryClock::new(alloc, &[1])?;
-    Ok(run(alloc, words, air, &mut shelf, out, &mut clock).number())
+    Ok(run(alloc, words, disk, air, &mut shelf, out, &mut clock).number())
 }
 
 /// The text that was shown, without its line feed.

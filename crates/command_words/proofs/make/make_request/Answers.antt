@@ -1,8 +1,7 @@
 -- AIR has one of its forms, and the line gives a file that may be made.
-use Rattle.std.proofs.Common.{◌≡◌, ◌∙◌, ap, not, sym, true≢false}
+use Rattle.std.proofs.Common.{◌≡◌, ◌∙◌, None, Some, ap, not, refl, sym}
 use Rattle.std.proofs.lemmas.Result.{err_from_is_err_and}
-use Rattle.command_words.specs.Asked.{make_value}
-use Rattle.command_words.specs.Made.{may_be_made}
+use Rattle.header_tool.specs.Made.{make_value, spec_refusal}
 use Rattle.command_words.proofs.LineLemmas.{handed_on}
 use Rattle.command_words.proofs.Meanings.{air_read, make_agrees, make_from, neither_from, neither_text, says_one}
 use Rattle.command_words.proofs.make.make_request.Goals as goal
@@ -16,13 +15,14 @@ pub returns-in_default-clause-usage : goal.returns-in_default-clause-usage
 returns-in_default-clause-usage c = λ usage disk body kept spec asks.
     c.in_default.ensures.none spec (make_agrees c.in_ok-texts.ensures.texts (neither_text asks).0)
 
-pub returns-else-may_be_made-clause-usage : goal.returns-else-may_be_made-clause-usage
-returns-else-may_be_made-clause-usage c = λ usage disk body kept spec asks.
+pub returns-in-Some-refusal-clause-usage : goal.returns-in-Some-refusal-clause-usage
+returns-in-Some-refusal-clause-usage c = λ usage disk body kept spec asks.
     let text = (neither_text asks).0 in
-    let same : spec ≡ make_value c.in-Some.request = says_one _ spec (make_value c.in-Some.request) (make_agrees c.in_ok-texts.ensures.texts text) c.in-Some.ensures.says in
-    true≢false (sym text.possible ∙ ap may_be_made same ∙ sym c.may_be_made.ensures ∙ c.if-may_be_made.false)
+    let same : spec ≡ make_value c.in-Some.header = says_one _ spec (make_value c.in-Some.header) (make_agrees c.in_ok-texts.ensures.texts text) c.in-Some.ensures.says in
+    let none : Some c.in-Some-refusal.field-0 ≡ None = c.in-Some-refusal.ensures ∙ sym (ap spec_refusal same) ∙ text.possible in
+    absurd cc
 
-pub returns-then-may_be_made-clause-asks : goal.returns-then-may_be_made-clause-asks
-returns-then-may_be_made-clause-asks c = λ disk.
+pub returns-in-None-clause-asks : goal.returns-in-None-clause-asks
+returns-in-None-clause-asks c = λ disk.
     neither_from disk _ _ (air_read c.args.air.now c.read_air.result c.read_air.ensures.some (c.is_none.ensures ∙ ap not c.if-is_none.false))
-    (make_from _ _ _ c.in_ok-texts.ensures.texts c.in-Some.ensures.body c.in-Some.ensures.kept c.in-Some.ensures.says (sym c.may_be_made.ensures ∙ c.if-may_be_made.true))
+    (make_from _ _ _ c.in_ok-texts.ensures.texts refl refl c.in-Some.ensures.says (sym c.in-None.ensures))

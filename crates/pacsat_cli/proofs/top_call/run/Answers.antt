@@ -1,17 +1,17 @@
 -- Each task by what it did, and refused words by why they were.
-use Rattle.std.proofs.Common.{◌≡◌, ℕ, List, refl, ap, sym, subst, inl, inr, Err, None}
-use Rattle.header_tool.specs.Made.{MakeValue, spec_refusal}
+use Rattle.std.proofs.Common.{◌≡◌, ℕ, List, refl, ap, sym, subst, inl, inr, Err}
+use Rattle.command_words.specs.Laws.{AsksSession}
+use Rattle.header_tool.specs.Made.{make_value}
 use Rattle.pacsat_cli.specs.declared.files.FileCommand.{FileCommand}
 use Rattle.pacsat_cli.specs.declared.status.Status.TheVariants as status
-use Rattle.pacsat_cli.specs.Making.{MakeRan}
+use Rattle.pacsat_cli.specs.Sessions.{AsksDisk}
+use Rattle.pacsat_cli.specs.Status.{line_of}
+use Rattle.pacsat_cli.specs.Tasks.{AsksFile, AsksMake, AsksText}
 use Rattle.pacsat_cli.proofs.OneTask.{file-make, one-text, session-file, session-make, unbuilt-file, unbuilt-make, usage-file, usage-make}
 use Rattle.pacsat_cli.proofs.RunFile.{file-done, file-no_such, file-not, file-rose, file-runs, file-shown, file-too_long}
-use Rattle.pacsat_cli.proofs.RunMake.{asked-made, make-not, make-runs}
-use Rattle.pacsat_cli.proofs.RunRefused.{means, refused-complete, refused-files, refused-made, refused-no_such, refused-not, refused-not_built, refused-session, refused-shown, refused-spent, refused-too_long, refused-unbuilt, refused-unread, refused-usage, refused-usage_told}
-use Rattle.pacsat_cli.proofs.RunSession.{asked_moment, session-complete, session-done, session-not, session-not_built, session-runs, session-spent}
-use Rattle.command_words.specs.Asked.{make_value as asked_value}
-use Rattle.pacsat_cli.specs.Status.{line_of}
-use Rattle.pacsat_cli.specs.Tasks.{AsksFile, AsksMake, AsksText, header_of}
+use Rattle.pacsat_cli.proofs.RunMake.{make-not, make-runs}
+use Rattle.pacsat_cli.proofs.RunRefused.{means, refused-bad_store, refused-complete, refused-disk, refused-files, refused-made, refused-no_such, refused-not, refused-not_built, refused-session, refused-shown, refused-spent, refused-too_long, refused-unbuilt, refused-unread, refused-usage, refused-usage_told}
+use Rattle.pacsat_cli.proofs.RunSession.{asked_moment, most_blocks, session-alone, session-bad_store, session-complete, session-disk, session-done, session-not, session-not_built, session-read, session-runs, session-spent, session-write, some_blocks}
 use Rattle.pacsat_cli.proofs.top_call.run.Goals as goal
 
 pub returns-in-Err : goal.returns-in-Err
@@ -31,12 +31,14 @@ returns-in-Err g c =
       unread = λ _. refused-unread words only why h;
       untouched = λ _. (refl, refl, refl);
       held = λ _. refl;
-      session = refused-session words only why h g.A.Air.heard g.A.Air.said g.C.Clock.given c.args.air.now c.args.clock.now;
+      session = refused-session words only why h g.A.Air c.args.air.now g.D.Disk g.C.Clock.given c.args.disk.now c.args.clock.now;
       session_alone = λ _. refl;
       clock_unasked = λ _. refl;
-      complete = refused-complete words only why h g.A.Air.heard g.A.Air.said g.C.Clock.given c.args.air.now c.args.clock.now;
-      not_built = refused-not_built words only why h g.A.Air.heard g.A.Air.said g.C.Clock.given c.args.air.now c.args.clock.now;
-      spent = refused-spent words only why h g.A.Air.heard g.A.Air.said g.C.Clock.given c.args.air.now c.args.clock.now;
+      acknowledged = c.acknowledged_stands_law.ensures;
+      disk_alone = λ _. refl;
+      complete = refused-complete words only why h g.A.Air c.args.air.now;
+      not_built = refused-not_built words only why h g.A.Air c.args.air.now;
+      spent = refused-spent words only why h g.A.Air c.args.air.now;
       files = refused-files words only why h g.S.Shelf.held g.O.Out.shown g.O.Out.faults c.args.shelf.now c.args.out.now c.show_line.new.out line.shown line.no_line;
       files_alone = λ _. (refl, refl);
       no_such = refused-no_such words only why h held;
@@ -45,53 +47,66 @@ returns-in-Err g c =
       made = refused-made words only why h g.S.Shelf.held c.args.shelf.now;
       made_alone = λ _. (refl, refl);
       air_read = record { rose = λ e. absurd (refused-not why status.AirRead refl e); same = λ _. refl };
-      air_write = record { rose = λ e. absurd (refused-not why status.AirWrite refl e); same = λ _. refl };
+      air_write = record { rose = λ e. absurd (refused-not why status.AirWrite refl e); same = λ _ _ _. refl };
+      disk = refused-disk words only why h g.D.Disk.read_faults g.D.Disk.write_faults c.args.disk.now c.args.air.now;
       shelf = record { rose = λ e. absurd (refused-not why status.Shelf refl e); same = λ _ _. refl };
       out = λ e. absurd (refused-not why status.Out refl e);
+      bad_store = refused-bad_store words only why h (g.D.Disk.content c.args.disk.now);
       session_done = λ _ e. absurd (refused-not why status.Done refl e);
       done = λ e. absurd (refused-not why status.Done refl e);
       unshown = λ e. absurd (refused-not why status.Done refl e);
       shown = λ _. line.shown;
     })
 
+pub run_session-status-requires-clause-some : goal.run_session-status-requires-clause-some
+run_session-status-requires-clause-some g c = some_blocks c.args.words.now c.in-Session.request (c.in-Session.ensures c.args.words.now c.in-Ok.ensures.asks)
+
+pub run_session-status-requires-clause-most : goal.run_session-status-requires-clause-most
+run_session-status-requires-clause-most g c = most_blocks c.args.words.now c.in-Session.request (c.in-Session.ensures c.args.words.now c.in-Ok.ensures.asks)
+
 pub returns-in-Session : goal.returns-in-Session
 returns-in-Session g c =
-    let request = c.in-Session.request in
-    let caller = request.caller in
-    let moment = request.moment in
+    let asked = c.in-Session.request in
     let words = c.args.words.now in
     let asks = c.in-Session.ensures words c.in-Ok.ensures.asks in
+    let session : AsksSession words = (asked, asks) in
     let only = c.one_meaning.ensures.only_one words in
     let determined = c.one_meaning.ensures.determined words in
     let ran = c.run_session-status in
     let line = c.show_line-in-Session.ensures in
-    let isnt = session-not g.A.Air.heard g.A.Air.said g.C.Clock.given c.args.air.now ran.new.air c.args.clock.now ran.new.clock request ran.result ran.ensures.ended in
+    let over = ran.ensures.over in
+    let read = c.stream_law.ensures.read in
+    let law = c.stream_law.ensures.only in
+    let isnt = session-not g.D.Disk g.A.Air g.C.Clock.given c.args.disk.now ran.new.disk c.args.air.now ran.new.air c.args.clock.now ran.new.clock asked ran.result words asks determined over read law in
     record {
       usage = λ e. absurd (isnt status.Usage refl e);
-      usage_told = λ usage. absurd (only.usage_session usage (caller, moment, asks));
-      unbuilt_words = λ unbuilt. absurd (only.unbuilt_session unbuilt (caller, moment, asks));
-      unread = λ refused. absurd (elim refused [ inl usage ↦ only.usage_session usage (caller, moment, asks) | inr unbuilt ↦ only.unbuilt_session unbuilt (caller, moment, asks) ]);
-      untouched = λ refused. absurd (elim refused [ inl usage ↦ only.usage_session usage (caller, moment, asks) | inr unbuilt ↦ only.unbuilt_session unbuilt (caller, moment, asks) ]);
+      usage_told = λ usage. absurd (only.usage_session usage session);
+      unbuilt_words = λ unbuilt. absurd (only.unbuilt_session unbuilt session);
+      unread = λ refused. absurd (elim refused [ inl usage ↦ only.usage_session usage session | inr unbuilt ↦ only.unbuilt_session unbuilt session ]);
+      untouched = λ refused. absurd (elim refused [ inl usage ↦ only.usage_session usage session | inr unbuilt ↦ only.unbuilt_session unbuilt session ]);
       held = λ _. refl;
-      session = session-runs g.A.Air.heard g.A.Air.said g.C.Clock.given c.args.air.now ran.new.air c.args.clock.now ran.new.clock request ran.result ran.ensures.ended words asks determined;
+      session = session-runs g.D.Disk g.A.Air g.C.Clock.given c.args.disk.now ran.new.disk c.args.air.now ran.new.air c.args.clock.now ran.new.clock asked ran.result words asks determined over read law;
       session_alone = λ _. refl;
-      clock_unasked = λ given. ran.ensures.clock (asked_moment words caller moment asks determined given);
-      complete = session-complete g.A.Air.heard g.A.Air.said g.C.Clock.given c.args.air.now ran.new.air c.args.clock.now ran.new.clock request ran.result ran.ensures.ended words asks determined c.stream_law.ensures.only;
-      not_built = session-not_built g.A.Air.heard g.A.Air.said g.C.Clock.given c.args.air.now ran.new.air c.args.clock.now ran.new.clock request ran.result ran.ensures.ended words asks determined c.stream_law.ensures.only;
-      spent = session-spent g.A.Air.heard g.A.Air.said g.C.Clock.given c.args.air.now ran.new.air c.args.clock.now ran.new.clock request ran.result ran.ensures.ended words asks determined c.stream_law.ensures.only;
-      files = λ command name is. absurd (session-file words only (caller, moment, asks) (command, name, is));
-      files_alone = λ file. absurd (session-file words only (caller, moment, asks) file);
-      no_such = λ command name shelf is. absurd (session-file words only (caller, moment, asks) (command, name, is));
-      too_long = λ command name shelf is. absurd (session-file words only (caller, moment, asks) (command, name, is));
-      files_done = λ command name shelf is. absurd (session-file words only (caller, moment, asks) (command, name, is));
-      made = λ body name asked is. absurd (session-make words only (caller, moment, asks) (body, name, asked, is));
-      made_alone = λ make. absurd (session-make words only (caller, moment, asks) make);
-      air_read = ran.ensures.air_read;
-      air_write = ran.ensures.air_write;
+      clock_unasked = λ given. ran.ensures.clock (asked_moment words asked asks determined given);
+      acknowledged = c.acknowledged_stands_law.ensures;
+      disk_alone = session-alone g.D.Disk g.A.Air g.C.Clock.given c.args.disk.now ran.new.disk c.args.air.now ran.new.air c.args.clock.now ran.new.clock asked ran.result words asks determined over read law;
+      complete = session-complete g.D.Disk g.A.Air g.C.Clock.given c.args.disk.now ran.new.disk c.args.air.now ran.new.air c.args.clock.now ran.new.clock asked ran.result words asks determined over read law;
+      not_built = session-not_built g.D.Disk g.A.Air g.C.Clock.given c.args.disk.now ran.new.disk c.args.air.now ran.new.air c.args.clock.now ran.new.clock asked ran.result words asks determined over read law;
+      spent = session-spent g.D.Disk g.A.Air g.C.Clock.given c.args.disk.now ran.new.disk c.args.air.now ran.new.air c.args.clock.now ran.new.clock asked ran.result words asks determined over read law;
+      files = λ command name is. absurd (session-file words only session (command, name, is));
+      files_alone = λ file. absurd (session-file words only session file);
+      no_such = λ command name shelf is. absurd (session-file words only session (command, name, is));
+      too_long = λ command name shelf is. absurd (session-file words only session (command, name, is));
+      files_done = λ command name shelf is. absurd (session-file words only session (command, name, is));
+      made = λ body name spec is. absurd (session-make words only session (body, name, spec, is));
+      made_alone = λ make. absurd (session-make words only session make);
+      air_read = session-read g.D.Disk g.A.Air g.C.Clock.given c.args.disk.now ran.new.disk c.args.air.now ran.new.air c.args.clock.now ran.new.clock asked ran.result words asks determined over read law;
+      air_write = session-write g.D.Disk g.A.Air g.C.Clock.given c.args.disk.now ran.new.disk c.args.air.now ran.new.air c.args.clock.now ran.new.clock asked ran.result words asks determined over read law;
+      disk = session-disk g.D.Disk g.A.Air g.C.Clock.given c.args.disk.now ran.new.disk c.args.air.now ran.new.air c.args.clock.now ran.new.clock asked ran.result words asks determined over read law;
       shelf = record { rose = λ e. absurd (isnt status.Shelf refl e); same = λ _ _. refl };
       out = λ e. absurd (isnt status.Out refl e);
-      session_done =
-          session-done g.A.Air.heard g.A.Air.said g.C.Clock.given c.args.air.now ran.new.air c.args.clock.now ran.new.clock request ran.result ran.ensures.ended words g.A.Air.read_faults g.A.Air.write_faults ran.ensures.air_read ran.ensures.air_write;
+      bad_store = session-bad_store g.D.Disk g.A.Air g.C.Clock.given c.args.disk.now ran.new.disk c.args.air.now ran.new.air c.args.clock.now ran.new.clock asked ran.result words asks determined over read law;
+      session_done = λ _. session-done g.D.Disk g.A.Air g.C.Clock.given c.args.disk.now ran.new.disk c.args.air.now ran.new.air c.args.clock.now ran.new.clock asked ran.result words asks determined over read law;
       done = λ e. (refl, ap g.O.Out.faults (line.no_line (ap line_of e)));
       unshown = λ e _. line.no_line (ap line_of e);
       shown = λ _. line.shown;
@@ -117,12 +132,14 @@ returns-in-File g c =
       unread = λ refused. absurd (elim refused [ inl usage ↦ usage-file words only usage file | inr unbuilt ↦ unbuilt-file words only unbuilt file ]);
       untouched = λ refused. absurd (elim refused [ inl usage ↦ usage-file words only usage file | inr unbuilt ↦ unbuilt-file words only unbuilt file ]);
       held = λ _. ran.ensures.held;
-      session = λ request is. absurd (session-file words only (request.caller, request.moment, is) file);
+      session = λ asked is. absurd (session-file words only (asked, is) file);
       session_alone = λ session. absurd (session-file words only session file);
       clock_unasked = λ _. refl;
-      complete = λ told. absurd (session-file words only (told.caller, told.moment, told.asks) file);
-      not_built = λ told. absurd (session-file words only (told.caller, told.moment, told.asks) file);
-      spent = λ told. absurd (session-file words only (told.caller, told.moment, told.asks) file);
+      acknowledged = c.acknowledged_stands_law.ensures;
+      disk_alone = λ _. refl;
+      complete = λ told. absurd (session-file words only (told.asked, told.asks) file);
+      not_built = λ told. absurd (session-file words only (told.asked, told.asks) file);
+      spent = λ told. absurd (session-file words only (told.asked, told.asks) file);
       files =
           file-runs g.O.Out.shown g.O.Out.faults command held name c.args.out.now ran.new.out ran.result ran.ensures.shown words one g.S.Shelf.held c.args.shelf.now refl
           c.show_line-in-File.new.out line.shown line.no_line;
@@ -133,9 +150,14 @@ returns-in-File g c =
       made = λ body kept asked is. absurd (file-make words only file (body, kept, asked, is));
       made_alone = λ make. absurd (file-make words only file make);
       air_read = record { rose = λ e. absurd (isnt status.AirRead refl e); same = λ _. refl };
-      air_write = record { rose = λ e. absurd (isnt status.AirWrite refl e); same = λ _. refl };
+      air_write = record { rose = λ e. absurd (isnt status.AirWrite refl e); same = λ _ _ _. refl };
+      disk = record { asked = λ e. absurd (isnt status.Disk refl e); rose = λ e. absurd (isnt status.Disk refl e); same = λ _. (refl, refl) };
       shelf = ran.ensures.shelf;
       out = file-rose g.O.Out.shown g.O.Out.faults command held name c.args.out.now ran.new.out ran.result ran.ensures.shown c.show_line-in-File.new.out line.no_fewer_faults;
+      bad_store = record {
+        asked = λ bad e. absurd (isnt (status.BadStore bad) refl e);
+        exact = λ asked is named disk_not memory_not. absurd (session-file words only (asked, is) file);
+      };
       session_done = λ session. absurd (session-file words only session file);
       done = λ e. (
         ran.ensures.shelf.same (λ f. let other = sym e in cc) (λ f. let other = sym e in cc),
@@ -148,25 +170,23 @@ returns-in-File g c =
 pub run_make-status-requires : goal.run_make-status-requires
 run_make-status-requires g c =
     let asks = c.in-Make.ensures c.args.words.now c.in-Ok.ensures.asks in
-    let P : MakeValue → Type 0 = λ s. spec_refusal s ≡ None in
-    subst P (sym c.header_asked-header.ensures) (asked-made (asked_value c.in-Make.request) asks.text.possible)
+    asks.text.possible
 
 pub returns-in-Make : goal.returns-in-Make
 returns-in-Make g c =
     let request = c.in-Make.request in
     let body = request.body.now in
     let kept = request.kept.now in
-    let asked = asked_value request in
+    let asked = make_value request.header in
     let words = c.args.words.now in
     let asks = c.in-Make.ensures words c.in-Ok.ensures.asks in
     let only = c.one_meaning.ensures.only_one words in
     let determined = c.one_meaning.ensures.determined words in
     let make : AsksMake words = (body, kept, asked, asks) in
     let ran = c.run_make-status in
-    let P : MakeValue → Type 0 = λ s. MakeRan s body kept (g.S.Shelf.held c.args.shelf.now) (g.S.Shelf.held ran.new.shelf) ran.result in
-    let made = subst P c.header_asked-header.ensures ran.ensures.made in
+    let made = ran.ensures.made in
     let line = c.show_line-in-Make.ensures in
-    let isnt = make-not (header_of asked) body kept (g.S.Shelf.held c.args.shelf.now) (g.S.Shelf.held ran.new.shelf) ran.result made in
+    let isnt = make-not asked body kept (g.S.Shelf.held c.args.shelf.now) (g.S.Shelf.held ran.new.shelf) ran.result made in
     record {
       usage = λ e. absurd (isnt status.Usage refl e);
       usage_told = λ usage. absurd (usage-make words only usage make);
@@ -174,12 +194,14 @@ returns-in-Make g c =
       unread = λ refused. absurd (elim refused [ inl usage ↦ usage-make words only usage make | inr unbuilt ↦ unbuilt-make words only unbuilt make ]);
       untouched = λ refused. absurd (elim refused [ inl usage ↦ usage-make words only usage make | inr unbuilt ↦ unbuilt-make words only unbuilt make ]);
       held = λ others. absurd (others make);
-      session = λ session is. absurd (session-make words only (session.caller, session.moment, is) make);
+      session = λ session is. absurd (session-make words only (session, is) make);
       session_alone = λ session. absurd (session-make words only session make);
       clock_unasked = λ _. refl;
-      complete = λ told. absurd (session-make words only (told.caller, told.moment, told.asks) make);
-      not_built = λ told. absurd (session-make words only (told.caller, told.moment, told.asks) make);
-      spent = λ told. absurd (session-make words only (told.caller, told.moment, told.asks) make);
+      acknowledged = c.acknowledged_stands_law.ensures;
+      disk_alone = λ _. refl;
+      complete = λ told. absurd (session-make words only (told.asked, told.asks) make);
+      not_built = λ told. absurd (session-make words only (told.asked, told.asks) make);
+      spent = λ told. absurd (session-make words only (told.asked, told.asks) make);
       files = λ command name is. absurd (file-make words only (command, name, is) make);
       files_alone = λ file. absurd (file-make words only file make);
       no_such = λ command name shelf is. absurd (file-make words only (command, name, is) make);
@@ -188,9 +210,14 @@ returns-in-Make g c =
       made = make-runs words g.S.Shelf.held c.args.shelf.now ran.new.shelf body kept asked ran.result asks determined made;
       made_alone = λ _. (refl, refl);
       air_read = record { rose = λ e. absurd (isnt status.AirRead refl e); same = λ _. refl };
-      air_write = record { rose = λ e. absurd (isnt status.AirWrite refl e); same = λ _. refl };
+      air_write = record { rose = λ e. absurd (isnt status.AirWrite refl e); same = λ _ _ _. refl };
+      disk = record { asked = λ e. absurd (isnt status.Disk refl e); rose = λ e. absurd (isnt status.Disk refl e); same = λ _. (refl, refl) };
       shelf = ran.ensures.shelf;
       out = λ e. absurd (isnt status.Out refl e);
+      bad_store = record {
+        asked = λ bad e. absurd (isnt (status.BadStore bad) refl e);
+        exact = λ asked is named disk_not memory_not. absurd (session-make words only (asked, is) make);
+      };
       session_done = λ session. absurd (session-make words only session make);
       done = λ e. (
         ran.ensures.shelf.same (λ f. let other = sym e in cc) (λ f. let other = sym e in cc),

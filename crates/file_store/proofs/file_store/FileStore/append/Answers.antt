@@ -1,68 +1,108 @@
-use Rattle.std.proofs.Common.{◌≡◌, ℕ, ◌+◌, ◌-◌, ◌*◌, ◌/◌, ◌≤◌, ap, sym, ◌∙◌, subst, List, ◌++◌, length, take, drop, length-append, arith}
-use Rattle.file_store.specs.Command.{after_all, grown, with_holding, whole_grows}
-use Rattle.file_store.specs.Kept.{KeepsComplete, KeepsOthers}
-use Rattle.file_store.specs.Store.{Store}
-use Rattle.file_store.specs.Upload.{Upload, Holds, appended, came}
-use Rattle.file_store.proofs.AfterLemmas.{after_all-KeepsComplete}
-use Rattle.file_store.proofs.GrowLemmas.{append-after, append-allowed, append-Holds, append-upload, change-KeepsOthers, grows-HaveCalls, grows-after}
+use Rattle.std.proofs.Common.{◌≡◌, ℕ, ◌/◌, ◌++◌, true, false, List, length, Some, refl, sym, ◌∙◌, ap, subst, arith, rules}
+use Rattle.std.specs.Option.{option_map}
+use Rattle.file_entries.specs.Command.{Command, grows, unfilled_block, whole_grows}
+use Rattle.file_entries.specs.Files.{KeepsRests, octets_or_none}
+use Rattle.file_entries.specs.Records.{store_magic}
+use Rattle.file_store.specs.OnDisk.{Does}
+use Rattle.file_store.specs.State.{StoreState, rest_in, store_in}
+use Rattle.file_store.specs.Upload.{Holds, Upload, appended, appending, with_bytes}
+use Rattle.file_store.proofs.DoesLemmas.{Does-moved}
+use Rattle.file_store.proofs.TokenLemmas.{holds-each}
+use Rattle.file_store.proofs.UploadLemmas.{appended-holds, appending-of, brought-fits, brought-waits, does-complete, does-uploads}
 use Rattle.file_store.proofs.file_store.FileStore.append.Goals as goal
 
--- how many blocks become held
-count_of : (c : goal.After-moved_on) → (length c.rest.result.now + length c.args.bytes.now) / 512 ≡ length (c.args.up.rest ++ c.args.bytes.now) / 512
-count_of c =
-    ap (λ (k : ℕ). (k + length c.args.bytes.now) / 512) (ap length c.rest.ensures.rest) ∙ ap (λ (k : ℕ). k / 512) (sym (length-append c.args.up.rest c.args.bytes.now))
-
--- the octets that weren't held fit in them
-rest-within : (c : goal.After-moved_on) → length c.args.up.rest ≤ 512 * ((length c.rest.result.now + length c.args.bytes.now) / 512)
-rest-within c =
-    let some : 1 ≤ (length c.rest.result.now + length c.args.bytes.now) / 512 = omega arith in
-    omega (arith, ap length c.rest.ensures.rest, c.rest.ensures.few)
-
--- the store after the octets of whole blocks became held
-grown_store : (c : goal.After-moved_on)
-    → c.grow.new.self
-    ≡ with_holding c.args.self.now c.args.up.number (grown (take (512 * (length (c.args.up.rest ++ c.args.bytes.now) / 512)) (c.args.up.rest ++ c.args.bytes.now)))
-grown_store c =
-    let n : ℕ = (length c.rest.result.now + length c.args.bytes.now) / 512 in
-    let second : c.split_at.result.0.now ≡ take (512 * n - length c.args.up.rest) c.args.bytes.now =
-    c.split_at.ensures.front ∙ ap (λ (os : List ℕ). take (512 * n - length os) c.args.bytes.now) c.rest-2.ensures.rest in
-    let grew = c.in-Ok.ensures.ok ∙ ap (λ (k : ℕ). with_holding c.args.self.now k (grown (c.rest-3.result.now ++ c.split_at.result.0.now))) c.number.ensures in
-    append-after c.args.self.now c.grow.new.self c.args.up c.args.bytes.now c.rest-3.result.now c.split_at.result.0.now n (count_of c) (rest-within c) c.rest-3.ensures.rest second grew
-
-after_grows : (c : goal.After-moved_on) → c.grow.new.self ≡ after_all c.args.self.now (whole_grows c.args.up.number (c.args.up.rest ++ c.args.bytes.now))
-after_grows c =
-    grown_store c
-    ∙ sym (grows-after c.args.up.number (length (c.args.up.rest ++ c.args.bytes.now) / 512) (c.args.up.rest ++ c.args.bytes.now) c.args.self.now)
-
-fits : (c : goal.After-moved_on) → came c.args.up + length c.args.bytes.now ≤ c.args.up.length
-fits c = omega (arith, c.missing.ensures.missing, c.missing.ensures.came, c.if-bytes-missing.false)
-
-upload : (c : goal.After-moved_on) → c.moved_on.result ≡ appended c.args.up c.args.bytes.now
-upload c =
-    let n : ℕ = (length c.rest.result.now + length c.args.bytes.now) / 512 in
-    let later : c.split_at.result.1.now ≡ drop (512 * n - length c.args.up.rest) c.args.bytes.now =
-    c.split_at.ensures.back ∙ ap (λ (os : List ℕ). drop (512 * n - length os) c.args.bytes.now) c.rest-2.ensures.rest in
-    append-upload c.args.up c.moved_on.result c.args.bytes.now c.split_at.result.1.now n (count_of c) (rest-within c) later c.moved_on.ensures
-
-pub returns-in-Ok-clause-ok : goal.returns-in-Ok-clause-ok
-returns-in-Ok-clause-ok c = after_grows c
-
-pub returns-in-Ok-clause-allowed : goal.returns-in-Ok-clause-allowed
-returns-in-Ok-clause-allowed c = append-allowed c.args.self.now c.args.up c.args.bytes.now c.requires (fits c)
-
-pub returns-in-Ok-clause-upload : goal.returns-in-Ok-clause-upload
-returns-in-Ok-clause-upload c = upload c
+pub hold_blocks-requires-clause-fits : goal.hold_blocks-requires-clause-fits
+hold_blocks-requires-clause-fits g c =
+    let mid : StoreState = record { files = c.bring.new.self.files; journal = c.self.inside.journal } in
+    let brought = c.in_default.ensures.ok in
+    brought-fits c.args.self.now mid c.args.up c.args.bytes.now c.number-number.result c.number-number.ensures c.requires.holds (omega (arith, c.missing.ensures.missing, c.if-bytes-missing.false))
+    (brought.store ∙ ap store_in c.self.view_is)
+    (brought.here ∙ ap (λ (s : StoreState). option_map (λ (r : List ℕ). r ++ c.args.bytes.now) (rest_in s c.number-number.result)) c.self.view_is)
 
 pub returns-in-Ok-clause-holds : goal.returns-in-Ok-clause-holds
-returns-in-Ok-clause-holds c =
-    subst (λ (up : Upload). Holds c.grow.new.self up) (sym (upload c)) (append-Holds c.args.self.now c.grow.new.self c.args.up c.args.bytes.now c.requires (grown_store c))
+returns-in-Ok-clause-holds g c =
+    let D = g.D.Disk in
+    let self = c.args.self.now in
+    let new = c.hold_blocks.new.self in
+    let up = c.args.up in
+    let bytes = c.args.bytes.now in
+    let does : Does D (false ≡ true) self new c.args.disk.now c.hold_blocks.new.disk (appending self up bytes) = search rules in
+    let rest : rest_in new up.number ≡ Some (unfilled_block (with_bytes self up bytes)) = search rules in
+    let next : c.moved_on.result ≡ appended self up bytes = search rules in
+    subst (λ (u : Upload). Holds new u) (sym next)
+    (appended-holds self new up bytes c.requires.holds (omega (arith, c.missing.ensures.missing, c.if-bytes-missing.false)) (does.done (λ e. cc e)).0 rest)
 
 pub returns-in-Ok-clause-uploads : goal.returns-in-Ok-clause-uploads
-returns-in-Ok-clause-uploads c =
-    subst (λ (s : Store). KeepsOthers c.args.self.now s c.args.up.number) (sym (grown_store c))
-    (change-KeepsOthers c.args.self.now c.args.up.number (grown (take (512 * (length (c.args.up.rest ++ c.args.bytes.now) / 512)) (c.args.up.rest ++ c.args.bytes.now))))
+returns-in-Ok-clause-uploads g c =
+    let D = g.D.Disk in
+    let self = c.args.self.now in
+    let new = c.hold_blocks.new.self in
+    let up = c.args.up in
+    let bytes = c.args.bytes.now in
+    let does : Does D (false ≡ true) self new c.args.disk.now c.hold_blocks.new.disk (appending self up bytes) = search rules in
+    let rests : KeepsRests self.files new.files up.number = search rules in
+    does-uploads D false self new c.args.disk.now c.hold_blocks.new.disk (appending self up bytes) up.number (appending-of self up bytes) does rests
 
 pub returns-in-Ok-clause-kept : goal.returns-in-Ok-clause-kept
-returns-in-Ok-clause-kept c =
-    subst (λ (s : Store). KeepsComplete c.args.self.now s) (sym (after_grows c))
-    (after_all-KeepsComplete c.args.self.now (whole_grows c.args.up.number (c.args.up.rest ++ c.args.bytes.now)) c.in-Ok.ensures.rules (grows-HaveCalls c.args.up.number (length (c.args.up.rest ++ c.args.bytes.now) / 512) (c.args.up.rest ++ c.args.bytes.now)) (append-allowed c.args.self.now c.args.up c.args.bytes.now c.requires (fits c)))
+returns-in-Ok-clause-kept g c =
+    let D = g.D.Disk in
+    let self = c.args.self.now in
+    let new = c.hold_blocks.new.self in
+    let up = c.args.up in
+    let bytes = c.args.bytes.now in
+    let does : Does D (false ≡ true) self new c.args.disk.now c.hold_blocks.new.disk (appending self up bytes) = search rules in
+    does-complete D false self new c.args.disk.now c.hold_blocks.new.disk (appending self up bytes) up.number (appending-of self up bytes) does up refl c.requires.holds
+
+pub returns-in-Err-hold_blocks-clause-does : goal.returns-in-Err-hold_blocks-clause-does
+returns-in-Err-hold_blocks-clause-does g c reaches =
+    let D = g.D.Disk in
+    let self = c.args.self.now in
+    let up = c.args.up in
+    let bytes = c.args.bytes.now in
+    let number = c.number-number.result in
+    let brought : StoreState = record { files = c.bring.new.self.files; journal = c.self.inside.journal } in
+    let held = c.hold_blocks.new.self in
+    let new : StoreState = record { files = c.park-in-Err-hold_blocks.new.self.files; journal = c.self-2.inside.journal } in
+    let came = c.in_default.ensures.ok in
+    let first : store_in brought ≡ store_in self = came.store ∙ ap store_in c.self.view_is in
+    let here : rest_in brought number ≡ option_map (λ (r : List ℕ). r ++ bytes) (rest_in self number) =
+    came.here ∙ ap (λ (s : StoreState). option_map (λ (r : List ℕ). r ++ bytes) (rest_in s number)) c.self.view_is in
+    let waits : octets_or_none (rest_in brought number) ≡ with_bytes self up bytes = brought-waits self brought up bytes number c.number-number.ensures c.requires.holds here in
+    let commands : grows number (length c.waiting.result.now / 512) (octets_or_none (rest_in brought number)) ≡ appending self up bytes =
+    ap (λ (w : List ℕ). grows number (length w / 512) (octets_or_none (rest_in brought number))) c.waiting.ensures
+    ∙ ap (λ (w : List ℕ). whole_grows number w) waits ∙ ap (λ (n : ℕ). whole_grows n (with_bytes self up bytes)) c.number-number.ensures in
+    subst (λ (cs : List Command). Does D (true ≡ true) self new c.args.disk.now c.hold_blocks.new.disk cs) commands
+    (Does-moved D (true ≡ true) brought held self new c.args.disk.now c.hold_blocks.new.disk (grows number (length c.waiting.result.now / 512) (octets_or_none (rest_in brought number)))
+    (sym first) (sym (ap (λ (s : StoreState). s.journal) c.self.view_is)) (c.park-in-Err-hold_blocks.ensures.store ∙ ap store_in c.self-2.view_is) (ap (λ (s : StoreState). s.journal) c.self-2.view_is)
+    c.in-Err-hold_blocks.ensures.does)
+
+pub returns-in-Err-hold_blocks-clause-uploads : goal.returns-in-Err-hold_blocks-clause-uploads
+returns-in-Err-hold_blocks-clause-uploads g c =
+    let D = g.D.Disk in
+    let self = c.args.self.now in
+    let new : StoreState = record { files = c.park-in-Err-hold_blocks.new.self.files; journal = c.self-2.inside.journal } in
+    let up = c.args.up in
+    let bytes = c.args.bytes.now in
+    let rests : KeepsRests self.files new.files up.number = search rules in
+    does-uploads D true self new c.args.disk.now c.hold_blocks.new.disk (appending self up bytes) up.number (appending-of self up bytes) (returns-in-Err-hold_blocks-clause-does g c refl) rests
+
+pub returns-in-Err-hold_blocks-clause-kept : goal.returns-in-Err-hold_blocks-clause-kept
+returns-in-Err-hold_blocks-clause-kept g c =
+    let D = g.D.Disk in
+    let self = c.args.self.now in
+    let new : StoreState = record { files = c.park-in-Err-hold_blocks.new.self.files; journal = c.self-2.inside.journal } in
+    let up = c.args.up in
+    let bytes = c.args.bytes.now in
+    does-complete D true self new c.args.disk.now c.hold_blocks.new.disk (appending self up bytes) up.number (appending-of self up bytes) (returns-in-Err-hold_blocks-clause-does g c refl) up refl c.requires.holds
+
+pub returns-in-Ok-clause-every_image : goal.returns-in-Ok-clause-every_image
+returns-in-Ok-clause-every_image g c =
+    let D = g.D.Disk in
+    let self = c.args.self.now in
+    let new = c.hold_blocks.new.self in
+    let up = c.args.up in
+    let bytes = c.args.bytes.now in
+    let does : Does D (false ≡ true) self new c.args.disk.now c.hold_blocks.new.disk (appending self up bytes) = search rules in
+    let made = does.done (λ e. cc e) in
+    let magic : new.journal.magic ≡ store_magic = does.same_magic ∙ sym (ap (λ (s : StoreState). s.journal.magic) c.self.view_is) ∙ c.self.invariant.magic_is in
+    holds-each D new c.hold_blocks.new.disk magic made.1 does.stands_on c.moved_on.result (returns-in-Ok-clause-holds g c)

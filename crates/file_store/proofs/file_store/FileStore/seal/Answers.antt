@@ -1,40 +1,102 @@
-use Rattle.std.proofs.Common.{◌≡◌, ℕ, subst, None}
-use Rattle.std.specs.Prelude.{OnOk, IfOk, IfErr}
-use Rattle.file_store.specs.Answers.{IsHeader}
-use Rattle.file_store.specs.Command.{after, drop_entry, fault_at, seal}
-use Rattle.file_store.specs.Upload.{octets_come}
-use Rattle.file_store.proofs.SealLemmas.{ok-DoesAll, ok-complete, last-command, seal-KeepsComplete, seal-KeepsOthers}
+use Rattle.std.proofs.Common.{◌≡◌, true, false, None, refl, sym, ◌∙◌, ap, arith, rules}
+use Rattle.pfh_items.specs.Faults.{fault_code}
+use Rattle.file_entries.specs.Files.{KeepsRests}
+use Rattle.file_entries.specs.Records.{store_magic}
+use Rattle.file_store.specs.OnDisk.{Does}
+use Rattle.file_store.specs.State.{StoreState, store_in}
+use Rattle.file_store.specs.Upload.{kept_file, octets_come, sealing}
+use Rattle.file_store.proofs.SealedLemmas.{sealed-entry, sealed-holding}
+use Rattle.file_store.proofs.TokenLemmas.{kept-each}
+use Rattle.file_store.proofs.UploadLemmas.{does-complete, does-uploads, sealing-of, whole-waiting}
 use Rattle.file_store.proofs.file_store.FileStore.seal.Goals as goal
 
-sealing : (c : goal.After-finish) → OnOk c.finish.result (c.finish.new.self ≡ after c.hold_rest.new.self (seal c.args.up.number c.args.moment))
-sealing c =
-    subst (λ (n : ℕ). OnOk c.finish.result (c.finish.new.self ≡ after c.hold_rest.new.self (seal n c.args.moment))) c.end.ensures c.finish.ensures.sealed
+pub end_file-requires-clause-whole : goal.end_file-requires-clause-whole
+end_file-requires-clause-whole g c =
+    whole-waiting c.args.self.now c.args.up c.end-number.result c.end-number.ensures c.requires.holds (omega (arith, c.missing.ensures.missing, c.if-missing-gt0.false))
 
-good : (c : goal.After-finish) → IfOk c.finish.result (λ receipt. (receipt ≡ c.args.up.number) × (fault_at c.hold_rest.new.self c.args.up.number ≡ None))
-good c =
-    subst (λ (n : ℕ). IfOk c.finish.result (λ receipt. (receipt ≡ n) × (fault_at c.hold_rest.new.self n ≡ None))) c.end.ensures c.finish.ensures.good
+pub returns-in-Ok-None-clause-complete : goal.returns-in-Ok-None-clause-complete
+returns-in-Ok-None-clause-complete g c =
+    let D = g.D.Disk in
+    let self = c.args.self.now in
+    let up = c.args.up in
+    let moment = c.args.moment in
+    let does : Does D (false ≡ true) self c.end_file.new.self c.args.disk.now c.end_file.new.disk (sealing self up moment) = search rules in
+    let good : fault_code (octets_come self up) ≡ None = search rules in
+    sealed-holding self up moment c.requires.holds (omega (arith, c.missing.ensures.missing, c.if-missing-gt0.false)) (store_in c.end_file.new.self) (does.done (λ e. cc e)).0 good
 
-bad : (c : goal.After-finish)
-    → IfErr c.finish.result (λ refusal. IsHeader refusal (fault_at c.hold_rest.new.self c.args.up.number) × (c.finish.new.self ≡ after c.hold_rest.new.self (drop_entry c.args.up.number)))
-bad c =
-    subst (λ (n : ℕ). IfErr c.finish.result (λ refusal. IsHeader refusal (fault_at c.hold_rest.new.self n) × (c.finish.new.self ≡ after c.hold_rest.new.self (drop_entry n)))) c.end.ensures c.finish.ensures.dropped
+pub returns-in-Ok-None-clause-every_image : goal.returns-in-Ok-None-clause-every_image
+returns-in-Ok-None-clause-every_image g c =
+    let D = g.D.Disk in
+    let self = c.args.self.now in
+    let new = c.end_file.new.self in
+    let up = c.args.up in
+    let moment = c.args.moment in
+    let does : Does D (false ≡ true) self new c.args.disk.now c.end_file.new.disk (sealing self up moment) = search rules in
+    let good : fault_code (octets_come self up) ≡ None = search rules in
+    let made = does.done (λ e. cc e) in
+    let magic : new.journal.magic ≡ store_magic = does.same_magic ∙ sym (ap (λ (s : StoreState). s.journal.magic) c.self.view_is) ∙ c.self.invariant.magic_is in
+    kept-each D new c.end_file.new.disk magic made.1 does.stands_on up c.requires.holds.begun moment (kept_file self up moment)
+    (sealed-entry self up moment c.requires.holds (omega (arith, c.missing.ensures.missing, c.if-missing-gt0.false)) (store_in new) made.0 good)
 
-pub returns-in-Ok-clause-ok : goal.returns-in-Ok-clause-ok
-returns-in-Ok-clause-ok c =
-    ok-DoesAll c.args.self.now c.hold_rest.new.self c.finish.new.self c.args.up (octets_come c.args.self.now c.args.up) c.args.moment c.in-Ok.ensures.ok c.in-Ok.ensures.whole c.finish.result (sealing c) (good c)
+pub returns-in-Ok-None-clause-uploads : goal.returns-in-Ok-None-clause-uploads
+returns-in-Ok-None-clause-uploads g c =
+    let D = g.D.Disk in
+    let self = c.args.self.now in
+    let new = c.end_file.new.self in
+    let up = c.args.up in
+    let moment = c.args.moment in
+    let does : Does D (false ≡ true) self new c.args.disk.now c.end_file.new.disk (sealing self up moment) = search rules in
+    let rests : KeepsRests self.files new.files up.number = search rules in
+    does-uploads D false self new c.args.disk.now c.end_file.new.disk (sealing self up moment) up.number (sealing-of self up.number moment) does rests
 
-pub returns-in-Ok-clause-complete : goal.returns-in-Ok-clause-complete
-returns-in-Ok-clause-complete c =
-    ok-complete c.args.self.now c.hold_rest.new.self c.finish.new.self c.args.up (octets_come c.args.self.now c.args.up) c.args.moment c.in-Ok.ensures.ok c.in-Ok.ensures.whole c.finish.result (sealing c)
+pub returns-in-Ok-None-clause-kept : goal.returns-in-Ok-None-clause-kept
+returns-in-Ok-None-clause-kept g c =
+    let D = g.D.Disk in
+    let self = c.args.self.now in
+    let new = c.end_file.new.self in
+    let up = c.args.up in
+    let moment = c.args.moment in
+    let does : Does D (false ≡ true) self new c.args.disk.now c.end_file.new.disk (sealing self up moment) = search rules in
+    does-complete D false self new c.args.disk.now c.end_file.new.disk (sealing self up moment) up.number (sealing-of self up.number moment) does up refl c.requires.holds
 
-pub returns-in-Ok-clause-uploads : goal.returns-in-Ok-clause-uploads
-returns-in-Ok-clause-uploads c =
-    let octets = octets_come c.args.self.now c.args.up in
-    let last = last-command c.args.self.now c.hold_rest.new.self c.finish.new.self c.args.up octets c.args.moment c.in-Ok.ensures.ok c.in-Ok.ensures.whole c.finish.result (sealing c) (good c) (bad c) in
-    seal-KeepsOthers c.args.self.now c.hold_rest.new.self c.finish.new.self c.args.up octets c.args.moment c.in-Ok.ensures.ok c.in-Ok.ensures.whole last.0 last.1 last.3
+pub returns-in-Ok-Some-clause-uploads : goal.returns-in-Ok-Some-clause-uploads
+returns-in-Ok-Some-clause-uploads g c =
+    let D = g.D.Disk in
+    let self = c.args.self.now in
+    let new = c.end_file.new.self in
+    let up = c.args.up in
+    let moment = c.args.moment in
+    let does : Does D (false ≡ true) self new c.args.disk.now c.end_file.new.disk (sealing self up moment) = search rules in
+    let rests : KeepsRests self.files new.files up.number = search rules in
+    does-uploads D false self new c.args.disk.now c.end_file.new.disk (sealing self up moment) up.number (sealing-of self up.number moment) does rests
 
-pub returns-in-Ok-clause-kept : goal.returns-in-Ok-clause-kept
-returns-in-Ok-clause-kept c =
-    let octets = octets_come c.args.self.now c.args.up in
-    let last = last-command c.args.self.now c.hold_rest.new.self c.finish.new.self c.args.up octets c.args.moment c.in-Ok.ensures.ok c.in-Ok.ensures.whole c.finish.result (sealing c) (good c) (bad c) in
-    seal-KeepsComplete c.args.self.now c.hold_rest.new.self c.finish.new.self c.args.up octets c.args.moment c.in-Ok.ensures.ok c.in-Ok.ensures.whole last.0 c.in-Ok.ensures.rules last.4 last.2 last.3
+pub returns-in-Ok-Some-clause-kept : goal.returns-in-Ok-Some-clause-kept
+returns-in-Ok-Some-clause-kept g c =
+    let D = g.D.Disk in
+    let self = c.args.self.now in
+    let new = c.end_file.new.self in
+    let up = c.args.up in
+    let moment = c.args.moment in
+    let does : Does D (false ≡ true) self new c.args.disk.now c.end_file.new.disk (sealing self up moment) = search rules in
+    does-complete D false self new c.args.disk.now c.end_file.new.disk (sealing self up moment) up.number (sealing-of self up.number moment) does up refl c.requires.holds
+
+pub returns-in-Err-clause-uploads : goal.returns-in-Err-clause-uploads
+returns-in-Err-clause-uploads g c =
+    let D = g.D.Disk in
+    let self = c.args.self.now in
+    let new : StoreState = record { files = c.park-in-Err.new.self.files; journal = c.self-2.inside.journal } in
+    let up = c.args.up in
+    let moment = c.args.moment in
+    let does : Does D (true ≡ true) self new c.args.disk.now c.end_file.new.disk (sealing self up moment) = search rules in
+    let rests : KeepsRests self.files new.files up.number = search rules in
+    does-uploads D true self new c.args.disk.now c.end_file.new.disk (sealing self up moment) up.number (sealing-of self up.number moment) does rests
+
+pub returns-in-Err-clause-kept : goal.returns-in-Err-clause-kept
+returns-in-Err-clause-kept g c =
+    let D = g.D.Disk in
+    let self = c.args.self.now in
+    let new : StoreState = record { files = c.park-in-Err.new.self.files; journal = c.self-2.inside.journal } in
+    let up = c.args.up in
+    let moment = c.args.moment in
+    let does : Does D (true ≡ true) self new c.args.disk.now c.end_file.new.disk (sealing self up moment) = search rules in
+    does-complete D true self new c.args.disk.now c.end_file.new.disk (sealing self up moment) up.number (sealing-of self up.number moment) does up refl c.requires.holds

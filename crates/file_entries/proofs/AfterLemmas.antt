@@ -1,0 +1,235 @@
+-- What commands keep.
+use Rattle.std.proofs.Common.{◌≡◌, ◌≢◌, ℕ, ◌+◌, ◌≤◌, ◌<◌, Bool, true, false, not, ◌&&◌, List, [], ◌∷◌, ◌++◌, length, refl, ap, sym, ◌∙◌, subst, arith, Option, None, Some, inl, inr, ◌==◌, nat_le, nat_lt, length-append}
+use Rattle.std.specs.Prelude.{find, IsTrue, is_none}
+use Rattle.pfh_items.specs.Faults.{fault_code}
+use Rattle.pfh_items.specs.Stamp.{StampValue}
+use Rattle.std.specs.List.{AllByRecursion}
+use Rattle.std.proofs.lemmas.Bool.Decides.{nat_tests, eqb_tells}
+use Rattle.std.proofs.lemmas.List.{length-map}
+use Rattle.std.proofs.lemmas.List.Filters.{length-filter_both, sum_by-filter_both}
+use Rattle.std.proofs.lemmas.List.Folds.{find-append}
+use Rattle.std.proofs.lemmas.List.Sums.{sum_by_push}
+use Rattle.px_base.specs.CallSign.{CallSign, IsCall}
+use Rattle.file_entries.specs.Command.{Command, begin, grow, seal, drop_entry, can_begin, has_room, is_good, is_partial, is_whole, passes, is_allowed, grown, kept_with, sealed, stamp_of, with_more, changed, with_holding, after, after_all, AreAllowed, HasCall}
+use Rattle.file_entries.specs.Info.{is_complete}
+use Rattle.file_entries.specs.IsStore.{IsStore, FitsLength}
+use Rattle.file_entries.specs.Kept.{KeepsComplete}
+use Rattle.file_entries.specs.declared.limits.TheConstants.{LAST_NEXT, LONGEST_FILE, MOST_ENTRIES}
+use Rattle.file_entries.specs.Store.{Entry, Holding, partial, complete, Store, entry_of, blocks_for, blocks_of, new_entry, octets_of}
+use Rattle.file_entries.proofs.StampedLemmas.{length-stamped}
+use Rattle.file_entries.proofs.EntriesLemmas.{has_number, AreEntries-push, AreEntries-map-changed, AreEntries-filter, HaveCallers-push, HaveCallers-map-changed, HaveCallers-filter, found-caller, blocks-map-changed, find-map-changed_other, find-filter_other, find_past}
+
+-- ---- what a test tells
+
+pub and-parts : (a b : Bool) → IsTrue (a && b) → IsTrue a × IsTrue b
+and-parts true true h = (refl, refl)
+and-parts true false h = absurd (cc)
+and-parts false b h = absurd (cc)
+
+pub passes-entry : (test : Entry → Bool) (o : Option Entry) → IsTrue (passes test o) → (e : Entry) × (o ≡ Some e) × IsTrue (test e)
+passes-entry test None h = absurd (cc)
+passes-entry test (Some e) h = (e, refl, h)
+
+-- the same, where the store is seen by another equal to it
+pub passes-at : (test : Entry → Bool) (s t : Store) (number : ℕ) → s ≡ t → IsTrue (passes test (entry_of t number)) → (e : Entry) × (find (has_number number) s.entries ≡ Some e) × IsTrue (test e)
+passes-at test s t number same ok = passes-entry test (entry_of s number) (subst (λ (u : Store). IsTrue (passes test (entry_of u number))) (sym same) ok)
+
+pub whole-partial : (h : Holding) (l : ℕ) → IsTrue (is_whole h l) → (held : List ℕ) × (h ≡ partial held) × (length held ≡ l)
+whole-partial (partial held) l t = (held, refl, grind (arith, nat_tests))
+whole-partial (complete o m) l t = absurd (cc)
+
+pub partial-whole : (h : Holding) (held : List ℕ) (l : ℕ) → h ≡ partial held → length held ≡ l → IsTrue (is_whole h l)
+partial-whole h held l is same = rw is (grind (arith, nat_tests))
+
+pub room-partial : (h : Holding) (l n : ℕ) → IsTrue (has_room h l n) → (held : List ℕ) × (h ≡ partial held) × (length held + n ≤ l)
+room-partial (partial held) l n t = (held, refl, grind (arith, nat_tests))
+room-partial (complete o m) l n t = absurd (cc)
+
+pub good-partial : (h : Holding) (l : ℕ) → IsTrue (is_good h l) → (held : List ℕ) × (h ≡ partial held) × (length held ≡ l)
+good-partial (partial held) l t = (held, refl, let parts : IsTrue (length held == l) × IsTrue (is_none (fault_code held)) = and-parts (length held == l) (is_none (fault_code held)) t in grind (arith, nat_tests, parts.0))
+good-partial (complete o m) l t = absurd (cc)
+
+-- the octets of a whole file without fault have none
+pub good-fault : (held : List ℕ) (l : ℕ) → IsTrue (is_good (partial held) l) → fault_code held ≡ None
+good-fault held l t = none (fault_code held) (and-parts (length held == l) (is_none (fault_code held)) t).1
+  where
+    none : (o : Option ℕ) → IsTrue (is_none o) → o ≡ None
+    none None h = refl
+    none (Some code) h = absurd (cc)
+
+-- the same, of the octets of the entry
+pub good-no_fault : (h : Holding) (l : ℕ) → IsTrue (is_good h l) → fault_code (octets_of h) ≡ None
+good-no_fault (partial held) l t = good-fault held l t
+good-no_fault (complete o m) l t = absurd (cc)
+
+pub partial-held : (h : Holding) → IsTrue (is_partial h) → (held : List ℕ) × (h ≡ partial held)
+partial-held (partial held) t = (held, refl)
+partial-held (complete o m) t = absurd (cc)
+
+-- a partial entry isn't complete
+pub never-both : (h : Holding) (held : List ℕ) → h ≡ partial held → IsTrue (is_complete h) → ⊥
+never-both (partial held) other h t = cc
+never-both (complete o m) other h t = cc
+
+-- ---- each command keeps the store's rules
+
+-- what the condition of a begin says
+pub begin-allowed : (store : Store) (number : ℕ) (caller : CallSign) (file_length moment : ℕ) → IsTrue (is_allowed store (begin number caller file_length moment))
+    → (number ≡ store.next) × (file_length ≤ LONGEST_FILE) × (length store.entries < MOST_ENTRIES) × (blocks_of store + blocks_for file_length ≤ store.blocks)
+begin-allowed store number caller file_length moment ok =
+    let short : Bool = nat_le file_length LONGEST_FILE in
+    let few : Bool = nat_lt (length store.entries) MOST_ENTRIES in
+    let left : Bool = nat_lt store.next LAST_NEXT in
+    let room : Bool = nat_le (blocks_of store + blocks_for file_length) store.blocks in
+    let both : IsTrue (number == store.next) × IsTrue (can_begin store file_length) = and-parts (number == store.next) (can_begin store file_length) ok in
+    let three : IsTrue (short && few && left) × IsTrue room = and-parts (short && few && left) room both.1 in
+    let two : IsTrue (short && few) × IsTrue left = and-parts (short && few) left three.0 in
+    let one : IsTrue short × IsTrue few = and-parts short few two.0 in
+    (grind (arith, nat_tests, both.0), grind (arith, nat_tests, one.0), grind (arith, nat_tests, one.1), grind (arith, nat_tests, three.1))
+
+-- what the condition of a grow says
+pub grow-allowed : (store : Store) (number : ℕ) (octets : List ℕ) → IsTrue (is_allowed store (grow number octets))
+    → IsTrue (passes (λ e. has_room e.holding e.length (length octets)) (entry_of store number))
+grow-allowed store number octets ok = (and-parts (nat_le 1 (length octets) && nat_le (length octets) 512) (passes (λ e. has_room e.holding e.length (length octets)) (entry_of store number)) ok).1
+
+pub new_entry-IsStore : (store : Store) (caller : CallSign) (file_length moment : ℕ) → IsStore store → IsCall caller → file_length ≤ LONGEST_FILE → length store.entries < MOST_ENTRIES
+    → blocks_of store + blocks_for file_length ≤ store.blocks → IsStore (after store (begin store.next caller file_length moment))
+new_entry-IsStore store caller file_length moment is call small few room =
+    let new : Entry = new_entry store.next caller file_length moment in
+    record {
+      entries = AreEntries-push 1 store.next store.entries new is.entries is.next refl (omega arith) small;
+      callers = HaveCallers-push store.entries new is.callers call;
+      next = omega arith;
+      count = simp length-append (omega arith);
+      blocks = rw (sum_by_push (λ (e : Entry). blocks_for e.length) store.entries new) room;
+      some = is.some;
+      most = is.most;
+    }
+
+pub begin-IsStore : (store : Store) (number : ℕ) (caller : CallSign) (file_length moment : ℕ) → IsStore store → IsCall caller
+    → IsTrue (is_allowed store (begin number caller file_length moment)) → IsStore (after store (begin number caller file_length moment))
+begin-IsStore store number caller file_length moment is call ok =
+    let says = begin-allowed store number caller file_length moment ok in
+    subst (λ (n : ℕ). IsStore (after store (begin n caller file_length moment))) (sym says.0) (new_entry-IsStore store caller file_length moment is call says.1 says.2 says.3)
+
+pub change-IsStore : (store : Store) (number : ℕ) (change : Entry → Holding) (e : Entry) → IsStore store → entry_of store number ≡ Some e
+    → FitsLength (change e) e.length → IsStore (with_holding store number change)
+change-IsStore store number change e is found fits =
+    record {
+      entries = AreEntries-map-changed number change 1 store.next store.entries e is.entries found fits;
+      callers = HaveCallers-map-changed number change store.entries is.callers;
+      next = is.next;
+      count = subst (λ (n : ℕ). n ≤ MOST_ENTRIES) (sym (length-map store.entries (changed number change))) is.count;
+      blocks = subst (λ (n : ℕ). n ≤ store.blocks) (sym (blocks-map-changed number change store.entries)) is.blocks;
+      some = is.some;
+      most = is.most;
+    }
+
+pub drop-IsStore : (store : Store) (number : ℕ) → IsStore store → IsStore (after store (drop_entry number))
+drop-IsStore store number is =
+    let test : Entry → Bool = λ e. not (e.number == number) in
+    record {
+      entries = AreEntries-filter test 1 store.next store.entries is.entries;
+      callers = HaveCallers-filter test store.entries is.callers;
+      next = is.next;
+      count = omega (arith, is.count, length-filter_both test (λ e. not (test e)) (λ _. refl) store.entries);
+      blocks = omega (arith, is.blocks, sum_by-filter_both test (λ e. not (test e)) (λ _. refl) (λ (e : Entry). blocks_for e.length) store.entries);
+      some = is.some;
+      most = is.most;
+    }
+
+-- octets that have room fit the file
+pub more-fits : (octets : List ℕ) (h : Holding) (l : ℕ) → IsTrue (has_room h l (length octets)) → FitsLength (with_more octets h) l
+more-fits octets (partial held) l t = simp length-append (grind (arith, nat_tests))
+more-fits octets (complete all m) l t = absurd (cc)
+
+-- a file without fault fits once it is stamped
+pub kept-fits : (stamp : StampValue) (h : Holding) (l : ℕ) → IsCall stamp.by → IsTrue (is_good h l) → FitsLength (kept_with stamp h) l
+kept-fits stamp (partial held) l call t =
+    let good = good-partial (partial held) l t in
+    let same : partial held ≡ partial good.0 = good.1 in
+    let held_same : held ≡ good.0 = cc in
+    length-stamped stamp held call (good-fault held l t) ∙ ap (λ (os : List ℕ). length os) held_same ∙ good.2
+kept-fits stamp (complete all m) l call t = absurd (cc)
+
+pub after-IsStore : (store : Store) (command : Command) → IsStore store → HasCall command → IsTrue (is_allowed store command) → IsStore (after store command)
+after-IsStore store (begin number caller file_length moment) is call ok = begin-IsStore store number caller file_length moment is call ok
+after-IsStore store (grow number octets) is call ok =
+    let found = passes-entry (λ e. has_room e.holding e.length (length octets)) (entry_of store number) (grow-allowed store number octets ok) in
+    change-IsStore store number (grown octets) found.0 is found.1 (more-fits octets found.0.holding found.0.length found.2)
+after-IsStore store (seal number moment) is call ok =
+    let found = passes-entry (λ e. is_good e.holding e.length) (entry_of store number) ok in
+    change-IsStore store number (sealed moment) found.0 is found.1
+    (kept-fits (stamp_of moment found.0) found.0.holding found.0.length (found-caller number store.entries found.0 is.callers found.1) found.2)
+after-IsStore store (drop_entry number) is call ok = drop-IsStore store number is
+
+-- the caller of each command is a call
+abbrev pub HaveCalls : List Command → Type 0
+HaveCalls commands = AllByRecursion HasCall commands
+
+pub after_all-IsStore : (store : Store) (commands : List Command) → IsStore store → HaveCalls commands → AreAllowed store commands → IsStore (after_all store commands)
+after_all-IsStore store [] is calls ok = is
+after_all-IsStore store (command ∷ commands) is calls ok =
+    after_all-IsStore (after store command) commands (after-IsStore store command is calls.0 ok.0) calls.1 ok.1
+
+-- ---- each command keeps the other entries, and each complete one
+
+-- an entry that is found stays found, with one more at the end
+pub find-append_found : (test : Entry → Bool) (xs ys : List Entry) (e : Entry) → find test xs ≡ Some e → find test (xs ++ ys) ≡ Some e
+find-append_found test xs ys e found = rw (find-append test xs ys, found) refl
+
+-- the number of the command's entry
+abbrev pub number_of : Command → ℕ
+number_of (begin number caller file_length moment) = number
+number_of (grow number octets) = number
+number_of (seal number moment) = number
+number_of (drop_entry number) = number
+
+pub after-other : (store : Store) (command : Command) (other : ℕ) (e : Entry) → other ≢ number_of command → entry_of store other ≡ Some e → entry_of (after store command) other ≡ Some e
+after-other store (begin number caller file_length moment) other e ne found = find-append_found (has_number other) store.entries _ e found
+after-other store (grow number octets) other e ne found = find-map-changed_other number other (grown octets) store.entries ne ∙ found
+after-other store (seal number moment) other e ne found = find-map-changed_other number other (sealed moment) store.entries ne ∙ found
+after-other store (drop_entry number) other e ne found = find-filter_other number other store.entries ne ∙ found
+
+-- the entry that is found passes the test
+pub found-passes : (test : Entry → Bool) (o : Option Entry) (e : Entry) → o ≡ Some e → IsTrue (passes test o) → IsTrue (test e)
+found-passes test o e found ok = subst (λ (p : Option Entry). IsTrue (passes test p)) found ok
+
+-- no command whose condition holds is of a complete entry
+pub never-complete : (store : Store) (command : Command) (e : Entry) → IsStore store → IsTrue (is_allowed store command) → entry_of store (number_of command) ≡ Some e → IsTrue (is_complete e.holding) → ⊥
+never-complete store (begin number caller file_length moment) e is ok found whole =
+    let same : number ≡ store.next = (begin-allowed store number caller file_length moment ok).0 in
+    let none : entry_of store number ≡ None = find_past number 1 store.next store.entries is.entries (omega arith) in
+    cc
+never-complete store (grow number octets) e is ok found whole =
+    let room = room-partial e.holding e.length (length octets) (found-passes (λ e. has_room e.holding e.length (length octets)) (entry_of store number) e found (grow-allowed store number octets ok)) in
+    never-both e.holding room.0 room.1 whole
+never-complete store (seal number moment) e is ok found whole =
+    let good = good-partial e.holding e.length (found-passes (λ e. is_good e.holding e.length) (entry_of store number) e found ok) in
+    never-both e.holding good.0 good.1 whole
+never-complete store (drop_entry number) e is ok found whole =
+    let held = partial-held e.holding (found-passes (λ e. is_partial e.holding) (entry_of store number) e found ok) in
+    never-both e.holding held.0 held.1 whole
+
+pub after-KeepsComplete : (store : Store) (command : Command) → IsStore store → IsTrue (is_allowed store command) → KeepsComplete store (after store command)
+after-KeepsComplete store command is ok number e found whole =
+    elim (eqb_tells number (number_of command)) [
+      | inl w ↦ absurd (never-complete store command e is ok (subst (λ (n : ℕ). entry_of store n ≡ Some e) w.1 found) whole)
+      | inr w ↦ after-other store command number e w.1 found
+    ]
+
+pub after_all-KeepsComplete : (store : Store) (commands : List Command) → IsStore store → HaveCalls commands → AreAllowed store commands
+    → KeepsComplete store (after_all store commands)
+after_all-KeepsComplete store [] is calls ok number e found whole = found
+after_all-KeepsComplete store (command ∷ commands) is calls ok number e found whole =
+    after_all-KeepsComplete (after store command) commands (after-IsStore store command is calls.0 ok.0) calls.1 ok.1 number e
+    (after-KeepsComplete store command is ok.0 number e found whole) whole
+
+-- ---- a file that was just begun
+
+pub begin-KeepsComplete : (store : Store) (number : ℕ) (caller : CallSign) (file_length moment : ℕ) → KeepsComplete store (after store (begin number caller file_length moment))
+begin-KeepsComplete store number caller file_length moment other e found whole = find-append_found (has_number other) store.entries _ e found
+
+-- the entry at the end, of a number that none has
+pub find-push : (test : Entry → Bool) (xs : List Entry) (e : Entry) → find test xs ≡ None → test e ≡ true → find test (xs ++ e ∷ []) ≡ Some e
+find-push test xs e none passed = rw (find-append test xs (e ∷ []), none, passed) refl

@@ -1,0 +1,124 @@
+-- Octets that become held, one block after another.
+use Rattle.std.proofs.Common.{◌≡◌, ℕ, suc, zero, ◌+◌, ◌≤◌, ◌<◌, Bool, ◌&&◌, List, [], ◌∷◌, ◌++◌, length, map, take, drop, refl, ap, sym, ◌∙◌, subst, arith, Option, Some, inl, inr, ◌*◌, nat_le, length-append, length-drop, append_assoc}
+use Rattle.std.specs.Prelude.{IsTrue}
+use Rattle.std.proofs.lemmas.Bool.Decides.{nat_tests, eqb_tells}
+use Rattle.std.proofs.lemmas.List.{length-take-le, append-nil}
+use Rattle.std.proofs.Math.Seq.{take-add}
+use Rattle.file_entries.specs.Command.{Command, HasCall, grow, has_room, passes, is_allowed, grown, changed, with_holding, with_more, after, after_all, AreAllowed, grows, last_grow}
+use Rattle.file_entries.specs.Store.{Entry, Holding, partial, complete, Store, entry_of}
+use Rattle.file_entries.proofs.EntriesLemmas.{find-map-changed}
+use Rattle.file_entries.proofs.AfterLemmas.{HaveCalls}
+
+-- ---- two changes are one
+
+pub more-none : (h : Holding) → with_more [] h ≡ h
+more-none (partial held) = ap partial (append-nil held)
+more-none (complete octets moment) = refl
+
+pub more-twice : (a b : List ℕ) (h : Holding) → with_more b (with_more a h) ≡ with_more (a ++ b) h
+more-twice a b (partial held) = ap partial (append_assoc held a b)
+more-twice a b (complete octets moment) = refl
+
+pub changed-none : (number : ℕ) (e : Entry) → changed number (grown []) e ≡ e
+changed-none number e =
+    elim (eqb_tells e.number number) [
+      | inl w ↦ rw w.0 (ap (λ (h : Holding). record e { holding = h }) (more-none e.holding))
+      | inr w ↦ rw w.0 refl
+    ]
+
+pub changed-twice : (number : ℕ) (a b : List ℕ) (e : Entry) → changed number (grown b) (changed number (grown a) e) ≡ changed number (grown (a ++ b)) e
+changed-twice number a b e =
+    elim (eqb_tells e.number number) [
+      | inl w ↦ rw (w.0, w.0) (ap (λ (h : Holding). record e { holding = h }) (more-twice a b e.holding))
+      | inr w ↦ rw (w.0, w.0) refl
+    ]
+
+pub map-changed-none : (number : ℕ) (entries : List Entry) → map (changed number (grown [])) entries ≡ entries
+map-changed-none number [] = refl
+map-changed-none number (x ∷ xs) =
+    ap (λ (y : Entry). y ∷ map (changed number (grown [])) xs) (changed-none number x) ∙ ap (λ (ys : List Entry). x ∷ ys) (map-changed-none number xs)
+
+pub map-changed-twice : (number : ℕ) (a b : List ℕ) (entries : List Entry)
+    → map (changed number (grown b)) (map (changed number (grown a)) entries) ≡ map (changed number (grown (a ++ b))) entries
+map-changed-twice number a b [] = refl
+map-changed-twice number a b (x ∷ xs) =
+    ap (λ (y : Entry). y ∷ map (changed number (grown b)) (map (changed number (grown a)) xs)) (changed-twice number a b x)
+    ∙ ap (λ (ys : List Entry). changed number (grown (a ++ b)) x ∷ ys) (map-changed-twice number a b xs)
+
+pub with_holding-none : (store : Store) (number : ℕ) → with_holding store number (grown []) ≡ store
+with_holding-none store number = ap (λ (es : List Entry). record store { entries = es }) (map-changed-none number store.entries)
+
+pub with_holding-twice : (store : Store) (number : ℕ) (a b : List ℕ)
+    → with_holding (with_holding store number (grown a)) number (grown b) ≡ with_holding store number (grown (a ++ b))
+with_holding-twice store number a b = ap (λ (es : List Entry). record store { entries = es }) (map-changed-twice number a b store.entries)
+
+-- ---- the store after grows
+
+pub grows-after : (number n : ℕ) (octets : List ℕ) (store : Store) → after_all store (grows number n octets) ≡ with_holding store number (grown (take (512 * n) octets))
+grows-after number zero octets store = sym (with_holding-none store number)
+grows-after number (suc n) octets store =
+    let step : 512 + 512 * n ≡ 512 * suc n = omega arith in
+    grows-after number n (drop 512 octets) (with_holding store number (grown (take 512 octets)))
+    ∙ (with_holding-twice store number (take 512 octets) (take (512 * n) (drop 512 octets))
+    ∙ ap (λ (os : List ℕ). with_holding store number (grown os)) (sym (take-add 512 (512 * n) octets) ∙ ap (λ (k : ℕ). take k octets) step))
+
+pub last_grow-after : (number : ℕ) (rest : List ℕ) (store : Store) → after_all store (last_grow number rest) ≡ with_holding store number (grown rest)
+last_grow-after number [] store = sym (with_holding-none store number)
+last_grow-after number (octet ∷ octets) store = refl
+
+pub after_all-append : (a b : List Command) (store : Store) → after_all store (a ++ b) ≡ after_all (after_all store a) b
+after_all-append [] b store = refl
+after_all-append (command ∷ commands) b store = after_all-append commands b (after store command)
+
+-- ---- the condition of each holds
+
+pub AreAllowed-append : (a b : List Command) (store : Store) → AreAllowed store a → AreAllowed (after_all store a) b → AreAllowed store (a ++ b)
+AreAllowed-append [] b store ok then = then
+AreAllowed-append (command ∷ commands) b store ok then = (ok.0, AreAllowed-append commands b (after store command) ok.1 then)
+
+pub both-true : (a b : Bool) → IsTrue a → IsTrue b → IsTrue (a && b)
+both-true a b p q = rw (p, q) refl
+
+pub partial-room : (held : List ℕ) (l n : ℕ) → length held + n ≤ l → IsTrue (has_room (partial held) l n)
+partial-room held l n le = grind (arith, nat_tests)
+
+pub entry-has_room : (store : Store) (number : ℕ) (e : Entry) (held : List ℕ) (n : ℕ) → entry_of store number ≡ Some e → e.holding ≡ partial held → length held + n ≤ e.length
+    → IsTrue (passes (λ e. has_room e.holding e.length n) (entry_of store number))
+entry-has_room store number e held n found is le =
+    subst (λ (o : Option Entry). IsTrue (passes (λ e. has_room e.holding e.length n) o)) (sym found)
+    (subst (λ (h : Holding). IsTrue (has_room h e.length n)) (sym is) (partial-room held e.length n le))
+
+pub grow-is_allowed : (store : Store) (number : ℕ) (octets : List ℕ) (e : Entry) (held : List ℕ) → entry_of store number ≡ Some e → e.holding ≡ partial held
+    → 1 ≤ length octets → length octets ≤ 512 → length held + length octets ≤ e.length → IsTrue (is_allowed store (grow number octets))
+grow-is_allowed store number octets e held found is some most le =
+    let first : IsTrue (nat_le 1 (length octets)) = grind (arith, nat_tests) in
+    let second : IsTrue (nat_le (length octets) 512) = grind (arith, nat_tests) in
+    both-true (nat_le 1 (length octets) && nat_le (length octets) 512) _ (both-true (nat_le 1 (length octets)) (nat_le (length octets) 512) first second)
+    (entry-has_room store number e held (length octets) found is le)
+
+pub grows-allowed : (number n : ℕ) (octets : List ℕ) (store : Store) (e : Entry) (held : List ℕ) → entry_of store number ≡ Some e → e.holding ≡ partial held
+    → length held + 512 * n ≤ e.length → 512 * n ≤ length octets → AreAllowed store (grows number n octets)
+grows-allowed number zero octets store e held found is fits some = tt
+grows-allowed number (suc n) octets store e held found is fits some =
+    let step : 512 + 512 * n ≡ 512 * suc n = omega arith in
+    let block : length (take 512 octets) ≡ 512 = length-take-le 512 octets (omega arith) in (
+      grow-is_allowed store number (take 512 octets) e held found is (omega arith) (omega arith) (omega arith),
+      grows-allowed number n (drop 512 octets) (with_holding store number (grown (take 512 octets))) (record e { holding = grown (take 512 octets) e }) (held ++ take 512 octets)
+          (find-map-changed number (grown (take 512 octets)) store.entries e found) (ap (with_more (take 512 octets)) is) (simp length-append (omega arith)) (simp length-drop (omega arith)),
+    )
+
+pub last_grow-allowed : (number : ℕ) (rest : List ℕ) (store : Store) (e : Entry) (held : List ℕ) → entry_of store number ≡ Some e → e.holding ≡ partial held
+    → length rest < 512 → length held + length rest ≤ e.length → AreAllowed store (last_grow number rest)
+last_grow-allowed number [] store e held found is few fits = tt
+last_grow-allowed number (octet ∷ octets) store e held found is few fits =
+    (grow-is_allowed store number (octet ∷ octets) e held found is (omega arith) (omega arith) fits, tt)
+
+-- no grow names a caller
+pub grows-HaveCalls : (number n : ℕ) (octets : List ℕ) → HaveCalls (grows number n octets)
+grows-HaveCalls number zero octets = tt
+grows-HaveCalls number (suc n) octets = (tt, grows-HaveCalls number n (drop 512 octets))
+
+-- nor does the last one, and no other command does behind it
+pub last_grow-HaveCalls : (number : ℕ) (rest : List ℕ) (command : Command) → HasCall command → HaveCalls (last_grow number rest ++ command ∷ [])
+last_grow-HaveCalls number [] command call = (call, tt)
+last_grow-HaveCalls number (octet ∷ octets) command call = (tt, (call, tt))

@@ -1,0 +1,13 @@
+pub mod AfterLemmas
+pub mod EntriesLemmas
+pub mod FilesLemmas
+pub mod GrowLemmas
+pub mod InfoLemmas
+pub mod LawLemmas
+pub mod PlaceLemmas
+pub mod RecordLemmas
+pub mod StampedLemmas
+pub mod StoredLemmas
+pub mod ChangeLemmas
+pub mod ClientLemmas
+pub mod FaultlessLemmas

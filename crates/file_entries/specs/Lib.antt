@@ -1,0 +1,13 @@
+pub mod Applied
+pub mod Bars
+pub mod Command
+pub mod Commands
+pub mod Counted
+pub mod Files
+pub mod Info
+pub mod Kept
+pub mod IsStore
+pub mod KeptFile
+pub mod Laws
+pub mod Records
+pub mod Store

@@ -1,0 +1,27 @@
+//! Laws of the store's commands.
+
+ghost use Rattle.file_entries.specs.KeptFile.{KeptFileLaw};
+ghost use Rattle.file_entries.specs.Laws.{CommandsLaw, NumbersLaw, RecordsLaw};
+
+/// Each command whose condition holds keeps the rules of a store and each complete entry, and the next
+/// number never falls.
+pub fn commands_law()
+    ensures { CommandsLaw }
+{}
+
+/// A number whose entry was dropped never gets an entry again.
+pub fn numbers_law()
+    ensures { NumbersLaw }
+{}
+
+/// A record is read as a command exactly where it is that command's record, and each command that can be written has
+/// one.
+pub fn records_law()
+    ensures { RecordsLaw }
+{}
+
+/// A file that is kept has no fault, and the length, the body and the items of the one that came, but for the
+/// server's items.
+pub fn kept_file_law()
+    ensures { KeptFileLaw }
+{}

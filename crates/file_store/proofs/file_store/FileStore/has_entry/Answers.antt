@@ -1,0 +1,29 @@
+use Rattle.std.proofs.Common.{◌≡◌, refl, sym, ◌∙◌, ap, subst, rules}
+use Rattle.std.specs.Option.{option_map}
+use Rattle.file_entries.specs.Info.{info_of}
+use Rattle.file_entries.specs.IsStore.{IsStore}
+use Rattle.file_entries.specs.Store.{entry_of, octets_of}
+use Rattle.file_entries.proofs.InfoLemmas.{told}
+use Rattle.file_store.specs.State.{StoreState, store_in}
+use Rattle.file_store.proofs.ToldLemmas.{has-told, told-count, told-entry}
+use Rattle.file_store.proofs.file_store.FileStore.has_entry.Goals as goal
+
+pub returns : goal.returns
+returns c =
+    let self = c.args.self.now in
+    let up = c.args.up.now in
+    let info = c.in-Some.info in
+    let is = told (store_in self) c.number.result info (subst (λ (s : StoreState). IsStore (store_in s)) c.self.view_is c.info.ensures.rules)
+    (c.in-Some.ensures.info ∙ ap (λ (s : StoreState). option_map info_of (entry_of (store_in s) c.number.result)) c.self.view_is) in
+    let held : info.held ≡ up.held = search rules in (
+      λ theirs.
+          let both = c.is_theirs.ensures.0 theirs in (
+            is.entry.begun,
+            octets_of is.entry.holding,
+            told-entry (store_in self) c.number.result info is up c.number.ensures (both.0 ∙ c.caller.ensures) (both.1 ∙ c.length.ensures) (search rules),
+            sym (told-count (store_in self) c.number.result info is) ∙ held,
+          ),
+      λ has.
+          let all = has-told (store_in self) c.number.result info is self up refl c.number.ensures has in
+          c.is_theirs.ensures.1 (all.2 ∙ sym c.caller.ensures, all.3 ∙ sym c.length.ensures),
+    )

@@ -1,0 +1,47 @@
+-- What a recovery of the store makes of a disk, what it answers, and what a crash in it leaves.
+use Rattle.std.specs.Prelude.{◌≡◌, ◌⊎◌, ◌↔◌, ℕ, List, false, Option, IfSome, Result, IsErrOf}
+use Rattle.disk_model.specs.declared.disk.Disk.{Ghosts}
+use Rattle.file_entries.specs.Files.{NothingOut}
+use Rattle.file_entries.specs.Records.{store_magic}
+use Rattle.file_journal.specs.Calls.{IsQuietNow}
+use Rattle.file_journal.specs.Recovery.{IsFailedSync, IsRecovering, IsSyncedFirst}
+use Rattle.file_journal.specs.Walk.{damaged_at, no_store, state}
+use Rattle.file_store.specs.State.{StandsOn, StoreState, standing_of, store_in}
+use Rattle.file_store.specs.declared.refusals.StoreFault.{StoreFault}
+use Rattle.file_store.specs.declared.refusals.StoreFault.TheVariants as fault
+
+-- The store that a recovery gives is the one that the content stood for. No upload is out, the store hasn't failed, and it
+-- stands on the disk, which is quiet.
+pub record IsRecovered {D : Type 0} (g : Ghosts D) (blocks : ℕ) (disk disk_now : D) (self : StoreState) : Type 0 where
+  pub content : IfSome (g.content disk) (λ before. standing_of blocks before ≡ state (store_in self))
+  pub nothing_out : NothingOut self.files
+  pub healthy : self.journal.failed ≡ false
+  pub stands_on : StandsOn g self disk_now
+  pub quiet : IsQuietNow g disk_now
+
+-- each refusal comes exactly where the content stands for it
+pub record RefusesExactly {T : Type 0} (blocks : ℕ) (before : List ℕ) (result : Result T StoreFault) : Type 0 where
+  pub not_a_store :
+      (found : List ℕ) → IsErrOf result (fault.NotAStore found) ↔ (standing_of blocks before ≡ no_store found)
+  pub damaged : (at : ℕ) → IsErrOf result (fault.Damaged at) ↔ (standing_of blocks before ≡ damaged_at at)
+
+-- but for a fault of the disk and want of memory, and where the content is told
+abbrev pub RefusesRecovery : {T : Type 0} → ℕ → Option (List ℕ) → Result T StoreFault → Type 0
+RefusesRecovery blocks content result =
+    ¬ IsErrOf result fault.Disk → ¬ IsErrOf result fault.OutOfMemory
+    → IfSome content (λ before. RefusesExactly blocks before result)
+
+-- The octets stand for what these stand for, and differ from them only as the journal's recovery may leave them: 18
+-- octets or more are left as they are.
+pub record StandsAlike (blocks : ℕ) (before image : List ℕ) : Type 0 where
+  pub same : standing_of blocks image ≡ standing_of blocks before
+  pub octets : IsRecovering store_magic blocks before image
+
+-- Since the end of the first sync a crash leaves what stands for the same as the content before, and a content of 18
+-- octets or more as it is; only where that sync failed, and the answer is that fault, a crash may leave what it might
+-- have left before.
+abbrev pub LeavesAlikeSinceSync : {D T : Type 0} → Ghosts D → ℕ → Result T StoreFault → D → D → Type 0
+LeavesAlikeSinceSync g blocks result disk disk_now =
+    IfSome (g.content disk) (λ before.
+    IsSyncedFirst g disk disk_now (StandsAlike blocks before)
+    ⊎ (IsErrOf result fault.Disk × IsFailedSync g disk disk_now))

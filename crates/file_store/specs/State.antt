@@ -1,0 +1,45 @@
+-- A store of files on a disk as contracts see it, and what octets on a disk stand for as one.
+use Rattle.std.specs.Prelude.{◌≡◌, ℕ, List, Option, true}
+use Rattle.disk_model.specs.declared.disk.Disk.{Ghosts}
+use Rattle.file_entries.specs.Files.{Files, rest_of, store_of}
+use Rattle.file_entries.specs.Records.{store_magic, store_step}
+use Rattle.file_entries.specs.Store.{Store, empty_store}
+use Rattle.file_journal.specs.Position.{Position}
+use Rattle.file_journal.specs.Walk.{KeepsState, Stands, state, stands_for}
+
+-- the entries with the uploads that are out, and the journal of their commands
+pub record StoreState : Type 0 where
+  pub files : Files
+  pub journal : Position
+
+-- the store that it is
+abbrev pub store_in : StoreState → Store
+store_in self = store_of self.files
+
+-- the octets that came of the entry of this number and aren't held yet, where an upload of it is out
+abbrev pub rest_in : StoreState → ℕ → Option (List ℕ)
+rest_in self number = rest_of self.files number
+
+-- a write or a sync failed before
+abbrev pub HasFailed : StoreState → Type 0
+HasFailed self = self.journal.failed ≡ true
+
+-- What octets stand for as a store of files: for none, since they begin with other octets; for damage at this place; or
+-- for the store after the commands that their records are, each of which the store before it allows. Octets that have no
+-- block number yet stand for the empty store of this one.
+abbrev pub standing_of : ℕ → List ℕ → Stands Store
+standing_of blocks octets = stands_for empty_store store_step store_magic blocks octets
+
+-- the octets stand for this store
+abbrev pub StandsFor : List ℕ → Store → Type 0
+StandsFor image store = standing_of store.blocks image ≡ state store
+
+-- The store has failed; or the disk's content, where it is told, and each image that a crash since this moment might have
+-- left stand for it.
+abbrev pub StandsOn : {D : Type 0} → Ghosts D → StoreState → D → Type 0
+StandsOn g self disk = KeepsState empty_store store_step g self.journal (store_in self) disk
+
+-- The journal has the store's magic, and was read to its end.
+pub record IsRead (journal : Position) : Type 0 where
+  pub magic_is : journal.magic ≡ store_magic
+  pub ended : journal.ended ≡ true

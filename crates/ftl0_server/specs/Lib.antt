@@ -1,0 +1,10 @@
+pub mod Asked
+pub mod Continued
+pub mod Events
+pub mod Laws
+pub mod Others
+pub mod Run
+pub mod Session
+pub mod SessionState
+pub mod Taking
+pub mod Uploaded

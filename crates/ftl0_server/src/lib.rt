@@ -1,0 +1,15 @@
+//! The server of FTL0 sessions (FTL0 1990). So far: the session of one caller, which is its table row by row, over a
+//! store of files on a disk.
+#![tactic(auto)]
+
+mod asked;
+pub mod laws;
+mod phase;
+mod session;
+mod stop;
+#[cfg(test)]
+mod tests;
+
+pub use phase::Phase;
+pub use session::{Replies, Session, write_greeting};
+pub use stop::SessionStop;

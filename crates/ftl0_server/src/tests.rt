@@ -1,0 +1,20 @@
+//! The stops of a session as they are shown.
+
+use super::*;
+use std::process::Abort;
+use std::test::Fail;
+
+#[test]
+fn stops_are_shown(rt: HostRuntime) -> Result<(), Fail> {
+    for (stop, text) in [
+        (
+            SessionStop::NotBuilt { kind: 8 },
+            "the packet asks for what is not built yet",
+        ),
+        (SessionStop::Disk, "the disk failed"),
+        (SessionStop::OutOfMemory, "out of memory"),
+    ] {
+        assert_eq!(rt; format!(in rt.alloc(); "{stop}")?.as_str(), text);
+    }
+    Ok(())
+}

@@ -1,0 +1,36 @@
+//! One row: what a disk with these octets stands for.
+
+use anyhow::Result;
+use disk_model::MemoryDisk;
+use file_store::{FileStore, Limits};
+use std::alloc::Global;
+
+/// Recovers a store from the octets of a row, and shows it, or why it isn't recovered. Takes memory.
+pub fn play(alloc: Global, row: &str) -> Result<String> {
+    let octets = hex::decode(alloc, row)?;
+    let mut disk = MemoryDisk::new(alloc, octets.as_slice(), &[])?;
+    match FileStore::recover(alloc, &mut disk, Limits { blocks: 8 }) {
+        Ok(store) => shown(alloc, &store),
+        Err(fault) => Ok(format!(in alloc; "{fault}")?),
+    }
+}
+
+/// The first three entries of a store: the number, how many octets are held of how many, and whether the file is complete.
+/// Takes memory.
+fn shown(alloc: Global, store: &FileStore) -> Result<String> {
+    let mut text = String::from_str(alloc, "store")?;
+    for number in 1..4u32 {
+        if let Some(info) = store.info(number) {
+            let end = if info.complete {
+                "complete"
+            } else {
+                "under way"
+            };
+            let held = info.held;
+            let length = info.length;
+            let entry = format!(in alloc; "; {number}: {held} of {length}, {end}")?;
+            text.push_str(entry.as_str())?;
+        }
+    }
+    Ok(text)
+}

@@ -1,0 +1,235 @@
+-- How a session that was heard ended, as its status says.
+use Rattle.std.proofs.Common.{◌≡◌, ℕ, List, [], ◌∷◌, ◌++◌, refl, ap, sym, subst, ◌∙◌, inl, inr, Bool, true, false, arith}
+use Rattle.std.proofs.lemmas.List.{append_cancel_left}
+use Rattle.std.specs.Prelude.{◌⊎◌, slice_index, Option, Some, None, Result, Ok, Err, IsErrOf, if◌then◌else◌}
+use Rattle.px_base.specs.CallSign.{CallSign}
+use Rattle.px_base.specs.Outside.{Grows, Rose}
+use Rattle.px_base.specs.Polling.{EndsWith, HasEnd, HearsAll, octets_heard}
+use Rattle.px_base.specs.declared.air.Air.{Ghosts as AirGhosts}
+use Rattle.px_base.specs.declared.air.Turn.{Turn}
+use Rattle.px_base.specs.declared.air.Turn.TheVariants as turn
+use Rattle.ftl0_packets.specs.Laws.{IsOneStream}
+use Rattle.ftl0_packets.specs.Layout.{Item}
+use Rattle.ftl0_packets.specs.Stream.{Stream}
+use Rattle.file_entries.specs.Command.{Command}
+use Rattle.file_entries.specs.Store.{Store}
+use Rattle.ftl0_server.specs.Events.{Event, packets_in}
+use Rattle.ftl0_server.specs.Session.{command}
+use Rattle.server_node.specs.Running.{StopsOver}
+use Rattle.server_node.specs.SessionRan.{EndsOver, IsGreeted, IsUngreeted, SessionRan, TurnsBy}
+use Rattle.server_node.specs.Stops.{CountsBy}
+use Rattle.server_node.specs.declared.stop.NodeStop.{NodeStop}
+use Rattle.server_node.specs.declared.stop.NodeStop.TheVariants as stop
+use Rattle.server_node.specs.declared.terms.Served.{Served}
+use Rattle.pacsat_cli.specs.declared.status.BadStore.{BadStore}
+use Rattle.pacsat_cli.specs.declared.status.BadStore.TheVariants as bad
+use Rattle.pacsat_cli.specs.declared.status.Status.{Status}
+use Rattle.pacsat_cli.specs.declared.status.Status.TheVariants as status
+use Rattle.pacsat_cli.specs.Run.{HasStatusCause}
+use Rattle.pacsat_cli.specs.Sessions.{HasWriteCause, AsksFresh, IsDoneBy, IsNotBuiltBy, IsSpentBy, has_unbuilt}
+use Rattle.pacsat_cli.specs.Stops.{status_in_memory, status_of}
+use Rattle.pacsat_cli.proofs.Built.{ends_with-not_open, failed-no_end, open-no_end, run-built, stop-unbuilt}
+
+-- the status of a session over a disk, or over one in memory
+abbrev pub mended : Bool → Status → Status
+mended memory status.Disk = if memory then status.OutOfMemory else status.Disk
+mended memory s = s
+
+pub mended-memory : (ended : Result Served NodeStop) → mended true (status_of ended) ≡ status_in_memory (status_of ended)
+mended-memory (Ok served) = refl
+mended-memory (Err stop.AirRead) = refl
+mended-memory (Err stop.AirWrite) = refl
+mended-memory (Err stop.Disk) = refl
+mended-memory (Err (stop.NotAStore found)) = refl
+mended-memory (Err (stop.Damaged at)) = refl
+mended-memory (Err stop.Spent) = refl
+mended-memory (Err (stop.NotBuilt kind)) = refl
+mended-memory (Err stop.OutOfMemory) = refl
+
+pub mended-disk : (ended : Result Served NodeStop) → mended false (status_of ended) ≡ status_of ended
+mended-disk (Ok served) = refl
+mended-disk (Err stop.AirRead) = refl
+mended-disk (Err stop.AirWrite) = refl
+mended-disk (Err stop.Disk) = refl
+mended-disk (Err (stop.NotAStore found)) = refl
+mended-disk (Err (stop.Damaged at)) = refl
+mended-disk (Err stop.Spent) = refl
+mended-disk (Err (stop.NotBuilt kind)) = refl
+mended-disk (Err stop.OutOfMemory) = refl
+
+-- where the end was heard, the run is done
+pub done_by : (memory : Bool) (ended : Result Served NodeStop) (polls asked : ℕ) (turns : List Turn) (packets : List Item) → TurnsBy ended polls turns → IsDoneBy (mended memory (status_of ended)) asked turns packets
+done_by memory (Ok served) polls asked turns packets h end = refl
+done_by memory (Err stop.AirRead) polls asked turns packets h end = let P : List Turn → Type 0 = λ x. HasEnd x in absurd (failed-no_end h.0 h.2 (subst P h.1 end))
+done_by memory (Err stop.AirWrite) polls asked turns packets h end = absurd (open-no_end turns h end)
+done_by memory (Err stop.Disk) polls asked turns packets h end = absurd (open-no_end turns h end)
+done_by memory (Err (stop.NotAStore found)) polls asked turns packets h end = absurd h
+done_by memory (Err (stop.Damaged at)) polls asked turns packets h end = absurd h
+done_by memory (Err stop.Spent) polls asked turns packets h end = absurd (open-no_end turns h.1 end)
+done_by memory (Err (stop.NotBuilt kind)) polls asked turns packets h end = absurd (open-no_end turns h end)
+done_by memory (Err stop.OutOfMemory) polls asked turns packets h end = absurd (open-no_end turns h end)
+
+-- a session that is done read the end of the air
+pub reads_end : (memory : Bool) (ended : Result Served NodeStop) (polls : ℕ) (turns : List Turn) → TurnsBy ended polls turns → mended memory (status_of ended) ≡ status.Done → EndsWith turns turn.End
+reads_end memory (Ok served) polls turns h done = h.0
+reads_end memory (Err stop.AirRead) polls turns h done = absurd (cc)
+reads_end memory (Err stop.AirWrite) polls turns h done = absurd (cc)
+reads_end true (Err stop.Disk) polls turns h done = absurd (cc)
+reads_end false (Err stop.Disk) polls turns h done = absurd (cc)
+reads_end memory (Err (stop.NotAStore found)) polls turns h done = absurd h
+reads_end memory (Err (stop.Damaged at)) polls turns h done = absurd h
+reads_end memory (Err stop.Spent) polls turns h done = absurd (cc)
+reads_end memory (Err (stop.NotBuilt kind)) polls turns h done = absurd (cc)
+reads_end memory (Err stop.OutOfMemory) polls turns h done = absurd (cc)
+
+-- what was said and done over the events, after LOGIN_RESP or before it was said whole
+abbrev pub Saying : CallSign → List ℕ → Store → List Event → ℕ → ℕ → List Turn → List ℕ → List Command → List Command → Result Served NodeStop → Type 0
+Saying caller moments start events writes writes_now turns text done cut ended =
+    IsUngreeted (slice_index moments 0) turns text done cut ended ⊎ IsGreeted caller moments start turns events writes writes_now text done cut ended
+
+ok-not : (served : Served) (other : NodeStop) → IsErrOf (Ok served) other → ⊥
+ok-not served other e = absurd (cc)
+
+-- the events of a session that took all of them have rows
+all-built : (caller : CallSign) (moments : List ℕ) (start : Store) (events : List Event) (writes writes_now : ℕ) (turns : List Turn) (text : List ℕ) (done cut : List Command) (ended : Result Served NodeStop)
+    → (IsErrOf ended stop.AirWrite → ⊥) → Saying caller moments start events writes writes_now turns text done cut ended
+    → (replies : List ℕ) × (least : List Event) × EndsOver ended least caller start events writes writes_now replies done cut
+all-built caller moments start events writes writes_now turns text done cut ended isnt said =
+    elim said [ inl none ↦ absurd (isnt none.why) | inr greeted ↦ (greeted.replies, greeted.least, greeted.ends_over) ]
+
+-- where a packet of a type that isn't built was heard, the run is not built, but for a fault or want of memory
+pub not_built_by : (memory : Bool) (caller : CallSign) (moments : List ℕ) (start : Store) (events : List Event) (writes writes_now : ℕ) (turns : List Turn) (text : List ℕ) (done cut : List Command) (ended : Result Served NodeStop) (polls asked : ℕ)
+    → TurnsBy ended polls turns → Saying caller moments start events writes writes_now turns text done cut ended
+    → IsNotBuiltBy (mended memory (status_of ended)) asked turns (packets_in events)
+not_built_by memory caller moments start events writes writes_now turns text done cut (Ok served) polls asked h said some =
+    let all = all-built caller moments start events writes writes_now turns text done cut (Ok served) (ok-not served stop.AirWrite) said in
+    let none = run-built caller start command events all.0 done all.2.0 all.2.1 all.2.2 in absurd (let e = sym some ∙ none in cc)
+not_built_by memory caller moments start events writes writes_now turns text done cut (Err stop.AirRead) polls asked h said some =
+    let all = all-built caller moments start events writes writes_now turns text done cut (Err stop.AirRead) (λ e. cc) said in
+    let none = run-built caller start command events all.0 done all.2.0 all.2.1 all.2.2 in absurd (let e = sym some ∙ none in cc)
+not_built_by memory caller moments start events writes writes_now turns text done cut (Err stop.AirWrite) polls asked h said some = inr (0, omega arith, refl)
+not_built_by true caller moments start events writes writes_now turns text done cut (Err stop.Disk) polls asked h said some = inr (2, omega arith, refl)
+not_built_by false caller moments start events writes writes_now turns text done cut (Err stop.Disk) polls asked h said some = inr (1, omega arith, refl)
+not_built_by memory caller moments start events writes writes_now turns text done cut (Err (stop.NotAStore found)) polls asked h said some = absurd h
+not_built_by memory caller moments start events writes writes_now turns text done cut (Err (stop.Damaged at)) polls asked h said some = absurd h
+not_built_by memory caller moments start events writes writes_now turns text done cut (Err stop.Spent) polls asked h said some =
+    let all = all-built caller moments start events writes writes_now turns text done cut (Err stop.Spent) (λ e. cc) said in
+    let none = run-built caller start command events all.0 done all.2.0 all.2.1 all.2.2 in absurd (let e = sym some ∙ none in cc)
+not_built_by memory caller moments start events writes writes_now turns text done cut (Err (stop.NotBuilt kind)) polls asked h said some = inl refl
+not_built_by memory caller moments start events writes writes_now turns text done cut (Err stop.OutOfMemory) polls asked h said some = inr (2, omega arith, refl)
+
+-- where all turns are open ones and each packet's type is built, the run is spent, but for a fault or want of memory
+pub spent_by : (memory : Bool) (caller : CallSign) (moments : List ℕ) (start : Store) (events : List Event) (writes writes_now : ℕ) (turns : List Turn) (text : List ℕ) (done cut : List Command) (ended : Result Served NodeStop) (polls asked : ℕ)
+    → TurnsBy ended polls turns → Saying caller moments start events writes writes_now turns text done cut ended
+    → IsSpentBy (mended memory (status_of ended)) asked turns (packets_in events)
+spent_by memory caller moments start events writes writes_now turns text done cut (Ok served) polls asked h said count all_open built = absurd (ends_with-not_open turns turn.End h.0 all_open)
+spent_by memory caller moments start events writes writes_now turns text done cut (Err stop.AirRead) polls asked h said count all_open built = absurd (ends_with-not_open turns turn.Fail h all_open)
+spent_by memory caller moments start events writes writes_now turns text done cut (Err stop.AirWrite) polls asked h said count all_open built = inr (0, omega arith, refl)
+spent_by true caller moments start events writes writes_now turns text done cut (Err stop.Disk) polls asked h said count all_open built = inr (2, omega arith, refl)
+spent_by false caller moments start events writes writes_now turns text done cut (Err stop.Disk) polls asked h said count all_open built = inr (1, omega arith, refl)
+spent_by memory caller moments start events writes writes_now turns text done cut (Err (stop.NotAStore found)) polls asked h said count all_open built = absurd h
+spent_by memory caller moments start events writes writes_now turns text done cut (Err (stop.Damaged at)) polls asked h said count all_open built = absurd h
+spent_by memory caller moments start events writes writes_now turns text done cut (Err stop.Spent) polls asked h said count all_open built = inl refl
+spent_by memory caller moments start events writes writes_now turns text done cut (Err (stop.NotBuilt kind)) polls asked h said count all_open built =
+    let all = all-built caller moments start events writes writes_now turns text done cut (Err (stop.NotBuilt kind)) (λ e. cc) said in
+    let stopped : StopsOver caller start command events (stop.NotBuilt kind) writes writes_now all.0 done cut = all.2.stops in
+    let some = stop-unbuilt caller stopped.store_then stopped.state_then stopped.before stopped.next stopped.later stopped.stops.0 in
+    absurd (let e = sym some ∙ sym (ap (λ (es : List Event). has_unbuilt (packets_in es)) stopped.events_are) ∙ built in cc)
+spent_by memory caller moments start events writes writes_now turns text done cut (Err stop.OutOfMemory) polls asked h said count all_open built = inr (2, omega arith, refl)
+
+-- hearing failed where the count rose, and only there
+pub read_cause : (memory : Bool) (ended : Result Served NodeStop) (reads reads_now writes writes_now : ℕ) → CountsBy ended reads reads_now writes writes_now → HasStatusCause status.AirRead reads reads_now (mended memory (status_of ended))
+read_cause memory (Ok served) reads reads_now writes writes_now h = record { rose = λ e. absurd (cc); same = λ _. h.0 }
+read_cause memory (Err stop.AirRead) reads reads_now writes writes_now h = record { rose = λ _. h.0; same = λ isnt. absurd (isnt refl) }
+read_cause memory (Err stop.AirWrite) reads reads_now writes writes_now h = record { rose = λ e. absurd (cc); same = λ _. h.0 }
+read_cause true (Err stop.Disk) reads reads_now writes writes_now h = record { rose = λ e. absurd (cc); same = λ _. h.0 }
+read_cause false (Err stop.Disk) reads reads_now writes writes_now h = record { rose = λ e. absurd (cc); same = λ _. h.0 }
+read_cause memory (Err (stop.NotAStore found)) reads reads_now writes writes_now h = record { rose = λ e. absurd (cc); same = λ _. h.0 }
+read_cause memory (Err (stop.Damaged at)) reads reads_now writes writes_now h = record { rose = λ e. absurd (cc); same = λ _. h.0 }
+read_cause memory (Err stop.Spent) reads reads_now writes writes_now h = record { rose = λ e. absurd (cc); same = λ _. h.0 }
+read_cause memory (Err (stop.NotBuilt kind)) reads reads_now writes writes_now h = record { rose = λ e. absurd (cc); same = λ _. h.0 }
+read_cause memory (Err stop.OutOfMemory) reads reads_now writes writes_now h = record { rose = λ e. absurd (cc); same = λ _. h.0 }
+
+-- and so with saying, but for the reply after a fault of the disk
+pub write_cause : (memory : Bool) (words : List (List ℕ)) (ended : Result Served NodeStop) (reads reads_now writes writes_now : ℕ) → (memory ≡ true → AsksFresh words) → CountsBy ended reads reads_now writes writes_now → HasWriteCause words writes writes_now (mended memory (status_of ended))
+write_cause memory words (Ok served) reads reads_now writes writes_now fresh h = record { rose = λ e. absurd (cc); same = λ _ _ _. h.1 }
+write_cause memory words (Err stop.AirRead) reads reads_now writes writes_now fresh h = record { rose = λ e. absurd (cc); same = λ _ _ _. h.1 }
+write_cause memory words (Err stop.AirWrite) reads reads_now writes writes_now fresh h = record { rose = λ _. h.1; same = λ isnt _ _. absurd (isnt refl) }
+write_cause true words (Err stop.Disk) reads reads_now writes writes_now fresh h = record { rose = λ e. absurd (cc); same = λ _ _ named. absurd (named refl (fresh refl)) }
+write_cause false words (Err stop.Disk) reads reads_now writes writes_now fresh h = record { rose = λ e. absurd (cc); same = λ _ isnt _. absurd (isnt refl) }
+write_cause memory words (Err (stop.NotAStore found)) reads reads_now writes writes_now fresh h = record { rose = λ e. absurd (cc); same = λ _ _ _. h.1 }
+write_cause memory words (Err (stop.Damaged at)) reads reads_now writes writes_now fresh h = record { rose = λ e. absurd (cc); same = λ _ _ _. h.1 }
+write_cause memory words (Err stop.Spent) reads reads_now writes writes_now fresh h = record { rose = λ e. absurd (cc); same = λ _ _ _. h.1 }
+write_cause memory words (Err (stop.NotBuilt kind)) reads reads_now writes writes_now fresh h = record { rose = λ e. absurd (cc); same = λ _ _ _. h.1 }
+write_cause memory words (Err stop.OutOfMemory) reads reads_now writes writes_now fresh h = record { rose = λ e. absurd (cc); same = λ _ _ _. h.1 }
+
+-- which end has the status Disk, and which that of content that is no store
+pub disk-end : (ended : Result Served NodeStop) → status_of ended ≡ status.Disk → ended ≡ Err stop.Disk
+disk-end (Ok served) e = absurd (cc)
+disk-end (Err stop.AirRead) e = absurd (cc)
+disk-end (Err stop.AirWrite) e = absurd (cc)
+disk-end (Err stop.Disk) e = refl
+disk-end (Err (stop.NotAStore found)) e = absurd (cc)
+disk-end (Err (stop.Damaged at)) e = absurd (cc)
+disk-end (Err stop.Spent) e = absurd (cc)
+disk-end (Err (stop.NotBuilt kind)) e = absurd (cc)
+disk-end (Err stop.OutOfMemory) e = absurd (cc)
+
+pub not_a_store-end : (ended : Result Served NodeStop) (found : List ℕ) → status_of ended ≡ status.BadStore (bad.NotAStore found) → ended ≡ Err (stop.NotAStore found)
+not_a_store-end (Ok served) found e = absurd (cc)
+not_a_store-end (Err stop.AirRead) found e = absurd (cc)
+not_a_store-end (Err stop.AirWrite) found e = absurd (cc)
+not_a_store-end (Err stop.Disk) found e = absurd (cc)
+not_a_store-end (Err (stop.NotAStore other)) found e = (let same : other ≡ found = cc in ap (λ (f : List ℕ). Err (stop.NotAStore f)) same)
+not_a_store-end (Err (stop.Damaged at)) found e = absurd (cc)
+not_a_store-end (Err stop.Spent) found e = absurd (cc)
+not_a_store-end (Err (stop.NotBuilt kind)) found e = absurd (cc)
+not_a_store-end (Err stop.OutOfMemory) found e = absurd (cc)
+
+pub damaged-end : (ended : Result Served NodeStop) (at : ℕ) → status_of ended ≡ status.BadStore (bad.Damaged at) → ended ≡ Err (stop.Damaged at)
+damaged-end (Ok served) at e = absurd (cc)
+damaged-end (Err stop.AirRead) at e = absurd (cc)
+damaged-end (Err stop.AirWrite) at e = absurd (cc)
+damaged-end (Err stop.Disk) at e = absurd (cc)
+damaged-end (Err (stop.NotAStore found)) at e = absurd (cc)
+damaged-end (Err (stop.Damaged other)) at e = (let same : other ≡ at = cc in ap (λ (p : ℕ). Err (stop.Damaged p)) same)
+damaged-end (Err stop.Spent) at e = absurd (cc)
+damaged-end (Err (stop.NotBuilt kind)) at e = absurd (cc)
+damaged-end (Err stop.OutOfMemory) at e = absurd (cc)
+
+-- over a disk in memory neither comes
+pub memory-not_disk : (s : Status) → status_in_memory s ≡ status.Disk → ⊥
+memory-not_disk status.Done e = absurd (cc)
+memory-not_disk status.Refused e = absurd (cc)
+memory-not_disk status.Usage e = absurd (cc)
+memory-not_disk status.AirRead e = absurd (cc)
+memory-not_disk status.AirWrite e = absurd (cc)
+memory-not_disk status.Disk e = absurd (cc)
+memory-not_disk status.NoSuch e = absurd (cc)
+memory-not_disk (status.BadStore why) e = absurd (cc)
+memory-not_disk status.OutOfMemory e = absurd (cc)
+memory-not_disk status.Spent e = absurd (cc)
+memory-not_disk status.Out e = absurd (cc)
+memory-not_disk status.Shelf e = absurd (cc)
+memory-not_disk status.TooLong e = absurd (cc)
+memory-not_disk status.NotBuilt e = absurd (cc)
+
+pub heard-not_bad : (memory : Bool) (ended : Result Served NodeStop) (polls : ℕ) (turns : List Turn) (why : BadStore) → TurnsBy ended polls turns → mended memory (status_of ended) ≡ status.BadStore why → ⊥
+heard-not_bad memory (Ok served) polls turns why h e = absurd (cc)
+heard-not_bad memory (Err stop.AirRead) polls turns why h e = absurd (cc)
+heard-not_bad memory (Err stop.AirWrite) polls turns why h e = absurd (cc)
+heard-not_bad true (Err stop.Disk) polls turns why h e = absurd (cc)
+heard-not_bad false (Err stop.Disk) polls turns why h e = absurd (cc)
+heard-not_bad memory (Err (stop.NotAStore found)) polls turns why h e = h
+heard-not_bad memory (Err (stop.Damaged at)) polls turns why h e = h
+heard-not_bad memory (Err stop.Spent) polls turns why h e = absurd (cc)
+heard-not_bad memory (Err (stop.NotBuilt kind)) polls turns why h e = absurd (cc)
+heard-not_bad memory (Err stop.OutOfMemory) polls turns why h e = absurd (cc)
+
+-- what is told to have come since is what came
+pub told-same : {X : Type 0} (before now : Option (List X)) (earlier xs ys : List X) → before ≡ Some earlier → now ≡ Some (earlier ++ xs) → Grows before now ys → ys ≡ xs
+told-same {X} before now earlier xs ys e f h =
+    let P : Option (List X) → Type 0 = λ o. Grows before o ys in
+    let told = subst P f h in
+    let first : earlier ≡ told.0 = (let same = sym e ∙ told.1 in cc) in
+    sym (append_cancel_left told.0 xs ys (ap (λ x. x ++ xs) (sym first) ∙ told.2))

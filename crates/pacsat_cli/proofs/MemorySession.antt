@@ -1,0 +1,73 @@
+-- A session over a fresh disk in memory.
+use Rattle.std.proofs.Common.{◌≡◌, ℕ, List, [], refl, ap, sym, subst, ◌∙◌, inl, inr}
+use Rattle.std.specs.Prelude.{Option, Some, IfSome, Result, Ok, Err, IsErrOf}
+use Rattle.px_base.specs.declared.air.Air.{Ghosts as AirGhosts}
+use Rattle.disk_model.specs.declared.disk.Disk.{Ghosts}
+use Rattle.file_journal.specs.Journal.{journal_of}
+use Rattle.file_journal.specs.Walk.{damaged_at, no_store, state}
+use Rattle.file_entries.specs.Store.{Store, empty_store}
+use Rattle.file_store.specs.State.{standing_of}
+use Rattle.file_store.specs.declared.refusals.StoreFault.{StoreFault}
+use Rattle.file_store.specs.declared.refusals.StoreFault.TheVariants as fault
+use Rattle.server_node.specs.SessionRan.{SessionEnds, SessionRan}
+use Rattle.server_node.specs.Stops.{HasAirCause, EndsExactly, RefusesSession, stop_of_fault}
+use Rattle.server_node.specs.declared.stop.NodeStop.{NodeStop}
+use Rattle.server_node.specs.declared.stop.NodeStop.TheVariants as stop
+use Rattle.server_node.specs.declared.terms.Served.{Served}
+use Rattle.server_node.specs.declared.terms.SessionTerms.{SessionTerms}
+use Rattle.pacsat_cli.specs.declared.status.Status.{Status}
+use Rattle.pacsat_cli.specs.declared.status.Status.TheVariants as status
+use Rattle.pacsat_cli.specs.Sessions.{InMemory, OverMemory}
+use Rattle.pacsat_cli.specs.Stops.{status_in_memory, status_of}
+
+-- a disk without octets stands for the empty store
+fresh-stands : (blocks : ℕ) → standing_of blocks [] ≡ state (empty_store blocks)
+unfolding journal_of
+fresh-stands blocks = refl
+
+state-same : (a b : Store) → state a ≡ state b → a ≡ b
+state-same a b h = cc
+
+-- neither refusal comes
+no-refusal : (blocks : ℕ) (ended : Result Served NodeStop) → EndsExactly blocks [] ended → (found : List ℕ) → ended ≡ Err (stop.NotAStore found) → ⊥
+no-refusal blocks ended exact found is = let told = sym (fresh-stands blocks) ∙ (exact.not_a_store found).0 is in absurd (cc)
+
+no-damage : (blocks : ℕ) (ended : Result Served NodeStop) → EndsExactly blocks [] ended → (at : ℕ) → ended ≡ Err (stop.Damaged at) → ⊥
+no-damage blocks ended exact at is = let told = sym (fresh-stands blocks) ∙ (exact.damaged at).0 is in absurd (cc)
+
+module _ {A C D : Type 0} (g : Ghosts D) (air : AirGhosts A) (given : C → Option (List ℕ)) (disk disk_now : D) (before now : A) (clock clock_n : C) (terms : SessionTerms) (ended : Result Served NodeStop)
+    (fresh : g.content disk ≡ Some []) (refuses : RefusesSession terms.limits.blocks (g.content disk) ended) (counts : HasAirCause air.read_faults air.write_faults before now ended) where
+  exact : (why : NodeStop) → ended ≡ Err why → (why ≡ stop.Disk → ⊥) → (why ≡ stop.OutOfMemory → ⊥) → EndsExactly terms.limits.blocks [] ended
+  exact why is disk_not memory_not =
+      let P : Option (List ℕ) → Type 0 = λ o. IfSome o (λ octets. EndsExactly terms.limits.blocks octets ended) in
+      subst P fresh
+      (refuses (λ e. disk_not (let told = sym is ∙ e in cc)) (λ e. memory_not (let told = sym is ∙ e in cc)))
+
+  -- a recovery that is refused finds no memory
+  refused : (why : StoreFault) → ended ≡ Err (stop_of_fault why) → now ≡ before → clock_n ≡ clock → OverMemory air given before now clock clock_n terms (status_in_memory (status_of ended))
+  refused (fault.NotAStore found) is same clock_same = absurd (no-refusal terms.limits.blocks ended (exact (stop.NotAStore found) is (λ e. cc) (λ e. cc)) found is)
+  refused (fault.Damaged at) is same clock_same = absurd (no-damage terms.limits.blocks ended (exact (stop.Damaged at) is (λ e. cc) (λ e. cc)) at is)
+  refused fault.Disk is same clock_same = inl (ap (λ (r : Result Served NodeStop). status_in_memory (status_of r)) is, same, clock_same)
+  refused fault.OutOfMemory is same clock_same = inl (ap (λ (r : Result Served NodeStop). status_in_memory (status_of r)) is, same, clock_same)
+
+  pub over-memory : SessionEnds g air given disk disk_now before now clock clock_n terms ended → OverMemory air given before now clock clock_n terms (status_in_memory (status_of ended))
+  over-memory (inl h) = refused h.fault h.answer h.air h.clock_is
+  over-memory (inr h) =
+      let P : Option (List ℕ) → Type 0 = λ o. IfSome o (λ octets. standing_of terms.limits.blocks octets ≡ state h.start) in
+      let start_is = state-same h.start (empty_store terms.limits.blocks) (sym (subst P fresh h.stood) ∙ fresh-stands terms.limits.blocks) in
+      let Q : Store → Type 0 = λ s. SessionRan terms.caller h.moments s terms.polls h.turns (air.write_faults before) (air.write_faults now) h.text h.done h.cut ended in
+      inr
+      (record {
+        ended = ended;
+        turns = h.turns;
+        moments = h.moments;
+        text = h.text;
+        done = h.done;
+        cut = h.cut;
+        turns_heard = h.turns_heard;
+        moments_given = h.moments_given;
+        text_said = h.text_said;
+        ran = subst Q start_is h.ran;
+        counts = counts;
+        status_is = refl;
+      })

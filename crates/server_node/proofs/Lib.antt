@@ -1,0 +1,12 @@
+pub mod AckLemmas
+pub mod DiskLemmas
+pub mod EventLemmas
+pub mod Invariants
+pub mod Listening
+pub mod Moments
+pub mod NodeLemmas
+pub mod OctetLemmas
+pub mod RunLemmas
+pub mod Serving
+pub mod Sessions
+pub mod Standing

@@ -1,0 +1,102 @@
+//! What the octets of a disk stand for.
+
+ghost use Rattle.std.specs.Prelude.{◌≡◌, Some, false, true};
+ghost use Rattle.std.specs.Option.{option_map};
+ghost use Rattle.file_entries.specs.Info.{info_of};
+ghost use Rattle.file_entries.specs.Store.{entry_of};
+ghost use Rattle.file_store.specs.State.{StandsOn, store_in};
+
+use anyhow::Result;
+use disk_model::{Disk, MemoryDisk};
+use file_store::{FileStore, Info, Limits, StoreFault};
+use pfh_items::sum16;
+use std::alloc::Global;
+
+/// How many blocks of 512 octets a store has, where its octets don't say.
+const BLOCKS: u32 = 65_536;
+
+/// What octets stand for as a store of files, as a recovery of a disk with them finds it.
+pub fn standing_text(alloc: Global, octets: &[u8]) -> Result<String> {
+    let mut disk = MemoryDisk::new(alloc, octets, &[])?;
+    match FileStore::recover(alloc, &mut disk, Limits { blocks: BLOCKS }) {
+        Ok(mut store) => store_text(alloc, &mut store, &mut disk),
+        Err(StoreFault::NotAStore { .. }) => Ok(String::from_str(alloc, "no store")?),
+        Err(StoreFault::Damaged { at }) => Ok(format!(in alloc; "damaged {at}")?),
+        Err(fault) => Err(fault.into()),
+    }
+}
+
+/// What a store holds: the number that the next file gets, and each entry.
+fn store_text(alloc: Global, store: &mut FileStore, disk: &mut MemoryDisk) -> Result<String>
+    requires healthy { store.old.journal.failed ≡ false }
+    requires stands_on { StandsOn ⟦<MemoryDisk as Disk>⟧ store.old disk.old }
+{
+    let next = store.next_number();
+    let mut text = format!(in alloc; "next {next}")?;
+    for number in 1..next {
+        let entry = entry_text(alloc, store, disk, number)?;
+        text.push_str(entry.as_str())?;
+    }
+    Ok(text)
+}
+
+/// What a store says of the entry of this number, after a blank; nothing where there is none.
+fn entry_text(
+    alloc: Global,
+    store: &mut FileStore,
+    disk: &mut MemoryDisk,
+    number: u32,
+) -> Result<String>
+    requires healthy { store.old.journal.failed ≡ false }
+    requires stands_on { StandsOn ⟦<MemoryDisk as Disk>⟧ store.old disk.old }
+    ensures untouched { (store.new ≡ store.old) × (disk.new ≡ disk.old) }
+{
+    match store.info(number) {
+        None => Ok(String::new(alloc)),
+        Some(info) => info_text(alloc, store, disk, number, info),
+    }
+}
+
+/// What is said of an entry of this number.
+fn info_text(
+    alloc: Global,
+    store: &mut FileStore,
+    disk: &mut MemoryDisk,
+    number: u32,
+    info: Info,
+) -> Result<String>
+    requires healthy { store.old.journal.failed ≡ false }
+    requires stands_on { StandsOn ⟦<MemoryDisk as Disk>⟧ store.old disk.old }
+    requires there { option_map info_of (entry_of (store_in store.old) number) ≡ Some info }
+    ensures untouched { (store.new ≡ store.old) × (disk.new ≡ disk.old) }
+{
+    let caller = info.caller.text();
+    let call = caller.as_str();
+    let length = info.length;
+    if info.complete {
+        let sum = sum_of(alloc, store, disk, number, info)?;
+        return Ok(format!(in alloc; " {number}:{call}:{length}:complete {sum:04x}")?);
+    }
+    let held = info.held;
+    Ok(format!(in alloc; " {number}:{call}:{length}:held {held}")?)
+}
+
+/// The sum of the octets of a complete entry of this number.
+fn sum_of(
+    alloc: Global,
+    store: &mut FileStore,
+    disk: &mut MemoryDisk,
+    number: u32,
+    info: Info,
+) -> Result<u16>
+    requires healthy { store.old.journal.failed ≡ false }
+    requires stands_on { StandsOn ⟦<MemoryDisk as Disk>⟧ store.old disk.old }
+    requires there { option_map info_of (entry_of (store_in store.old) number) ≡ Some info }
+    requires complete { info.complete ≡ true }
+    ensures untouched { (store.new ≡ store.old) × (disk.new ≡ disk.old) }
+{
+    let mut octets = Vec::new(alloc);
+    octets.resize(info.held as usize, 0)?;
+    store.read_at(disk, number, 0, octets.as_mut_slice())?;
+    Ok(sum16(octets.as_slice()))
+}
