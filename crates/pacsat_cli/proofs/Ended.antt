@@ -13,14 +13,14 @@ use Rattle.ftl0_packets.specs.Layout.{Item}
 use Rattle.ftl0_packets.specs.Stream.{Stream}
 use Rattle.file_entries.specs.Command.{Command}
 use Rattle.file_entries.specs.Store.{Store}
-use Rattle.ftl0_server.specs.Events.{Event, packets_in}
-use Rattle.ftl0_server.specs.Session.{command}
-use Rattle.server_node.specs.Running.{StopsOver}
-use Rattle.server_node.specs.SessionRan.{EndsOver, IsGreeted, IsUngreeted, SessionRan, TurnsBy}
-use Rattle.server_node.specs.Stops.{CountsBy}
-use Rattle.server_node.specs.declared.stop.NodeStop.{NodeStop}
-use Rattle.server_node.specs.declared.stop.NodeStop.TheVariants as stop
-use Rattle.server_node.specs.declared.terms.Served.{Served}
+use Rattle.ftl0_session.specs.Events.{Event, packets_in}
+use Rattle.ftl0_session.specs.Session.{command}
+use Rattle.session_node.specs.Running.{StopsOver}
+use Rattle.session_node.specs.SessionRan.{EndsOver, IsGreeted, IsUngreeted, SessionRan, TurnsBy}
+use Rattle.session_node.specs.Stops.{CountsBy}
+use Rattle.session_node.specs.declared.stop.NodeStop.{NodeStop}
+use Rattle.session_node.specs.declared.stop.NodeStop.TheVariants as stop
+use Rattle.session_node.specs.declared.terms.Served.{Served}
 use Rattle.pacsat_cli.specs.declared.status.BadStore.{BadStore}
 use Rattle.pacsat_cli.specs.declared.status.BadStore.TheVariants as bad
 use Rattle.pacsat_cli.specs.declared.status.Status.{Status}

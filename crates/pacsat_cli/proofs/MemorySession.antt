@@ -9,12 +9,12 @@ use Rattle.file_entries.specs.Store.{Store, empty_store}
 use Rattle.file_store.specs.State.{standing_of}
 use Rattle.file_store.specs.declared.refusals.StoreFault.{StoreFault}
 use Rattle.file_store.specs.declared.refusals.StoreFault.TheVariants as fault
-use Rattle.server_node.specs.SessionRan.{SessionEnds, SessionRan}
-use Rattle.server_node.specs.Stops.{HasAirCause, EndsExactly, RefusesSession, stop_of_fault}
-use Rattle.server_node.specs.declared.stop.NodeStop.{NodeStop}
-use Rattle.server_node.specs.declared.stop.NodeStop.TheVariants as stop
-use Rattle.server_node.specs.declared.terms.Served.{Served}
-use Rattle.server_node.specs.declared.terms.SessionTerms.{SessionTerms}
+use Rattle.session_node.specs.SessionRan.{SessionEnds, SessionRan}
+use Rattle.session_node.specs.Stops.{HasAirCause, EndsExactly, RefusesSession, stop_of_fault}
+use Rattle.session_node.specs.declared.stop.NodeStop.{NodeStop}
+use Rattle.session_node.specs.declared.stop.NodeStop.TheVariants as stop
+use Rattle.session_node.specs.declared.terms.Served.{Served}
+use Rattle.session_node.specs.declared.terms.SessionTerms.{SessionTerms}
 use Rattle.pacsat_cli.specs.declared.status.Status.{Status}
 use Rattle.pacsat_cli.specs.declared.status.Status.TheVariants as status
 use Rattle.pacsat_cli.specs.Sessions.{InMemory, OverMemory}

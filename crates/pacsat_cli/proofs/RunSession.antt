@@ -19,12 +19,12 @@ use Rattle.file_journal.specs.Walk.{damaged_at, no_store}
 use Rattle.file_store.specs.State.{standing_of}
 use Rattle.file_store.specs.declared.refusals.StoreFault.{StoreFault}
 use Rattle.file_store.specs.declared.refusals.StoreFault.TheVariants as fault
-use Rattle.ftl0_server.specs.Events.{packets_in}
-use Rattle.server_node.specs.SessionRan.{SessionEnds, SessionRan}
-use Rattle.server_node.specs.Stops.{CountsBy, EndsExactly, stop_of_fault}
-use Rattle.server_node.specs.declared.stop.NodeStop.{NodeStop}
-use Rattle.server_node.specs.declared.stop.NodeStop.TheVariants as stop
-use Rattle.server_node.specs.declared.terms.Served.{Served}
+use Rattle.ftl0_session.specs.Events.{packets_in}
+use Rattle.session_node.specs.SessionRan.{SessionEnds, SessionRan}
+use Rattle.session_node.specs.Stops.{CountsBy, EndsExactly, stop_of_fault}
+use Rattle.session_node.specs.declared.stop.NodeStop.{NodeStop}
+use Rattle.session_node.specs.declared.stop.NodeStop.TheVariants as stop
+use Rattle.session_node.specs.declared.terms.Served.{Served}
 use Rattle.command_words.specs.declared.disk.DiskWord.{DiskWord}
 use Rattle.command_words.specs.declared.disk.DiskWord.TheVariants.{Fresh, Named}
 use Rattle.command_words.specs.declared.request.SessionRequest.{SessionRequest}

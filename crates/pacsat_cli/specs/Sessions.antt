@@ -15,13 +15,13 @@ use Rattle.file_journal.specs.Walk.{damaged_at, no_store}
 use Rattle.file_entries.specs.Command.{Command}
 use Rattle.file_entries.specs.Store.{empty_store}
 use Rattle.file_store.specs.State.{standing_of}
-use Rattle.ftl0_server.specs.Session.{is_upload_kind, kind_of_item}
-use Rattle.server_node.specs.SessionRan.{SessionEnds, SessionRan}
-use Rattle.server_node.specs.Stops.{HasAirCause, RefusesSession}
-use Rattle.server_node.specs.declared.stop.NodeStop.{NodeStop}
-use Rattle.server_node.specs.declared.stop.NodeStop.TheVariants as stop
-use Rattle.server_node.specs.declared.terms.Served.{Served}
-use Rattle.server_node.specs.declared.terms.SessionTerms.{SessionTerms}
+use Rattle.ftl0_session.specs.Session.{is_upload_kind, kind_of_item}
+use Rattle.session_node.specs.SessionRan.{SessionEnds, SessionRan}
+use Rattle.session_node.specs.Stops.{HasAirCause, RefusesSession}
+use Rattle.session_node.specs.declared.stop.NodeStop.{NodeStop}
+use Rattle.session_node.specs.declared.stop.NodeStop.TheVariants as stop
+use Rattle.session_node.specs.declared.terms.Served.{Served}
+use Rattle.session_node.specs.declared.terms.SessionTerms.{SessionTerms}
 use Rattle.command_words.specs.declared.disk.DiskWord.{DiskWord}
 use Rattle.command_words.specs.declared.disk.DiskWord.TheVariants.{Fresh, Named}
 use Rattle.command_words.specs.declared.request.SessionRequest.{SessionRequest}

@@ -9,7 +9,7 @@ use command_words::{DiskWord, SessionRequest};
 use disk_model::{Disk, MemoryDisk};
 use file_store::Limits;
 use px_base::{Air, Clock};
-use server_node::{NodeStop, Served, SessionTerms, session};
+use session_node::{NodeStop, Served, SessionTerms, session};
 use std::alloc::Global;
 
 /// Serves the session that is asked for, over this disk, or over a fresh one in memory, which leaves this one alone. Takes

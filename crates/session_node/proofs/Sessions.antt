@@ -1,0 +1,149 @@
+-- A session from the recovery of its store to its end.
+use Rattle.std.proofs.Common.{◌≡◌, inl, inr, ⊎_elim, ℕ, List, refl, sym, ◌∙◌, ap, subst, arith, Option}
+use Rattle.std.specs.Prelude.{Result, Ok, Err, IsErrOf}
+use Rattle.px_base.specs.CallSign.{CallSign}
+use Rattle.px_base.specs.declared.air.Air.{Ghosts as AirGhosts}
+use Rattle.px_base.specs.declared.air.Turn.{Turn}
+use Rattle.disk_model.specs.declared.disk.Disk.{Ghosts}
+use Rattle.file_journal.specs.Calls.{Leaves, Runs}
+use Rattle.file_journal.specs.Recovery.{IsFailedSync, IsSyncedFirst}
+use Rattle.file_journal.proofs.ToldLemmas.{told_weaker}
+use Rattle.file_entries.specs.IsStore.{IsStore}
+use Rattle.file_store.specs.Recovery.{IsRecovered, LeavesAlikeSinceSync, RefusesRecovery, StandsAlike}
+use Rattle.file_store.specs.State.{StandsFor, StoreState, store_in}
+use Rattle.file_store.specs.declared.refusals.StoreFault.{StoreFault}
+use Rattle.file_store.specs.declared.refusals.StoreFault.TheVariants as fault
+use Rattle.session_node.specs.declared.stop.NodeStop.{NodeStop}
+use Rattle.session_node.specs.declared.stop.NodeStop.TheVariants as stop
+use Rattle.session_node.specs.declared.terms.Served.{Served}
+use Rattle.session_node.specs.declared.terms.SessionTerms.{SessionTerms}
+use Rattle.session_node.specs.OnDisk.{EachImage, LeavesStanding}
+use Rattle.session_node.specs.ServerState.{IsUp, ServerState, new_server}
+use Rattle.session_node.specs.SessionRan.{SessionOn, SessionServed, TurnsBy}
+use Rattle.session_node.specs.Stops.{HasAirCause, RefusesSession, stop_of_fault}
+use Rattle.session_node.proofs.DiskLemmas.{cuts_puts}
+use Rattle.session_node.proofs.Standing.{runs_of_puts, runs_same, session_puts, stands_through}
+
+-- ---- a recovery that is refused
+
+abbrev Refusal : StoreFault → Result StoreState StoreFault
+Refusal why = Err why
+
+abbrev Stop : NodeStop → Result Served NodeStop
+Stop why = Err why
+
+-- one fault is one stop
+there : (why other : StoreFault) → IsErrOf (Refusal why) other → IsErrOf (Stop (stop_of_fault why)) (stop_of_fault other)
+there why other is = ap (λ (f : StoreFault). Stop (stop_of_fault f)) (same is)
+  where
+    same : Refusal why ≡ Refusal other → why ≡ other
+    same is = cc is
+
+back : (why other : StoreFault) → IsErrOf (Stop (stop_of_fault why)) (stop_of_fault other) → IsErrOf (Refusal why) other
+back (fault.NotAStore a) (fault.NotAStore b) is = cc is
+back (fault.NotAStore a) (fault.Damaged b) is = absurd (cc is)
+back (fault.NotAStore a) fault.Disk is = absurd (cc is)
+back (fault.NotAStore a) fault.OutOfMemory is = absurd (cc is)
+back (fault.Damaged a) (fault.NotAStore b) is = absurd (cc is)
+back (fault.Damaged a) (fault.Damaged b) is = cc is
+back (fault.Damaged a) fault.Disk is = absurd (cc is)
+back (fault.Damaged a) fault.OutOfMemory is = absurd (cc is)
+back fault.Disk (fault.NotAStore b) is = absurd (cc is)
+back fault.Disk (fault.Damaged b) is = absurd (cc is)
+back fault.Disk fault.Disk is = refl
+back fault.Disk fault.OutOfMemory is = absurd (cc is)
+back fault.OutOfMemory (fault.NotAStore b) is = absurd (cc is)
+back fault.OutOfMemory (fault.Damaged b) is = absurd (cc is)
+back fault.OutOfMemory fault.Disk is = absurd (cc is)
+back fault.OutOfMemory fault.OutOfMemory is = refl
+
+pub refused_exactly : (blocks : ℕ) (content : Option (List ℕ)) (why : StoreFault) → RefusesRecovery blocks content (Refusal why) → RefusesSession blocks content (Stop (stop_of_fault why))
+refused_exactly blocks content why refuses no_disk no_memory =
+    told_weaker content _ _ (λ before told exact. record {
+      not_a_store = λ found. (λ is. (exact.not_a_store found).0 (back why (fault.NotAStore found) is), λ stood. there why (fault.NotAStore found) ((exact.not_a_store found).1 stood));
+      damaged = λ at. (λ is. (exact.damaged at).0 (back why (fault.Damaged at) is), λ stood. there why (fault.Damaged at) ((exact.damaged at).1 stood));
+    }) (refuses (λ is. no_disk (there why fault.Disk is)) (λ is. no_memory (there why fault.OutOfMemory is)))
+
+pub refused_counts : {A : Type 0} (reads writes : A → ℕ) (air : A) (why : StoreFault) → HasAirCause reads writes air air (Stop (stop_of_fault why))
+refused_counts reads writes air (fault.NotAStore found) = (refl, refl)
+refused_counts reads writes air (fault.Damaged at) = (refl, refl)
+refused_counts reads writes air fault.Disk = (refl, omega arith)
+refused_counts reads writes air fault.OutOfMemory = (refl, refl)
+
+pub refused_runs : {D : Type 0} (g : Ghosts D) (old now : D) (why : StoreFault) → Runs g (IsErrOf (Refusal why) fault.Disk) old now → Runs g (IsErrOf (Stop (stop_of_fault why)) stop.Disk) old now
+refused_runs g old now why runs = runs_same g _ _ (there why fault.Disk) (back why fault.Disk) old now runs
+
+pub refused_leaves : {D : Type 0} (g : Ghosts D) (blocks : ℕ) (old now : D) (why : StoreFault) → Leaves g old now (StandsAlike blocks) → LeavesAlikeSinceSync g blocks (Refusal why) old now
+    → ((found : List ℕ) → IsErrOf (Refusal why) (fault.NotAStore found) → g.content now ≡ g.content old) → ((at : ℕ) → IsErrOf (Refusal why) (fault.Damaged at) → g.content now ≡ g.content old)
+    → LeavesStanding g blocks (stop_of_fault why) old now
+refused_leaves g blocks old now why since_start since_sync untouched untouched_damage = record {
+  since_sync = told_weaker (g.content old) _ _ (λ before told left. ⊎_elim
+      (λ (synced : IsSyncedFirst g old now (StandsAlike blocks before)). inl synced)
+      (λ (failed : IsErrOf (Refusal why) fault.Disk × IsFailedSync g old now). inr (of_stop (stop_of_fault why) stop.Disk (there why fault.Disk failed.0), failed.1))
+      left) since_sync;
+  since_start = since_start;
+  not_a_store = λ found is. untouched found (back why (fault.NotAStore found) (ap Stop is));
+  damaged = λ at is. untouched_damage at (back why (fault.Damaged at) (ap Stop is));
+}
+  where
+    of_stop : (a b : NodeStop) → IsErrOf (Stop a) b → a ≡ b
+    of_stop a b is = cc is
+
+-- ---- a session over the store that was recovered
+
+-- the server was made over it
+pub on_recovered : {A C D : Type 0} (g : Ghosts D) (air : AirGhosts A) (given : C → Option (List ℕ)) (mid now : D) (before after : A) (clock clock_n : C) (terms : SessionTerms) (caller : CallSign)
+    (start new : StoreState) (server : ServerState) (result : Result Served NodeStop) → server ≡ new_server caller start
+    → SessionOn g air given server.store new mid now before after clock clock_n terms result → SessionOn g air given start new mid now before after clock clock_n terms result
+on_recovered g air given mid now before after clock clock_n terms caller start new server result is h =
+    let P : StoreState → Type 0 = λ s. SessionOn g air given s new mid now before after clock clock_n terms result in
+    subst P (ap (λ (s : ServerState). s.store) is) h
+
+module _ {A C D : Type 0} (g : Ghosts D) (air : AirGhosts A) (given : C → Option (List ℕ)) (on : (first second third : D) → g.lasts first second → g.lasts second third → g.lasts first third)
+    (old mid now : D) (before after : A) (clock clock_n : C) (terms : SessionTerms) (start new : StoreState) (result : Result Served NodeStop)
+    (recovered : IsRecovered g terms.limits.blocks old mid start) (ok : Runs g (IsErrOf {T = StoreState} (Ok start) fault.Disk) old mid)
+    (on_disk : SessionOn g air given start new mid now before after clock clock_n terms result) where
+  not_failed : IsErrOf {T = StoreState} (Ok start) fault.Disk → ⊥
+  not_failed is = cc is
+
+  pub served : IsStore (store_in start) → Leaves g old mid (StandsAlike terms.limits.blocks) → LeavesAlikeSinceSync {T = StoreState} g terms.limits.blocks (Ok start) old mid
+      → (IsUp g new now → EachImage g now (λ image. StandsFor image (store_in new))) → SessionServed g air given old now before after clock clock_n terms result
+  served rules since_start since_sync at_end =
+      let synced = told_weaker (g.content old) _ _ (λ octets told left. ⊎_elim
+      (λ (s : IsSyncedFirst g old mid (StandsAlike terms.limits.blocks octets)). s)
+      (λ (failed : IsErrOf {T = StoreState} (Ok start) fault.Disk × IsFailedSync g old mid). absurd (not_failed failed.0)) left) since_sync in
+      record {
+        start = store_in start;
+        rules = rules;
+        stood = recovered.content;
+        turns = on_disk.turns;
+        moments = on_disk.moments;
+        text = on_disk.text;
+        done = on_disk.done;
+        cut = on_disk.cut;
+        turns_heard = on_disk.turns_heard;
+        moments_given = on_disk.moments_given;
+        text_said = on_disk.text_said;
+        ran = on_disk.ran;
+        puts =
+            session_puts g on (IsErrOf result stop.Disk) terms.limits.blocks old mid now start new on_disk.done on_disk.cut ok.told recovered.content since_start synced on_disk.cuts _ not_failed ok
+            (cuts_puts g on (IsErrOf result stop.Disk) start new mid now on_disk.done on_disk.cut on_disk.cuts);
+        stands =
+            stands_through g on (IsErrOf result stop.Disk) terms.limits.blocks old mid now start new on_disk.done on_disk.cut ok.told recovered.content since_start synced on_disk.cuts
+            (λ fine. at_end (record { healthy = (on_disk.cuts.second.done fine).1; stands_on = on_disk.cuts.second.stands_on }));
+      }
+
+  -- no session is refused that was served
+  never_refused : (why : NodeStop) → ((turns : List Turn) → TurnsBy (Stop why) terms.polls turns → ⊥) → IsErrOf result why → ⊥
+  never_refused why never is = never on_disk.turns (subst (λ (r : Result Served NodeStop). TurnsBy r terms.polls on_disk.turns) is on_disk.ran.ends)
+
+  pub served_exactly : RefusesSession terms.limits.blocks (g.content old) result
+  served_exactly no_disk no_memory = told_weaker (g.content old) _ _ (λ octets told stood. record {
+    not_a_store = λ found. (λ is. absurd (never_refused (stop.NotAStore found) (λ turns h. h) is), λ none. absurd (cc (sym stood ∙ none)));
+    damaged = λ at. (λ is. absurd (never_refused (stop.Damaged at) (λ turns h. h) is), λ none. absurd (cc (sym stood ∙ none)));
+  }) recovered.content
+
+-- and its calls of the disk
+pub served_runs : {A C D : Type 0} (g : Ghosts D) (air : AirGhosts A) (given : C → Option (List ℕ)) (old now : D) (before after : A) (clock clock_n : C) (terms : SessionTerms) (result : Result Served NodeStop)
+    → SessionServed g air given old now before after clock clock_n terms result → Runs g (IsErrOf result stop.Disk) old now
+served_runs g air given old now before after clock clock_n terms result served = runs_of_puts g (IsErrOf result stop.Disk) old now served.puts

@@ -1,0 +1,29 @@
+-- What contracts see of a session's server, and what it keeps.
+use Rattle.std.specs.Prelude.{◌≡◌, ℕ, List, []}
+use Rattle.px_base.specs.Octets.{IsOctets}
+use Rattle.ftl0_packets.specs.Reading.{packets_of, rest_of, under_way}
+use Rattle.ftl0_session.specs.SessionState.{IsHeld, IsOnlyOut, state_of}
+use Rattle.session_node.specs.declared.server.SessionServer.TheInside.{Inside}
+use Rattle.session_node.specs.ServerState.{ServerState}
+
+abbrev pub server_state : Inside → ServerState
+server_state a =
+    record {
+      caller = a.session.caller;
+      store = a.store;
+      state = state_of a.store a.session.phase;
+      octets = under_way a.reader;
+    }
+
+-- No packet is whole of these octets: they wait for the end of the one under way.
+pub record IsWaiting (octets : List ℕ) : Type 0 where
+  pub none : packets_of octets ≡ []
+  pub left : rest_of octets ≡ octets
+  pub are_octets : IsOctets octets
+
+-- The store holds the session's upload, and no other of the session's caller is out. The octets that were heard and not
+-- taken wait.
+pub record IsServer (a : Inside) : Type 0 where
+  pub held : IsHeld a.store a.session
+  pub only : IsOnlyOut a.store a.session
+  pub waiting : IsWaiting (under_way a.reader)

@@ -1,0 +1,27 @@
+-- What a session's server is between two packets.
+use Rattle.std.specs.Prelude.{◌≡◌, ℕ, List, [], ◌++◌, false}
+use Rattle.px_base.specs.CallSign.{CallSign}
+use Rattle.disk_model.specs.declared.disk.Disk.{Ghosts}
+use Rattle.file_store.specs.State.{StandsOn, StoreState}
+use Rattle.ftl0_session.specs.Session.{State, command}
+
+-- whose session it is, the store, the session's state, and the octets that were heard and of which no packet was taken
+-- yet
+pub record ServerState : Type 0 where
+  pub caller : CallSign
+  pub store : StoreState
+  pub state : State
+  pub octets : List ℕ
+
+-- before the first packet, over this store
+abbrev pub new_server : CallSign → StoreState → ServerState
+new_server caller store = record { caller = caller; store = store; state = command; octets = [] }
+
+-- with these octets heard too
+abbrev pub with_octets : ServerState → List ℕ → ServerState
+with_octets server octets = record server { octets = server.octets ++ octets }
+
+-- The store hasn't failed, and stands on the disk.
+pub record IsUp {D : Type 0} (g : Ghosts D) (store : StoreState) (disk : D) : Type 0 where
+  pub healthy : store.journal.failed ≡ false
+  pub stands_on : StandsOn g store disk

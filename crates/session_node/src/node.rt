@@ -1,0 +1,52 @@
+//! The session of one caller, from the recovery of its store to its end.
+
+ghost use Rattle.std.specs.Prelude.{◌≡◌, ◌≤◌, IsErrOf, IsSome};
+ghost use Rattle.file_journal.specs.Calls.{Runs};
+ghost use Rattle.session_node.specs.SessionRan.{SessionEnds};
+ghost use Rattle.session_node.specs.Stops.{HasAirCause, RefusesSession};
+
+use crate::server::SessionServer;
+use crate::{NodeStop, Served, SessionTerms};
+use disk_model::Disk;
+use file_store::FileStore;
+use file_store::laws::state_law;
+use px_base::{Air, Clock};
+use std::alloc::Global;
+
+/// Serves one session over FTL0 octets without a link. The store is recovered from the disk first; where that is
+/// refused nothing is heard or said, and the clock isn't asked. Then LOGIN_RESP is said, and the replies to each
+/// packet, up to the end of the air or as many polls as may be made. Each turn has the moment that is given, or takes
+/// one of the clock before its poll; the first turn's is taken before LOGIN_RESP, which has it. What a packet's row
+/// does to the store is on the disk before the replies are said. After a fault of the disk in a packet the reply with
+/// code 3 is said, and the session is over. However it ends, its upload is parked. Takes memory.
+pub fn session<D: Disk, A: Air, C: Clock>(
+    alloc: Global,
+    disk: &mut D,
+    air: &mut A,
+    clock: &mut C,
+    terms: &SessionTerms,
+) -> Result<Served, NodeStop>
+    requires some { 1 ≤ terms.now.limits.blocks }
+    requires most { terms.now.limits.blocks ≤ 65536 }
+
+    // But for a fault of the disk and want of memory, a refusal of the recovery comes exactly where the content stands
+    // for it.
+    ensures refuses { RefusesSession terms.now.limits.blocks (D.content disk.old) result }
+
+    // It was refused, or the session was served: what was said to what was heard, and what stands on the disk at each
+    // moment.
+    ensures ends { SessionEnds D.Disk A.Air C.given disk.old disk.new air.old air.new clock.old clock.new terms.now
+        result }
+    ensures clock { IsSome terms.now.moment → clock.new ≡ clock.old }
+
+    // Each cause rose in a count.
+    ensures counts { HasAirCause A.read_faults A.write_faults air.old air.new result }
+    ensures runs { Runs D.Disk (IsErrOf result NodeStop.Disk) disk.old disk.new }
+{
+    let store = FileStore::recover(alloc, disk, terms.limits)?;
+    state_law(&store);
+    let mut server = SessionServer::new(terms.caller, store);
+    let ended = server.serve(disk, air, clock, terms);
+    server.end(disk);
+    ended
+}

@@ -1,0 +1,72 @@
+//! Why a session stopped.
+
+ghost use Rattle.std.specs.Prelude.{◌≡◌};
+ghost use Rattle.session_node.specs.Stops.{stop_of_fault, stop_of_session};
+
+use file_store::StoreFault;
+use ftl0_session::SessionStop;
+use thiserror::Error;
+
+/// Why a session stopped before the end of the air.
+#[derive(Clone, Copy, Debug, PartialEq, Eq, Error)]
+pub enum NodeStop {
+    /// A poll failed.
+    #[error("hearing failed")]
+    AirRead,
+    /// A reply could not be said whole.
+    #[error("saying failed")]
+    AirWrite,
+    /// The disk failed, and its count of faults rose: at the recovery of the store, and nothing was said; or in a
+    /// packet's commands, and the reply with code 3 was said, as far as the air took it.
+    #[error("the disk failed")]
+    Disk,
+    /// The disk has more than 16 octets, and they don't begin as a store's. Nothing was said.
+    #[error("no store: it begins with {found:?}")]
+    NotAStore {
+        /// The first eight octets.
+        found: [u8; 8],
+    },
+    /// The store is damaged. Nothing was said.
+    #[error("the store is damaged at octet {at}")]
+    Damaged {
+        /// 8 for the block number, else the place of the gate before a record that is none.
+        at: u64,
+    },
+    /// As many polls were made as may be.
+    #[error("as many polls were made as may be")]
+    Spent,
+    /// A packet came whose row of the session's table isn't built yet.
+    #[error("a packet asks for what is not built yet")]
+    NotBuilt {
+        /// The packet's type.
+        kind: u8,
+    },
+    /// There was no memory: at the recovery, and nothing was said; or for what a packet begins or brings.
+    #[error("out of memory")]
+    OutOfMemory,
+}
+
+impl From<SessionStop> for NodeStop {
+    ghost from_gives = { λ stop result. result ≡ stop_of_session stop };
+
+    fn from(stop: SessionStop) -> NodeStop {
+        match stop {
+            SessionStop::NotBuilt { kind } => NodeStop::NotBuilt { kind },
+            SessionStop::Disk => NodeStop::Disk,
+            SessionStop::OutOfMemory => NodeStop::OutOfMemory,
+        }
+    }
+}
+
+impl From<StoreFault> for NodeStop {
+    ghost from_gives = { λ fault result. result ≡ stop_of_fault fault };
+
+    fn from(fault: StoreFault) -> NodeStop {
+        match fault {
+            StoreFault::NotAStore { found } => NodeStop::NotAStore { found },
+            StoreFault::Damaged { at } => NodeStop::Damaged { at },
+            StoreFault::Disk => NodeStop::Disk,
+            StoreFault::OutOfMemory => NodeStop::OutOfMemory,
+        }
+    }
+}
