@@ -1,8 +1,8 @@
 -- The octets of a complete entry are all there.
 use Rattle.std.proofs.Common.{arith}
 use Rattle.file_store.specs.State.{store_in}
-use Rattle.session_rows.proofs.Infos.{told-complete, told-held}
-use Rattle.session_rows.proofs.standing.sum_of.Goals as goal
+use Rattle.run_rows.proofs.Infos.{told-complete, told-held}
+use Rattle.run_rows.proofs.standing.sum_of.Goals as goal
 
 pub read_at-requires-clause-complete : goal.read_at-requires-clause-complete
 read_at-requires-clause-complete c = told-complete (store_in c.args.store.now) c.args.number c.args.info c.requires.there c.requires.complete

@@ -1,9 +1,9 @@
 //! One row: what is run, and what it says.
 
 use crate::disk::{disk_after, octets_before};
+use crate::script::Script;
 use crate::standing::standing_text;
-use crate::turns::turns_of;
-use anyhow::{Context, Result, ensure};
+use anyhow::{Context, Result};
 use disk_model::{Disk, MemoryDisk};
 use pacsat_cli::{Words, run};
 use px_base::{MemoryAir, MemoryClock, MemoryOut, MemoryShelf};
@@ -12,18 +12,18 @@ use std::alloc::Global;
 
 /// Plays rows, each of which may begin on what the row before left on its disk.
 #[derive(Drop)]
-pub struct SessionRows {
+pub struct RunRows {
     before: Option<MemoryDisk>,
 }
 
-impl SessionRows {
+impl RunRows {
     /// Before the first row.
-    pub fn new() -> SessionRows {
-        SessionRows { before: None }
+    pub fn new() -> RunRows {
+        RunRows { before: None }
     }
 }
 
-impl Player for SessionRows {
+impl Player for RunRows {
     /// Plays a row, and keeps its disk for the next one.
     fn play(&mut self, alloc: Global, row: &str) -> Result<String> {
         let (row, failing) = row
@@ -46,42 +46,39 @@ fn content_text(alloc: Global, row: &str, octets: &[u8]) -> Result<String> {
     standing_text(alloc, octets)
 }
 
-/// Plays a row over a disk at the constant moment 1, and gives the octets said in hexadecimal, the status's number, and the
-/// line that was shown.
+/// Plays a row over a disk, and gives the octets said in hexadecimal, the status's number, and the line that was shown.
 pub fn play_over<D: Disk>(alloc: Global, row: &str, disk: &mut D) -> Result<String> {
     let (words, rest) = row.split_once(';').context("no words")?;
     let (failing, heard) = rest.split_once(';').context("no failing calls")?;
     let words = read_words(alloc, words)?;
-    let mut air = read_air(alloc, failing, heard)?;
+    let (mut air, mut clock) = read_air(alloc, failing, heard)?;
     let mut out = MemoryOut::new(alloc, &[])?;
-    let number = run_over(alloc, &words, disk, &mut air, &mut out)?;
+    let number = run_over(alloc, &words, disk, &mut air, &mut out, &mut clock)?;
     let said = hex::encode(alloc, air.said())?;
     let shown = shown_text(alloc, out.shown())?;
     Ok(format!(in alloc; "{said};{number};{shown}")?)
 }
 
-/// The air of a row: the numbers of its calls that fail, and the octets of a poll and those heard, parted by `;`.
-fn read_air(alloc: Global, failing: &str, heard: &str) -> Result<MemoryAir> {
-    let (poll, heard) = heard.split_once(';').context("no size of a poll")?;
+/// The air and the clock of a row: the numbers of the air's calls that fail, and the most octets of a poll and the turns,
+/// parted by `;`.
+fn read_air(alloc: Global, failing: &str, heard: &str) -> Result<(MemoryAir, MemoryClock)> {
+    let (poll, turns) = heard.split_once(';').context("no size of a poll")?;
     let failing = read_numbers(alloc, failing)?;
-    let poll = poll.parse::<usize>()?;
-    ensure!(poll >= 1 && poll <= 512, "a poll of {poll} octets");
-    let heard = hex::decode(alloc, heard)?;
-    let turns = turns_of(alloc, heard.as_slice(), poll)?;
-    Ok(MemoryAir::new(alloc, turns, failing.as_slice())?)
+    let script = Script::read(alloc, turns, poll.parse::<usize>()?)?;
+    Ok(script.open(alloc, failing.as_slice())?)
 }
 
-/// Runs the words over this disk, air and output, and gives the status's number.
+/// Runs the words over this disk, air, output and clock, and gives the status's number.
 fn run_over<D: Disk>(
     alloc: Global,
     words: &Words,
     disk: &mut D,
     air: &mut MemoryAir,
     out: &mut MemoryOut,
+    clock: &mut MemoryClock,
 ) -> Result<u8> {
     let mut shelf = MemoryShelf::new(alloc, &[])?;
-    let mut clock = MemoryClock::new(alloc, &[1])?;
-    Ok(run(alloc, words, disk, air, &mut shelf, out, &mut clock).number())
+    Ok(run(alloc, words, disk, air, &mut shelf, out, clock).number())
 }
 
 /// The text that was shown, without its line feed.

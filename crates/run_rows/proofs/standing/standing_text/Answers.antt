@@ -1,5 +1,5 @@
 -- A store that was recovered stands on its disk.
-use Rattle.session_rows.proofs.standing.standing_text.Goals as goal
+use Rattle.run_rows.proofs.standing.standing_text.Goals as goal
 
 pub store_text-requires-clause-healthy : goal.store_text-requires-clause-healthy
 store_text-requires-clause-healthy c = c.in-Ok.ensures.recovered.healthy

@@ -1,5 +1,5 @@
 -- What is told of an entry is so.
-use Rattle.std.proofs.Common.{◌≡◌, ℕ, ◌≤◌, length, refl, ap, sym, ◌∙◌, subst, arith, true}
+use Rattle.std.proofs.Common.{◌≡◌, ℕ, length, refl, ap, sym, ◌∙◌, true}
 use Rattle.std.specs.Prelude.{Option, None, Some}
 use Rattle.std.specs.Option.{option_map}
 use Rattle.file_entries.specs.declared.info.Info.{Info}
