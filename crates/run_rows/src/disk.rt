@@ -6,8 +6,8 @@ use disk_model::{FuseDisk, MemoryDisk};
 use row_words::read_numbers;
 use std::alloc::Global;
 
-/// The octets of a row's disk: those that are given in hexadecimal; or behind `=` what a read gives of the disk of the row
-/// right before, or what a crash leaves of it, as a number picks it.
+/// The octets of a row's disk: those that are given in hexadecimal; or behind `=` what a read gives of the disk of the
+/// row right before, or what a crash leaves of it, as a number picks it.
 pub fn octets_before(alloc: Global, text: &str, before: Option<MemoryDisk>) -> Result<Vec<u8>> {
     let Some(pick) = text.strip_prefix('=') else {
         return Ok(hex::decode(alloc, text)?);
@@ -25,8 +25,8 @@ fn left_by(disk: MemoryDisk, pick: &str) -> Result<MemoryDisk> {
     Ok(disk.crash(pick.parse::<u64>()?)?)
 }
 
-/// Plays a row over a disk with these octets, and gives what it said, and the disk. The numbers of the disk's calls that fail
-/// are given, or behind `!` how many calls of `write_at` and `sync` pass before each fails.
+/// Plays a row over a disk with these octets, and gives what it said, and the disk. The numbers of the disk's calls
+/// that fail are given, or behind `!` how many calls of `write_at` and `sync` pass before each fails.
 pub fn disk_after(
     alloc: Global,
     row: &str,

@@ -59,8 +59,8 @@ pub fn play_over<D: Disk>(alloc: Global, row: &str, disk: &mut D) -> Result<Stri
     Ok(format!(in alloc; "{said};{number};{shown}")?)
 }
 
-/// The air and the clock of a row: the numbers of the air's calls that fail, and the most octets of a poll and the turns,
-/// parted by `;`.
+/// The air and the clock of a row: the numbers of the air's calls that fail, and the most octets of a poll and the
+/// turns, parted by `;`.
 fn read_air(alloc: Global, failing: &str, heard: &str) -> Result<(MemoryAir, MemoryClock)> {
     let (poll, turns) = heard.split_once(';').context("no size of a poll")?;
     let failing = read_numbers(alloc, failing)?;
