@@ -13,8 +13,8 @@ use Rattle.ftl0_session.specs.declared.asked.Asked.{Asked}
 use Rattle.ftl0_session.specs.declared.asked.Asked.TheVariants as asked
 use Rattle.ftl0_session.specs.declared.phase.Phase.{Phase}
 use Rattle.ftl0_session.specs.declared.phase.Phase.TheVariants as phase
-use Rattle.ftl0_session.specs.declared.stop.SessionStop.{SessionStop}
-use Rattle.ftl0_session.specs.declared.stop.SessionStop.TheVariants as stop
+use Rattle.ftl0_session.specs.declared.stop.ServerStop.{ServerStop}
+use Rattle.ftl0_session.specs.declared.stop.ServerStop.TheVariants as stop
 use Rattle.ftl0_session.specs.Others.{KeepsOtherCallers}
 use Rattle.ftl0_session.specs.Session.{Row, State, aborting, command, error_row, is_upload_kind, kind_of_item, receiving, refused_row, session_row, silent_row, texts}
 use Rattle.ftl0_session.specs.SessionState.{NoOtherOut, PhaseIsHeld, number_of, state_of}
@@ -126,7 +126,7 @@ module _ (caller : CallSign) (moment : ℕ) (state : State) (item : Item) (store
   }
 
   -- error 1, or no row
-  pub alone-error : (here : Phase) (kind : ℕ) (replies : List ℕ) (result : Result ⊤ SessionStop) → session_row caller moment (store_in store) state item ≡ error_row state item
+  pub alone-error : (here : Phase) (kind : ℕ) (replies : List ℕ) (result : Result ⊤ ServerStop) → session_row caller moment (store_in store) state item ≡ error_row state item
       → state_of store here ≡ state → kind ≡ kind_of_item item → Refuses kind replies result → PhaseIsHeld store caller here → NoOtherOut store caller (number_of here)
       → AnsweredAlone caller moment state item store store replies (here, result)
   alone-error here kind replies (Ok done) other at same refused held only =
@@ -149,11 +149,11 @@ module _ (caller : CallSign) (moment : ℕ) (state : State) (item : Item) (store
   alone-error here kind replies (Err stop.Disk) other at same refused held only = absurd refused
 
 -- An UPLOAD_CMD that is refused, over a store that stays.
-pub alone-refused : (caller : CallSign) (moment : ℕ) (item : Item) (before now : StoreState) (code : ℕ) (replies : List ℕ) (taken : Phase × Result ⊤ SessionStop)
+pub alone-refused : (caller : CallSign) (moment : ℕ) (item : Item) (before now : StoreState) (code : ℕ) (replies : List ℕ) (taken : Phase × Result ⊤ ServerStop)
     → session_row caller moment (store_in before) command item ≡ Some (refused_row code) → now ≡ before → taken ≡ (phase.Command, Ok tt) → replies ≡ texts (ul_error_resp code ∷ [])
     → NoOtherOut before caller None → AnsweredAlone caller moment command item before now replies taken
 alone-refused caller moment item before now code replies taken row same is text only =
-    subst (λ (t : Phase × Result ⊤ SessionStop). AnsweredAlone caller moment command item before now replies t) (sym is)
+    subst (λ (t : Phase × Result ⊤ ServerStop). AnsweredAlone caller moment command item before now replies t) (sym is)
     (subst (λ (s : StoreState). AnsweredAlone caller moment command item before s replies (phase.Command, Ok tt)) (sym same)
     (alone-row caller moment command item before phase.Command (refused_row code) replies row refl (refused_row code, row, ((tt, refl), refl, text)) tt only))
 

@@ -11,5 +11,5 @@ mod stop;
 mod tests;
 
 pub use phase::Phase;
-pub use session::{Replies, Session, write_greeting};
-pub use stop::SessionStop;
+pub use session::{Replies, Session};
+pub use stop::ServerStop;

@@ -28,7 +28,8 @@ use Rattle.session_node.specs.declared.stop.NodeStop.TheVariants as stop
 use Rattle.session_node.specs.declared.terms.Served.{Served}
 use Rattle.session_node.specs.declared.terms.SessionTerms.{SessionTerms}
 use Rattle.session_node.specs.Node.{SaysText, Serves, TakesTurn, TurnEnds}
-use Rattle.session_node.specs.Running.{CutsOff, RunsOn, StopsBehind, StopsOn}
+use Rattle.file_store.specs.OnDisk.{CutsOff}
+use Rattle.session_node.specs.Running.{RunsOn, StopsBehind, StopsOn}
 use Rattle.session_node.specs.ServerState.{IsUp, ServerState, new_server}
 use Rattle.session_node.specs.SessionRan.{EndsOver, ListenedOn, SessionOn, SessionRan, TurnsBy}
 use Rattle.file_store.proofs.DoesLemmas.{Does-none}

@@ -15,12 +15,11 @@ use Rattle.file_journal.proofs.ToldLemmas.{alike_on, at_told, if_told, told_befo
 use Rattle.file_entries.specs.Command.{Command, after, begin, drop_entry, grow, is_allowed, seal}
 use Rattle.file_entries.specs.Records.{command_of, store_after, store_magic, store_step}
 use Rattle.file_entries.specs.Store.{Store, empty_store}
-use Rattle.file_store.specs.OnDisk.{Does, MakesFirst}
+use Rattle.file_store.specs.OnDisk.{CutsOff, Does, MakesFirst}
 use Rattle.file_store.specs.Recovery.{StandsAlike}
 use Rattle.file_store.specs.State.{StandsFor, StoreState, standing_of, store_in}
 use Rattle.file_store.proofs.DoesLemmas.{makes-second, stay-on}
 use Rattle.session_node.specs.OnDisk.{EachImage, StandsThrough}
-use Rattle.session_node.specs.Running.{CutsOff}
 use Rattle.session_node.specs.ServerState.{IsUp}
 use Rattle.session_node.proofs.DiskLemmas.{cuts_does, does_store}
 

@@ -27,7 +27,8 @@ use Rattle.session_node.specs.declared.stop.NodeStop.TheVariants as stop
 use Rattle.session_node.specs.declared.terms.Served.{Served}
 use Rattle.session_node.specs.declared.terms.SessionTerms.{SessionTerms}
 use Rattle.session_node.specs.OnDisk.{LeavesStanding, StandsThrough}
-use Rattle.session_node.specs.Running.{CutsOff, RunsOver, StopsBehind}
+use Rattle.file_store.specs.OnDisk.{CutsOff}
+use Rattle.session_node.specs.Running.{RunsOver, StopsBehind}
 use Rattle.session_node.specs.Stops.{stop_of_fault}
 
 -- The text of all replies to these events: LOGIN_RESP at the first of the moments, then those that the session's table

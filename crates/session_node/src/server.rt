@@ -21,7 +21,7 @@ use file_store::FileStore;
 use file_store::laws::state_law;
 use ftl0_packets::laws::stream_law;
 use ftl0_packets::{PacketFed, PacketReader};
-use ftl0_session::{Replies, Session, SessionStop, write_greeting};
+use ftl0_session::{Replies, Session, ServerStop, write_greeting};
 use px_base::{Air, AirDown, Call, Clock, Polled, ROOM};
 use std::marker::Model;
 
@@ -77,7 +77,7 @@ fn answer<D: Disk, A: Air>(
 }
 
 /// What stopped first: taking a packet, or saying the replies to it.
-fn answer_of(taken: Result<(), SessionStop>, said: Result<(), AirDown>) -> Result<(), NodeStop>
+fn answer_of(taken: Result<(), ServerStop>, said: Result<(), AirDown>) -> Result<(), NodeStop>
     ensures { result ≡ first_stop taken said }
 {
     match taken {
