@@ -1,0 +1,5 @@
+pub mod Connected
+pub mod ConnectionState
+pub mod Hearing
+pub mod Inside
+pub mod Taking
