@@ -1,10 +1,8 @@
 -- Laws of a node's events.
-use Rattle.std.specs.Prelude.{◌≡◌, ◌≤◌, ℕ, List, [], ◌++◌, length}
+use Rattle.std.specs.Prelude.{◌≡◌, ℕ, List}
 use Rattle.px_base.specs.CallSign.{CallSign}
-use Rattle.px_base.specs.Octets.{IsOctets}
 use Rattle.px_base.specs.Polling.{octets_heard}
 use Rattle.px_base.specs.declared.air.Turn.{Turn}
-use Rattle.ax25_frames.specs.FrameText.{FrameValue}
 use Rattle.kiss.specs.KissText.{kiss_frames}
 use Rattle.node_events.specs.Events.{FramesFor, NodeEvent, NodeEvents, frames_in}
 
@@ -20,9 +18,3 @@ abbrev pub FramesLaw : Type 0
 FramesLaw =
     (me : CallSign) (turns : List Turn) (moments : List ℕ) (events : List NodeEvent)
     → NodeEvents me turns moments events → FramesFor me (kiss_frames (octets_heard turns)) (frames_in events)
-
--- turns bring some events, one moment each
-abbrev pub SomeRunLaw : Type 0
-SomeRunLaw =
-    (me : CallSign) (turns : List Turn) (moments : List ℕ) → IsOctets (octets_heard turns)
-    → length turns ≤ length moments → (events : List NodeEvent) × NodeEvents me turns moments events
