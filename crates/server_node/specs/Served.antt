@@ -1,5 +1,5 @@
 -- What a server says over its turns, what it does to its disk, and why it ends.
-use Rattle.std.specs.Prelude.{◌≡◌, ◌⊎◌, ℕ, ◌≤◌, List, length, Option, IfSome, Result, Ok, Err, IsErrOf}
+use Rattle.std.specs.Prelude.{◌≡◌, ◌⊎◌, ℕ, ◌≤◌, List, ◌++◌, length, Option, IfSome, Result, Ok, Err, IsErrOf}
 use Rattle.px_base.specs.Outside.{Gains, Grows}
 use Rattle.px_base.specs.Polling.{HearsAll}
 use Rattle.px_base.specs.declared.air.Turn.{Turn}
@@ -45,22 +45,24 @@ EndsOver (Err (stop.Damaged at)) least server events writes writes_now text done
 abbrev pub server_from : ServerTerms → Store → Server
 server_from terms start = new_server terms.me (window_of terms.k) start
 
--- A server of these terms over these turns at these moments, from this store on, said this text, did these commands and
+-- A server over these turns at these moments, of which there are at most so many, said this text, did these commands and
 -- ended so. Nothing was heard after what ended it: a stop is at an event that only the last turn brings, behind all those
 -- that the others bring.
-pub record ServerRan (terms : ServerTerms) (moments : List ℕ) (start : Store) (turns : List Turn) (writes writes_now : ℕ)
+pub record ServerRan (server : Server) (polls : ℕ) (moments : List ℕ) (turns : List Turn) (writes writes_now : ℕ)
     (text : List ℕ) (done cut : List Command) (result : Result Served NodeStop) : Type 0 where
   pub one_each : length moments ≡ length turns
   pub events : List NodeEvent
-  pub brings : NodeEvents terms.me turns moments events
-  pub bound : length turns ≤ terms.polls
-  pub ends : TurnsBy result terms.polls turns
+  pub brings : NodeEvents server.me turns moments events
+  pub bound : length turns ≤ polls
+  pub ends : TurnsBy result polls turns
   pub earlier : List Turn
   pub but_last : IsButLast turns earlier
   pub earlier_moments : List ℕ
+  pub later_moments : List ℕ
+  pub split : moments ≡ earlier_moments ++ later_moments
   pub least : List NodeEvent
-  pub brought : NodeEvents terms.me earlier earlier_moments least
-  pub ends_over : EndsOver result least (server_from terms start) events writes writes_now text done cut
+  pub brought : NodeEvents server.me earlier earlier_moments least
+  pub ends_over : EndsOver result least server events writes writes_now text done cut
 
 -- A server of these terms was started over the store for which the disk's content stood, and served: what it said to what
 -- was heard, and what stands on the disk at each moment. Only a write or a sync that failed ends it by the disk.
@@ -79,7 +81,8 @@ pub record ServerServed {A C D : Type 0} (g : Ghosts D) (air : AirGhosts A) (giv
   pub moments_given : Grows (given clock) (given clock_now) moments
   pub text_said : Gains (air.said before) (air.said now) text
   pub ran :
-      ServerRan terms moments start turns (air.write_faults before) (air.write_faults now) text done cut result
+      ServerRan (server_from terms start) terms.polls moments turns (air.write_faults before) (air.write_faults now) text
+      done cut result
   pub puts : Puts g (IsErrOf result stop.Disk) disk disk_now
   pub stands : StandsThrough g (IsErrOf result stop.Disk) start done cut disk disk_now
 
