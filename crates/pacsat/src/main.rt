@@ -1,7 +1,7 @@
 //! The program `pacsat`: makes the real objects, hands them to the top call, and ends with its number.
 #![tactic(auto)]
 
-use disk_model::FileDisk;
+use disk_devices::FileDisk;
 use pacsat_cli::{Status, Words, end_with, run};
 use px_base::{FolderShelf, Out, StdAir, StdOut, SystemClock};
 use std::env;
