@@ -238,7 +238,7 @@ serve_from_line others line call_text place = elim (given_decided (line_places l
   | inr none ↦ inr (λ (me, k, blocks, polls, text). none (me, blocks, polls, (serve_given text line).0))
   | inl (me, blocks, polls, given) ↦ elim (number_or_decided default_k 1 7 (line_value line (codes "k"))) [
     | inr none ↦ inr (λ (other, k, many, more, text). none (k, (serve_given text line).1))
-    | inl (k, k_given) ↦ inl (me, k, blocks, polls, record { line = line; given = given; k_given = k_given; ranges = are_served k blocks polls given k_given })
+    | inl (k, k_given) ↦ inl (me, k, blocks, polls, record { line = line; given = given; k_given = k_given; ranges = are_served (line_value line (codes "k")) k blocks polls given k_given })
   ]
 ]
 

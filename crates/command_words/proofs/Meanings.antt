@@ -1,7 +1,7 @@
 -- What the words of the built commands mean, and that they mean only that.
 use Rattle.std.proofs.Common.{◌≡◌, ◌≤◌, ◌⊎◌, ℕ, true, List, [], ◌∷◌, ◌++◌, append_assoc, length, map, drop, Option, None, Some, refl, sym, ap, ap₂, ◌∙◌, subst, arith, cond, inl, inr, codes, false, true≢false, get_or, string_bytes, take, take_all, ◌-◌}
 use Rattle.std.specs.declared.string.String.{String}
-use Rattle.std.specs.Prelude.{IfSome, is_some, slice_get}
+use Rattle.std.specs.Prelude.{IfNone, IfSome, is_some, slice_get}
 use Rattle.std.specs.List.{list_all}
 use Rattle.std.specs.Str.{bytes_eq}
 use Rattle.std.proofs.lemmas.Bool.{cases_Bool}
@@ -25,7 +25,7 @@ use Rattle.command_words.specs.declared.air.AirWord.TheVariants.{HostPort, Nothi
 use Rattle.command_words.specs.Disks.{IsDiskOf}
 use Rattle.command_words.specs.declared.disk.DiskWord.{DiskWord}
 use Rattle.command_words.specs.declared.disk.DiskWord.TheVariants.{Fresh, Named}
-use Rattle.command_words.specs.Words.{AreServed, CallGiven, InSet, IsAir, IsHostPort, IsMake, IsNamed, IsUnbuilt, IsUsage, NeedsAir, NeedsNeither, ServeText, SessionText, default_blocks, default_k, default_polls, serve_options, session_options, unbuilt_commands}
+use Rattle.command_words.specs.Words.{AreInRange, CallGiven, InSet, IsAir, IsHostPort, IsMake, IsNamed, IsUnbuilt, IsUsage, NeedsAir, NeedsNeither, ServeText, SessionText, default_blocks, default_k, default_polls, serve_options, session_options, unbuilt_commands}
 use Rattle.command_words.proofs.Bytes.{has_byte-append}
 use Rattle.command_words.proofs.Uses.{Text, Uses, text_eq, text_same, values}
 use Rattle.command_words.proofs.Machine.{is_name, is_name-from}
@@ -149,9 +149,9 @@ session_from call seconds blocks_no polls_no line agreed moment = record {
 -- ---- services' texts
 
 -- the numbers that a service's words give are in their ranges
-pub are_served : {places : List Text} {value : Text → Option Text} {k_value : Option Text} {me : CallSign} (k blocks polls : ℕ) → CallGiven places value me blocks polls
-    → IsNumberOr default_k 1 7 k_value k → AreServed k blocks polls
-are_served {value = value} {k_value = k_value} k blocks polls given k_given =
+pub are_served : {places : List Text} {value : Text → Option Text} {me : CallSign} (k_value : Option Text) (k blocks polls : ℕ)
+    → CallGiven places value me blocks polls → IsNumberOr default_k 1 7 k_value k → AreInRange k blocks polls
+are_served {value = value} k_value k blocks polls given k_given =
     let (some_k, most_k) = in_range default_k 1 7 k_value k (omega arith) (omega arith) k_given in
     let (some_blocks, most_blocks) = in_range default_blocks 1 65536 (value (codes "blocks")) blocks (omega arith) (omega arith) given.blocks_given in
     let (some_polls, most_polls) = in_range default_polls 1 18446744073709551615 (value (codes "polls")) polls (omega arith) (omega arith) given.polls_given in
@@ -175,13 +175,13 @@ serve_agrees {k_no = k_no} line text =
 -- and what they mean is what a line gives
 pub serve_from : {others : List Text} {me : Text} {k blocks polls : Option Text} (call : CallSign) (k_no blocks_no polls_no : ℕ) → ServeLine others me k blocks polls
     → Agreed me blocks polls call blocks_no polls_no → IsNumberOr default_k 1 7 k k_no → ServeText others call k_no blocks_no polls_no
-serve_from call k_no blocks_no polls_no line agreed k_is =
+serve_from {k = k} call k_no blocks_no polls_no line agreed k_is =
     let given = given_from line.place line.blocks_given line.polls_given agreed in
     record {
       line = line.line;
       given = given;
       k_given = subst (λ (o : Option Text). IsNumberOr default_k 1 7 o k_no) (sym line.k_given) k_is;
-      ranges = are_served k_no blocks_no polls_no given k_is;
+      ranges = are_served k k_no blocks_no polls_no given k_is;
     }
 
 -- ---- commands that need neither disk nor air
@@ -253,9 +253,17 @@ names_none word no_nothing no_standard no_host_port Nothing is = no_nothing is
 names_none word no_nothing no_standard no_host_port Standard is = no_standard is
 names_none word no_nothing no_standard no_host_port HostPort is = no_host_port is
 
+-- AIR has none of its forms where nothing was read,
 pub unnamed : (word : Text) → ((air : AirWord) → IsAirOf word air → ⊥) → IsAir word → ⊥
 unnamed word none (inl standard) = none Standard standard
 unnamed word none (inr host_port) = none HostPort host_port
+
+-- and a command that needs neither disk nor air has one of them
+pub air_unread : (word : Text) (read : Option AirWord) → IfNone read ((air : AirWord) → IsAirOf word air → ⊥) → is_some read ≡ false
+    → (word ≡ codes "none") ⊎ IsAir word → ⊥
+air_unread word None none e (inl nothing) = none Nothing nothing
+air_unread word None none e (inr form) = unnamed word none form
+air_unread word (Some air) none e form = true≢false e
 
 -- ---- the word DISK
 

@@ -1,5 +1,5 @@
 -- Each list of words has one meaning.
-use Rattle.std.proofs.Common.{◌≡◌, ◌≤◌, ◌⊎◌, ℕ, List, [], ◌∷◌, ◌++◌, length, Option, None, Some, refl, sym, ap, ◌∙◌, subst, arith, inl, inr, codes, true≢false, append_assoc, length-append}
+use Rattle.std.proofs.Common.{◌≡◌, ◌≤◌, ◌⊎◌, ℕ, List, [], ◌∷◌, length, Option, None, Some, refl, sym, ap, ◌∙◌, subst, arith, inl, inr, codes, true≢false}
 use Rattle.std.specs.Str.{bytes_eq}
 use Rattle.std.proofs.lemmas.Bool.{cases_Bool}
 use Rattle.px_base.specs.CallSign.{CallSign, CallText}
@@ -18,7 +18,7 @@ use Rattle.command_words.specs.Making.{options_given}
 use Rattle.command_words.specs.Numbers.{GivesNumber}
 use Rattle.command_words.specs.declared.request.SessionRequest.{SessionRequest}
 use Rattle.command_words.specs.declared.serve.ServeRequest.{ServeRequest}
-use Rattle.command_words.specs.Words.{AsksHeader, CallGiven, IsAir, IsNamed, IsServe, IsSession, IsUnbuilt, IsUsage, NameText, NeedsAir, NeedsNeither, ServeText, SessionText, default_blocks, default_k, default_polls, unbuilt_commands}
+use Rattle.command_words.specs.Words.{AsksHeader, CallGiven, IsAir, IsNamed, IsServe, IsSession, IsUnbuilt, IsUsage, NameText, NeedsAir, NeedsNeither, default_blocks, default_k, default_polls, unbuilt_commands}
 use Rattle.command_words.proofs.Uses.{Text, text_eq, text_same}
 use Rattle.command_words.proofs.Machine.{is_name, is_name-to}
 use Rattle.command_words.proofs.Meanings.{AreOf, air_from, air_in, air_text, disk_in, disk_of, make_says, make_usage, name_usage, named_by, names, neither_from, neither_text, no_command_usage, not_both, number_one, of_set, one_disk, same_places, says_one, serve_given, serve_usage, session_given, session_usage, third_word}
@@ -61,12 +61,12 @@ air_same {which = which} {which2 = which2} {Q = Q} one two =
     let same : two.others ≡ one.others = cc in
     let disks : one.disk ≡ two.disk = cc in
     let disk = one_disk two.disk which which2 (subst (λ (t : Text). IsDiskOf t which) disks one.disk_named) two.disk_named in
-    (disk, one.others, one.text, subst Q same two.text)
+    (disk, (one.others, one.text, subst Q same two.text))
 
 -- two sessions of the same words are one
 session_same : {words : List Text} (asked other : SessionRequest) → IsSession words asked → IsSession words other → asked ≡ other
 session_same asked other one two =
-    let (disk, others, first, second) = air_same one two in
+    let (disk, (others, first, second)) = air_same one two in
     let (given, moment_given) = session_given second first.line in
     let (callers, blocks, polls) = given_same first.given given in
     let moments = gives_same 0 4294967295 _ asked.moment other.moment first.moment_given moment_given in
@@ -75,7 +75,7 @@ session_same asked other one two =
 -- and two services
 serve_same : {words : List Text} (asked other : ServeRequest) → IsServe words asked → IsServe words other → asked ≡ other
 serve_same asked other one two =
-    let (disk, others, first, second) = air_same one two in
+    let (disk, (others, first, second)) = air_same one two in
     let (given, k_given) = serve_given second first.line in
     let (calls, blocks, polls) = given_same first.given given in
     let ks = number_one default_k 1 7 _ asked.k other.k first.k_given k_given in

@@ -70,7 +70,7 @@ pub record SessionText (others : List (List ℕ)) (caller : CallSign) (moment : 
   pub moment_given : GivesNumber 0 4294967295 (line_value line (codes "moment")) moment
 
 -- The numbers of `serve` are in their ranges.
-pub record AreServed (k blocks polls : ℕ) : Type 0 where
+pub record AreInRange (k blocks polls : ℕ) : Type 0 where
   pub some_k : 1 ≤ k
   pub most_k : k ≤ 7
   pub some_blocks : 1 ≤ blocks
@@ -82,7 +82,7 @@ pub record ServeText (others : List (List ℕ)) (me : CallSign) (k blocks polls 
   pub line : Line serve_options others 1
   pub given : CallGiven (line_places line) (line_value line) me blocks polls
   pub k_given : IsNumberOr default_k 1 7 (line_value line (codes "k")) k
-  pub ranges : AreServed k blocks polls
+  pub ranges : AreInRange k blocks polls
 
 -- The words are DISK, which names this disk, AIR, this command, which needs an air, and others of which this holds.
 pub record NeedsAir (command : List ℕ) (which : DiskWord) (P : List (List ℕ) → Type 0) (words : List (List ℕ)) : Type 0 where

@@ -1,6 +1,7 @@
 //! The words of `serve`.
 
-ghost use Rattle.std.specs.Prelude.{◌≡◌, ◌∷◌, IfOk, IsErrOf, codes, drop, map, string_bytes};
+ghost use Rattle.std.specs.Prelude.{◌≡◌, ◌∷◌, ℕ, IfOk, IsErrOf, codes, drop, map, string_bytes};
+ghost use Rattle.px_base.specs.CallSign.{CallSign};
 ghost use Rattle.command_words.specs.Asked.{AsksFor};
 ghost use Rattle.command_words.specs.Laws.{AsksServe};
 ghost use Rattle.command_words.specs.Words.{ServeText};
@@ -62,8 +63,8 @@ pub(crate) fn serve_request<'a>(
 fn read_texts(alloc: Global, line: &[String]) -> Result<ServeRequest, Refusal>
     ensures text { IfOk result (λ asked.
         ServeText (drop 1 (map string_bytes line.now)) asked.me asked.k asked.blocks asked.polls) }
-    ensures usage { IsErrOf result Refusal.Usage → (asked : ServeRequest) →
-        ServeText (drop 1 (map string_bytes line.now)) asked.me asked.k asked.blocks asked.polls → ⊥ }
+    ensures usage { IsErrOf result Refusal.Usage → (me : CallSign) (k blocks polls : ℕ) →
+        ServeText (drop 1 (map string_bytes line.now)) me k blocks polls → ⊥ }
     ensures built { IsErrOf result Refusal.NotBuilt → ⊥ }
 {
     let texts = line::read_serve(alloc, line)?;

@@ -1,5 +1,5 @@
 -- The third word is the command.
-use Rattle.std.proofs.Common.{◌≡◌, List, ◌∷◌, codes, drop, inl, inr, length, lit<, map, refl, string_bytes, subst, sym, take, ◌-◌, ◌∙◌}
+use Rattle.std.proofs.Common.{◌≡◌, List, ◌∷◌, codes, drop, length, lit<, map, refl, string_bytes, subst, sym, take, ◌-◌, ◌∙◌}
 use Rattle.std.specs.Prelude.{Contains, IfOk}
 use Rattle.std.proofs.lemmas.Result.{IfOk-weaker}
 use Rattle.command_words.specs.Asked.{AsksFor}
