@@ -17,12 +17,13 @@ AsksServe words = (asked : ServeRequest) × IsServe words asked
 abbrev pub AsksFrames : List (List ℕ) → Type 0
 AsksFrames words = (name : List ℕ) × IsFrames words name
 
--- Each list of words isn't in the command set, or asks for what isn't built yet, for a session, for a service, for frames or
--- for a header.
+-- Each list of words isn't in the command set, or asks for what isn't built yet, for a session, for a service, for frames
+-- or for a header.
 abbrev pub HasMeaning : Type 0
 HasMeaning =
     (words : List (List ℕ))
-    → IsUsage words ⊎ (IsUnbuilt words ⊎ (AsksSession words ⊎ (AsksServe words ⊎ (AsksFrames words ⊎ AsksHeader words))))
+    → IsUsage words
+    ⊎ (IsUnbuilt words ⊎ (AsksSession words ⊎ (AsksServe words ⊎ (AsksFrames words ⊎ AsksHeader words))))
 
 -- It does only one of these,
 pub record OnlyOne (words : List (List ℕ)) : Type 0 where
@@ -51,8 +52,8 @@ OnlyMake words =
     (body other kept another : List ℕ) (spec later : MakeValue) → IsMake words body kept spec → IsMake words other another later
     → (body ≡ other) × (kept ≡ another) × (spec ≡ later)
 
--- and for one session (of one disk, caller, moment, number of blocks and number of polls), one service (of one call, k, number
--- of blocks and number of polls) and one name.
+-- and for one session (of one disk, caller, moment, number of blocks and number of polls), one service (of one call, k,
+-- number of blocks and number of polls) and one name.
 pub record Determined (words : List (List ℕ)) : Type 0 where
   pub session : (asked other : SessionRequest) → IsSession words asked → IsSession words other → asked ≡ other
   pub serve : (asked other : ServeRequest) → IsServe words asked → IsServe words other → asked ≡ other

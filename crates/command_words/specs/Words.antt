@@ -43,7 +43,7 @@ session_options = codes "moment" ∷ codes "blocks" ∷ codes "polls" ∷ []
 abbrev pub serve_options : List (List ℕ)
 serve_options = codes "k" ∷ codes "blocks" ∷ codes "polls" ∷ []
 
--- how many frames of a link may be unacknowledged, where the words don't say (AX.25's k)
+-- how many I frames of a link may be outstanding, where the words don't say (k of AX.25 2.0, 2.4.7.4)
 abbrev pub default_k : ℕ
 default_k = 4
 
@@ -56,7 +56,8 @@ abbrev pub default_polls : ℕ
 default_polls = 1000000000000
 
 -- The one place is a call, and the options give a number of blocks and one of polls.
-pub record CallGiven (places : List (List ℕ)) (value : List ℕ → Option (List ℕ)) (call : CallSign) (blocks polls : ℕ) : Type 0 where
+pub record CallGiven (places : List (List ℕ)) (value : List ℕ → Option (List ℕ)) (call : CallSign) (blocks polls : ℕ)
+    : Type 0 where
   pub call_text : List ℕ
   pub place : places ≡ call_text ∷ []
   pub called : CallText call call_text
@@ -64,7 +65,8 @@ pub record CallGiven (places : List (List ℕ)) (value : List ℕ → Option (Li
   pub polls_given : IsNumberOr default_polls 1 18446744073709551615 (value (codes "polls")) polls
 
 -- The words after `session` are CALLER and at most one value for each option, in any order; a moment may be missing.
-pub record SessionText (others : List (List ℕ)) (caller : CallSign) (moment : Option ℕ) (blocks polls : ℕ) : Type 0 where
+pub record SessionText (others : List (List ℕ)) (caller : CallSign) (moment : Option ℕ) (blocks polls : ℕ)
+    : Type 0 where
   pub line : Line session_options others 1
   pub given : CallGiven (line_places line) (line_value line) caller blocks polls
   pub moment_given : GivesNumber 0 4294967295 (line_value line (codes "moment")) moment
@@ -77,7 +79,8 @@ pub record AreInRange (k blocks polls : ℕ) : Type 0 where
   pub most_blocks : blocks ≤ 65536
   pub some_polls : 1 ≤ polls
 
--- The words after `serve` are ME and at most one value for each option, in any order; so the numbers are in their ranges.
+-- The words after `serve` are ME and at most one value for each option, in any order. Their numbers are in their ranges,
+-- which follows from what gives them.
 pub record ServeText (others : List (List ℕ)) (me : CallSign) (k blocks polls : ℕ) : Type 0 where
   pub line : Line serve_options others 1
   pub given : CallGiven (line_places line) (line_value line) me blocks polls
@@ -85,7 +88,8 @@ pub record ServeText (others : List (List ℕ)) (me : CallSign) (k blocks polls 
   pub ranges : AreInRange k blocks polls
 
 -- The words are DISK, which names this disk, AIR, this command, which needs an air, and others of which this holds.
-pub record NeedsAir (command : List ℕ) (which : DiskWord) (P : List (List ℕ) → Type 0) (words : List (List ℕ)) : Type 0 where
+pub record NeedsAir (command : List ℕ) (which : DiskWord) (P : List (List ℕ) → Type 0) (words : List (List ℕ))
+    : Type 0 where
   pub disk : List ℕ
   pub air : List ℕ
   pub others : List (List ℕ)
@@ -97,11 +101,13 @@ pub record NeedsAir (command : List ℕ) (which : DiskWord) (P : List (List ℕ)
 -- the words are `DISK AIR session CALLER` and options, and ask for this session
 abbrev pub IsSession : List (List ℕ) → SessionRequest → Type 0
 IsSession words asked =
-    NeedsAir (codes "session") asked.disk (λ others. SessionText others asked.caller asked.moment asked.blocks asked.polls) words
+    NeedsAir (codes "session") asked.disk
+    (λ others. SessionText others asked.caller asked.moment asked.blocks asked.polls) words
 
 -- the words are `DISK AIR serve ME` and options, where DISK isn't `none`, and ask for this service
 abbrev pub IsServe : List (List ℕ) → ServeRequest → Type 0
-IsServe words asked = NeedsAir (codes "serve") Named (λ others. ServeText others asked.me asked.k asked.blocks asked.polls) words
+IsServe words asked =
+    NeedsAir (codes "serve") Named (λ others. ServeText others asked.me asked.k asked.blocks asked.polls) words
 
 -- The words are DISK, AIR, this command, which needs neither of them, and others of which this holds.
 pub record NeedsNeither (command : List ℕ) (P : List (List ℕ) → Type 0) (words : List (List ℕ)) : Type 0 where

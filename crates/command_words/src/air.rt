@@ -18,7 +18,7 @@ pub enum AirWord {
     HostPort,
 }
 
-/// What this word AIR names, and it names nothing else; or nothing where it has none of the three forms. The program picks its
+/// What this word AIR names, and it names nothing else; or `None` where it has none of the three forms. A program picks its
 /// air by the answer. Takes no memory.
 pub fn read_air(air: &str) -> Option<AirWord>
     ensures some { IfSome result (λ which. IsAirOf air.now which) }

@@ -14,20 +14,19 @@ use crate::request::{BLOCKS, MOST_BLOCKS, POLLS, Refusal, Request};
 use px_base::Call;
 use std::alloc::Global;
 
-/// How many frames of a link may be unacknowledged, where the words don't say (AX.25 2.0, the maximum number of I frames
-/// outstanding, k).
+/// How many I frames of a link may be outstanding, where the words don't say (k of AX.25 2.0, 2.4.7.4).
 pub const K: u8 = 4;
 
-/// How many frames of a link may be unacknowledged at most.
+/// How many I frames of a link may be outstanding at most.
 const MOST_K: u64 = 7;
 
-/// The service that the words ask for: of which station, over the air that AIR names (standard input and output, or a host
-/// and port), with its store on the disk that DISK names, the file of that path.
+/// The service that the words ask for. Its air is the one that AIR names, standard input and output or a host and port, and
+/// its store lies on the disk that DISK names, the file of that path.
 #[derive(Clone, Copy, Debug, PartialEq, Eq)]
 pub struct ServeRequest {
     /// The call of the station that serves.
     pub me: Call,
-    /// How many frames of a link may be unacknowledged (AX.25's k): 1 to 7; [`K`] where the words give none.
+    /// How many I frames of a link may be outstanding (k of AX.25 2.0, 2.4.7.4): 1 to 7; [`K`] where the words give none.
     pub k: u8,
     /// How many blocks of 512 octets the store has: 1 to 65,536; [`BLOCKS`] where the words give none.
     pub blocks: u32,
@@ -71,7 +70,7 @@ fn read_texts(alloc: Global, line: &[String]) -> Result<ServeRequest, Refusal>
     let Ok(me) = Call::read(texts.me) else {
         return Err(Refusal::Usage);
     };
-    let Some(most_unacknowledged) = number_or(u64::from(K), 1, MOST_K, texts.k) else {
+    let Some(most_outstanding) = number_or(u64::from(K), 1, MOST_K, texts.k) else {
         return Err(Refusal::Usage);
     };
     let Some(block_count) = number_or(u64::from(BLOCKS), 1, MOST_BLOCKS, texts.blocks) else {
@@ -82,7 +81,7 @@ fn read_texts(alloc: Global, line: &[String]) -> Result<ServeRequest, Refusal>
     };
     Ok(ServeRequest {
         me,
-        k: most_unacknowledged as u8,
+        k: most_outstanding as u8,
         blocks: block_count as u32,
         polls: poll_count,
     })

@@ -30,7 +30,7 @@ returns-in_default-number_or-3-clause-usage c = λ usage me k blocks polls text.
 
 pub returns-clause-text : goal.returns-clause-text
 returns-clause-text c =
-    serve_from c.in-Ok.me c.in-Some.most_unacknowledged c.in-Some-number_or.block_count c.in-Some-number_or-2.poll_count c.in_ok-texts.ensures.texts
+    serve_from c.in-Ok.me c.in-Some.most_outstanding c.in-Some-number_or.block_count c.in-Some-number_or-2.poll_count c.in_ok-texts.ensures.texts
     (record {
       called = c.in-Ok.ensures.call;
       blocks_given = rw c.from-2.ensures at c.in-Some-number_or.ensures.some;
