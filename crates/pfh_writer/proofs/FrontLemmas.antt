@@ -115,7 +115,7 @@ module _ (stamp : StampValue) (sum : ℕ) where
       (sym (append_assoc (item_text item) (items_text after) (end_item ++ body)) ∙ sym same))
 
   -- the octets of a stamped file, by its items before and after
-  stamped_parts_text : (items before after : List ItemValue) (body file : List ℕ) → IsFaultless items body file → sum ≡ stamped_sum stamp items
+  pub stamped_parts_text : (items before after : List ItemValue) (body file : List ℕ) → IsFaultless items body file → sum ≡ stamped_sum stamp items
       → items ≡ before ++ after
       → stamped stamp file
       ≡ (header_start ++ items_text (map (given_item stamp sum) before)) ++ (items_text (map (given_item stamp sum) after) ++ (end_item ++ body))

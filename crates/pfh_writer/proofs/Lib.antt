@@ -1,5 +1,6 @@
 pub mod BuiltLemmas
 pub mod FilledLemmas
+pub mod FillingLemmas
 pub mod FrontLemmas
 pub mod ItemsLemmas
 pub mod OthersLemmas

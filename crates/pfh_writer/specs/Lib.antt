@@ -1,4 +1,5 @@
 pub mod Built
+pub mod Filling
 pub mod Given
 pub mod Short
 pub mod Stamping
