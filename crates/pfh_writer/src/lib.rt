@@ -7,6 +7,7 @@
 
 mod builder;
 mod filling;
+pub mod laws;
 mod pieces;
 mod refusal;
 mod server;
