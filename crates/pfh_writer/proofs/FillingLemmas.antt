@@ -18,7 +18,7 @@ use Rattle.pfh_writer.specs.Filling.{FillsItem, FillsFront, StaysAtEnd, sum_plac
 use Rattle.pfh_writer.specs.Given.{stamped_sum}
 use Rattle.pfh_writer.specs.Stamping.{server_data, given_item}
 use Rattle.pfh_writer.specs.Sums.{filled_item, data_sum}
-use Rattle.pfh_writer.proofs.FilledLemmas.{number_lens, server_len, sum_field}
+use Rattle.pfh_writer.proofs.FilledLemmas.{number_lens, server_len}
 use Rattle.pfh_writer.proofs.FrontLemmas.{stamped_parts_text}
 use Rattle.pfh_writer.proofs.ItemsLemmas.{field-once}
 use Rattle.pfh_writer.proofs.SumLemmas.{data_sum-cons, renewed-stamped_sum}
@@ -68,7 +68,6 @@ front_whole : (items : List ItemValue) (body : List ℕ)
     → item_len (items_text items ++ (end_item ++ body)) ≤ length (items_text items ++ (end_item ++ body))
 front_whole [] body = omega arith
 front_whole (item ∷ items) body =
-    let later : List ℕ = items_text items ++ (end_item ++ body) in
     subst (λ (t : List ℕ). item_len t ≤ length t) (sym (append_assoc (item_text item) (items_text items) (end_item ++ body)))
     (leb-true _ _ (starts_whole-text item (items_text items ++ (end_item ++ body))))
 
@@ -143,8 +142,6 @@ module _ (stamp : StampValue) (old now : List ℕ) (at sum_at change : ℕ) (w :
         by [] none = absurd (fills.no_end w.body (rest_is ∙ ap (λ (l : List ItemValue). items_text l ++ (end_item ++ w.body)) none))
         by (item ∷ after) some =
             let are : AreItems (item ∷ after) = subst AreItems some w.are_after in
-            let end : List ℕ = end_item ++ w.body in
-            let later : List ℕ = items_text after ++ (end_item ++ w.body) in
             let begins : drop at now ≡ item_text item ++ (items_text after ++ (end_item ++ w.body)) =
             rest_is
             ∙ ap (λ (l : List ItemValue). items_text l ++ (end_item ++ w.body)) some
@@ -235,8 +232,6 @@ module _ (stamp : StampValue) (sum : ℕ) where
   cut_here : (content front tail : List ℕ) (at known : ℕ) (items : List ItemValue) → length content ≡ 2 → length front ≡ at → items_with 0x0A items ≡ []
       → SumCut stamp sum front content tail (item_at 0x0A content ∷ items) (sum_place_of at known (item_at 0x0A content ∷ items))
   cut_here content front tail at known items two len none =
-      let behind : List ℕ = items_text (map (filled_item stamp) items) ++ tail in
-      let head : List ℕ = 0x0A ∷ (0 ∷ (length content ∷ [])) in
       record {
         before = front ++ (0x0A ∷ (0 ∷ (2 ∷ [])));
         behind = items_text (map (filled_item stamp) items) ++ tail;
@@ -277,7 +272,6 @@ module _ (stamp : StampValue) (sum : ℕ) where
       → items_with 0x0A items ≡ item_at 0x0A content ∷ [] → SumCut stamp sum front content tail items (sum_place_of at known items)
   cut content front tail at known [] call two len one = cc
   cut content front tail at known (item ∷ items) call two len one =
-      let next : ℕ = at + 3 + length item.content in
       by
       (λ more_len same. cut content (front ++ item_text (filled_item stamp item)) tail (at + 3 + length item.content) (sum_place_after known item.id (at + 3)) items call two more_len same)
       (item.id == 0x0A) refl one
@@ -383,13 +377,11 @@ module _ (stamp : StampValue) (call : IsCall stamp.by) (old now : List ℕ) (at 
 
   pub stamped_is : with_sum_changed file sum_at change ≡ stamped stamp old
   stamped_is =
-      let sum : ℕ = (le16 file sum_at + change) % 65536 in
       let c = cut_at ((le16 file sum_at + change) % 65536) in
       let text : file ≡ c.before ++ (sum_once.0 ++ c.behind) = all_filled ∙ c.filled in
       let back : drop (sum_at + 2) file ≡ c.behind =
       ap (drop (sum_at + 2)) (text ∙ sym (append_assoc c.before sum_once.0 c.behind))
       ∙ drop_at (c.before ++ sum_once.0) c.behind (sum_at + 2) (omega (arith, length-append c.before sum_once.0, c.before_len, sum_once.2)) in
-      let renewed : List ℕ = le16_octets ((le16 file sum_at + change) % 65536) in
       ap (λ (t : List ℕ). t ++ (le16_octets ((le16 file sum_at + change) % 65536) ++ drop (sum_at + 2) file))
       (ap (take sum_at) text ∙ take_at c.before (sum_once.0 ++ c.behind) sum_at c.before_len)
       ∙ ap (λ (t : List ℕ). c.before ++ (le16_octets ((le16 file sum_at + change) % 65536) ++ t)) back
