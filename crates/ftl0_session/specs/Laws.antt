@@ -6,8 +6,8 @@ use Rattle.px_base.specs.Octets.{IsOctets}
 use Rattle.ftl0_packets.specs.Layout.{Item, PacketValue, data_end, ul_ack_resp, ul_error_resp, ul_nak_resp, upload_cmd}
 use Rattle.pfh_items.specs.Faults.{fault_code}
 use Rattle.pfh_items.specs.Stamp.{stamped}
+use Rattle.pfh_writer.specs.KeptFile.{KeepsClient}
 use Rattle.file_entries.specs.Command.{after_all, can_begin, stamp_of}
-use Rattle.file_entries.specs.KeptFile.{KeepsClient}
 use Rattle.file_entries.specs.Store.{Entry, Store, complete, entry_of, partial}
 use Rattle.ftl0_session.specs.Session.{Row, State, command, granted_row, receiving, resumed_row, session_row}
 

@@ -29,13 +29,6 @@ number_lens items body file is = len_of_once items (record { id = 0x01; len = 4;
 pub sum_lens : (items : List ItemValue) (body file : List ℕ) → IsFaultless items body file → AllByRecursion HasSumLen items
 sum_lens items body file is = len_of_once items (record { id = 0x0A; len = 2; form = Number }) is.fits.once.1.1.1.1.1.1.1.1.1.0
 
--- header_checksum of a file
-pub sum_field : (items : List ItemValue) (body file : List ℕ) → IsFaultless items body file
-    → (content : List ℕ) × (field_of 0x0A items ≡ Some content) × (length content ≡ 2)
-sum_field items body file is =
-    let once = is.fits.once.1.1.1.1.1.1.1.1.1.0 in
-    (once.0, field-once items (record { id = 0x0A; len = 2; form = Number }) once, once.2)
-
 module _ (stamp : StampValue) where
   -- an item that a server fills in is the stamped one
   pub filled-stamped : (item : ItemValue) → HasNumberLen item → filled_item stamp item ≡ stamped_item stamp item

@@ -26,13 +26,3 @@ pub header_long : (items : List ItemValue) (rest octets : List ℕ) → octets �
 header_long items rest octets same =
     let len = ap length (same ∙ after_start items rest) in
     omega arith
-
--- as many octets of a file as its header has are the header
-pub front_is : (items : List ItemValue) (body file : List ℕ) (len : ℕ) → IsFaultless items body file → len ≡ length (header_text items)
-    → take len file ≡ header_text items
-front_is items body file len is same = ap (λ (t : List ℕ). take len t) is.file_text.text ∙ take_at (header_text items) body len (sym same)
-
-pub front_faultless : (items : List ItemValue) (body file : List ℕ) (len : ℕ) → IsFaultless items body file → len ≡ length (header_text items)
-    → IsFaultless items body (take len file ++ body)
-front_faultless items body file len is same =
-    subst (λ (t : List ℕ). IsFaultless items body t) (is.file_text.text ∙ ap (λ (t : List ℕ). t ++ body) (sym (front_is items body file len is same))) is

@@ -10,9 +10,9 @@ use Rattle.pfh_items.proofs.FaultLemmas.{no_fault}
 use Rattle.pfh_items.proofs.StampLemmas.{AreItems-stamped_items, length-chars, stamped-text}
 use Rattle.pfh_items.proofs.TextLemmas.{item_at}
 use Rattle.pfh_writer.proofs.FilledLemmas.{id-stamped}
-use Rattle.file_entries.specs.KeptFile.{KeptFileLaw, client_items, ids_of}
-use Rattle.file_entries.proofs.FaultlessLemmas.{stamped-faultless}
-use Rattle.file_entries.proofs.StampedLemmas.{length-stamped, no_fault-code}
+use Rattle.pfh_writer.specs.KeptFile.{KeptFileLaw, client_items, ids_of}
+use Rattle.pfh_writer.proofs.FaultlessLemmas.{stamped-faultless}
+use Rattle.pfh_writer.proofs.StampedLemmas.{length-stamped, no_fault-code}
 
 -- one of four tests holds
 abbrev any_of : Bool → Bool → Bool → Bool → Bool

@@ -19,7 +19,7 @@ use Rattle.pfh_writer.specs.Given.{stamped_sum}
 use Rattle.pfh_writer.specs.Stamping.{given_data, given_item}
 use Rattle.pfh_writer.proofs.FilledLemmas.{given_items, length-given_data, length-given_items}
 use Rattle.pfh_writer.proofs.ItemsLemmas.{field-once}
-use Rattle.file_entries.proofs.StampedLemmas.{length-header}
+use Rattle.pfh_writer.proofs.StampedLemmas.{length-header}
 
 -- ---- items that stand once
 
