@@ -25,7 +25,7 @@ abbrev pub upto : Entry → List ℕ → Entry
 upto e held = record e { holding = partial held }
 
 -- an entry that is under way is that
-upto-is : (e : Entry) (held : List ℕ) → e.holding ≡ partial held → e ≡ upto e held
+pub upto-is : (e : Entry) (held : List ℕ) → e.holding ≡ partial held → e ≡ upto e held
 upto-is e held partly = ap (λ (h : Holding). record e { holding = h }) partly
 
 -- the last grow and the seal leave the entry complete, and its file stamped
@@ -118,7 +118,7 @@ sent caller (event ∷ parts) file store number e held rest found brings fits =
 -- what DATA_END gives once all octets came
 module _ (caller : CallSign) (store : Store) (number : ℕ) (e : Entry) (moment : ℕ) (held rest file : List ℕ) (found : entry_of store number ≡ Some (upto e held))
     (octets : held ++ rest ≡ file) (all : length file ≡ e.length) (good : fault_code file ≡ None) where
-  end-row : session_row caller moment store (receiving number rest) (Ok data_end) ≡ Some (whole_row moment number rest None)
+  pub end-row : session_row caller moment store (receiving number rest) (Ok data_end) ≡ Some (whole_row moment number rest None)
   end-row =
       let here : octets_at (entry_of store number) ≡ held = ap octets_at found in
       let len : length held + length rest ≡ length file = sym (length-append held rest) ∙ ap length octets in

@@ -3,7 +3,7 @@
 ghost use Rattle.std.specs.Prelude.{◌≡◌, ◌≤◌, [], ◌∷◌};
 ghost use Rattle.command_words.specs.Laws.{AsksSession};
 ghost use Rattle.command_words.specs.Words.{IsUnbuilt, IsUsage, NamesBuilt};
-ghost use Rattle.session_node.specs.Laws.{AcknowledgedStandsLaw};
+ghost use Rattle.ftl0_session.specs.Laws.{AcknowledgedStandsLaw};
 ghost use Rattle.px_base.specs.Outside.{Rose};
 ghost use Rattle.pacsat_cli.specs.Files.{IsNoSuchBy, IsShownBy, IsTooLongBy};
 ghost use Rattle.pacsat_cli.specs.Run.{AreRefused, HasShelfCause, HasStatusCause, IsUnless, Shows, Stays};
@@ -22,8 +22,8 @@ use command_words::Refusal;
 use command_words::laws::one_meaning;
 use disk_model::Disk;
 use ftl0_packets::laws::stream_law;
+use ftl0_session::laws::acknowledged_stands_law;
 use px_base::{Air, Clock, Out, Shelf};
-use session_node::laws::acknowledged_stands_law;
 use std::alloc::Global;
 
 /// Does what the words ask for, over this disk, air, shelf, output and clock, and shows the status's line on the output.
