@@ -44,7 +44,7 @@ pub record RunsLaw : Type 0 where
 
 -- DATA_END's row replies UL_ACK_RESP. Where the row's commands are among those done, behind those before, the file's
 -- entry is complete with the octets that came, stamped, in each image that a crash leaves since the last call of the
--- disk for them: four for each command since the recovery was done, and so before the reply is said.
+-- disk for them: four for each command since the recovery was done.
 pub record AcknowledgedSince {D : Type 0} (g : Ghosts D) (caller : CallSign) (store : Store)
     (before done : List Command) (moment number : ℕ) (entry : Entry) (file rest : List ℕ) (ready : ℕ)
     (disk disk_now : D) : Type 0 where

@@ -11,8 +11,8 @@ pub fn runs_law()
 {}
 
 /// From which moment on an acknowledged file stands: since the last call of the disk for the commands of the row that
-/// replies UL_ACK_RESP, and so before the reply is said, the file's entry is complete, with exactly the octets that
-/// came, stamped, in every image that a crash leaves, however the session goes on and ends.
+/// replies UL_ACK_RESP the file's entry is complete, with exactly the octets that came, stamped, in every image that a
+/// crash leaves, however the session goes on and ends. `Session::take` makes that call before it gives the reply.
 pub fn acknowledged_since_law<D: Disk>()
     ensures { AcknowledgedSinceLaw D.Disk }
 {
