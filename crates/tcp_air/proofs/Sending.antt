@@ -1,14 +1,13 @@
 -- What the calls that send octets come to.
-use Rattle.std.proofs.Common.{◌≡◌, inl, inr, ⊎_elim, ℕ, zero, ◌+◌, ◌<◌, ◌≤◌, List, [], ◌∷◌, ◌++◌, length, take, drop, Bool, true, false, Result, Ok, Err, IsErr, refl, sym, ◌∙◌, ap, subst, arith, append_assoc}
+use Rattle.std.proofs.Common.{◌≡◌, inl, inr, ⊎_elim, ℕ, ◌+◌, ◌<◌, List, [], ◌∷◌, ◌++◌, length, take, drop, Bool, true, false, Ok, Err, refl, sym, ◌∙◌, ap, subst, arith, append_assoc}
 use Rattle.std.proofs.lemmas.Bool.{cases_lt, false≢true}
-use Rattle.std.proofs.lemmas.List.{append-nil, drop-drop, drop_all, take-append-drop}
+use Rattle.std.proofs.lemmas.List.{drop-drop, drop_all, take-append-drop}
 use Rattle.px_base.specs.Octets.{IsFront}
 use Rattle.px_base.specs.declared.air.AirDown.{AirDown}
-use Rattle.tcp_air.specs.Connections.{IsTaken, Sends, WritesOnce}
+use Rattle.tcp_air.specs.Connections.{Sends, WritesOnce}
 use Rattle.tcp_air.specs.SendingLaws.{all_taken}
 use Rattle.tcp_air.specs.declared.connection.ConnectionCall.{ConnectionCall}
 use Rattle.tcp_air.specs.declared.connection.ConnectionCall.TheVariants as call
-use Rattle.tcp_air.specs.declared.connection.ConnectionError.{ConnectionError}
 
 -- what is sent was taken, in order
 pub whole_send : (octets : List ℕ) (calls : List ConnectionCall) → Sends octets true calls → all_taken calls ≡ octets

@@ -4,7 +4,6 @@ use Rattle.std.proofs.lemmas.Bool.{false≢true}
 use Rattle.px_base.specs.Polling.{turn_of}
 use Rattle.px_base.specs.declared.air.AirDown.{AirDown}
 use Rattle.px_base.specs.declared.air.Polled.{Polled}
-use Rattle.px_base.specs.declared.air.Turn.{Turn}
 use Rattle.px_base.specs.declared.air.Turn.TheVariants as turn
 use Rattle.tcp_air.specs.Connections.{IsPollAnswer, octets_read, turn_for}
 use Rattle.tcp_air.specs.declared.connection.ConnectionError.{ConnectionError}

@@ -38,22 +38,33 @@ octets_read (Err failed) room = Err failed
 abbrev pub Asks : Option (List ConnectionCall) → Option (List ConnectionCall) → (List ConnectionCall → Type 0) → Type 0
 Asks before now P = (calls : List ConnectionCall) × Grows before now calls × P calls
 
--- A connection was made, is to send at once, and to wait 100 milliseconds at most for what it reads.
-abbrev pub IsSetUp : List ConnectionCall → Type 0
-IsSetUp calls = calls ≡ call.Connect (Ok tt) ∷ call.NoDelay (Ok tt) ∷ call.ReadLimit 100 (Ok tt) ∷ []
+-- Calls that have P, and then calls that have Q.
+abbrev pub Then : (List ConnectionCall → Type 0) → (List ConnectionCall → Type 0) → List ConnectionCall → Type 0
+Then P Q calls = (first later : List ConnectionCall) × (calls ≡ first ++ later) × P first × Q later
 
--- A connection was made, and then one of the two others failed.
-abbrev pub IsCutShort : ConnectionError → List ConnectionCall → Type 0
-IsCutShort failed calls =
-    (calls ≡ call.Connect (Ok tt) ∷ call.NoDelay (Err failed) ∷ [])
-    ⊎ (calls ≡ call.Connect (Ok tt) ∷ call.NoDelay (Ok tt) ∷ call.ReadLimit 100 (Err failed) ∷ [])
+-- a connection was to be made: whether it is there
+abbrev pub Connects : Bool → List ConnectionCall → Type 0
+Connects done calls = (answer : Result Unit ConnectionError) × (calls ≡ call.Connect answer ∷ []) × (done ≡ is_ok answer)
 
--- One connection was to be made, and the air is this far then: no call follows one that failed.
+-- it was to send at once
+abbrev pub SendsAtOnce : Bool → List ConnectionCall → Type 0
+SendsAtOnce done calls =
+    (answer : Result Unit ConnectionError) × (calls ≡ call.NoDelay answer ∷ []) × (done ≡ is_ok answer)
+
+-- each read of it was to wait 100 milliseconds at most
+abbrev pub LimitsReads : Bool → List ConnectionCall → Type 0
+LimitsReads done calls =
+    (answer : Result Unit ConnectionError) × (calls ≡ call.ReadLimit 100 answer ∷ []) × (done ≡ is_ok answer)
+
+-- What an air asks for at its first call, and how far it is then: one connection, which is to send at once, and whose
+-- reads are to be limited. No call follows one that failed.
 abbrev pub Opens : Stage → List ConnectionCall → Type 0
-Opens stage.Unmade calls = (failed : ConnectionError) × (calls ≡ call.Connect (Err failed) ∷ [])
-Opens stage.Open calls = IsSetUp calls
-Opens stage.Ended calls = ⊥
-Opens stage.Broken calls = (failed : ConnectionError) × IsCutShort failed calls
+Opens stage.Unmade = Connects false
+Opens stage.Open = Then (Connects true) (Then (SendsAtOnce true) (LimitsReads true))
+Opens stage.Ended = λ _. ⊥
+Opens stage.Broken = λ calls.
+    Then (Connects true) (SendsAtOnce false) calls
+    ⊎ Then (Connects true) (Then (SendsAtOnce true) (LimitsReads false)) calls
 
 -- An air that was so far came so far before it heard or said octets: it is to be connected only where it never was.
 abbrev pub Readies : Stage → Stage → List ConnectionCall → Type 0
@@ -64,8 +75,7 @@ Readies stage.Broken ready calls = (ready ≡ stage.Broken) × (calls ≡ [])
 
 -- The air came so far first, and the calls behind those for that have P.
 abbrev pub ReadiesThen : Stage → (Stage → List ConnectionCall → Type 0) → List ConnectionCall → Type 0
-ReadiesThen before P calls =
-    (ready : Stage) × (first later : List ConnectionCall) × (calls ≡ first ++ later) × Readies before ready first × P ready later
+ReadiesThen before P calls = (ready : Stage) × Then (Readies before ready) (P ready) calls
 
 -- what a poll finds, where reading answers so
 abbrev pub IsPollAnswer : Result ℕ ConnectionError → Result Polled AirDown → Type 0

@@ -2,7 +2,7 @@
 
 ghost use Rattle.std.specs.Prelude.{◌≡◌, ◌≤◌, ℕ, List, [], length, IfOk, is_ok};
 ghost use Rattle.px_base.specs.Polling.{IsPolled, turn_of};
-ghost use Rattle.tcp_air.specs.Connections.{Asks, HearsAt, IsPollAnswer, IsShut, IsTaken, Opens, Polls, Puts, Readies, SaysAt, Sends, WritesOnce, stage_after_saying, stage_after_turn};
+ghost use Rattle.tcp_air.specs.Connections.{Asks, Connects, HearsAt, IsPollAnswer, IsShut, IsTaken, LimitsReads, Opens, Polls, Puts, Readies, SaysAt, Sends, SendsAtOnce, WritesOnce, stage_after_saying, stage_after_turn};
 
 use crate::connection::{Connection, ConnectionError};
 use crate::connection_air::Stage;
@@ -169,14 +169,35 @@ fn make_ready<C: Connection>(connection: &mut C, stage: Stage) -> Stage
 fn open<C: Connection>(connection: &mut C) -> Stage
     ensures { Asks (C.calls connection.old) (C.calls connection.new) (Opens result) }
 {
-    if connection.connect().is_err() {
+    if !connect(connection) {
         return Stage::Unmade;
     }
-    if connection.set_no_delay().is_err() {
+    if !send_at_once(connection) {
         return Stage::Broken;
     }
-    if connection.set_read_limit(READ_LIMIT).is_err() {
+    if !limit_reads(connection) {
         return Stage::Broken;
     }
     Stage::Open
+}
+
+/// Makes the connection, and says whether it is there.
+fn connect<C: Connection>(connection: &mut C) -> bool
+    ensures { Asks (C.calls connection.old) (C.calls connection.new) (Connects result) }
+{
+    connection.connect().is_ok()
+}
+
+/// Has the connection send small segments at once, and says whether it does.
+fn send_at_once<C: Connection>(connection: &mut C) -> bool
+    ensures { Asks (C.calls connection.old) (C.calls connection.new) (SendsAtOnce result) }
+{
+    connection.set_no_delay().is_ok()
+}
+
+/// Has each read of the connection wait for a limited time, and says whether it does.
+fn limit_reads<C: Connection>(connection: &mut C) -> bool
+    ensures { Asks (C.calls connection.old) (C.calls connection.new) (LimitsReads result) }
+{
+    connection.set_read_limit(READ_LIMIT).is_ok()
 }

@@ -8,7 +8,6 @@ use px_base::{Air, AirDown, FileBytes, Polled};
 use std::alloc::Global;
 use std::io::{Read, Write};
 use std::net::{Shutdown, TcpListener};
-use std::process::Abort;
 use std::test::Fail;
 use std::time::{Duration, Instant};
 
@@ -29,251 +28,114 @@ fn texts_of_errors(rt: HostRuntime) -> Result<(), Fail> {
     Ok(())
 }
 
-/// An answer of a script.
-#[derive(Clone, Copy)]
-enum Plan {
-    Done,
-    Gives(&'static str),
-    Takes(usize),
-    Fails(ConnectionError),
+/// The answer that a letter of a script stands for.
+fn planned(alloc: Global, letter: u8) -> Result<MemoryAnswer, Fail> {
+    Ok(match letter {
+        b'w' => MemoryAnswer::Fails(ConnectionError::WouldBlock),
+        b't' => MemoryAnswer::Fails(ConnectionError::TimedOut),
+        b'i' => MemoryAnswer::Fails(ConnectionError::Interrupted),
+        b'x' => MemoryAnswer::Fails(ConnectionError::Other),
+        b'g' => MemoryAnswer::Gives(FileBytes::copy_of(alloc, b"heard")?),
+        b'e' => MemoryAnswer::Gives(FileBytes::new(alloc)),
+        b'0' => MemoryAnswer::Takes(0),
+        b'1' => MemoryAnswer::Takes(1),
+        _ => MemoryAnswer::Done,
+    })
 }
 
-/// What is asked of an air, and what it answers.
-#[derive(Clone, Copy)]
-enum Step {
-    Poll(Result<Polled, AirDown>),
-    Put(&'static str, Result<(), AirDown>),
-}
-
-/// A script, the steps over it, and the calls that reach the connection: one that failed with a mark.
-#[derive(Clone, Copy)]
-struct Row {
-    plans: &'static [Plan],
-    steps: &'static [Step],
-    calls: &'static str,
-}
-
-const BOTH: Step = Step::Poll(Ok(Polled::Bytes(2)));
-
-const QUIET: Step = Step::Poll(Ok(Polled::Quiet));
-
-const END: Step = Step::Poll(Ok(Polled::End));
-
-const DEAF: Step = Step::Poll(Err(AirDown));
-
-const SAID: Step = Step::Put("ab", Ok(()));
-
-const DUMB: Step = Step::Put("ab", Err(AirDown));
-
-fn connection(alloc: Global, plans: &[Plan]) -> Result<MemoryConnection, Fail> {
+/// A connection that answers by this script.
+fn connection(alloc: Global, script: &str) -> Result<MemoryConnection, Fail> {
     let mut answers = Vec::new(alloc);
-    for plan in plans {
-        answers.push(match *plan {
-            Plan::Done => MemoryAnswer::Done,
-            Plan::Gives(text) => {
-                MemoryAnswer::Gives(FileBytes::copy_of(alloc, text.as_bytes())?)
-            }
-            Plan::Takes(count) => MemoryAnswer::Takes(count),
-            Plan::Fails(error) => MemoryAnswer::Fails(error),
-        })?;
+    for letter in script.as_bytes() {
+        answers.push(planned(alloc, *letter)?)?;
     }
     Ok(MemoryConnection::new(alloc, answers))
 }
 
-fn mark(failed: bool) -> &'static str {
-    if failed { "!" } else { "" }
-}
-
-fn text_of(alloc: Global, calls: &[ConnectionCall]) -> Result<String, Fail> {
-    let mut text = String::new(alloc);
-    for call in calls {
-        match call {
-            ConnectionCall::Connect { answer } => write!(
-                text,
-                "connect{} ",
-                mark(answer.is_err())
-            )?,
-            ConnectionCall::NoDelay { answer } => write!(
-                text,
-                "no_delay{} ",
-                mark(answer.is_err())
-            )?,
-            ConnectionCall::ReadLimit {
-                milliseconds,
-                answer,
-            } => write!(text, "limit:{milliseconds}{} ", mark(answer.is_err()))?,
-            ConnectionCall::Read { count, answer } => {
-                write!(text, "read:{count}{} ", mark(answer.is_err()))?;
-            }
-            ConnectionCall::Write { bytes, answer } => {
-                let bytes = bytes.as_slice();
-                write!(text, "write:{bytes:?}{} ", mark(answer.is_err()))?;
-            }
-            ConnectionCall::Flush { answer } => write!(text, "flush{} ", mark(answer.is_err()))?,
+/// Asks this of an air, and says what it answered: `h` hears, and any other letter says two octets.
+fn asked(air: &mut impl Air, letter: u8) -> char {
+    let mut room = [0; 512];
+    if letter == b'h' {
+        match air.poll(&mut room) {
+            Ok(Polled::Bytes(_)) => 'B',
+            Ok(Polled::Quiet) => 'Q',
+            Ok(Polled::End) => 'E',
+            Err(AirDown) => '!',
+        }
+    } else {
+        match air.put(b"ab") {
+            Ok(()) => 'O',
+            Err(AirDown) => '!',
         }
     }
-    Ok(text)
 }
 
-/// What is planned, what is asked and answered, and what reaches the connection. All plans but the last row's begin
-/// behind the three calls that set a connection up.
-const ROWS: [Row; 11] = [
-    Row {
-        plans: &[
-            Plan::Gives("ab"),
-            Plan::Fails(ConnectionError::WouldBlock),
-            Plan::Gives("c"),
-            Plan::Gives(""),
-        ],
-        steps: &[BOTH, QUIET, Step::Poll(Ok(Polled::Bytes(1))), END, END],
-        calls: "read:512 read:512! read:512 read:512 ",
-    },
-    Row {
-        plans: &[
-            Plan::Fails(ConnectionError::TimedOut),
-            Plan::Fails(ConnectionError::Interrupted),
-            Plan::Gives("ab"),
-        ],
-        steps: &[QUIET, QUIET, BOTH],
-        calls: "read:512! read:512! read:512 ",
-    },
-    Row {
-        plans: &[Plan::Fails(ConnectionError::Other), Plan::Gives("ab")],
-        steps: &[DEAF, DEAF, DUMB],
-        calls: "read:512! ",
-    },
-    Row {
-        plans: &[Plan::Takes(2), Plan::Done],
-        steps: &[SAID],
-        calls: "write:[97, 98] flush ",
-    },
-    Row {
-        plans: &[Plan::Takes(1), Plan::Takes(5), Plan::Done],
-        steps: &[SAID, END, SAID],
-        calls: "write:[97, 98] write:[98] flush read:512 write:[97, 98] flush ",
-    },
-    Row {
-        plans: &[Plan::Takes(0)],
-        steps: &[DUMB, DUMB, DEAF],
-        calls: "write:[97, 98] ",
-    },
-    Row {
-        plans: &[Plan::Takes(1), Plan::Fails(ConnectionError::Interrupted)],
-        steps: &[DUMB, DUMB],
-        calls: "write:[97, 98] write:[98]! ",
-    },
-    Row {
-        plans: &[Plan::Takes(2), Plan::Fails(ConnectionError::Other)],
-        steps: &[DUMB, DEAF],
-        calls: "write:[97, 98] flush! ",
-    },
-    Row {
-        plans: &[Plan::Gives(""), Plan::Fails(ConnectionError::Other)],
-        steps: &[END, DUMB, DEAF],
-        calls: "read:512 write:[97, 98]! ",
-    },
-    Row {
-        plans: &[],
-        steps: &[Step::Put("", Ok(()))],
-        calls: "flush ",
-    },
-    Row {
-        plans: &[Plan::Gives("ab")],
-        steps: &[],
-        calls: "",
-    },
-];
+/// The letter of a call, a small one where it failed.
+fn letter_of(call: &ConnectionCall) -> char {
+    let (letter, failed) = match call {
+        ConnectionCall::Connect { answer } => ('C', answer.is_err()),
+        ConnectionCall::NoDelay { answer } => ('N', answer.is_err()),
+        ConnectionCall::ReadLimit { answer, .. } => ('L', answer.is_err()),
+        ConnectionCall::Read { answer, .. } => ('R', answer.is_err()),
+        ConnectionCall::Write { answer, .. } => ('W', answer.is_err()),
+        ConnectionCall::Flush { answer } => ('F', answer.is_err()),
+    };
+    if failed {
+        letter.to_ascii_lowercase()
+    } else {
+        letter
+    }
+}
+
+/// The letters of these calls.
+fn letters_of(alloc: Global, calls: &[ConnectionCall]) -> Result<String, Fail> {
+    let mut letters = String::new(alloc);
+    for call in calls {
+        letters.push(letter_of(call))?;
+    }
+    Ok(letters)
+}
 
 #[test]
-fn an_air_that_is_connected(rt: HostRuntime) -> Result<(), Fail> {
-    let set_up = "connect no_delay limit:100 ";
-    for row in ROWS {
-        let mut plans = vec![in rt.alloc(); Plan::Done; 3]?;
-        plans.extend_from_slice(row.plans)?;
-        let mut air = ConnectionAir::over(connection(rt.alloc(), plans.as_slice())?);
-        let wanted = match row.steps {
-            [] => String::new(rt.alloc()),
-            _ => format!(in rt.alloc(); "{set_up}{}", row.calls)?,
-        };
-        play(&rt, &mut air, row.steps);
-        assert_eq!(rt;
-            text_of(rt.alloc(), air.connection().calls())?.as_str(),
-            wanted.as_str()
-        );
+fn runs_over_scripts(rt: HostRuntime) -> Result<(), Fail> {
+    // the script, what is asked, what is answered, and what reaches the connection
+    let rows = [
+        ("", "", "", ""),
+        ("", "h", "E", "CNLR"),
+        ("", "s", "O", "CNLWF"),
+        ("x", "hs", "!O", "cCNLWF"),
+        ("tw", "shh", "!!E", "ccCNLR"),
+        (".x", "hhs", "!!!", "Cn"),
+        ("..x", "shs", "!!!", "CNl"),
+        ("...gwgtgige", "hhhhhhhhh", "BQBQBQBEE", "CNLRrRrRrRR"),
+        ("...xg", "hhs", "!!!", "CNLr"),
+        ("...11.11", "sshs", "OOEO", "CNLWWFWWFRWF"),
+        ("...0g", "ssh", "!!!", "CNLW"),
+        ("...1i", "sh", "!!", "CNLWw"),
+        ("....x", "sh", "!!", "CNLWf"),
+        ("...exg", "hsh", "E!!", "CNLRw"),
+    ];
+    for (script, asks, answers, calls) in rows {
+        let mut air = ConnectionAir::over(connection(rt.alloc(), script)?);
+        let mut answered = String::new(rt.alloc());
+        for letter in asks.as_bytes() {
+            answered.push(asked(&mut air, *letter))?;
+        }
+        assert_eq!(rt; answered.as_str(), answers, "{script}");
+        let reached = letters_of(rt.alloc(), air.connection().calls())?;
+        assert_eq!(rt; reached.as_str(), calls, "{script}");
         assert!(rt; air.connection().is_told());
     }
     Ok(())
 }
 
-/// How a connection is made, or isn't, and what reaches it.
-const MAKING: [Row; 5] = [
-    Row {
-        plans: &[Plan::Done, Plan::Done, Plan::Done, Plan::Takes(2)],
-        steps: &[SAID],
-        calls: "connect no_delay limit:100 write:[97, 98] flush ",
-    },
-    Row {
-        plans: &[
-            Plan::Fails(ConnectionError::Other),
-            Plan::Fails(ConnectionError::TimedOut),
-        ],
-        steps: &[DEAF, DUMB, END],
-        calls: "connect! connect! connect no_delay limit:100 read:512 ",
-    },
-    Row {
-        plans: &[Plan::Fails(ConnectionError::WouldBlock)],
-        steps: &[DEAF],
-        calls: "connect! ",
-    },
-    Row {
-        plans: &[Plan::Done, Plan::Fails(ConnectionError::Other)],
-        steps: &[DUMB, DUMB, DEAF],
-        calls: "connect no_delay! ",
-    },
-    Row {
-        plans: &[Plan::Done, Plan::Done, Plan::Fails(ConnectionError::Other)],
-        steps: &[DEAF, DEAF, DUMB],
-        calls: "connect no_delay limit:100! ",
-    },
-];
-
-#[test]
-fn how_a_connection_is_made(rt: HostRuntime) -> Result<(), Fail> {
-    for row in MAKING {
-        let mut air = ConnectionAir::over(connection(rt.alloc(), row.plans)?);
-        play(&rt, &mut air, row.steps);
-        assert_eq!(rt;
-            text_of(rt.alloc(), air.connection().calls())?.as_str(),
-            row.calls
-        );
-    }
-    Ok(())
-}
-
-/// Asks these of an air, and compares the answers.
-fn play<C: Connection>(rt: &impl Abort, air: &mut ConnectionAir<C>, steps: &[Step]) {
-    let mut room = [0; 512];
-    for step in steps {
-        match *step {
-            Step::Poll(wanted) => {
-                let polled = air.poll(&mut room);
-                assert_eq!(rt; polled, wanted);
-                if let Ok(Polled::Bytes(2)) = polled {
-                    assert_eq!(rt; &room[..2], b"ab".as_slice());
-                }
-            }
-            Step::Put(text, wanted) => assert_eq!(rt; air.put(text.as_bytes()), wanted),
-        }
-    }
-}
-
 /// What a read has room for is given, and no more.
 #[test]
 fn a_narrow_room(rt: HostRuntime) -> Result<(), Fail> {
-    let mut narrow = connection(rt.alloc(), &[Plan::Gives("abc")])?;
+    let mut narrow = connection(rt.alloc(), "g")?;
     let mut room = [0; 2];
     assert_eq!(rt; narrow.read(&mut room), Ok(2));
-    assert_eq!(rt; &room, b"ab");
+    assert_eq!(rt; &room, b"he");
     Ok(())
 }
 

@@ -1,4 +1,4 @@
-use Rattle.std.proofs.Common.{◌≤◌, [], ◌∷◌, length, IfOk, refl, sym, subst, ◌∙◌, ℕ}
+use Rattle.std.proofs.Common.{◌≤◌, [], ◌∷◌, length, IfOk, refl, sym, subst, ℕ}
 use Rattle.tcp_air.specs.Connections.{octets_read}
 use Rattle.tcp_air.specs.declared.connection.ConnectionCall.TheVariants as call
 use Rattle.tcp_air.proofs.Turns.{turn_is}

@@ -11,5 +11,5 @@ returns-clause-asks g c =
     let octets = c.args.bytes.now in
     let done = is_ok c.say_at-said.result in
     asks_then (Readies before ready) (SaysAt ready octets done) (Puts before octets done c.after_saying.result) _ _ _
-    (λ first later readies says. (ready, first, later, refl, readies, (says, c.after_saying.ensures)))
+    (λ first later readies says. (ready, (first, later, refl, readies, (says, c.after_saying.ensures))))
     c.make_ready-ready.ensures.asks c.say_at-said.ensures.asks
