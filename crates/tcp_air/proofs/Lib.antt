@@ -1,3 +1,4 @@
 mod Asked
+mod Runs
 mod Sending
 mod Turns
