@@ -136,6 +136,7 @@ impl Connection for MemoryConnection {
 
     ghost calls = { told_calls };
 
+    /// Answers by the script.
     fn connect(&mut self) -> Result<(), ConnectionError>
         ensures calls { Grows (told_calls self.old) (told_calls self.new) (ConnectionCall.Connect result ∷ []) }
         ensures answer { result ≡ done_answer (next_answer self.old.coming) }
@@ -146,6 +147,7 @@ impl Connection for MemoryConnection {
         answer
     }
 
+    /// Answers by the script.
     fn set_no_delay(&mut self) -> Result<(), ConnectionError>
         ensures calls { Grows (told_calls self.old) (told_calls self.new) (ConnectionCall.NoDelay result ∷ []) }
         ensures answer { result ≡ done_answer (next_answer self.old.coming) }
@@ -156,6 +158,7 @@ impl Connection for MemoryConnection {
         answer
     }
 
+    /// Answers by the script.
     fn set_read_limit(&mut self, milliseconds: u64) -> Result<(), ConnectionError>
         ensures calls { Grows (told_calls self.old) (told_calls self.new)
             (ConnectionCall.ReadLimit milliseconds result ∷ []) }
@@ -170,6 +173,7 @@ impl Connection for MemoryConnection {
         answer
     }
 
+    /// Gives octets by the script.
     fn read(&mut self, room: &mut [u8]) -> Result<usize, ConnectionError>
         ensures count { IfOk result (λ count. count ≤ length room.old) }
         ensures calls { Grows (told_calls self.old) (told_calls self.new)
@@ -183,6 +187,7 @@ impl Connection for MemoryConnection {
         answer
     }
 
+    /// Takes octets by the script.
     fn write(&mut self, bytes: &[u8]) -> Result<usize, ConnectionError>
         ensures count { IfOk result (λ count. count ≤ length bytes.now) }
         ensures calls { Grows (told_calls self.old) (told_calls self.new) (ConnectionCall.Write bytes.now result ∷ []) }
@@ -198,6 +203,7 @@ impl Connection for MemoryConnection {
         answer
     }
 
+    /// Answers by the script.
     fn flush(&mut self) -> Result<(), ConnectionError>
         ensures calls { Grows (told_calls self.old) (told_calls self.new) (ConnectionCall.Flush result ∷ []) }
         ensures answer { result ≡ done_answer (next_answer self.old.coming) }

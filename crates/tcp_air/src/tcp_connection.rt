@@ -59,25 +59,30 @@ impl<'a, R: Net<Stream = TcpStream>> Connection for TcpConnection<'a, R> {
         Ok(())
     }
 
+    /// Sets the stream's option.
     fn set_no_delay(&mut self) -> Result<(), ConnectionError> {
         answer_of(self.stream()?.set_nodelay(true))
     }
 
+    /// Sets the stream's limit of time for reads; one of 0 milliseconds fails.
     fn set_read_limit(&mut self, milliseconds: u64) -> Result<(), ConnectionError> {
         let limit = Duration::from_millis(milliseconds);
         answer_of(self.stream()?.set_read_timeout(Some(limit)))
     }
 
+    /// Reads the stream once.
     fn read(&mut self, room: &mut [u8]) -> Result<usize, ConnectionError> {
         let mut stream = self.stream()?;
         answer_of(stream.read(room))
     }
 
+    /// Writes to the stream once.
     fn write(&mut self, bytes: &[u8]) -> Result<usize, ConnectionError> {
         let mut stream = self.stream()?;
         answer_of(stream.write(bytes))
     }
 
+    /// Flushes the stream, which holds nothing back.
     fn flush(&mut self) -> Result<(), ConnectionError> {
         let mut stream = self.stream()?;
         answer_of(stream.flush())
