@@ -19,8 +19,8 @@ module _ {D : Type 0} (g : Ghosts D) where
       let sum : length (front ++ h.0) ≡ length front + length h.0 = length-append front h.0 in
       subst (λ (commands : List Command). Leaves g disk disk_n (λ _. MakesFirst store commands)) (sym h.1)
       (told_weaker (g.content disk) _ _ (λ before told left.
-          weaker g.moment g.images_since disk disk_n (MakesFirst store front) (MakesFirst store (front ++ h.0))
-          (λ image here. makes-within 0 (length front) 0 (length (front ++ h.0)) store (front ++ h.0) image (omega arith) (omega (arith, sum)) (makes-first 0 (length front) store front h.0 image (omega arith) here)) left) leaves)
+      weaker g.moment g.images_since disk disk_n (MakesFirst store front) (MakesFirst store (front ++ h.0))
+      (λ image here. makes-within 0 (length front) 0 (length (front ++ h.0)) store (front ++ h.0) image (omega arith) (omega (arith, sum)) (makes-first 0 (length front) store front h.0 image (omega arith) here)) left) leaves)
 
   module _ (on : (first second third : D) → g.lasts first second → g.lasts second third → g.lasts first third) where
     -- commands, and then others that the disk may cut off

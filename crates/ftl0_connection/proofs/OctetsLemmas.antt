@@ -10,20 +10,15 @@ use Rattle.ftl0_connection.specs.declared.fate.Fate.{Fate}
 use Rattle.ftl0_connection.specs.declared.fate.Fate.TheVariants.{Stays, Ends}
 use Rattle.ftl0_connection.specs.Connected.{Connected}
 use Rattle.ftl0_connection.specs.ConnectionState.{ConnectionState, Hears, IsConnection, IsWaiting}
-use Rattle.ftl0_connection.specs.Feeding.{Feeds, LeavesFit, MayTake, with_octets}
+use Rattle.ftl0_connection.specs.Feeding.{Feeds, IsGoing, LeavesFit, MayTake, with_octets}
 use Rattle.ftl0_connection.specs.Hearing.{taking_octets}
 use Rattle.ftl0_connection.proofs.FeedLemmas.{feeds-none, feeds-then, fit-none, fit-then, hears-stopped, hears-whole}
-use Rattle.ftl0_connection.proofs.HearsLemmas.{IsStop}
 use Rattle.ftl0_connection.proofs.Invariants.{IsTaking}
 
 -- no items are none
 pub is-nil : {X : Type 0} (xs : List X) → nat_eq (length xs) 0 ≡ true → xs ≡ []
 is-nil [] e = refl
 is-nil (x ∷ xs) e = absurd (let zero : suc (length xs) ≡ 0 = grind (arith, nat_tests) in omega arith)
-
--- what was told, by its parts
-told-is : (told : Fate × Result ⊤ ServerStop) → told.0 ≡ Stays → told.1 ≡ Ok tt → told ≡ (Stays, Ok tt)
-told-is (fate, result) first second = rw (first, second) refl
 
 module _ {D : Type 0} (g : Ghosts D) (on : (first second third : D) → g.lasts first second → g.lasts second third → g.lasts first third) (moment : ℕ) (old : ConnectionState) (octets : List ℕ)
     (store : StoreState) (disk : D) where
@@ -42,18 +37,17 @@ module _ {D : Type 0} (g : Ghosts D) (on : (first second third : D) → g.lasts 
     pub fit-all : LeavesFit g store store_n disk disk_n old.link now.link old.session now.session told
     fit-all = fit-then g on store store_m store_n disk disk_m disk_n old.link mid.link now.link old.session mid.session now.session told h.fit fit
 
-    pub taking-next : (back : List ℕ) → back ≡ drop taken left → told.0 ≡ Stays → told.1 ≡ Ok tt → IsTaking g moment old now octets back store store_n disk disk_n
-    taking-next back is first second =
+    pub taking-next : (back : List ℕ) → back ≡ drop taken left → IsGoing told → IsTaking g moment old now octets back store store_n disk disk_n
+    taking-next back is same =
         let at_feeds : Fate × Result ⊤ ServerStop → List ℕ → Type 0 = λ t o. Feeds g moment (with_octets old octets) (with_octets now o) store store_n disk disk_n t in
         let at_fit : Fate × Result ⊤ ServerStop → Type 0 = λ t. LeavesFit g store store_n disk disk_n old.link now.link old.session now.session t in
-        let same = told-is told first second in
         record {
           feeds = subst (at_feeds (Stays, Ok tt)) (sym is) (subst (λ (t : Fate × Result ⊤ ServerStop). at_feeds t (drop taken left)) same feeds-all);
           fit = subst at_fit same fit-all;
         }
 
     -- the loop stops
-    pub taking-stops : IsStop told → old.link.peer ≡ old.session.caller → (w : Window) (c : Connected) → IsConnection w store old c
+    pub taking-stops : (IsGoing told → ⊥) → old.link.peer ≡ old.session.caller → (w : Window) (c : Connected) → IsConnection w store old c
         → Hears g w (taking_octets moment (store_in store) c c.end octets) store store_n disk disk_n now told
     taking-stops stops peer = hears-stopped g on moment store store_n disk disk_n old now octets (drop taken left) peer told stops feeds-all
 

@@ -146,7 +146,7 @@ module _ (caller : CallSign) (moment : ℕ) where
       ap (λ (b : Bool). step end state item b (more (fails_later (moved (item ∷ items) failing))) one) (moved-first item items failing)
       ∙ ap (λ (f : Option ℕ). step end state item false (more f) one) (moved-later item items failing)
       ∙ step-on caller moment store end state item others failing later (more (moved items failing))
-          (λ row. taking-on (after_all store row.commands) row.state (after_push end (texts row.replies)) items others failing) one goes
+      (λ row. taking-on (after_all store row.commands) row.state (after_push end (texts row.replies)) items others failing) one goes
 
 -- ---- what is done is a front of what is done where nothing fails
 

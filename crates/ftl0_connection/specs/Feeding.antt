@@ -1,5 +1,5 @@
 -- How a connection takes packets, part by part, and what each part leaves for the next one.
-use Rattle.std.specs.Prelude.{◌≡◌, ℕ, List, ◌++◌, false, Result, IsErrOf, ⊤}
+use Rattle.std.specs.Prelude.{◌≡◌, ℕ, List, ◌++◌, false, Result, Ok, IsErrOf, ⊤}
 use Rattle.disk_model.specs.declared.disk.Disk.{Ghosts}
 use Rattle.ax25_link.specs.declared.state.LinkState.TheVariants.{Up}
 use Rattle.ax25_link.specs.Ends.{LinkEnd}
@@ -43,6 +43,10 @@ pub record LeavesFit {D : Type 0} (g : Ghosts D) (store store_now : StoreState) 
   pub caller : session_now.caller ≡ session.caller
   pub stations : SameStations link link_now
   pub some : StandsForSome link_now
+
+-- nothing stopped the connection or the server
+abbrev pub IsGoing : Fate × Result ⊤ ServerStop → Type 0
+IsGoing told = told ≡ (Stays, Ok tt)
 
 -- with these octets accepted, or left, too
 abbrev pub with_octets : ConnectionState → List ℕ → ConnectionState

@@ -1,11 +1,11 @@
 //! One caller's connection.
 
-ghost use Rattle.std.specs.Prelude.{◌≡◌, ◌<◌, ◌≤◌, ℕ, List, [], ◌∷◌, drop, length, false, true, not, IfOk, IsErrOf, IsTrue, None};
+ghost use Rattle.std.specs.Prelude.{◌≡◌, ◌<◌, ◌≤◌, ◌↔◌, ℕ, List, [], ◌∷◌, drop, length, false, true, not, IfOk, IsErrOf, IsTrue, None};
 ghost use Rattle.ax25_frames.specs.Values.{value_of};
 ghost use Rattle.ax25_link.specs.Air.{is_information};
 ghost use Rattle.ax25_link.specs.Calls.{after_push};
 ghost use Rattle.ax25_link.specs.Ends.{LinkEnd};
-ghost use Rattle.ax25_link.specs.Kept.{GivesNext, HasStations, IsFromPeer, SameStations, StandsFor, Steps, Tells, is_pending, most_pending};
+ghost use Rattle.ax25_link.specs.Kept.{Fits, GivesNext, HasStations, IsFromPeer, SameStations, StandsFor, Steps, Tells, is_pending, most_pending};
 ghost use Rattle.ax25_link.specs.declared.state.LinkState.{LinkState};
 ghost use Rattle.ax25_link.specs.Window.{IsGoodK, Window, window_of};
 ghost use Rattle.ftl0_packets.specs.Layout.{packet_text};
@@ -15,7 +15,7 @@ ghost use Rattle.file_journal.specs.Calls.{Puts};
 ghost use Rattle.file_store.specs.State.{StandsOn, StoreState, store_in};
 ghost use Rattle.ftl0_connection.specs.Connected.{Connected, answering, beginning};
 ghost use Rattle.ftl0_connection.specs.ConnectionState.{Hears, IsConnection, StandsAfter, is_over, taking_some, with_nothing_left};
-ghost use Rattle.ftl0_connection.specs.Feeding.{Feeds, LeavesFit, MayTake, with_octets};
+ghost use Rattle.ftl0_connection.specs.Feeding.{Feeds, IsGoing, LeavesFit, MayTake, with_octets};
 ghost use Rattle.ftl0_connection.specs.Hearing.{hearing, taking_octets, ticking};
 ghost use Rattle.ftl0_connection.specs.Taking.{fits, replied};
 ghost use Rattle.ftl0_session.specs.Others.{KeepsOtherCallers};
@@ -183,6 +183,13 @@ impl Connection {
         self.session.caller()
     }
 
+    /// A law, which does nothing: whatever end the link stands for is one that frames and ticks can bring about.
+    pub fn fits_law(&self)
+        ensures { Fits self.now.link }
+    {
+        let _ = self.link.state();
+    }
+
     /// Ends the session, which parks its upload, and gives the link, which may have frames to give out still. Takes no
     /// memory.
     pub fn end(self, store: &mut FileStore) -> Link
@@ -241,9 +248,9 @@ impl Connection {
         let mut piece = octets;
         while !piece.is_empty() {
             let (taken, told) = self.feed(disk, store, piece, moment);
-            let (Fate::Stays, Ok(())) = told else {
+            if !goes_on(&told) {
                 return told;
-            };
+            }
             piece = piece.split_at(taken).1;
         }
         let _ = &self.reader;
@@ -312,6 +319,13 @@ fn answer<D: Disk>(
         Err(ServerStop::NotBuilt { kind }) => (Fate::Stays, Err(ServerStop::NotBuilt { kind })),
         Err(ServerStop::OutOfMemory) => (Fate::Stays, Err(ServerStop::OutOfMemory)),
     }
+}
+
+/// Whether neither the connection nor the server is stopped.
+fn goes_on(told: &Told) -> bool
+    ensures { IsTrue result ↔ IsGoing told.now }
+{
+    matches!(told, (Fate::Stays, Ok(())))
 }
 
 /// The session of this caller, whose LOGIN_RESP at this moment is queued on the link.
