@@ -60,3 +60,11 @@ pub record Does {D : Type 0} (g : Ghosts D) (failed : Type 0) (old new : StoreSt
   pub done : ¬ failed → (store_in new ≡ after_all (store_in old) commands) × (new.journal.failed ≡ false)
   pub cut : failed → IsCut g old new disk disk_now commands
   pub same_magic : new.journal.magic ≡ old.journal.magic
+
+-- The store did the first of these commands on its disk, and then the others, or the disk failed in one of these.
+pub record CutsOff {D : Type 0} (g : Ghosts D) (failed : Type 0) (old new : StoreState) (disk disk_now : D)
+    (done cut : List Command) : Type 0 where
+  pub store_then : StoreState
+  pub disk_then : D
+  pub first : Does g ⊥ old store_then disk disk_then done
+  pub second : Does g failed store_then new disk_then disk_now cut

@@ -17,8 +17,8 @@ use Rattle.file_store.specs.Upload.{Upload}
 use Rattle.file_store.specs.declared.refusals.BeginRefusal.{BeginRefusal}
 use Rattle.file_store.specs.declared.refusals.BeginRefusal.TheVariants as refusal
 use Rattle.ftl0_session.specs.declared.phase.Phase.TheVariants as phase
-use Rattle.ftl0_session.specs.declared.stop.SessionStop.{SessionStop}
-use Rattle.ftl0_session.specs.declared.stop.SessionStop.TheVariants as stop
+use Rattle.ftl0_session.specs.declared.stop.ServerStop.{ServerStop}
+use Rattle.ftl0_session.specs.declared.stop.ServerStop.TheVariants as stop
 use Rattle.ftl0_session.specs.Others.{KeepsOtherCallers}
 use Rattle.ftl0_session.specs.Session.{command, granted_row, refused_row, session_row, texts}
 use Rattle.ftl0_session.specs.SessionState.{IsReady, NoOtherOut}
@@ -79,18 +79,18 @@ module _ {D : Type 0} (g : Ghosts D) (caller : CallSign) (moment len : ℕ) (bef
   abbrev Item-asked : Item
   Item-asked = Ok (upload_cmd 0 len)
 
-  abbrev Gives-it : StoreState → D → List ℕ → Result ⊤ SessionStop → Type 0
+  abbrev Gives-it : StoreState → D → List ℕ → Result ⊤ ServerStop → Type 0
   Gives-it now disk_now replies result = Answered g caller moment command (Ok (upload_cmd 0 len)) before now disk disk_now replies (phase.Command, result)
 
   -- nothing was touched
-  untouched : (replies : List ℕ) (result : Result ⊤ SessionStop) → (now ≡ before) × (disk_now ≡ disk) → Gives-it before disk replies result → Gives-it now disk_now replies result
+  untouched : (replies : List ℕ) (result : Result ⊤ ServerStop) → (now ≡ before) × (disk_now ≡ disk) → Gives-it before disk replies result → Gives-it now disk_now replies result
   untouched replies result same given =
       subst (λ (s : StoreState). Gives-it s disk_now replies result) (sym same.0) (subst (λ (d : D). Gives-it before d replies result) (sym same.1) given)
 
-  barred : (replies : List ℕ) (result : Result ⊤ SessionStop) → (now ≡ before) × (disk_now ≡ disk)
+  barred : (replies : List ℕ) (result : Result ⊤ ServerStop) → (now ≡ before) × (disk_now ≡ disk)
       → session_row caller moment (store_in before) command (Ok (upload_cmd 0 len)) ≡ Some (refused_row 13) → (result ≡ Ok tt) × (replies ≡ texts (ul_error_resp 13 ∷ [])) → Gives-it now disk_now replies result
   barred replies result same row answer =
-      subst (λ (r : Result ⊤ SessionStop). Gives-it now disk_now replies r) (sym answer.0)
+      subst (λ (r : Result ⊤ ServerStop). Gives-it now disk_now replies r) (sym answer.0)
       (untouched replies (Ok tt) same
       (answered-alone g caller moment command (Ok (upload_cmd 0 len)) before before disk replies (phase.Command, Ok tt) ready.healthy ready.stands_on lasts
       (alone-row caller moment command (Ok (upload_cmd 0 len)) before phase.Command (refused_row 13) replies row refl
@@ -100,7 +100,7 @@ module _ {D : Type 0} (g : Ghosts D) (caller : CallSign) (moment len : ℕ) (bef
   not_reached (inl never) = absurd (true≢false (sym never))
   not_reached (inr p) = p
 
-  pub begin-refused : (r : BeginRefusal) (replies : List ℕ) (result : Result ⊤ SessionStop) → RefusesBegin before len r
+  pub begin-refused : (r : BeginRefusal) (replies : List ℕ) (result : Result ⊤ ServerStop) → RefusesBegin before len r
       → IsTrue (begin_reaches (refusing r)) ⊎ ((now ≡ before) × (disk_now ≡ disk))
       → (IsTrue (begin_reaches (refusing r)) → Does g (IsErr (refusing r)) before now disk disk_now (begin (store_in before).next caller len moment ∷ []))
       → KeepsUploads before now → KeepsRests before.files now.files (store_in before).next → KeepsComplete (store_in before) (store_in now)
@@ -116,7 +116,7 @@ module _ {D : Type 0} (g : Ghosts D) (caller : CallSign) (moment len : ℕ) (bef
   begin-refused refusal.Failed replies result refused same does uploads rests kept answer = absurd answer
   begin-refused refusal.OutOfMemory replies result refused same does uploads rests kept answer =
       let row = row-granted caller moment (store_in before) len (may-can (store_in before) len is refused.0) in
-      subst (λ (r : Result ⊤ SessionStop). Gives-it now disk_now replies r) (sym answer.0)
+      subst (λ (r : Result ⊤ ServerStop). Gives-it now disk_now replies r) (sym answer.0)
       (untouched replies (Err stop.OutOfMemory) (not_reached same)
       (record {
         answers = (granted_row caller moment (store_in before).next len, row, refl, (refl, refl, answer.1));
@@ -133,7 +133,7 @@ module _ {D : Type 0} (g : Ghosts D) (caller : CallSign) (moment len : ℕ) (bef
       let none : cut.count ≡ 0 = let few : cut.count < 1 = cut.fewer in omega arith in
       let row = row-granted caller moment (store_in before) len (begin-can _ _ done.allowed.0) in
       let still : store_in now ≡ store_in before = cut.store ∙ ap (λ (count : ℕ). after_first count (store_in before) (begin (store_in before).next caller len moment ∷ [])) none in
-      subst (λ (r : Result ⊤ SessionStop). Gives-it now disk_now replies r) (sym answer.0)
+      subst (λ (r : Result ⊤ ServerStop). Gives-it now disk_now replies r) (sym answer.0)
       (record {
         answers = (granted_row caller moment (store_in before).next len, row, refl, answer.1);
         on_disk = does-row g caller moment command (Ok (upload_cmd 0 len)) before now disk disk_now _ ⊤ (granted_row caller moment (store_in before).next len) row (λ failed. tt) (λ failed. refl) done;

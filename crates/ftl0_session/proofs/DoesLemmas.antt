@@ -14,13 +14,13 @@ use Rattle.file_store.specs.OnDisk.{Does}
 use Rattle.file_store.specs.State.{StandsOn, StoreState, store_in}
 use Rattle.file_store.proofs.DoesLemmas.{Does-moved, Does-none, Does-same}
 use Rattle.ftl0_session.specs.declared.phase.Phase.{Phase}
-use Rattle.ftl0_session.specs.declared.stop.SessionStop.{SessionStop}
-use Rattle.ftl0_session.specs.declared.stop.SessionStop.TheVariants as stop
+use Rattle.ftl0_session.specs.declared.stop.ServerStop.{ServerStop}
+use Rattle.ftl0_session.specs.declared.stop.ServerStop.TheVariants as stop
 use Rattle.ftl0_session.specs.Session.{Row, State, session_row}
 use Rattle.ftl0_session.specs.Taking.{Answered, AnsweredAlone, Answers, DoesRow, LeavesDisk, PutsRow, row_of}
 
 -- the answer that is this stop
-abbrev stopped : SessionStop → Result ⊤ SessionStop
+abbrev stopped : ServerStop → Result ⊤ ServerStop
 stopped stop = Err stop
 
 module _ {D : Type 0} (g : Ghosts D) where
@@ -42,7 +42,7 @@ module _ {D : Type 0} (g : Ghosts D) where
   does-row caller moment state item before now disk disk_now P Q row is there back does =
       subst (λ (o : Option Row). IfSome o (λ r. Does g Q before now disk disk_now r.commands)) (sym is) (Does-same g P Q before now disk disk_now row.commands there back does)
 
-  on_disk-alone : (caller : CallSign) (moment : ℕ) (state : State) (item : Item) (before now : StoreState) (disk : D) (result : Result ⊤ SessionStop)
+  on_disk-alone : (caller : CallSign) (moment : ℕ) (state : State) (item : Item) (before now : StoreState) (disk : D) (result : Result ⊤ ServerStop)
       → ¬ IsErrOf result stop.Disk → IfSome (session_row caller moment (store_in before) state item) (λ row. row.commands ≡ [])
       → Does g ⊥ before now disk disk [] → PutsRow g before now disk disk (row_of caller moment before state item) result
   on_disk-alone caller moment state item before now disk (Ok done) no_fault none does =
@@ -52,7 +52,7 @@ module _ {D : Type 0} (g : Ghosts D) where
   on_disk-alone caller moment state item before now disk (Err stop.OutOfMemory) no_fault none does = refl
 
   -- a packet that leaves the disk alone
-  pub answered-alone : (caller : CallSign) (moment : ℕ) (state : State) (item : Item) (before now : StoreState) (disk : D) (replies : List ℕ) (taken : Phase × Result ⊤ SessionStop)
+  pub answered-alone : (caller : CallSign) (moment : ℕ) (state : State) (item : Item) (before now : StoreState) (disk : D) (replies : List ℕ) (taken : Phase × Result ⊤ ServerStop)
       → before.journal.failed ≡ false → StandsOn g before disk → g.lasts disk disk → AnsweredAlone caller moment state item before now replies taken
       → Answered g caller moment state item before now disk disk replies taken
   answered-alone caller moment state item before now disk replies taken healthy stands lasts alone = record {
@@ -69,7 +69,7 @@ module _ {D : Type 0} (g : Ghosts D) where
 
   -- What stands after a packet, whatever the answer.
   module _ (caller : CallSign) (moment : ℕ) (state : State) (item : Item) (before now : StoreState) (disk disk_now : D) (next : State) (replies : List ℕ) where
-    pub after-puts : (result : Result ⊤ SessionStop) → g.lasts disk disk → Answers caller moment before state item now next replies result
+    pub after-puts : (result : Result ⊤ ServerStop) → g.lasts disk disk → Answers caller moment before state item now next replies result
         → PutsRow g before now disk disk_now (row_of caller moment before state item) result → Puts g (IsErrOf result stop.Disk) disk disk_now
     after-puts (Ok done) lasts answers on_disk =
         puts_same g disk disk_now ⊥ _ (λ never. absurd never) (λ e. cc e) (at_told (λ row. Does g ⊥ before now disk disk_now row.commands) answers.0 answers.1 on_disk).puts
@@ -82,21 +82,21 @@ module _ {D : Type 0} (g : Ghosts D) where
         let fine : ¬ IsErrOf (stopped stop.OutOfMemory) stop.Disk = λ e. cc e in
         subst (λ (d : D). Puts g (IsErrOf (stopped stop.OutOfMemory) stop.Disk) disk d) (sym on_disk) (puts_none g disk (IsErrOf (stopped stop.OutOfMemory) stop.Disk) fine lasts)
 
-    pub after-failed : (result : Result ⊤ SessionStop) → Answers caller moment before state item now next replies result
+    pub after-failed : (result : Result ⊤ ServerStop) → Answers caller moment before state item now next replies result
         → PutsRow g before now disk disk_now (row_of caller moment before state item) result → IsErrOf result stop.Disk → now.journal.failed ≡ true
     after-failed (Ok done) answers on_disk e = absurd (cc e)
     after-failed (Err stop.Disk) answers on_disk e = ((at_told (λ row. Does g ⊤ before now disk disk_now row.commands) answers.0 answers.1 on_disk).cut tt).failed
     after-failed (Err (stop.NotBuilt kind)) answers on_disk e = absurd (cc e)
     after-failed (Err stop.OutOfMemory) answers on_disk e = absurd (cc e)
 
-    pub after-healthy : (result : Result ⊤ SessionStop) → before.journal.failed ≡ false → Answers caller moment before state item now next replies result
+    pub after-healthy : (result : Result ⊤ ServerStop) → before.journal.failed ≡ false → Answers caller moment before state item now next replies result
         → PutsRow g before now disk disk_now (row_of caller moment before state item) result → ¬ IsErrOf result stop.Disk → now.journal.failed ≡ false
     after-healthy (Ok done) healthy answers on_disk fine = ((at_told (λ row. Does g ⊥ before now disk disk_now row.commands) answers.0 answers.1 on_disk).done (λ never. never)).1
     after-healthy (Err stop.Disk) healthy answers on_disk fine = absurd (fine refl)
     after-healthy (Err (stop.NotBuilt kind)) healthy answers on_disk fine = ap (λ (s : StoreState). s.journal.failed) answers.2.0 ∙ healthy
     after-healthy (Err stop.OutOfMemory) healthy answers on_disk fine = ap (λ (s : StoreState). s.journal.failed) answers.3.0 ∙ healthy
 
-    pub after-stands : (result : Result ⊤ SessionStop) → StandsOn g before disk → Answers caller moment before state item now next replies result
+    pub after-stands : (result : Result ⊤ ServerStop) → StandsOn g before disk → Answers caller moment before state item now next replies result
         → PutsRow g before now disk disk_now (row_of caller moment before state item) result → StandsOn g now disk_now
     after-stands (Ok done) stands answers on_disk = (at_told (λ row. Does g ⊥ before now disk disk_now row.commands) answers.0 answers.1 on_disk).stands_on
     after-stands (Err stop.Disk) stands answers on_disk = (at_told (λ row. Does g ⊤ before now disk disk_now row.commands) answers.0 answers.1 on_disk).stands_on

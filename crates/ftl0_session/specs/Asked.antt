@@ -7,7 +7,7 @@ use Rattle.file_store.specs.State.{StoreState}
 use Rattle.ftl0_session.specs.declared.asked.Asked.{Asked}
 use Rattle.ftl0_session.specs.declared.asked.Asked.TheVariants as asked
 use Rattle.ftl0_session.specs.declared.phase.Phase.{Phase}
-use Rattle.ftl0_session.specs.declared.stop.SessionStop.{SessionStop}
+use Rattle.ftl0_session.specs.declared.stop.ServerStop.{ServerStop}
 use Rattle.ftl0_session.specs.Session.{State, aborting, kind_of_item}
 use Rattle.ftl0_session.specs.SessionState.{NoOtherOut}
 use Rattle.ftl0_session.specs.Taking.{Answered, AnsweredAlone}
@@ -36,12 +36,12 @@ kind_of_asked (asked.Other kind) = kind
 -- what each packet that asks this gives in a state
 abbrev pub AnswersAsked :
     {D : Type 0} → Ghosts D → CallSign → ℕ → State → Asked → StoreState → StoreState → D → D → List ℕ
-    → (Phase × Result ⊤ SessionStop) → Type 0
+    → (Phase × Result ⊤ ServerStop) → Type 0
 AnswersAsked g caller moment state what before now disk disk_now replies taken =
     (item : Item) → IsAsked item what → Answered g caller moment state item before now disk disk_now replies taken
 
 -- In Aborting, whoever the caller is and whatever the store, which stays.
-abbrev pub AnswersAborting : Asked → List ℕ → (Phase × Result ⊤ SessionStop) → Type 0
+abbrev pub AnswersAborting : Asked → List ℕ → (Phase × Result ⊤ ServerStop) → Type 0
 AnswersAborting what replies taken =
     (caller : CallSign) (moment : ℕ) (store : StoreState) (item : Item) → NoOtherOut store caller None
     → IsAsked item what → AnsweredAlone caller moment aborting item store store replies taken

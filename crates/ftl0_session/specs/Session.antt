@@ -10,12 +10,22 @@ use Rattle.file_entries.specs.Command.{last_grow, unfilled_block, whole_grows}
 use Rattle.file_entries.specs.Info.{is_complete}
 use Rattle.file_entries.specs.Store.{Entry, Store, entry_of, octets_at, octets_of}
 
+-- What is to be sent next: the octets of the complete file of this number from one place up to another; or these octets,
+-- which are kept.
+pub data Due : Type 0 where
+  stored : ℕ → ℕ → ℕ → Due
+  kept : List ℕ → Due
+
 -- A session waits for a command; or receives the file of this number, of which these octets aren't held yet; or waits
--- for the end of a file that it refused.
+-- for the end of a file that it refused; or sends the file of this number from one place up to another; or waits for the
+-- word that the file came; or sends headers, of which these are still due. No row leads to the last three yet.
 pub data State : Type 0 where
   command : State
   receiving : ℕ → List ℕ → State
   aborting : State
+  sending : ℕ → ℕ → ℕ → State
+  waiting : State
+  listing : List Due → State
 
 -- what a row of the table gives: the state after it, the store's commands and the replies, in order
 pub record Row : Type 0 where
@@ -146,12 +156,18 @@ abbrev pub fault_reply : State → PacketValue
 fault_reply command = ul_error_resp 3
 fault_reply (receiving number rest) = ul_nak_resp 3
 fault_reply aborting = ul_error_resp 3
+fault_reply (sending number place last) = ul_error_resp 3
+fault_reply waiting = ul_error_resp 3
+fault_reply (listing due) = ul_error_resp 3
 
 -- whether a file is received in this state
 abbrev pub is_receiving : State → Bool
 is_receiving command = false
 is_receiving (receiving number rest) = true
 is_receiving aborting = false
+is_receiving (sending number place last) = false
+is_receiving waiting = false
+is_receiving (listing due) = false
 
 -- whether a packet takes memory that leads to this state: it begins a new file, or its octets are taken
 abbrev pub takes_memory : Item → State → Bool

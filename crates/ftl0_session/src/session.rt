@@ -17,7 +17,7 @@ ghost use Rattle.ftl0_session.specs.declared.phase.Phase.TheVariants.{Command as
 ghost use Rattle.ftl0_session.specs.declared.phase.Phase.TheVariants.{Receiving as receiving_phase};
 
 use crate::asked::{Asked, UPLOAD_CMD};
-use crate::{Phase, SessionStop};
+use crate::{Phase, ServerStop};
 use arrayvec::ArrayVec;
 use disk_model::Disk;
 use file_store::laws::state_law;
@@ -71,17 +71,32 @@ impl Model for Session {
 }
 
 /// What a packet gives in a phase: the phase after it, and the answer.
-type Taken = (Phase, Result<(), SessionStop>);
+type Taken = (Phase, Result<(), ServerStop>);
 
 impl Session {
-    /// The session of this caller, in the state Command. Takes no memory.
-    pub fn new(caller: Call) -> Session
-        ensures { result ≡ new_session caller }
+    /// The session of this caller, in the state Command, with LOGIN_RESP at this moment among the replies (FTL0 1990,
+    /// LOGIN_RESP). Takes no memory.
+    pub fn new(caller: Call, moment: u32, replies: &mut Replies) -> Session
+        requires { replies.old.items ≡ [] }
+        ensures session { result ≡ new_session caller }
+        ensures text { replies.new.items ≡ packet_text (greeting moment) }
     {
+        let greeting = Packet::LoginResp {
+            moment,
+            flags: FLAGS,
+        };
+        write_packet(&greeting, replies);
         Session {
             caller,
             phase: Phase::Command,
         }
+    }
+
+    /// Whose session it is. Takes no memory.
+    pub fn caller(&self) -> Call
+        ensures { result ≡ self.now.caller }
+    {
+        self.caller
     }
 
     /// Takes a packet: one row of the session's table, or code 3 where the disk fails. The row's commands are on the
@@ -93,7 +108,7 @@ impl Session {
         moment: u32,
         store: &mut FileStore,
         replies: &mut Replies,
-    ) -> Result<(), SessionStop>
+    ) -> Result<(), ServerStop>
         requires empty { replies.old.items ≡ [] }
         requires healthy { store.old.journal.failed ≡ false }
         requires stands_on { StandsOn D.Disk store.old disk.old }
@@ -104,14 +119,14 @@ impl Session {
         ensures takes { TakesPacket moment self.old store.old packet.entry self.new store.new replies.new.items result }
         ensures on_disk { PutsPacket D.Disk moment self.old store.old disk.old packet.entry store.new disk.new result }
         ensures untouched { LeavesDisk disk.old disk.new (row_for moment self.old store.old packet.entry) }
-        ensures puts { Puts D.Disk (IsErrOf result SessionStop.Disk) disk.old disk.new }
-        ensures failed { IsErrOf result SessionStop.Disk → store.new.journal.failed ≡ true }
+        ensures puts { Puts D.Disk (IsErrOf result ServerStop.Disk) disk.old disk.new }
+        ensures failed { IsErrOf result ServerStop.Disk → store.new.journal.failed ≡ true }
         ensures kept { KeepsComplete (store_in store.old) (store_in store.new) }
         ensures others { KeepsOtherCallers store.old store.new self.old.caller }
 
         // What the next packet needs.
         ensures caller { self.new.caller ≡ self.old.caller }
-        ensures healthy { ¬ IsErrOf result SessionStop.Disk → store.new.journal.failed ≡ false }
+        ensures healthy { ¬ IsErrOf result ServerStop.Disk → store.new.journal.failed ≡ false }
         ensures stands_on { StandsOn D.Disk store.new disk.new }
         ensures held { IsHeld store.new self.new }
         ensures only { IsOnlyOut store.new self.new }
@@ -228,22 +243,11 @@ impl Session {
             }
             Err(SealRefusal::Disk) => {
                 write_packet(&Packet::UlNakResp(FILE_SYSTEM), replies);
-                (Phase::Command, Err(SessionStop::Disk))
+                (Phase::Command, Err(ServerStop::Disk))
             }
             Err(SealRefusal::Failed) => unreachable!(),
         }
     }
-}
-
-/// Writes the reply to the connection, LOGIN_RESP, in place of what the replies hold. Takes no memory.
-pub fn write_greeting(moment: u32, replies: &mut Replies)
-    ensures { replies.new.items ≡ packet_text (greeting moment) }
-{
-    let greeting = Packet::LoginResp {
-        moment,
-        flags: FLAGS,
-    };
-    write_packet(&greeting, replies);
 }
 
 /// Command: UPLOAD_CMD, for a new file or for one that goes on.
@@ -293,7 +297,7 @@ fn begin<D: Disk>(
 }
 
 /// Answers a refusal to begin a file. The store hadn't failed before.
-fn refuse_begin(refusal: BeginRefusal, replies: &mut Replies) -> Result<(), SessionStop>
+fn refuse_begin(refusal: BeginRefusal, replies: &mut Replies) -> Result<(), ServerStop>
     requires empty { replies.old.items ≡ [] }
     requires healthy { refusal ≢ BeginRefusal.Failed }
     ensures { AnswersRefusal refusal replies.new.items result }
@@ -308,9 +312,9 @@ fn refuse_begin(refusal: BeginRefusal, replies: &mut Replies) -> Result<(), Sess
         }
         BeginRefusal::Disk => {
             write_packet(&Packet::UlErrorResp(FILE_SYSTEM), replies);
-            Err(SessionStop::Disk)
+            Err(ServerStop::Disk)
         }
-        BeginRefusal::OutOfMemory => Err(SessionStop::OutOfMemory),
+        BeginRefusal::OutOfMemory => Err(ServerStop::OutOfMemory),
         BeginRefusal::Failed => unreachable!(),
     }
 }
@@ -383,10 +387,10 @@ fn take_data<D: Disk>(
         }
         Err(AppendRefusal::Disk) => {
             write_packet(&Packet::UlNakResp(FILE_SYSTEM), replies);
-            (Phase::Command, Err(SessionStop::Disk))
+            (Phase::Command, Err(ServerStop::Disk))
         }
         Err(AppendRefusal::OutOfMemory(up)) => {
-            (Phase::Receiving(up), Err(SessionStop::OutOfMemory))
+            (Phase::Receiving(up), Err(ServerStop::OutOfMemory))
         }
         Err(AppendRefusal::Failed) => unreachable!(),
     }
@@ -406,12 +410,12 @@ fn take_aborting(asked: Asked<'_>, replies: &mut Replies) -> Taken
 
 /// A packet of this type that is malformed or has no row of its own in the state: error 1. So far only DATA, DATA_END
 /// and UPLOAD_CMD have it.
-fn refuse(kind: u8, replies: &mut Replies) -> Result<(), SessionStop>
+fn refuse(kind: u8, replies: &mut Replies) -> Result<(), ServerStop>
     requires { replies.old.items ≡ [] }
     ensures { Refuses kind replies.new.items result }
 {
     if !matches!(kind, 0 | 1 | UPLOAD_CMD) {
-        return Err(SessionStop::NotBuilt { kind });
+        return Err(ServerStop::NotBuilt { kind });
     }
     write_packet(&Packet::UlErrorResp(ILL_FORMED), replies);
     Ok(())

@@ -8,11 +8,11 @@ use std::test::Fail;
 fn stops_are_shown(rt: HostRuntime) -> Result<(), Fail> {
     for (stop, text) in [
         (
-            SessionStop::NotBuilt { kind: 8 },
+            ServerStop::NotBuilt { kind: 8 },
             "the packet asks for what is not built yet",
         ),
-        (SessionStop::Disk, "the disk failed"),
-        (SessionStop::OutOfMemory, "out of memory"),
+        (ServerStop::Disk, "the disk failed"),
+        (ServerStop::OutOfMemory, "out of memory"),
     ] {
         assert_eq!(rt; format!(in rt.alloc(); "{stop}")?.as_str(), text);
     }

@@ -4,10 +4,9 @@ use Rattle.disk_model.specs.declared.disk.Disk.{Ghosts}
 use Rattle.file_journal.specs.Calls.{Puts}
 use Rattle.file_journal.proofs.CallLemmas.{puts_on}
 use Rattle.file_entries.specs.Command.{Command, after_all}
-use Rattle.file_store.specs.OnDisk.{Does}
+use Rattle.file_store.specs.OnDisk.{CutsOff, Does}
 use Rattle.file_store.specs.State.{StoreState, store_in}
 use Rattle.file_store.proofs.DoesLemmas.{Does-none, Does-same, Does-then}
-use Rattle.session_node.specs.Running.{CutsOff}
 
 module _ {D : Type 0} (g : Ghosts D) where
   -- the store is healthy after commands that were done

@@ -23,8 +23,8 @@ use Rattle.ftl0_packets.specs.declared.packet.Packet.{Packet}
 use Rattle.ftl0_packets.proofs.OctetLemmas.{IsOctets-append, IsOctets-take}
 use Rattle.file_store.specs.OnDisk.{Does}
 use Rattle.file_store.specs.State.{StandsOn, StoreState, store_in}
-use Rattle.ftl0_session.specs.declared.stop.SessionStop.{SessionStop}
-use Rattle.ftl0_session.specs.declared.stop.SessionStop.TheVariants as session_stop
+use Rattle.ftl0_session.specs.declared.stop.ServerStop.{ServerStop}
+use Rattle.ftl0_session.specs.declared.stop.ServerStop.TheVariants as session_stop
 use Rattle.ftl0_session.specs.Session.{Row, kind_of_item, session_row, takes_memory}
 use Rattle.ftl0_session.specs.SessionState.{SessionState, state_of}
 use Rattle.ftl0_session.specs.Taking.{PutsRow, TakesPacket, row_for}
@@ -53,10 +53,10 @@ module _ {A D : Type 0} (g : Ghosts D) (air : AirGhosts A) (lasts : (disk : D) �
       → session_row old.caller moment (store_in store) (state_of store old.phase) (read_item octets) ≡ row
   row_at row built = ap (session_row old.caller moment (store_in store) (state_of store old.phase)) (sym same) ∙ built
 
-  abbrev Taken : Result ⊤ SessionStop → Type 0
+  abbrev Taken : Result ⊤ ServerStop → Type 0
   Taken taken = TakesPacket moment old store packet new store_n replies taken
 
-  abbrev Put : Result ⊤ SessionStop → Type 0
+  abbrev Put : Result ⊤ ServerStop → Type 0
   Put taken = PutsRow g store store_n disk disk_n (row_for moment old store packet) taken
 
   abbrev Said : Result ⊤ AirDown → Type 0
@@ -138,7 +138,7 @@ module _ {A D : Type 0} (g : Ghosts D) (air : AirGhosts A) (lasts : (disk : D) �
       let at_disk : D → Type 0 = λ d. Does g ⊥ store store disk d [] in
       subst at_store (sym same_store) (subst at_disk (sym same_disk) (Does-none g ⊥ store disk (λ never. never) stands healthy (lasts disk)))
 
-  pub answered : (taken : Result ⊤ SessionStop) (said : Result ⊤ AirDown) → Taken taken → Put taken → Said said → Answered (first_stop taken said)
+  pub answered : (taken : Result ⊤ ServerStop) (said : Result ⊤ AirDown) → Taken taken → Put taken → Said said → Answered (first_stop taken said)
   answered (Ok done) said takes puts says = row_said said takes puts says
   answered (Err session_stop.Disk) said takes puts says = fault_said said takes puts says
   answered (Err (session_stop.NotBuilt kind)) said takes puts says = (
@@ -163,7 +163,7 @@ module _ {A D : Type 0} (g : Ghosts D) (air : AirGhosts A) (lasts : (disk : D) �
   )
 
   -- what the air counts by that
-  pub answer_counts : (taken : Result ⊤ SessionStop) (said : Result ⊤ AirDown) → Taken taken → Said said → air.read_faults now ≡ air.read_faults before
+  pub answer_counts : (taken : Result ⊤ ServerStop) (said : Result ⊤ AirDown) → Taken taken → Said said → air.read_faults now ≡ air.read_faults before
       → HasAirCause air.read_faults air.write_faults before now (first_stop taken said)
   answer_counts (Ok done) (Ok whole) takes says reads = (reads, says.cause.same)
   answer_counts (Ok done) (Err down) takes says reads = (reads, says.cause.rose)

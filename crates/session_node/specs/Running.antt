@@ -7,7 +7,7 @@ use Rattle.disk_model.specs.declared.disk.Disk.{Ghosts}
 use Rattle.ftl0_packets.specs.Layout.{Item}
 use Rattle.file_entries.specs.Command.{Command, after_all}
 use Rattle.file_entries.specs.Store.{Store}
-use Rattle.file_store.specs.OnDisk.{Does}
+use Rattle.file_store.specs.OnDisk.{CutsOff, Does}
 use Rattle.file_store.specs.State.{StoreState, store_in}
 use Rattle.ftl0_session.specs.Events.{Event}
 use Rattle.ftl0_session.specs.Session.{Row, State, fault_reply, kind_of_item, session_row, takes_memory, texts}
@@ -80,14 +80,6 @@ pub record StopsBehind (least : List Event) (caller : CallSign) (store : Store) 
   pub stops : StopsOver caller store state events why writes writes_now text done cut
   pub between : List Event
   pub in_order : stops.before ≡ least ++ between
-
--- The store did the first of these commands on its disk, and then the others, or the disk failed in one of these.
-pub record CutsOff {D : Type 0} (g : Ghosts D) (failed : Type 0) (old new : StoreState) (disk disk_now : D)
-    (done cut : List Command) : Type 0 where
-  pub store_then : StoreState
-  pub disk_then : D
-  pub first : Does g ⊥ old store_then disk disk_then done
-  pub second : Does g failed store_then new disk_then disk_now cut
 
 -- The session ran over these events, each of whose rows is built, and the commands are done on the disk.
 pub record RunsOn {D : Type 0} (g : Ghosts D) (caller : CallSign) (old new : StoreState) (disk disk_now : D)

@@ -6,13 +6,13 @@ use Rattle.file_journal.specs.Walk.{damaged_at, no_store}
 use Rattle.file_store.specs.State.{standing_of}
 use Rattle.file_store.specs.declared.refusals.StoreFault.{StoreFault}
 use Rattle.file_store.specs.declared.refusals.StoreFault.TheVariants as fault
-use Rattle.ftl0_session.specs.declared.stop.SessionStop.{SessionStop}
-use Rattle.ftl0_session.specs.declared.stop.SessionStop.TheVariants as session_stop
+use Rattle.ftl0_session.specs.declared.stop.ServerStop.{ServerStop}
+use Rattle.ftl0_session.specs.declared.stop.ServerStop.TheVariants as session_stop
 use Rattle.session_node.specs.declared.stop.NodeStop.{NodeStop}
 use Rattle.session_node.specs.declared.stop.NodeStop.TheVariants as stop
 
 -- how a session's stop stops its node
-abbrev pub stop_of_session : SessionStop → NodeStop
+abbrev pub stop_of_session : ServerStop → NodeStop
 stop_of_session (session_stop.NotBuilt kind) = stop.NotBuilt kind
 stop_of_session session_stop.Disk = stop.Disk
 stop_of_session session_stop.OutOfMemory = stop.OutOfMemory
@@ -30,7 +30,7 @@ said_end (Ok done) = Ok tt
 said_end (Err down) = Err stop.AirWrite
 
 -- What stopped first: taking the packet, or saying the replies to it.
-abbrev pub first_stop : Result ⊤ SessionStop → Result ⊤ AirDown → Result ⊤ NodeStop
+abbrev pub first_stop : Result ⊤ ServerStop → Result ⊤ AirDown → Result ⊤ NodeStop
 first_stop (Ok taken) said = said_end said
 first_stop (Err why) said = Err (stop_of_session why)
 

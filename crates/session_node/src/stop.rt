@@ -4,7 +4,7 @@ ghost use Rattle.std.specs.Prelude.{◌≡◌};
 ghost use Rattle.session_node.specs.Stops.{stop_of_fault, stop_of_session};
 
 use file_store::StoreFault;
-use ftl0_session::SessionStop;
+use ftl0_session::ServerStop;
 use thiserror::Error;
 
 /// Why a session stopped before the end of the air.
@@ -46,14 +46,14 @@ pub enum NodeStop {
     OutOfMemory,
 }
 
-impl From<SessionStop> for NodeStop {
+impl From<ServerStop> for NodeStop {
     ghost from_gives = { λ stop result. result ≡ stop_of_session stop };
 
-    fn from(stop: SessionStop) -> NodeStop {
+    fn from(stop: ServerStop) -> NodeStop {
         match stop {
-            SessionStop::NotBuilt { kind } => NodeStop::NotBuilt { kind },
-            SessionStop::Disk => NodeStop::Disk,
-            SessionStop::OutOfMemory => NodeStop::OutOfMemory,
+            ServerStop::NotBuilt { kind } => NodeStop::NotBuilt { kind },
+            ServerStop::Disk => NodeStop::Disk,
+            ServerStop::OutOfMemory => NodeStop::OutOfMemory,
         }
     }
 }

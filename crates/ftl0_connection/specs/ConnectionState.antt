@@ -1,0 +1,96 @@
+-- A connection as contracts see it, which of the definitions' it stands for, and what its calls do.
+use Rattle.std.specs.Prelude.{◌≡◌, ℕ, List, [], ◌∷◌, ◌++◌, Bool, true, false, Option, None, Some, Result, Ok, Err, ⊤}
+use Rattle.px_base.specs.Octets.{IsOctets}
+use Rattle.disk_model.specs.declared.disk.Disk.{Ghosts}
+use Rattle.ax25_link.specs.Ends.{LinkEnd}
+use Rattle.ax25_link.specs.Kept.{Kept, StandsFor}
+use Rattle.ax25_link.specs.Window.{Window}
+use Rattle.ftl0_packets.specs.Layout.{Item}
+use Rattle.ftl0_packets.specs.Reading.{packets_of, rest_of}
+use Rattle.file_journal.specs.Calls.{Leaves}
+use Rattle.file_entries.specs.Command.{Command}
+use Rattle.file_entries.specs.Store.{Store}
+use Rattle.file_store.specs.OnDisk.{CutsOff, Does, MakesFirst}
+use Rattle.file_store.specs.State.{StoreState, store_in}
+use Rattle.ftl0_session.specs.declared.stop.ServerStop.{ServerStop}
+use Rattle.ftl0_session.specs.declared.stop.ServerStop.TheVariants as stop
+use Rattle.ftl0_session.specs.Session.{State}
+use Rattle.ftl0_session.specs.SessionState.{SessionState, state_of}
+use Rattle.ftl0_connection.specs.declared.fate.Fate.{Fate}
+use Rattle.ftl0_connection.specs.declared.fate.Fate.TheVariants.{Stays, Ends}
+use Rattle.ftl0_connection.specs.Connected.{Connected}
+use Rattle.ftl0_connection.specs.Hearing.{Happened, progressed}
+use Rattle.ftl0_connection.specs.Taking.{fails, goes_on, taking, unbuilt}
+
+-- the link, the octets that were accepted and of which no packet was taken yet, and the session
+pub record ConnectionState : Type 0 where
+  pub link : Kept
+  pub octets : List ℕ
+  pub session : SessionState
+
+-- The link stands for some end.
+pub record StandsForSome (link : Kept) : Type 0 where
+  pub w : Window
+  pub end : LinkEnd
+  pub stands : StandsFor w link end
+
+-- The connection stands for this one, whose session's octets that wait are the store's to tell.
+pub record IsConnection (w : Window) (store : StoreState) (connection : ConnectionState) (c : Connected) : Type 0 where
+  pub link : StandsFor w connection.link c.end
+  pub rest : connection.octets ≡ c.rest
+  pub state : state_of store connection.session.phase ≡ c.state
+
+-- whether the session is over, as the code says it
+abbrev pub is_over : Fate → Bool
+is_over Stays = false
+is_over Ends = true
+
+-- what the connection stands for now: where its session is over, for what its link has still to send
+abbrev pub StandsAfter : Window → StoreState → ConnectionState → Happened → Fate → Type 0
+StandsAfter w store connection happened Stays =
+    (happened.over ≡ false) × IsConnection w store connection happened.after
+StandsAfter w store connection happened Ends =
+    (happened.over ≡ true) × StandsFor w connection.link happened.after.end
+
+-- What a frame that is heard does, where `event` gives what it makes of the connection once it is known at which packet
+-- the disk fails, if it fails at one. Where all was taken its commands are done. Where the disk failed, at some packet,
+-- the commands before it are done, and it failed in one of that packet's; the replies before it and code 3 are left to be
+-- sent. Where a row isn't built the commands before are done, and where there is no memory some of them, from the first on.
+abbrev pub HearsBy :
+    {D : Type 0} → Ghosts D → Window → (Option ℕ → Happened) → StoreState → StoreState → D → D → ConnectionState → Fate
+    → Result ⊤ ServerStop → Type 0
+HearsBy g w event store store_now disk disk_now connection fate (Ok done) =
+    ((event None).halt ≡ goes_on) × StandsAfter w store_now connection (event None) fate
+    × Does g ⊥ store store_now disk disk_now (event None).done
+HearsBy g w event store store_now disk disk_now connection fate (Err stop.Disk) =
+    (part : ℕ) × ((event (Some part)).halt ≡ fails) × StandsAfter w store_now connection (event (Some part)) fate
+    × CutsOff g ⊤ store store_now disk disk_now (event (Some part)).done (event (Some part)).cut
+HearsBy g w event store store_now disk disk_now connection fate (Err (stop.NotBuilt kind)) =
+    ((event None).halt ≡ unbuilt kind) × (fate ≡ Stays)
+    × Does g ⊥ store store_now disk disk_now (event None).done
+HearsBy g w event store store_now disk disk_now connection fate (Err stop.OutOfMemory) =
+    (done : List Command) × (others : List Command) × ((event None).done ≡ done ++ others) × (fate ≡ Stays)
+    × Does g ⊥ store store_now disk disk_now done
+
+-- A frame was heard, of which this is what it makes of the connection. Since it came each image stands for the store after
+-- the first of the commands that it has where nothing fails, for some number of them.
+pub record Hears {D : Type 0} (g : Ghosts D) (w : Window) (event : Option ℕ → Happened) (store store_now : StoreState)
+    (disk disk_now : D) (connection : ConnectionState) (heard : Fate × Result ⊤ ServerStop) : Type 0 where
+  pub by : HearsBy g w event store store_now disk disk_now connection heard.0 heard.1
+  pub since : Leaves g disk disk_now (λ _. MakesFirst (store_in store) (event None).done)
+
+-- what these packets make of a connection with this session, once it is known at which of them the disk fails, if it fails
+-- at one
+abbrev pub taking_some : ℕ → SessionState → State → Store → LinkEnd → List Item → Option ℕ → Happened
+taking_some moment session state store end items failing =
+    progressed [] (taking session.caller moment store state end items failing)
+
+-- the connection of this link and session, with no octets left
+abbrev pub with_nothing_left : Kept → SessionState → ConnectionState
+with_nothing_left link session = record { link = link; octets = []; session = session }
+
+-- No packet is whole of these octets: they wait for the end of the one under way.
+pub record IsWaiting (octets : List ℕ) : Type 0 where
+  pub none : packets_of octets ≡ []
+  pub left : rest_of octets ≡ octets
+  pub are_octets : IsOctets octets

@@ -1,0 +1,368 @@
+//! One caller's connection.
+
+ghost use Rattle.std.specs.Prelude.{◌≡◌, ◌<◌, ◌≤◌, ◌↔◌, ℕ, List, [], ◌∷◌, drop, length, false, true, not, IfOk, IsErrOf, IsTrue, None};
+ghost use Rattle.ax25_frames.specs.Values.{value_of};
+ghost use Rattle.ax25_link.specs.Air.{is_information};
+ghost use Rattle.ax25_link.specs.Calls.{after_push};
+ghost use Rattle.ax25_link.specs.Ends.{LinkEnd};
+ghost use Rattle.ax25_link.specs.Kept.{Fits, GivesNext, HasStations, IsFromPeer, SameStations, StandsFor, Steps, Tells, is_pending, most_pending};
+ghost use Rattle.ax25_link.specs.declared.state.LinkState.{LinkState};
+ghost use Rattle.ax25_link.specs.Window.{IsGoodK, Window, window_of};
+ghost use Rattle.ftl0_packets.specs.Layout.{packet_text};
+ghost use Rattle.ftl0_packets.specs.Reading.{is_whole, read_item};
+ghost use Rattle.file_entries.specs.Kept.{KeepsComplete};
+ghost use Rattle.file_journal.specs.Calls.{Puts};
+ghost use Rattle.file_store.specs.State.{StandsOn, StoreState, store_in};
+ghost use Rattle.ftl0_connection.specs.Connected.{Connected, answering, beginning};
+ghost use Rattle.ftl0_connection.specs.ConnectionState.{Hears, IsConnection, StandsAfter, is_over, taking_some, with_nothing_left};
+ghost use Rattle.ftl0_connection.specs.Feeding.{Feeds, IsGoing, LeavesFit, MayTake, with_octets};
+ghost use Rattle.ftl0_connection.specs.Hearing.{hearing, taking_octets, ticking};
+ghost use Rattle.ftl0_connection.specs.Taking.{fits, replied};
+ghost use Rattle.ftl0_session.specs.Others.{KeepsOtherCallers};
+ghost use Rattle.ftl0_session.specs.Session.{greeting};
+ghost use Rattle.ftl0_session.specs.SessionState.{IsHeld, IsOnlyOut, NoOtherOut, Parks, new_session, state_of};
+
+use crate::Fate;
+use arrayvec::ArrayVec;
+use ax25_frames::{Frame, Kind};
+use ax25_link::{Heard, Link};
+use disk_model::Disk;
+use file_store::FileStore;
+use ftl0_packets::laws::stream_law;
+use ftl0_packets::{PacketFed, PacketReader};
+use ftl0_session::{Replies, ServerStop, Session};
+use px_base::{Call, OutOfMemory};
+use std::alloc::Global;
+use std::marker::Model;
+use std::mem;
+
+/// What a frame that was heard did: what becomes of the session, and whether the server goes on.
+pub type Told = (Fate, Result<(), ServerStop>);
+
+/// A caller's connection. It must be ended, which parks the session's upload. Contracts see it as a `ConnectionState`,
+/// and speak of the connections of the definitions that it stands for, whose links have all that was pushed, sent and
+/// taken.
+pub struct Connection {
+    link: Link,
+    reader: PacketReader,
+    session: Session,
+}
+
+impl Model for Connection {
+    ghost use Rattle.ftl0_connection.specs.ConnectionState.{ConnectionState};
+
+    ghost Value = { ConnectionState };
+
+    ghost use Rattle.ftl0_connection.specs.Inside.{IsInside, connection_state};
+
+    ghost view = { connection_state };
+
+    ghost invariant = { IsInside };
+}
+
+impl Connection {
+    /// The connection of a station whose SABM with this P bit is answered at this moment: UA is pending, and LOGIN_RESP
+    /// queued (AX.25 2.0, 2.4.3.1; FTL0 1990, LOGIN_RESP). At most k I frames are outstanding at a time; `good_k(k)`
+    /// holds. Takes memory, and fails only where there is none.
+    pub fn answer(
+        alloc: Global,
+        me: Call,
+        caller: Call,
+        k: u8,
+        poll: bool,
+        moment: u32,
+    ) -> Result<Connection, OutOfMemory>
+        requires { IsGoodK k }
+        ensures connection { IfOk result (λ connection. (store : StoreState) →
+            IsConnection (window_of k) store connection (answering me caller poll moment)) }
+        ensures stations { IfOk result (λ connection. HasStations connection.link false me caller k) }
+        ensures session { IfOk result (λ connection. connection.session ≡ new_session caller) }
+        ensures up { IfOk result (λ connection. connection.link.state ≡ LinkState.Up) }
+    {
+        let mut link = Link::answer(alloc, me, caller, k, poll)?;
+        let session = greet(&mut link, caller, moment);
+        Ok(Connection {
+            link,
+            reader: PacketReader::new(),
+            session,
+        })
+    }
+
+    /// Hears a frame of the caller at this moment, while nothing is pending (AX.25 2.0, 2.4; FTL0 1990): the frame's row
+    /// of the link's table, and for information that is next in the stream the packets' rows of the session's table. Their
+    /// commands are on the disk before any frame of the event is given out. A reply for which the link has no room ends
+    /// the session by DM. After a stop the server goes on no further: after `Disk` the frames that are pending are given
+    /// out first, code 3 among them; after any other none is. Takes memory, before a packet touches the disk.
+    pub fn hear<D: Disk>(
+        &mut self,
+        disk: &mut D,
+        store: &mut FileStore,
+        frame: &Frame<'_>,
+        moment: u32,
+    ) -> Told
+        requires frame { IsFromPeer self.old.link (value_of frame.now) }
+        requires quiet { is_pending self.old.link ≡ false }
+        requires up { self.old.link.state ≡ LinkState.Up }
+        requires healthy { store.old.journal.failed ≡ false }
+        requires stands_on { StandsOn D.Disk store.old disk.old }
+        requires held { IsHeld store.old self.old.session }
+        requires only { IsOnlyOut store.old self.old.session }
+
+        // Of whichever connection it stands for, it is what the frame makes of that, or the server stops.
+        ensures hears { (w : Window) (c : Connected) → IsConnection w store.old self.old c →
+            Hears D.Disk w (hearing w moment (store_in store.old) c (value_of frame.now))
+            store.old store.new disk.old disk.new self.new result }
+        ensures puts { Puts D.Disk (IsErrOf result.1 ServerStop.Disk) disk.old disk.new }
+        ensures kept { KeepsComplete (store_in store.old) (store_in store.new) }
+        ensures others { KeepsOtherCallers store.old store.new self.old.session.caller }
+
+        // What the next event needs.
+        ensures healthy { ¬ IsErrOf result.1 ServerStop.Disk → store.new.journal.failed ≡ false }
+        ensures stands_on { StandsOn D.Disk store.new disk.new }
+        ensures held { IsHeld store.new self.new.session }
+        ensures only { IsOnlyOut store.new self.new.session }
+        ensures up { result.0 ≡ Fate.Stays → self.new.link.state ≡ LinkState.Up }
+        ensures caller { self.new.session.caller ≡ self.old.session.caller }
+        ensures stations { SameStations self.old.link self.new.link }
+    {
+        match self.link.take(frame) {
+            Heard::Nothing | Heard::Opened => (Fate::Stays, Ok(())),
+            Heard::Reopened => {
+                self.begin_anew(store, moment);
+                (Fate::Stays, Ok(()))
+            }
+            Heard::Bytes => self.take_octets(disk, store, information(frame), moment),
+            Heard::Closed(_why) => (Fate::Ends, Ok(())),
+        }
+    }
+
+    /// Counts a tick, while nothing is pending (AX.25 2.0, 2.4.7): the session is over where the caller doesn't answer any
+    /// more. Takes no memory.
+    pub fn tick(&mut self) -> Fate
+        requires quiet { is_pending self.old.link ≡ false }
+        requires up { self.old.link.state ≡ LinkState.Up }
+        ensures ticks { (w : Window) (store : StoreState) (c : Connected) → IsConnection w store self.old c →
+            StandsAfter w store self.new (ticking c) result }
+        ensures session { self.new.session ≡ self.old.session }
+        ensures octets { self.new.octets ≡ self.old.octets }
+        ensures up { result ≡ Fate.Stays → self.new.link.state ≡ LinkState.Up }
+        ensures stations { SameStations self.old.link self.new.link }
+    {
+        match self.link.tick() {
+            None => Fate::Stays,
+            Some(_why) => Fate::Ends,
+        }
+    }
+
+    /// Replaces `out` by the octets of the next pending frame, which is then sent. It is false, and changes nothing, exactly
+    /// where nothing is pending. Takes no memory.
+    pub fn next_out(&mut self, out: &mut ArrayVec<u8, 400>) -> bool
+        ensures pending { result ≡ is_pending self.old.link }
+        ensures none { result ≡ false → (self.new ≡ self.old) × (out.new.items ≡ out.old.items) }
+        ensures fewer { result ≡ true → most_pending self.new.link < most_pending self.old.link }
+        ensures next { GivesNext self.old.link self.new.link out.old.items out.new.items result }
+        ensures session { self.new.session ≡ self.old.session }
+        ensures octets { self.new.octets ≡ self.old.octets }
+        ensures state { self.new.link.state ≡ self.old.link.state }
+        ensures stations { SameStations self.old.link self.new.link }
+    {
+        self.link.next_out(out)
+    }
+
+    /// Whether a frame is to be given out. Takes no memory.
+    pub fn pending(&self) -> bool
+        ensures { result ≡ is_pending self.now.link }
+    {
+        self.link.pending()
+    }
+
+    /// Whose connection it is. Takes no memory.
+    pub fn caller(&self) -> Call
+        ensures { result ≡ self.now.session.caller }
+    {
+        self.session.caller()
+    }
+
+    /// A law, which does nothing: whatever end the link stands for is one that frames and ticks can bring about.
+    pub fn fits_law(&self)
+        ensures { Fits self.now.link }
+    {
+        let _ = self.link.state();
+    }
+
+    /// Ends the session, which parks its upload, and gives the link, which may have frames to give out still. Takes no
+    /// memory.
+    pub fn end(self, store: &mut FileStore) -> Link
+        requires { IsHeld store.old self.session }
+        ensures link { result ≡ self.link }
+        ensures parks { Parks store.old store.new self.session.phase }
+        ensures only { IsOnlyOut store.old self.session → NoOtherOut store.new self.session.caller None }
+        ensures others { KeepsOtherCallers store.old store.new self.session.caller }
+    {
+        let Connection {
+            link,
+            reader: _,
+            session,
+        } = self;
+        session.end(store);
+        link
+    }
+
+    /// Ends the session, which parks its upload, and begins a new one over the link, which begins anew.
+    fn begin_anew(&mut self, store: &mut FileStore, moment: u32)
+        requires up { self.old.link.state ≡ LinkState.Up }
+        requires held { IsHeld store.old self.old.session }
+        requires only { IsOnlyOut store.old self.old.session }
+        ensures begins { (w : Window) (end : _) → StandsFor w self.old.link end →
+            IsConnection w store.new self.new (beginning end moment) }
+        ensures parks { Parks store.old store.new self.old.session.phase }
+        ensures session { self.new.session ≡ new_session self.old.session.caller }
+        ensures only { NoOtherOut store.new self.old.session.caller None }
+        ensures others { KeepsOtherCallers store.old store.new self.old.session.caller }
+        ensures up { self.new.link.state ≡ LinkState.Up }
+        ensures stations { SameStations self.old.link self.new.link }
+    {
+        let session = greet(&mut self.link, self.session.caller(), moment);
+        mem::replace(&mut self.session, session).end(store);
+        self.reader = PacketReader::new();
+    }
+
+    /// Takes the packets that these octets, next in the stream, finish, and queues the replies to them.
+    fn take_octets<D: Disk>(
+        &mut self,
+        disk: &mut D,
+        store: &mut FileStore,
+        octets: &[u8],
+        moment: u32,
+    ) -> Told
+        requires { MayTake D.Disk store.old disk.old self.old.link self.old.session }
+        ensures hears { (w : Window) (c : Connected) → IsConnection w store.old self.old c →
+            Hears D.Disk w (taking_octets moment (store_in store.old) c c.end octets.now)
+            store.old store.new disk.old disk.new self.new result }
+        ensures fit { LeavesFit D.Disk store.old store.new disk.old disk.new self.old.link self.new.link
+            self.old.session self.new.session result }
+    {
+        // Whatever is accepted is a stream of packets, and no packet is whole of what waits before and after it.
+        stream_law();
+        let _ = &self.reader;
+        let mut piece = octets;
+        while !piece.is_empty() {
+            let (taken, told) = self.feed(disk, store, piece, moment);
+            if !goes_on(&told) {
+                return told;
+            }
+            piece = piece.split_at(taken).1;
+        }
+        let _ = &self.reader;
+        (Fate::Stays, Ok(()))
+    }
+
+    /// Takes octets up to the end of the packet under way, and the packet where it is whole, and tells how many they are.
+    fn feed<D: Disk>(
+        &mut self,
+        disk: &mut D,
+        store: &mut FileStore,
+        piece: &[u8],
+        moment: u32,
+    ) -> (usize, Told)
+        requires some { 0 < length piece.now }
+        requires may { MayTake D.Disk store.old disk.old self.old.link self.old.session }
+        ensures some { 0 < result.0 }
+        ensures taken { result.0 ≤ length piece.now }
+        ensures feeds { Feeds D.Disk moment (with_octets self.old piece.now) (with_octets self.new (drop result.0 piece.now))
+            store.old store.new disk.old disk.new result.1 }
+        ensures fit { LeavesFit D.Disk store.old store.new disk.old disk.new self.old.link self.new.link
+            self.old.session self.new.session result.1 }
+    {
+        let (taken, fed) = self.reader.feed(piece);
+        match fed {
+            PacketFed::More => (taken, (Fate::Stays, Ok(()))),
+            PacketFed::Whole => {
+                let told = answer(
+                    &self.reader,
+                    &mut self.link,
+                    &mut self.session,
+                    disk,
+                    store,
+                    moment,
+                );
+                (taken, told)
+            }
+        }
+    }
+}
+
+/// Takes the packet that is whole, and queues the replies to it. After a fault of the disk that is the reply with code 3,
+/// and the session is over.
+fn answer<D: Disk>(
+    reader: &PacketReader,
+    link: &mut Link,
+    session: &mut Session,
+    disk: &mut D,
+    store: &mut FileStore,
+    moment: u32,
+) -> Told
+    requires whole { IsTrue (is_whole reader.now) }
+    requires may { MayTake D.Disk store.old disk.old link.old session.old }
+    ensures hears { (w : Window) (end : LinkEnd) → StandsFor w link.old end →
+        Hears D.Disk w (taking_some moment session.old (state_of store.old session.old.phase) (store_in store.old) end
+        (read_item reader.now ∷ [])) store.old store.new disk.old disk.new (with_nothing_left link.new session.new) result }
+    ensures fit { LeavesFit D.Disk store.old store.new disk.old disk.new link.old link.new session.old session.new result }
+{
+    let mut replies = Replies::new();
+    match session.take(disk, reader.packet(), moment, store, &mut replies) {
+        Ok(()) => (reply(link, replies.as_slice()), Ok(())),
+        Err(ServerStop::Disk) => {
+            reply(link, replies.as_slice());
+            (Fate::Ends, Err(ServerStop::Disk))
+        }
+        Err(ServerStop::NotBuilt { kind }) => (Fate::Stays, Err(ServerStop::NotBuilt { kind })),
+        Err(ServerStop::OutOfMemory) => (Fate::Stays, Err(ServerStop::OutOfMemory)),
+    }
+}
+
+/// Whether neither the connection nor the server is stopped.
+fn goes_on(told: &Told) -> bool
+    ensures { IsTrue result ↔ IsGoing told.now }
+{
+    matches!(told, (Fate::Stays, Ok(())))
+}
+
+/// The session of this caller, whose LOGIN_RESP at this moment is queued on the link.
+fn greet(link: &mut Link, caller: Call, moment: u32) -> Session
+    requires { link.old.state ≡ LinkState.Up }
+    ensures session { result ≡ new_session caller }
+    ensures queued { Steps link.old link.new (λ w end. after_push end (packet_text (greeting moment))) }
+    ensures stations { SameStations link.old link.new }
+{
+    let mut replies = Replies::new();
+    let session = Session::new(caller, moment, &mut replies);
+    link.push(replies.as_slice());
+    session
+}
+
+/// Queues replies, where the link has room for them; else gives it up by DM, and the session is over.
+fn reply(link: &mut Link, text: &[u8]) -> Fate
+    requires { link.old.state ≡ LinkState.Up }
+    ensures queued { Steps link.old link.new (λ w end. replied end text.now) }
+    ensures over { Tells link.old (λ w end. not (fits end text.now)) (is_over result) }
+    ensures stations { SameStations link.old link.new }
+{
+    if text.len() > link.free() {
+        link.abandon();
+        return Fate::Ends;
+    }
+    link.push(text);
+    Fate::Stays
+}
+
+/// The information of an I frame.
+fn information<'a>(frame: &Frame<'a>) -> &'a [u8]
+    ensures { IsTrue (is_information (value_of frame.now).kind.control)
+        → result.now ≡ (value_of frame.now).kind.information }
+{
+    match frame.kind {
+        Kind::I { info, .. } => info,
+        _ => &[],
+    }
+}

@@ -1,0 +1,69 @@
+-- What a server's calls do.
+use Rattle.std.specs.Prelude.{◌≡◌, ℕ, List, [], ◌∷◌, ◌++◌, true, false, Bool, Option, None, Some, Result, Ok, Err, ⊤}
+use Rattle.disk_model.specs.declared.disk.Disk.{Ghosts}
+use Rattle.ax25_frames.specs.FrameText.{FrameText, canonical}
+use Rattle.file_entries.specs.Command.{Command}
+use Rattle.file_journal.specs.Calls.{Leaves}
+use Rattle.file_store.specs.OnDisk.{CutsOff, Does, MakesFirst}
+use Rattle.file_store.specs.State.{StoreState, store_in}
+use Rattle.ftl0_session.specs.declared.stop.ServerStop.{ServerStop}
+use Rattle.ftl0_session.specs.declared.stop.ServerStop.TheVariants as stop
+use Rattle.ftl0_connection.specs.Taking.{fails, goes_on, unbuilt}
+use Rattle.ftl0_server.specs.declared.place.Place.{Place}
+use Rattle.ftl0_server.specs.Places.{SamePlace}
+use Rattle.ftl0_server.specs.Server.{Server, ServerHappened, ServerSends, server_next}
+use Rattle.ftl0_server.specs.ServerState.{IsServer, SendsFor, ServerState}
+
+-- What a frame that is heard does, where `event` gives what it makes of the server once it is known at which packet the
+-- disk fails, if it fails at one. Where all was taken its commands are done. Where the disk failed, at some packet, the
+-- commands before it are done, and it failed in one of that packet's; the frames that are pending then are those of that
+-- step. Where a row isn't built the commands before are done, and where there is no memory some of them, from the first on.
+abbrev pub HearsBy :
+    {D : Type 0} → Ghosts D → (Option ℕ → ServerHappened) → ServerState → ServerState → D → D → Result ⊤ ServerStop
+    → Type 0
+HearsBy g event old new disk disk_now (Ok done) =
+    ((event None).halt ≡ goes_on) × IsServer new (event None).after
+    × Does g ⊥ old.store new.store disk disk_now (event None).done
+HearsBy g event old new disk disk_now (Err stop.Disk) =
+    (part : ℕ) × ((event (Some part)).halt ≡ fails) × SendsFor new (event (Some part)).after
+    × CutsOff g ⊤ old.store new.store disk disk_now (event (Some part)).done (event (Some part)).cut
+HearsBy g event old new disk disk_now (Err (stop.NotBuilt kind)) =
+    ((event None).halt ≡ unbuilt kind) × Does g ⊥ old.store new.store disk disk_now (event None).done
+HearsBy g event old new disk disk_now (Err stop.OutOfMemory) =
+    (done : List Command) × (others : List Command) × ((event None).done ≡ done ++ others)
+    × Does g ⊥ old.store new.store disk disk_now done
+
+-- A frame was heard. Since it came each image stands for the store after the first of the commands that it has where
+-- nothing fails, for some number of them: that is what a power cut inside it leaves.
+pub record Hears {D : Type 0} (g : Ghosts D) (event : Option ℕ → ServerHappened) (old new : ServerState)
+    (disk disk_now : D) (result : Result ⊤ ServerStop) : Type 0 where
+  pub by : HearsBy g event old new disk disk_now result
+  pub since : Leaves g disk disk_now (λ _. MakesFirst (store_in old.store) (event None).done)
+
+-- What is handed out where this is sent next: nothing, and nothing changes; or the octets of its frame in place of those
+-- that the buffer held. The server is then, in this sense, the one that has sent it.
+abbrev pub HandsOut :
+    (ServerState → Server → Type 0) → Option ServerSends → ServerState → ServerState → List ℕ → List ℕ → Bool → Type 0
+HandsOut Stands None old new before now answer = (answer ≡ false) × (new ≡ old) × (now ≡ before)
+HandsOut Stands (Some sends) old new before now answer =
+    (answer ≡ true) × Stands new sends.after × (now ≡ canonical sends.frame) × FrameText sends.frame now
+
+-- the same of whichever server it was
+abbrev pub HandsOutNext :
+    (ServerState → Server → Type 0) → ServerState → ServerState → List ℕ → List ℕ → Bool → Type 0
+HandsOutNext Stands old new before now answer =
+    (server : Server) → Stands old server → HandsOut Stands (server_next server) old new before now answer
+
+-- the places are the same, but that frames were given out
+abbrev pub SamePlaces : List Place → List Place → Type 0
+SamePlaces [] [] = ⊤
+SamePlaces [] (after ∷ others) = ⊥
+SamePlaces (place ∷ places) [] = ⊥
+SamePlaces (place ∷ places) (after ∷ others) = SamePlace place after × SamePlaces places others
+
+-- giving out a frame changes nothing but the links, and the DM that was to be sent
+pub record SameButLinks (old new : ServerState) : Type 0 where
+  pub me : new.me ≡ old.me
+  pub k : new.k ≡ old.k
+  pub places : SamePlaces old.places new.places
+  pub store : new.store ≡ old.store

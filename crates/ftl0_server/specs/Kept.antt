@@ -1,0 +1,61 @@
+-- What each server keeps.
+use Rattle.std.specs.Prelude.{◌≡◌, ◌≢◌, ℕ, List, slice_get, Option, None, Some, false}
+use Rattle.std.specs.Option.{option_map}
+use Rattle.px_base.specs.CallSign.{CallSign}
+use Rattle.ax25_link.specs.Window.{IsGoodK}
+use Rattle.ax25_link.specs.declared.state.LinkState.TheVariants.{Up}
+use Rattle.file_store.specs.State.{StoreState}
+use Rattle.ftl0_connection.specs.ConnectionState.{ConnectionState}
+use Rattle.ftl0_session.specs.SessionState.{IsHeld, NoOtherOut, number_of}
+use Rattle.ftl0_server.specs.declared.place.Place.{Place}
+use Rattle.ftl0_server.specs.declared.place.Place.TheVariants.{Talking}
+use Rattle.ftl0_server.specs.declared.server.Server.TheInside.{Inside}
+use Rattle.ftl0_server.specs.declared.stray.Stray.{Stray}
+use Rattle.ftl0_server.specs.Server.{Refused}
+use Rattle.ftl0_server.specs.ServerState.{ServerState}
+
+-- this connection is at this place
+abbrev pub IsAt : List Place → ℕ → ConnectionState → Type 0
+IsAt places place connection = slice_get places place ≡ Some (Talking connection)
+
+-- The connection is this station's, with this window, its link is up, and the store holds its session's upload.
+pub record IsSeated (me : CallSign) (k : ℕ) (store : StoreState) (connection : ConnectionState) : Type 0 where
+  pub me_is : connection.link.me ≡ me
+  pub peer_is : connection.link.peer ≡ connection.session.caller
+  pub answers : connection.link.called ≡ false
+  pub k_is : connection.link.k ≡ k
+  pub up : connection.link.state ≡ Up
+  pub held : IsHeld store connection.session
+
+-- no caller has two connections
+abbrev pub AreDistinct : List Place → Type 0
+AreDistinct places =
+    (one other : ℕ) (first second : ConnectionState) → IsAt places one first → IsAt places other second
+    → first.session.caller ≡ second.session.caller → one ≡ other
+
+-- this is the number of the upload of this caller's session; none, where it has none or isn't connected
+abbrev pub IsUploadOf : List Place → CallSign → Option ℕ → Type 0
+IsUploadOf places caller number =
+    ((place : ℕ) (connection : ConnectionState) → IsAt places place connection
+    → connection.session.caller ≡ caller → number ≡ number_of connection.session.phase)
+    × (((place : ℕ) (connection : ConnectionState) → IsAt places place connection
+    → connection.session.caller ≢ caller) → number ≡ None)
+
+-- Each connection is seated, no caller has two, and of no caller is an upload out but that of its session.
+pub record IsSettled (me : CallSign) (k : ℕ) (store : StoreState) (places : List Place) : Type 0 where
+  pub good : IsGoodK k
+  pub seated : (place : ℕ) (connection : ConnectionState) → IsAt places place connection → IsSeated me k store connection
+  pub distinct : AreDistinct places
+  pub only : (caller : CallSign) (number : Option ℕ) → IsUploadOf places caller number → NoOtherOut store caller number
+
+abbrev pub IsKept : Inside → Type 0
+IsKept a = IsSettled a.me a.k a.store a.places
+
+-- the DM to a station without a connection
+abbrev pub refused_of : Stray → Refused
+refused_of stray = record { to = stray.to; final = stray.poll }
+
+-- a server's fields as contracts see them
+abbrev pub server_state : Inside → ServerState
+server_state a =
+    record { me = a.me; k = a.k; places = a.places; stray = option_map refused_of a.stray; store = a.store }

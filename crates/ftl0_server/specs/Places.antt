@@ -1,0 +1,40 @@
+-- What giving out a frame does to a place.
+use Rattle.std.specs.Prelude.{◌≡◌, ℕ, List, Bool, true, false, Option, None, Some, ⊤, ⊥}
+use Rattle.ax25_frames.specs.FrameText.{FrameText, canonical}
+use Rattle.ax25_link.specs.Kept.{SameStations}
+use Rattle.ax25_link.specs.Window.{Window}
+use Rattle.ftl0_connection.specs.ConnectionState.{ConnectionState}
+use Rattle.ftl0_server.specs.declared.place.Place.{Place}
+use Rattle.ftl0_server.specs.declared.place.Place.TheVariants.{Free, Talking, Leaving}
+use Rattle.ftl0_server.specs.ServerState.{SendsAs}
+use Rattle.ftl0_server.specs.Slots.{Slot, SlotSends, slot_next}
+
+-- the session and the stations of a connection are as they were
+pub record SameTalk (old new : ConnectionState) : Type 0 where
+  pub session : new.session ≡ old.session
+  pub octets : new.octets ≡ old.octets
+  pub state : new.link.state ≡ old.link.state
+  pub stations : SameStations old.link new.link
+
+-- the place has what it had, but that a frame was given out
+abbrev pub SamePlace : Place → Place → Type 0
+SamePlace Free Free = ⊤
+SamePlace Free (Talking connection) = ⊥
+SamePlace Free (Leaving link) = ⊥
+SamePlace (Talking connection) Free = ⊥
+SamePlace (Talking connection) (Talking after) = SameTalk connection after
+SamePlace (Talking connection) (Leaving link) = ⊥
+SamePlace (Leaving link) Free = ⊥
+SamePlace (Leaving link) (Talking connection) = ⊥
+SamePlace (Leaving link) (Leaving after) = ⊤
+
+-- What is given out where this is sent next: nothing; or the octets of its frame in place of those that the buffer held.
+abbrev pub GivesOut : Option SlotSends → Window → Place → List ℕ → List ℕ → Bool → Type 0
+GivesOut None w now before after answer = answer ≡ false
+GivesOut (Some sends) w now before after answer =
+    (answer ≡ true) × SendsAs w now sends.after × (after ≡ canonical sends.frame) × FrameText sends.frame after
+
+-- the same of whichever place it stood for
+abbrev pub PlaceGives : Place → Place → List ℕ → List ℕ → Bool → Type 0
+PlaceGives old new before after answer =
+    (w : Window) (slot : Slot) → SendsAs w old slot → GivesOut (slot_next w slot) w new before after answer

@@ -1,0 +1,112 @@
+-- A server as contracts see it, and which of the definitions' servers it stands for.
+use Rattle.std.specs.Prelude.{◌≡◌, ℕ, ◌+◌, List, [], ◌∷◌, Bool, true, false, ◌||◌, Option, ⊤}
+use Rattle.px_base.specs.CallSign.{CallSign}
+use Rattle.ax25_link.specs.Kept.{StandsFor, count_of, is_pending, is_there, most_pending}
+use Rattle.ax25_link.specs.Window.{Window, window_of}
+use Rattle.ftl0_session.specs.Session.{is_same_call}
+use Rattle.ftl0_session.specs.SessionState.{state_of}
+use Rattle.file_store.specs.State.{StoreState, store_in}
+use Rattle.ftl0_connection.specs.Connected.{Connected}
+use Rattle.ftl0_connection.specs.ConnectionState.{ConnectionState}
+use Rattle.ftl0_server.specs.declared.place.Place.{Place}
+use Rattle.ftl0_server.specs.declared.place.Place.TheVariants.{Free, Talking, Leaving}
+use Rattle.ftl0_server.specs.Server.{Refused, Server}
+use Rattle.ftl0_server.specs.Slots.{Slot, connected, free, leaving}
+
+-- its call, the window k of its links, its places, the DM that is to be sent, and its store
+pub record ServerState : Type 0 where
+  pub me : CallSign
+  pub k : ℕ
+  pub places : List Place
+  pub stray : Option Refused
+  pub store : StoreState
+
+-- the place's link is the one of that place, as far as frames go
+abbrev pub SendsAs : Window → Place → Slot → Type 0
+SendsAs w Free free = ⊤
+SendsAs w Free (connected c) = ⊥
+SendsAs w Free (leaving end) = ⊥
+SendsAs w (Talking connection) free = ⊥
+SendsAs w (Talking connection) (connected c) = StandsFor w connection.link c.end
+SendsAs w (Talking connection) (leaving end) = ⊥
+SendsAs w (Leaving link) free = is_pending link ≡ false
+SendsAs w (Leaving link) (connected c) = ⊥
+SendsAs w (Leaving link) (leaving end) = StandsFor w link end
+
+-- what the session of a connection has come to, over this store
+pub record TalksAs (store : StoreState) (connection : ConnectionState) (c : Connected) : Type 0 where
+  pub rest : connection.octets ≡ c.rest
+  pub state : state_of store connection.session.phase ≡ c.state
+
+-- the same of a place, where it has a session
+abbrev pub SaysAs : StoreState → Place → Slot → Type 0
+SaysAs store Free slot = ⊤
+SaysAs store (Talking connection) free = ⊤
+SaysAs store (Talking connection) (connected c) = TalksAs store connection c
+SaysAs store (Talking connection) (leaving end) = ⊤
+SaysAs store (Leaving link) slot = ⊤
+
+-- this holds of each place and the slot at it, and there are as many of the one as of the other
+abbrev pub AllPlaces : (Place → Slot → Type 0) → List Place → List Slot → Type 0
+AllPlaces P [] [] = ⊤
+AllPlaces P [] (slot ∷ slots) = ⊥
+AllPlaces P (place ∷ places) [] = ⊥
+AllPlaces P (place ∷ places) (slot ∷ slots) = P place slot × AllPlaces P places slots
+
+-- The server sends what that one sends.
+pub record SendsFor (self : ServerState) (server : Server) : Type 0 where
+  pub me : self.me ≡ server.me
+  pub window : server.window ≡ window_of self.k
+  pub stray : self.stray ≡ server.stray
+  pub links : AllPlaces (SendsAs server.window) self.places server.slots
+
+-- The server stands for that one: it may stand for many, since its links keep no history.
+pub record IsServer (self : ServerState) (server : Server) : Type 0 where
+  pub sends : SendsFor self server
+  pub says : AllPlaces (SaysAs self.store) self.places server.slots
+  pub store : store_in self.store ≡ server.store
+
+-- a frame is to be sent
+abbrev pub place_pending : Place → Bool
+place_pending Free = false
+place_pending (Talking connection) = is_pending connection.link
+place_pending (Leaving link) = is_pending link
+
+abbrev pub any_pending : List Place → Bool
+any_pending [] = false
+any_pending (place ∷ places) = place_pending place || any_pending places
+
+abbrev pub server_pending : ServerState → Bool
+server_pending self = is_there self.stray || any_pending self.places
+
+-- no more frames than this are handed out one after another
+abbrev pub place_most : Place → ℕ
+place_most Free = 0
+place_most (Talking connection) = most_pending connection.link
+place_most (Leaving link) = most_pending link
+
+abbrev pub places_most : List Place → ℕ
+places_most [] = 0
+places_most (place ∷ places) = place_most place + places_most places
+
+abbrev pub server_most : ServerState → ℕ
+server_most self = count_of self.stray + places_most self.places
+
+-- the place has no session
+abbrev pub is_empty_place : Place → Bool
+is_empty_place Free = true
+is_empty_place (Talking connection) = false
+is_empty_place (Leaving link) = true
+
+-- the place has a session of this caller
+abbrev pub has_caller : CallSign → Place → Bool
+has_caller caller Free = false
+has_caller caller (Talking connection) = is_same_call connection.session.caller caller
+has_caller caller (Leaving link) = false
+
+-- how many sessions are up
+abbrev pub sessions_in : List Place → ℕ
+sessions_in [] = 0
+sessions_in (Free ∷ places) = sessions_in places
+sessions_in (Talking connection ∷ places) = 1 + sessions_in places
+sessions_in (Leaving link ∷ places) = sessions_in places

@@ -1,0 +1,4 @@
+pub mod Events
+pub mod Station
+pub mod Reading
+pub mod Laws
