@@ -33,9 +33,9 @@ use std::alloc::Global;
 ///
 /// These commands are built: `serve`, the server of up to eight sessions on the air, with a store on the disk; `session`,
 /// one session over FTL0 octets without a link, with a store on the disk, or, where DISK is `none`, on a fresh one in
-/// memory; `frames`, `pfh-show` and `pfh-check`, which show a text of a
-/// file on the shelf; and `pfh-make`, which makes a file of one on the shelf and keeps it there. A place for a bench after
-/// the clock comes with the command that uses it. Takes memory.
+/// memory; `frames`, `pfh-show` and `pfh-check`, which show a text of a file on the shelf; and `pfh-make`, which makes a
+/// file of one on the shelf and keeps it there. A place for a bench after the clock comes with the command that uses it.
+/// Takes memory.
 pub fn run<D: Disk, A: Air, S: Shelf, O: Out, C: Clock>(
     alloc: Global,
     words: &Words,
