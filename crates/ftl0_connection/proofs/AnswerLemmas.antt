@@ -1,6 +1,6 @@
 -- How a connection answers one packet.
-use Rattle.std.proofs.Common.{◌≡◌, ℕ, Bool, true, false, not, List, [], ◌∷◌, ◌++◌, refl, ap, sym, ◌∙◌, subst, append-nil}
-use Rattle.std.specs.Prelude.{Option, None, Some, Result, Ok, Err, ⊤, if◌then◌else◌}
+use Rattle.std.proofs.Common.{◌≡◌, ℕ, Bool, true, false, not, List, [], ◌∷◌, refl, ap, sym, ◌∙◌, subst, append-nil}
+use Rattle.std.specs.Prelude.{Option, Result, Ok, Err, ⊤, if◌then◌else◌}
 use Rattle.disk_model.specs.declared.disk.Disk.{Ghosts}
 use Rattle.ax25_link.specs.Calls.{after_abandon, after_push}
 use Rattle.ax25_link.specs.Ends.{LinkEnd}
@@ -15,7 +15,7 @@ use Rattle.file_store.specs.State.{StandsOn, StoreState, store_in}
 use Rattle.file_store.proofs.DoesLemmas.{Does-none}
 use Rattle.ftl0_session.specs.declared.stop.ServerStop.{ServerStop}
 use Rattle.ftl0_session.specs.declared.stop.ServerStop.TheVariants as stop
-use Rattle.ftl0_session.specs.Session.{Row, State, fault_reply, kind_of_item, session_row, texts}
+use Rattle.ftl0_session.specs.Session.{Row, session_row, texts}
 use Rattle.ftl0_session.specs.SessionState.{SessionState, state_of}
 use Rattle.ftl0_session.specs.Taking.{Answers, PutsRow}
 use Rattle.ftl0_connection.specs.declared.fate.Fate.{Fate}
@@ -24,7 +24,7 @@ use Rattle.ftl0_connection.specs.ConnectionState.{Hears, HearsBy, StandsAfter, S
 use Rattle.ftl0_connection.specs.Hearing.{progressed}
 use Rattle.ftl0_connection.specs.Taking.{Progress, after_doing, fails, fits, giving_up, goes_on, replied, resting, unbuilt}
 use Rattle.ftl0_connection.proofs.HearsLemmas.{hears-taking}
-use Rattle.ftl0_connection.proofs.TakingLemmas.{given, step}
+use Rattle.ftl0_connection.proofs.TakingLemmas.{step}
 
 module _ {D : Type 0} (g : Ghosts D) (lasts : (disk : D) → g.lasts disk disk) (on : (first second third : D) → g.lasts first second → g.lasts second third → g.lasts first third)
     (w : Window) (end : LinkEnd) (moment : ℕ) (session session_n : SessionState) (store store_n : StoreState) (disk disk_n : D) (link_n : Kept) (item : Item)

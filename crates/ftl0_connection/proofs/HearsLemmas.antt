@@ -1,5 +1,5 @@
 -- How what packets make of a connection is put together.
-use Rattle.std.proofs.Common.{◌≡◌, ℕ, Bool, true, false, not, ◌&&◌, List, [], ◌∷◌, ◌++◌, refl, ap, sym, ◌∙◌, subst, append_assoc}
+use Rattle.std.proofs.Common.{◌≡◌, ℕ, Bool, true, false, not, ◌&&◌, List, [], ◌++◌, refl, ap, sym, ◌∙◌, subst, append_assoc}
 use Rattle.std.specs.Prelude.{Option, None, Some, Result, Ok, Err, ⊤}
 use Rattle.px_base.specs.CallSign.{CallSign}
 use Rattle.disk_model.specs.declared.disk.Disk.{Ghosts}
@@ -23,7 +23,7 @@ use Rattle.ftl0_connection.specs.ConnectionState.{ConnectionState, Hears, HearsB
 use Rattle.ftl0_connection.specs.Hearing.{Happened, progressed}
 use Rattle.ftl0_connection.specs.Taking.{Halt, Progress, after_doing, fails, goes_on, taking, unbuilt}
 use Rattle.ftl0_connection.proofs.DoingLemmas.{cuts-after, cuts-does, leaves-front}
-use Rattle.ftl0_connection.proofs.TakingLemmas.{IsFront, behind, going, goes_from, is_going, moved, taking-begins, taking-ended, taking-failed, taking-front, taking-on}
+use Rattle.ftl0_connection.proofs.TakingLemmas.{IsFront, behind, going, is_going, moved, taking-begins, taking-ended, taking-failed, taking-front, taking-on}
 
 -- whether more is taken, by its parts
 pub going-on : (progress : Progress) → progress.over ≡ false → progress.halt ≡ goes_on → going progress ≡ true

@@ -1,5 +1,5 @@
 -- How taking packets goes on, and how it stops.
-use Rattle.std.proofs.Common.{◌≡◌, ℕ, zero, suc, Bool, true, false, not, ◌&&◌, List, [], ◌∷◌, ◌++◌, refl, ap, sym, ◌∙◌, subst, append_assoc, append-nil}
+use Rattle.std.proofs.Common.{◌≡◌, ℕ, suc, Bool, true, false, not, ◌&&◌, List, [], ◌∷◌, ◌++◌, refl, ap, sym, ◌∙◌, subst, append_assoc, append-nil}
 use Rattle.std.specs.Prelude.{Option, None, Some, if◌then◌else◌}
 use Rattle.px_base.specs.CallSign.{CallSign}
 use Rattle.ax25_link.specs.Calls.{after_push}
@@ -10,7 +10,7 @@ use Rattle.file_entries.specs.Store.{Store}
 use Rattle.file_entries.proofs.GrowLemmas.{after_all-append}
 use Rattle.ftl0_session.specs.Run.{on_row}
 use Rattle.ftl0_session.specs.Session.{Row, State, kind_of_item, session_row, texts}
-use Rattle.ftl0_connection.specs.Taking.{Halt, Progress, after_doing, failing_at, fails, fails_first, fails_later, fits, giving_up, goes_on, resting, taking, unbuilt, unbuilt_at}
+use Rattle.ftl0_connection.specs.Taking.{Halt, Progress, after_doing, failing_at, fails, fails_first, fails_later, fits, giving_up, goes_on, taking, unbuilt, unbuilt_at}
 
 -- whether nothing stopped the taking
 abbrev pub is_going : Halt → Bool
