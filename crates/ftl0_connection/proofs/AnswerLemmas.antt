@@ -99,7 +99,10 @@ module _ {D : Type 0} (g : Ghosts D) (lasts : (disk : D) → g.lasts disk disk) 
   said-stop replies (stop.NotBuilt kind) other answers puts =
       let P : Option Row → Type 0 = λ row. ((one false row).halt ≡ unbuilt kind) × (Stays ≡ Stays) × Does g ⊥ store store_n disk disk_n (one false row).done in
       subst P (sym answers.0) (ap unbuilt (sym answers.1), refl, kept-back answers.2.0 puts)
-  said-stop replies stop.OutOfMemory other answers puts = ([], (one false row_here).done, refl, refl, kept-back answers.3.0 puts)
+  said-stop replies stop.OutOfMemory other answers puts =
+      let P : Option Row → Type 0 = λ row. ((one true row).halt ≡ fails) × (Stays ≡ Stays) × Does g ⊥ store store_n disk disk_n (one true row).done in
+      let at : P row_here = subst P (sym answers.1) (refl, refl, kept-back answers.3.0 puts) in
+      (0, at.0, at.1, at.2)
 
   -- what is made of the packet, as it is read
   pub hears-one : (fate : Fate) (result : Result ⊤ ServerStop) (read : Item) → item ≡ read → Said fate result

@@ -55,7 +55,8 @@ StandsAfter w store connection happened Ends =
 -- What a frame that is heard does, where `event` gives what it makes of the connection once it is known at which packet
 -- the disk fails, if it fails at one. Where all was taken its commands are done. Where the disk failed, at some packet,
 -- the commands before it are done, and it failed in one of that packet's; the replies before it and code 3 are left to be
--- sent. Where a row isn't built the commands before are done, and where there is no memory some of them, from the first on.
+-- sent. Where a row isn't built the commands before are done, and where there was no memory for some packet, those of the
+-- packets before it: the packet's own commands aren't begun then.
 abbrev pub HearsBy :
     {D : Type 0} → Ghosts D → Window → (Option ℕ → Happened) → StoreState → StoreState → D → D → ConnectionState → Fate
     → Result ⊤ ServerStop → Type 0
@@ -69,8 +70,8 @@ HearsBy g w event store store_now disk disk_now connection fate (Err (stop.NotBu
     ((event None).halt ≡ unbuilt kind) × (fate ≡ Stays)
     × Does g ⊥ store store_now disk disk_now (event None).done
 HearsBy g w event store store_now disk disk_now connection fate (Err stop.OutOfMemory) =
-    (done : List Command) × (others : List Command) × ((event None).done ≡ done ++ others) × (fate ≡ Stays)
-    × Does g ⊥ store store_now disk disk_now done
+    (part : ℕ) × ((event (Some part)).halt ≡ fails) × (fate ≡ Stays)
+    × Does g ⊥ store store_now disk disk_now (event (Some part)).done
 
 -- A frame was heard, of which this is what it makes of the connection. Since it came each image stands for the store after
 -- the first of the commands that it has where nothing fails, for some number of them.
