@@ -1,5 +1,5 @@
 -- A connection as contracts see it, which of the definitions' it stands for, and what its calls do.
-use Rattle.std.specs.Prelude.{◌≡◌, ℕ, List, [], ◌++◌, Bool, true, false, Option, None, Some, Result, Ok, Err, ⊤}
+use Rattle.std.specs.Prelude.{◌≡◌, ℕ, List, [], Bool, true, false, Option, None, Some, Result, Ok, Err, ⊤}
 use Rattle.px_base.specs.Octets.{IsOctets}
 use Rattle.disk_model.specs.declared.disk.Disk.{Ghosts}
 use Rattle.ax25_link.specs.Ends.{LinkEnd}
@@ -8,7 +8,6 @@ use Rattle.ax25_link.specs.Window.{Window}
 use Rattle.ftl0_packets.specs.Layout.{Item}
 use Rattle.ftl0_packets.specs.Reading.{packets_of, rest_of}
 use Rattle.file_journal.specs.Calls.{Leaves}
-use Rattle.file_entries.specs.Command.{Command}
 use Rattle.file_entries.specs.Store.{Store}
 use Rattle.file_store.specs.OnDisk.{CutsOff, Does, MakesFirst}
 use Rattle.file_store.specs.State.{StoreState, store_in}
