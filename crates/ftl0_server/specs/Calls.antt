@@ -1,15 +1,20 @@
 -- What a server's calls do.
-use Rattle.std.specs.Prelude.{◌≡◌, ℕ, List, [], ◌∷◌, ◌++◌, true, false, Bool, Option, None, Some, Result, Ok, Err, ⊤}
+use Rattle.std.specs.Prelude.{◌≡◌, ℕ, List, [], ◌∷◌, ◌++◌, slice_set, true, false, Bool, Option, None, Some, Result, Ok, Err, ⊤}
 use Rattle.disk_model.specs.declared.disk.Disk.{Ghosts}
 use Rattle.ax25_frames.specs.FrameText.{FrameText, canonical}
+use Rattle.ax25_link.specs.Kept.{HasStations}
+use Rattle.ax25_link.specs.declared.state.LinkState.TheVariants.{Up}
 use Rattle.file_entries.specs.Command.{Command}
 use Rattle.file_journal.specs.Calls.{Leaves}
 use Rattle.file_store.specs.OnDisk.{CutsOff, Does, MakesFirst}
 use Rattle.file_store.specs.State.{StoreState, store_in}
 use Rattle.ftl0_session.specs.declared.stop.ServerStop.{ServerStop}
 use Rattle.ftl0_session.specs.declared.stop.ServerStop.TheVariants as stop
+use Rattle.ftl0_session.specs.SessionState.{new_session}
+use Rattle.ftl0_connection.specs.ConnectionState.{ConnectionState}
 use Rattle.ftl0_connection.specs.Taking.{fails, goes_on, unbuilt}
 use Rattle.ftl0_server.specs.declared.place.Place.{Place}
+use Rattle.ftl0_server.specs.declared.place.Place.TheVariants.{Talking}
 use Rattle.ftl0_server.specs.Places.{SamePlace}
 use Rattle.ftl0_server.specs.Server.{Server, ServerHappened, ServerSends, server_next}
 use Rattle.ftl0_server.specs.ServerState.{IsServer, SendsFor, ServerState}
@@ -67,3 +72,21 @@ pub record SameButLinks (old new : ServerState) : Type 0 where
   pub k : new.k ≡ old.k
   pub places : SamePlaces old.places new.places
   pub store : new.store ≡ old.store
+
+-- A frame of a station without a connection makes this of whichever server it was, or there is no memory, and nothing
+-- changes.
+abbrev pub HearsStranger : (Server → Server) → ServerState → ServerState → Result ⊤ ServerStop → Type 0
+HearsStranger step old new (Ok done) = (server : Server) → IsServer old server → IsServer new (step server)
+HearsStranger step old new (Err stop.Disk) = ⊥
+HearsStranger step old new (Err (stop.NotBuilt kind)) = ⊥
+HearsStranger step old new (Err stop.OutOfMemory) = new ≡ old
+
+-- A connection of this server's was just answered.
+pub record IsNew (self : ServerState) (connection : ConnectionState) : Type 0 where
+  pub stations : HasStations connection.link false self.me connection.session.caller self.k
+  pub session : connection.session ≡ new_session connection.session.caller
+  pub up : connection.link.state ≡ Up
+
+-- The connection is at this place now.
+abbrev pub Seats : ℕ → ConnectionState → ServerState → ServerState → Type 0
+Seats place connection old new = new ≡ record old { places = slice_set old.places place (Talking connection) }

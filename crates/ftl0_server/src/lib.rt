@@ -4,6 +4,7 @@
 
 pub mod laws;
 mod place;
+mod places;
 mod server;
 mod stray;
 
