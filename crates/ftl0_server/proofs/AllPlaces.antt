@@ -1,5 +1,5 @@
 -- Facts of each place of a server and the slot at it.
-use Rattle.std.proofs.Common.{◌≡◌, ℕ, zero, suc, ◌+◌, List, [], ◌∷◌, length, set, map, Bool, true, false, not, cond, nat_lt, Option, None, Some, refl, sym, ◌∙◌, ap, subst}
+use Rattle.std.proofs.Common.{◌≡◌, ◌≢◌, ℕ, zero, suc, ◌+◌, List, [], ◌∷◌, length, set, map, Bool, true, false, not, cond, nat_lt, Option, None, Some, refl, sym, ◌∙◌, ap, subst}
 use Rattle.std.specs.Prelude.{slice_get}
 use Rattle.std.specs.List.{position, prefix_len}
 use Rattle.std.proofs.lemmas.Option.{same_Some}
@@ -9,6 +9,12 @@ use Rattle.ftl0_server.specs.Slots.{Slot}
 
 pub never : {X : Type 0} (x : X) → None ≡ Some x → ⊥
 never x same = cc
+
+suc_no : (j : ℕ) → suc j ≡ 0 → ⊥
+suc_no j same = cc
+
+suc_same : (j i : ℕ) → suc j ≡ suc i → j ≡ i
+suc_same j i same = cc
 
 module _ (P : Place → Slot → Type 0) where
   -- what holds of the place at an index and its slot
@@ -57,6 +63,20 @@ module _ (P : Place → Slot → Type 0) where
     all-both [] (s ∷ ss) one other = absurd one
     all-both (p ∷ ps) [] one other = absurd one
     all-both (p ∷ ps) (s ∷ ss) one other = ((one.0, other.0), all-both ps ss one.1 other.1)
+
+-- Another fact holds of each pair: at one index of these, and elsewhere by the one that held.
+pub all-set-to : (P Q : Place → Slot → Type 0) (places : List Place) (slots : List Slot) (i : ℕ) (place : Place) (slot : Slot)
+    → ((j : ℕ) (p : Place) (s : Slot) → j ≢ i → slice_get places j ≡ Some p → slice_get slots j ≡ Some s → P p s → Q p s)
+    → AllPlaces P places slots → Q place slot → AllPlaces Q (set places i place) (set slots i slot)
+all-set-to P Q [] [] i place slot to all one = tt
+all-set-to P Q [] (s ∷ ss) i place slot to all one = absurd all
+all-set-to P Q (p ∷ ps) [] i place slot to all one = absurd all
+all-set-to P Q (p ∷ ps) (s ∷ ss) zero place slot to all one =
+    (one, all-to P Q ps ss (λ j x y at it. to (suc j) x y (λ same. suc_no j same) at it) all.1)
+all-set-to P Q (p ∷ ps) (s ∷ ss) (suc i) place slot to all one = (
+  to 0 p s (λ same. suc_no i (sym same)) refl refl all.0,
+  all-set-to P Q ps ss i place slot (λ j x y ne at it. to (suc j) x y (λ same. ne (suc_same j i same)) at it) all.1 one,
+)
 
 -- the first place that passes is the first slot that does
 module _ (p : Place → Bool) (q : Slot → Bool) where

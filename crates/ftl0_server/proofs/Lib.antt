@@ -1,3 +1,5 @@
 pub mod AllPlaces
+pub mod NextLemmas
 pub mod PlaceLemmas
 pub mod SettledLemmas
+pub mod TickLemmas
