@@ -1,4 +1,5 @@
 pub mod AllPlaces
+pub mod EndLemmas
 pub mod NextLemmas
 pub mod PlaceLemmas
 pub mod SettledLemmas

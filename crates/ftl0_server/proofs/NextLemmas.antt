@@ -106,16 +106,16 @@ module _ (w : Window) (new : Place) (before out : List ℕ) where
       subst (λ (o : Option SlotSends). PlacesGive (first_of s ss o (places_next w ss)) w (p ∷ set ps i new) out true) (sym here)
       (later-gives p s (set ps i new) ss (places_next w ss) all.0 (next-at ps ss i old all.1 at parts.1 gives))
 
+or-later : (a b : Bool) → b ≡ true → (a || b) ≡ true
+or-later true b is = refl
+or-later false b is = is
+
 -- one of the places is pending
 pub pending-at : (places : List Place) (i : ℕ) (old : Place) → slice_get places i ≡ Some old → place_pending old ≡ true → any_pending places ≡ true
 pending-at [] i old at is = absurd (never old at)
 pending-at (p ∷ ps) zero old at is =
     ap (λ (b : Bool). b || any_pending ps) (ap (λ (x : Place). place_pending x) (same_Some p old at) ∙ is)
 pending-at (p ∷ ps) (suc i) old at is = or-later (place_pending p) (any_pending ps) (pending-at ps i old at is)
-
-or-later : (a b : Bool) → b ≡ true → (a || b) ≡ true
-or-later true b is = refl
-or-later false b is = is
 
 -- fewer frames are left of all places where fewer are of one
 pub most-at : (places : List Place) (i : ℕ) (old new : Place) → slice_get places i ≡ Some old → place_most new < place_most old
