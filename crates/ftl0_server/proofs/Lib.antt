@@ -1,5 +1,6 @@
 pub mod AllPlaces
 pub mod EndLemmas
+pub mod HearLemmas
 pub mod NextLemmas
 pub mod PlaceLemmas
 pub mod SettledLemmas

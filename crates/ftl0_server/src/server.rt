@@ -243,7 +243,8 @@ impl Server {
         ensures stands_on { StandsOn D.Disk self.new.store disk.new }
         ensures me { self.new.me ≡ self.old.me }
     {
-        let at = &mut self.places[place];
+        let places = &mut self.places;
+        let at = &mut places[place];
         at.hear(disk, &mut self.store, frame, moment)
     }
 
@@ -305,7 +306,8 @@ impl Server {
         ensures store { self.new.store ≡ self.old.store }
         ensures me { self.new.me ≡ self.old.me }
     {
-        let at = &mut self.places[place];
+        let places = &mut self.places;
+        let at = &mut places[place];
         at.put(Place::Talking(connection));
     }
 }

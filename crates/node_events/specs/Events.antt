@@ -1,5 +1,5 @@
 -- The events of a node: what it hears and when it ticks, by the turns of its air and their moments.
-use Rattle.std.specs.Prelude.{◌≡◌, ◌⊎◌, ℕ, ◌==◌, List, [], ◌∷◌, ◌++◌, map, if◌then◌else◌, ⊥}
+use Rattle.std.specs.Prelude.{◌≡◌, ◌⊎◌, ℕ, ◌==◌, List, [], ◌∷◌, ◌++◌, map, if◌then◌else◌}
 use Rattle.px_base.specs.CallSign.{CallSign}
 use Rattle.px_base.specs.Polling.{octets_of_turn}
 use Rattle.px_base.specs.declared.air.Turn.{Turn}
