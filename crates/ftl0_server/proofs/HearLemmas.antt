@@ -191,7 +191,7 @@ module _ {D : Type 0} (g : Ghosts D) (old new : ServerState) (server : Server) (
       by.3,
     )
     heard-by (Err (stop.NotBuilt kind)) by = by
-    heard-by (Err stop.OutOfMemory) by = by
+    heard-by (Err stop.OutOfMemory) by = inr by
 
   -- the slot of the place
   slot_is : (d : Connected) × (slice_get server.slots place ≡ Some (connected d)) × IsPlace server.window old.store (Talking c) (connected d)
@@ -233,7 +233,7 @@ module _ {D : Type 0} (g : Ghosts D) (old new : ServerState) (server : Server) (
   stranger-by (Ok done) heard = (refl, heard server is, nothing-done)
   stranger-by (Err stop.Disk) heard = absurd heard
   stranger-by (Err (stop.NotBuilt kind)) heard = absurd heard
-  stranger-by (Err stop.OutOfMemory) heard = ([], [], refl, nothing-done)
+  stranger-by (Err stop.OutOfMemory) heard = inl nothing-done
 
   pub stranger-hears : (result : Result ⊤ ServerStop) → HearsStranger (λ s. hearing_stranger s frame moment) old new result
       → Hears g (server_hearing server frame moment) old new disk disk result

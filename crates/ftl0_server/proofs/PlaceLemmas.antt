@@ -55,7 +55,7 @@ module _ {D : Type 0} (g : Ghosts D) (w : Window) (event : Option ℕ → Happen
     },
   )
   heard-over (Err (stop.NotBuilt kind)) by = absurd (cc by.1)
-  heard-over (Err stop.OutOfMemory) by = absurd (cc by.3)
+  heard-over (Err stop.OutOfMemory) by = absurd (cc by.2)
 
 -- What is parked leaves the store and its journal.
 pub parks-store : (before now : StoreState) (p : Phase) → Parks before now p → store_in now ≡ store_in before

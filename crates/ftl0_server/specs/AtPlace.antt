@@ -1,11 +1,10 @@
 -- What an event at one place of a server needs, and what it leaves.
-use Rattle.std.specs.Prelude.{◌≡◌, ℕ, ◌++◌, List, [], ◌∷◌, false, Option, None, Some, Result, Ok, Err, ⊤}
+use Rattle.std.specs.Prelude.{◌≡◌, ℕ, List, [], ◌∷◌, false, Option, None, Some, Result, Ok, Err, ⊤}
 use Rattle.disk_model.specs.declared.disk.Disk.{Ghosts}
 use Rattle.ax25_frames.specs.FrameText.{FrameValue}
 use Rattle.ax25_link.specs.Kept.{IsFromPeer, SameStations, is_pending}
 use Rattle.ax25_link.specs.Window.{Window}
 use Rattle.ax25_link.specs.declared.state.LinkState.TheVariants.{Up}
-use Rattle.file_entries.specs.Command.{Command}
 use Rattle.file_store.specs.OnDisk.{CutsOff, Does}
 use Rattle.file_store.specs.State.{StoreState}
 use Rattle.ftl0_session.specs.Others.{KeepsOtherCallers}
@@ -88,8 +87,7 @@ PlaceHears g w event store store_now disk disk_now place (Err stop.Disk) =
 PlaceHears g w event store store_now disk disk_now place (Err (stop.NotBuilt kind)) =
     ((event None).halt ≡ unbuilt kind) × Does g ⊥ store store_now disk disk_now (event None).done
 PlaceHears g w event store store_now disk disk_now place (Err stop.OutOfMemory) =
-    (done : List Command) × (others : List Command) × ((event None).done ≡ done ++ others)
-    × Does g ⊥ store store_now disk disk_now done
+    (part : ℕ) × ((event (Some part)).halt ≡ fails) × Does g ⊥ store store_now disk disk_now (event (Some part)).done
 
 -- the session of this connection is over: its upload is parked
 pub record IsOver (before now : StoreState) (connection : ConnectionState) : Type 0 where

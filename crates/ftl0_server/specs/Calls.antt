@@ -1,10 +1,9 @@
 -- What a server's calls do.
-use Rattle.std.specs.Prelude.{◌≡◌, ℕ, List, [], ◌∷◌, ◌++◌, slice_set, true, false, Bool, Option, None, Some, Result, Ok, Err, ⊤}
+use Rattle.std.specs.Prelude.{◌≡◌, ◌⊎◌, ℕ, List, [], ◌∷◌, slice_set, true, false, Bool, Option, None, Some, Result, Ok, Err, ⊤}
 use Rattle.disk_model.specs.declared.disk.Disk.{Ghosts}
 use Rattle.ax25_frames.specs.FrameText.{FrameText, canonical}
 use Rattle.ax25_link.specs.Kept.{HasStations}
 use Rattle.ax25_link.specs.declared.state.LinkState.TheVariants.{Up}
-use Rattle.file_entries.specs.Command.{Command}
 use Rattle.file_journal.specs.Calls.{Leaves}
 use Rattle.file_store.specs.OnDisk.{CutsOff, Does, MakesFirst}
 use Rattle.file_store.specs.State.{StoreState, store_in}
@@ -19,10 +18,11 @@ use Rattle.ftl0_server.specs.Places.{SamePlace}
 use Rattle.ftl0_server.specs.Server.{Server, ServerHappened, ServerSends, server_next}
 use Rattle.ftl0_server.specs.ServerState.{IsServer, SendsFor, ServerState}
 
--- What a frame that is heard does, where `event` gives what it makes of the server once it is known at which packet the
--- disk fails, if it fails at one. Where all was taken its commands are done. Where the disk failed, at some packet, the
--- commands before it are done, and it failed in one of that packet's; the frames that are pending then are those of that
--- step. Where a row isn't built the commands before are done, and where there is no memory some of them, from the first on.
+-- What an event does, where `event` gives what it makes of the server once it is known at which packet the disk fails, if
+-- it fails at one. Where all was taken its commands are done. Where the disk failed, at some packet, the commands before it
+-- are done, and it failed in one of that packet's; the frames that are pending then are those of that step. Where a row
+-- isn't built the commands before are done. Where there was no memory none is done, as for a new session, or, at some
+-- packet, those before it.
 abbrev pub HearsBy :
     {D : Type 0} → Ghosts D → (Option ℕ → ServerHappened) → ServerState → ServerState → D → D → Result ⊤ ServerStop
     → Type 0
@@ -35,10 +35,11 @@ HearsBy g event old new disk disk_now (Err stop.Disk) =
 HearsBy g event old new disk disk_now (Err (stop.NotBuilt kind)) =
     ((event None).halt ≡ unbuilt kind) × Does g ⊥ old.store new.store disk disk_now (event None).done
 HearsBy g event old new disk disk_now (Err stop.OutOfMemory) =
-    (done : List Command) × (others : List Command) × ((event None).done ≡ done ++ others)
-    × Does g ⊥ old.store new.store disk disk_now done
+    Does g ⊥ old.store new.store disk disk_now []
+    ⊎ ((part : ℕ) × ((event (Some part)).halt ≡ fails)
+    × Does g ⊥ old.store new.store disk disk_now (event (Some part)).done)
 
--- A frame was heard. Since it came each image stands for the store after the first of the commands that it has where
+-- An event came. Since it came each image stands for the store after the first of the commands that it has where
 -- nothing fails, for some number of them: that is what a power cut inside it leaves.
 pub record Hears {D : Type 0} (g : Ghosts D) (event : Option ℕ → ServerHappened) (old new : ServerState)
     (disk disk_now : D) (result : Result ⊤ ServerStop) : Type 0 where

@@ -8,5 +8,5 @@ mod places;
 mod server;
 mod stray;
 
-pub use ftl0_session::ServerStop;
+pub use ftl0_session::{Replies, ServerStop, Session};
 pub use server::{PLACES, Server};

@@ -1,6 +1,6 @@
 //! The server.
 
-ghost use Rattle.std.specs.Prelude.{◌≡◌, ◌<◌, ◌≤◌, ℕ, false, true, IfOk, IsErrOf, None, Ok, Some};
+ghost use Rattle.std.specs.Prelude.{◌≡◌, ◌<◌, ◌≤◌, ℕ, false, true, IfOk, IsErrOf, None, Ok, OnOk, Some};
 ghost use Rattle.std.specs.List.{position};
 ghost use Rattle.ax25_frames.specs.Kinds.{FitsControl};
 ghost use Rattle.ax25_frames.specs.Values.{kind_value, value_of};
@@ -8,10 +8,13 @@ ghost use Rattle.ax25_link.specs.Rows.{is_call};
 ghost use Rattle.ax25_link.specs.Window.{IsGoodK, window_of};
 ghost use Rattle.file_entries.specs.Kept.{KeepsComplete};
 ghost use Rattle.file_entries.specs.IsStore.{IsStore};
-ghost use Rattle.file_journal.specs.Calls.{Leaves, Puts, Runs};
+ghost use Rattle.file_entries.specs.Records.{store_magic};
+ghost use Rattle.file_journal.specs.Calls.{Becomes, Leaves, Puts, Runs, TakesStep};
+ghost use Rattle.file_journal.specs.Journal.{after_recovery};
 ghost use Rattle.file_store.specs.Recovery.{IsRecovered, LeavesAlikeSinceSync, RefusesRecovery, StandsAlike};
 ghost use Rattle.file_store.specs.State.{StandsOn, store_in};
-ghost use Rattle.node_events.specs.Events.{IsFor};
+ghost use Rattle.node_events.specs.Events.{IsFor, ticks};
+ghost use Rattle.ftl0_server.specs.ServerStep.{happening};
 ghost use Rattle.ftl0_server.specs.Calls.{HandsOutNext, Hears, HearsStranger, IsNew, SameButLinks, Seats};
 ghost use Rattle.ftl0_server.specs.Server.{Server as ServerValue, called_by, hearing_stranger, new_server, refusing};
 ghost use Rattle.ftl0_server.specs.Server.{server_hearing, server_ticking, settled};
@@ -92,6 +95,8 @@ impl Server {
         ensures runs { Runs D.Disk (IsErrOf result StoreFault.Disk) disk.old disk.new }
         ensures since_start { Leaves D.Disk disk.old disk.new (StandsAlike limits.blocks) }
         ensures since_sync { LeavesAlikeSinceSync D.Disk limits.blocks result disk.old disk.new }
+        ensures octets { OnOk result
+            (TakesStep D.Disk disk.old disk.new (Becomes (after_recovery store_magic limits.blocks))) }
     {
         let store = FileStore::recover(alloc, disk, limits)?;
         state_law(&store);
@@ -160,6 +165,12 @@ impl Server {
         requires healthy { self.old.store.journal.failed ≡ false }
         requires stands_on { StandsOn D.Disk self.old.store _disk.old }
         ensures ok { result ≡ Ok tt }
+
+        // What a power cut inside it leaves, said as of a frame.
+        ensures happens { (server : ServerValue) → IsServer self.old server →
+            Hears D.Disk (happening server (ticks _moment)) self.old self.new _disk.old _disk.new result }
+        ensures puts { Puts D.Disk (IsErrOf result ServerStop.Disk) _disk.old _disk.new }
+        ensures kept { KeepsComplete (store_in self.old.store) (store_in self.new.store) }
         ensures ticks { (server : ServerValue) → IsServer self.old server → IsServer self.new (server_ticking server) }
         ensures untouched { _disk.new ≡ _disk.old }
         ensures healthy { self.new.store.journal.failed ≡ false }
