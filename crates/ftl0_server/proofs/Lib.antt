@@ -2,6 +2,9 @@ pub mod AllPlaces
 pub mod EndLemmas
 pub mod HearLemmas
 pub mod NextLemmas
+pub mod OutLemmas
 pub mod PlaceLemmas
+pub mod SeatLemmas
 pub mod SettledLemmas
+pub mod StartLemmas
 pub mod TickLemmas

@@ -196,12 +196,14 @@ impl Server {
             IsServer self.new (settled server) }
         ensures same { SameButLinks self.old self.new }
     {
-        if let Some(stray) = self.stray {
-            stray.write(self.me, out);
-            self.stray = None;
-            return true;
+        match self.stray {
+            Some(stray) => {
+                stray.write(self.me, out);
+                self.stray = None;
+                true
+            }
+            None => next_of(&mut self.places, out),
         }
-        next_of(&mut self.places, out)
     }
 
     /// Whether a frame is to be given out. Takes no memory.
@@ -254,7 +256,7 @@ impl Server {
         ensures stands_on { StandsOn D.Disk self.new.store disk.new }
         ensures me { self.new.me ≡ self.old.me }
     {
-        let places = &mut self.places;
+        let places: &mut [Place] = &mut self.places;
         let at = &mut places[place];
         at.hear(disk, &mut self.store, frame, moment)
     }
@@ -317,7 +319,7 @@ impl Server {
         ensures store { self.new.store ≡ self.old.store }
         ensures me { self.new.me ≡ self.old.me }
     {
-        let places = &mut self.places;
+        let places: &mut [Place] = &mut self.places;
         let at = &mut places[place];
         at.put(Place::Talking(connection));
     }
