@@ -7,4 +7,5 @@ pub mod PlaceLemmas
 pub mod SeatLemmas
 pub mod SettledLemmas
 pub mod StartLemmas
+pub mod StepLemmas
 pub mod TickLemmas

@@ -2,6 +2,7 @@
 use Rattle.std.proofs.Common.{◌≡◌, Option, None, Some, true, false, Bool, List, refl, sym, ◌∙◌, ap, subst}
 use Rattle.std.specs.Option.{option_map}
 use Rattle.ftl0_server.specs.Calls.{HandsOut, SameButLinks}
+use Rattle.ftl0_server.specs.declared.stray.Stray.{Stray}
 use Rattle.ftl0_server.specs.Kept.{refused_of, server_state}
 use Rattle.ftl0_server.specs.Server.{server_next, settled}
 use Rattle.ftl0_server.specs.ServerState.{AllPlaces, IsServer, SendsAs, SendsFor, ServerState, any_pending}
@@ -10,7 +11,17 @@ use Rattle.ftl0_server.proofs.OutLemmas.{places-out-next, places-out-sends, sett
 use Rattle.ftl0_server.proofs.server.Server.next_out.Goals as goal
 
 pub returns-in-Some-clause-next : goal.returns-in-Some-clause-next
-returns-in-Some-clause-next c = let a = c.in-Some.is in ?
+returns-in-Some-clause-next c = λ server is.
+    let was = subst (λ (s : ServerState). IsServer s server) (sym c.self.view_is) is in
+    let new : ServerState = record (server_state c.self.inside) { stray = None } in
+    let stands : IsServer new (record server { stray = None }) = record {
+      sends = record { me = was.sends.me; window = was.sends.window; stray = refl; links = was.sends.links };
+      says = was.says;
+      store = was.store;
+    } in
+    subst (λ (s : ServerState). HandsOut IsServer (server_next server) s new c.args.out.now.items c.write.new.out.items true) c.self.view_is
+    (stray-out IsServer (server_state c.self.inside) new server (refused_of c.in-Some.stray) c.args.out.now.items c.write.new.out.items was.sends.me was.sends.stray
+    (ap (λ (o : Option Stray). option_map refused_of o) c.in-Some.is) stands c.write.ensures.octets c.write.ensures.text)
 
 pub returns-in-Some-clause-same : goal.returns-in-Some-clause-same
 returns-in-Some-clause-same c =
@@ -18,5 +29,3 @@ returns-in-Some-clause-same c =
     subst (λ (s : ServerState). SameButLinks s new) c.self.view_is
     (record { me = refl; k = refl; places = same_places c.self.inside.places; store = refl })
 
-pub invariant_of-self-2 : goal.invariant_of-self-2
-invariant_of-self-2 c = settled-same c.self.inside.me c.self.inside.k c.self.inside.store c.self.inside.places c.next_of.new.places c.next_of.ensures.same c.self.invariant
