@@ -1,4 +1,5 @@
 pub mod AllPlaces
+pub mod EmptiesLemmas
 pub mod EndLemmas
 pub mod HearLemmas
 pub mod NextLemmas

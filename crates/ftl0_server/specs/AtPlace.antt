@@ -1,8 +1,8 @@
 -- What an event at one place of a server needs, and what it leaves.
-use Rattle.std.specs.Prelude.{◌≡◌, ℕ, List, [], ◌∷◌, false, Option, None, Some, Result, Ok, Err, ⊤}
+use Rattle.std.specs.Prelude.{◌≡◌, ℕ, List, [], ◌∷◌, false, slice_get, Option, None, Some, Result, Ok, Err, ⊤}
 use Rattle.disk_model.specs.declared.disk.Disk.{Ghosts}
 use Rattle.ax25_frames.specs.FrameText.{FrameValue}
-use Rattle.ax25_link.specs.Kept.{IsFromPeer, SameStations, is_pending}
+use Rattle.ax25_link.specs.Kept.{Fits, IsFromPeer, SameStations, is_pending}
 use Rattle.ax25_link.specs.Window.{Window}
 use Rattle.ax25_link.specs.declared.state.LinkState.TheVariants.{Up}
 use Rattle.file_store.specs.OnDisk.{CutsOff, Does}
@@ -88,6 +88,16 @@ PlaceHears g w event store store_now disk disk_now place (Err (stop.NotBuilt kin
     ((event None).halt ≡ unbuilt kind) × Does g ⊥ store store_now disk disk_now (event None).done
 PlaceHears g w event store store_now disk disk_now place (Err stop.OutOfMemory) =
     (part : ℕ) × ((event (Some part)).halt ≡ fails) × Does g ⊥ store store_now disk disk_now (event (Some part)).done
+
+-- whatever end the place's link stands for, it is one that frames can bring about
+abbrev pub PlaceFits : Place → Type 0
+PlaceFits Free = ⊤
+PlaceFits (Talking connection) = Fits connection.link
+PlaceFits (Leaving link) = Fits link
+
+-- the same of each place
+abbrev pub AllFit : List Place → Type 0
+AllFit places = (place : ℕ) (here : Place) → slice_get places place ≡ Some here → PlaceFits here
 
 -- the session of this connection is over: its upload is parked
 pub record IsOver (before now : StoreState) (connection : ConnectionState) : Type 0 where

@@ -2,7 +2,6 @@
 
 ghost use Rattle.std.specs.Prelude.{◌≡◌, ◌<◌, false, true, None, IsErrOf};
 ghost use Rattle.ax25_frames.specs.Values.{value_of};
-ghost use Rattle.ax25_link.specs.Kept.{Fits};
 ghost use Rattle.ax25_link.specs.Window.{Window};
 ghost use Rattle.file_entries.specs.Kept.{KeepsComplete};
 ghost use Rattle.file_journal.specs.Calls.{Leaves, Puts};
@@ -10,7 +9,7 @@ ghost use Rattle.file_store.specs.OnDisk.{MakesFirst};
 ghost use Rattle.file_store.specs.State.{StandsOn, store_in};
 ghost use Rattle.ftl0_connection.specs.Connected.{Connected};
 ghost use Rattle.ftl0_connection.specs.Hearing.{hearing};
-ghost use Rattle.ftl0_server.specs.AtPlace.{HasEnded, HasLeft, IsPlace, MayEnd, MayHear, MayLeave, MayTick, PlaceHears, Works};
+ghost use Rattle.ftl0_server.specs.AtPlace.{HasEnded, HasLeft, IsPlace, MayEnd, MayHear, MayLeave, MayTick, PlaceFits, PlaceHears, Works};
 ghost use Rattle.ftl0_server.specs.Slots.{Slot, connected, slot_ticking};
 ghost use Rattle.ftl0_server.specs.Places.{PlaceGives, SamePlace};
 ghost use Rattle.ftl0_server.specs.ServerState.{has_caller, is_empty_place, place_most, place_pending};
@@ -80,6 +79,19 @@ impl Place {
             Place::Free => false,
             Place::Talking(connection) => connection.next_out(out),
             Place::Leaving(link) => link.next_out(out),
+        }
+    }
+
+    /// A law, which does nothing: whatever end its link stands for is one that frames and ticks can bring about.
+    pub(crate) fn fits_law(&self)
+        ensures { PlaceFits self.now }
+    {
+        match self {
+            Place::Free => {}
+            Place::Talking(connection) => connection.fits_law(),
+            Place::Leaving(link) => {
+                let _ = link.state();
+            }
         }
     }
 

@@ -5,7 +5,7 @@ ghost use Rattle.std.specs.List.{position};
 ghost use Rattle.px_base.specs.CallSign.{CallSign};
 ghost use Rattle.ax25_link.specs.Window.{Window};
 ghost use Rattle.file_store.specs.State.{store_in};
-ghost use Rattle.ftl0_server.specs.AtPlace.{IsPlace, MayAllEnd};
+ghost use Rattle.ftl0_server.specs.AtPlace.{AllFit, IsPlace, MayAllEnd};
 ghost use Rattle.ftl0_server.specs.Calls.{SamePlaces};
 ghost use Rattle.ftl0_server.specs.Kept.{IsSettled, IsWorking};
 ghost use Rattle.ftl0_server.specs.Places.{PlacesGive};
@@ -79,6 +79,15 @@ pub(crate) fn tick_all(places: &mut [Place], store: &mut FileStore)
     for i in 0..places.len() {
         let place = &mut places[i];
         place.tick(store);
+    }
+}
+
+/// A law, which does nothing: whatever ends the places' links stand for are ones that frames and ticks can bring about.
+pub(crate) fn all_fit_law(places: &[Place])
+    ensures { AllFit places.now }
+{
+    for place in places {
+        place.fits_law();
     }
 }
 

@@ -15,6 +15,7 @@ ghost use Rattle.file_store.specs.Recovery.{IsRecovered, LeavesAlikeSinceSync, R
 ghost use Rattle.file_store.specs.State.{StandsOn, store_in};
 ghost use Rattle.node_events.specs.Events.{IsFor, ticks};
 ghost use Rattle.ftl0_server.specs.ServerStep.{happening};
+ghost use Rattle.ftl0_server.specs.AtPlace.{AllFit};
 ghost use Rattle.ftl0_server.specs.Calls.{HandsOutNext, Hears, HearsStranger, IsNew, SameButLinks, Seats};
 ghost use Rattle.ftl0_server.specs.Server.{Server as ServerValue, called_by, hearing_stranger, new_server, refusing};
 ghost use Rattle.ftl0_server.specs.Server.{server_hearing, server_ticking, settled};
@@ -23,7 +24,7 @@ ghost use Rattle.ftl0_server.specs.ServerState.{server_pending, sessions_in};
 ghost use Rattle.ftl0_server.specs.Slots.{first_empty};
 
 use crate::place::Place;
-use crate::places::{any_is_pending, count_sessions, empty_place, end_all, next_of, place_of, tick_all};
+use crate::places::{all_fit_law, any_is_pending, count_sessions, empty_place, end_all, next_of, place_of, tick_all};
 use crate::stray::Stray;
 use arrayvec::ArrayVec;
 use ax25_frames::{Frame, Kind};
@@ -218,6 +219,14 @@ impl Server {
         ensures { result ≡ sessions_in self.now.places }
     {
         count_sessions(&self.places)
+    }
+
+    /// A law, which does nothing: whatever ends the links stand for are ones that frames and ticks can bring about.
+    pub(crate) fn fits_law(&self)
+        ensures window { IsGoodK self.now.k }
+        ensures fits { AllFit self.now.places }
+    {
+        all_fit_law(&self.places);
     }
 
     /// Ends all sessions, and parks their uploads: what is held stays on the disk, which isn't touched. Takes no memory.
