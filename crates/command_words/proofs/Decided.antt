@@ -11,14 +11,14 @@ use Rattle.command_words.specs.Lines.{are_places, is_option_name}
 use Rattle.header_tool.specs.Made.{MakeValue, spec_refusal}
 use Rattle.command_words.specs.Making.{MakeOptions, MakeSays, MakeText, make_options, options_given}
 use Rattle.command_words.specs.Numbers.{GivesNumber, IsDigit, IsNumberOr, NumberText, number_after}
-use Rattle.command_words.specs.Words.{IsAir, IsHostPort, NameText, SessionText, default_blocks, default_polls, session_options}
+use Rattle.command_words.specs.Words.{CallGiven, IsAir, IsHostPort, NameText, ServeText, SessionText, default_blocks, default_k, default_polls, serve_options, session_options}
 use Rattle.command_words.proofs.Bytes.{after_first-append, before_first-append, before_first-lacks, has_byte-append, split_at_byte}
 use Rattle.command_words.proofs.HostPorts.{all_lack, lack_all}
 use Rattle.command_words.proofs.Uses.{Text, Uses, text_eq, text_same}
 use Rattle.command_words.proofs.Machine.{run}
 use Rattle.command_words.proofs.Rules.{AreApart}
 use Rattle.command_words.proofs.Readings.{all_good, apart_names, are_given, distinct_places, is_distinct, line-run, run-line, uses_in}
-use Rattle.command_words.proofs.Meanings.{make_says, one_text, says_one, session_given}
+use Rattle.command_words.proofs.Meanings.{are_served, make_says, one_text, says_one, serve_given, session_given}
 
 abbrev pub Decided : Type 0 → Type 0
 Decided P = P ⊎ (P → ⊥)
@@ -149,16 +149,16 @@ host_port_decided air = elim (cases_Bool (has_byte 58 air)) [
       ]
 ]
 
--- an air is standard input and output, or a host and port, and not both
-pub air_decided : (air : Text) → (air ≡ codes "-") ⊎ (IsHostPort air ⊎ (IsAir air → ⊥))
+-- a word is standard input and output, or a host and port, or neither
+pub air_decided : (air : Text) → Decided (IsAir air)
 air_decided air = elim (cases_Bool (bytes_eq air (codes "-"))) [
-  | inl same ↦ inl (text_same air (codes "-") same)
+  | inl same ↦ inl (inl (text_same air (codes "-") same))
   | inr other ↦ elim (host_port_decided air) [
-    | inl is ↦ inr (inl is)
-    | inr none ↦ inr (inr (λ is. elim is [
+    | inl is ↦ inl (inr is)
+    | inr none ↦ inr (λ is. elim is [
       | inl same ↦ true≢false (sym (text_eq air (codes "-") same) ∙ other)
       | inr host_port ↦ none host_port
-    ]))
+    ])
   ]
 ]
 
@@ -187,47 +187,65 @@ line_decided names ids placed options words = decide (run names ids words None (
           true≢false (sym given ∙ ap (are_given ids) (sym same) ∙ none))
     ]
 
--- the words after `session` give a call and numbers
-abbrev pub GivesText : List Text → Type 0
-GivesText others = (caller : CallSign) × (moment : Option ℕ) × (blocks : ℕ) × (polls : ℕ) × SessionText others caller moment blocks polls
+-- a place and options give a call, blocks and polls, or not
+abbrev GivesCall : List Text → (Text → Option Text) → Type 0
+GivesCall places value = (call : CallSign) × (blocks : ℕ) × (polls : ℕ) × CallGiven places value call blocks polls
 
-module _ (others : List Text) (line : Line session_options others 1) (call_text : Text) (place : line_places line ≡ call_text ∷ []) where
-  -- another reading of them has the same call
-  same_call : (caller : CallSign) (moment : Option ℕ) (blocks polls : ℕ) → SessionText others caller moment blocks polls → CallText caller call_text
-  same_call caller moment blocks polls text =
-      let given = session_given text line in
+module _ (places : List Text) (value : Text → Option Text) (call_text : Text) (place : places ≡ call_text ∷ []) where
+  same_call : (call : CallSign) (blocks polls : ℕ) → CallGiven places value call blocks polls → CallText call call_text
+  same_call call blocks polls given =
       let same : given.call_text ∷ [] ≡ call_text ∷ [] = sym given.place ∙ place in
       let call_is : given.call_text ≡ call_text = cc in
-      subst (λ (t : Text). CallText caller t) call_is given.call
+      subst (λ (t : Text). CallText call t) call_is given.called
 
-  text_from_line : Decided (GivesText others)
-  text_from_line = elim (call_decided call_text) [
-    | inr none ↦ inr (λ (caller, moment, blocks, polls, text). none (caller, same_call caller moment blocks polls text))
-    | inl (caller, call) ↦ elim (gives_decided 0 4294967295 (line_value line (codes "moment"))) [
-      | inr none ↦ inr (λ (caller, moment, blocks, polls, text). none (moment, (session_given text line).moment_given))
-      | inl (moment, moment_given) ↦ elim (number_or_decided default_blocks 1 65536 (line_value line (codes "blocks"))) [
-        | inr none ↦ inr (λ (caller, moment, blocks, polls, text). none (blocks, (session_given text line).blocks_given))
-        | inl (blocks, blocks_given) ↦ elim (number_or_decided default_polls 1 18446744073709551615 (line_value line (codes "polls"))) [
-          | inr none ↦ inr (λ (caller, moment, blocks, polls, text). none (polls, (session_given text line).polls_given))
-          | inl (polls, polls_given) ↦ inl (
-            caller,
-            moment,
-            blocks,
-            polls,
-            record {
-              line = line;
-              given = record { call_text = call_text; place = place; call = call; moment_given = moment_given; blocks_given = blocks_given; polls_given = polls_given };
-            },
-          )
-        ]
+  given_decided : Decided (GivesCall places value)
+  given_decided = elim (call_decided call_text) [
+    | inr none ↦ inr (λ (call, blocks, polls, given). none (call, same_call call blocks polls given))
+    | inl (call, called) ↦ elim (number_or_decided default_blocks 1 65536 (value (codes "blocks"))) [
+      | inr none ↦ inr (λ (other, blocks, polls, given). none (blocks, given.blocks_given))
+      | inl (blocks, blocks_given) ↦ elim (number_or_decided default_polls 1 18446744073709551615 (value (codes "polls"))) [
+        | inr none ↦ inr (λ (other, many, polls, given). none (polls, given.polls_given))
+        | inl (polls, polls_given) ↦ inl (call, blocks, polls, record { call_text = call_text; place = place; called = called; blocks_given = blocks_given; polls_given = polls_given })
       ]
     ]
   ]
 
-pub text_decided : (others : List Text) → Decided (GivesText others)
-text_decided others = elim (line_decided session_options (codes "caller" ∷ []) refl refl others) [
-  | inl line ↦ let (call_text, place) = one_text (line_places line) line.counted in text_from_line others line call_text place
+-- the words after `session` give a call and numbers
+abbrev pub GivesSession : List Text → Type 0
+GivesSession others = (caller : CallSign) × (moment : Option ℕ) × (blocks : ℕ) × (polls : ℕ) × SessionText others caller moment blocks polls
+
+session_from_line : (others : List Text) (line : Line session_options others 1) (call_text : Text) → line_places line ≡ call_text ∷ [] → Decided (GivesSession others)
+session_from_line others line call_text place = elim (given_decided (line_places line) (line_value line) call_text place) [
+  | inr none ↦ inr (λ (caller, moment, blocks, polls, text). none (caller, blocks, polls, (session_given text line).0))
+  | inl (caller, blocks, polls, given) ↦ elim (gives_decided 0 4294967295 (line_value line (codes "moment"))) [
+    | inr none ↦ inr (λ (other, moment, many, more, text). none (moment, (session_given text line).1))
+    | inl (moment, moment_given) ↦ inl (caller, moment, blocks, polls, record { line = line; given = given; moment_given = moment_given })
+  ]
+]
+
+pub session_decided : (others : List Text) → Decided (GivesSession others)
+session_decided others = elim (line_decided session_options (codes "caller" ∷ []) refl refl others) [
+  | inl line ↦ let (call_text, place) = one_text (line_places line) line.counted in session_from_line others line call_text place
   | inr none ↦ inr (λ (caller, moment, blocks, polls, text). none text.line)
+]
+
+-- the words after `serve` give a call and numbers
+abbrev pub GivesServe : List Text → Type 0
+GivesServe others = (me : CallSign) × (k : ℕ) × (blocks : ℕ) × (polls : ℕ) × ServeText others me k blocks polls
+
+serve_from_line : (others : List Text) (line : Line serve_options others 1) (call_text : Text) → line_places line ≡ call_text ∷ [] → Decided (GivesServe others)
+serve_from_line others line call_text place = elim (given_decided (line_places line) (line_value line) call_text place) [
+  | inr none ↦ inr (λ (me, k, blocks, polls, text). none (me, blocks, polls, (serve_given text line).0))
+  | inl (me, blocks, polls, given) ↦ elim (number_or_decided default_k 1 7 (line_value line (codes "k"))) [
+    | inr none ↦ inr (λ (other, k, many, more, text). none (k, (serve_given text line).1))
+    | inl (k, k_given) ↦ inl (me, k, blocks, polls, record { line = line; given = given; k_given = k_given; ranges = are_served (line_value line (codes "k")) k blocks polls given k_given })
+  ]
+]
+
+pub serve_decided : (others : List Text) → Decided (GivesServe others)
+serve_decided others = elim (line_decided serve_options (codes "me" ∷ []) refl refl others) [
+  | inl line ↦ let (call_text, place) = one_text (line_places line) line.counted in serve_from_line others line call_text place
+  | inr none ↦ inr (λ (me, k, blocks, polls, text). none text.line)
 ]
 
 -- a NAME is there, or not

@@ -12,9 +12,9 @@ use Rattle.clap.specs.declared.parser.matches.ArgMatches.{ArgMatches}
 use Rattle.clap.proofs.WalkLemmas.{first_value-rows}
 use Rattle.command_words.specs.declared.request.Refusal.{Refusal}
 use Rattle.command_words.specs.Grammar.{Line}
-use Rattle.command_words.specs.Lines.{IsFound, IsLine, command_of, make_app, session_app}
+use Rattle.command_words.specs.Lines.{IsFound, IsLine, command_of, make_app, serve_app, session_app}
 use Rattle.command_words.specs.Making.{make_options}
-use Rattle.command_words.specs.Words.{session_options}
+use Rattle.command_words.specs.Words.{serve_options, session_options}
 use Rattle.command_words.proofs.Uses.{Text, Uses, values}
 use Rattle.command_words.proofs.Machine.{is_name-from}
 use Rattle.command_words.proofs.Rules.{AreApart, rows}
@@ -73,6 +73,9 @@ name_line command app e = record { command = command; written = e; placed = refl
 
 pub session_line : (app : App) → app ≡ session_app → IsLine app (codes "caller" ∷ []) session_options
 session_line app e = record { command = codes "session"; written = e; placed = refl; apart = refl }
+
+pub serve_line : (app : App) → app ≡ serve_app → IsLine app (codes "me" ∷ []) serve_options
+serve_line app e = record { command = codes "serve"; written = e; placed = refl; apart = refl }
 
 pub make_line : (app : App) → app ≡ make_app → IsLine app (codes "body" ∷ codes "kept" ∷ []) make_options
 make_line app e = record { command = codes "pfh-make"; written = e; placed = refl; apart = refl }

@@ -1,14 +1,15 @@
 -- What the words of the built commands mean, and that they mean only that.
-use Rattle.std.proofs.Common.{◌≡◌, ◌≤◌, ◌⊎◌, ℕ, true, List, [], ◌∷◌, ◌++◌, append_assoc, length, map, drop, Option, None, Some, refl, sym, ap, ap₂, ◌∙◌, subst, arith, cond, inl, inr, codes, true≢false, get_or, string_bytes, take, take_all, ◌-◌}
+use Rattle.std.proofs.Common.{◌≡◌, ◌≤◌, ◌⊎◌, ℕ, true, List, [], ◌∷◌, ◌++◌, append_assoc, length, map, drop, Option, None, Some, refl, sym, ap, ap₂, ◌∙◌, subst, arith, cond, inl, inr, codes, false, true≢false, get_or, string_bytes, take, take_all, ◌-◌}
 use Rattle.std.specs.declared.string.String.{String}
-use Rattle.std.specs.Prelude.{IfSome, is_some, slice_get}
+use Rattle.std.specs.Prelude.{IfNone, IfSome, is_some, slice_get}
 use Rattle.std.specs.List.{list_all}
 use Rattle.std.specs.Str.{bytes_eq}
 use Rattle.std.proofs.lemmas.Bool.{cases_Bool}
 use Rattle.px_base.specs.CallSign.{CallSign, CallText}
 use Rattle.clap.specs.Lexer.{has_byte}
 use Rattle.command_words.specs.Grammar.{Line, line_places, line_value}
-use Rattle.command_words.specs.Lines.{MakeLine, SessionLine, are_places, is_option_name, options_read}
+use Rattle.command_words.specs.Laws.{AsksServe, AsksSession}
+use Rattle.command_words.specs.Lines.{MakeLine, ServeLine, SessionLine, are_places, is_option_name, options_read}
 use Rattle.header_tool.specs.Made.{MakeValue, spec_refusal}
 use Rattle.command_words.specs.Making.{MakeOptions, MakeSays, MakeText, make_options, options_given}
 use Rattle.command_words.specs.Numbers.{GivesNumber, IsNumberOr}
@@ -24,7 +25,7 @@ use Rattle.command_words.specs.declared.air.AirWord.TheVariants.{HostPort, Nothi
 use Rattle.command_words.specs.Disks.{IsDiskOf}
 use Rattle.command_words.specs.declared.disk.DiskWord.{DiskWord}
 use Rattle.command_words.specs.declared.disk.DiskWord.TheVariants.{Fresh, Named}
-use Rattle.command_words.specs.Words.{BeyondSession, InSet, IsAir, IsHostPort, IsMake, IsNamed, IsOther, IsSomeSession, IsUsage, NeedsNeither, SessionGiven, SessionText, default_blocks, default_polls, session_options, unbuilt_commands}
+use Rattle.command_words.specs.Words.{AreInRange, CallGiven, InSet, IsAir, IsHostPort, IsMake, IsNamed, IsUnbuilt, IsUsage, NeedsAir, NeedsNeither, ServeText, SessionText, default_blocks, default_k, default_polls, serve_options, session_options, unbuilt_commands}
 use Rattle.command_words.proofs.Bytes.{has_byte-append}
 use Rattle.command_words.proofs.Uses.{Text, Uses, text_eq, text_same, values}
 use Rattle.command_words.proofs.Machine.{is_name, is_name-from}
@@ -83,48 +84,105 @@ one_text [] e = absurd (omega arith)
 one_text (text ∷ []) e = (text, refl)
 one_text (text ∷ other ∷ texts) e = absurd (omega arith)
 
+-- ---- a call, blocks and polls
+
+-- a number of the words is in its range
+pub in_range : (otherwise low high : ℕ) (value : Option Text) (number : ℕ) → low ≤ otherwise → otherwise ≤ high → IsNumberOr otherwise low high value number
+    → (low ≤ number) × (number ≤ high)
+in_range otherwise low high None number least most h = omega (arith, least, most, h)
+in_range otherwise low high (Some text) number least most h = (h.least, h.most)
+
+-- what a line gives of a call, blocks and polls is what its words mean
+pub record Agreed (call_text : Text) (blocks polls : Option Text) (call : CallSign) (blocks_no polls_no : ℕ) : Type 0 where
+  pub called : CallText call call_text
+  pub blocks_given : IsNumberOr default_blocks 1 65536 blocks blocks_no
+  pub polls_given : IsNumberOr default_polls 1 18446744073709551615 polls polls_no
+
+module _ {places : List Text} {value : Text → Option Text} {call_text : Text} {blocks polls : Option Text} {call : CallSign} {blocks_no polls_no : ℕ} (place : places ≡ call_text ∷ []) (blocks_is : value (codes "blocks") ≡ blocks) (polls_is : value (codes "polls") ≡ polls) where
+  pub given_agrees : CallGiven places value call blocks_no polls_no → Agreed call_text blocks polls call blocks_no polls_no
+  given_agrees given =
+      let same : given.call_text ∷ [] ≡ call_text ∷ [] = sym given.place ∙ place in
+      let call_is : given.call_text ≡ call_text = cc in
+      record {
+        called = subst (λ (t : Text). CallText call t) call_is given.called;
+        blocks_given = subst (λ (o : Option Text). IsNumberOr default_blocks 1 65536 o blocks_no) blocks_is given.blocks_given;
+        polls_given = subst (λ (o : Option Text). IsNumberOr default_polls 1 18446744073709551615 o polls_no) polls_is given.polls_given;
+      }
+
+  pub given_from : Agreed call_text blocks polls call blocks_no polls_no → CallGiven places value call blocks_no polls_no
+  given_from agreed = record {
+    call_text = call_text;
+    place = place;
+    called = agreed.called;
+    blocks_given = subst (λ (o : Option Text). IsNumberOr default_blocks 1 65536 o blocks_no) (sym blocks_is) agreed.blocks_given;
+    polls_given = subst (λ (o : Option Text). IsNumberOr default_polls 1 18446744073709551615 o polls_no) (sym polls_is) agreed.polls_given;
+  }
+
 -- ---- sessions' texts
 
 -- the texts of a session's words, seen from any line of them
 pub session_given : {others : List Text} {caller : CallSign} {moment : Option ℕ} {blocks polls : ℕ} → SessionText others caller moment blocks polls
-    → (line : Line session_options others 1) → SessionGiven (line_places line) (line_value line) caller moment blocks polls
+    → (line : Line session_options others 1)
+    → CallGiven (line_places line) (line_value line) caller blocks polls × GivesNumber 0 4294967295 (line_value line (codes "moment")) moment
 session_given {caller = caller} {moment = moment} {blocks = blocks} {polls = polls} text line =
-    of_line session_options (codes "caller" ∷ []) refl refl (λ places value. SessionGiven places value caller moment blocks polls) text.line line text.given
+    of_line session_options (codes "caller" ∷ []) refl refl
+    (λ places value. CallGiven places value caller blocks polls × GivesNumber 0 4294967295 (value (codes "moment")) moment) text.line line (text.given, text.moment_given)
 
 -- what a line gives is what its words mean
-pub record Agreed (caller : Text) (moment blocks polls : Option Text) (call : CallSign) (seconds : Option ℕ) (blocks_no polls_no : ℕ) : Type 0 where
-  pub called : CallText call caller
-  pub moments : GivesNumber 0 4294967295 moment seconds
-  pub blocks_given : IsNumberOr default_blocks 1 65536 blocks blocks_no
-  pub polls_given : IsNumberOr default_polls 1 18446744073709551615 polls polls_no
-
-pub text_agrees : {others : List Text} {caller : Text} {moment blocks polls : Option Text} {call : CallSign} {seconds : Option ℕ} {blocks_no polls_no : ℕ}
-    → SessionLine others caller moment blocks polls → SessionText others call seconds blocks_no polls_no → Agreed caller moment blocks polls call seconds blocks_no polls_no
-text_agrees {caller = caller} {call = call} {seconds = seconds} {blocks_no = blocks_no} {polls_no = polls_no} line text =
-    let given = session_given text line.line in
-    let same : given.call_text ∷ [] ≡ caller ∷ [] = sym given.place ∙ line.place in
-    let call_is : given.call_text ≡ caller = cc in
-    record {
-      called = subst (λ (t : Text). CallText call t) call_is given.call;
-      moments = subst (λ (o : Option Text). GivesNumber 0 4294967295 o seconds) line.moment_given given.moment_given;
-      blocks_given = subst (λ (o : Option Text). IsNumberOr default_blocks 1 65536 o blocks_no) line.blocks_given given.blocks_given;
-      polls_given = subst (λ (o : Option Text). IsNumberOr default_polls 1 18446744073709551615 o polls_no) line.polls_given given.polls_given;
-    }
+pub session_agrees : {others : List Text} {caller : Text} {moment blocks polls : Option Text} {call : CallSign} {seconds : Option ℕ} {blocks_no polls_no : ℕ}
+    → SessionLine others caller moment blocks polls → SessionText others call seconds blocks_no polls_no
+    → Agreed caller blocks polls call blocks_no polls_no × GivesNumber 0 4294967295 moment seconds
+session_agrees {seconds = seconds} line text =
+    let (given, moment) = session_given text line.line in
+    (given_agrees line.place line.blocks_given line.polls_given given, subst (λ (o : Option Text). GivesNumber 0 4294967295 o seconds) line.moment_given moment)
 
 -- and what they mean is what a line gives
-pub text_from : {others : List Text} {caller : Text} {moment blocks polls : Option Text} (call : CallSign) (seconds : Option ℕ) (blocks_no polls_no : ℕ)
-    → SessionLine others caller moment blocks polls → Agreed caller moment blocks polls call seconds blocks_no polls_no → SessionText others call seconds blocks_no polls_no
-text_from {caller = caller} call seconds blocks_no polls_no line agreed = record {
+pub session_from : {others : List Text} {caller : Text} {moment blocks polls : Option Text} (call : CallSign) (seconds : Option ℕ) (blocks_no polls_no : ℕ)
+    → SessionLine others caller moment blocks polls → Agreed caller blocks polls call blocks_no polls_no → GivesNumber 0 4294967295 moment seconds
+    → SessionText others call seconds blocks_no polls_no
+session_from call seconds blocks_no polls_no line agreed moment = record {
   line = line.line;
-  given = record {
-    call_text = caller;
-    place = line.place;
-    call = agreed.called;
-    moment_given = subst (λ (o : Option Text). GivesNumber 0 4294967295 o seconds) (sym line.moment_given) agreed.moments;
-    blocks_given = subst (λ (o : Option Text). IsNumberOr default_blocks 1 65536 o blocks_no) (sym line.blocks_given) agreed.blocks_given;
-    polls_given = subst (λ (o : Option Text). IsNumberOr default_polls 1 18446744073709551615 o polls_no) (sym line.polls_given) agreed.polls_given;
-  };
+  given = given_from line.place line.blocks_given line.polls_given agreed;
+  moment_given = subst (λ (o : Option Text). GivesNumber 0 4294967295 o seconds) (sym line.moment_given) moment;
 }
+
+-- ---- services' texts
+
+-- the numbers that a service's words give are in their ranges
+pub are_served : {places : List Text} {value : Text → Option Text} {me : CallSign} (k_value : Option Text) (k blocks polls : ℕ)
+    → CallGiven places value me blocks polls → IsNumberOr default_k 1 7 k_value k → AreInRange k blocks polls
+are_served {value = value} k_value k blocks polls given k_given =
+    let (some_k, most_k) = in_range default_k 1 7 k_value k (omega arith) (omega arith) k_given in
+    let (some_blocks, most_blocks) = in_range default_blocks 1 65536 (value (codes "blocks")) blocks (omega arith) (omega arith) given.blocks_given in
+    let (some_polls, most_polls) = in_range default_polls 1 18446744073709551615 (value (codes "polls")) polls (omega arith) (omega arith) given.polls_given in
+    record { some_k = some_k; most_k = most_k; some_blocks = some_blocks; most_blocks = most_blocks; some_polls = some_polls }
+
+-- the texts of a service's words, seen from any line of them
+pub serve_given : {others : List Text} {me : CallSign} {k blocks polls : ℕ} → ServeText others me k blocks polls → (line : Line serve_options others 1)
+    → CallGiven (line_places line) (line_value line) me blocks polls × IsNumberOr default_k 1 7 (line_value line (codes "k")) k
+serve_given {me = me} {k = k} {blocks = blocks} {polls = polls} text line =
+    of_line serve_options (codes "me" ∷ []) refl refl
+    (λ places value. CallGiven places value me blocks polls × IsNumberOr default_k 1 7 (value (codes "k")) k) text.line line (text.given, text.k_given)
+
+-- what a line gives is what its words mean
+pub serve_agrees : {others : List Text} {me : Text} {k blocks polls : Option Text} {call : CallSign} {k_no blocks_no polls_no : ℕ}
+    → ServeLine others me k blocks polls → ServeText others call k_no blocks_no polls_no
+    → Agreed me blocks polls call blocks_no polls_no × IsNumberOr default_k 1 7 k k_no
+serve_agrees {k_no = k_no} line text =
+    let (given, k_is) = serve_given text line.line in
+    (given_agrees line.place line.blocks_given line.polls_given given, subst (λ (o : Option Text). IsNumberOr default_k 1 7 o k_no) line.k_given k_is)
+
+-- and what they mean is what a line gives
+pub serve_from : {others : List Text} {me : Text} {k blocks polls : Option Text} (call : CallSign) (k_no blocks_no polls_no : ℕ) → ServeLine others me k blocks polls
+    → Agreed me blocks polls call blocks_no polls_no → IsNumberOr default_k 1 7 k k_no → ServeText others call k_no blocks_no polls_no
+serve_from {k = k} call k_no blocks_no polls_no line agreed k_is =
+    let given = given_from line.place line.blocks_given line.polls_given agreed in
+    record {
+      line = line.line;
+      given = given;
+      k_given = subst (λ (o : Option Text). IsNumberOr default_k 1 7 o k_no) (sym line.k_given) k_is;
+      ranges = are_served k k_no blocks_no polls_no given k_is;
+    }
 
 -- ---- commands that need neither disk nor air
 
@@ -139,6 +197,22 @@ module _ {command : Text} {P : List Text → Type 0} where
   pub neither_from : (d a : Text) (others : List Text) → (a ≡ codes "none") ⊎ IsAir a → P others → NeedsNeither command P (d ∷ a ∷ command ∷ others)
   neither_from d a others form text = record { disk = d; air = a; others = others; written = refl; air_form = form; text = text }
 
+-- ---- commands that need an air
+
+module _ {command : Text} {which : DiskWord} {P : List Text → Type 0} where
+  -- the words after the command, AIR and DISK, of such words
+  pub air_text : {d a : Text} {others : List Text} → NeedsAir command which P (d ∷ a ∷ command ∷ others) → P others
+  air_text {others = others} asks = let same : asks.others ≡ others = let whole = asks.written in cc in subst P same asks.text
+
+  pub air_in : {d a : Text} {others : List Text} → NeedsAir command which P (d ∷ a ∷ command ∷ others) → IsAir a
+  air_in {a = a} asks = let same : asks.air ≡ a = let whole = asks.written in cc in subst IsAir same asks.air_form
+
+  pub disk_in : {d a : Text} {others : List Text} → NeedsAir command which P (d ∷ a ∷ command ∷ others) → IsDiskOf d which
+  disk_in {d = d} asks = let same : asks.disk ≡ d = let whole = asks.written in cc in subst (λ (t : Text). IsDiskOf t which) same asks.disk_named
+
+  pub air_from : (d a : Text) (others : List Text) → IsDiskOf d which → IsAir a → P others → NeedsAir command which P (d ∷ a ∷ command ∷ others)
+  air_from d a others named form text = record { disk = d; air = a; others = others; written = refl; disk_named = named; air_form = form; text = text }
+
 -- ---- the word AIR
 
 air_of : (word : Text) (air : AirWord) → IsAirOf word air → (word ≡ codes "none") ⊎ IsAir word
@@ -150,29 +224,48 @@ pub air_read : (word : Text) (read : Option AirWord) → IfSome read (λ air. Is
 air_read word None is e = absurd (true≢false (sym e))
 air_read word (Some air) is e = air_of word air is
 
--- ---- sessions
+-- a text without a colon is no host and port,
+no_colon : (air text : Text) → has_byte 58 text ≡ false → air ≡ text → IsHostPort air → ⊥
+no_colon air text none same is =
+    let written : text ≡ is.host ++ 58 ∷ is.port = sym same ∙ is.written ∙ append_assoc is.host (58 ∷ []) is.port in
+    true≢false (sym (has_byte-append 58 is.host is.port) ∙ sym (ap (has_byte 58) written) ∙ none)
 
--- the words after `session` in a session's words
-pub text_of : {disk air : Text} {others : List Text} → IsSomeSession (disk ∷ air ∷ codes "session" ∷ others)
-    → (caller : CallSign) × (moment : Option ℕ) × (blocks : ℕ) × (polls : ℕ) × SessionText others caller moment blocks polls
-text_of {others = others} some =
-    let session = some.session in
-    let asked = some.asked in
-    let same : session.others ≡ others = let whole = session.written in cc in
-    (asked.caller, asked.moment, asked.blocks, asked.polls, subst (λ (ws : List Text). SessionText ws asked.caller asked.moment asked.blocks asked.polls) same session.text)
-
--- the word AIR in a session's words
-pub air_in : {disk air : Text} {others : List Text} → IsSomeSession (disk ∷ air ∷ codes "session" ∷ others) → IsAir air
-air_in {air = air} some =
-    let same : some.air ≡ air = let whole = some.session.written in cc in
-    subst IsAir same some.session.air_form
-
--- which isn't `none`
+-- so `none` is no air,
 pub no_air : (air : Text) → air ≡ codes "none" → IsAir air → ⊥
 no_air air nothing (inl standard) = let same : codes "none" ≡ codes "-" = sym nothing ∙ standard in absurd cc
-no_air air nothing (inr is) =
-    let written : codes "none" ≡ is.host ++ 58 ∷ is.port = sym nothing ∙ is.written ∙ append_assoc is.host (58 ∷ []) is.port in
-    true≢false (sym (has_byte-append 58 is.host is.port) ∙ sym (ap (has_byte 58) written))
+no_air air nothing (inr is) = no_colon air (codes "none") refl nothing is
+
+-- and a word names one thing
+pub one_air : (word : Text) (one other : AirWord) → IsAirOf word one → IsAirOf word other → other ≡ one
+one_air word Nothing Nothing is also = refl
+one_air word Nothing Standard is also = absurd (no_air word is (inl also))
+one_air word Nothing HostPort is also = absurd (no_air word is (inr also))
+one_air word Standard Nothing is also = absurd (no_air word also (inl is))
+one_air word Standard Standard is also = refl
+one_air word Standard HostPort is also = absurd (no_colon word (codes "-") refl is also)
+one_air word HostPort Nothing is also = absurd (no_air word also (inr is))
+one_air word HostPort Standard is also = absurd (no_colon word (codes "-") refl also is)
+one_air word HostPort HostPort is also = refl
+
+-- a word that names none of them
+pub names_none : (word : Text) → (word ≡ codes "none" → ⊥) → (word ≡ codes "-" → ⊥) → (IsHostPort word → ⊥) → (air : AirWord) → IsAirOf word air → ⊥
+names_none word no_nothing no_standard no_host_port Nothing is = no_nothing is
+names_none word no_nothing no_standard no_host_port Standard is = no_standard is
+names_none word no_nothing no_standard no_host_port HostPort is = no_host_port is
+
+-- AIR has none of its forms where nothing was read,
+pub unnamed : (word : Text) → ((air : AirWord) → IsAirOf word air → ⊥) → IsAir word → ⊥
+unnamed word none (inl standard) = none Standard standard
+unnamed word none (inr host_port) = none HostPort host_port
+
+-- and a command that needs neither disk nor air has one of them
+pub air_unread : (word : Text) (read : Option AirWord) → IfNone read ((air : AirWord) → IsAirOf word air → ⊥) → is_some read ≡ false
+    → (word ≡ codes "none") ⊎ IsAir word → ⊥
+air_unread word None none e (inl nothing) = none Nothing nothing
+air_unread word None none e (inr form) = unnamed word none form
+air_unread word (Some air) none e form = true≢false e
+
+-- ---- the word DISK
 
 -- the disk that a word names,
 pub disk_of : (disk : Text) → (which : DiskWord) × IsDiskOf disk which
@@ -187,19 +280,6 @@ one_disk disk Fresh Fresh is also = refl
 one_disk disk Fresh Named is also = absurd (also is)
 one_disk disk Named Fresh is also = absurd (is also)
 one_disk disk Named Named is also = refl
-
--- the words of a session over a host and port
-pub beyond : (disk air : Text) (others : List Text) → IsHostPort air → (caller : CallSign) (moment : Option ℕ) (blocks polls : ℕ)
-    → SessionText others caller moment blocks polls → BeyondSession (disk ∷ air ∷ codes "session" ∷ others)
-beyond disk air others host_port caller moment blocks polls text =
-    let (which, named) = disk_of disk in (
-      record {
-        air = air;
-        asked = record { disk = which; caller = caller; moment = moment; blocks = blocks; polls = polls };
-        session = record { disk = disk; others = others; written = refl; disk_named = named; air_form = inr host_port; text = text };
-      },
-      host_port,
-    )
 
 -- ---- the three words by place
 
@@ -223,24 +303,27 @@ three_words (x ∷ y ∷ z ∷ words) disk air command d a c some d_at a_at c_at
 
 -- the words of each command
 abbrev pub AreOf : CommandWord → List Text → Type 0
-AreOf word.Session words = IsSomeSession words
+AreOf word.Session words = AsksSession words
+AreOf word.Serve words = AsksServe words
 AreOf (word.Named command) words = (name : Text) × IsNamed (word_of command) words name
 AreOf word.PfhMake words = (body kept : Text) × (spec : MakeValue) × IsMake words body kept spec
-AreOf word.Unbuilt words = IsOther words
+AreOf word.Unbuilt words = IsUnbuilt words
 
 -- words in the command set are those of some command,
 pub of_set : {words : List Text} → InSet words → (command : CommandWord) × AreOf command words
-of_set (inl other) = (word.Unbuilt, other)
-of_set (inr (inl some)) = (word.Session, some)
-of_set (inr (inr (inl frames))) = (word.Named Frames, frames)
-of_set (inr (inr (inr (inl check)))) = (word.Named PfhCheck, check)
-of_set (inr (inr (inr (inr (inl show))))) = (word.Named PfhShow, show)
-of_set (inr (inr (inr (inr (inr make))))) = (word.PfhMake, make)
+of_set (inl unbuilt) = (word.Unbuilt, unbuilt)
+of_set (inr (inl session)) = (word.Session, session)
+of_set (inr (inr (inl serve))) = (word.Serve, serve)
+of_set (inr (inr (inr (inl frames)))) = (word.Named Frames, frames)
+of_set (inr (inr (inr (inr (inl check))))) = (word.Named PfhCheck, check)
+of_set (inr (inr (inr (inr (inr (inl show)))))) = (word.Named PfhShow, show)
+of_set (inr (inr (inr (inr (inr (inr make)))))) = (word.PfhMake, make)
 
 -- which their third word names
 pub third_word : {words : List Text} (command : CommandWord) → AreOf command words
     → (d a c : Text) × (others : List Text) × (words ≡ d ∷ a ∷ c ∷ others) × IsCommandOf c command
-third_word word.Session some = (some.session.disk, some.air, codes "session", some.session.others, some.session.written, refl)
+third_word word.Session (asked, asks) = (asks.disk, asks.air, codes "session", asks.others, asks.written, refl)
+third_word word.Serve (asked, asks) = (asks.disk, asks.air, codes "serve", asks.others, asks.written, refl)
 third_word (word.Named command) (name, asks) = (asks.disk, asks.air, word_of command, asks.others, asks.written, refl)
 third_word word.PfhMake (body, kept, spec, asks) = (asks.disk, asks.air, codes "pfh-make", asks.others, asks.written, refl)
 third_word word.Unbuilt other = (other.disk, other.air, other.command, other.others, other.written, other.unbuilt)
@@ -257,13 +340,15 @@ abbrev pub named_by : Text → Option CommandWord
 named_by c =
     cond (is_name unbuilt_commands c) (Some word.Unbuilt)
     (cond (bytes_eq c (codes "session")) (Some word.Session)
+    (cond (bytes_eq c (codes "serve")) (Some word.Serve)
     (cond (bytes_eq c (codes "frames")) (Some (word.Named Frames))
     (cond (bytes_eq c (codes "pfh-check")) (Some (word.Named PfhCheck))
     (cond (bytes_eq c (codes "pfh-show")) (Some (word.Named PfhShow))
-    (cond (bytes_eq c (codes "pfh-make")) (Some word.PfhMake) None)))))
+    (cond (bytes_eq c (codes "pfh-make")) (Some word.PfhMake) None))))))
 
 pub names : (c : Text) (command : CommandWord) → IsCommandOf c command → named_by c ≡ Some command
 names c word.Session is = ap named_by is
+names c word.Serve is = ap named_by is
 names c (word.Named Frames) is = ap named_by is
 names c (word.Named PfhCheck) is = ap named_by is
 names c (word.Named PfhShow) is = ap named_by is
@@ -288,8 +373,12 @@ usage_of {words = words} {c = c} command is whole none set =
     none (subst (AreOf command) whole (subst (λ (k : CommandWord). AreOf k words) same asks))
 
 pub session_usage : {words : List Text} {d a : Text} {others : List Text} → words ≡ d ∷ a ∷ codes "session" ∷ others
-    → (IsSomeSession (d ∷ a ∷ codes "session" ∷ others) → ⊥) → IsUsage words
+    → (AsksSession (d ∷ a ∷ codes "session" ∷ others) → ⊥) → IsUsage words
 session_usage whole none = usage_of word.Session refl whole none
+
+pub serve_usage : {words : List Text} {d a : Text} {others : List Text} → words ≡ d ∷ a ∷ codes "serve" ∷ others
+    → (AsksServe (d ∷ a ∷ codes "serve" ∷ others) → ⊥) → IsUsage words
+serve_usage whole none = usage_of word.Serve refl whole none
 
 pub name_usage : (command : NameCommand) {words : List Text} {d a : Text} {others : List Text} → words ≡ d ∷ a ∷ word_of command ∷ others
     → ((name : Text) → IsNamed (word_of command) (d ∷ a ∷ word_of command ∷ others) name → ⊥) → IsUsage words

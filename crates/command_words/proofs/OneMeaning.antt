@@ -1,5 +1,5 @@
 -- Each list of words has one meaning.
-use Rattle.std.proofs.Common.{◌≡◌, ◌≤◌, ◌⊎◌, ℕ, List, [], ◌∷◌, ◌++◌, length, Option, None, Some, refl, sym, ap, ◌∙◌, subst, arith, inl, inr, codes, true≢false, append_assoc, length-append}
+use Rattle.std.proofs.Common.{◌≡◌, ◌≤◌, ◌⊎◌, ℕ, List, [], ◌∷◌, length, Option, None, Some, refl, sym, ap, ◌∙◌, subst, arith, inl, inr, codes, true≢false}
 use Rattle.std.specs.Str.{bytes_eq}
 use Rattle.std.proofs.lemmas.Bool.{cases_Bool}
 use Rattle.px_base.specs.CallSign.{CallSign, CallText}
@@ -10,16 +10,19 @@ use Rattle.command_words.specs.declared.command.CommandWord.TheVariants as word
 use Rattle.command_words.specs.declared.command.NameCommand.{NameCommand}
 use Rattle.command_words.specs.declared.command.NameCommand.TheVariants.{Frames, PfhCheck, PfhShow}
 use Rattle.command_words.specs.Disks.{IsDiskOf}
+use Rattle.command_words.specs.declared.disk.DiskWord.{DiskWord}
+use Rattle.command_words.specs.declared.disk.DiskWord.TheVariants.{Fresh, Named}
 use Rattle.command_words.specs.Grammar.{line_value}
-use Rattle.command_words.specs.Laws.{AsksFrames, AsksSession, Determined, OnlyMake, OnlyOne}
+use Rattle.command_words.specs.Laws.{AsksFrames, AsksServe, AsksSession, Determined, OnlyMake, OnlyOne}
 use Rattle.command_words.specs.Making.{options_given}
 use Rattle.command_words.specs.Numbers.{GivesNumber}
 use Rattle.command_words.specs.declared.request.SessionRequest.{SessionRequest}
-use Rattle.command_words.specs.Words.{AsksHeader, BeyondSession, IsAir, IsHostPort, IsNamed, IsSomeSession, IsUnbuilt, IsUsage, NameText, NeedsNeither, SessionText, SessionWords, default_blocks, default_polls, unbuilt_commands}
+use Rattle.command_words.specs.declared.serve.ServeRequest.{ServeRequest}
+use Rattle.command_words.specs.Words.{AsksHeader, CallGiven, IsAir, IsNamed, IsServe, IsSession, IsUnbuilt, IsUsage, NameText, NeedsAir, NeedsNeither, default_blocks, default_k, default_polls, unbuilt_commands}
 use Rattle.command_words.proofs.Uses.{Text, text_eq, text_same}
 use Rattle.command_words.proofs.Machine.{is_name, is_name-to}
-use Rattle.command_words.proofs.Meanings.{AreOf, air_in, beyond, disk_of, make_says, make_usage, name_usage, named_by, names, neither_from, neither_text, no_command_usage, not_both, number_one, of_set, one_disk, same_places, says_one, session_given, session_usage, third_word}
-use Rattle.command_words.proofs.Decided.{Decided, GivesText, air_decided, make_decided, name_decided, text_decided}
+use Rattle.command_words.proofs.Meanings.{AreOf, air_from, air_in, air_text, disk_in, disk_of, make_says, make_usage, name_usage, named_by, names, neither_from, neither_text, no_command_usage, not_both, number_one, of_set, one_disk, same_places, says_one, serve_given, serve_usage, session_given, session_usage, third_word}
+use Rattle.command_words.proofs.Decided.{Decided, air_decided, make_decided, name_decided, serve_decided, session_decided}
 
 -- ---- two lines
 
@@ -38,62 +41,47 @@ same_caller one other text s t =
     let (chars, ssid) = one_call text one other s t in
     λ i. record { chars = chars i; ssid = ssid i }
 
--- the texts of two sessions of the same words give the same call and numbers
-pub record Same (caller other : CallSign) (moment moment2 : Option ℕ) (blocks blocks2 polls polls2 : ℕ) : Type 0 where
-  pub callers : caller ≡ other
-  pub moments : moment ≡ moment2
-  pub blocks_nos : blocks ≡ blocks2
-  pub polls_nos : polls ≡ polls2
-
-same_texts : {others : List Text} {caller other : CallSign} {moment moment2 : Option ℕ} {blocks polls blocks2 polls2 : ℕ}
-    → SessionText others caller moment blocks polls → SessionText others other moment2 blocks2 polls2 → Same caller other moment moment2 blocks blocks2 polls polls2
-same_texts {caller = caller} {other = other} {moment = moment} {moment2 = moment2} {blocks = blocks} {polls = polls} {blocks2 = blocks2} {polls2 = polls2} one two =
-    let first = one.given in
-    let second = session_given two one.line in
+-- what a place and options give is one call, one number of blocks and one of polls
+given_same : {places : List Text} {value : Text → Option Text} {one other : CallSign} {blocks blocks2 polls polls2 : ℕ}
+    → CallGiven places value one blocks polls → CallGiven places value other blocks2 polls2 → (one ≡ other) × (blocks ≡ blocks2) × (polls ≡ polls2)
+given_same {one = one} {other = other} {blocks = blocks} {blocks2 = blocks2} {polls = polls} {polls2 = polls2} first second =
     let both : first.call_text ∷ [] ≡ second.call_text ∷ [] = sym first.place ∙ second.place in
-    let text : first.call_text ≡ second.call_text = cc in
-    record {
-      callers = same_caller caller other second.call_text (subst (λ (t : Text). CallText caller t) text first.call) second.call;
-      moments = gives_same 0 4294967295 _ moment moment2 first.moment_given second.moment_given;
-      blocks_nos = number_one default_blocks 1 65536 _ blocks blocks2 first.blocks_given second.blocks_given;
-      polls_nos = number_one default_polls 1 18446744073709551615 _ polls polls2 first.polls_given second.polls_given;
-    }
-
--- two sessions of the same words are one, over one air
-same_words : {words : List Text} {air air2 : Text} {asked other : SessionRequest} → SessionWords words air asked → SessionWords words air2 other
-    → (air ≡ air2) × (asked ≡ other)
-same_words {air = air} {air2 = air2} {asked = asked} {other = other} one two =
-    let e = one.written in
-    let f = two.written in
-    let others : one.others ≡ two.others = cc in
-    let disks : one.disk ≡ two.disk = cc in
-    let airs : air ≡ air2 = cc in
-    let same = same_texts (subst (λ (ws : List Text). SessionText ws asked.caller asked.moment asked.blocks asked.polls) others one.text) two.text in
-    let disk : asked.disk ≡ other.disk = one_disk two.disk asked.disk other.disk (subst (λ (t : Text). IsDiskOf t asked.disk) disks one.disk_named) two.disk_named in (
-      airs,
-      λ i. record { disk = disk i; caller = same.callers i; moment = same.moments i; blocks = same.blocks_nos i; polls = same.polls_nos i },
+    let text : first.call_text ≡ second.call_text = cc in (
+      same_caller one other second.call_text (subst (λ (t : Text). CallText one t) text first.called) second.called,
+      number_one default_blocks 1 65536 _ blocks blocks2 first.blocks_given second.blocks_given,
+      number_one default_polls 1 18446744073709551615 _ polls polls2 first.polls_given second.polls_given,
     )
 
+-- words of one command that needs an air are its others, whatever is said of them, and DISK names one disk
+air_same : {command : Text} {which which2 : DiskWord} {P Q : List Text → Type 0} {words : List Text} → NeedsAir command which P words → NeedsAir command which2 Q words
+    → (which ≡ which2) × ((others : List Text) × P others × Q others)
+air_same {which = which} {which2 = which2} {Q = Q} one two =
+    let e = one.written in
+    let f = two.written in
+    let same : two.others ≡ one.others = cc in
+    let disks : one.disk ≡ two.disk = cc in
+    let disk = one_disk two.disk which which2 (subst (λ (t : Text). IsDiskOf t which) disks one.disk_named) two.disk_named in
+    (disk, (one.others, one.text, subst Q same two.text))
+
+-- two sessions of the same words are one
+session_same : {words : List Text} (asked other : SessionRequest) → IsSession words asked → IsSession words other → asked ≡ other
+session_same asked other one two =
+    let (disk, (others, first, second)) = air_same one two in
+    let (given, moment_given) = session_given second first.line in
+    let (callers, blocks, polls) = given_same first.given given in
+    let moments = gives_same 0 4294967295 _ asked.moment other.moment first.moment_given moment_given in
+    λ i. record { disk = disk i; caller = callers i; moment = moments i; blocks = blocks i; polls = polls i }
+
+-- and two services
+serve_same : {words : List Text} (asked other : ServeRequest) → IsServe words asked → IsServe words other → asked ≡ other
+serve_same asked other one two =
+    let (disk, (others, first, second)) = air_same one two in
+    let (given, k_given) = serve_given second first.line in
+    let (calls, blocks, polls) = given_same first.given given in
+    let ks = number_one default_k 1 7 _ asked.k other.k first.k_given k_given in
+    λ i. record { me = calls i; k = ks i; blocks = blocks i; polls = polls i }
+
 -- ---- only one meaning
-
--- standard input and output is no host and port
-no_host_port : (air : Text) → air ≡ codes "-" → IsHostPort air → ⊥
-no_host_port air e is =
-    let whole : is.host ++ 58 ∷ is.port ≡ codes "-" = sym (append_assoc is.host (58 ∷ []) is.port) ∙ sym is.written ∙ e in
-    longer is.host is.port is.some (ap length whole)
-  where
-    longer : (host port : Text) → 1 ≤ length host → length (host ++ 58 ∷ port) ≡ 1 → ⊥
-    longer host port some one = omega (arith, length-append host (58 ∷ port))
-
-not_beyond : {words : List Text} → BeyondSession words → AsksSession words → ⊥
-not_beyond (some, host_port) (asked, session) = no_host_port some.air (same_words some.session session).0 host_port
-
-a_session : {words : List Text} → AsksSession words → IsSomeSession words
-a_session (asked, session) = record { air = codes "-"; asked = asked; session = session }
-
-unbuilt_in_set : {words : List Text} → IsUnbuilt words → IsUsage words → ⊥
-unbuilt_in_set (inl other) usage = usage (inl other)
-unbuilt_in_set (inr (some, beyond)) usage = usage (inr (inl some))
 
 -- words that ask for a header are of no other command
 header_apart : (words : List Text) (other : CommandWord) → (other ≡ word.Named PfhCheck → ⊥) → (other ≡ word.Named PfhShow → ⊥) → (other ≡ word.PfhMake → ⊥)
@@ -104,24 +92,20 @@ header_apart words other no_check no_show no_make asks (inr (inr make)) = not_bo
 
 pub only_one : (words : List Text) → OnlyOne words
 only_one words = record {
-  usage_unbuilt = λ usage unbuilt. unbuilt_in_set unbuilt usage;
-  usage_session = λ usage session. usage (inr (inl (a_session session)));
-  usage_frames = λ usage frames. usage (inr (inr (inl frames)));
-  usage_header = λ usage header. usage (inr (inr (inr header)));
-  unbuilt_session = λ unbuilt session. elim unbuilt [
-    | inl other ↦ not_both words word.Unbuilt word.Session (λ same. cc) other (a_session session)
-    | inr beyond ↦ not_beyond beyond session
-  ];
-  unbuilt_frames = λ unbuilt frames. elim unbuilt [
-    | inl other ↦ not_both words word.Unbuilt (word.Named Frames) (λ same. cc) other frames
-    | inr (some, beyond) ↦ not_both words word.Session (word.Named Frames) (λ same. cc) some frames
-  ];
-  unbuilt_header = λ unbuilt header. elim unbuilt [
-    | inl other ↦ header_apart words word.Unbuilt (λ same. cc) (λ same. cc) (λ same. cc) other header
-    | inr (some, beyond) ↦ header_apart words word.Session (λ same. cc) (λ same. cc) (λ same. cc) some header
-  ];
-  session_frames = λ session frames. not_both words word.Session (word.Named Frames) (λ same. cc) (a_session session) frames;
-  session_header = λ session header. header_apart words word.Session (λ same. cc) (λ same. cc) (λ same. cc) (a_session session) header;
+  usage_unbuilt = λ usage unbuilt. usage (inl unbuilt);
+  usage_session = λ usage session. usage (inr (inl session));
+  usage_serve = λ usage serve. usage (inr (inr (inl serve)));
+  usage_frames = λ usage frames. usage (inr (inr (inr (inl frames))));
+  usage_header = λ usage header. usage (inr (inr (inr (inr header))));
+  unbuilt_session = λ unbuilt session. not_both words word.Unbuilt word.Session (λ same. cc) unbuilt session;
+  unbuilt_serve = λ unbuilt serve. not_both words word.Unbuilt word.Serve (λ same. cc) unbuilt serve;
+  unbuilt_frames = λ unbuilt frames. not_both words word.Unbuilt (word.Named Frames) (λ same. cc) unbuilt frames;
+  unbuilt_header = λ unbuilt header. header_apart words word.Unbuilt (λ same. cc) (λ same. cc) (λ same. cc) unbuilt header;
+  session_serve = λ session serve. not_both words word.Session word.Serve (λ same. cc) session serve;
+  session_frames = λ session frames. not_both words word.Session (word.Named Frames) (λ same. cc) session frames;
+  session_header = λ session header. header_apart words word.Session (λ same. cc) (λ same. cc) (λ same. cc) session header;
+  serve_frames = λ serve frames. not_both words word.Serve (word.Named Frames) (λ same. cc) serve frames;
+  serve_header = λ serve header. header_apart words word.Serve (λ same. cc) (λ same. cc) (λ same. cc) serve header;
   frames_header = λ frames header. header_apart words (word.Named Frames) (λ same. cc) (λ same. cc) (λ same. cc) frames header;
   check_show = λ name other check show. not_both words (word.Named PfhCheck) (word.Named PfhShow) (λ same. cc) (name, check) (other, show);
   check_make = λ name body kept spec check make. not_both words (word.Named PfhCheck) word.PfhMake (λ same. cc) (name, check) (body, kept, spec, make);
@@ -162,7 +146,8 @@ make_same words body other kept another spec later one two =
 
 pub determined : (words : List Text) → Determined words
 determined words = record {
-  session = λ asked other one two. (same_words one two).1;
+  session = λ asked other one two. session_same asked other one two;
+  serve = λ asked other one two. serve_same asked other one two;
   frames = λ name other one two. named_same (codes "frames") words name other one two;
   check = λ name other one two. named_same (codes "pfh-check") words name other one two;
   show = λ name other one two. named_same (codes "pfh-show") words name other one two;
@@ -172,7 +157,7 @@ determined words = record {
 -- ---- some meaning
 
 abbrev Meant : List Text → Type 0
-Meant words = IsUsage words ⊎ (IsUnbuilt words ⊎ (AsksSession words ⊎ (AsksFrames words ⊎ AsksHeader words)))
+Meant words = IsUsage words ⊎ (IsUnbuilt words ⊎ (AsksSession words ⊎ (AsksServe words ⊎ (AsksFrames words ⊎ AsksHeader words))))
 
 -- too few words
 few : (words : List Text) → length words ≤ 2 → IsUsage words
@@ -182,29 +167,41 @@ few words short set =
     omega (arith, ap length whole)
 
 session_meant : (disk air : Text) (others : List Text) → Meant (disk ∷ air ∷ codes "session" ∷ others)
-session_meant disk air others = elim (text_decided others) [
-  | inr none ↦ inl (session_usage refl (λ some. none (given some)))
+session_meant disk air others = elim (session_decided others) [
+  | inr none ↦ inl (session_usage refl (λ (asked, asks). none (asked.caller, asked.moment, asked.blocks, asked.polls, air_text asks)))
   | inl (caller, moment, blocks, polls, text) ↦ elim (air_decided air) [
-    | inr (inr none) ↦ inl (session_usage refl (λ some. none (air_in some)))
-    | inr (inl host_port) ↦ inr (inl (inr (beyond disk air others host_port caller moment blocks polls text)))
-    | inl standard ↦
+    | inr none ↦ inl (session_usage refl (λ (asked, asks). none (air_in asks)))
+    | inl form ↦
         let (which, named) = disk_of disk in
-        inr (inr (inl (
-          record { disk = which; caller = caller; moment = moment; blocks = blocks; polls = polls },
-          record { disk = disk; others = others; written = rw standard refl; disk_named = named; air_form = inl refl; text = text },
-        )))
+        inr (inr (inl (record { disk = which; caller = caller; moment = moment; blocks = blocks; polls = polls }, air_from disk air others named form text)))
   ]
 ]
+
+-- DISK names a file
+file_decided : (disk : Text) → Decided (IsDiskOf disk Named)
+file_decided disk = decide (disk_of disk)
   where
-    given : IsSomeSession (disk ∷ air ∷ codes "session" ∷ others) → GivesText others
-    given some = Rattle.command_words.proofs.Meanings.text_of some
+    decide : (which : DiskWord) × IsDiskOf disk which → Decided (IsDiskOf disk Named)
+    decide (Fresh, none) = inr (λ named. named none)
+    decide (Named, named) = inl named
+
+serve_meant : (disk air : Text) (others : List Text) → Meant (disk ∷ air ∷ codes "serve" ∷ others)
+serve_meant disk air others = elim (serve_decided others) [
+  | inr none ↦ inl (serve_usage refl (λ (asked, asks). none (asked.me, asked.k, asked.blocks, asked.polls, air_text asks)))
+  | inl (me, k, blocks, polls, text) ↦ elim (air_decided air) [
+    | inr none ↦ inl (serve_usage refl (λ (asked, asks). none (air_in asks)))
+    | inl form ↦ elim (file_decided disk) [
+      | inr none ↦ inl (serve_usage refl (λ (asked, asks). none (disk_in asks)))
+      | inl named ↦ inr (inr (inr (inl (record { me = me; k = k; blocks = blocks; polls = polls }, air_from disk air others named form text))))
+    ]
+  ]
+]
 
 -- AIR has one of its forms
 form_decided : (air : Text) → Decided ((air ≡ codes "none") ⊎ IsAir air)
 form_decided air = elim (air_decided air) [
-  | inl standard ↦ inl (inr (inl standard))
-  | inr (inl host_port) ↦ inl (inr (inr host_port))
-  | inr (inr none) ↦ elim (cases_Bool (bytes_eq air (codes "none"))) [
+  | inl form ↦ inl (inr form)
+  | inr none ↦ elim (cases_Bool (bytes_eq air (codes "none"))) [
     | inl nothing ↦ inl (inl (text_same air (codes "none") nothing))
     | inr other ↦ inr (λ is. elim is [
       | inl same ↦ true≢false (sym (text_eq air (codes "none") same) ∙ other)
@@ -226,15 +223,15 @@ named_meant command disk air others asked = elim (name_decided others) [
 ]
 
 command_meant : (command : NameCommand) (disk air : Text) (others : List Text) → Meant (disk ∷ air ∷ word_of command ∷ others)
-command_meant Frames disk air others = named_meant Frames disk air others (λ name asks. inr (inr (inr (inl (name, asks)))))
-command_meant PfhCheck disk air others = named_meant PfhCheck disk air others (λ name asks. inr (inr (inr (inr (inl (name, asks))))))
-command_meant PfhShow disk air others = named_meant PfhShow disk air others (λ name asks. inr (inr (inr (inr (inr (inl (name, asks)))))))
+command_meant Frames disk air others = named_meant Frames disk air others (λ name asks. inr (inr (inr (inr (inl (name, asks))))))
+command_meant PfhCheck disk air others = named_meant PfhCheck disk air others (λ name asks. inr (inr (inr (inr (inr (inl (name, asks)))))))
+command_meant PfhShow disk air others = named_meant PfhShow disk air others (λ name asks. inr (inr (inr (inr (inr (inr (inl (name, asks))))))))
 
 make_meant : (disk air : Text) (others : List Text) → Meant (disk ∷ air ∷ codes "pfh-make" ∷ others)
 make_meant disk air others = elim (make_decided others) [
   | inr none ↦ inl (make_usage refl (λ body kept spec asks. none (body, kept, spec, (neither_text asks).0)))
   | inl (body, kept, spec, text) ↦ elim (form_decided air) [
-    | inl is ↦ inr (inr (inr (inr (inr (inr (body, kept, spec, neither_from disk air others is text))))))
+    | inl is ↦ inr (inr (inr (inr (inr (inr (inr (body, kept, spec, neither_from disk air others is text)))))))
     | inr none ↦ inl (make_usage refl (λ b k other asks. none (neither_text asks).1))
   ]
 ]
@@ -245,17 +242,20 @@ command_decided c = elim (cases_Bool (is_name unbuilt_commands c)) [
   | inl is ↦ inl (word.Unbuilt, is_name-to unbuilt_commands c is)
   | inr no_other ↦ elim (cases_Bool (bytes_eq c (codes "session"))) [
     | inl is ↦ inl (word.Session, text_same c (codes "session") is)
-    | inr no_session ↦ elim (cases_Bool (bytes_eq c (codes "frames"))) [
-      | inl is ↦ inl (word.Named Frames, text_same c (codes "frames") is)
-      | inr no_frames ↦ elim (cases_Bool (bytes_eq c (codes "pfh-check"))) [
-        | inl is ↦ inl (word.Named PfhCheck, text_same c (codes "pfh-check") is)
-        | inr no_check ↦ elim (cases_Bool (bytes_eq c (codes "pfh-show"))) [
-          | inl is ↦ inl (word.Named PfhShow, text_same c (codes "pfh-show") is)
-          | inr no_show ↦ elim (cases_Bool (bytes_eq c (codes "pfh-make"))) [
-            | inl is ↦ inl (word.PfhMake, text_same c (codes "pfh-make") is)
-            | inr no_make ↦
-                let none : named_by c ≡ None = rw (no_other, no_session, no_frames, no_check, no_show, no_make) refl in
-                inr (λ (command, is). let no : Some command ≡ None = sym (names c command is) ∙ none in absurd cc)
+    | inr no_session ↦ elim (cases_Bool (bytes_eq c (codes "serve"))) [
+      | inl is ↦ inl (word.Serve, text_same c (codes "serve") is)
+      | inr no_serve ↦ elim (cases_Bool (bytes_eq c (codes "frames"))) [
+        | inl is ↦ inl (word.Named Frames, text_same c (codes "frames") is)
+        | inr no_frames ↦ elim (cases_Bool (bytes_eq c (codes "pfh-check"))) [
+          | inl is ↦ inl (word.Named PfhCheck, text_same c (codes "pfh-check") is)
+          | inr no_check ↦ elim (cases_Bool (bytes_eq c (codes "pfh-show"))) [
+            | inl is ↦ inl (word.Named PfhShow, text_same c (codes "pfh-show") is)
+            | inr no_show ↦ elim (cases_Bool (bytes_eq c (codes "pfh-make"))) [
+              | inl is ↦ inl (word.PfhMake, text_same c (codes "pfh-make") is)
+              | inr no_make ↦
+                  let none : named_by c ≡ None = rw (no_other, no_session, no_serve, no_frames, no_check, no_show, no_make) refl in
+                  inr (λ (command, is). let no : Some command ≡ None = sym (names c command is) ∙ none in absurd cc)
+            ]
           ]
         ]
       ]
@@ -265,9 +265,10 @@ command_decided c = elim (cases_Bool (is_name unbuilt_commands c)) [
 
 meant_by : (d a c : Text) (others : List Text) (command : CommandWord) → IsCommandOf c command → Meant (d ∷ a ∷ c ∷ others)
 meant_by d a c others word.Session is = subst (λ (t : Text). Meant (d ∷ a ∷ t ∷ others)) (sym is) (session_meant d a others)
+meant_by d a c others word.Serve is = subst (λ (t : Text). Meant (d ∷ a ∷ t ∷ others)) (sym is) (serve_meant d a others)
 meant_by d a c others (word.Named command) is = subst (λ (t : Text). Meant (d ∷ a ∷ t ∷ others)) (sym is) (command_meant command d a others)
 meant_by d a c others word.PfhMake is = subst (λ (t : Text). Meant (d ∷ a ∷ t ∷ others)) (sym is) (make_meant d a others)
-meant_by d a c others word.Unbuilt is = inr (inl (inl (record { disk = d; air = a; command = c; others = others; written = refl; unbuilt = is })))
+meant_by d a c others word.Unbuilt is = inr (inl (record { disk = d; air = a; command = c; others = others; written = refl; unbuilt = is }))
 
 pub has_meaning : (words : List Text) → Meant words
 has_meaning [] = inl (few [] (omega arith))

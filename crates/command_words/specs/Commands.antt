@@ -15,6 +15,7 @@ word_of PfhShow = codes "pfh-show"
 -- the word names this
 abbrev pub IsCommandOf : List ℕ → CommandWord → Type 0
 IsCommandOf text word.Session = text ≡ codes "session"
+IsCommandOf text word.Serve = text ≡ codes "serve"
 IsCommandOf text (word.Named command) = text ≡ word_of command
 IsCommandOf text word.PfhMake = text ≡ codes "pfh-make"
 IsCommandOf text word.Unbuilt = Contains unbuilt_commands text

@@ -1,4 +1,4 @@
--- What the word DISK of a session names.
+-- What the word DISK names.
 use Rattle.std.specs.Prelude.{◌≡◌, ◌≢◌, ℕ, List, codes}
 use Rattle.command_words.specs.declared.disk.DiskWord.{DiskWord}
 use Rattle.command_words.specs.declared.disk.DiskWord.TheVariants.{Fresh, Named}

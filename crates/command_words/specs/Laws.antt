@@ -2,32 +2,45 @@
 use Rattle.std.specs.Prelude.{◌≡◌, ℕ, ◌⊎◌, List}
 use Rattle.header_tool.specs.Made.{MakeValue}
 use Rattle.command_words.specs.declared.request.SessionRequest.{SessionRequest}
-use Rattle.command_words.specs.Words.{AsksHeader, IsCheck, IsFrames, IsMake, IsSession, IsShow, IsUnbuilt, IsUsage}
+use Rattle.command_words.specs.declared.serve.ServeRequest.{ServeRequest}
+use Rattle.command_words.specs.Words.{AsksHeader, IsCheck, IsFrames, IsMake, IsServe, IsSession, IsShow, IsUnbuilt, IsUsage}
 
--- the words ask for a session that is built
+-- the words ask for a session
 abbrev pub AsksSession : List (List ℕ) → Type 0
 AsksSession words = (asked : SessionRequest) × IsSession words asked
+
+-- the words ask for a service
+abbrev pub AsksServe : List (List ℕ) → Type 0
+AsksServe words = (asked : ServeRequest) × IsServe words asked
 
 -- the words ask for the frames of a name
 abbrev pub AsksFrames : List (List ℕ) → Type 0
 AsksFrames words = (name : List ℕ) × IsFrames words name
 
--- Each list of words isn't in the command set, or asks for what isn't built yet, for a session, for frames or for a header.
+-- Each list of words isn't in the command set, or asks for what isn't built yet, for a session, for a service, for frames
+-- or for a header.
 abbrev pub HasMeaning : Type 0
 HasMeaning =
-    (words : List (List ℕ)) → IsUsage words ⊎ (IsUnbuilt words ⊎ (AsksSession words ⊎ (AsksFrames words ⊎ AsksHeader words)))
+    (words : List (List ℕ))
+    → IsUsage words
+    ⊎ (IsUnbuilt words ⊎ (AsksSession words ⊎ (AsksServe words ⊎ (AsksFrames words ⊎ AsksHeader words))))
 
 -- It does only one of these,
 pub record OnlyOne (words : List (List ℕ)) : Type 0 where
   pub usage_unbuilt : IsUsage words → IsUnbuilt words → ⊥
   pub usage_session : IsUsage words → AsksSession words → ⊥
+  pub usage_serve : IsUsage words → AsksServe words → ⊥
   pub usage_frames : IsUsage words → AsksFrames words → ⊥
   pub usage_header : IsUsage words → AsksHeader words → ⊥
   pub unbuilt_session : IsUnbuilt words → AsksSession words → ⊥
+  pub unbuilt_serve : IsUnbuilt words → AsksServe words → ⊥
   pub unbuilt_frames : IsUnbuilt words → AsksFrames words → ⊥
   pub unbuilt_header : IsUnbuilt words → AsksHeader words → ⊥
+  pub session_serve : AsksSession words → AsksServe words → ⊥
   pub session_frames : AsksSession words → AsksFrames words → ⊥
   pub session_header : AsksSession words → AsksHeader words → ⊥
+  pub serve_frames : AsksServe words → AsksFrames words → ⊥
+  pub serve_header : AsksServe words → AsksHeader words → ⊥
   pub frames_header : AsksFrames words → AsksHeader words → ⊥
   pub check_show : (name other : List ℕ) → IsCheck words name → IsShow words other → ⊥
   pub check_make : (name body kept : List ℕ) (spec : MakeValue) → IsCheck words name → IsMake words body kept spec → ⊥
@@ -39,9 +52,11 @@ OnlyMake words =
     (body other kept another : List ℕ) (spec later : MakeValue) → IsMake words body kept spec → IsMake words other another later
     → (body ≡ other) × (kept ≡ another) × (spec ≡ later)
 
--- and for one session (of one disk, caller, moment, number of blocks and number of polls) and one name.
+-- and for one session (of one disk, caller, moment, number of blocks and number of polls), one service (of one call, k,
+-- number of blocks and number of polls) and one name.
 pub record Determined (words : List (List ℕ)) : Type 0 where
   pub session : (asked other : SessionRequest) → IsSession words asked → IsSession words other → asked ≡ other
+  pub serve : (asked other : ServeRequest) → IsServe words asked → IsServe words other → asked ≡ other
   pub frames : (name other : List ℕ) → IsFrames words name → IsFrames words other → name ≡ other
   pub check : (name other : List ℕ) → IsCheck words name → IsCheck words other → name ≡ other
   pub show : (name other : List ℕ) → IsShow words name → IsShow words other → name ≡ other

@@ -11,7 +11,7 @@ use Rattle.clap.specs.declared.parser.matches.ArgMatches.{ArgMatches}
 use Rattle.command_words.specs.declared.line.MakeTexts.{MakeTexts}
 use Rattle.command_words.specs.Grammar.{Line, line_places, line_value}
 use Rattle.command_words.specs.Making.{MakeOptions, make_options, options_given}
-use Rattle.command_words.specs.Words.{session_options}
+use Rattle.command_words.specs.Words.{serve_options, session_options}
 
 -- an option with a value
 abbrev pub option_of : List ℕ → Rule
@@ -40,6 +40,10 @@ command_of command places names = command_with command (map place_of places ++ m
 -- the command `session`
 abbrev pub session_app : App
 session_app = command_of (codes "session") (codes "caller" ∷ []) session_options
+
+-- the command `serve`
+abbrev pub serve_app : App
+serve_app = command_of (codes "serve") (codes "me" ∷ []) serve_options
 
 -- the command `pfh-make`
 abbrev pub make_app : App
@@ -82,6 +86,14 @@ pub record SessionLine (words : List (List ℕ)) (caller : List ℕ) (moment blo
   pub line : Line session_options words 1
   pub place : line_places line ≡ caller ∷ []
   pub moment_given : line_value line (codes "moment") ≡ moment
+  pub blocks_given : line_value line (codes "blocks") ≡ blocks
+  pub polls_given : line_value line (codes "polls") ≡ polls
+
+-- The words after `serve` give this place, and these values of the options.
+pub record ServeLine (words : List (List ℕ)) (me : List ℕ) (k blocks polls : Option (List ℕ)) : Type 0 where
+  pub line : Line serve_options words 1
+  pub place : line_places line ≡ me ∷ []
+  pub k_given : line_value line (codes "k") ≡ k
   pub blocks_given : line_value line (codes "blocks") ≡ blocks
   pub polls_given : line_value line (codes "polls") ≡ polls
 

@@ -3,7 +3,10 @@ use Rattle.std.specs.Prelude.{◌≡◌, ◌≢◌, ℕ, ◌≤◌, ◌⊎◌, L
 use Rattle.std.specs.List.{AllByRecursion}
 use Rattle.px_base.specs.CallSign.{CallSign, CallText}
 use Rattle.header_tool.specs.Made.{MakeValue}
+use Rattle.command_words.specs.declared.disk.DiskWord.{DiskWord}
+use Rattle.command_words.specs.declared.disk.DiskWord.TheVariants.{Named}
 use Rattle.command_words.specs.declared.request.SessionRequest.{SessionRequest}
+use Rattle.command_words.specs.declared.serve.ServeRequest.{ServeRequest}
 use Rattle.command_words.specs.Disks.{IsDiskOf}
 use Rattle.command_words.specs.Grammar.{Line, line_places, line_value}
 use Rattle.command_words.specs.Making.{MakeText}
@@ -11,13 +14,12 @@ use Rattle.command_words.specs.Numbers.{GivesNumber, IsNumberOr, NumberText}
 
 -- the commands that aren't built yet
 abbrev pub unbuilt_commands : List (List ℕ)
-unbuilt_commands =
-    codes "serve" ∷ codes "send" ∷ codes "fetch" ∷ codes "list" ∷ codes "rehearse" ∷ []
+unbuilt_commands = codes "send" ∷ codes "fetch" ∷ codes "list" ∷ codes "rehearse" ∷ []
 
 -- the commands that are built
 abbrev pub built_commands : List (List ℕ)
 built_commands =
-    codes "session" ∷ codes "frames" ∷ codes "pfh-check" ∷ codes "pfh-show" ∷ codes "pfh-make" ∷ []
+    codes "session" ∷ codes "serve" ∷ codes "frames" ∷ codes "pfh-check" ∷ codes "pfh-show" ∷ codes "pfh-make" ∷ []
 
 -- Host and port: text without a colon, a colon, and the number of a port.
 pub record IsHostPort (air : List ℕ) : Type 0 where
@@ -37,6 +39,14 @@ IsAir air = (air ≡ codes "-") ⊎ IsHostPort air
 abbrev pub session_options : List (List ℕ)
 session_options = codes "moment" ∷ codes "blocks" ∷ codes "polls" ∷ []
 
+-- the options of `serve`
+abbrev pub serve_options : List (List ℕ)
+serve_options = codes "k" ∷ codes "blocks" ∷ codes "polls" ∷ []
+
+-- how many I frames of a link may be outstanding, where the words don't say (k of AX.25 2.0, 2.4.7.4)
+abbrev pub default_k : ℕ
+default_k = 4
+
 -- how many blocks of 512 octets a store has, where the words don't say
 abbrev pub default_blocks : ℕ
 default_blocks = 65536
@@ -45,28 +55,59 @@ default_blocks = 65536
 abbrev pub default_polls : ℕ
 default_polls = 1000000000000
 
--- The place is CALLER, and the options give these numbers: a moment where there is one, blocks and polls in any case.
-pub record SessionGiven (places : List (List ℕ)) (value : List ℕ → Option (List ℕ)) (caller : CallSign) (moment : Option ℕ) (blocks polls : ℕ) : Type 0 where
+-- The one place is a call, and the options give a number of blocks and one of polls.
+pub record CallGiven (places : List (List ℕ)) (value : List ℕ → Option (List ℕ)) (call : CallSign) (blocks polls : ℕ)
+    : Type 0 where
   pub call_text : List ℕ
   pub place : places ≡ call_text ∷ []
-  pub call : CallText caller call_text
-  pub moment_given : GivesNumber 0 4294967295 (value (codes "moment")) moment
+  pub called : CallText call call_text
   pub blocks_given : IsNumberOr default_blocks 1 65536 (value (codes "blocks")) blocks
   pub polls_given : IsNumberOr default_polls 1 18446744073709551615 (value (codes "polls")) polls
 
--- The words after `session` are CALLER and at most one value for each option, in any order.
-pub record SessionText (others : List (List ℕ)) (caller : CallSign) (moment : Option ℕ) (blocks polls : ℕ) : Type 0 where
+-- The words after `session` are CALLER and at most one value for each option, in any order; a moment may be missing.
+pub record SessionText (others : List (List ℕ)) (caller : CallSign) (moment : Option ℕ) (blocks polls : ℕ)
+    : Type 0 where
   pub line : Line session_options others 1
-  pub given : SessionGiven (line_places line) (line_value line) caller moment blocks polls
+  pub given : CallGiven (line_places line) (line_value line) caller blocks polls
+  pub moment_given : GivesNumber 0 4294967295 (line_value line (codes "moment")) moment
 
--- The words are DISK, this AIR, `session` and such words, and give this.
-pub record SessionWords (words : List (List ℕ)) (air : List ℕ) (asked : SessionRequest) : Type 0 where
+-- The numbers of `serve` are in their ranges.
+pub record AreInRange (k blocks polls : ℕ) : Type 0 where
+  pub some_k : 1 ≤ k
+  pub most_k : k ≤ 7
+  pub some_blocks : 1 ≤ blocks
+  pub most_blocks : blocks ≤ 65536
+  pub some_polls : 1 ≤ polls
+
+-- The words after `serve` are ME and at most one value for each option, in any order. Their numbers are in their ranges,
+-- which follows from what gives them.
+pub record ServeText (others : List (List ℕ)) (me : CallSign) (k blocks polls : ℕ) : Type 0 where
+  pub line : Line serve_options others 1
+  pub given : CallGiven (line_places line) (line_value line) me blocks polls
+  pub k_given : IsNumberOr default_k 1 7 (line_value line (codes "k")) k
+  pub ranges : AreInRange k blocks polls
+
+-- The words are DISK, which names this disk, AIR, this command, which needs an air, and others of which this holds.
+pub record NeedsAir (command : List ℕ) (which : DiskWord) (P : List (List ℕ) → Type 0) (words : List (List ℕ))
+    : Type 0 where
   pub disk : List ℕ
+  pub air : List ℕ
   pub others : List (List ℕ)
-  pub written : words ≡ disk ∷ air ∷ codes "session" ∷ others
-  pub disk_named : IsDiskOf disk asked.disk
+  pub written : words ≡ disk ∷ air ∷ command ∷ others
+  pub disk_named : IsDiskOf disk which
   pub air_form : IsAir air
-  pub text : SessionText others asked.caller asked.moment asked.blocks asked.polls
+  pub text : P others
+
+-- the words are `DISK AIR session CALLER` and options, and ask for this session
+abbrev pub IsSession : List (List ℕ) → SessionRequest → Type 0
+IsSession words asked =
+    NeedsAir (codes "session") asked.disk
+    (λ others. SessionText others asked.caller asked.moment asked.blocks asked.polls) words
+
+-- the words are `DISK AIR serve ME` and options, where DISK isn't `none`, and ask for this service
+abbrev pub IsServe : List (List ℕ) → ServeRequest → Type 0
+IsServe words asked =
+    NeedsAir (codes "serve") Named (λ others. ServeText others asked.me asked.k asked.blocks asked.polls) words
 
 -- The words are DISK, AIR, this command, which needs neither of them, and others of which this holds.
 pub record NeedsNeither (command : List ℕ) (P : List (List ℕ) → Type 0) (words : List (List ℕ)) : Type 0 where
@@ -108,12 +149,8 @@ AsksHeader words =
     ((name : List ℕ) × IsCheck words name)
     ⊎ (((name : List ℕ) × IsShow words name) ⊎ ((body kept : List ℕ) × (spec : MakeValue) × IsMake words body kept spec))
 
--- The words ask for this session, over standard input and output.
-abbrev pub IsSession : List (List ℕ) → SessionRequest → Type 0
-IsSession words asked = SessionWords words (codes "-") asked
-
--- the words name a command that isn't built yet, with whatever other words
-pub record IsOther (words : List (List ℕ)) : Type 0 where
+-- The words name a command that isn't built yet, with whatever other words.
+pub record IsUnbuilt (words : List (List ℕ)) : Type 0 where
   pub disk : List ℕ
   pub air : List ℕ
   pub command : List ℕ
@@ -121,27 +158,16 @@ pub record IsOther (words : List (List ℕ)) : Type 0 where
   pub written : words ≡ disk ∷ air ∷ command ∷ others
   pub unbuilt : Contains unbuilt_commands command
 
--- the words are a session's in the command set
-pub record IsSomeSession (words : List (List ℕ)) : Type 0 where
-  pub air : List ℕ
-  pub asked : SessionRequest
-  pub session : SessionWords words air asked
-
--- the words are those of a session over a host and port, which isn't built yet
-abbrev pub BeyondSession : List (List ℕ) → Type 0
-BeyondSession words = (session : IsSomeSession words) × IsHostPort session.air
-
 -- The words are in the command set. As long as a command isn't built, all of its words are taken to be.
 abbrev pub InSet : List (List ℕ) → Type 0
-InSet words = IsOther words ⊎ (IsSomeSession words ⊎ (((name : List ℕ) × IsFrames words name) ⊎ AsksHeader words))
+InSet words =
+    IsUnbuilt words
+    ⊎ (((asked : SessionRequest) × IsSession words asked)
+    ⊎ (((asked : ServeRequest) × IsServe words asked) ⊎ (((name : List ℕ) × IsFrames words name) ⊎ AsksHeader words)))
 
 -- the words aren't in the command set
 abbrev pub IsUsage : List (List ℕ) → Type 0
 IsUsage words = InSet words → ⊥
-
--- the words are in the command set, and ask for what isn't built yet
-abbrev pub IsUnbuilt : List (List ℕ) → Type 0
-IsUnbuilt words = IsOther words ⊎ BeyondSession words
 
 -- the words name a command that is built
 abbrev pub NamesBuilt : List (List ℕ) → Type 0

@@ -14,6 +14,8 @@ use crate::request::Request;
 pub(crate) enum CommandWord {
     /// A session.
     Session,
+    /// The service of a station.
+    Serve,
     /// A command whose one place is a name.
     Named(NameCommand),
     /// The making of a file.
@@ -40,6 +42,9 @@ pub(crate) fn read_command(word: &str) -> Option<CommandWord>
 {
     if word == "session" {
         return Some(CommandWord::Session);
+    }
+    if word == "serve" {
+        return Some(CommandWord::Serve);
     }
     if let Some(command) = read_name_command(word) {
         return Some(CommandWord::Named(command));
@@ -74,7 +79,7 @@ fn read_name_command(word: &str) -> Option<NameCommand>
 fn is_unbuilt(word: &str) -> bool
     ensures { result ≡ list_any (bytes_eq word.now) unbuilt_commands }
 {
-    word == "serve" || word == "send" || word == "fetch" || word == "list" || word == "rehearse"
+    word == "send" || word == "fetch" || word == "list" || word == "rehearse"
 }
 
 impl NameCommand {

@@ -1,8 +1,8 @@
-//! The word DISK of a session.
+//! The word DISK.
 
 ghost use Rattle.command_words.specs.Disks.{IsDiskOf};
 
-/// The disk that the word DISK names, on which a session's store lies.
+/// The disk that the word DISK names, on which a store lies.
 #[derive(Clone, Copy, Debug, PartialEq, Eq)]
 pub enum DiskWord {
     /// A fresh disk in memory, `none`.

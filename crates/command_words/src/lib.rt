@@ -14,11 +14,14 @@ mod line;
 mod make;
 mod number;
 mod request;
+mod serve;
 mod words;
 
+pub use air::{AirWord, read_air};
 pub use disk::DiskWord;
 pub use make::MakeRequest;
 pub use request::{BLOCKS, POLLS, Refusal, Request, SessionRequest, read};
+pub use serve::{K, ServeRequest};
 pub use words::Words;
 
 #[cfg(test)]

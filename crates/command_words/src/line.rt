@@ -3,9 +3,9 @@
 ghost use Rattle.std.specs.Prelude.{◌≡◌, List, [], ◌∷◌, false, IfOk, IsErrOf, codes, drop, map, option_copied, string_bytes};
 ghost use Rattle.clap.specs.Words.{app_of, kind_of, rule_of, with_rule};
 ghost use Rattle.command_words.specs.Grammar.{Line};
-ghost use Rattle.command_words.specs.Lines.{FindsLine, MakeLine, RefusesLine, SessionLine, command_of, make_app, option_of, options_added, place_of, session_app};
+ghost use Rattle.command_words.specs.Lines.{FindsLine, MakeLine, RefusesLine, ServeLine, SessionLine, command_of, make_app, option_of, options_added, place_of, serve_app, session_app};
 ghost use Rattle.command_words.specs.Making.{make_options};
-ghost use Rattle.command_words.specs.Words.{NameText, session_options};
+ghost use Rattle.command_words.specs.Words.{NameText, serve_options, session_options};
 
 use crate::request::Refusal;
 use clap::error::ErrorKind;
@@ -19,6 +19,19 @@ pub(crate) struct SessionTexts<'a> {
     pub caller: &'a str,
     /// The value of `--moment`.
     pub moment: Option<&'a str>,
+    /// The value of `--blocks`.
+    pub blocks: Option<&'a str>,
+    /// The value of `--polls`.
+    pub polls: Option<&'a str>,
+}
+
+/// The place and the options of a service.
+#[derive(Clone, Copy)]
+pub(crate) struct ServeTexts<'a> {
+    /// ME.
+    pub me: &'a str,
+    /// The value of `--k`.
+    pub k: Option<&'a str>,
     /// The value of `--blocks`.
     pub blocks: Option<&'a str>,
     /// The value of `--polls`.
@@ -66,6 +79,25 @@ pub(crate) fn read_session<'a>(
     Ok(SessionTexts {
         caller,
         moment: matches.get_str("moment"),
+        blocks: matches.get_str("blocks"),
+        polls: matches.get_str("polls"),
+    })
+}
+
+/// Reads the words from `serve` on. Takes memory.
+pub(crate) fn read_serve<'a>(alloc: Global, line: &'a [String]) -> Result<ServeTexts<'a>, Refusal>
+    ensures texts { IfOk result (λ texts. ServeLine (drop 1 (map string_bytes line.now)) texts.me.now
+        (option_copied texts.k) (option_copied texts.blocks) (option_copied texts.polls)) }
+    ensures usage { IsErrOf result Refusal.Usage → Line serve_options (drop 1 (map string_bytes line.now)) 1 → ⊥ }
+    ensures built { IsErrOf result Refusal.NotBuilt → ⊥ }
+{
+    let matches = read_line(serve_command(alloc)?, line)?;
+    let Some(me) = matches.get_str("me") else {
+        return Err(Refusal::Usage);
+    };
+    Ok(ServeTexts {
+        me,
+        k: matches.get_str("k"),
         blocks: matches.get_str("blocks"),
         polls: matches.get_str("polls"),
     })
@@ -120,6 +152,14 @@ fn session_command<'a>(alloc: Global) -> Result<Command<'a>, AllocError>
 {
     let command = line_command(alloc, "session", "caller")?;
     with_options(alloc, command, &["moment", "blocks", "polls"])
+}
+
+/// The command `serve` with its place and its options.
+fn serve_command<'a>(alloc: Global) -> Result<Command<'a>, AllocError>
+    ensures { IfOk result (λ command. app_of command ≡ serve_app) }
+{
+    let command = line_command(alloc, "serve", "me")?;
+    with_options(alloc, command, &["k", "blocks", "polls"])
 }
 
 /// The command `pfh-make` with its two places and its options.

@@ -5,29 +5,31 @@ ghost use Rattle.px_base.specs.CallSign.{CallSign};
 ghost use Rattle.command_words.specs.Asked.{AsksFor};
 ghost use Rattle.command_words.specs.Commands.{word_of};
 ghost use Rattle.command_words.specs.declared.request.Refusal.TheVariants.{OutOfMemory as refused_memory};
-ghost use Rattle.command_words.specs.Words.{BeyondSession, IsNamed, IsSomeSession, IsUnbuilt, IsUsage, NamesBuilt, SessionText};
+ghost use Rattle.command_words.specs.Laws.{AsksSession};
+ghost use Rattle.command_words.specs.Words.{IsNamed, IsUnbuilt, IsUsage, NamesBuilt, SessionText};
 
-use crate::air::{AirWord, read_air};
+use crate::air::{names_air, read_air};
 use crate::command::{CommandWord, NameCommand, read_command};
 use crate::disk::{DiskWord, read_disk};
 use crate::line;
 use crate::make::{MakeRequest, make_request};
 use crate::number::{number_or, optional_moment};
+use crate::serve::{ServeRequest, serve_request};
 use crate::words::Words;
 use px_base::Call;
 use std::alloc::{AllocError, Global};
 use thiserror::Error;
 
-/// How many blocks of 512 octets a session's store has, where the words don't say.
+/// How many blocks of 512 octets a store has, where the words don't say.
 pub const BLOCKS: u32 = 65_536;
 
-/// How many polls a session makes at most, where the words don't say.
+/// How many polls a run makes at most, where the words don't say.
 pub const POLLS: u64 = 1_000_000_000_000;
 
 /// How many blocks of 512 octets a store may have at most.
-const MOST_BLOCKS: u64 = 65_536;
+pub(crate) const MOST_BLOCKS: u64 = 65_536;
 
-/// The session that the words ask for, over standard input and output.
+/// The session that the words ask for, over the air that AIR names: standard input and output, or a host and port.
 #[derive(Clone, Copy, Debug, PartialEq, Eq)]
 pub struct SessionRequest {
     /// On which disk its store lies.
@@ -47,6 +49,8 @@ pub struct SessionRequest {
 pub enum Request<'a> {
     /// A session.
     Session(SessionRequest),
+    /// The service of a station.
+    Serve(ServeRequest),
     /// The frames in a file of the shelf.
     Frames {
         /// The file's name.
@@ -114,6 +118,7 @@ pub fn read(alloc: Global, words: &Words) -> Result<Request<'_>, Refusal>
     let line = &texts[2..];
     match read_command(command.as_str()) {
         Some(CommandWord::Session) => session_request(alloc, disk.as_str(), air.as_str(), line),
+        Some(CommandWord::Serve) => serve_request(alloc, disk.as_str(), air.as_str(), line),
         Some(CommandWord::Named(named)) => name_request(alloc, named, air.as_str(), line),
         Some(CommandWord::PfhMake) => make_request(alloc, air.as_str(), line),
         Some(CommandWord::Unbuilt) => Err(Refusal::NotBuilt),
@@ -131,25 +136,20 @@ fn session_request<'a>(
     ensures asks { IfOk result
         (AsksFor (disk.now ∷ air.now ∷ codes "session" ∷ drop 1 (map string_bytes line.now))) }
     ensures usage { IsErrOf result Refusal.Usage →
-        IsSomeSession (disk.now ∷ air.now ∷ codes "session" ∷ drop 1 (map string_bytes line.now)) → ⊥ }
-    ensures unbuilt { IsErrOf result Refusal.NotBuilt →
-        BeyondSession (disk.now ∷ air.now ∷ codes "session" ∷ drop 1 (map string_bytes line.now)) }
+        AsksSession (disk.now ∷ air.now ∷ codes "session" ∷ drop 1 (map string_bytes line.now)) → ⊥ }
+    ensures built { IsErrOf result Refusal.NotBuilt → ⊥ }
 {
-    let Some(air) = read_air(air) else {
+    if !names_air(air) {
         return Err(Refusal::Usage);
-    };
-    let asked = read_texts(alloc, line)?;
-    match air {
-        AirWord::Standard => Ok(Request::Session(SessionRequest {
-            disk: read_disk(disk),
-            caller: asked.caller,
-            moment: asked.moment,
-            blocks: asked.blocks,
-            polls: asked.polls,
-        })),
-        AirWord::HostPort => Err(Refusal::NotBuilt),
-        AirWord::Nothing => Err(Refusal::Usage),
     }
+    let asked = read_texts(alloc, line)?;
+    Ok(Request::Session(SessionRequest {
+        disk: read_disk(disk),
+        caller: asked.caller,
+        moment: asked.moment,
+        blocks: asked.blocks,
+        polls: asked.polls,
+    }))
 }
 
 /// Reads the line from `session` on. Takes memory.

@@ -1,6 +1,9 @@
 //! What the words ask for, from outside.
 
-use crate::{DiskWord, MakeRequest, Refusal, Request, SessionRequest, Words, read};
+use crate::{
+    AirWord, DiskWord, MakeRequest, Refusal, Request, ServeRequest, SessionRequest, Words, read,
+    read_air,
+};
 use px_base::OutOfMemory;
 use std::alloc::{AllocError, Global};
 use std::test::Fail;
@@ -10,7 +13,7 @@ const USAGE: &str = "the words are not in the command set";
 const NOT_BUILT: &str = "the words ask for what is not built yet";
 
 /// Words, split at blanks, and what they ask for. More rows, played by a whole run, stand in the crate `command_rows`.
-const WORDS: [(&str, &str); 70] = [
+const WORDS: [(&str, &str); 106] = [
     ("", USAGE),
     ("none - SESSION NOCALL", USAGE),
     (
@@ -105,12 +108,69 @@ const WORDS: [(&str, &str); 70] = [
         " - session NOCALL",
         "session NOCALL - named 65536 1000000000000",
     ),
-    ("none host:00001 session NOCALL", NOT_BUILT),
-    ("none x:1 session NOCALL --blocks 8 --polls 9", NOT_BUILT),
-    ("disk.img x:1 session NOCALL", NOT_BUILT),
+    (
+        "none host:00001 session NOCALL",
+        "session NOCALL - fresh 65536 1000000000000",
+    ),
+    (
+        "none x:1 session NOCALL --blocks 8 --polls 9",
+        "session NOCALL - fresh 8 9",
+    ),
+    (
+        "disk.img x:1 session NOCALL",
+        "session NOCALL - named 65536 1000000000000",
+    ),
     ("disk.img x:1 session NOCALL --blocks 65537", USAGE),
     ("none x:1 session NOCALL --polls 0", USAGE),
     ("none :1 session NOCALL", USAGE),
+    ("d - serve PACSAT", "serve PACSAT 4 65536 1000000000000"),
+    (
+        "d host:8001 serve --k=1 PACSAT-15",
+        "serve PACSAT-15 1 65536 1000000000000",
+    ),
+    (
+        "- x:1 serve --polls 18446744073709551615 PACSAT-0 --k 7 --blocks=1",
+        "serve PACSAT 7 1 18446744073709551615",
+    ),
+    (
+        " - serve --k 00000000000000000003 --polls=1 -- Q",
+        "serve Q 3 65536 1",
+    ),
+    (
+        "NONE - serve PACSAT --blocks 65536",
+        "serve PACSAT 4 65536 1000000000000",
+    ),
+    ("none - serve PACSAT", USAGE),
+    ("none none serve PACSAT", USAGE),
+    ("none x:1 serve PACSAT", USAGE),
+    ("d none serve PACSAT", USAGE),
+    ("d NONE serve PACSAT", USAGE),
+    ("d x:0 serve PACSAT", USAGE),
+    ("d x:65536 serve PACSAT", USAGE),
+    ("d - Serve PACSAT", USAGE),
+    ("d - serve", USAGE),
+    ("d - serve ", USAGE),
+    ("d - serve pacsat", USAGE),
+    ("d - serve PACSAT-16", USAGE),
+    ("d - serve PACSAT PACSAT", USAGE),
+    ("d - serve PACSAT -- --k 4", USAGE),
+    ("d - serve PACSAT --k 0", USAGE),
+    ("d - serve PACSAT --k 8", USAGE),
+    ("d - serve PACSAT --k 260", USAGE),
+    ("d - serve PACSAT --k 18446744073709551620", USAGE),
+    ("d - serve PACSAT --k 000000000000000000003", USAGE),
+    ("d - serve PACSAT --k=", USAGE),
+    ("d - serve PACSAT --k -1", USAGE),
+    ("d - serve PACSAT --k", USAGE),
+    ("d - serve PACSAT --k 4 --k=4", USAGE),
+    ("d - serve PACSAT -k 4", USAGE),
+    ("d - serve PACSAT --K 4", USAGE),
+    ("d - serve PACSAT --blocks 0", USAGE),
+    ("d - serve PACSAT --blocks 65537", USAGE),
+    ("d - serve PACSAT --polls 0", USAGE),
+    ("d - serve PACSAT --polls 18446744073709551616", USAGE),
+    ("d - serve PACSAT --moment 1", USAGE),
+    ("d - serve PACSAT --help", USAGE),
     ("none none frames NAME", "frames NAME"),
     ("disk.img host:8001 frames a.kss", "frames a.kss"),
     ("none - frames ", "frames "),
@@ -141,7 +201,31 @@ const WORDS: [(&str, &str); 70] = [
 ];
 
 /// Words of commands that aren't built yet.
-const UNBUILT: [&str; 5] = ["serve", "send", "fetch", "list", "rehearse"];
+const UNBUILT: [&str; 4] = ["send", "fetch", "list", "rehearse"];
+
+/// Words AIR, and what each names.
+const AIRS: [(&str, Option<AirWord>); 20] = [
+    ("none", Some(AirWord::Nothing)),
+    ("-", Some(AirWord::Standard)),
+    ("localhost:8001", Some(AirWord::HostPort)),
+    ("127.0.0.1:65535", Some(AirWord::HostPort)),
+    (" :00000000000000000001", Some(AirWord::HostPort)),
+    ("none:1", Some(AirWord::HostPort)),
+    ("-:1", Some(AirWord::HostPort)),
+    ("", None),
+    ("None", None),
+    ("none ", None),
+    ("--", None),
+    ("localhost", None),
+    (":8001", None),
+    ("localhost:", None),
+    ("localhost:0", None),
+    ("localhost:65536", None),
+    ("localhost:000000000000000000001", None),
+    ("localhost:+1", None),
+    ("localhost: 1", None),
+    ("::1:8001", None),
+];
 
 /// The words of a text.
 fn words_of(alloc: Global, text: &str) -> Result<Words, OutOfMemory> {
@@ -156,6 +240,7 @@ fn words_of(alloc: Global, text: &str) -> Result<Words, OutOfMemory> {
 fn told(alloc: Global, asked: &Result<Request<'_>, Refusal>) -> Result<String, AllocError> {
     match asked {
         Ok(Request::Session(session)) => told_session(alloc, session),
+        Ok(Request::Serve(service)) => told_service(alloc, service),
         Ok(Request::Frames { name }) => format!(in alloc; "frames {name}"),
         Ok(Request::PfhCheck { name }) => format!(in alloc; "check {name}"),
         Ok(Request::PfhShow { name }) => format!(in alloc; "show {name}"),
@@ -177,6 +262,14 @@ fn told_session(alloc: Global, session: &SessionRequest) -> Result<String, Alloc
     format!(in alloc;
         "session {} {moment} {disk} {} {}",
         session.caller, session.blocks, session.polls
+    )
+}
+
+/// A service as text: the station, k, blocks and polls.
+fn told_service(alloc: Global, service: &ServeRequest) -> Result<String, AllocError> {
+    format!(in alloc;
+        "serve {} {} {} {}",
+        service.me, service.k, service.blocks, service.polls
     )
 }
 
@@ -208,9 +301,17 @@ fn words_are_read(rt: HostRuntime) -> Result<(), Fail> {
         let text = format!(in rt.alloc(); "none none {command} --x -y ")?;
         let words = words_of(rt.alloc(), text.as_str())?;
         let asked = read(rt.alloc(), &words);
-        assert!(rt; asked == Err(Refusal::NotBuilt), "{command}");
+        assert_eq!(rt; told(rt.alloc(), &asked)?.as_str(), NOT_BUILT, "{command}");
     }
     let refused = told(rt.alloc(), &Err(Refusal::OutOfMemory))?;
     assert_eq!(rt; refused.as_str(), "out of memory");
+    Ok(())
+}
+
+#[test]
+fn airs_are_read(rt: HostRuntime) -> Result<(), Fail> {
+    for (air, want) in AIRS.iter() {
+        assert!(rt; read_air(air) == *want, "{air}");
+    }
     Ok(())
 }

@@ -1,6 +1,4 @@
 mod Crashes
-mod Reached
-mod Short
 mod Steps
 mod Surfaces
-mod Writes
+pub mod Writes

@@ -1,13 +1,9 @@
 pub mod Calls
 pub mod Crash
-pub mod DeviceLaws
-pub mod Devices
 pub mod Disk
-pub mod Files
 pub mod Fuse
 pub mod FuseLaws
 pub mod Memory
-pub mod MemoryDevices
 pub mod MemoryLaws
 pub mod Moments
 pub mod Surface

@@ -8,7 +8,7 @@ ghost use Rattle.disk_model.specs.Surface.{IsImage, surface_after, sync_of, writ
 use crate::crash::crash;
 use crate::disk_call::DiskCall;
 use crate::limits::ends_within;
-use crate::overwrite::overwrite;
+use crate::overwriting::overwrite;
 use px_base::{FileBytes, OutOfMemory};
 use std::alloc::Global;
 

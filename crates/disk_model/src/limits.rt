@@ -3,10 +3,10 @@
 ghost use Rattle.std.specs.Prelude.{◌+◌, ◌≤◌, ◌^◌, ◌↔◌, length, IsTrue};
 
 /// The most octets that a disk has.
-pub(crate) const MOST_OCTETS: u64 = 1 << 63;
+pub const MOST_OCTETS: u64 = 1 << 63;
 
 /// Whether these octets at this place end within the most octets of a disk.
-pub(crate) fn ends_within(at: u64, bytes: &[u8]) -> bool
+pub fn ends_within(at: u64, bytes: &[u8]) -> bool
     ensures { IsTrue result ↔ (at + length bytes.now ≤ 2 ^ 63) }
 {
     let count = bytes.len() as u64;

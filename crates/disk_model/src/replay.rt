@@ -5,7 +5,7 @@ ghost use Rattle.px_base.specs.Octets.{IsOctets};
 ghost use Rattle.disk_model.specs.Surface.{IsQuietSurface, NoSync, surface_after};
 
 use crate::disk_call::DiskCall;
-use crate::overwrite::overwrite;
+use crate::overwriting::overwrite;
 use px_base::OutOfMemory;
 use std::alloc::Global;
 

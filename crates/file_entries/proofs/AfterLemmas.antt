@@ -16,7 +16,7 @@ use Rattle.file_entries.specs.IsStore.{IsStore, FitsLength}
 use Rattle.file_entries.specs.Kept.{KeepsComplete}
 use Rattle.file_entries.specs.declared.limits.TheConstants.{LAST_NEXT, LONGEST_FILE, MOST_ENTRIES}
 use Rattle.file_entries.specs.Store.{Entry, Holding, partial, complete, Store, entry_of, blocks_for, blocks_of, new_entry, octets_of}
-use Rattle.file_entries.proofs.StampedLemmas.{length-stamped}
+use Rattle.pfh_writer.proofs.StampedLemmas.{length-stamped}
 use Rattle.file_entries.proofs.EntriesLemmas.{has_number, AreEntries-push, AreEntries-map-changed, AreEntries-filter, HaveCallers-push, HaveCallers-map-changed, HaveCallers-filter, found-caller, blocks-map-changed, find-map-changed_other, find-filter_other, find_past}
 
 -- ---- what a test tells

@@ -1,4 +1,5 @@
 pub mod AfterLemmas
+pub mod ChangeLemmas
 pub mod EntriesLemmas
 pub mod FilesLemmas
 pub mod GrowLemmas
@@ -6,8 +7,4 @@ pub mod InfoLemmas
 pub mod LawLemmas
 pub mod PlaceLemmas
 pub mod RecordLemmas
-pub mod StampedLemmas
 pub mod StoredLemmas
-pub mod ChangeLemmas
-pub mod ClientLemmas
-pub mod FaultlessLemmas

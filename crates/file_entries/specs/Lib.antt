@@ -7,7 +7,6 @@ pub mod Files
 pub mod Info
 pub mod Kept
 pub mod IsStore
-pub mod KeptFile
 pub mod Laws
 pub mod Records
 pub mod Store

@@ -1,6 +1,5 @@
 //! Laws of the store's commands.
 
-ghost use Rattle.file_entries.specs.KeptFile.{KeptFileLaw};
 ghost use Rattle.file_entries.specs.Laws.{CommandsLaw, NumbersLaw, RecordsLaw};
 
 /// Each command whose condition holds keeps the rules of a store and each complete entry, and the next
@@ -18,10 +17,4 @@ pub fn numbers_law()
 /// one.
 pub fn records_law()
     ensures { RecordsLaw }
-{}
-
-/// A file that is kept has no fault, and the length, the body and the items of the one that came, but for the
-/// server's items.
-pub fn kept_file_law()
-    ensures { KeptFileLaw }
 {}

@@ -4,6 +4,8 @@
 
 mod connection;
 mod fate;
+#[cfg(test)]
+mod tests;
 
 pub use connection::Connection;
 pub use fate::Fate;

@@ -1,6 +1,6 @@
 -- Code 3 is in no row of the table.
-use Rattle.std.proofs.Common.{◌≡◌, ◌≢◌, ℕ, List, [], ◌∷◌, ◌++◌, length, refl, ap, sym, ◌∙◌, subst, arith, Bool, true, false, not, Option, None, Some}
-use Rattle.std.specs.Prelude.{Ok, Err, IfSome, if◌then◌else◌, unwrap_or, ◌==◌}
+use Rattle.std.proofs.Common.{◌≡◌, ◌≢◌, ℕ, List, [], ◌∷◌, ◌++◌, length, refl, ap, ◌∙◌, arith, Bool, true, false, not, Option, None, Some}
+use Rattle.std.specs.Prelude.{Ok, IfSome, if◌then◌else◌, unwrap_or, ◌==◌}
 use Rattle.std.specs.List.{AllByRecursion}
 use Rattle.std.specs.Option.{option_map}
 use Rattle.px_base.specs.CallSign.{CallSign}
@@ -11,10 +11,8 @@ use Rattle.ftl0_packets.specs.Layout.{Item, PacketValue, data_part, data_end, lo
 use Rattle.file_entries.specs.Command.{can_begin, has_room, passes}
 use Rattle.file_entries.specs.Info.{is_complete}
 use Rattle.file_entries.specs.Store.{Entry, Store, entry_of, octets_at, octets_of}
-use Rattle.ftl0_session.specs.Asked.{has_row}
 use Rattle.ftl0_session.specs.Laws.{FaultCodeLaw, IsNoFault}
 use Rattle.ftl0_session.specs.Session.{Row, State, aborting, begin_row, command, continue_row, data_row, end_row, error_row, granted_row, is_all, is_theirs, is_upload_kind, kind_of_item, receiving, refused_row, resumed_row, session_row, taken_row, whole_row}
-use Rattle.ftl0_session.proofs.Rows.{row-none}
 
 abbrev NoFault : Row → Type 0
 NoFault row = AllByRecursion IsNoFault row.replies
@@ -99,38 +97,12 @@ errors state item = by (is_upload_kind (kind_of_item item))
     by true = one (ul_error_resp 1) (λ same. omega (arith, same))
     by false = tt
 
--- a packet that has a row in some state
-has : (caller : CallSign) (moment : ℕ) (store : Store) (state : State) (item : Item) → has_row item ≡ true → IfSome (session_row caller moment store state item) NoFault
-unfolding session_row
-has caller moment store command (Ok (upload_cmd number len)) h = either (number == 0) (begin_row caller moment store len) (continue_row caller number len (entry_of store number)) (begins caller moment store len) (continues caller number len (entry_of store number))
-has caller moment store (receiving n rest) (Ok (upload_cmd number len)) h = errors (receiving n rest) (Ok (upload_cmd number len))
-has caller moment store aborting (Ok (upload_cmd number len)) h = errors aborting (Ok (upload_cmd number len))
-has caller moment store command (Ok (data_part octets)) h = errors command (Ok (data_part octets))
-has caller moment store (receiving n rest) (Ok (data_part octets)) h = takes store n rest octets
-has caller moment store aborting (Ok (data_part octets)) h = tt
-has caller moment store command (Ok data_end) h = errors command (Ok data_end)
-has caller moment store (receiving n rest) (Ok data_end) h = ends moment store n rest
-has caller moment store aborting (Ok data_end) h = tt
-has caller moment store state (Ok (login_resp m flags)) h = absurd (cc)
-has caller moment store state (Ok (ul_go_resp number offset)) h = absurd (cc)
-has caller moment store state (Ok (ul_error_resp code)) h = absurd (cc)
-has caller moment store state (Ok ul_ack_resp) h = absurd (cc)
-has caller moment store state (Ok (ul_nak_resp code)) h = absurd (cc)
-has caller moment store state (Ok (download_cmd number offset lock)) h = absurd (cc)
-has caller moment store state (Ok (dl_error_resp code)) h = absurd (cc)
-has caller moment store state (Ok dl_aborted_resp) h = absurd (cc)
-has caller moment store state (Ok dl_completed_resp) h = absurd (cc)
-has caller moment store state (Ok dl_ack_cmd) h = absurd (cc)
-has caller moment store state (Ok dl_nak_cmd) h = absurd (cc)
-has caller moment store state (Ok (dir_short_cmd number)) h = absurd (cc)
-has caller moment store state (Ok (dir_long_cmd number)) h = absurd (cc)
-has caller moment store state (Ok (select_cmd tokens)) h = absurd (cc)
-has caller moment store state (Ok (select_resp count)) h = absurd (cc)
-has caller moment store state (Err malformed) h = absurd (cc)
-
 pub fault_codes : FaultCodeLaw
-fault_codes caller moment store state item = by (has_row item) refl
-  where
-    by : (b : Bool) → has_row item ≡ b → IfSome (session_row caller moment store state item) NoFault
-    by true h = has caller moment store state item h
-    by false h = subst (λ (o : Option Row). IfSome o NoFault) (sym (row-none caller moment store state item h)) (errors state item)
+unfolding session_row
+fault_codes caller moment store command (Ok (upload_cmd number len)) =
+    either (number == 0) (begin_row caller moment store len) (continue_row caller number len (entry_of store number)) (begins caller moment store len) (continues caller number len (entry_of store number))
+fault_codes caller moment store (receiving n rest) (Ok (data_part octets)) = takes store n rest octets
+fault_codes caller moment store (receiving n rest) (Ok data_end) = ends moment store n rest
+fault_codes caller moment store aborting (Ok (data_part octets)) = tt
+fault_codes caller moment store aborting (Ok data_end) = tt
+fault_codes caller moment store state item = errors state item

@@ -1,3 +1,4 @@
+pub mod AckLemmas
 pub mod BeginLemmas
 pub mod DoesLemmas
 pub mod FaultCodes

@@ -2,10 +2,7 @@
 use Rattle.std.proofs.Common.{◌≡◌, ℕ, List, [], ◌∷◌, refl, true, false, sym, ap, ◌∙◌, Bor, subst, Option, None, Some}
 use Rattle.std.specs.Prelude.{⊤, Result, Ok, Err, IfSome}
 use Rattle.px_base.specs.CallSign.{CallSign}
-use Rattle.ftl0_packets.specs.Layout.{Item, data_part, data_end, login_resp, upload_cmd, ul_go_resp, ul_error_resp, ul_ack_resp, ul_nak_resp, download_cmd, dl_error_resp, dl_aborted_resp, dl_completed_resp, dl_ack_cmd, dl_nak_cmd, dir_short_cmd, dir_long_cmd, select_cmd, select_resp}
-use Rattle.ftl0_packets.specs.Values.{value_of}
-use Rattle.ftl0_packets.specs.declared.packet.Packet.{Packet}
-use Rattle.ftl0_packets.specs.declared.packet.Packet.TheVariants as packet
+use Rattle.ftl0_packets.specs.Layout.{Item, data_part, data_end, upload_cmd, ul_error_resp}
 use Rattle.file_entries.specs.Store.{Store}
 use Rattle.file_store.specs.State.{StoreState, store_in}
 use Rattle.ftl0_session.specs.Asked.{IsAsked, has_row, kind_of_asked}
@@ -44,62 +41,11 @@ row-at caller moment store state p q row same is = ap (λ (i : Item). session_ro
 pub row-none : (caller : CallSign) (moment : ℕ) (store : Store) (state : State) (item : Item) → has_row item ≡ false → session_row caller moment store state item ≡ error_row state item
 unfolding session_row
 row-none caller moment store command (Ok (upload_cmd number len)) h = absurd (cc)
-row-none caller moment store command (Ok (data_part octets)) h = absurd (cc)
-row-none caller moment store command (Ok data_end) h = absurd (cc)
-row-none caller moment store command (Ok (login_resp m flags)) h = refl
-row-none caller moment store command (Ok (ul_go_resp number offset)) h = refl
-row-none caller moment store command (Ok (ul_error_resp code)) h = refl
-row-none caller moment store command (Ok ul_ack_resp) h = refl
-row-none caller moment store command (Ok (ul_nak_resp code)) h = refl
-row-none caller moment store command (Ok (download_cmd number offset lock)) h = refl
-row-none caller moment store command (Ok (dl_error_resp code)) h = refl
-row-none caller moment store command (Ok dl_aborted_resp) h = refl
-row-none caller moment store command (Ok dl_completed_resp) h = refl
-row-none caller moment store command (Ok dl_ack_cmd) h = refl
-row-none caller moment store command (Ok dl_nak_cmd) h = refl
-row-none caller moment store command (Ok (dir_short_cmd number)) h = refl
-row-none caller moment store command (Ok (dir_long_cmd number)) h = refl
-row-none caller moment store command (Ok (select_cmd tokens)) h = refl
-row-none caller moment store command (Ok (select_resp count)) h = refl
-row-none caller moment store command (Err malformed) h = refl
-row-none caller moment store (receiving n rest) (Ok (upload_cmd number len)) h = absurd (cc)
 row-none caller moment store (receiving n rest) (Ok (data_part octets)) h = absurd (cc)
 row-none caller moment store (receiving n rest) (Ok data_end) h = absurd (cc)
-row-none caller moment store (receiving n rest) (Ok (login_resp m flags)) h = refl
-row-none caller moment store (receiving n rest) (Ok (ul_go_resp number offset)) h = refl
-row-none caller moment store (receiving n rest) (Ok (ul_error_resp code)) h = refl
-row-none caller moment store (receiving n rest) (Ok ul_ack_resp) h = refl
-row-none caller moment store (receiving n rest) (Ok (ul_nak_resp code)) h = refl
-row-none caller moment store (receiving n rest) (Ok (download_cmd number offset lock)) h = refl
-row-none caller moment store (receiving n rest) (Ok (dl_error_resp code)) h = refl
-row-none caller moment store (receiving n rest) (Ok dl_aborted_resp) h = refl
-row-none caller moment store (receiving n rest) (Ok dl_completed_resp) h = refl
-row-none caller moment store (receiving n rest) (Ok dl_ack_cmd) h = refl
-row-none caller moment store (receiving n rest) (Ok dl_nak_cmd) h = refl
-row-none caller moment store (receiving n rest) (Ok (dir_short_cmd number)) h = refl
-row-none caller moment store (receiving n rest) (Ok (dir_long_cmd number)) h = refl
-row-none caller moment store (receiving n rest) (Ok (select_cmd tokens)) h = refl
-row-none caller moment store (receiving n rest) (Ok (select_resp count)) h = refl
-row-none caller moment store (receiving n rest) (Err malformed) h = refl
-row-none caller moment store aborting (Ok (upload_cmd number len)) h = absurd (cc)
 row-none caller moment store aborting (Ok (data_part octets)) h = absurd (cc)
 row-none caller moment store aborting (Ok data_end) h = absurd (cc)
-row-none caller moment store aborting (Ok (login_resp m flags)) h = refl
-row-none caller moment store aborting (Ok (ul_go_resp number offset)) h = refl
-row-none caller moment store aborting (Ok (ul_error_resp code)) h = refl
-row-none caller moment store aborting (Ok ul_ack_resp) h = refl
-row-none caller moment store aborting (Ok (ul_nak_resp code)) h = refl
-row-none caller moment store aborting (Ok (download_cmd number offset lock)) h = refl
-row-none caller moment store aborting (Ok (dl_error_resp code)) h = refl
-row-none caller moment store aborting (Ok dl_aborted_resp) h = refl
-row-none caller moment store aborting (Ok dl_completed_resp) h = refl
-row-none caller moment store aborting (Ok dl_ack_cmd) h = refl
-row-none caller moment store aborting (Ok dl_nak_cmd) h = refl
-row-none caller moment store aborting (Ok (dir_short_cmd number)) h = refl
-row-none caller moment store aborting (Ok (dir_long_cmd number)) h = refl
-row-none caller moment store aborting (Ok (select_cmd tokens)) h = refl
-row-none caller moment store aborting (Ok (select_resp count)) h = refl
-row-none caller moment store aborting (Err malformed) h = refl
+row-none caller moment store state item h = refl
 
 -- what a call that leaves the store as it was leaves of other callers' files
 pub others-same : (store : StoreState) (caller : CallSign) → KeepsOtherCallers store store caller
@@ -166,42 +112,25 @@ error-command caller moment store item (asked.Part octets) other is = (rw is ref
 error-command caller moment store item asked.End other is = (rw is refl, rw is refl)
 error-command caller moment store item (asked.Other kind) other is = (row-none caller moment store command item is.0, is.1)
 
--- in Receiving of one that is neither DATA nor DATA_END
+-- in a state where an UPLOAD_CMD has error 1, of a packet that is neither DATA nor DATA_END
+error-no_data : (caller : CallSign) (moment : ℕ) (store : Store) (state : State) (item : Item) (a : Asked)
+    → ((number len : ℕ) → session_row caller moment store state (Ok (upload_cmd number len)) ≡ error_row state (Ok (upload_cmd number len)))
+    → ((octets : Bor (List ℕ)) → a ≡ asked.Part octets → ⊥) → (a ≡ asked.End → ⊥) → IsAsked item a
+    → (session_row caller moment store state item ≡ error_row state item) × (kind_of_asked a ≡ kind_of_item item)
+error-no_data caller moment store state item (asked.Upload number len) upload no_part no_end is = (rw is (upload number len), rw is refl)
+error-no_data caller moment store state item (asked.Part octets) upload no_part no_end is = absurd (no_part octets refl)
+error-no_data caller moment store state item asked.End upload no_part no_end is = absurd (no_end refl)
+error-no_data caller moment store state item (asked.Other kind) upload no_part no_end is = (row-none caller moment store state item is.0, is.1)
+
+-- so in Receiving
 pub error-receiving : (caller : CallSign) (moment : ℕ) (store : Store) (n : ℕ) (rest : List ℕ) (item : Item) (a : Asked) → ((octets : Bor (List ℕ)) → a ≡ asked.Part octets → ⊥)
     → (a ≡ asked.End → ⊥) → IsAsked item a
     → (session_row caller moment store (receiving n rest) item ≡ error_row (receiving n rest) item) × (kind_of_asked a ≡ kind_of_item item)
 unfolding session_row
-error-receiving caller moment store n rest item (asked.Upload number len) no_part no_end is = (rw is refl, rw is refl)
-error-receiving caller moment store n rest item (asked.Part octets) no_part no_end is = absurd (no_part octets refl)
-error-receiving caller moment store n rest item asked.End no_part no_end is = absurd (no_end refl)
-error-receiving caller moment store n rest item (asked.Other kind) no_part no_end is = (row-none caller moment store (receiving n rest) item is.0, is.1)
+error-receiving caller moment store n rest item a no_part no_end is = error-no_data caller moment store (receiving n rest) item a (λ number len. refl) no_part no_end is
 
 -- and in Aborting
 pub error-aborting : (caller : CallSign) (moment : ℕ) (store : Store) (item : Item) (a : Asked) → ((octets : Bor (List ℕ)) → a ≡ asked.Part octets → ⊥) → (a ≡ asked.End → ⊥) → IsAsked item a
     → (session_row caller moment store aborting item ≡ error_row aborting item) × (kind_of_asked a ≡ kind_of_item item)
 unfolding session_row
-error-aborting caller moment store item (asked.Upload number len) no_part no_end is = (rw is refl, rw is refl)
-error-aborting caller moment store item (asked.Part octets) no_part no_end is = absurd (no_part octets refl)
-error-aborting caller moment store item asked.End no_part no_end is = absurd (no_end refl)
-error-aborting caller moment store item (asked.Other kind) no_part no_end is = (row-none caller moment store aborting item is.0, is.1)
-
--- a packet that is none of the three that have a row has a row in no state
-pub has_row-none : (p : Packet) → ((number len : ℕ) → p ≡ packet.UploadCmd number len → ⊥) → ((octets : Bor (List ℕ)) → p ≡ packet.DataPart octets → ⊥) → (p ≡ packet.DataEnd → ⊥) → has_row (Ok (value_of p)) ≡ false
-has_row-none (packet.UploadCmd number len) a b c = absurd (a number len refl)
-has_row-none (packet.DataPart octets) a b c = absurd (b octets refl)
-has_row-none packet.DataEnd a b c = absurd (c refl)
-has_row-none (packet.LoginResp m flags) a b c = refl
-has_row-none (packet.UlGoResp number offset) a b c = refl
-has_row-none (packet.UlErrorResp code) a b c = refl
-has_row-none packet.UlAckResp a b c = refl
-has_row-none (packet.UlNakResp code) a b c = refl
-has_row-none (packet.DownloadCmd number offset lock) a b c = refl
-has_row-none (packet.DlErrorResp code) a b c = refl
-has_row-none packet.DlAbortedResp a b c = refl
-has_row-none packet.DlCompletedResp a b c = refl
-has_row-none packet.DlAckCmd a b c = refl
-has_row-none packet.DlNakCmd a b c = refl
-has_row-none (packet.DirShortCmd number) a b c = refl
-has_row-none (packet.DirLongCmd number) a b c = refl
-has_row-none (packet.SelectCmd tokens) a b c = refl
-has_row-none (packet.SelectResp count) a b c = refl
+error-aborting caller moment store item a no_part no_end is = error-no_data caller moment store aborting item a (λ number len. refl) no_part no_end is

@@ -5,11 +5,11 @@ use Rattle.std.proofs.lemmas.List.{take-append-drop}
 use Rattle.px_base.specs.CallSign.{CallSign}
 use Rattle.ftl0_packets.specs.Layout.{Item, PacketValue, data_end, ul_ack_resp, ul_go_resp}
 use Rattle.pfh_items.specs.Faults.{fault_code}
+use Rattle.pfh_writer.proofs.ClientLemmas.{kept_file}
 use Rattle.file_entries.specs.Command.{after, after_all, begin, grown, last_grow, seal, sealed, stamp_of, unfilled_block, whole_grows}
 use Rattle.file_entries.specs.IsStore.{IsStore}
 use Rattle.file_entries.specs.Store.{Entry, Holding, Store, entry_of, new_entry, octets_at, partial}
 use Rattle.file_entries.proofs.AfterLemmas.{find-push}
-use Rattle.file_entries.proofs.ClientLemmas.{kept_file}
 use Rattle.file_entries.proofs.EntriesLemmas.{find-map-changed, find_past, has_number}
 use Rattle.file_entries.proofs.GrowLemmas.{after_all-append, grows-after, last_grow-after}
 use Rattle.ftl0_session.specs.Continued.{ContinuedLaw}
@@ -25,7 +25,7 @@ abbrev pub upto : Entry → List ℕ → Entry
 upto e held = record e { holding = partial held }
 
 -- an entry that is under way is that
-upto-is : (e : Entry) (held : List ℕ) → e.holding ≡ partial held → e ≡ upto e held
+pub upto-is : (e : Entry) (held : List ℕ) → e.holding ≡ partial held → e ≡ upto e held
 upto-is e held partly = ap (λ (h : Holding). record e { holding = h }) partly
 
 -- the last grow and the seal leave the entry complete, and its file stamped
@@ -118,7 +118,7 @@ sent caller (event ∷ parts) file store number e held rest found brings fits =
 -- what DATA_END gives once all octets came
 module _ (caller : CallSign) (store : Store) (number : ℕ) (e : Entry) (moment : ℕ) (held rest file : List ℕ) (found : entry_of store number ≡ Some (upto e held))
     (octets : held ++ rest ≡ file) (all : length file ≡ e.length) (good : fault_code file ≡ None) where
-  end-row : session_row caller moment store (receiving number rest) (Ok data_end) ≡ Some (whole_row moment number rest None)
+  pub end-row : session_row caller moment store (receiving number rest) (Ok data_end) ≡ Some (whole_row moment number rest None)
   end-row =
       let here : octets_at (entry_of store number) ≡ held = ap octets_at found in
       let len : length held + length rest ≡ length file = sym (length-append held rest) ∙ ap length octets in

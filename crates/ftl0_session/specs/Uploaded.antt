@@ -6,9 +6,9 @@ use Rattle.px_base.specs.Octets.{IsOctets}
 use Rattle.ftl0_packets.specs.Layout.{data_end, data_part, ul_ack_resp, ul_go_resp, upload_cmd}
 use Rattle.pfh_items.specs.Faults.{fault_code}
 use Rattle.pfh_items.specs.Stamp.{stamped}
+use Rattle.pfh_writer.specs.KeptFile.{KeepsClient}
 use Rattle.file_entries.specs.Command.{can_begin, stamp_of}
 use Rattle.file_entries.specs.IsStore.{IsStore}
-use Rattle.file_entries.specs.KeptFile.{KeepsClient}
 use Rattle.file_entries.specs.Store.{Entry, Store, entry_of, new_entry}
 use Rattle.ftl0_session.specs.Events.{Event}
 use Rattle.ftl0_session.specs.Laws.{kept}

@@ -1,7 +1,7 @@
 //! Laws of the session's table, and of a session over events.
 
 ghost use Rattle.ftl0_session.specs.Continued.{ContinuedLaw};
-ghost use Rattle.ftl0_session.specs.Laws.{AcknowledgedLaw, FaultCodeLaw, GrantedLaw, ResumedLaw};
+ghost use Rattle.ftl0_session.specs.Laws.{AcknowledgedLaw, AcknowledgedStandsLaw, FaultCodeLaw, GrantedLaw, ResumedLaw};
 ghost use Rattle.ftl0_session.specs.Run.{CommandsOfLaw};
 ghost use Rattle.ftl0_session.specs.Uploaded.{UploadedLaw};
 
@@ -24,6 +24,14 @@ pub fn fault_code_law()
 /// stamped: it has the client's body, and the client's items but for the server's.
 pub fn acknowledged_law()
     ensures { AcknowledgedLaw }
+{}
+
+/// What was acknowledged stands: once the commands before and those of the row that replies UL_ACK_RESP are done, the
+/// file's entry is complete, with exactly the octets that came, stamped, in every image that stands for the store after
+/// at least these commands, whatever comes behind them. The commands before may be those of this session alone, or of
+/// many.
+pub fn acknowledged_stands_law()
+    ensures { AcknowledgedStandsLaw }
 {}
 
 /// A new file without fault that may be begun is granted and acknowledged, in whatever DATA packets it comes, and the

@@ -1,5 +1,4 @@
-//! The server of FTL0 sessions (FTL0 1990). So far: the session of one caller, which is its table row by row, over a
-//! store of files on a disk.
+//! The session of one caller of the server (FTL0 1990): its table row by row, over a store of files on a disk.
 #![tactic(auto)]
 
 mod asked;

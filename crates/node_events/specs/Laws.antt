@@ -1,12 +1,12 @@
 -- Laws of a node's events.
-use Rattle.std.specs.Prelude.{◌≡◌, ◌≤◌, ℕ, List, [], ◌++◌, length}
+use Rattle.std.specs.Prelude.{◌≡◌, ℕ, List}
 use Rattle.px_base.specs.CallSign.{CallSign}
 use Rattle.px_base.specs.Octets.{IsOctets}
 use Rattle.px_base.specs.Polling.{octets_heard}
 use Rattle.px_base.specs.declared.air.Turn.{Turn}
-use Rattle.ax25_frames.specs.FrameText.{FrameValue}
 use Rattle.kiss.specs.KissText.{kiss_frames}
-use Rattle.node_events.specs.Events.{FramesFor, NodeEvent, NodeEvents, frames_in}
+use Rattle.ax25_frames.specs.FrameText.{FrameValue}
+use Rattle.node_events.specs.Events.{Finishes, FramesFor, NodeEvent, NodeEvents, frames_in}
 
 -- Turns at moments bring one list of events, and no other.
 abbrev pub OneRunLaw : Type 0
@@ -21,8 +21,8 @@ FramesLaw =
     (me : CallSign) (turns : List Turn) (moments : List ℕ) (events : List NodeEvent)
     → NodeEvents me turns moments events → FramesFor me (kiss_frames (octets_heard turns)) (frames_in events)
 
--- turns bring some events, one moment each
-abbrev pub SomeRunLaw : Type 0
-SomeRunLaw =
-    (me : CallSign) (turns : List Turn) (moments : List ℕ) → IsOctets (octets_heard turns)
-    → length turns ≤ length moments → (events : List NodeEvent) × NodeEvents me turns moments events
+-- Whatever octets came before, further ones finish some frames for the station, maybe none.
+abbrev pub SomeFramesLaw : Type 0
+SomeFramesLaw =
+    (me : CallSign) (before octets : List ℕ) → IsOctets before → IsOctets octets
+    → (frames : List FrameValue) × Finishes me before octets frames

@@ -4,5 +4,7 @@
 
 pub mod laws;
 mod station;
+#[cfg(test)]
+mod tests;
 
 pub use station::StationReader;

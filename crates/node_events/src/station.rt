@@ -4,6 +4,7 @@ ghost use Rattle.std.specs.Prelude.{◌≡◌, ◌↔◌, [], IfSome, IsSome, Is
 ghost use Rattle.std.specs.Option.{option_map};
 ghost use Rattle.ax25_frames.specs.Values.{value_of};
 ghost use Rattle.ax25_frames.specs.Kinds.{FitsControl};
+ghost use Rattle.node_events.specs.Events.{IsFor};
 ghost use Rattle.node_events.specs.Reading.{Finds, HasHeard, HearsOctet};
 
 use ax25_frames::{Frame, read_frame};
@@ -66,8 +67,18 @@ fn frame_for(me: Call, octets: &[u8]) -> Option<Frame<'_>>
     ensures found { Finds me octets.now (option_map value_of result) }
     ensures numbers { IfSome result (λ frame. FitsControl (value_of frame).kind.control) }
 {
-    match read_frame(octets) {
-        Ok(frame) if frame.dest == me && frame.via == 0 => Some(frame),
-        _ => None,
+    let Ok(frame) = read_frame(octets) else {
+        return None;
+    };
+    if !is_for(me, &frame) {
+        return None;
     }
+    Some(frame)
+}
+
+/// Whether a frame is for this station, and names no repeater.
+fn is_for(me: Call, frame: &Frame<'_>) -> bool
+    ensures { IsTrue result ↔ IsFor me (value_of frame.now) }
+{
+    frame.dest == me && frame.via == 0
 }

@@ -1,6 +1,7 @@
 pub mod Files
 pub mod Making
 pub mod Run
+pub mod Servers
 pub mod Sessions
 pub mod Status
 pub mod Stops

@@ -1,5 +1,5 @@
 -- What a run of the program did for a session, by its words, by what was heard, and by its disk.
-use Rattle.std.specs.Prelude.{◌≡◌, ◌⊎◌, ◌↔◌, ◌||◌, ℕ, ◌++◌, List, [], ◌∷◌, length, Bool, true, false, not, Option, None, Some, IfSome, Result, Ok, Err, IsErrOf}
+use Rattle.std.specs.Prelude.{◌≡◌, ◌⊎◌, ◌↔◌, ◌||◌, ℕ, ◌++◌, List, [], ◌∷◌, length, Bool, true, false, not, Option, Some, IfSome, Result, IsErrOf}
 use Rattle.std.specs.List.{AllByRecursion}
 use Rattle.px_base.specs.Moments.{MomentsOf}
 use Rattle.px_base.specs.Outside.{Gains, Rose}
@@ -25,8 +25,9 @@ use Rattle.session_node.specs.declared.terms.SessionTerms.{SessionTerms}
 use Rattle.command_words.specs.declared.disk.DiskWord.{DiskWord}
 use Rattle.command_words.specs.declared.disk.DiskWord.TheVariants.{Fresh, Named}
 use Rattle.command_words.specs.declared.request.SessionRequest.{SessionRequest}
-use Rattle.command_words.specs.Laws.{AsksSession}
-use Rattle.command_words.specs.Words.{IsSession}
+use Rattle.command_words.specs.declared.serve.ServeRequest.{ServeRequest}
+use Rattle.command_words.specs.Laws.{AsksServe, AsksSession}
+use Rattle.command_words.specs.Words.{IsServe, IsSession}
 use Rattle.pacsat_cli.specs.declared.status.BadStore.{BadStore as BadStoreWhy}
 use Rattle.pacsat_cli.specs.declared.status.BadStore.TheVariants.{NotAStore, Damaged}
 use Rattle.pacsat_cli.specs.declared.status.Status.{Status}
@@ -38,9 +39,13 @@ use Rattle.pacsat_cli.specs.Stops.{status_in_memory, status_of}
 abbrev pub AsksMoment : List (List ℕ) → Type 0
 AsksMoment words = (asked : SessionRequest) × IsSession words asked × ((moment : ℕ) × (asked.moment ≡ Some moment))
 
--- the words ask for a session over the disk that DISK names
+-- the words ask for a session over the disk that DISK names, or for a service, which is over it
 abbrev pub AsksDisk : List (List ℕ) → Type 0
-AsksDisk words = (asked : SessionRequest) × IsSession words asked × (asked.disk ≡ Named)
+AsksDisk words = ((asked : SessionRequest) × IsSession words asked × (asked.disk ≡ Named)) ⊎ AsksServe words
+
+-- the words ask for a session or a service
+abbrev pub AsksNode : List (List ℕ) → Type 0
+AsksNode words = AsksSession words ⊎ AsksServe words
 
 -- the words ask for a session over a fresh disk in memory
 abbrev pub AsksFresh : List (List ℕ) → Type 0
@@ -116,9 +121,9 @@ RunsSession words g air given disk disk_now before now clock clock_now status =
     → (IsUntouched before now clock clock_now status × (disk_now ≡ disk))
     ⊎ IsOver asked g air given disk disk_now before now clock clock_now status
 
--- The disk's counts of faults by the status. Disk comes only in a session over the disk that DISK names, and where the
--- count of failed writes and syncs rose; or, in the recovery, before anything was heard or said, where that of failed
--- reads did. Where it doesn't come, both are as they were.
+-- The disk's counts of faults by the status. Disk comes only in a session or a service over the disk that DISK names, and
+-- where the count of failed writes and syncs rose; or, in the recovery, before anything was heard or said, where that of
+-- failed reads did. Where it doesn't come, both are as they were.
 pub record HasDiskCause {A D : Type 0} (words : List (List ℕ)) (reads writes : D → ℕ) (disk disk_now : D) (before now : A)
     (status : Status) : Type 0 where
   pub asked : status ≡ Disk → AsksDisk words
@@ -137,19 +142,22 @@ pub record RefusesExactly (blocks : ℕ) (content : List ℕ) (status : Status) 
   pub not_a_store : (found : List ℕ) → (status ≡ BadStore (NotAStore found)) ↔ (standing_of blocks content ≡ no_store found)
   pub damaged : (at : ℕ) → (status ≡ BadStore (Damaged at)) ↔ (standing_of blocks content ≡ damaged_at at)
 
--- The content of the disk is refused only in a session over the disk that DISK names. But for a fault of the disk and want
--- of memory, and where the content is told, it is refused exactly where it stands for no store.
+-- The content of the disk is refused only in a session or a service over the disk that DISK names. But for a fault of the
+-- disk and want of memory, and where the content is told, it is refused exactly where it stands for no store.
 pub record HasStoreCause (words : List (List ℕ)) (content : Option (List ℕ)) (status : Status) : Type 0 where
   pub asked : (why : BadStoreWhy) → status ≡ BadStore why → AsksDisk words
   pub exact :
       (asked : SessionRequest) → IsSession words asked → asked.disk ≡ Named → (status ≡ Disk → ⊥)
       → (status ≡ OutOfMemory → ⊥) → IfSome content (λ octets. RefusesExactly asked.blocks octets status)
+  pub exact_served :
+      (asked : ServeRequest) → IsServe words asked → (status ≡ Disk → ⊥) → (status ≡ OutOfMemory → ⊥)
+      → IfSome content (λ octets. RefusesExactly asked.blocks octets status)
 
 -- the end of the air was read, after turns that left it open
 abbrev pub ReadsEnd : Option (List Turn) → Option (List Turn) → Type 0
 ReadsEnd before now = (turns : List Turn) × HearsAll before now turns × EndsWith turns turn.End
 
--- A session that is done read the end of the air, and no count of the air or of the disk rose.
+-- A session or a service that is done read the end of the air, and no count of the air or of the disk rose.
 pub record IsDoneAtEnd {A D : Type 0} (air : AirGhosts A) (reads writes : D → ℕ) (before now : A) (disk disk_now : D) :
     Type 0 where
   pub end : ReadsEnd (air.heard before) (air.heard now)

@@ -1,13 +1,13 @@
 -- What the words ask a run to do, and what a run did of it.
 use Rattle.std.specs.Prelude.{◌≡◌, ℕ, List, Option, Some}
 use Rattle.px_base.specs.Shelves.{Holding, content_of}
-use Rattle.command_words.specs.Words.{IsCheck, IsFrames, IsMake, IsSession, IsShow}
+use Rattle.command_words.specs.Words.{IsCheck, IsFrames, IsMake, IsServe, IsSession, IsShow}
 use Rattle.header_tool.specs.Made.{MakeValue, make_value}
 use Rattle.pacsat_cli.specs.declared.files.FileCommand.{FileCommand}
 use Rattle.pacsat_cli.specs.declared.files.FileCommand.TheVariants as command
 use Rattle.pacsat_cli.specs.declared.status.Status.{Status}
 use Rattle.pacsat_cli.specs.declared.task.Task.{Task}
-use Rattle.pacsat_cli.specs.declared.task.Task.TheVariants.{Session, File, Make}
+use Rattle.pacsat_cli.specs.declared.task.Task.TheVariants.{Session, Serve, File, Make}
 use Rattle.pacsat_cli.specs.Files.{FileRan}
 use Rattle.pacsat_cli.specs.Making.{MakeRan}
 
@@ -28,6 +28,7 @@ AsksMake words = (body name : List ℕ) × (spec : MakeValue) × IsMake words bo
 -- the words ask for this
 abbrev pub AsksTask : List (List ℕ) → Task → Type 0
 AsksTask words (Session request) = IsSession words request
+AsksTask words (Serve request) = IsServe words request
 AsksTask words (File command name) = AsksText words command name.now
 AsksTask words (Make request) = IsMake words request.body.now request.kept.now (make_value request.header)
 

@@ -1,14 +1,17 @@
-//! The command `session`.
+//! The commands `session` and `serve`.
 
 ghost use Rattle.std.specs.Prelude.{◌≡◌, ◌≤◌, IsSome};
-ghost use Rattle.pacsat_cli.specs.Sessions.{IsOver, OverDisk, OverMemory, run_terms};
+ghost use Rattle.command_words.specs.Words.{AreInRange};
+ghost use Rattle.pacsat_cli.specs.Servers.{IsServedOver, serve_terms};
+ghost use Rattle.pacsat_cli.specs.Sessions.{IsOver, OverMemory, run_terms};
 ghost use Rattle.pacsat_cli.specs.Stops.{status_in_memory, status_of as status_of_session};
 
 use crate::{BadStore, Status};
-use command_words::{DiskWord, SessionRequest};
+use command_words::{DiskWord, ServeRequest, SessionRequest};
 use disk_model::{Disk, MemoryDisk};
 use file_store::Limits;
 use px_base::{Air, Clock};
+use server_node::{ServerTerms, serve};
 use session_node::{NodeStop, Served, SessionTerms, session};
 use std::alloc::Global;
 
@@ -31,6 +34,29 @@ pub(crate) fn run_session<D: Disk, A: Air, C: Clock>(
         DiskWord::Named => status_of_ended(session(alloc, disk, air, clock, &terms)),
         DiskWord::Fresh => run_in_memory(alloc, &terms, air, clock),
     }
+}
+
+/// Serves sessions on the air, over this disk. Takes memory.
+pub(crate) fn run_serve<D: Disk, A: Air, C: Clock>(
+    alloc: Global,
+    request: &ServeRequest,
+    disk: &mut D,
+    air: &mut A,
+    clock: &mut C,
+) -> Status
+    requires ranges { AreInRange request.now.k request.now.blocks request.now.polls }
+    ensures over { IsServedOver D.Disk A.Air C.given disk.old disk.new air.old air.new clock.old clock.new
+        (serve_terms request.now) result }
+{
+    let terms = ServerTerms {
+        me: request.me,
+        k: request.k,
+        limits: Limits {
+            blocks: request.blocks,
+        },
+        polls: request.polls,
+    };
+    status_of_ended(serve(alloc, disk, air, clock, &terms))
 }
 
 /// Serves a session over a fresh disk in memory. A fault of such a disk is want of memory.
@@ -75,7 +101,7 @@ fn in_memory(status: Status) -> Status
     }
 }
 
-/// The status of a session that ended so.
+/// The status of a session or a service that ended so.
 fn status_of_ended(ended: Result<Served, NodeStop>) -> Status
     ensures { result ≡ status_of_session ended }
 {

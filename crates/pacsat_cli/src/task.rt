@@ -5,13 +5,15 @@ ghost use Rattle.command_words.specs.Asked.{AsksFor};
 ghost use Rattle.pacsat_cli.specs.Tasks.{AsksTask};
 
 use crate::files::FileCommand;
-use command_words::{MakeRequest, Request, SessionRequest};
+use command_words::{MakeRequest, Request, ServeRequest, SessionRequest};
 
 /// What a run does, by what the words ask for.
 #[derive(Clone, Copy)]
 pub(crate) enum Task<'a> {
     /// Serves a session.
     Session(SessionRequest),
+    /// Serves sessions on the air.
+    Serve(ServeRequest),
     /// Shows a text of a file on the shelf.
     File {
         /// Which text.
@@ -29,6 +31,7 @@ pub(crate) fn task_of<'a>(request: &Request<'a>) -> Task<'a>
 {
     match *request {
         Request::Session(session) => Task::Session(session),
+        Request::Serve(serve) => Task::Serve(serve),
         Request::Frames { name } => Task::File {
             command: FileCommand::Frames,
             name,

@@ -1,37 +1,41 @@
 //! The top call.
 
 ghost use Rattle.std.specs.Prelude.{◌≡◌, ◌≤◌, [], ◌∷◌};
-ghost use Rattle.command_words.specs.Laws.{AsksSession};
+ghost use Rattle.command_words.specs.Laws.{AsksServe, AsksSession};
 ghost use Rattle.command_words.specs.Words.{IsUnbuilt, IsUsage, NamesBuilt};
-ghost use Rattle.session_node.specs.Laws.{AcknowledgedStandsLaw};
+ghost use Rattle.ftl0_session.specs.Laws.{AcknowledgedStandsLaw};
 ghost use Rattle.px_base.specs.Outside.{Rose};
+ghost use Rattle.session_node.specs.Laws.{AcknowledgedSinceLaw};
 ghost use Rattle.pacsat_cli.specs.Files.{IsNoSuchBy, IsShownBy, IsTooLongBy};
 ghost use Rattle.pacsat_cli.specs.Run.{AreRefused, HasShelfCause, HasStatusCause, IsUnless, Shows, Stays};
-ghost use Rattle.pacsat_cli.specs.Sessions.{AsksDisk, AsksMoment, HasDiskCause, HasStoreCause, HasWriteCause, IsDoneAtEnd};
-ghost use Rattle.pacsat_cli.specs.Sessions.{IsDoneBy, IsNotBuiltBy, IsSpentBy, RunsSession, WhereHeard};
+ghost use Rattle.pacsat_cli.specs.Servers.{IsServeDoneBy, IsServeSpentBy, RunsServe, WhereServed};
+ghost use Rattle.pacsat_cli.specs.Sessions.{AsksDisk, AsksMoment, AsksNode, HasDiskCause, HasStoreCause, HasWriteCause};
+ghost use Rattle.pacsat_cli.specs.Sessions.{IsDoneAtEnd, IsDoneBy, IsNotBuiltBy, IsSpentBy, RunsSession, WhereHeard};
 ghost use Rattle.pacsat_cli.specs.Status.{line_of};
 ghost use Rattle.pacsat_cli.specs.Stops.{status_of_refusal};
 ghost use Rattle.pacsat_cli.specs.Tasks.{AsksFile, AsksMake, RunsFile, RunsMake, WhereHeld};
 
 use crate::files::run_file;
 use crate::making::run_make;
-use crate::serving::run_session;
+use crate::serving::{run_serve, run_session};
 use crate::task::{Task, task_of};
 use crate::{Status, Words};
 use command_words::Refusal;
 use command_words::laws::one_meaning;
 use disk_model::Disk;
 use ftl0_packets::laws::stream_law;
+use ftl0_session::laws::acknowledged_stands_law;
 use px_base::{Air, Clock, Out, Shelf};
-use session_node::laws::acknowledged_stands_law;
+use session_node::laws::acknowledged_since_law;
 use std::alloc::Global;
 
 /// Does what the words ask for, over this disk, air, shelf, output and clock, and shows the status's line on the output.
 ///
-/// These commands are built: `session`, one session over FTL0 octets on standard input and output, with a store on the
-/// disk, or, where DISK is `none`, on a fresh one in memory; `frames`, `pfh-show` and `pfh-check`, which show a text of a
-/// file on the shelf; and `pfh-make`, which makes a file of one on the shelf and keeps it there. A place for a bench after
-/// the clock comes with the command that uses it. Takes memory.
+/// These commands are built: `serve`, the server of up to eight sessions on the air, with a store on the disk; `session`,
+/// one session over FTL0 octets without a link, with a store on the disk, or, where DISK is `none`, on a fresh one in
+/// memory; `frames`, `pfh-show` and `pfh-check`, which show a text of a file on the shelf; and `pfh-make`, which makes a
+/// file of one on the shelf and keeps it there. A place for a bench after the clock comes with the command that uses it.
+/// Takes memory.
 pub fn run<D: Disk, A: Air, S: Shelf, O: Out, C: Clock>(
     alloc: Global,
     words: &Words,
@@ -60,9 +64,18 @@ pub fn run<D: Disk, A: Air, S: Shelf, O: Out, C: Clock>(
     ensures session_alone { AsksSession words.now → shelf.new ≡ shelf.old }
     ensures clock_unasked { AsksMoment words.now → clock.new ≡ clock.old }
 
+    // A server says the KISS text of the frames that its definition gives for the frames and ticks of the turns of the air,
+    // from the store for which its disk's content stands, and ends with a status that has its cause. At every moment since
+    // the first sync of the recovery each image stands for that store after the first of the server's commands, none skipped.
+    // Or there was no memory to read the words.
+    ensures serve { RunsServe words.now D.Disk A.Air C.given disk.old disk.new air.old air.new clock.old clock.new result }
+    ensures serve_alone { AsksServe words.now → shelf.new ≡ shelf.old }
+
     // So what was acknowledged stands: once DATA_END's row replied UL_ACK_RESP, the file's entry is complete, with exactly the
-    // octets that came, stamped, in every image in which its commands are done, whatever comes behind them.
+    // octets that came, stamped, in every image in which its commands are done, whatever comes behind them; and so in every
+    // image that a crash leaves since the last call of the disk for them, in each session and each server, however it ends.
     ensures acknowledged { AcknowledgedStandsLaw }
+    ensures acknowledged_since { AcknowledgedSinceLaw D.Disk }
 
     // No other command touches the disk, nor does a session with `none` for DISK.
     ensures disk_alone { (AsksDisk words.now → ⊥) → disk.new ≡ disk.old }
@@ -73,6 +86,8 @@ pub fn run<D: Disk, A: Air, S: Shelf, O: Out, C: Clock>(
     ensures complete { WhereHeard words.now A.heard air.old air.new (IsDoneBy result) }
     ensures not_built { WhereHeard words.now A.heard air.old air.new (IsNotBuiltBy result) }
     ensures spent { WhereHeard words.now A.heard air.old air.new (IsSpentBy result) }
+    ensures serve_complete { WhereServed words.now A.heard air.old air.new (IsServeDoneBy result) }
+    ensures serve_spent { WhereServed words.now A.heard air.old air.new (IsServeSpentBy result) }
 
     // `frames`, `pfh-show` and `pfh-check` show the command's text of what the shelf has under the name, then the
     // status's line, and end with a status that has its cause; neither air nor clock is touched.
@@ -98,11 +113,11 @@ pub fn run<D: Disk, A: Air, S: Shelf, O: Out, C: Clock>(
     ensures shelf { HasShelfCause (S.faults shelf.old) (S.faults shelf.new) result }
     ensures out { result ≡ Status.Out → Rose (O.faults out.old) (O.faults out.new) }
 
-    // The content of a session's disk is refused exactly where it stands for no store.
+    // The content of a session's or a server's disk is refused exactly where it stands for no store.
     ensures bad_store { HasStoreCause words.now (D.content disk.old) result }
 
-    // Done says that no count rose, and of a session on an air that tells, that its end was read.
-    ensures session_done { AsksSession words.now → result ≡ Status.Done
+    // Done says that no count rose, and of a session or a server on an air that tells, that its end was read.
+    ensures node_done { AsksNode words.now → result ≡ Status.Done
         → IsDoneAtEnd A.Air D.read_faults D.write_faults air.old air.new disk.old disk.new }
     ensures done { result ≡ Status.Done → Stays S.faults shelf.old shelf.new × Stays O.faults out.old out.new }
 
@@ -114,6 +129,7 @@ pub fn run<D: Disk, A: Air, S: Shelf, O: Out, C: Clock>(
     stream_law();
     one_meaning();
     acknowledged_stands_law();
+    acknowledged_since_law::<D>();
     let request = match command_words::read(alloc, words) {
         Ok(request) => request,
         Err(refusal) => {
@@ -125,6 +141,11 @@ pub fn run<D: Disk, A: Air, S: Shelf, O: Out, C: Clock>(
     match task_of(&request) {
         Task::Session(request) => {
             let status = run_session(alloc, &request, disk, air, clock);
+            show_line(status, out);
+            status
+        }
+        Task::Serve(request) => {
+            let status = run_serve(alloc, &request, disk, air, clock);
             show_line(status, out);
             status
         }

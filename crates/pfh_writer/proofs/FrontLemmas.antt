@@ -1,15 +1,14 @@
 -- What a stamper gave is the front of the stamped file.
-use Rattle.std.proofs.Common.{◌≡◌, ℕ, suc, ◌+◌, ◌*◌, ◌/◌, ◌%◌, ◌^◌, ◌<◌, ◌≤◌, ◌==◌, ◌&&◌, List, [], ◌∷◌, ◌++◌, length, map, take, drop, Bool, true, false, cond, Option, Some, None, refl, sym, ap, ◌∙◌, subst, arith, append_assoc, length-append, zero-add}
+use Rattle.std.proofs.Common.{◌≡◌, ℕ, suc, ◌+◌, ◌/◌, ◌%◌, ◌≤◌, List, [], ◌∷◌, ◌++◌, length, map, take, drop, Option, Some, None, refl, sym, ap, ◌∙◌, subst, arith, append_assoc, length-append, zero-add}
 use Rattle.std.specs.Option.{unwrap_or}
-use Rattle.std.proofs.lemmas.List.{append-nil, take_all, take_at, drop_at, take-append-le, take-append-drop, length-take-le, map-append}
+use Rattle.std.proofs.lemmas.List.{append-nil, take_all, take_at, drop_at, take-append-le, map-append}
 use Rattle.px_base.specs.CallSign.{IsCall}
 use Rattle.px_base.specs.Numbers.{le16_octets}
 use Rattle.pfh_items.specs.Faults.{IsFaultless}
-use Rattle.pfh_items.specs.Layout.{ItemValue, IsItem, AreItems, FileText, item_text, items_text, end_item, header_start, header_text}
+use Rattle.pfh_items.specs.Layout.{ItemValue, AreItems, item_text, items_text, end_item, header_start}
 use Rattle.pfh_items.specs.Stamp.{StampValue, stamped_items, stamped}
 use Rattle.pfh_items.proofs.HeaderLemmas.{after_start}
 use Rattle.pfh_items.proofs.StampLemmas.{stamped-text}
-use Rattle.pfh_items.proofs.TextLemmas.{item_at}
 use Rattle.pfh_writer.specs.declared.stamper.Stage.{Stage}
 use Rattle.pfh_writer.specs.declared.stamper.Stage.TheVariants.{Start, Begun, ItemStart, IdCut, IdRead, InData, Body}
 use Rattle.pfh_writer.specs.Given.{stamped_sum}
@@ -115,7 +114,7 @@ module _ (stamp : StampValue) (sum : ℕ) where
       (sym (append_assoc (item_text item) (items_text after) (end_item ++ body)) ∙ sym same))
 
   -- the octets of a stamped file, by its items before and after
-  stamped_parts_text : (items before after : List ItemValue) (body file : List ℕ) → IsFaultless items body file → sum ≡ stamped_sum stamp items
+  pub stamped_parts_text : (items before after : List ItemValue) (body file : List ℕ) → IsFaultless items body file → sum ≡ stamped_sum stamp items
       → items ≡ before ++ after
       → stamped stamp file
       ≡ (header_start ++ items_text (map (given_item stamp sum) before)) ++ (items_text (map (given_item stamp sum) after) ++ (end_item ++ body))
@@ -213,22 +212,6 @@ module _ (stamp : StampValue) (sum : ℕ) where
       ∙ ap (λ (t : List ℕ). take (length fed) (stamped stamp t)) (append-nil fed)
       ∙ take_all (length fed) (stamped stamp fed) (omega arith)
 
--- the front of the stamped file as long as the header, and the rest as it was, are the stamped file
-pub stamped_header : (stamp : StampValue) (sum : ℕ) (items : List ItemValue) (body file : List ℕ) (len : ℕ) → IsCall stamp.by → IsFaultless items body file
-    → sum ≡ stamped_sum stamp items → len ≡ length (header_text items) → take len (stamped stamp file) ++ drop len file ≡ stamped stamp file
-stamped_header stamp sum items body file len call is right same_len =
-    let new : List ℕ = header_text (map (given_item stamp sum) items) in
-    let parts : stamped stamp file ≡ header_text (map (given_item stamp sum) items) ++ body =
-    stamped-text stamp items body file is.file_text ∙ ap (λ (l : List ItemValue). header_text l ++ body) (sym (given_items stamp sum items body file is right)) in
-    let new_len : length (header_text (map (given_item stamp sum) items)) ≡ len =
-    omega
-    (arith, length-append (items_text (map (given_item stamp sum) items)) end_item, length-append (items_text items) end_item, length-given_items stamp sum items call) in
-    ap (λ (t : List ℕ). take len t ++ drop len file) parts
-    ∙ ap (λ (t : List ℕ). t ++ drop len file) (take_at (header_text (map (given_item stamp sum) items)) body len new_len)
-    ∙ ap (λ (t : List ℕ). header_text (map (given_item stamp sum) items) ++ t)
-    (ap (λ (t : List ℕ). drop len t) is.file_text.text ∙ drop_at (header_text items) body len (sym same_len))
-    ∙ sym parts
-
 -- what a stamper stands for, by its stage
 pub has_stamped : (stamper : StamperValue) (fed given : List ℕ) → IsCall stamper.stamp.by
     → StandsAt stamper.stamp stamper.sum stamper.stage fed given → HasStamped stamper fed given
@@ -238,21 +221,6 @@ has_stamped stamper fed given call stands = record {
   front = front stamper.stamp stamper.sum stamper.stage fed given call stands;
   whole = whole stamper.stamp stamper.sum stamper.stage fed given call stands;
 }
-
--- the header of a file was fed in one piece
-pub stamped_once : (stamper : StamperValue) (stamp : StampValue) (file given : List ℕ) (len : ℕ) (items : List ItemValue) (body : List ℕ)
-    → HasStamped stamper (take len file) given → stamper.stamp ≡ stamp → stamper.sum ≡ stamped_sum stamp items → IsFaultless items body file
-    → len ≡ length (header_text items) → given ++ drop len file ≡ stamped stamp file
-stamped_once stamper stamp file given len items body h same right is same_len =
-    let right_of : stamper.sum ≡ stamped_sum stamper.stamp items = right ∙ ap (λ (s : StampValue). stamped_sum s items) (sym same) in
-    let all : take len file ++ drop len file ≡ file = take-append-drop len file in
-    let within : len ≤ length file = omega (arith, ap length is.file_text.text, length-append (header_text items) body) in
-    ap (λ (t : List ℕ). t ++ drop len file)
-    (h.front items body (drop len file) (subst (λ (t : List ℕ). IsFaultless items body t) (sym (take-append-drop len file)) is) right_of
-    ∙ ap (λ (t : List ℕ). take (length (take len file)) (stamped stamper.stamp t)) (take-append-drop len file)
-    ∙ ap (λ (n : ℕ). take n (stamped stamper.stamp file)) (length-take-le len file within))
-    ∙ stamped_header stamper.stamp stamper.sum items body file len h.call is right_of same_len
-    ∙ ap (λ (s : StampValue). stamped s file) same
 
 -- the state is after a run from an old one
 pub stamps_all : (old now : StamperValue) (fed given octets given_octets : List ℕ) → StampsOn old now octets given_octets → HasStamped old fed given

@@ -1,10 +1,14 @@
 pub mod BuiltLemmas
+pub mod ClientLemmas
+pub mod FaultlessLemmas
 pub mod FilledLemmas
+pub mod FillingLemmas
 pub mod FrontLemmas
 pub mod ItemsLemmas
 pub mod OthersLemmas
 pub mod PieceLemmas
 pub mod ShortLemmas
+pub mod StampedLemmas
 pub mod StepLemmas
 pub mod SumLemmas
 pub mod TestLemmas

@@ -1,8 +1,8 @@
 -- The header of a file that keeps all rules.
-use Rattle.std.proofs.Common.{◌≡◌, ℕ, ◌+◌, ◌<◌, ◌≤◌, List, [], ◌∷◌, ◌++◌, length, take, drop, refl, sym, ap, ◌∙◌, subst, arith, length-append, append_assoc}
-use Rattle.std.proofs.lemmas.List.{append-nil, append_cancel_right, take_at, drop_at}
+use Rattle.std.proofs.Common.{◌≡◌, ℕ, ◌≤◌, List, [], ◌++◌, length, drop, sym, ap, ◌∙◌, arith}
+use Rattle.std.proofs.lemmas.List.{append-nil, append_cancel_right}
 use Rattle.pfh_items.specs.Faults.{IsFaultless}
-use Rattle.pfh_items.specs.Layout.{ItemValue, AreItems, HeaderText, items_text, end_item, header_start, header_text}
+use Rattle.pfh_items.specs.Layout.{ItemValue, AreItems, header_text}
 use Rattle.pfh_items.specs.Walk.{ItemList, items_from}
 use Rattle.pfh_items.proofs.HeaderLemmas.{after_start}
 use Rattle.pfh_items.proofs.WalkLemmas.{items_from-whole}
@@ -26,13 +26,3 @@ pub header_long : (items : List ItemValue) (rest octets : List ℕ) → octets �
 header_long items rest octets same =
     let len = ap length (same ∙ after_start items rest) in
     omega arith
-
--- as many octets of a file as its header has are the header
-pub front_is : (items : List ItemValue) (body file : List ℕ) (len : ℕ) → IsFaultless items body file → len ≡ length (header_text items)
-    → take len file ≡ header_text items
-front_is items body file len is same = ap (λ (t : List ℕ). take len t) is.file_text.text ∙ take_at (header_text items) body len (sym same)
-
-pub front_faultless : (items : List ItemValue) (body file : List ℕ) (len : ℕ) → IsFaultless items body file → len ≡ length (header_text items)
-    → IsFaultless items body (take len file ++ body)
-front_faultless items body file len is same =
-    subst (λ (t : List ℕ). IsFaultless items body t) (is.file_text.text ∙ ap (λ (t : List ℕ). t ++ body) (sym (front_is items body file len is same))) is

@@ -6,6 +6,8 @@
 #![tactic(auto)]
 
 mod builder;
+mod filling;
+pub mod laws;
 mod pieces;
 mod refusal;
 mod server;

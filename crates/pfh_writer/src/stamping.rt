@@ -1,42 +1,53 @@
 //! The stamping of a file that lies in memory.
 
-ghost use Rattle.std.specs.Prelude.{◌≡◌, ℕ, ◌≤◌, List, length, drop, IsSome, IfSome};
-ghost use Rattle.pfh_items.specs.Faults.{IsFaultless, header_sum};
-ghost use Rattle.pfh_items.specs.Layout.{HeaderText, ItemValue, header_text};
+ghost use Rattle.std.specs.Prelude.{◌≡◌, ◌+◌, ◌≤◌, List, length, drop};
+ghost use Rattle.pfh_items.specs.Layout.{HeaderText, ItemValue};
 ghost use Rattle.pfh_items.specs.Stamp.{Stamped, stamped};
 ghost use Rattle.pfh_items.specs.Walk.{items_from};
+ghost use Rattle.pfh_writer.specs.Filling.{sum_place_after, with_sum_changed};
 ghost use Rattle.pfh_writer.specs.Given.{IsFaultlessFile, IsHeaderOfSums, stamped_sum as sum_of_stamped};
 
 use crate::server::ServerItems;
-use crate::stamper::Stamper;
-use pfh_items::{HEADER_CHECKSUM, Header, Items, Sums};
+use crate::text::octets16;
+use pfh_items::{HEADER_CHECKSUM, Items, Sums};
 use px_base::{Call, le16};
 
 /// Stamps a file that keeps all rules of headers, in its place: the data of file_number becomes the file's number, that of
 /// each ax25_uploader of six octets the characters of the call, that of each upload_time of four octets the moment, and
-/// header_checksum the new sum; all else stays as it is. It reads the header twice and never the body. Takes no memory.
+/// header_checksum the new sum; all else stays as it is. It walks over the header once, and never reads the body. Takes no
+/// memory.
 pub fn stamp(file: &mut [u8], number: u32, by: Call, moment: u32)
     requires { IsFaultlessFile file.old }
     ensures relation { Stamped (record { number = number; by = by; moment = moment }) file.old file.new }
     ensures computed { file.new ≡ stamped (record { number = number; by = by; moment = moment }) file.old }
 {
-    let Some((len, header_sum)) = header_of(file) else {
-        return;
-    };
-    let sum = ServerItems::new(number, by, moment).renewed_sum(header_sum, items_of(file));
-    Stamper::new(number, by, moment, sum).feed(&mut file[..len]);
+    let server = ServerItems::new(number, by, moment);
+    let mut at = 2;
+    let mut sum_at = 2;
+    let mut change: u16 = 0;
+    while let Some(item) = server.fill_front(&mut file[at..]) {
+        sum_at = sum_place(sum_at, item.id, at + 3);
+        change = change.wrapping_add(item.change);
+        at = at + 3 + item.len;
+    }
+    add_to_sum(file, sum_at, change);
 }
 
-/// The length of the header of a file that keeps all rules, and its sum.
-fn header_of(file: &[u8]) -> Option<(usize, u16)>
-    requires { IsFaultlessFile file.now }
-    ensures some { IsSome result }
-    ensures header { IfSome result (λ header. (items : List ItemValue) (body : List ℕ) → IsFaultless items body file.now
-        → (header.0 ≡ length (header_text items)) × (header.1 ≡ header_sum items)) }
+/// The place of header_checksum's data after an item of this id whose data begins at `at`, where `known` is the place that
+/// was known before.
+fn sum_place(known: usize, id: u16, at: usize) -> usize
+    ensures { result ≡ sum_place_after known id at }
 {
-    let header = Header::of_file(file)?;
-    let sum = header.field(HEADER_CHECKSUM)?;
-    Some((header.header().len(), le16(sum, 0)))
+    if id == HEADER_CHECKSUM { at } else { known }
+}
+
+/// Adds this to the sum that stands at a place, modulo 65,536.
+fn add_to_sum(file: &mut [u8], at: usize, change: u16)
+    requires { at + 2 ≤ length file.old }
+    ensures { file.new ≡ with_sum_changed file.old at change }
+{
+    let sum = le16(file, at).wrapping_add(change);
+    file[at..at + 2].copy_from_slice(&octets16(sum));
 }
 
 /// The sum that the header of a file has once [`stamp`] has stamped it so: `old` is the header before, and `sums` are the

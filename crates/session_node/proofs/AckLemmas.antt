@@ -1,56 +1,56 @@
--- What was acknowledged stands.
-use Rattle.std.proofs.Common.{◌≡◌, ℕ, ◌+◌, ◌-◌, ◌≤◌, List, [], ◌∷◌, ◌++◌, length, refl, sym, ◌∙◌, ap, subst, arith, Some}
-use Rattle.px_base.specs.CallSign.{CallSign}
-use Rattle.file_entries.specs.Command.{AreAllowed, Command, after, after_all}
-use Rattle.file_entries.specs.Store.{Entry, Store, entry_of}
-use Rattle.file_store.specs.OnDisk.{after_first}
-use Rattle.file_store.proofs.DoesLemmas.{after_first-then}
-use Rattle.file_store.proofs.ReceiptLemmas.{stays}
-use Rattle.ftl0_session.specs.Events.{Event}
-use Rattle.ftl0_session.specs.Laws.{AcknowledgedLaw, kept}
-use Rattle.ftl0_session.specs.Session.{Row, State}
-use Rattle.session_node.specs.Laws.{EndsWhole, StandsAcknowledged}
-use Rattle.session_node.specs.Running.{RunsOver}
-use Rattle.file_entries.proofs.GrowLemmas.{after_all-append}
+-- From which moment on an acknowledged file stands.
+use Rattle.std.proofs.Common.{◌≡◌, ◌⊎◌, inl, inr, ℕ, ◌+◌, ◌≤◌, List, ◌++◌, length, refl, ◌∙◌, ap, subst, arith, append_assoc, length-append, IfSome}
+use Rattle.std.specs.Prelude.{Result, Ok, Err, IsErrOf}
+use Rattle.disk_model.specs.declared.disk.Disk.{Ghosts}
+use Rattle.file_journal.proofs.ToldLemmas.{told_weaker}
+use Rattle.file_entries.specs.Command.{AreAllowed, Command}
+use Rattle.file_entries.specs.Store.{Store}
+use Rattle.file_store.specs.OnDisk.{MakesBetween, StayDone}
+use Rattle.ftl0_session.specs.Laws.{AcknowledgedStandsLaw}
+use Rattle.session_node.specs.declared.stop.NodeStop.{NodeStop}
+use Rattle.session_node.specs.declared.stop.NodeStop.TheVariants as stop
+use Rattle.session_node.specs.declared.terms.Served.{Served}
+use Rattle.session_node.specs.Laws.{AcknowledgedSinceLaw}
+use Rattle.session_node.specs.OnDisk.{StandsThrough}
 
--- the condition of the later ones
-allowed_back : (a b : List Command) (store : Store) → AreAllowed store (a ++ b) → AreAllowed (after_all store a) b
-allowed_back [] b store h = h
-allowed_back (command ∷ a) b store h = allowed_back a b (after store command) h.1
+-- whether the disk failed
+by_disk : (result : Result Served NodeStop) → IsErrOf result stop.Disk ⊎ ¬ IsErrOf result stop.Disk
+by_disk (Ok served) = inr (λ is. cc is)
+by_disk (Err stop.Disk) = inl refl
+by_disk (Err stop.AirRead) = inr (λ is. cc is)
+by_disk (Err stop.AirWrite) = inr (λ is. cc is)
+by_disk (Err (stop.NotAStore found)) = inr (λ is. cc is)
+by_disk (Err (stop.Damaged at)) = inr (λ is. cc is)
+by_disk (Err stop.Spent) = inr (λ is. cc is)
+by_disk (Err (stop.NotBuilt kind)) = inr (λ is. cc is)
+by_disk (Err stop.OutOfMemory) = inr (λ is. cc is)
 
--- the store after events is the one after their commands
-runs-store : (caller : CallSign) (store : Store) (state : State) (events : List Event) (text : List ℕ) (commands : List Command) (now : Store) (next : State)
-    → RunsOver caller store state events text commands now next → now ≡ after_all store commands
-runs-store caller store state [] text commands now next h = rw (h.1, h.2) refl
-runs-store caller store state (e ∷ events) text commands now next h =
-    runs-store caller (after_all store h.0.commands) h.0.state events h.1 h.2 now next h.6
-    ∙ sym (after_all-append h.0.commands h.2 store) ∙ ap (after_all store) (sym h.5)
+-- the commands done stay, whether the disk failed in one behind them or not
+stay_done : {D : Type 0} (g : Ghosts D) (failed : Type 0) (start : Store) (done cut : List Command) (disk disk_n : D) (stands : StandsThrough g failed start done cut disk disk_n) → failed ⊎ ¬ failed
+    → IfSome (g.content disk) (λ _. StayDone g stands.ready (length done) start (done ++ cut) disk_n)
+stay_done g failed start done cut disk disk_n stands (inl stopped) =
+    let end = stands.interrupted stopped in
+    told_weaker (g.content disk) _ _ (λ octets told stay count some most. stay count some (omega (arith, most, end.no_less))) end.stay
+stay_done g failed start done cut disk disk_n stands (inr fine) =
+    told_weaker (g.content disk) _ _ (λ octets told stay count some most. stay count some (omega (arith, most, length-append done cut))) (stands.stay fine)
 
--- at least so many commands are all of the first ones and some of the others
-past : (a b c : List Command) (start : Store) (count : ℕ) → length a + length b ≤ count
-    → after_first count start (a ++ (b ++ c)) ≡ after_first (count - (length a + length b)) (after_all (after_all start a) b) c
-past a b c start count least =
-    let k : ℕ = count - (length a + length b) in
-    let whole : count ≡ length a + (length b + k) = omega (arith, least) in
-    ap (λ (n : ℕ). after_first n start (a ++ (b ++ c))) whole ∙ after_first-then (length b + k) a (b ++ c) start ∙ after_first-then k b c (after_all start a)
-
-pub stands_acknowledged : AcknowledgedLaw → (caller : CallSign) (start : Store) (before : List Event) (commands : List Command) (moment number : ℕ) (entry : Entry) (held rest : List ℕ)
-    (ends : EndsWhole caller start before commands number entry held rest) → StandsAcknowledged caller start ends.store commands moment number entry (held ++ rest) rest
-stands_acknowledged law caller start before commands moment number entry held rest ends =
-    let ack = law caller moment ends.store number entry held rest ends.under_way ends.all ends.good in
-    let row : Row = ack.0 in
-    let is : ends.store ≡ after_all start commands = runs-store caller start _ before ends.said commands ends.store _ ends.runs in
-    record {
-      row = row;
-      is_row = ack.1;
-      replies = ack.3;
-      stands = λ others least most image allowed no_less makes.
-          let store_at : Store = after_all (after_all start commands) row.commands in
-          let found : entry_of store_at number ≡ Some (kept entry (held ++ rest) moment) = subst (λ (s : Store). entry_of (after_all s row.commands) number ≡ Some (kept entry (held ++ rest) moment)) is ack.4 in
-          let left : AreAllowed store_at others = allowed_back row.commands others (after_all start commands) (allowed_back commands (row.commands ++ others) start allowed) in
-          let at = past commands row.commands others start makes.0 (omega (arith, no_less, makes.1)) in (
-            after_first makes.0 start (commands ++ (row.commands ++ others)),
-            makes.3,
-            ap (λ (s : Store). entry_of s number) at ∙ stays store_at others (makes.0 - (length commands + length row.commands)) number (kept entry (held ++ rest) moment) left found refl,
-          );
-    }
+pub acknowledged_since : {D : Type 0} (g : Ghosts D) → AcknowledgedStandsLaw → AcknowledgedSinceLaw g
+acknowledged_since g law = record {
+  since = λ result start done cut disk disk_n stands caller store before moment number entry held rest is whole.
+      let ack = law caller start store before moment number entry held rest is whole in
+      record {
+        row = ack.row;
+        is_row = ack.is_row;
+        replies = ack.replies;
+        since = λ others parts.
+            let all : done ++ cut ≡ before ++ (ack.row.commands ++ (others ++ cut)) =
+            ap (λ (cs : List Command). cs ++ cut) parts ∙ append_assoc before (ack.row.commands ++ others) cut ∙ ap (λ (cs : List Command). before ++ cs) (append_assoc ack.row.commands others cut) in
+            let count : ℕ = length before + length ack.row.commands in
+            let some : 1 ≤ count = omega (arith, ack.some) in
+            let most : count ≤ length done = omega (arith, ap length parts, length-append before (ack.row.commands ++ others), length-append ack.row.commands others) in
+            told_weaker (g.content disk) _ _ (λ octets told stay image left.
+            ack.stands (others ++ cut) count (length (done ++ cut)) image (subst (λ (cs : List Command). AreAllowed start cs) all stands.allowed) (omega arith)
+            (subst (λ (cs : List Command). MakesBetween count (length (done ++ cut)) start cs image) all (stay count some most image left)))
+            (stay_done g (IsErrOf result stop.Disk) start done cut disk disk_n stands (by_disk result));
+      };
+}

@@ -20,6 +20,7 @@ use Rattle.ftl0_packets.specs.Reading.{packets_of, rest_of}
 use Rattle.ftl0_packets.specs.Stream.{IsPartial, Stream}
 use Rattle.ftl0_packets.proofs.OctetLemmas.{IsOctets-nil}
 use Rattle.file_entries.specs.Command.{Command}
+use Rattle.file_store.specs.OnDisk.{CutsOff}
 use Rattle.file_store.specs.State.{StoreState, store_in}
 use Rattle.ftl0_session.specs.Events.{Brings, Event, at_moment}
 use Rattle.ftl0_session.specs.Session.{command, greeting}
@@ -28,15 +29,14 @@ use Rattle.session_node.specs.declared.stop.NodeStop.TheVariants as stop
 use Rattle.session_node.specs.declared.terms.Served.{Served}
 use Rattle.session_node.specs.declared.terms.SessionTerms.{SessionTerms}
 use Rattle.session_node.specs.Node.{SaysText, Serves, TakesTurn, TurnEnds}
-use Rattle.file_store.specs.OnDisk.{CutsOff}
 use Rattle.session_node.specs.Running.{RunsOn, StopsBehind, StopsOn}
 use Rattle.session_node.specs.ServerState.{IsUp, ServerState, new_server}
-use Rattle.session_node.specs.SessionRan.{EndsOver, ListenedOn, SessionOn, SessionRan, TurnsBy}
+use Rattle.session_node.specs.SessionRan.{EndsOver, SessionOn, SessionRan, TurnsBy}
 use Rattle.file_store.proofs.DoesLemmas.{Does-none}
 use Rattle.session_node.proofs.DiskLemmas.{cuts_after, cuts_none, cuts_same}
 use Rattle.session_node.proofs.EventLemmas.{brings-stream, stream-partial}
 use Rattle.session_node.proofs.Invariants.{IsListening}
-use Rattle.session_node.proofs.Moments.{NextMoments, moments-trans, moments_none, next_moments}
+use Rattle.session_node.proofs.Moments.{NextMoments, moments_none, next_moments}
 use Rattle.session_node.proofs.NodeLemmas.{runs_none}
 use Rattle.session_node.proofs.RunLemmas.{runs_on-trans, stops_after}
 
@@ -78,7 +78,7 @@ module _ {A C D : Type 0} (g : Ghosts D) (air : AirGhosts A) (given : C → Opti
   Listening now clock_n disk_n server count = IsListening g air given first terms start old clock disk now clock_n disk_n server count
 
   abbrev Listened : A → C → D → StoreState → Result Served NodeStop → Type 0
-  Listened now clock_n disk_n new result = ListenedOn g air given start new disk disk_n old now clock clock_n first terms result
+  Listened now clock_n disk_n new result = SessionOn g air given start new disk disk_n old now clock clock_n first (packet_text (greeting first)) terms result
 
   -- before the first turn
   pub listening-start : (server : ServerState) → server ≡ new_server terms.caller start → IsUp g start disk → Listening old clock disk server 0
@@ -313,20 +313,20 @@ module _ {A C D : Type 0} (g : Ghosts D) (air : AirGhosts A) (given : C → Opti
 
 -- saying LOGIN_RESP failed
 pub greeting-failed :
-    {A C D : Type 0} (g : Ghosts D) (air : AirGhosts A) (given : C → Option (List ℕ)) (lasts : (disk : D) → g.lasts disk disk) (start : StoreState) (disk : D) (old now : A) (clock clock_n : C)
-    (terms : SessionTerms) (first : ℕ) (down : AirDown) → IsReadAsStream → IsUp g start disk → MomentsOf terms.moment (given clock) (given clock_n) (first ∷ []) → air.heard now ≡ air.heard old
-    → SaysText air.said air.write_faults old now (packet_text (greeting first)) (Err down) → SessionOn g air given start start disk disk old now clock clock_n terms (Err stop.AirWrite)
-greeting-failed g air given lasts start disk old now clock clock_n terms first down law up told same_heard says =
+    {A C D : Type 0} (g : Ghosts D) (air : AirGhosts A) (given : C → Option (List ℕ)) (lasts : (disk : D) → g.lasts disk disk) (start : StoreState) (disk : D) (old now : A) (clock : C)
+    (terms : SessionTerms) (first : ℕ) (down : AirDown) → IsReadAsStream → IsUp g start disk → air.heard now ≡ air.heard old
+    → SaysText air.said air.write_faults old now (packet_text (greeting first)) (Err down) → SessionOn g air given start start disk disk old now clock clock first [] terms (Err stop.AirWrite)
+greeting-failed g air given lasts start disk old now clock terms first down law up same_heard says =
     let front = Gains-front (air.said old) (air.said now) (packet_text (greeting first)) says.err in
     let at_heard : Option (List Turn) → Type 0 = λ x. Grows (air.heard old) x [] in
     record {
       turns = [];
-      moments = first ∷ [];
+      later = [];
       text = front.0;
       done = [];
       cut = [];
       turns_heard = subst at_heard (sym same_heard) (Grows-none (air.heard old));
-      moments_given = told;
+      moments_given = moments_none terms.moment (given clock);
       text_said = front.1;
       ran =
           record {
@@ -344,21 +344,21 @@ greeting-failed g air given lasts start disk old now clock clock_n terms first d
 
 -- LOGIN_RESP was said, and then the turns were taken
 pub greeting-listened :
-    {A C D : Type 0} (g : Ghosts D) (air : AirGhosts A) (given : C → Option (List ℕ)) (start new : StoreState) (disk disk_n : D) (old mid now : A) (clock clock_m clock_n : C) (terms : SessionTerms)
-    (first : ℕ) (result : Result Served NodeStop) → MomentsOf terms.moment (given clock) (given clock_m) (first ∷ []) → air.heard mid ≡ air.heard old
-    → SaysText air.said air.write_faults old mid (packet_text (greeting first)) (Ok tt) → ListenedOn g air given start new disk disk_n mid now clock_m clock_n first terms result
-    → SessionOn g air given start new disk disk_n old now clock clock_n terms result
-greeting-listened g air given start new disk disk_n old mid now clock clock_m clock_n terms first result told same_heard greeted h =
+    {A C D : Type 0} (g : Ghosts D) (air : AirGhosts A) (given : C → Option (List ℕ)) (start new : StoreState) (disk disk_n : D) (old mid now : A) (clock clock_n : C) (terms : SessionTerms)
+    (first : ℕ) (result : Result Served NodeStop) → air.heard mid ≡ air.heard old
+    → SaysText air.said air.write_faults old mid (packet_text (greeting first)) (Ok tt) → SessionOn g air given start new disk disk_n mid now clock clock_n first (packet_text (greeting first)) terms result
+    → SessionOn g air given start new disk disk_n old now clock clock_n first [] terms result
+greeting-listened g air given start new disk disk_n old mid now clock clock_n terms first result same_heard greeted h =
     let at_heard : Option (List Turn) → Type 0 = λ x. Grows x (air.heard now) h.turns in
     let at_writes : ℕ → Type 0 = λ writes. SessionRan terms.caller (first ∷ h.later) (store_in start) terms.polls h.turns writes (air.write_faults now) (packet_text (greeting first) ++ h.text) h.done h.cut result in
     record {
       turns = h.turns;
-      moments = first ∷ h.later;
+      later = h.later;
       text = packet_text (greeting first) ++ h.text;
       done = h.done;
       cut = h.cut;
       turns_heard = subst at_heard same_heard h.turns_heard;
-      moments_given = moments-trans terms.moment (given clock) (given clock_m) (given clock_n) (first ∷ []) h.later told h.moments_given;
+      moments_given = h.moments_given;
       text_said = Gains-trans (air.said old) (air.said mid) (air.said now) (packet_text (greeting first)) h.text greeted.ok h.text_said;
       ran = subst at_writes greeted.cause.same h.ran;
       cuts = h.cuts;

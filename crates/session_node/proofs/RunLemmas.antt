@@ -11,7 +11,9 @@ use Rattle.ftl0_session.specs.Events.{Event, at_moment}
 use Rattle.ftl0_session.specs.Run.{first_unbuilt, replies_to}
 use Rattle.ftl0_session.specs.Session.{Row, State, session_row, texts}
 use Rattle.session_node.specs.declared.stop.NodeStop.{NodeStop}
+use Rattle.session_node.specs.Laws.{ComesTo}
 use Rattle.session_node.specs.Running.{RunsOn, RunsOver, StopsBehind, StopsOn, StopsOver}
+use Rattle.file_entries.proofs.GrowLemmas.{after_all-append}
 use Rattle.file_store.proofs.DoesLemmas.{Does-then}
 use Rattle.session_node.proofs.DiskLemmas.{cuts_after}
 
@@ -24,6 +26,42 @@ texts-append (x ∷ xs) ys = ap (λ text. packet_text x ++ text) (texts-append x
 pub at_moment-append : (moment : ℕ) (xs ys : List Item) → at_moment moment (xs ++ ys) ≡ at_moment moment xs ++ at_moment moment ys
 at_moment-append moment [] ys = refl
 at_moment-append moment (x ∷ xs) ys = ap (λ events. record { moment = moment; packet = x } ∷ events) (at_moment-append moment xs ys)
+
+-- the store after events is the one after their commands
+pub runs-store : (caller : CallSign) (store : Store) (state : State) (events : List Event) (text : List ℕ) (commands : List Command) (now : Store) (next : State)
+    → RunsOver caller store state events text commands now next → now ≡ after_all store commands
+runs-store caller store state [] text commands now next h = rw (h.1, h.2) refl
+runs-store caller store state (e ∷ events) text commands now next h =
+    runs-store caller (after_all store h.0.commands) h.0.state events h.1 h.2 now next h.6
+    ∙ sym (after_all-append h.0.commands h.2 store) ∙ ap (after_all store) (sym h.5)
+
+-- each event was come to, behind the earlier ones
+pub comes-to : (caller : CallSign) (store : Store) (state : State) (earlier : List Event) (next : Event) (later : List Event) (text : List ℕ) (commands : List Command) (now : Store) (last : State)
+    → RunsOver caller store state (earlier ++ next ∷ later) text commands now last → ComesTo caller store state earlier next commands
+comes-to caller store state [] next later text commands now last h = record {
+  said = [];
+  before = [];
+  store_then = store;
+  state_then = state;
+  runs = (refl, refl, refl, refl);
+  row = h.0;
+  is_row = h.3;
+  others = h.2;
+  commands_are = h.5;
+}
+comes-to caller store state (e ∷ earlier) next later text commands now last h =
+    let on = comes-to caller (after_all store h.0.commands) h.0.state earlier next later h.1 h.2 now last h.6 in
+    record {
+      said = texts h.0.replies ++ on.said;
+      before = h.0.commands ++ on.before;
+      store_then = on.store_then;
+      state_then = on.state_then;
+      runs = (h.0, on.said, on.before, h.3, refl, refl, on.runs);
+      row = on.row;
+      is_row = on.is_row;
+      others = on.others;
+      commands_are = h.5 ∙ ap (λ (cs : List Command). h.0.commands ++ cs) on.commands_are ∙ sym (append_assoc h.0.commands on.before (on.row.commands ++ on.others));
+    }
 
 module _ (caller : CallSign) where
   -- the first of events and of later ones whose row isn't built is that of the later ones

@@ -1,14 +1,18 @@
 -- A session from the recovery of its store to its end.
-use Rattle.std.proofs.Common.{◌≡◌, inl, inr, ⊎_elim, ℕ, List, refl, sym, ◌∙◌, ap, subst, arith, Option}
+use Rattle.std.proofs.Common.{◌≡◌, inl, inr, ⊎_elim, ℕ, List, [], ◌∷◌, ◌++◌, refl, sym, ◌∙◌, ap, subst, arith, Option}
 use Rattle.std.specs.Prelude.{Result, Ok, Err, IsErrOf}
 use Rattle.px_base.specs.CallSign.{CallSign}
+use Rattle.px_base.specs.Moments.{MomentsOf}
 use Rattle.px_base.specs.declared.air.Air.{Ghosts as AirGhosts}
 use Rattle.px_base.specs.declared.air.Turn.{Turn}
 use Rattle.disk_model.specs.declared.disk.Disk.{Ghosts}
-use Rattle.file_journal.specs.Calls.{Leaves, Runs}
+use Rattle.file_journal.specs.Calls.{Becomes, Leaves, Runs, TakesStep}
+use Rattle.file_journal.specs.Journal.{after_recovery}
 use Rattle.file_journal.specs.Recovery.{IsFailedSync, IsSyncedFirst}
 use Rattle.file_journal.proofs.ToldLemmas.{told_weaker}
+use Rattle.file_entries.specs.Command.{Command}
 use Rattle.file_entries.specs.IsStore.{IsStore}
+use Rattle.file_entries.specs.Records.{store_magic}
 use Rattle.file_store.specs.Recovery.{IsRecovered, LeavesAlikeSinceSync, RefusesRecovery, StandsAlike}
 use Rattle.file_store.specs.State.{StandsFor, StoreState, store_in}
 use Rattle.file_store.specs.declared.refusals.StoreFault.{StoreFault}
@@ -22,6 +26,7 @@ use Rattle.session_node.specs.ServerState.{IsUp, ServerState, new_server}
 use Rattle.session_node.specs.SessionRan.{SessionOn, SessionServed, TurnsBy}
 use Rattle.session_node.specs.Stops.{HasAirCause, RefusesSession, stop_of_fault}
 use Rattle.session_node.proofs.DiskLemmas.{cuts_puts}
+use Rattle.session_node.proofs.Moments.{moments-trans}
 use Rattle.session_node.proofs.Standing.{runs_of_puts, runs_same, session_puts, stands_through}
 
 -- ---- a recovery that is refused
@@ -92,45 +97,59 @@ refused_leaves g blocks old now why since_start since_sync untouched untouched_d
 -- ---- a session over the store that was recovered
 
 -- the server was made over it
-pub on_recovered : {A C D : Type 0} (g : Ghosts D) (air : AirGhosts A) (given : C → Option (List ℕ)) (mid now : D) (before after : A) (clock clock_n : C) (terms : SessionTerms) (caller : CallSign)
-    (start new : StoreState) (server : ServerState) (result : Result Served NodeStop) → server ≡ new_server caller start
-    → SessionOn g air given server.store new mid now before after clock clock_n terms result → SessionOn g air given start new mid now before after clock clock_n terms result
-on_recovered g air given mid now before after clock clock_n terms caller start new server result is h =
-    let P : StoreState → Type 0 = λ s. SessionOn g air given s new mid now before after clock clock_n terms result in
+pub on_recovered : {A C D : Type 0} (g : Ghosts D) (air : AirGhosts A) (given : C → Option (List ℕ)) (mid now : D) (before after : A) (clock clock_n : C) (first : ℕ) (terms : SessionTerms)
+    (caller : CallSign) (start new : StoreState) (server : ServerState) (result : Result Served NodeStop) → server ≡ new_server caller start
+    → SessionOn g air given server.store new mid now before after clock clock_n first [] terms result → SessionOn g air given start new mid now before after clock clock_n first [] terms result
+on_recovered g air given mid now before after clock clock_n first terms caller start new server result is h =
+    let P : StoreState → Type 0 = λ s. SessionOn g air given s new mid now before after clock clock_n first [] terms result in
     subst P (ap (λ (s : ServerState). s.store) is) h
 
+-- no commands but those of two empty lists
+append-none : (a b : List Command) → a ++ b ≡ [] → (a ≡ []) × (b ≡ [])
+append-none [] b none = (refl, none)
+append-none (command ∷ a) b none = absurd (cc none)
+
 module _ {A C D : Type 0} (g : Ghosts D) (air : AirGhosts A) (given : C → Option (List ℕ)) (on : (first second third : D) → g.lasts first second → g.lasts second third → g.lasts first third)
-    (old mid now : D) (before after : A) (clock clock_n : C) (terms : SessionTerms) (start new : StoreState) (result : Result Served NodeStop)
+    (old mid now : D) (before after : A) (clock clock_m clock_n : C) (first : ℕ) (terms : SessionTerms) (start new : StoreState) (result : Result Served NodeStop)
     (recovered : IsRecovered g terms.limits.blocks old mid start) (ok : Runs g (IsErrOf {T = StoreState} (Ok start) fault.Disk) old mid)
-    (on_disk : SessionOn g air given start new mid now before after clock clock_n terms result) where
+    (told_first : MomentsOf terms.moment (given clock) (given clock_m) (first ∷ []))
+    (on_disk : SessionOn g air given start new mid now before after clock_m clock_n first [] terms result) where
   not_failed : IsErrOf {T = StoreState} (Ok start) fault.Disk → ⊥
   not_failed is = cc is
 
-  pub served : IsStore (store_in start) → Leaves g old mid (StandsAlike terms.limits.blocks) → LeavesAlikeSinceSync {T = StoreState} g terms.limits.blocks (Ok start) old mid
-      → (IsUp g new now → EachImage g now (λ image. StandsFor image (store_in new))) → SessionServed g air given old now before after clock clock_n terms result
-  served rules since_start since_sync at_end =
+  pub served : IsStore (store_in start) → TakesStep g old mid (Becomes (after_recovery store_magic terms.limits.blocks)) → Leaves g old mid (StandsAlike terms.limits.blocks)
+      → LeavesAlikeSinceSync {T = StoreState} g terms.limits.blocks (Ok start) old mid → (IsUp g new now → EachImage g now (λ image. StandsFor image (store_in new)))
+      → SessionServed g air given old now before after clock clock_n terms result
+  served rules octets since_start since_sync at_end =
       let synced = told_weaker (g.content old) _ _ (λ octets told left. ⊎_elim
       (λ (s : IsSyncedFirst g old mid (StandsAlike terms.limits.blocks octets)). s)
       (λ (failed : IsErrOf {T = StoreState} (Ok start) fault.Disk × IsFailedSync g old mid). absurd (not_failed failed.0)) left) since_sync in
+      let standing =
+      stands_through g on (IsErrOf result stop.Disk) terms.limits.blocks old mid now start new on_disk.done on_disk.cut ok.told recovered.content since_start synced on_disk.cuts
+      (λ fine. at_end (record { healthy = (on_disk.cuts.second.done fine).1; stands_on = on_disk.cuts.second.stands_on })) in
       record {
         start = store_in start;
         rules = rules;
         stood = recovered.content;
+        recovered = mid;
+        octets = octets;
         turns = on_disk.turns;
-        moments = on_disk.moments;
+        moments = first ∷ on_disk.later;
         text = on_disk.text;
         done = on_disk.done;
         cut = on_disk.cut;
         turns_heard = on_disk.turns_heard;
-        moments_given = on_disk.moments_given;
+        moments_given = moments-trans terms.moment (given clock) (given clock_m) (given clock_n) (first ∷ []) on_disk.later told_first on_disk.moments_given;
         text_said = on_disk.text_said;
         ran = on_disk.ran;
         puts =
             session_puts g on (IsErrOf result stop.Disk) terms.limits.blocks old mid now start new on_disk.done on_disk.cut ok.told recovered.content since_start synced on_disk.cuts _ not_failed ok
             (cuts_puts g on (IsErrOf result stop.Disk) start new mid now on_disk.done on_disk.cut on_disk.cuts);
-        stands =
-            stands_through g on (IsErrOf result stop.Disk) terms.limits.blocks old mid now start new on_disk.done on_disk.cut ok.told recovered.content since_start synced on_disk.cuts
-            (λ fine. at_end (record { healthy = (on_disk.cuts.second.done fine).1; stands_on = on_disk.cuts.second.stands_on }));
+        stands = standing.0;
+        ready = standing.1;
+        none = λ none.
+            let both = append-none on_disk.done on_disk.cut none in
+            on_disk.cuts.second.none both.1 ∙ on_disk.cuts.first.none both.0;
       }
 
   -- no session is refused that was served

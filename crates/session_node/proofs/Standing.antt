@@ -107,60 +107,65 @@ module _ {D : Type 0} (g : Ghosts D) (on : (first second third : D) → g.lasts 
   last_told : (octets : List ℕ) → g.content mid ≡ Some octets → (last : List ℕ) × (g.content cuts.disk_then ≡ Some last)
   last_told octets told = told_before (g.content cuts.disk_then) (g.content mid) octets (cuts.first.puts.told.1, cuts.first.puts.told.0) told
 
-  pub stands_through : (¬ failed → EachImage g now (λ image. StandsFor image (store_in new))) → StandsThrough g failed (store_in start) done cut old now
-  stands_through at_end = record {
-    allowed = all_does.allowed;
-    since_sync = if_told (g.content old) _ (λ before told.
-        let middle = later_told before told in
-        let synced = at_told (λ (octets : List ℕ). IsSyncedFirst g old mid (StandsAlike blocks octets)) before told since_sync in
-        let made = at_told (λ (_ : List ℕ). _) middle.0 middle.1 all_does.since in
-        record {
-          later = omega (arith, synced.later, made.later);
-          each = λ image since. ⊎_elim
-              (λ past. none_yet before image told (synced.each image past))
-              (λ here. here)
-              (made.each (g.moment old + 1) image synced.later since);
-        });
-    since_start = if_told (g.content old) _ (λ before told.
-        let middle = later_told before told in
-        joined g.moment g.images_since old mid now (MakesFirst (store_in start) (done ++ cut))
-        (weaker g.moment g.images_since old mid (StandsAlike blocks before) (MakesFirst (store_in start) (done ++ cut)) (λ image same. none_yet before image told same)
-        (at_told _ before told since_start))
-        (at_told (λ (_ : List ℕ). _) middle.0 middle.1 all_does.since));
-    ready = g.moment mid;
-    after_sync = told_weaker (g.content old) _ _ (λ before told synced. synced.later) since_sync;
-    stay = λ fine. if_told (g.content old) _ (λ before told. let middle = later_told before told in at_told (λ (_ : List ℕ). _) middle.0 middle.1 (all_does.stay fine));
-    calls = λ fine. if_told (g.content old) _ (λ before told. let middle = later_told before told in at_told (λ (_ : List ℕ). _) middle.0 middle.1 (all_does.calls fine));
-    all_done = λ fine. told_weaker (g.content now) _ _ (λ octets told each image here.
-        subst (λ (s : Store). StandsFor image s) (all_does.done fine).0 (each image here)) (at_end fine);
-    interrupted = λ stopped.
-        let end = cuts.second.cut stopped in
-        let is = does_store g start cuts.store_then mid cuts.disk_then done cuts.first in
-        record {
-          count = length done + end.count;
-          no_less = omega arith;
-          fewer = omega (arith, end.fewer, length-append done cut);
-          images = told_weaker (g.content now) _ _ (λ octets told each image here.
-              makes-second end.count (end.count + 1) (length done + end.count) (length done + end.count + 1) (store_in start) (store_in cuts.store_then) done cut image is (omega arith) (omega arith) (each image here)) end.images;
-          stay = if_told (g.content old) _ (λ before told.
-              let middle = later_told before told in
-              let last = last_told middle.0 middle.1 in
-              stay-on g (g.moment mid) end.count (store_in start) (store_in cuts.store_then) done cut cuts.disk_then now is (at_told (λ (_ : List ℕ). _) middle.0 middle.1 (cuts.first.calls (λ never. never)))
-              (at_told (λ (_ : List ℕ). _) middle.0 middle.1 (cuts.first.stay (λ never. never))) (at_told (λ (_ : List ℕ). _) last.0 last.1 cuts.second.since) (at_told (λ (_ : List ℕ). _) last.0 last.1 end.stay));
-          calls = if_told (g.content old) _ (λ before told.
-              let middle = later_told before told in
-              let last = last_told middle.0 middle.1 in
-              let first : g.moment cuts.disk_then ≡ g.moment mid + 4 * length done = at_told (λ (_ : List ℕ). _) middle.0 middle.1 (cuts.first.calls (λ never. never)) in
-              let second : g.moment cuts.disk_then + 4 * end.count ≤ g.moment now = at_told (λ (_ : List ℕ). _) last.0 last.1 end.calls in
-              omega arith);
-          at_most = if_told (g.content old) _ (λ before told.
-              let middle = later_told before told in
-              let last = last_told middle.0 middle.1 in
-              let first : g.moment cuts.disk_then ≡ g.moment mid + 4 * length done = at_told (λ (_ : List ℕ). _) middle.0 middle.1 (cuts.first.calls (λ never. never)) in
-              let second : g.moment now ≤ g.moment cuts.disk_then + 4 * (end.count + 1) = at_told (λ (_ : List ℕ). _) last.0 last.1 end.at_most in
-              omega arith);
-        };
-  }
+  -- what stands through the session, from the moment on at which the recovery was done
+  pub stands_through : (¬ failed → EachImage g now (λ image. StandsFor image (store_in new)))
+      → (stands : StandsThrough g failed (store_in start) done cut old now) × (stands.ready ≡ g.moment mid)
+  stands_through at_end = (
+    record {
+      allowed = all_does.allowed;
+      since_sync = if_told (g.content old) _ (λ before told.
+          let middle = later_told before told in
+          let synced = at_told (λ (octets : List ℕ). IsSyncedFirst g old mid (StandsAlike blocks octets)) before told since_sync in
+          let made = at_told (λ (_ : List ℕ). _) middle.0 middle.1 all_does.since in
+          record {
+            later = omega (arith, synced.later, made.later);
+            each = λ image since. ⊎_elim
+                (λ past. none_yet before image told (synced.each image past))
+                (λ here. here)
+                (made.each (g.moment old + 1) image synced.later since);
+          });
+      since_start = if_told (g.content old) _ (λ before told.
+          let middle = later_told before told in
+          joined g.moment g.images_since old mid now (MakesFirst (store_in start) (done ++ cut))
+          (weaker g.moment g.images_since old mid (StandsAlike blocks before) (MakesFirst (store_in start) (done ++ cut)) (λ image same. none_yet before image told same)
+          (at_told _ before told since_start))
+          (at_told (λ (_ : List ℕ). _) middle.0 middle.1 all_does.since));
+      ready = g.moment mid;
+      after_sync = told_weaker (g.content old) _ _ (λ before told synced. synced.later) since_sync;
+      stay = λ fine. if_told (g.content old) _ (λ before told. let middle = later_told before told in at_told (λ (_ : List ℕ). _) middle.0 middle.1 (all_does.stay fine));
+      calls = λ fine. if_told (g.content old) _ (λ before told. let middle = later_told before told in at_told (λ (_ : List ℕ). _) middle.0 middle.1 (all_does.calls fine));
+      all_done = λ fine. told_weaker (g.content now) _ _ (λ octets told each image here.
+          subst (λ (s : Store). StandsFor image s) (all_does.done fine).0 (each image here)) (at_end fine);
+      interrupted = λ stopped.
+          let end = cuts.second.cut stopped in
+          let is = does_store g start cuts.store_then mid cuts.disk_then done cuts.first in
+          record {
+            count = length done + end.count;
+            no_less = omega arith;
+            fewer = omega (arith, end.fewer, length-append done cut);
+            images = told_weaker (g.content now) _ _ (λ octets told each image here.
+                makes-second end.count (end.count + 1) (length done + end.count) (length done + end.count + 1) (store_in start) (store_in cuts.store_then) done cut image is (omega arith) (omega arith) (each image here)) end.images;
+            stay = if_told (g.content old) _ (λ before told.
+                let middle = later_told before told in
+                let last = last_told middle.0 middle.1 in
+                stay-on g (g.moment mid) end.count (store_in start) (store_in cuts.store_then) done cut cuts.disk_then now is (at_told (λ (_ : List ℕ). _) middle.0 middle.1 (cuts.first.calls (λ never. never)))
+                (at_told (λ (_ : List ℕ). _) middle.0 middle.1 (cuts.first.stay (λ never. never))) (at_told (λ (_ : List ℕ). _) last.0 last.1 cuts.second.since) (at_told (λ (_ : List ℕ). _) last.0 last.1 end.stay));
+            calls = if_told (g.content old) _ (λ before told.
+                let middle = later_told before told in
+                let last = last_told middle.0 middle.1 in
+                let first : g.moment cuts.disk_then ≡ g.moment mid + 4 * length done = at_told (λ (_ : List ℕ). _) middle.0 middle.1 (cuts.first.calls (λ never. never)) in
+                let second : g.moment cuts.disk_then + 4 * end.count ≤ g.moment now = at_told (λ (_ : List ℕ). _) last.0 last.1 end.calls in
+                omega arith);
+            at_most = if_told (g.content old) _ (λ before told.
+                let middle = later_told before told in
+                let last = last_told middle.0 middle.1 in
+                let first : g.moment cuts.disk_then ≡ g.moment mid + 4 * length done = at_told (λ (_ : List ℕ). _) middle.0 middle.1 (cuts.first.calls (λ never. never)) in
+                let second : g.moment now ≤ g.moment cuts.disk_then + 4 * (end.count + 1) = at_told (λ (_ : List ℕ). _) last.0 last.1 end.at_most in
+                omega arith);
+          };
+    },
+    refl,
+  )
 
   -- only a write or a sync that failed ends the session by the disk
   pub session_puts : (P : Type 0) → ¬ P → Runs g P old mid → Puts g failed mid now → Puts g failed old now

@@ -1,43 +1,66 @@
--- What was acknowledged stands.
-use Rattle.std.specs.Prelude.{◌≡◌, ℕ, ◌+◌, ◌≤◌, List, [], ◌∷◌, ◌++◌, length, None, Some, Ok}
+-- What a session went over, and from which moment of its disk on an acknowledged file stands.
+use Rattle.std.specs.Prelude.{◌≡◌, ℕ, ◌+◌, ◌*◌, List, [], ◌∷◌, ◌++◌, length, Some, IfSome, Result, Ok, IsErrOf}
 use Rattle.px_base.specs.CallSign.{CallSign}
+use Rattle.disk_model.specs.Moments.{LeavesSince}
+use Rattle.disk_model.specs.declared.disk.Disk.{Ghosts}
 use Rattle.ftl0_packets.specs.Layout.{data_end, ul_ack_resp}
-use Rattle.pfh_items.specs.Faults.{fault_code}
-use Rattle.file_entries.specs.Command.{AreAllowed, Command}
-use Rattle.file_entries.specs.Store.{Entry, Store, entry_of}
-use Rattle.file_store.specs.OnDisk.{MakesBetween}
-use Rattle.file_store.specs.State.{StandsFor}
+use Rattle.file_entries.specs.Command.{Command, after_all}
+use Rattle.file_entries.specs.Store.{Entry, Store}
 use Rattle.ftl0_session.specs.Events.{Event}
-use Rattle.ftl0_session.specs.Laws.{IsUnderWay, kept}
-use Rattle.ftl0_session.specs.Session.{Row, command, receiving, session_row}
+use Rattle.ftl0_session.specs.Laws.{HasEntry, IsWhole, kept}
+use Rattle.ftl0_session.specs.Session.{Row, State, receiving, session_row}
+use Rattle.session_node.specs.declared.stop.NodeStop.{NodeStop}
+use Rattle.session_node.specs.declared.stop.NodeStop.TheVariants as stop
+use Rattle.session_node.specs.declared.terms.Served.{Served}
+use Rattle.session_node.specs.OnDisk.{StandsThrough}
 use Rattle.session_node.specs.Running.{RunsOver}
 
--- After these events of a session, DATA_END comes at this moment: all octets of the file under way have come, and it
--- has no fault. These are the octets held and those that wait.
-pub record EndsWhole (caller : CallSign) (start : Store) (before : List Event) (commands : List Command) (number : ℕ)
-    (entry : Entry) (held rest : List ℕ) : Type 0 where
+-- A session that did these commands came to this event behind the earlier ones, over a store and in a state. The
+-- commands of the event's row are behind those of the earlier events, and others are behind them.
+pub record ComesTo (caller : CallSign) (start : Store) (state : State) (earlier : List Event) (next : Event)
+    (commands : List Command) : Type 0 where
   pub said : List ℕ
-  pub store : Store
-  pub runs : RunsOver caller start command before said commands store (receiving number rest)
-  pub under_way : IsUnderWay store number entry held
-  pub all : length held + length rest ≡ entry.length
-  pub good : fault_code (held ++ rest) ≡ None
+  pub before : List Command
+  pub store_then : Store
+  pub state_then : State
+  pub runs : RunsOver caller start state earlier said before store_then state_then
+  pub row : Row
+  pub is_row : session_row caller next.moment store_then state_then next.packet ≡ Some row
+  pub others : List Command
+  pub commands_are : commands ≡ before ++ (row.commands ++ others)
 
--- DATA_END's row replies UL_ACK_RESP. In each image that stands for the store after at least the commands up to this
--- row, whatever commands come behind them, the file's entry is complete with the octets that came, stamped.
-pub record StandsAcknowledged (caller : CallSign) (start store : Store) (commands : List Command) (moment number : ℕ)
-    (entry : Entry) (file rest : List ℕ) : Type 0 where
+-- Over the events that a session went over: the store that it came to is the one after its commands, and it came to
+-- each of them.
+pub record RunsLaw : Type 0 where
+  pub store :
+      (caller : CallSign) (start : Store) (state : State) (events : List Event) (text : List ℕ)
+      (commands : List Command) (now : Store) (next : State)
+      → RunsOver caller start state events text commands now next → now ≡ after_all start commands
+  pub comes_to :
+      (caller : CallSign) (start : Store) (state : State) (earlier : List Event) (next : Event) (later : List Event)
+      (text : List ℕ) (commands : List Command) (now : Store) (last : State)
+      → RunsOver caller start state (earlier ++ next ∷ later) text commands now last
+      → ComesTo caller start state earlier next commands
+
+-- DATA_END's row replies UL_ACK_RESP. Where the row's commands are among those done, behind those before, the file's
+-- entry is complete with the octets that came, stamped, in each image that a crash leaves since the last call of the
+-- disk for them: four for each command since the recovery was done.
+pub record AcknowledgedSince {D : Type 0} (g : Ghosts D) (caller : CallSign) (store : Store)
+    (before done : List Command) (moment number : ℕ) (entry : Entry) (file rest : List ℕ) (ready : ℕ)
+    (disk disk_now : D) : Type 0 where
   pub row : Row
   pub is_row : session_row caller moment store (receiving number rest) (Ok data_end) ≡ Some row
   pub replies : row.replies ≡ ul_ack_resp ∷ []
-  pub stands :
-      (others : List Command) (least most : ℕ) (image : List ℕ)
-      → AreAllowed start (commands ++ (row.commands ++ others)) → length commands + length row.commands ≤ least
-      → MakesBetween least most start (commands ++ (row.commands ++ others)) image
-      → (files : Store) × StandsFor image files × (entry_of files number ≡ Some (kept entry file moment))
+  pub since :
+      (others : List Command) → done ≡ before ++ (row.commands ++ others)
+      → IfSome (g.content disk) (λ _. LeavesSince (ready + 4 * (length before + length row.commands))
+      (g.images_since disk_now) (HasEntry number (kept entry file moment)))
 
-abbrev pub AcknowledgedStandsLaw : Type 0
-AcknowledgedStandsLaw =
-    (caller : CallSign) (start : Store) (before : List Event) (commands : List Command) (moment number : ℕ)
-    (entry : Entry) (held rest : List ℕ) (ends : EndsWhole caller start before commands number entry held rest)
-    → StandsAcknowledged caller start ends.store commands moment number entry (held ++ rest) rest
+-- So it is in every session, however it ended.
+pub record AcknowledgedSinceLaw {D : Type 0} (g : Ghosts D) : Type 0 where
+  pub since :
+      (result : Result Served NodeStop) (start : Store) (done cut : List Command) (disk disk_now : D)
+      (stands : StandsThrough g (IsErrOf result stop.Disk) start done cut disk disk_now) (caller : CallSign)
+      (store : Store) (before : List Command) (moment number : ℕ) (entry : Entry) (held rest : List ℕ)
+      → store ≡ after_all start before → IsWhole store number entry held rest
+      → AcknowledgedSince g caller store before done moment number entry (held ++ rest) rest stands.ready disk disk_now

@@ -10,13 +10,16 @@ use Rattle.px_base.specs.declared.air.Turn.{Turn}
 use Rattle.px_base.specs.declared.air.Turn.TheVariants as turn
 use Rattle.px_base.specs.declared.air.Air.{Ghosts as AirGhosts}
 use Rattle.disk_model.specs.declared.disk.Disk.{Ghosts}
-use Rattle.file_journal.specs.Calls.{Puts}
+use Rattle.file_journal.specs.Calls.{Becomes, Puts, TakesStep}
+use Rattle.file_journal.specs.Journal.{after_recovery}
 use Rattle.file_journal.specs.Walk.{state}
 use Rattle.ftl0_packets.specs.Layout.{Item, packet_text}
 use Rattle.ftl0_packets.specs.Stream.{Stream}
 use Rattle.file_entries.specs.Command.{Command}
 use Rattle.file_entries.specs.IsStore.{IsStore}
+use Rattle.file_entries.specs.Records.{store_magic}
 use Rattle.file_entries.specs.Store.{Store}
+use Rattle.file_store.specs.OnDisk.{CutsOff}
 use Rattle.file_store.specs.State.{StoreState, standing_of, store_in}
 use Rattle.file_store.specs.declared.refusals.StoreFault.{StoreFault}
 use Rattle.ftl0_session.specs.Events.{Brings, Event, packets_in}
@@ -27,7 +30,6 @@ use Rattle.session_node.specs.declared.stop.NodeStop.TheVariants as stop
 use Rattle.session_node.specs.declared.terms.Served.{Served}
 use Rattle.session_node.specs.declared.terms.SessionTerms.{SessionTerms}
 use Rattle.session_node.specs.OnDisk.{LeavesStanding, StandsThrough}
-use Rattle.file_store.specs.OnDisk.{CutsOff}
 use Rattle.session_node.specs.Running.{RunsOver, StopsBehind}
 use Rattle.session_node.specs.Stops.{stop_of_fault}
 
@@ -124,27 +126,9 @@ pub record SessionRan (caller : CallSign) (moments : List ℕ) (start : Store) (
       ⊎ IsGreeted caller moments start turns events writes writes_now text done cut result
 
 -- What a session of these terms made of an air and a clock, by what these tell, before and now, of what was heard, said
--- and given, and of the disk of its store.
+-- and given, and of the disk of its store. The first turn's moment was taken before, and this text said.
 pub record SessionOn {A C D : Type 0} (g : Ghosts D) (air : AirGhosts A) (given : C → Option (List ℕ))
-    (old new : StoreState) (disk disk_now : D) (before now : A) (clock clock_now : C) (terms : SessionTerms)
-    (result : Result Served NodeStop) : Type 0 where
-  pub turns : List Turn
-  pub moments : List ℕ
-  pub text : List ℕ
-  pub done : List Command
-  pub cut : List Command
-  pub turns_heard : HearsAll (air.heard before) (air.heard now) turns
-  pub moments_given : MomentsOf terms.moment (given clock) (given clock_now) moments
-  pub text_said : Gains (air.said before) (air.said now) text
-  pub ran :
-      SessionRan terms.caller moments (store_in old) terms.polls turns (air.write_faults before) (air.write_faults now)
-      text done cut result
-  pub cuts : CutsOff g (IsErrOf result stop.Disk) old new disk disk_now done cut
-
--- The same after LOGIN_RESP was said at the first moment, with the moments that were given later and the text that was
--- said after it.
-pub record ListenedOn {A C D : Type 0} (g : Ghosts D) (air : AirGhosts A) (given : C → Option (List ℕ))
-    (old new : StoreState) (disk disk_now : D) (before now : A) (clock clock_now : C) (first : ℕ)
+    (old new : StoreState) (disk disk_now : D) (before now : A) (clock clock_now : C) (first : ℕ) (said : List ℕ)
     (terms : SessionTerms) (result : Result Served NodeStop) : Type 0 where
   pub turns : List Turn
   pub later : List ℕ
@@ -156,7 +140,7 @@ pub record ListenedOn {A C D : Type 0} (g : Ghosts D) (air : AirGhosts A) (given
   pub text_said : Gains (air.said before) (air.said now) text
   pub ran :
       SessionRan terms.caller (first ∷ later) (store_in old) terms.polls turns (air.write_faults before)
-      (air.write_faults now) (packet_text (greeting first) ++ text) done cut result
+      (air.write_faults now) (said ++ text) done cut result
   pub cuts : CutsOff g (IsErrOf result stop.Disk) old new disk disk_now done cut
 
 -- The recovery of the store was refused: nothing was heard or said, and the clock wasn't asked.
@@ -168,14 +152,17 @@ pub record IsUnrecovered {A C D : Type 0} (g : Ghosts D) (blocks : ℕ) (disk di
   pub clock_is : clock_now ≡ clock
   pub leaves : LeavesStanding g blocks (stop_of_fault fault) disk disk_now
 
--- A session of these terms was served over the store for which the disk's content stood. Only a write or a sync that
--- failed ends it by the disk.
+-- A session of these terms was served over the store for which the disk's content stood. Its recovery changed no octet
+-- of a formatted store, and made a formatted one of any other content; without commands that is what the disk has at the
+-- end. Only a write or a sync that failed ends it by the disk.
 pub record SessionServed {A C D : Type 0} (g : Ghosts D) (air : AirGhosts A) (given : C → Option (List ℕ))
     (disk disk_now : D) (before now : A) (clock clock_now : C) (terms : SessionTerms)
     (result : Result Served NodeStop) : Type 0 where
   pub start : Store
   pub rules : IsStore start
   pub stood : IfSome (g.content disk) (λ octets. standing_of terms.limits.blocks octets ≡ state start)
+  pub recovered : D
+  pub octets : TakesStep g disk recovered (Becomes (after_recovery store_magic terms.limits.blocks))
   pub turns : List Turn
   pub moments : List ℕ
   pub text : List ℕ
@@ -189,6 +176,8 @@ pub record SessionServed {A C D : Type 0} (g : Ghosts D) (air : AirGhosts A) (gi
       cut result
   pub puts : Puts g (IsErrOf result stop.Disk) disk disk_now
   pub stands : StandsThrough g (IsErrOf result stop.Disk) start done cut disk disk_now
+  pub ready : stands.ready ≡ g.moment recovered
+  pub none : done ++ cut ≡ [] → disk_now ≡ recovered
 
 -- Either of the two.
 abbrev pub SessionEnds :

@@ -1,14 +1,20 @@
 //! Laws of a session over its disk.
 
-ghost use Rattle.session_node.specs.Laws.{AcknowledgedStandsLaw};
+ghost use Rattle.session_node.specs.Laws.{AcknowledgedSinceLaw, RunsLaw};
 
-use ftl0_session::laws::acknowledged_law;
+use disk_model::Disk;
+use ftl0_session::laws::acknowledged_stands_law;
 
-/// What was acknowledged stands: once the commands up to the row that replies UL_ACK_RESP are done, the file's entry is
-/// complete, with exactly the octets that came, stamped, in every image that stands for the store after at least these
-/// commands, whatever comes behind them.
-pub fn acknowledged_stands_law()
-    ensures { AcknowledgedStandsLaw }
+/// What a session went over: the store that it came to is the one after its commands, and so it was at each event.
+pub fn runs_law()
+    ensures { RunsLaw }
+{}
+
+/// From which moment on an acknowledged file stands: since the last call of the disk for the commands of the row that
+/// replies UL_ACK_RESP the file's entry is complete, with exactly the octets that came, stamped, in every image that a
+/// crash leaves, however the session goes on and ends. `Session::take` makes that call before it gives the reply.
+pub fn acknowledged_since_law<D: Disk>()
+    ensures { AcknowledgedSinceLaw D.Disk }
 {
-    acknowledged_law();
+    acknowledged_stands_law();
 }

@@ -5,11 +5,12 @@ ghost use Rattle.file_journal.specs.Calls.{Runs};
 ghost use Rattle.session_node.specs.SessionRan.{SessionEnds};
 ghost use Rattle.session_node.specs.Stops.{HasAirCause, RefusesSession};
 
-use crate::server::SessionServer;
+use crate::server::{SessionServer, moment_of};
 use crate::{NodeStop, Served, SessionTerms};
 use disk_model::Disk;
 use file_store::FileStore;
 use file_store::laws::state_law;
+use ftl0_session::Replies;
 use px_base::{Air, Clock};
 use std::alloc::Global;
 
@@ -45,8 +46,10 @@ pub fn session<D: Disk, A: Air, C: Clock>(
 {
     let store = FileStore::recover(alloc, disk, terms.limits)?;
     state_law(&store);
-    let mut server = SessionServer::new(terms.caller, store);
-    let ended = server.serve(disk, air, clock, terms);
+    let first = moment_of(terms.moment, clock);
+    let mut login = Replies::new();
+    let mut server = SessionServer::new(terms.caller, first, store, &mut login);
+    let ended = server.serve(disk, air, clock, first, login.as_slice(), terms);
     server.end(disk);
     ended
 }

@@ -12,7 +12,7 @@ ghost use Rattle.ftl0_session.specs.SessionState.{IsHeld, IsOnlyOut};
 ghost use Rattle.session_node.specs.Node.{FeedsPiece, Replied, SaysText, ServesOctets, TakesTurn};
 ghost use Rattle.session_node.specs.OnDisk.{EachImage};
 ghost use Rattle.session_node.specs.ServerState.{IsUp, new_server};
-ghost use Rattle.session_node.specs.SessionRan.{ListenedOn, SessionOn};
+ghost use Rattle.session_node.specs.SessionRan.{SessionOn};
 ghost use Rattle.session_node.specs.Stops.{HasAirCause, first_stop};
 
 use crate::{NodeStop, Served, SessionTerms};
@@ -21,12 +21,12 @@ use file_store::FileStore;
 use file_store::laws::state_law;
 use ftl0_packets::laws::stream_law;
 use ftl0_packets::{PacketFed, PacketReader};
-use ftl0_session::{Replies, Session, ServerStop, write_greeting};
+use ftl0_session::{Replies, ServerStop, Session};
 use px_base::{Air, AirDown, Call, Clock, Polled, ROOM};
 use std::marker::Model;
 
 /// The moment of a turn: the one that is given, or the clock's.
-fn moment_of<C: Clock>(given: Option<u32>, clock: &mut C) -> u32
+pub(crate) fn moment_of<C: Clock>(given: Option<u32>, clock: &mut C) -> u32
     ensures moment { MomentsOf given (C.given clock.old) (C.given clock.new) (result ∷ []) }
     ensures clock { IsSome given → clock.new ≡ clock.old }
 {
@@ -101,17 +101,6 @@ fn say<A: Air>(text: &[u8], air: &mut A) -> Result<(), AirDown>
     air.put(text)
 }
 
-/// Says LOGIN_RESP with this moment.
-fn greet<A: Air>(moment: u32, air: &mut A) -> Result<(), AirDown>
-    ensures said { SaysText A.said A.write_faults air.old air.new (packet_text (greeting moment)) result }
-    ensures heard { A.heard air.new ≡ A.heard air.old }
-    ensures reads { A.read_faults air.new ≡ A.read_faults air.old }
-{
-    let mut text = Replies::new();
-    write_greeting(moment, &mut text);
-    say(text.as_slice(), air)
-}
-
 /// What serves one session: the reader of its packets, its state, and the store. It must be ended, which parks the
 /// session's upload. Contracts see it as a `ServerState`.
 pub(crate) struct SessionServer {
@@ -133,14 +122,22 @@ impl Model for SessionServer {
 }
 
 impl SessionServer {
-    /// Before the first packet, over this store, of which no upload is out. Takes no memory yet.
-    pub(crate) fn new(caller: Call, store: FileStore) -> SessionServer
-        requires { NothingOut store.files }
-        ensures { result ≡ new_server caller store }
+    /// Before the first packet, over this store, of which no upload is out. LOGIN_RESP at this moment is among the
+    /// replies, and is to be said. Takes no memory yet.
+    pub(crate) fn new(
+        caller: Call,
+        first: u32,
+        store: FileStore,
+        replies: &mut Replies,
+    ) -> SessionServer
+        requires nothing_out { NothingOut store.files }
+        requires empty { replies.old.items ≡ [] }
+        ensures server { result ≡ new_server caller store }
+        ensures text { replies.new.items ≡ packet_text (greeting first) }
     {
         SessionServer {
             reader: PacketReader::new(),
-            session: Session::new(caller),
+            session: Session::new(caller, first, replies),
             store,
         }
     }
@@ -160,25 +157,28 @@ impl SessionServer {
         session.end(&mut store);
     }
 
-    /// Says LOGIN_RESP and takes turns up to the end of the air.
+    /// Says LOGIN_RESP, which is these octets, and takes turns up to the end of the air. The first turn's moment was
+    /// taken already: LOGIN_RESP has it.
     pub(crate) fn serve<D: Disk, A: Air, C: Clock>(
         &mut self,
         disk: &mut D,
         air: &mut A,
         clock: &mut C,
+        first: u32,
+        login: &[u8],
         terms: &SessionTerms,
     ) -> Result<Served, NodeStop>
         requires fresh { self.old ≡ new_server terms.now.caller self.old.store }
         requires up { IsUp D.Disk self.old.store disk.old }
+        requires login { login.now ≡ packet_text (greeting first) }
         ensures served { SessionOn D.Disk A.Air C.given self.old.store self.new.store disk.old disk.new air.old air.new
-            clock.old clock.new terms.now result }
+            clock.old clock.new first [] terms.now result }
         ensures clock { IsSome terms.now.moment → clock.new ≡ clock.old }
         ensures counts { HasAirCause A.read_faults A.write_faults air.old air.new result }
     {
         // Whatever is heard is a stream of packets.
         stream_law();
-        let first = moment_of(terms.moment, clock);
-        match greet(first, air) {
+        match say(login, air) {
             Ok(()) => self.listen(disk, air, clock, first, terms),
             Err(_down) => Err(NodeStop::AirWrite),
         }
@@ -195,8 +195,8 @@ impl SessionServer {
     ) -> Result<Served, NodeStop>
         requires fresh { self.old ≡ new_server terms.now.caller self.old.store }
         requires up { IsUp D.Disk self.old.store disk.old }
-        ensures ran { ListenedOn D.Disk A.Air C.given self.old.store self.new.store disk.old disk.new air.old air.new
-            clock.old clock.new first terms.now result }
+        ensures ran { SessionOn D.Disk A.Air C.given self.old.store self.new.store disk.old disk.new air.old air.new
+            clock.old clock.new first (packet_text (greeting first)) terms.now result }
         ensures clock { IsSome terms.now.moment → clock.new ≡ clock.old }
         ensures counts { HasAirCause A.read_faults A.write_faults air.old air.new result }
     {

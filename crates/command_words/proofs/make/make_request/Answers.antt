@@ -3,8 +3,12 @@ use Rattle.std.proofs.Common.{◌≡◌, ◌∙◌, None, Some, ap, not, refl, s
 use Rattle.std.proofs.lemmas.Result.{err_from_is_err_and}
 use Rattle.header_tool.specs.Made.{make_value, spec_refusal}
 use Rattle.command_words.proofs.LineLemmas.{handed_on}
-use Rattle.command_words.proofs.Meanings.{air_read, make_agrees, make_from, neither_from, neither_text, says_one}
+use Rattle.command_words.proofs.Meanings.{air_read, air_unread, make_agrees, make_from, neither_from, neither_text, says_one}
 use Rattle.command_words.proofs.make.make_request.Goals as goal
+
+pub returns-then-is_none-clause-usage : goal.returns-then-is_none-clause-usage
+returns-then-is_none-clause-usage c = λ usage disk body kept spec asks.
+    air_unread c.args.air.now c.read_air.result c.read_air.ensures.none (c.is_none.ensures ∙ ap not c.if-is_none.true) (neither_text asks).1
 
 pub returns-in_err-texts-clause-usage : goal.returns-in_err-texts-clause-usage
 returns-in_err-texts-clause-usage c =

@@ -2,8 +2,12 @@
 use Rattle.std.proofs.Common.{◌∙◌, ap, not}
 use Rattle.std.proofs.lemmas.Result.{err_from_is_err_and}
 use Rattle.command_words.proofs.LineLemmas.{handed_on}
-use Rattle.command_words.proofs.Meanings.{air_read, neither_from, neither_text}
+use Rattle.command_words.proofs.Meanings.{air_read, air_unread, neither_from, neither_text}
 use Rattle.command_words.proofs.request.name_request.Goals as goal
+
+pub returns-then-is_none-clause-usage : goal.returns-then-is_none-clause-usage
+returns-then-is_none-clause-usage c = λ usage disk name asks.
+    air_unread c.args.air.now c.read_air.result c.read_air.ensures.none (c.is_none.ensures ∙ ap not c.if-is_none.true) (neither_text asks).1
 
 pub returns-in_err-name-clause-usage : goal.returns-in_err-name-clause-usage
 returns-in_err-name-clause-usage c =

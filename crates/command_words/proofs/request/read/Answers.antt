@@ -1,14 +1,14 @@
 -- The third word is the command.
-use Rattle.std.proofs.Common.{◌≡◌, List, ◌∷◌, codes, drop, inl, inr, length, lit<, map, refl, string_bytes, subst, sym, take, ◌-◌, ◌∙◌}
+use Rattle.std.proofs.Common.{◌≡◌, List, ◌∷◌, codes, drop, length, lit<, map, refl, string_bytes, subst, sym, take, ◌-◌, ◌∙◌}
 use Rattle.std.specs.Prelude.{Contains, IfOk}
 use Rattle.std.proofs.lemmas.Result.{IfOk-weaker}
 use Rattle.command_words.specs.Asked.{AsksFor}
 use Rattle.command_words.specs.Commands.{word_of}
-use Rattle.command_words.specs.Words.{BeyondSession, built_commands}
+use Rattle.command_words.specs.Words.{built_commands}
 use Rattle.command_words.specs.declared.command.NameCommand.{NameCommand}
 use Rattle.command_words.specs.declared.command.NameCommand.TheVariants.{Frames, PfhCheck, PfhShow}
 use Rattle.command_words.proofs.Uses.{Text}
-use Rattle.command_words.proofs.Meanings.{make_usage, name_usage, no_command_usage, session_usage, three_words}
+use Rattle.command_words.proofs.Meanings.{make_usage, name_usage, no_command_usage, serve_usage, session_usage, three_words}
 use Rattle.command_words.proofs.request.read.Goals as goal
 
 -- ---- a session
@@ -24,8 +24,25 @@ pub returns-in-Some-Session : goal.returns-in-Some-Session
 returns-in-Some-Session c = record {
   asks = subst (λ (ws : List Text). IfOk c.session_request.result (AsksFor ws)) (sym (session_words c)) c.session_request.ensures.asks;
   usage = λ usage. session_usage (session_words c) (c.session_request.ensures.usage usage);
-  unbuilt = λ unbuilt. inr (subst BeyondSession (sym (session_words c)) (c.session_request.ensures.unbuilt unbuilt));
+  unbuilt = λ unbuilt. absurd (c.session_request.ensures.built unbuilt);
   memory = λ _. (_, _, _, _, session_words c, (0, lit< tt, refl));
+}
+
+-- ---- a service
+
+serve_words : (c : goal.After-serve_request)
+    → c.args.words.now ≡ c.as_str-in-Some-Serve.result.now ∷ c.as_str-in-Some-Serve-2.result.now ∷ codes "serve" ∷ drop 1 (map string_bytes (take (length c.as_slice-texts.result.now - 2) (drop 2 c.as_slice-texts.result.now)))
+serve_words c =
+    sym c.as_slice-texts.ensures ∙ three_words c.as_slice-texts.result.now c.disk-item.result c.air-item.result c.command-item.result _ _ _ c.in-len3-up.len_at_least c.disk-item.is c.air-item.is c.command-item.is
+    c.as_str-in-Some-Serve.ensures.value c.as_str-in-Some-Serve-2.ensures.value
+    (sym (rw c.in-Some-Serve.field-0-is at c.in-Some-Serve.ensures.some) ∙ c.as_str.ensures.value)
+
+pub returns-in-Some-Serve : goal.returns-in-Some-Serve
+returns-in-Some-Serve c = record {
+  asks = subst (λ (ws : List Text). IfOk c.serve_request.result (AsksFor ws)) (sym (serve_words c)) c.serve_request.ensures.asks;
+  usage = λ usage. serve_usage (serve_words c) (c.serve_request.ensures.usage usage);
+  unbuilt = λ unbuilt. absurd (c.serve_request.ensures.built unbuilt);
+  memory = λ _. (_, _, _, _, serve_words c, (1, lit< tt, refl));
 }
 
 -- ---- a command with a name
@@ -38,9 +55,9 @@ name_words c =
 
 -- which is one of the built ones
 name_built : (command : NameCommand) → Contains built_commands (word_of command)
-name_built Frames = (1, lit< tt, refl)
-name_built PfhCheck = (2, lit< tt, refl)
-name_built PfhShow = (3, lit< tt, refl)
+name_built Frames = (2, lit< tt, refl)
+name_built PfhCheck = (3, lit< tt, refl)
+name_built PfhShow = (4, lit< tt, refl)
 
 pub returns-in-Some-Named : goal.returns-in-Some-Named
 returns-in-Some-Named c = record {
@@ -65,13 +82,13 @@ returns-in-Some-PfhMake c = record {
       (IfOk-weaker c.make_request.result _ _ (λ request asks. asks (string_bytes c.disk-item.result)) c.make_request.ensures.asks);
   usage = λ usage. make_usage (make_words c) (c.make_request.ensures.usage usage (string_bytes c.disk-item.result));
   unbuilt = λ unbuilt. absurd (c.make_request.ensures.built unbuilt);
-  memory = λ _. (_, _, _, _, make_words c, (4, lit< tt, refl));
+  memory = λ _. (_, _, _, _, make_words c, (5, lit< tt, refl));
 }
 
 -- ---- what isn't built, and what is no command
 
 pub returns-in-Some-Unbuilt-clause-unbuilt : goal.returns-in-Some-Unbuilt-clause-unbuilt
-returns-in-Some-Unbuilt-clause-unbuilt c = λ unbuilt. inl (record {
+returns-in-Some-Unbuilt-clause-unbuilt c = λ unbuilt. record {
   disk = string_bytes c.disk-item.result;
   air = string_bytes c.air-item.result;
   command = c.as_str.result.now;
@@ -80,7 +97,7 @@ returns-in-Some-Unbuilt-clause-unbuilt c = λ unbuilt. inl (record {
       sym c.as_slice-texts.ensures ∙ three_words c.as_slice-texts.result.now c.disk-item.result c.air-item.result c.command-item.result _ _ _ c.in-len3-up.len_at_least c.disk-item.is c.air-item.is c.command-item.is
       refl refl c.as_str.ensures.value;
   unbuilt = rw c.in-Some-Unbuilt.field-0-is at c.in-Some-Unbuilt.ensures.some;
-})
+}
 
 pub returns-in-None-clause-usage : goal.returns-in-None-clause-usage
 returns-in-None-clause-usage c = λ usage. no_command_usage

@@ -1,5 +1,5 @@
 use Rattle.pfh_items.proofs.FaultLemmas.{no_fault}
-use Rattle.file_entries.proofs.StampedLemmas.{no_fault-code}
+use Rattle.pfh_writer.proofs.StampedLemmas.{no_fault-code}
 use Rattle.file_entries.proofs.header.stamp_file.Goals as goal
 
 pub stamp-requires : goal.stamp-requires

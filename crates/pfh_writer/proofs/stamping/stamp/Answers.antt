@@ -1,41 +1,87 @@
-use Rattle.std.proofs.Common.{rules, ◌≡◌, List, ℕ, ◌+◌, ◌%◌, ◌≤◌, [], ◌++◌, length, drop, map, refl, sym, ap, ◌∙◌, subst, arith}
+use Rattle.std.proofs.Common.{◌≡◌, ℕ, ◌+◌, ◌%◌, ◌≤◌, List, ◌++◌, length, take, refl, sym, ap, ◌∙◌, subst, arith, length-append, length-drop}
+use Rattle.std.proofs.lemmas.List.{length-take-le}
 use Rattle.px_base.specs.CallSign.{CallSign, IsCall}
-use Rattle.pfh_items.specs.Layout.{ItemValue, header_text}
 use Rattle.pfh_items.specs.Stamp.{StampValue, stamped}
-use Rattle.pfh_items.specs.Walk.{ItemList}
+use Rattle.pfh_items.specs.Walk.{item_len}
 use Rattle.pfh_items.proofs.StampLemmas.{one_stamp}
-use Rattle.pfh_writer.specs.Given.{stamped_sum}
+use Rattle.pfh_writer.specs.Filling.{FillsFront, StaysAtEnd, sum_place_after}
 use Rattle.pfh_writer.specs.Stamping.{stamp_of}
-use Rattle.pfh_writer.proofs.FilledLemmas.{number_lens}
-use Rattle.pfh_writer.proofs.FrontLemmas.{stamped_once}
-use Rattle.pfh_writer.proofs.SumLemmas.{renewed-stamped_sum, same_walk}
-use Rattle.pfh_writer.proofs.WholeLemmas.{walk_is, header_long}
+use Rattle.pfh_writer.specs.declared.server.ServerItems.{ServerItems}
+use Rattle.pfh_writer.proofs.FillingLemmas.{Walked, walked_none, rest_whole, rest_within, walked_more, part_is, put_is, sum_within, stamped_is}
 use Rattle.pfh_writer.proofs.stamping.stamp.Goals as goal
 
 abbrev stamp_at : ℕ → CallSign → ℕ → StampValue
 stamp_at number by moment = record { number = number; by = by; moment = moment }
 
-computed : (c : goal.After-slice_known-2-1)
-    → c.feed.new.piece ++ drop c.in-Some.len c.args.file.now ≡ stamped (stamp_at c.args.number c.args.by c.args.moment) c.args.file.now
+-- the server's caller is a call
+server_call : (server : ServerItems) (stamp : StampValue) → stamp_of server ≡ stamp → IsCall stamp.by → IsCall (stamp_of server).by
+server_call server stamp same call = subst (λ (s : StampValue). IsCall s.by) (sym same) call
+
+pub loop-item-init : goal.loop-item-init
+loop-item-init c = walked_none (stamp_of c.new-server.result) c.requires.0 c.requires.1 c.args.file.now c.requires.2
+
+pub fill_front-requires : goal.fill_front-requires
+fill_front-requires c =
+    subst (λ (t : List ℕ). item_len t ≤ length t) (sym (part_is c.loop-item.at c.loop-item.file))
+    (rest_whole (stamp_of c.new-server.result) c.args.file.now c.loop-item.file c.loop-item.at c.loop-item.sum_at c.loop-item.change c.loop-item.invariant)
+
+pub overflow_add-at-in-Some-2 : goal.overflow_add-at-in-Some-2
+overflow_add-at-in-Some-2 c =
+    let call = server_call c.new-server.result _ c.new-server.ensures.items c.new-server.ensures.call in
+    let fills =
+    subst (λ (t : List ℕ). FillsFront (stamp_of c.new-server.result) t c.fill_front.new.octets c.in-Some.item) (part_is c.loop-item.at c.loop-item.file) c.in-Some.ensures.some in
+    let more =
+    walked_more (stamp_of c.new-server.result) c.args.file.now c.loop-item.file c.loop-item.at c.loop-item.sum_at c.loop-item.change c.loop-item.invariant call
+    c.fill_front.new.octets c.in-Some.item ((c.loop-item.change + c.in-Some.item.change) % 65536) fills refl in
+    let within = rest_within (stamp_of c.new-server.result) c.args.file.now (take c.loop-item.at c.loop-item.file ++ c.fill_front.new.octets)
+    (c.loop-item.at + 3 + c.in-Some.item.len) (sum_place_after c.loop-item.sum_at c.in-Some.item.id (c.loop-item.at + 3))
+    ((c.loop-item.change + c.in-Some.item.change) % 65536) more in
+    let before = rest_within (stamp_of c.new-server.result) c.args.file.now c.loop-item.file c.loop-item.at c.loop-item.sum_at c.loop-item.change c.loop-item.invariant in
+    let part = ap length (part_is c.loop-item.at c.loop-item.file) in
+    omega (
+      arith,
+      length-append (take c.loop-item.at c.loop-item.file) c.fill_front.new.octets,
+      length-take-le c.loop-item.at c.loop-item.file before,
+      length-drop c.loop-item.at c.loop-item.file,
+    )
+
+pub loop-item-preserved : goal.loop-item-preserved
+loop-item-preserved c =
+    let call = server_call c.new-server.result _ c.new-server.ensures.items c.new-server.ensures.call in
+    let fills =
+    subst (λ (t : List ℕ). FillsFront (stamp_of c.new-server.result) t c.fill_front.new.octets c.in-Some.item) (part_is c.loop-item.at c.loop-item.file) c.in-Some.ensures.some in
+    let more =
+    walked_more (stamp_of c.new-server.result) c.args.file.now c.loop-item.file c.loop-item.at c.loop-item.sum_at c.loop-item.change c.loop-item.invariant call
+    c.fill_front.new.octets c.in-Some.item ((c.loop-item.change + c.in-Some.item.change) % 65536) fills refl in
+    subst
+    (λ (t : List ℕ). Walked (stamp_of c.new-server.result) c.args.file.now t (c.loop-item.at + 3 + c.in-Some.item.len) c.sum_place-sum_at.result
+    ((c.loop-item.change + c.in-Some.item.change) % 65536))
+    (sym (put_is c.loop-item.at c.loop-item.file c.fill_front.new.octets))
+    (subst
+    (λ (n : ℕ). Walked (stamp_of c.new-server.result) c.args.file.now (take c.loop-item.at c.loop-item.file ++ c.fill_front.new.octets)
+    (c.loop-item.at + 3 + c.in-Some.item.len) n ((c.loop-item.change + c.in-Some.item.change) % 65536))
+    (sym c.sum_place-sum_at.ensures) more)
+
+pub add_to_sum-requires : goal.add_to_sum-requires
+add_to_sum-requires c =
+    let call = server_call c.new-server.result _ c.new-server.ensures.items c.new-server.ensures.call in
+    let stays = subst (λ (t : List ℕ). StaysAtEnd t c.fill_front.new.octets) (part_is c.loop-item.at c.loop-item.file) c.in_default.ensures.none in
+    sum_within (stamp_of c.new-server.result) call c.args.file.now c.loop-item.file c.loop-item.at c.loop-item.sum_at c.loop-item.change c.loop-item.invariant
+    c.fill_front.new.octets _ stays (put_is c.loop-item.at c.loop-item.file c.fill_front.new.octets)
+
+computed : (c : goal.After-slice_known-2-1) → c.add_to_sum.new.file ≡ stamped (stamp_at c.args.number c.args.by c.args.moment) c.args.file.now
 computed c =
-    let is = c.requires.2 in
-    let call : IsCall c.args.by = c.new.ensures.call in
-    let header = c.in-Some.ensures.header c.requires.0 c.requires.1 is in
-    let walk : c.items_of.result.items ≡ c.requires.0 =
-    ap (λ (w : ItemList). w.items) c.items_of.ensures ∙ walk_is c.requires.0 c.requires.1 c.args.file.now is.file_text.are_items is.file_text.text in
-    let right : c.renewed_sum-sum.result ≡ stamped_sum (stamp_at c.args.number c.args.by c.args.moment) c.requires.0 =
-    renewed-stamped_sum (stamp_at c.args.number c.args.by c.args.moment) call c.requires.0 c.in-Some.header_sum c.renewed_sum-sum.result
-    (number_lens c.requires.0 c.requires.1 c.args.file.now is) header.1 c.renewed_sum-sum.type_inv
-    (same_walk (stamp_of c.new.result) (stamp_at c.args.number c.args.by c.args.moment) c.items_of.result.items c.requires.0 c.in-Some.header_sum
-    c.renewed_sum-sum.result c.new.ensures.items walk c.renewed_sum-sum.ensures) in
-    stamped_once c.feed.new.self (stamp_at c.args.number c.args.by c.args.moment) c.args.file.now c.feed.new.piece c.in-Some.len c.requires.0 c.requires.1
-    (c.feed.ensures.fed [] [] c.new-2.ensures.fed) (c.feed.ensures.stamp ∙ c.new-2.ensures.stamp) (c.feed.ensures.sum ∙ c.new-2.ensures.sum ∙ right) is header.0
+    let call = server_call c.new-server.result _ c.new-server.ensures.items c.new-server.ensures.call in
+    let stays = subst (λ (t : List ℕ). StaysAtEnd t c.fill_front.new.octets) (part_is c.loop-item.at c.loop-item.file) c.in_default.ensures.none in
+    c.add_to_sum.ensures
+    ∙ stamped_is (stamp_of c.new-server.result) call c.args.file.now c.loop-item.file c.loop-item.at c.loop-item.sum_at c.loop-item.change c.loop-item.invariant
+    c.fill_front.new.octets _ stays (put_is c.loop-item.at c.loop-item.file c.fill_front.new.octets)
+    ∙ ap (λ (s : StampValue). stamped s c.args.file.now) c.new-server.ensures.items
 
 pub returns-clause-computed : goal.returns-clause-computed
 returns-clause-computed c = computed c
 
 pub returns-clause-relation : goal.returns-clause-relation
 returns-clause-relation c =
-    let call : IsCall c.args.by = c.new.ensures.call in
-    (one_stamp (stamp_at c.args.number c.args.by c.args.moment) c.args.file.now (c.feed.new.piece ++ drop c.in-Some.len c.args.file.now) c.requires.0 c.requires.1
-    c.requires.2.file_text call).1 (computed c)
+    (one_stamp (stamp_at c.args.number c.args.by c.args.moment) c.args.file.now c.add_to_sum.new.file c.requires.0 c.requires.1
+    c.requires.2.file_text c.new-server.ensures.call).1 (computed c)

@@ -47,21 +47,30 @@ returns-in_err-store-clause-runs g c =
 
 pub returns-clause-refuses : goal.returns-clause-refuses
 returns-clause-refuses g c =
+    let on_disk =
+    on_recovered g.D.Disk g.A.Air g.C.Clock.given c.recover.new.disk c.serve-ended.new.disk c.args.air.now c.serve-ended.new.air c.moment_of-first.new.clock c.serve-ended.new.clock c.moment_of-first.result c.args.terms.now
+    c.args.terms.now.caller c.in_ok-store.store c.serve-ended.new.self.store c.new-server.result c.serve-ended.result c.new-server.ensures.server c.serve-ended.ensures.served in
     served_exactly g.D.Disk g.A.Air g.C.Clock.given g.met.D.Disk.lasts_on c.args.disk.now c.recover.new.disk c.serve-ended.new.disk c.args.air.now c.serve-ended.new.air c.args.clock.now
-    c.serve-ended.new.clock c.args.terms.now c.in_ok-store.store c.serve-ended.new.self.store c.serve-ended.result c.in_ok-store.ensures.recovered c.in_ok-store.ensures.runs (on_recovered g.D.Disk g.A.Air g.C.Clock.given c.recover.new.disk c.serve-ended.new.disk c.args.air.now c.serve-ended.new.air c.args.clock.now c.serve-ended.new.clock c.args.terms.now
-    c.args.terms.now.caller c.in_ok-store.store c.serve-ended.new.self.store c.new-server.result c.serve-ended.result c.new-server.ensures c.serve-ended.ensures.served)
+    c.moment_of-first.new.clock c.serve-ended.new.clock c.moment_of-first.result c.args.terms.now c.in_ok-store.store c.serve-ended.new.self.store c.serve-ended.result c.in_ok-store.ensures.recovered c.in_ok-store.ensures.runs
+    c.moment_of-first.ensures.moment on_disk
 
 pub returns-clause-ends : goal.returns-clause-ends
 returns-clause-ends g c =
+    let on_disk =
+    on_recovered g.D.Disk g.A.Air g.C.Clock.given c.recover.new.disk c.serve-ended.new.disk c.args.air.now c.serve-ended.new.air c.moment_of-first.new.clock c.serve-ended.new.clock c.moment_of-first.result c.args.terms.now
+    c.args.terms.now.caller c.in_ok-store.store c.serve-ended.new.self.store c.new-server.result c.serve-ended.result c.new-server.ensures.server c.serve-ended.ensures.served in
     inr (served g.D.Disk g.A.Air g.C.Clock.given g.met.D.Disk.lasts_on c.args.disk.now c.recover.new.disk c.serve-ended.new.disk c.args.air.now c.serve-ended.new.air c.args.clock.now
-    c.serve-ended.new.clock c.args.terms.now c.in_ok-store.store c.serve-ended.new.self.store c.serve-ended.result c.in_ok-store.ensures.recovered c.in_ok-store.ensures.runs (on_recovered g.D.Disk g.A.Air g.C.Clock.given c.recover.new.disk c.serve-ended.new.disk c.args.air.now c.serve-ended.new.air c.args.clock.now c.serve-ended.new.clock c.args.terms.now
-    c.args.terms.now.caller c.in_ok-store.store c.serve-ended.new.self.store c.new-server.result c.serve-ended.result c.new-server.ensures c.serve-ended.ensures.served)
-    c.state_law.ensures.rules c.in_ok-store.ensures.since_start c.in_ok-store.ensures.since_sync c.end.ensures)
+    c.moment_of-first.new.clock c.serve-ended.new.clock c.moment_of-first.result c.args.terms.now c.in_ok-store.store c.serve-ended.new.self.store c.serve-ended.result c.in_ok-store.ensures.recovered c.in_ok-store.ensures.runs
+    c.moment_of-first.ensures.moment on_disk
+    c.state_law.ensures.rules c.in_ok-store.ensures.octets c.in_ok-store.ensures.since_start c.in_ok-store.ensures.since_sync c.end.ensures)
 
 pub returns-clause-runs : goal.returns-clause-runs
 returns-clause-runs g c =
+    let on_disk =
+    on_recovered g.D.Disk g.A.Air g.C.Clock.given c.recover.new.disk c.serve-ended.new.disk c.args.air.now c.serve-ended.new.air c.moment_of-first.new.clock c.serve-ended.new.clock c.moment_of-first.result c.args.terms.now
+    c.args.terms.now.caller c.in_ok-store.store c.serve-ended.new.self.store c.new-server.result c.serve-ended.result c.new-server.ensures.server c.serve-ended.ensures.served in
     served_runs g.D.Disk g.A.Air g.C.Clock.given c.args.disk.now c.serve-ended.new.disk c.args.air.now c.serve-ended.new.air c.args.clock.now c.serve-ended.new.clock c.args.terms.now c.serve-ended.result
     (served g.D.Disk g.A.Air g.C.Clock.given g.met.D.Disk.lasts_on c.args.disk.now c.recover.new.disk c.serve-ended.new.disk c.args.air.now c.serve-ended.new.air c.args.clock.now
-    c.serve-ended.new.clock c.args.terms.now c.in_ok-store.store c.serve-ended.new.self.store c.serve-ended.result c.in_ok-store.ensures.recovered c.in_ok-store.ensures.runs (on_recovered g.D.Disk g.A.Air g.C.Clock.given c.recover.new.disk c.serve-ended.new.disk c.args.air.now c.serve-ended.new.air c.args.clock.now c.serve-ended.new.clock c.args.terms.now
-    c.args.terms.now.caller c.in_ok-store.store c.serve-ended.new.self.store c.new-server.result c.serve-ended.result c.new-server.ensures c.serve-ended.ensures.served)
-    c.state_law.ensures.rules c.in_ok-store.ensures.since_start c.in_ok-store.ensures.since_sync c.end.ensures)
+    c.moment_of-first.new.clock c.serve-ended.new.clock c.moment_of-first.result c.args.terms.now c.in_ok-store.store c.serve-ended.new.self.store c.serve-ended.result c.in_ok-store.ensures.recovered c.in_ok-store.ensures.runs
+    c.moment_of-first.ensures.moment on_disk
+    c.state_law.ensures.rules c.in_ok-store.ensures.octets c.in_ok-store.ensures.since_start c.in_ok-store.ensures.since_sync c.end.ensures)

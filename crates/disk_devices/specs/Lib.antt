@@ -1,0 +1,4 @@
+pub mod DeviceLaws
+pub mod Devices
+pub mod Files
+pub mod MemoryDevices

@@ -1,0 +1,70 @@
+-- What a run of the program did as a server, by its words, by what was heard, and by its disk.
+use Rattle.std.specs.Prelude.{◌≡◌, ◌⊎◌, ℕ, List, [], ◌∷◌, ◌++◌, length, Option, Some, Result, IsErrOf}
+use Rattle.std.specs.List.{AllByRecursion}
+use Rattle.px_base.specs.Polling.{HasEnd, IsOpen}
+use Rattle.px_base.specs.declared.air.Air.{Ghosts as AirGhosts}
+use Rattle.px_base.specs.declared.air.Turn.{Turn}
+use Rattle.disk_model.specs.declared.disk.Disk.{Ghosts}
+use Rattle.file_journal.specs.Calls.{Runs}
+use Rattle.session_node.specs.Stops.{HasAirCause, RefusesSession}
+use Rattle.session_node.specs.declared.stop.NodeStop.{NodeStop}
+use Rattle.session_node.specs.declared.stop.NodeStop.TheVariants as stop
+use Rattle.session_node.specs.declared.terms.Served.{Served}
+use Rattle.server_node.specs.Served.{ServerEnds}
+use Rattle.server_node.specs.declared.terms.ServerTerms.{ServerTerms}
+use Rattle.command_words.specs.declared.serve.ServeRequest.{ServeRequest}
+use Rattle.command_words.specs.Words.{IsServe}
+use Rattle.pacsat_cli.specs.declared.status.Status.{Status}
+use Rattle.pacsat_cli.specs.declared.status.Status.TheVariants.{AirWrite, Disk, Done, NotBuilt, OutOfMemory, Spent}
+use Rattle.pacsat_cli.specs.Run.{IsUnless}
+use Rattle.pacsat_cli.specs.Sessions.{IsUntouched}
+use Rattle.pacsat_cli.specs.Stops.{status_of}
+
+-- what a run serves with
+abbrev pub serve_terms : ServeRequest → ServerTerms
+serve_terms asked =
+    record { me = asked.me; k = asked.k; limits = record { blocks = asked.blocks }; polls = asked.polls }
+
+-- A server of these terms served over this disk, or the recovery of its store was refused: what was said to what was
+-- heard, what stands on the disk at each moment, and why it ended, as the status says.
+pub record IsServedOver {A C D : Type 0} (g : Ghosts D) (air : AirGhosts A) (given : C → Option (List ℕ))
+    (disk disk_now : D) (before now : A) (clock clock_now : C) (terms : ServerTerms) (status : Status) : Type 0 where
+  pub ended : Result Served NodeStop
+  pub refuses : RefusesSession terms.limits.blocks (g.content disk) ended
+  pub ends : ServerEnds g air given disk disk_now before now clock clock_now terms ended
+  pub counts : HasAirCause air.read_faults air.write_faults before now ended
+  pub runs : Runs g (IsErrOf ended stop.Disk) disk disk_now
+  pub status_is : status ≡ status_of ended
+
+-- Where the words ask for a service, it is served so; or there was no memory to read the words, and nothing was touched.
+abbrev pub RunsServe :
+    {A C D : Type 0} → List (List ℕ) → Ghosts D → AirGhosts A → (C → Option (List ℕ)) → D → D → A → A → C → C → Status
+    → Type 0
+RunsServe words g air given disk disk_now before now clock clock_now status =
+    (asked : ServeRequest) → IsServe words asked
+    → (IsUntouched before now clock clock_now status × (disk_now ≡ disk))
+    ⊎ IsServedOver g air given disk disk_now before now clock clock_now (serve_terms asked) status
+
+-- The words ask for a service, and what is told of the air, before and now, gives the turns of the run.
+pub record ServeHeard {A : Type 0} (words : List (List ℕ)) (heard : A → Option (List Turn)) (before now : A) : Type 0 where
+  pub asked : ServeRequest
+  pub asks : IsServe words asked
+  pub earlier : List Turn
+  pub turns : List Turn
+  pub told_before : heard before ≡ Some earlier
+  pub told_now : heard now ≡ Some (earlier ++ turns)
+
+-- Where the turns of a service are told, this holds of how many polls it may make, and of the turns.
+abbrev pub WhereServed :
+    {A : Type 0} → List (List ℕ) → (A → Option (List Turn)) → A → A → (ℕ → List Turn → Type 0) → Type 0
+WhereServed words heard before now P = (told : ServeHeard words heard before now) → P told.asked.polls told.turns
+
+-- where the end of the air was heard, the run is done
+abbrev pub IsServeDoneBy : Status → ℕ → List Turn → Type 0
+IsServeDoneBy status polls turns = HasEnd turns → status ≡ Done
+
+-- where all polls were made, and none was the end or failed, the run is spent
+abbrev pub IsServeSpentBy : Status → ℕ → List Turn → Type 0
+IsServeSpentBy status polls turns =
+    length turns ≡ polls → AllByRecursion IsOpen turns
+    → IsUnless status Spent (AirWrite ∷ Disk ∷ NotBuilt ∷ OutOfMemory ∷ [])
