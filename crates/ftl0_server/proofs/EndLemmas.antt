@@ -42,8 +42,7 @@ held-behind store p ps are = (
 held-ended : (store now : StoreState) (p : Place) (ps : List Place) → AreHeld store (p ∷ ps) → HasEnded store now p → AreHeld now ps
 held-ended store now Free ps are ended = subst (λ (s : StoreState). AreHeld s ps) (sym ended) (held-behind store Free ps are)
 held-ended store now (Talking d) ps are ended =
-    let behind = held-behind store (Talking d) ps are in
-    (
+    let behind = held-behind store (Talking d) ps are in (
       λ i c at.
           let other : c.session.caller ≢ d.session.caller = λ same. suc_zero i (are.1 (suc i) 0 c d at refl same) in
           held-kept store now d.session.caller ended.others c.session.caller other c.session.phase (behind.0 i c at),

@@ -181,7 +181,7 @@ module _ {D : Type 0} (g : Ghosts D) (old new : ServerState) (server : Server) (
     heard-by (Ok done) by = (
       by.0,
       now-is (slot_after (event None)) (after_all server.store (event None).done) by.1
-      ((by.2.done (λ never. never)).0 ∙ ap (λ (s : Store). after_all s (event None).done) is.store),
+          ((by.2.done (λ never. never)).0 ∙ ap (λ (s : Store). after_all s (event None).done) is.store),
       by.2,
     )
     heard-by (Err stop.Disk) by = (
@@ -209,10 +209,10 @@ module _ {D : Type 0} (g : Ghosts D) (old new : ServerState) (server : Server) (
   server-hears result hears since =
       let slot = slot_is in
       let by : Hears g (λ failing. heard_at server place (hearing server.window moment (store_in old.store) slot.0 frame failing)) old new disk disk_now result =
-          record {
-            by = heard-by (hearing server.window moment (store_in old.store) slot.0 frame) result (hears server.window slot.0 slot.2);
-            since = since server.window slot.0 slot.2;
-          } in
+      record {
+        by = heard-by (hearing server.window moment (store_in old.store) slot.0 frame) result (hears server.window slot.0 slot.2);
+        since = since server.window slot.0 slot.2;
+      } in
       let over = subst (λ (s : Store). Hears g (λ failing. heard_at server place (hearing server.window moment s slot.0 frame failing)) old new disk disk_now result) is.store by in
       let at_slot = subst (λ (o : Option Slot). Hears g (λ failing. hearing_at server frame moment failing place o) old new disk disk_now result) (sym slot.1) over in
       subst (λ (o : Option ℕ). Hears g (λ failing. hearing_by server frame moment failing o) old new disk disk_now result)
@@ -239,7 +239,7 @@ module _ {D : Type 0} (g : Ghosts D) (old new : ServerState) (server : Server) (
       → Hears g (server_hearing server frame moment) old new disk disk result
   stranger-hears result heard =
       let by : Hears g (λ failing. becoming (hearing_stranger server frame moment)) old new disk disk result =
-          record { by = stranger-by result heard; since = nothing-done.since } in
+      record { by = stranger-by result heard; since = nothing-done.since } in
       subst (λ (o : Option ℕ). Hears g (λ failing. hearing_by server frame moment failing o) old new disk disk result)
       (sym found ∙ same-place_of old server is old.me old.k settled frame.src) by
 

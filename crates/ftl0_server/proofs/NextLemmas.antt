@@ -46,7 +46,7 @@ quiet-end w end none =
     let parts = none_of (is_there end.reply) (nat_lt 0 end.again) (has_new_in (kept_of w end)) (is_there end.farewell) none in
     let size : length (drop end.acked end.sent) ≡ length end.sent - end.acked = length-drop end.acked end.sent in
     let new : has_new w end ≡ false =
-        ap (λ (n : ℕ). is_up end.state && nat_lt n w.size && not end.busy && not (is_empty end.queued)) (sym size) ∙ parts.2 in
+    ap (λ (n : ℕ). is_up end.state && nat_lt n w.size && not end.busy && not (is_empty end.queued)) (sym size) ∙ parts.2 in
     after-none w end end.reply parts.0 (later-none w end (nat_lt 0 end.again) (has_new w end) end.farewell parts.1 new parts.3)
 
 -- a link with nothing pending sends nothing

@@ -30,8 +30,7 @@ pub stray-out : (Stands : ServerState → Server → Type 0) (old new : ServerSt
     → now ≡ canonical (refusal_frame old.me refused) → FrameText (refusal_frame old.me refused) now
     → HandsOut Stands (server_next server) old new before now true
 stray-out Stands old new server refused before now me stray is stands octets text =
-    subst (λ (o : Option Refused). HandsOut Stands (sends_by server o) old new before now true) (sym is ∙ stray)
-    (
+    subst (λ (o : Option Refused). HandsOut Stands (sends_by server o) old new before now true) (sym is ∙ stray) (
       refl,
       stands,
       subst (λ (x : CallSign). now ≡ canonical (refusal_frame x refused)) me octets,
@@ -246,7 +245,7 @@ settled-same me k store ps qs same was = record {
             let d = same-back ps qs i c same at in
             is.0 i d.0 d.1 (ap (λ (s : SessionState). s.caller) d.2.session ∙ theirs) ∙ ap (λ (s : SessionState). number_of s.phase) d.2.session,
         λ nobody_has. is.1 (λ i d at theirs.
-        let c = same-get ps qs i d same at in
-        nobody_has i c.0 c.1 (ap (λ (s : SessionState). s.caller) (sym c.2.session) ∙ theirs)),
+            let c = same-get ps qs i d same at in
+            nobody_has i c.0 c.1 (ap (λ (s : SessionState). s.caller) (sym c.2.session) ∙ theirs)),
       );
 }

@@ -108,10 +108,10 @@ module _ (me : CallSign) (k : ℕ) (store : StoreState) (places : List Place) (i
             settled.only caller number (
               λ j e at theirs. is.0 j e (before j e (not-there j e at) at) theirs,
               λ nobody_has. is.1 (λ j e at theirs.
-              elim (at-set places i j (Talking c) e within at) [
-                | inl w ↦ ne (sym theirs ∙ ap (λ (x : ConnectionState). x.session.caller) (sym (same_talk e w.1)))
-                | inr w ↦ nobody_has j e w.1 theirs
-              ]),
+                  elim (at-set places i j (Talking c) e within at) [
+                    | inl w ↦ ne (sym theirs ∙ ap (λ (x : ConnectionState). x.session.caller) (sym (same_talk e w.1)))
+                    | inr w ↦ nobody_has j e w.1 theirs
+                  ]),
             )
       ]
 

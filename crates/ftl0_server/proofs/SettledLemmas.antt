@@ -137,10 +137,10 @@ module _ (me : CallSign) (k : ℕ) (before now : StoreState) (places : List Plac
         | inr w ↦ is.0 j c (slice_get-set_other places i j p w.1 ∙ there) theirs
       ],
       λ nobody. is.1 (λ j c there theirs.
-      elim (at-set places i j p c within there) [
-        | inl w ↦ ne (sym theirs ∙ same c w.1)
-        | inr w ↦ nobody j c w.1 theirs
-      ]),
+          elim (at-set places i j p c within there) [
+            | inl w ↦ ne (sym theirs ∙ same c w.1)
+            | inr w ↦ nobody j c w.1 theirs
+          ]),
     )
 
     pub settled-set : IsSettled me k now (set places i p)

@@ -7,6 +7,8 @@ mod place;
 mod places;
 mod server;
 mod stray;
+#[cfg(test)]
+mod tests;
 
 pub use ftl0_session::{Replies, ServerStop, Session};
 pub use server::{PLACES, Server};

@@ -24,7 +24,9 @@ ghost use Rattle.ftl0_server.specs.ServerState.{server_pending, sessions_in};
 ghost use Rattle.ftl0_server.specs.Slots.{first_empty};
 
 use crate::place::Place;
-use crate::places::{all_fit_law, any_is_pending, count_sessions, empty_place, end_all, next_of, place_of, tick_all};
+use crate::places::{
+    all_fit_law, any_is_pending, count_sessions, empty_place, end_all, next_of, place_of, tick_all,
+};
 use crate::stray::Stray;
 use arrayvec::ArrayVec;
 use ax25_frames::{Frame, Kind};

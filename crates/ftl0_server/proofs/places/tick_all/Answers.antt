@@ -42,8 +42,8 @@ loop-i-preserved c =
           let got = all-get (IsPlace w c.loop-i.store) c.loop-i.places (ticked c.loop-i.i slots) c.loop-i.i old was at in
           let here : slice_get slots c.loop-i.i ≡ Some got.0 = sym (ticked-get c.loop-i.i slots) ∙ got.1 in
           let next =
-              all-works w working.0 working.1 c.loop-i.store c.tick.new.store c.loop-i.places (ticked c.loop-i.i slots) c.loop-i.i old c.tick.new.self (slot_ticking got.0) at working.2 works was
-              (c.tick.ensures.ticks w got.0 got.2) in
+          all-works w working.0 working.1 c.loop-i.store c.tick.new.store c.loop-i.places (ticked c.loop-i.i slots) c.loop-i.i old c.tick.new.self (slot_ticking got.0) at working.2 works was
+          (c.tick.ensures.ticks w got.0 got.2) in
           subst (λ (ss : List Slot). AllPlaces (IsPlace w c.tick.new.store) (set c.loop-i.places c.loop-i.i c.tick.new.self) ss)
           (ticked-set c.loop-i.i slots got.0 here ∙ ap (λ (n : ℕ). ticked n slots) (sym step)) next;
       store = c.tick.ensures.store ∙ c.loop-i.invariant.store;

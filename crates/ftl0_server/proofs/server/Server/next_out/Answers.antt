@@ -35,7 +35,6 @@ returns-in-Some-clause-same c =
     subst (λ (s : ServerState). SameButLinks s new) c.self.view_is
     (record { me = refl; k = refl; places = same_places c.self.inside.places; store = refl })
 
-
 pub invariant_of-self-in-None : goal.invariant_of-self-in-None
 invariant_of-self-in-None c =
     settled-same c.self.inside.me c.self.inside.k c.self.inside.store c.self.inside.places c.next_of.new.places c.next_of.ensures.same c.self.invariant

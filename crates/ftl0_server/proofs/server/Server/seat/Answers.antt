@@ -20,15 +20,15 @@ put-requires c =
 pub invariant_of-self : goal.invariant_of-self
 invariant_of-self c =
     let found : position is_empty_place c.self.inside.places ≡ Some c.args.place =
-        subst (λ (s : ServerState). position is_empty_place s.places ≡ Some c.args.place) (sym c.self.view_is) c.requires.empty in
+    subst (λ (s : ServerState). position is_empty_place s.places ≡ Some c.args.place) (sym c.self.view_is) c.requires.empty in
     let within = found-within is_empty_place c.self.inside.places c.args.place found in
     let at = slice_get-get_or c.self.inside.places c.args.place c.index-places-place.result within in
     let empty = found-passes is_empty_place c.self.inside.places c.args.place c.index-places-place.result found in
     let stranger : position (has_caller c.args.connection.session.caller) c.self.inside.places ≡ None =
-        subst (λ (s : ServerState). position (has_caller c.args.connection.session.caller) s.places ≡ None) (sym c.self.view_is) c.requires.stranger in
+    subst (λ (s : ServerState). position (has_caller c.args.connection.session.caller) s.places ≡ None) (sym c.self.view_is) c.requires.stranger in
     let new = subst (λ (s : ServerState). IsNew s c.args.connection) (sym c.self.view_is) c.requires.new in
     let seated = settled-seat c.self.inside.me c.self.inside.k c.self.inside.store c.self.inside.places c.args.place c.args.connection within
-        (λ e there. empty-none (get_or c.self.inside.places c.args.place c.index-places-place.result) empty e (same_Some (get_or c.self.inside.places c.args.place c.index-places-place.result) (Talking e) (sym at ∙ there)))
-        c.self.invariant (nobody c.args.connection.session.caller c.self.inside.places stranger) (new-seated (server_state c.self.inside) c.args.connection new)
-        (ap (λ (s : SessionState). number_of s.phase) c.requires.new.session) in
+    (λ e there. empty-none (get_or c.self.inside.places c.args.place c.index-places-place.result) empty e (same_Some (get_or c.self.inside.places c.args.place c.index-places-place.result) (Talking e) (sym at ∙ there)))
+    c.self.invariant (nobody c.args.connection.session.caller c.self.inside.places stranger) (new-seated (server_state c.self.inside) c.args.connection new)
+    (ap (λ (s : SessionState). number_of s.phase) c.requires.new.session) in
     rw c.put.ensures seated
