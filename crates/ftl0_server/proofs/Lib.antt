@@ -1,0 +1,12 @@
+pub mod AllPlaces
+pub mod EmptiesLemmas
+pub mod EndLemmas
+pub mod HearLemmas
+pub mod NextLemmas
+pub mod OutLemmas
+pub mod PlaceLemmas
+pub mod SeatLemmas
+pub mod SettledLemmas
+pub mod StartLemmas
+pub mod StepLemmas
+pub mod TickLemmas

@@ -13,7 +13,9 @@ use crate::Server;
 pub fn empties_law(server: &Server)
     ensures { (value : ServerValue) → SendsFor server.now value →
         (frames : List FrameValue) × (last : ServerValue) × Empties value frames last }
-{}
+{
+    server.fits_law();
+}
 
 /// Once it is known at which packet the disk fails, if it fails at one, an event has one step: these commands, these frames,
 /// and the server after it.

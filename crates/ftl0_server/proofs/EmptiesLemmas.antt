@@ -1,0 +1,178 @@
+-- Each server comes to send nothing, by one list of frames.
+use Rattle.std.proofs.Common.{◌≡◌, ◌⊎◌, ℕ, zero, suc, ◌+◌, ◌<◌, ◌≤◌, List, [], ◌∷◌, Option, None, Some, refl, sym, ◌∙◌, ap, subst, inl, inr, arith}
+use Rattle.std.specs.Prelude.{slice_get, ⊤}
+use Rattle.std.specs.Option.{option_map}
+use Rattle.std.proofs.lemmas.Option.{same_Some}
+use Rattle.ax25_frames.specs.FrameText.{FrameValue}
+use Rattle.ax25_link.specs.Ends.{IsEnd, LinkEnd}
+use Rattle.ax25_link.specs.Kept.{count_of}
+use Rattle.ax25_link.specs.Sending.{Sending, next_sending}
+use Rattle.ax25_link.specs.Window.{Window}
+use Rattle.ax25_link.proofs.SendLemmas.{left_to_send, next_sending-Sends}
+use Rattle.ftl0_connection.specs.Connected.{Connected}
+use Rattle.ftl0_connection.specs.Hearing.{with_end}
+use Rattle.ftl0_server.specs.AtPlace.{AllFit, PlaceFits}
+use Rattle.ftl0_server.specs.declared.place.Place.{Place}
+use Rattle.ftl0_server.specs.declared.place.Place.TheVariants.{Free, Talking, Leaving}
+use Rattle.ftl0_server.specs.Laws.{OneStepLaw}
+use Rattle.ftl0_server.specs.Server.{Refused, Server, ServerSends, sends_by, sends_of_places, server_next, settled}
+use Rattle.ftl0_server.specs.ServerState.{AllPlaces, SendsAs, SendsFor, ServerState}
+use Rattle.ftl0_server.specs.ServerStep.{Empties}
+use Rattle.ftl0_server.specs.Slots.{PlacesSend, Slot, SlotSends, connected, first_of, free, leaving, places_next, slot_next, slot_sends}
+use Rattle.ftl0_server.proofs.AllPlaces.{never}
+
+-- ---- one list of frames
+
+pub one_way : (server : Server) (frames others : List FrameValue) (last another : Server) → Empties server frames last
+    → Empties server others another → (frames ≡ others) × (last ≡ another)
+one_way server [] [] last another h g = (refl, h.1 ∙ sym g.1)
+one_way server [] (f ∷ others) last another h g = absurd (let a = h.0 in let b = g.1 in let x : ⊥ = cc in x)
+one_way server (f ∷ frames) [] last another h g = absurd (let a = h.1 in let b = g.0 in let x : ⊥ = cc in x)
+one_way server (f ∷ frames) (e ∷ others) last another h g =
+    let same : g.0 ≡ h.0 = same_Some g.0 h.0 (sym g.1 ∙ h.1) in
+    let first : f ≡ e = h.2 ∙ ap (λ (s : ServerSends). s.frame) (sym same) ∙ sym g.2 in
+    let rest = one_way h.0.after frames others last another h.3 (subst (λ (s : ServerSends). Empties s.after others another) same g.3) in
+    ((let both : f ∷ frames ≡ e ∷ others = ap (λ (x : FrameValue). x ∷ frames) first ∙ ap (λ (l : List FrameValue). e ∷ l) rest.0 in both), rest.1)
+
+pub one_step : OneStepLaw
+one_step old event failing done those_done cut those_cut halt that_halt frames those new that step other =
+    let same = one_way _ frames those step.last other.last step.sent other.sent in
+    record {
+      commands = step.done_is ∙ sym other.done_is;
+      cuts = step.cut_is ∙ sym other.cut_is;
+      halts = step.halt_is ∙ sym other.halt_is;
+      sent = same.0;
+      server = step.new_is ∙ ap (λ (s : Server). settled s) same.1 ∙ sym other.new_is;
+    }
+
+-- ---- fewer frames are left
+
+module _ (w : Window) where
+  abbrev SlotFits : Slot → Type 0
+  SlotFits free = ⊤
+  SlotFits (connected c) = IsEnd w c.end
+  SlotFits (leaving end) = IsEnd w end
+
+  abbrev SlotsFit : List Slot → Type 0
+  SlotsFit [] = ⊤
+  SlotsFit (s ∷ ss) = SlotFits s × SlotsFit ss
+
+  abbrev slot_left : Slot → ℕ
+  slot_left free = 0
+  slot_left (connected c) = left_to_send c.end
+  slot_left (leaving end) = left_to_send end
+
+  abbrev slots_left : List Slot → ℕ
+  slots_left [] = 0
+  slots_left (s ∷ ss) = slot_left s + slots_left ss
+
+  -- what a slot that has sent is
+  abbrev SlotLess : ℕ → SlotSends → Type 0
+  SlotLess left x = SlotFits x.after × (slot_left x.after < left)
+
+  connected-less : (c : Connected) (o : Option Sending) → next_sending w c.end ≡ o → IsEnd w c.end → (x : SlotSends)
+      → option_map (slot_sends (λ end. connected (with_end c end))) o ≡ Some x → SlotLess (left_to_send c.end) x
+  connected-less c None is fits x sends = absurd (never x sends)
+  connected-less c (Some sending) is fits x sends =
+      let s = next_sending-Sends w c.end sending fits is in
+      subst (λ (y : SlotSends). SlotLess (left_to_send c.end) y) (same_Some (slot_sends (λ end. connected (with_end c end)) sending) x sends) (s.fits, s.less)
+
+  leaving-less : (end : LinkEnd) (o : Option Sending) → next_sending w end ≡ o → IsEnd w end → (x : SlotSends)
+      → option_map (slot_sends leaving) o ≡ Some x → SlotLess (left_to_send end) x
+  leaving-less end None is fits x sends = absurd (never x sends)
+  leaving-less end (Some sending) is fits x sends =
+      let s = next_sending-Sends w end sending fits is in
+      subst (λ (y : SlotSends). SlotLess (left_to_send end) y) (same_Some (slot_sends leaving sending) x sends) (s.fits, s.less)
+
+  slot-less : (s : Slot) → SlotFits s → (x : SlotSends) → slot_next w s ≡ Some x → SlotLess (slot_left s) x
+  slot-less free fits x sends = absurd (never x sends)
+  slot-less (connected c) fits x sends = connected-less c (next_sending w c.end) refl fits x sends
+  slot-less (leaving end) fits x sends = leaving-less end (next_sending w end) refl fits x sends
+
+  abbrev PlacesLess : ℕ → PlacesSend → Type 0
+  PlacesLess left y = SlotsFit y.after × (slots_left y.after < left)
+
+  first-less : (s : Slot) (ss : List Slot) (o : Option SlotSends) (l : Option PlacesSend) → ((x : SlotSends) → o ≡ Some x → SlotLess (slot_left s) x)
+      → ((y : PlacesSend) → l ≡ Some y → PlacesLess (slots_left ss) y) → SlotFits s → SlotsFit ss → (z : PlacesSend) → first_of s ss o l ≡ Some z
+      → PlacesLess (slot_left s + slots_left ss) z
+  first-less s ss None None first later fits all z sends = absurd (never z sends)
+  first-less s ss None (Some y) first later fits all z sends =
+      let of = later y refl in
+      let less : slots_left y.after < slots_left ss = of.1 in
+      subst (λ (v : PlacesSend). PlacesLess (slot_left s + slots_left ss) v) (same_Some _ z sends) ((fits, of.0), omega (arith, less))
+  first-less s ss (Some x) l first later fits all z sends =
+      let of = first x refl in
+      let less : slot_left x.after < slot_left s = of.1 in
+      subst (λ (v : PlacesSend). PlacesLess (slot_left s + slots_left ss) v) (same_Some _ z sends) ((of.0, all), omega (arith, less))
+
+  places-less : (slots : List Slot) → SlotsFit slots → (z : PlacesSend) → places_next w slots ≡ Some z → PlacesLess (slots_left slots) z
+  places-less [] fits z sends = absurd (never z sends)
+  places-less (s ∷ ss) fits z sends =
+      first-less s ss (slot_next w s) (places_next w ss) (slot-less s fits.0) (places-less ss fits.1) fits.0 fits.1 z sends
+
+  slot-fits : (p : Place) (s : Slot) → PlaceFits p → SendsAs w p s → SlotFits s
+  slot-fits Free free fit sends = tt
+  slot-fits Free (connected c) fit sends = absurd sends
+  slot-fits Free (leaving end) fit sends = absurd sends
+  slot-fits (Talking d) free fit sends = absurd sends
+  slot-fits (Talking d) (connected c) fit sends = fit w c.end sends
+  slot-fits (Talking d) (leaving end) fit sends = absurd sends
+  slot-fits (Leaving link) free fit sends = tt
+  slot-fits (Leaving link) (connected c) fit sends = absurd sends
+  slot-fits (Leaving link) (leaving end) fit sends = fit w end sends
+
+  slots-fit : (places : List Place) (slots : List Slot) → AllFit places → AllPlaces (SendsAs w) places slots → SlotsFit slots
+  slots-fit [] [] fit all = tt
+  slots-fit [] (s ∷ ss) fit all = absurd all
+  slots-fit (p ∷ ps) [] fit all = absurd all
+  slots-fit (p ∷ ps) (s ∷ ss) fit all = (slot-fits p s (fit 0 p refl) all.0, slots-fit ps ss (λ i here at. fit (suc i) here at) all.1)
+
+-- how many are left of a server
+abbrev server_left : Server → ℕ
+server_left server = count_of server.stray + slots_left server.window server.slots
+
+abbrev ServerLess : ℕ → ServerSends → Type 0
+ServerLess left sends = SlotsFit sends.after.window sends.after.slots × (server_left sends.after < left)
+
+by_places : (server : Server) (o : Option PlacesSend) → places_next server.window server.slots ≡ o → server.stray ≡ None
+    → SlotsFit server.window server.slots → (sends : ServerSends) → sends_of_places server o ≡ Some sends → ServerLess (server_left server) sends
+by_places server None is none fits sends gives = absurd (never sends gives)
+by_places server (Some z) is none fits sends gives =
+    let of = places-less server.window server.slots fits z is in
+    let less : slots_left server.window z.after < slots_left server.window server.slots = of.1 in
+    subst (λ (v : ServerSends). ServerLess (server_left server) v) (same_Some _ sends gives) (of.0, omega (arith, less))
+
+by_stray : (server : Server) (o : Option Refused) → server.stray ≡ o → SlotsFit server.window server.slots → (sends : ServerSends)
+    → sends_by server o ≡ Some sends → ServerLess (server_left server) sends
+by_stray server None is fits sends gives = by_places server (places_next server.window server.slots) refl is fits sends gives
+by_stray server (Some refused) is fits sends gives =
+    let one : count_of server.stray ≡ 1 = ap (λ (o : Option Refused). count_of o) is in
+    subst (λ (v : ServerSends). ServerLess (server_left server) v) (same_Some _ sends gives) (fits, omega (arith, one))
+
+option_cases : {X : Type 0} (o : Option X) → (o ≡ None) ⊎ ((x : X) × (o ≡ Some x))
+option_cases None = inl refl
+option_cases (Some x) = inr (x, refl)
+
+emptied : (fuel : ℕ) (server : Server) → SlotsFit server.window server.slots → server_left server ≤ fuel
+    → (frames : List FrameValue) × (last : Server) × Empties server frames last
+emptied zero server fits few =
+    elim (option_cases (server_next server)) [
+      | inl none ↦ ([], server, (none, refl))
+      | inr some ↦
+          let of = by_stray server server.stray refl fits some.0 some.1 in
+          let less : server_left some.0.after < server_left server = of.1 in
+          absurd (let x : ⊥ = omega (arith, less, few) in x)
+    ]
+emptied (suc fuel) server fits few =
+    elim (option_cases (server_next server)) [
+      | inl none ↦ ([], server, (none, refl))
+      | inr some ↦
+          let of = by_stray server server.stray refl fits some.0 some.1 in
+          let less : server_left some.0.after < server_left server = of.1 in
+          let rest = emptied fuel some.0.after of.0 (omega (arith, less, few)) in
+          (some.0.frame ∷ rest.0, rest.1, (some.0, some.1, refl, rest.2))
+    ]
+
+pub empties : (self : ServerState) (server : Server) → AllFit self.places → SendsFor self server
+    → (frames : List FrameValue) × (last : Server) × Empties server frames last
+empties self server fit is = emptied (server_left server) server (slots-fit server.window self.places server.slots fit is.links) (omega arith)

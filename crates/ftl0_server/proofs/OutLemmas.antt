@@ -1,0 +1,251 @@
+-- Frames are given out, and then nothing is pending.
+use Rattle.std.proofs.Common.{◌≡◌, ℕ, zero, suc, List, [], ◌∷◌, map, Bool, true, false, Option, None, Some, refl, sym, ◌∙◌, ap, subst}
+use Rattle.std.specs.Prelude.{slice_get, ⊤}
+use Rattle.std.specs.Option.{option_map}
+use Rattle.std.proofs.lemmas.Option.{same_Some}
+use Rattle.px_base.specs.CallSign.{CallSign}
+use Rattle.ax25_frames.specs.FrameText.{FrameText, FrameValue, canonical}
+use Rattle.ax25_link.specs.Kept.{Kept}
+use Rattle.ax25_link.specs.Sending.{Sending, next_sending}
+use Rattle.ax25_link.specs.Window.{Window, window_of}
+use Rattle.file_store.specs.State.{StoreState, store_in}
+use Rattle.ftl0_session.specs.SessionState.{IsHeld, SessionState, number_of, state_of}
+use Rattle.ftl0_connection.specs.Connected.{Connected}
+use Rattle.ftl0_connection.specs.ConnectionState.{ConnectionState}
+use Rattle.ftl0_connection.specs.Hearing.{with_end}
+use Rattle.ftl0_server.specs.declared.place.Place.{Place}
+use Rattle.ftl0_server.specs.declared.place.Place.TheVariants.{Free, Talking, Leaving}
+use Rattle.ftl0_server.specs.Calls.{HandsOut, SamePlaces}
+use Rattle.ftl0_server.specs.Kept.{IsAt, IsSeated, IsSettled, IsUploadOf}
+use Rattle.ftl0_server.specs.Places.{PlacesGive, SamePlace, SameTalk}
+use Rattle.ftl0_server.specs.Server.{Refused, Server, refusal_frame, sends_by, sends_of_places, server_next, settled}
+use Rattle.ftl0_server.specs.ServerState.{AllPlaces, IsServer, SaysAs, SendsAs, SendsFor, ServerState, any_pending, place_pending}
+use Rattle.ftl0_server.specs.Slots.{PlacesSend, Slot, SlotSends, connected, first_of, free, freed, leaving, places_next, slot_next, slot_sends}
+use Rattle.ftl0_server.proofs.AllPlaces.{all-map, never}
+use Rattle.ftl0_server.proofs.NextLemmas.{none_first}
+
+-- the DM to a station without a connection goes out
+pub stray-out : (Stands : ServerState → Server → Type 0) (old new : ServerState) (server : Server) (refused : Refused) (before now : List ℕ)
+    → old.me ≡ server.me → old.stray ≡ server.stray → old.stray ≡ Some refused → Stands new (record server { stray = None })
+    → now ≡ canonical (refusal_frame old.me refused) → FrameText (refusal_frame old.me refused) now
+    → HandsOut Stands (server_next server) old new before now true
+stray-out Stands old new server refused before now me stray is stands octets text =
+    subst (λ (o : Option Refused). HandsOut Stands (sends_by server o) old new before now true) (sym is ∙ stray) (
+      refl,
+      stands,
+      subst (λ (x : CallSign). now ≡ canonical (refusal_frame x refused)) me octets,
+      subst (λ (x : CallSign). FrameText (refusal_frame x refused) now) me text,
+    )
+
+-- ---- what the places say stays
+
+module _ (store : StoreState) where
+  -- what the slot that has sent says
+  abbrev SaysNext : Place → Option SlotSends → Type 0
+  SaysNext p None = ⊤
+  SaysNext p (Some sends) = SaysAs store p sends.after
+
+  connected-says : (p : Place) (c : Connected) (o : Option Sending) → SaysAs store p (connected c)
+      → SaysNext p (option_map (slot_sends (λ end. connected (with_end c end))) o)
+  connected-says p c None says = tt
+  connected-says Free c (Some sending) says = tt
+  connected-says (Talking d) c (Some sending) says = record { rest = says.rest; state = says.state }
+  connected-says (Leaving link) c (Some sending) says = tt
+
+  leaving-says : (p : Place) (o : Option Sending) → SaysNext p (option_map (slot_sends leaving) o)
+  leaving-says p None = tt
+  leaving-says Free (Some sending) = tt
+  leaving-says (Talking d) (Some sending) = tt
+  leaving-says (Leaving link) (Some sending) = tt
+
+  slot-says : (w : Window) (p : Place) (s : Slot) → SaysAs store p s → SaysNext p (slot_next w s)
+  slot-says w p free says = tt
+  slot-says w p (connected c) says = connected-says p c (next_sending w c.end) says
+  slot-says w p (leaving end) says = leaving-says p (next_sending w end)
+
+  abbrev AllSay : List Place → Option PlacesSend → Type 0
+  AllSay places None = ⊤
+  AllSay places (Some sends) = AllPlaces (SaysAs store) places sends.after
+
+  first-says : (p : Place) (ps : List Place) (s : Slot) (ss : List Slot) (o : Option SlotSends) (later : Option PlacesSend) → SaysAs store p s
+      → AllPlaces (SaysAs store) ps ss → SaysNext p o → AllSay ps later → AllSay (p ∷ ps) (first_of s ss o later)
+  first-says p ps s ss None None here all next others = tt
+  first-says p ps s ss None (Some sends) here all next others = (here, others)
+  first-says p ps s ss (Some sends) later here all next others = (next, all)
+
+  places-say : (w : Window) (places : List Place) (slots : List Slot) → AllPlaces (SaysAs store) places slots → AllSay places (places_next w slots)
+  places-say w [] [] all = tt
+  places-say w [] (s ∷ ss) all = absurd all
+  places-say w (p ∷ ps) [] all = absurd all
+  places-say w (p ∷ ps) (s ∷ ss) all =
+      first-says p ps s ss (slot_next w s) (places_next w ss) all.0 all.1 (slot-says w p s all.0) (places-say w ps ss all.1)
+
+  same-says : (p q : Place) (s : Slot) → SamePlace p q → SaysAs store p s → SaysAs store q s
+  same-says Free Free s same says = tt
+  same-says Free (Talking d) s same says = absurd same
+  same-says Free (Leaving link) s same says = absurd same
+  same-says (Talking c) Free s same says = absurd same
+  same-says (Talking c) (Talking d) free same says = tt
+  same-says (Talking c) (Talking d) (connected e) same says = record {
+    rest = same.octets ∙ says.rest;
+    state = ap (λ (x : SessionState). state_of store x.phase) same.session ∙ says.state;
+  }
+  same-says (Talking c) (Talking d) (leaving end) same says = tt
+  same-says (Talking c) (Leaving link) s same says = absurd same
+  same-says (Leaving link) Free s same says = absurd same
+  same-says (Leaving link) (Talking d) s same says = absurd same
+  same-says (Leaving link) (Leaving after) s same says = tt
+
+  pub all-same-say : (ps qs : List Place) (ss : List Slot) → SamePlaces ps qs → AllPlaces (SaysAs store) ps ss → AllPlaces (SaysAs store) qs ss
+  all-same-say [] [] ss same all = all
+  all-same-say [] (q ∷ qs) ss same all = absurd same
+  all-same-say (p ∷ ps) [] ss same all = absurd same
+  all-same-say (p ∷ ps) (q ∷ qs) [] same all = absurd all
+  all-same-say (p ∷ ps) (q ∷ qs) (s ∷ ss) same all = (same-says p q s same.0 all.0, all-same-say ps qs ss same.1 all.1)
+
+-- ---- the places give out a frame
+
+module _ (old new : ServerState) (server : Server) (before now : List ℕ) (answer : Bool) (me : new.me ≡ old.me) (k : new.k ≡ old.k)
+    (stray_new : new.stray ≡ old.stray) (store : new.store ≡ old.store) (same : SamePlaces old.places new.places)
+    (none : answer ≡ false → (new ≡ old) × (now ≡ before)) (no_stray : old.stray ≡ None) where
+  sends-after : (slots : List Slot) → SendsFor old server → AllPlaces (SendsAs server.window) new.places slots → SendsFor new (record server { slots = slots })
+  sends-after slots is links = record {
+    me = me ∙ is.me;
+    window = is.window ∙ ap (λ (n : ℕ). window_of n) (sym k);
+    stray = stray_new ∙ is.stray;
+    links = links;
+  }
+
+  places-sends : (o : Option PlacesSend) → SendsFor old server → PlacesGive o server.window new.places now answer
+      → HandsOut SendsFor (sends_of_places server o) old new before now answer
+  places-sends None is gives = (gives, (none gives).0, (none gives).1)
+  places-sends (Some sends) is gives = (gives.0, sends-after sends.after is gives.1, gives.2, gives.3)
+
+  places-next : (o : Option PlacesSend) → IsServer old server → AllSay old.store old.places o → PlacesGive o server.window new.places now answer
+      → HandsOut IsServer (sends_of_places server o) old new before now answer
+  places-next None is say gives = (gives, (none gives).0, (none gives).1)
+  places-next (Some sends) is say gives = (
+    gives.0,
+    record {
+      sends = sends-after sends.after is.sends gives.1;
+      says =
+          subst (λ (s : StoreState). AllPlaces (SaysAs s) new.places sends.after) (sym store) (all-same-say old.store old.places new.places sends.after same say);
+      store = ap (λ (s : StoreState). store_in s) store ∙ is.store;
+    },
+    gives.2,
+    gives.3,
+  )
+
+  pub places-out-sends : SendsFor old server → PlacesGive (places_next server.window server.slots) server.window new.places now answer
+      → HandsOut SendsFor (server_next server) old new before now answer
+  places-out-sends is gives =
+      subst (λ (o : Option Refused). HandsOut SendsFor (sends_by server o) old new before now answer) (sym no_stray ∙ is.stray)
+      (places-sends (places_next server.window server.slots) is gives)
+
+  pub places-out-next : IsServer old server → PlacesGive (places_next server.window server.slots) server.window new.places now answer
+      → HandsOut IsServer (server_next server) old new before now answer
+  places-out-next is gives =
+      subst (λ (o : Option Refused). HandsOut IsServer (sends_by server o) old new before now answer) (sym no_stray ∙ is.sends.stray)
+      (places-next (places_next server.window server.slots) is (places-say old.store server.window old.places server.slots is.says) gives)
+
+-- ---- nothing is pending
+
+freed-sends : (w : Window) (p : Place) (s : Slot) → place_pending p ≡ false → SendsAs w p s → SendsAs w p (freed s)
+freed-sends w Free free none sends = tt
+freed-sends w Free (connected c) none sends = sends
+freed-sends w Free (leaving end) none sends = tt
+freed-sends w (Talking d) free none sends = sends
+freed-sends w (Talking d) (connected c) none sends = sends
+freed-sends w (Talking d) (leaving end) none sends = sends
+freed-sends w (Leaving link) free none sends = none
+freed-sends w (Leaving link) (connected c) none sends = sends
+freed-sends w (Leaving link) (leaving end) none sends = none
+
+freed-says : (store : StoreState) (p : Place) (s : Slot) → SaysAs store p s → SaysAs store p (freed s)
+freed-says store Free s says = tt
+freed-says store (Talking d) free says = tt
+freed-says store (Talking d) (connected c) says = says
+freed-says store (Talking d) (leaving end) says = tt
+freed-says store (Leaving link) s says = tt
+
+all-freed-sends : (w : Window) (places : List Place) (slots : List Slot) → any_pending places ≡ false → AllPlaces (SendsAs w) places slots
+    → AllPlaces (SendsAs w) places (map freed slots)
+all-freed-sends w [] [] none all = tt
+all-freed-sends w [] (s ∷ ss) none all = absurd all
+all-freed-sends w (p ∷ ps) [] none all = absurd all
+all-freed-sends w (p ∷ ps) (s ∷ ss) none all =
+    let parts = none_first (place_pending p) (any_pending ps) none in
+    (freed-sends w p s parts.0 all.0, all-freed-sends w ps ss parts.1 all.1)
+
+all-freed-says : (store : StoreState) (places : List Place) (slots : List Slot) → AllPlaces (SaysAs store) places slots → AllPlaces (SaysAs store) places (map freed slots)
+all-freed-says store [] [] all = tt
+all-freed-says store [] (s ∷ ss) all = absurd all
+all-freed-says store (p ∷ ps) [] all = absurd all
+all-freed-says store (p ∷ ps) (s ∷ ss) all = (freed-says store p s all.0, all-freed-says store ps ss all.1)
+
+pub settles : (self : ServerState) (server : Server) → any_pending self.places ≡ false → IsServer self server → IsServer self (settled server)
+settles self server none is = record {
+  sends = record {
+    me = is.sends.me;
+    window = is.sends.window;
+    stray = is.sends.stray;
+    links = all-freed-sends server.window self.places server.slots none is.sends.links;
+  };
+  says = all-freed-says self.store self.places server.slots is.says;
+  store = is.store;
+}
+
+-- ---- what holds of a server holds after frames are given out
+
+same-first : (p : Place) (d : ConnectionState) → SamePlace p (Talking d) → (c : ConnectionState) × (Some p ≡ Some (Talking c)) × SameTalk c d
+same-first Free d same = absurd same
+same-first (Talking c) d same = (c, refl, same)
+same-first (Leaving link) d same = absurd same
+
+same-second : (q : Place) (c : ConnectionState) → SamePlace (Talking c) q → (d : ConnectionState) × (Some q ≡ Some (Talking d)) × SameTalk c d
+same-second Free c same = absurd same
+same-second (Talking d) c same = (d, refl, same)
+same-second (Leaving link) c same = absurd same
+
+same-get : (ps qs : List Place) (i : ℕ) (d : ConnectionState) → SamePlaces ps qs → IsAt qs i d → (c : ConnectionState) × IsAt ps i c × SameTalk c d
+same-get [] [] i d same at = absurd (never (Talking d) at)
+same-get [] (q ∷ qs) i d same at = absurd same
+same-get (p ∷ ps) [] i d same at = absurd same
+same-get (p ∷ ps) (q ∷ qs) zero d same at = same-first p d (subst (λ (x : Place). SamePlace p x) (same_Some q (Talking d) at) same.0)
+same-get (p ∷ ps) (q ∷ qs) (suc i) d same at = same-get ps qs i d same.1 at
+
+same-back : (ps qs : List Place) (i : ℕ) (c : ConnectionState) → SamePlaces ps qs → IsAt ps i c → (d : ConnectionState) × IsAt qs i d × SameTalk c d
+same-back [] [] i c same at = absurd (never (Talking c) at)
+same-back [] (q ∷ qs) i c same at = absurd same
+same-back (p ∷ ps) [] i c same at = absurd same
+same-back (p ∷ ps) (q ∷ qs) zero c same at = same-second q c (subst (λ (x : Place). SamePlace x q) (same_Some p (Talking c) at) same.0)
+same-back (p ∷ ps) (q ∷ qs) (suc i) c same at = same-back ps qs i c same.1 at
+
+pub settled-same : (me : CallSign) (k : ℕ) (store : StoreState) (ps qs : List Place) → SamePlaces ps qs → IsSettled me k store ps → IsSettled me k store qs
+settled-same me k store ps qs same was = record {
+  good = was.good;
+  seated = λ i d at.
+      let c = same-get ps qs i d same at in
+      let seat = was.seated i c.0 c.1 in
+      record {
+        me_is = c.2.stations.me ∙ seat.me_is;
+        peer_is = c.2.stations.peer ∙ seat.peer_is ∙ ap (λ (s : SessionState). s.caller) (sym c.2.session);
+        answers = c.2.stations.called ∙ seat.answers;
+        k_is = c.2.stations.k ∙ seat.k_is;
+        up = c.2.state ∙ seat.up;
+        held = subst (λ (s : SessionState). IsHeld store s) (sym c.2.session) seat.held;
+      };
+  distinct = λ one other first second a b callers.
+      let c = same-get ps qs one first same a in
+      let e = same-get ps qs other second same b in
+      was.distinct one other c.0 e.0 c.1 e.1 (ap (λ (s : SessionState). s.caller) (sym c.2.session) ∙ callers ∙ ap (λ (s : SessionState). s.caller) e.2.session);
+  only = λ caller number is.
+      was.only caller number (
+        λ i c at theirs.
+            let d = same-back ps qs i c same at in
+            is.0 i d.0 d.1 (ap (λ (s : SessionState). s.caller) d.2.session ∙ theirs) ∙ ap (λ (s : SessionState). number_of s.phase) d.2.session,
+        λ nobody_has. is.1 (λ i d at theirs.
+            let c = same-get ps qs i d same at in
+            nobody_has i c.0 c.1 (ap (λ (s : SessionState). s.caller) (sym c.2.session) ∙ theirs)),
+      );
+}

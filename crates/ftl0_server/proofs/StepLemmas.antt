@@ -1,0 +1,60 @@
+-- A tick at each place makes the server's tick; and what a frame of a station without a connection is.
+use Rattle.std.proofs.Common.{◌≡◌, ℕ, List, map, Bool, true, false, Option, None, Some, refl, sym, ◌∙◌, ap}
+use Rattle.std.specs.Prelude.{if◌then◌else◌, ◌&&◌}
+use Rattle.ax25_frames.specs.FrameText.{FrameValue}
+use Rattle.ax25_link.specs.Rows.{is_call}
+use Rattle.file_store.specs.State.{StoreState, store_in}
+use Rattle.ftl0_server.specs.AtPlace.{IsPlace}
+use Rattle.ftl0_server.specs.declared.place.Place.{Place}
+use Rattle.ftl0_server.specs.Server.{Server, called_by, hearing_stranger, refusing, server_ticking}
+use Rattle.ftl0_server.specs.ServerState.{AllPlaces, IsServer, SaysAs, SendsAs, ServerState}
+use Rattle.ftl0_server.specs.Slots.{first_empty, slot_ticking}
+use Rattle.ftl0_server.proofs.AllPlaces.{all-to}
+
+pub server-ticked : (old : ServerState) (server : Server) (places : List Place) (store : StoreState) → IsServer old server
+    → AllPlaces (IsPlace server.window store) places (map slot_ticking server.slots) → store_in store ≡ store_in old.store
+    → IsServer (record old { places = places; store = store }) (server_ticking server)
+server-ticked old server places store is all same = record {
+  sends = record {
+    me = is.sends.me;
+    window = is.sends.window;
+    stray = is.sends.stray;
+    links = all-to (IsPlace server.window store) (SendsAs server.window) places (map slot_ticking server.slots) (λ i p s at there both. both.0) all;
+  };
+  says = all-to (IsPlace server.window store) (SaysAs store) places (map slot_ticking server.slots) (λ i p s at there both. both.1) all;
+  store = same ∙ is.store;
+}
+
+-- the frame is SABM, or is refused, or passed over
+module _ (server : Server) (frame : FrameValue) (moment : ℕ) where
+  abbrev by_call : Bool → Server
+  by_call call =
+      if call then called_by server frame.src frame.poll moment (first_empty server.slots)
+      else if frame.command && frame.poll then refusing server frame.src true
+      else server
+
+  abbrev by_poll : Bool → Server
+  by_poll asks = if asks then refusing server frame.src true else server
+
+  pub stranger-calls : is_call frame.kind.control ≡ true
+      → called_by server frame.src frame.poll moment (first_empty server.slots) ≡ hearing_stranger server frame moment
+  stranger-calls is = ap (λ (b : Bool). by_call b) (sym is)
+
+  pub stranger-asks : is_call frame.kind.control ≡ false → (frame.command && frame.poll) ≡ true
+      → refusing server frame.src true ≡ hearing_stranger server frame moment
+  stranger-asks no_call asks = ap (λ (b : Bool). by_poll b) (sym asks) ∙ ap (λ (b : Bool). by_call b) (sym no_call)
+
+  pub stranger-passed : is_call frame.kind.control ≡ false → (frame.command && frame.poll) ≡ false → server ≡ hearing_stranger server frame moment
+  stranger-passed no_call asks = ap (λ (b : Bool). by_poll b) (sym asks) ∙ ap (λ (b : Bool). by_call b) (sym no_call)
+
+pub both-true : (a b : Bool) → a ≡ true → b ≡ true → (a && b) ≡ true
+both-true true b one other = other
+both-true false b one other = one
+
+pub first-false : (a b : Bool) → a ≡ false → (a && b) ≡ false
+first-false true b one = absurd (let x : ⊥ = cc in x)
+first-false false b one = refl
+
+pub second-false : (a b : Bool) → b ≡ false → (a && b) ≡ false
+second-false true b other = other
+second-false false b other = refl

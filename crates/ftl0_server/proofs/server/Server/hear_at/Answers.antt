@@ -1,0 +1,58 @@
+-- The frame is heard at the place of its sender's connection.
+use Rattle.std.proofs.Common.{◌≡◌, ℕ, ◌<◌, ◌*◌, length, get_or, set, false, Option, None, Some, refl, subst, sym, ◌∙◌, arith, rules}
+use Rattle.std.specs.List.{position}
+use Rattle.std.specs.Option.{option_map}
+use Rattle.std.proofs.lemmas.Option.{slice_get-get_or}
+use Rattle.ax25_frames.specs.Values.{value_of}
+use Rattle.ax25_link.specs.Kept.{is_there}
+use Rattle.ftl0_connection.specs.Hearing.{hearing}
+use Rattle.file_journal.specs.Calls.{Leaves}
+use Rattle.file_store.specs.OnDisk.{MakesFirst}
+use Rattle.file_store.specs.State.{store_in}
+use Rattle.ftl0_server.specs.AtPlace.{IsPlace, PlaceHears, Works}
+use Rattle.ftl0_server.specs.Calls.{Hears}
+use Rattle.ftl0_server.specs.declared.place.Place.{Place}
+use Rattle.ftl0_server.specs.declared.place.Place.TheVariants.{Talking}
+use Rattle.ftl0_server.specs.Kept.{refused_of, server_state}
+use Rattle.ftl0_server.specs.Server.{server_hearing}
+use Rattle.ftl0_server.specs.ServerState.{IsServer, ServerState, any_pending, has_caller, server_pending}
+use Rattle.ftl0_server.specs.Slots.{connected}
+use Rattle.ftl0_server.proofs.HearLemmas.{found-at, found-talks, found-within, may-hear, server-hears}
+use Rattle.ftl0_server.proofs.NextLemmas.{none_first}
+use Rattle.ftl0_server.proofs.SettledLemmas.{settled-works}
+use Rattle.ftl0_server.proofs.server.Server.hear_at.Goals as goal
+
+pub hear-requires-clause-may : goal.hear-requires-clause-may
+hear-requires-clause-may g c =
+    let found : position (has_caller (value_of c.args.frame.now).src) c.self.inside.places ≡ Some c.args.place =
+    subst (λ (s : ServerState). position (has_caller (value_of c.args.frame.now).src) s.places ≡ Some c.args.place) (sym c.self.view_is) c.requires.place in
+    let silent = subst (λ (s : ServerState). server_pending s ≡ false) (sym c.self.view_is) c.requires.silent in
+    let none = (none_first (is_there (option_map refused_of c.self.inside.stray)) (any_pending c.self.inside.places) silent).1 in
+    may-hear c.self.inside.me c.self.inside.k c.self.inside.store c.self.inside.places c.args.place c.index-places-place.result (value_of c.args.frame.now) found c.self.invariant none
+    (record { dest = c.requires.frame.dest ∙ subst (λ (s : ServerState). s.me ≡ c.self.inside.me) c.self.view_is refl; via = c.requires.frame.via }) c.requires.numbers
+
+pub invariant_of-self : goal.invariant_of-self
+invariant_of-self g c =
+    let found : position (has_caller (value_of c.args.frame.now).src) c.self.inside.places ≡ Some c.args.place =
+    subst (λ (s : ServerState). position (has_caller (value_of c.args.frame.now).src) s.places ≡ Some c.args.place) (sym c.self.view_is) c.requires.place in
+    let within = found-within (has_caller (value_of c.args.frame.now).src) c.self.inside.places c.args.place found in
+    settled-works c.self.inside.me c.self.inside.k c.self.inside.store c.hear.new.store c.self.inside.places c.args.place
+    (get_or c.self.inside.places c.args.place c.index-places-place.result) c.hear.new.self
+    (slice_get-get_or c.self.inside.places c.args.place c.index-places-place.result within) c.self.invariant c.hear.ensures.works
+
+pub returns-clause-hears : goal.returns-clause-hears
+returns-clause-hears g c = λ server is.
+    let old : ServerState = server_state c.self.inside in
+    let new : ServerState = record old { places = set c.self.inside.places c.args.place c.hear.new.self; store = c.hear.new.store } in
+    let was = subst (λ (s : ServerState). IsServer s server) (sym c.self.view_is) is in
+    let frame = value_of c.args.frame.now in
+    let found : position (has_caller (value_of c.args.frame.now).src) c.self.inside.places ≡ Some c.args.place =
+    subst (λ (s : ServerState). position (has_caller (value_of c.args.frame.now).src) s.places ≡ Some c.args.place) (sym c.self.view_is) c.requires.place in
+    let talks = found-talks frame.src c.self.inside.places c.args.place c.index-places-place.result found in
+    let at = found-at frame.src c.self.inside.places c.args.place c.index-places-place.result talks.0 found talks.1 in
+    let heard : Hears g.D.Disk (server_hearing server (value_of c.args.frame.now) c.args.moment) (server_state c.self.inside) new c.args.disk.now c.hear.new.disk c.hear.result =
+    server-hears g.D.Disk (server_state c.self.inside) new server was c.self.invariant (value_of c.args.frame.now) c.args.moment c.args.disk.now c.hear.new.disk c.args.place found talks.0 at
+    c.hear.new.self (subst (λ (p : Place). Works c.self.inside.store c.hear.new.store p c.hear.new.self) talks.1 c.hear.ensures.works) refl refl refl refl c.hear.result
+    (λ w d at_d. c.hear.ensures.hears w d (subst (λ (p : Place). IsPlace w c.self.inside.store p (connected d)) (sym talks.1) at_d))
+    (λ w d at_d. c.hear.ensures.since w d (subst (λ (p : Place). IsPlace w c.self.inside.store p (connected d)) (sym talks.1) at_d)) in
+    subst (λ (s : ServerState). Hears g.D.Disk (server_hearing server (value_of c.args.frame.now) c.args.moment) s new c.args.disk.now c.hear.new.disk c.hear.result) c.self.view_is heard

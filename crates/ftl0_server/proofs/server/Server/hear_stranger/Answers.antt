@@ -1,0 +1,34 @@
+-- By what the frame is.
+use Rattle.std.proofs.Common.{◌≡◌, Bool, true, false, subst, sym, ◌∙◌}
+use Rattle.std.specs.Prelude.{◌&&◌}
+use Rattle.ax25_frames.specs.Values.{value_of}
+use Rattle.ftl0_server.specs.Server.{Server, called_by, hearing_stranger}
+use Rattle.ftl0_server.specs.ServerState.{IsServer}
+use Rattle.ftl0_server.specs.Slots.{first_empty}
+use Rattle.ftl0_server.proofs.HearLemmas.{stranger-at}
+use Rattle.ftl0_server.proofs.StepLemmas.{both-true, first-false, second-false, stranger-asks, stranger-calls, stranger-passed}
+use Rattle.ftl0_server.proofs.server.Server.hear_stranger.Goals as goal
+use Rattle.ftl0_server.proofs.server.Server.hear_stranger.Goals.{else-frame-via-then-frame+else-frame-2, else-frame-via-else-frame}
+
+pub returns-then-is_sabm-clause-heard : goal.returns-then-is_sabm-clause-heard
+returns-then-is_sabm-clause-heard c =
+    let frame = value_of c.args.frame.now in
+    stranger-at (λ s. called_by s frame.src frame.poll c.args.moment (first_empty s.slots)) (λ s. hearing_stranger s frame c.args.moment) c.args.self.now c.answer.new.self c.answer.result
+    (λ s. stranger-calls s frame c.args.moment (sym c.is_sabm.ensures ∙ c.if-is_sabm.true)) c.answer.ensures.heard
+
+pub returns-then-frame-2-clause-heard : goal.returns-then-frame-2-clause-heard
+returns-then-frame-2-clause-heard c = λ server is.
+    let frame = value_of c.args.frame.now in
+    subst (λ (s : Server). IsServer c.refuse.new.self s)
+    (stranger-asks server frame c.args.moment (sym c.is_sabm.ensures ∙ c.if-is_sabm.false) (both-true frame.command frame.poll c.if-frame.true c.if-frame-2.true))
+    (c.refuse.ensures.refuses server is)
+
+pub returns-else-frame-clause-heard : goal.returns-else-frame-clause-heard
+returns-else-frame-clause-heard c = λ server is.
+    let frame = value_of c.args.frame.now in
+    let none : (frame.command && frame.poll) ≡ false = elim c.else-frame.branch [
+      | else-frame-via-then-frame+else-frame-2 w ↦ second-false frame.command frame.poll w.if-frame-2.false
+      | else-frame-via-else-frame w ↦ first-false frame.command frame.poll w.if-frame.false
+    ] in
+    subst (λ (s : Server). IsServer c.args.self.now s)
+    (stranger-passed server frame c.args.moment (sym c.is_sabm.ensures ∙ c.if-is_sabm.false) none) is

@@ -1,0 +1,36 @@
+-- A tick came at each place, and the disk stays.
+use Rattle.std.proofs.Common.{◌≡◌, false, refl, subst, sym, [], ◌∙◌}
+use Rattle.std.specs.Prelude.{Ok}
+use Rattle.file_store.specs.OnDisk.{Does}
+use Rattle.file_store.specs.State.{StandsOn, StoreState}
+use Rattle.ftl0_session.proofs.DoesLemmas.{does-none}
+use Rattle.ftl0_server.specs.Calls.{Hears}
+use Rattle.ftl0_server.specs.Kept.{server_state}
+use Rattle.ftl0_server.specs.Server.{becoming, server_ticking}
+use Rattle.ftl0_server.specs.ServerState.{IsServer, ServerState}
+use Rattle.ftl0_server.proofs.HearLemmas.{all-are}
+use Rattle.ftl0_server.proofs.StepLemmas.{server-ticked}
+use Rattle.ftl0_server.proofs.server.Server.tick.Goals as goal
+
+pub invariant_of-self : goal.invariant_of-self
+invariant_of-self g c = c.tick_all.ensures.settled c.self.inside.me c.self.inside.k c.self.invariant
+
+pub returns-clause-ticks : goal.returns-clause-ticks
+returns-clause-ticks g c = λ server is.
+    let was = subst (λ (s : ServerState). IsServer s server) (sym c.self.view_is) is in
+    server-ticked (server_state c.self.inside) server c.tick_all.new.places c.tick_all.new.store was
+    (c.tick_all.ensures.ticks server.window server.slots (all-are (server_state c.self.inside) server was)) c.tick_all.ensures.store
+
+pub returns-clause-happens : goal.returns-clause-happens
+returns-clause-happens g c = λ server is.
+    let was = subst (λ (s : ServerState). IsServer s server) (sym c.self.view_is) is in
+    let new : ServerState = record (server_state c.self.inside) { places = c.tick_all.new.places; store = c.tick_all.new.store } in
+    let ticked = server-ticked (server_state c.self.inside) server c.tick_all.new.places c.tick_all.new.store was
+    (c.tick_all.ensures.ticks server.window server.slots (all-are (server_state c.self.inside) server was)) c.tick_all.ensures.store in
+    let healthy = subst (λ (s : ServerState). s.store.journal.failed ≡ false) (sym c.self.view_is) c.requires.healthy in
+    let stands = subst (λ (s : ServerState). StandsOn g.D.Disk s.store c.args._disk.now) (sym c.self.view_is) c.requires.stands_on in
+    let does : Does g.D.Disk ⊥ c.self.inside.store c.tick_all.new.store c.args._disk.now c.args._disk.now [] =
+    does-none g.D.Disk c.self.inside.store c.tick_all.new.store c.args._disk.now healthy stands c.tick_all.ensures.store c.tick_all.ensures.journal
+    (g.met.D.Disk.lasts_same c.args._disk.now) in
+    subst (λ (s : ServerState). Hears g.D.Disk (λ failing. becoming (server_ticking server)) s new c.args._disk.now c.args._disk.now (Ok tt)) c.self.view_is
+    (record { by = (refl, ticked, does); since = does.since })

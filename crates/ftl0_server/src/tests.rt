@@ -1,0 +1,174 @@
+//! Stations that call, and stations without a connection.
+
+ghost use Rattle.std.specs.Prelude.{◌≡◌, false};
+ghost use Rattle.file_store.specs.State.{StandsOn};
+ghost use Rattle.ftl0_server.specs.ServerState.{server_pending};
+
+use super::*;
+use arrayvec::ArrayVec;
+use ax25_frames::{Frame, Kind};
+use disk_model::{Disk, MemoryDisk};
+use file_store::Limits;
+use px_base::Call;
+use std::process::Abort;
+use std::test::Fail;
+
+const LIMITS: Limits = Limits { blocks: 8 };
+
+/// As many stations as there are places.
+const CALLERS: [&str; PLACES] = [
+    "AA1AA", "BB2BB", "CC3CC", "DD4DD", "EE5EE", "FF6FF", "GG7GG", "HH8HH",
+];
+
+/// What the answer to a SABM with P = 1 is: UA with F = 1, and the I frame with LOGIN_RESP.
+const ANSWER: [u8; 2] = [0x73, 0x00];
+
+/// The same with P = 0.
+const ANSWER_AGAIN: [u8; 2] = [0x63, 0x00];
+
+/// UA with F = 1.
+const ACCEPT: [u8; 1] = [0x73];
+
+/// DM with F = 1.
+const REFUSE: [u8; 1] = [0x1F];
+
+fn call(rt: &impl Abort, text: &str) -> Call {
+    Call::read(text).expect(rt, "no call")
+}
+
+/// Whether a frame is pending, with this control octet behind its fourteen address octets. It is given out.
+fn says(server: &mut Server, control: u8) -> bool
+    ensures me { server.new.me ≡ server.old.me }
+    ensures store { server.new.store ≡ server.old.store }
+{
+    let mut out = ArrayVec::new();
+    server.next_out(&mut out) && out.as_slice().get(14) == Some(&control)
+}
+
+/// Hears SABM, or else DISC, of this station with this P bit: frames with these control octets are given out, and no more.
+fn hears<D: Disk>(
+    rt: &impl Abort,
+    server: &mut Server,
+    disk: &mut D,
+    stations: (Call, Call),
+    sabm: bool,
+    poll: bool,
+    controls: &[u8],
+)
+    requires me { server.old.me ≡ stations.0 }
+    requires silent { server_pending server.old ≡ false }
+    requires healthy { server.old.store.journal.failed ≡ false }
+    requires stands_on { StandsOn D.Disk server.old.store disk.old }
+    ensures me { server.new.me ≡ server.old.me }
+    ensures silent { server_pending server.new ≡ false }
+    ensures healthy { server.new.store.journal.failed ≡ false }
+    ensures stands_on { StandsOn D.Disk server.new.store disk.new }
+{
+    let (me, caller) = stations;
+    let frame = Frame {
+        dest: me,
+        src: caller,
+        via: 0,
+        kind: if sabm { Kind::Sabm } else { Kind::Disc },
+        poll,
+        command: true,
+    };
+    assert!(rt; server.hear(disk, &frame, 1).is_ok());
+    for control in controls {
+        assert!(rt; says(server, *control));
+    }
+    assert!(rt; !server.pending());
+}
+
+/// Each of the callers calls, and is answered.
+fn all_call<D: Disk>(rt: &impl Abort, server: &mut Server, disk: &mut D, me: Call)
+    requires me { server.old.me ≡ me }
+    requires silent { server_pending server.old ≡ false }
+    requires healthy { server.old.store.journal.failed ≡ false }
+    requires stands_on { StandsOn D.Disk server.old.store disk.old }
+    ensures me { server.new.me ≡ me }
+    ensures silent { server_pending server.new ≡ false }
+    ensures healthy { server.new.store.journal.failed ≡ false }
+    ensures stands_on { StandsOn D.Disk server.new.store disk.new }
+{
+    for text in CALLERS {
+        hears(rt, server, disk, (me, call(rt, text)), true, true, &ANSWER);
+    }
+}
+
+#[test]
+fn a_ninth_station(rt: HostRuntime) -> Result<(), Fail> {
+    let (me, ninth) = (call(&rt, "PACSAT"), call(&rt, "II9II"));
+    let (third, fifth) = (call(&rt, "CC3CC"), call(&rt, "EE5EE"));
+    let mut disk = MemoryDisk::new(rt.alloc(), &[], &[])?;
+    let mut server = Server::start(rt.alloc(), &mut disk, LIMITS, me, 4)?;
+    all_call(&rt, &mut server, &mut disk, me);
+    assert_eq!(rt; server.sessions(), 8);
+    // No place is left.
+    hears(
+        &rt,
+        &mut server,
+        &mut disk,
+        (me, ninth),
+        true,
+        true,
+        &REFUSE,
+    );
+    assert_eq!(rt; server.sessions(), 8);
+    // A further SABM of one that is connected keeps its place.
+    hears(
+        &rt,
+        &mut server,
+        &mut disk,
+        (me, third),
+        true,
+        false,
+        &ANSWER_AGAIN,
+    );
+    assert_eq!(rt; server.sessions(), 8);
+    // One of them goes, and its place is free.
+    hears(
+        &rt,
+        &mut server,
+        &mut disk,
+        (me, fifth),
+        false,
+        true,
+        &ACCEPT,
+    );
+    assert_eq!(rt; server.sessions(), 7);
+    hears(
+        &rt,
+        &mut server,
+        &mut disk,
+        (me, ninth),
+        true,
+        true,
+        &ANSWER,
+    );
+    assert_eq!(rt; server.sessions(), 8);
+    assert!(rt; server.tick(&mut disk, 2).is_ok());
+    assert!(rt; !server.pending());
+    server.close();
+    Ok(())
+}
+
+#[test]
+fn a_station_without_a_connection(rt: HostRuntime) -> Result<(), Fail> {
+    let (me, caller) = (call(&rt, "PACSAT"), call(&rt, "NOCALL"));
+    let mut disk = MemoryDisk::new(rt.alloc(), &[], &[])?;
+    let mut server = Server::start(rt.alloc(), &mut disk, LIMITS, me, 4)?;
+    hears(
+        &rt,
+        &mut server,
+        &mut disk,
+        (me, caller),
+        false,
+        true,
+        &REFUSE,
+    );
+    hears(&rt, &mut server, &mut disk, (me, caller), false, false, &[]);
+    assert_eq!(rt; server.sessions(), 0);
+    server.close();
+    Ok(())
+}
