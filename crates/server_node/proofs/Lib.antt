@@ -1,0 +1,9 @@
+pub mod HearingLemmas
+pub mod Invariants
+pub mod SendingLemmas
+pub mod ServesLemmas
+pub mod StepLemmas
+pub mod TakesLemmas
+pub mod TurnEvents
+pub mod TurnLemmas
+pub mod TurnsLemmas

@@ -2,8 +2,8 @@
 #![tactic(auto)]
 
 mod node;
-mod serve;
+mod serving;
 mod terms;
 
-pub use serve::serve;
+pub use serving::serve;
 pub use terms::ServerTerms;
