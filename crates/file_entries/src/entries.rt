@@ -278,8 +278,19 @@ impl Entries {
         Some(&files[place])
     }
 
-    /// The place of the file of this number, found by halving.
+    /// The place of the file of this number: the last one's, as where it was begun last, or one that is found by halving.
     fn place_of(&self, number: u32) -> Option<usize>
+        ensures some { IfSome result (IsPlace self.now.files.files number) }
+        ensures none { IfNone result (file_of self.now.files.files number ≡ None) }
+    {
+        match self.files.as_slice() {
+            [.., last] if last.number() == number => Some(self.files.len() - 1),
+            _ => self.place_by_halving(number),
+        }
+    }
+
+    /// The place of the file of this number, found by halving.
+    fn place_by_halving(&self, number: u32) -> Option<usize>
         ensures some { IfSome result (IsPlace self.now.files.files number) }
         ensures none { IfNone result (file_of self.now.files.files number ≡ None) }
     {

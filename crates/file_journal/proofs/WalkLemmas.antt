@@ -2,20 +2,17 @@
 use Rattle.std.proofs.Common.{◌≡◌, ◌↔◌, inl, inr, ⊎_elim, ℕ, ◌+◌, true, false, true≢false, List, [], ◌∷◌, ◌++◌, length, Bool, Option, None, Some, IfSome, Result, Ok, Err, IsErrOf, OnOk, refl, sym, ◌∙◌, ap, ap₂, arith, length-append}
 use Rattle.disk_model.specs.declared.disk.Disk.{Ghosts}
 use Rattle.file_journal.specs.Appending.{Appends, LeavesBeforeOrAfter}
-use Rattle.file_journal.specs.Calls.{ChangesReads, Leaves, TakesStep, TellsAlike, images_now}
+use Rattle.file_journal.specs.Calls.{ChangesReads, TakesStep, TellsAlike, images_now}
 use Rattle.file_journal.specs.Journal as journal
 use Rattle.file_journal.specs.Journal.{journal_of, store_of, with_last}
 use Rattle.file_journal.specs.Ledger.{Takes}
 use Rattle.file_journal.specs.Position.{Position, StandsOn, left_to_read}
 use Rattle.file_journal.specs.Records.{Reading, Record, broken, records_text, whole, with_end, with_record, with_records}
-use Rattle.file_journal.specs.Recovery.{IsFailedSync, IsRecovered, IsRecovering, IsSyncedFirst, LeavesSinceSync, Recovers}
+use Rattle.file_journal.specs.Recovery.{IsRecovered, IsRecovering, Recovers}
 use Rattle.file_journal.specs.Walk.{IsOneStep, KeepsState, LeavesEither, StandAsBefore, StandFor, Stands, StandsForSame, damaged_at, number_or, on_from, stands_for, stands_of, state, walk, walk_left, walk_over}
 use Rattle.file_journal.specs.declared.faults.JournalFault.{JournalFault}
 use Rattle.file_journal.specs.declared.faults.JournalFault.TheVariants as fault
-use Rattle.file_journal.specs.declared.faults.RecoverFault.{RecoverFault}
-use Rattle.file_journal.specs.declared.faults.RecoverFault.TheVariants as recover_fault
-use Rattle.file_journal.proofs.MomentLemmas.{joined, reads, weaker}
-use Rattle.file_journal.proofs.ToldLemmas.{at_told, content_now, if_told, told_weaker}
+use Rattle.file_journal.proofs.ToldLemmas.{at_told, content_now, if_told}
 
 -- What comes of a gate is what comes of each state behind it.
 on_step : {S : Type 0} (place : ℕ) (o : Option S) (f h : S → Stands S) (now after : S) → ((t : S) → f t ≡ state now → h t ≡ state after)
@@ -110,26 +107,6 @@ module _ {S : Type 0} (step : S → Record → Option S) where
         sym (for_recovered first before now made)
         ∙ ap (stands_of fresh step blocks) made.whole
         ∙ ap (λ (n : ℕ). walk step (fresh first.blocks) n (left_to_read first now)) (sym at)
-
--- What a recovery leaves, and a reading behind it.
-module _ {D S : Type 0} (g : Ghosts D) (fresh : ℕ → S) (step : S → Record → Option S) (magic : List ℕ) (blocks : ℕ) (old mid new : D) (only : ChangesReads g mid new) where
-  -- since its start
-  pub leaves_as_before : Leaves g old mid (IsRecovering magic blocks) → Leaves g old new (StandAsBefore fresh step magic blocks)
-  leaves_as_before leaves = told_weaker (g.content old) _ _ (λ before told left.
-      joined g.moment g.images_since old mid new (StandAsBefore fresh step magic blocks before)
-      (weaker g.moment g.images_since old mid (IsRecovering magic blocks before) (StandAsBefore fresh step magic blocks before) (for_recovering step fresh magic blocks before) left)
-      (reads g.moment g.images_since mid new (StandAsBefore fresh step magic blocks before) only.same_moment only.same_past)) leaves
-
-  -- since the end of its first sync
-  pub synced_as_before : {T : Type 0} (result : Result T RecoverFault) → ¬ IsErrOf result recover_fault.Disk → LeavesSinceSync g result old mid (IsRecovering magic blocks)
-      → IfSome (g.content old) (λ before. IsSyncedFirst g old new (StandAsBefore fresh step magic blocks before))
-  synced_as_before result healthy leaves = told_weaker (g.content old) _ _ (λ before told left. ⊎_elim
-      (λ (synced : IsSyncedFirst g old mid (IsRecovering magic blocks before)). let now : IsSyncedFirst g old new (StandAsBefore fresh step magic blocks before) = record {
-        later = omega (arith, synced.later, only.same_moment);
-        each = λ image since. for_recovering step fresh magic blocks before image (synced.each image ((only.same_past (g.moment old + 1) image).0 since));
-      } in now)
-      (λ (failed : IsErrOf result recover_fault.Disk × IsFailedSync g old mid). absurd (healthy failed.0))
-      left) leaves
 
 -- What a journal keeps.
 module _ {D S : Type 0} (g : Ghosts D) (fresh : ℕ → S) (step : S → Record → Option S) where

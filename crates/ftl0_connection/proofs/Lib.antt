@@ -1,0 +1,10 @@
+pub mod AnswerLemmas
+pub mod DoingLemmas
+pub mod FeedLemmas
+pub mod HearLemmas
+pub mod HearsLemmas
+pub mod Invariants
+pub mod LinkLemmas
+pub mod OctetsLemmas
+pub mod TakingLemmas
+pub mod WaitingLemmas

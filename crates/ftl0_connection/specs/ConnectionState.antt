@@ -28,6 +28,12 @@ pub record ConnectionState : Type 0 where
   pub octets : List ℕ
   pub session : SessionState
 
+-- The link stands for some end.
+pub record StandsForSome (link : Kept) : Type 0 where
+  pub w : Window
+  pub end : LinkEnd
+  pub stands : StandsFor w link end
+
 -- The connection stands for this one, whose session's octets that wait are the store's to tell.
 pub record IsConnection (w : Window) (store : StoreState) (connection : ConnectionState) (c : Connected) : Type 0 where
   pub link : StandsFor w connection.link c.end
@@ -73,10 +79,11 @@ pub record Hears {D : Type 0} (g : Ghosts D) (w : Window) (event : Option ℕ �
   pub by : HearsBy g w event store store_now disk disk_now connection heard.0 heard.1
   pub since : Leaves g disk disk_now (λ _. MakesFirst (store_in store) (event None).done)
 
--- what one packet makes of a connection with this session, once it is known whether the disk fails at it
-abbrev pub taking_one : ℕ → SessionState → State → Store → LinkEnd → Item → Option ℕ → Happened
-taking_one moment session state store end item failing =
-    progressed [] (taking session.caller moment store state end (item ∷ []) failing)
+-- what these packets make of a connection with this session, once it is known at which of them the disk fails, if it fails
+-- at one
+abbrev pub taking_some : ℕ → SessionState → State → Store → LinkEnd → List Item → Option ℕ → Happened
+taking_some moment session state store end items failing =
+    progressed [] (taking session.caller moment store state end items failing)
 
 -- the connection of this link and session, with no octets left
 abbrev pub with_nothing_left : Kept → SessionState → ConnectionState

@@ -1,11 +1,8 @@
 -- What a connection keeps, and its fields as contracts see them.
 use Rattle.std.specs.Prelude.{◌≡◌, false}
-use Rattle.ax25_link.specs.Ends.{LinkEnd}
-use Rattle.ax25_link.specs.Kept.{StandsFor}
-use Rattle.ax25_link.specs.Window.{window_of}
 use Rattle.ftl0_packets.specs.Reading.{under_way}
 use Rattle.ftl0_connection.specs.declared.connection.Connection.TheInside.{Inside}
-use Rattle.ftl0_connection.specs.ConnectionState.{ConnectionState, IsWaiting}
+use Rattle.ftl0_connection.specs.ConnectionState.{ConnectionState, IsWaiting, StandsForSome}
 
 abbrev pub connection_state : Inside → ConnectionState
 connection_state a = record { link = a.link; octets = under_way a.reader; session = a.session }
@@ -15,6 +12,5 @@ connection_state a = record { link = a.link; octets = under_way a.reader; sessio
 pub record IsInside (a : Inside) : Type 0 where
   pub called : a.link.called ≡ false
   pub peer : a.link.peer ≡ a.session.caller
-  pub end : LinkEnd
-  pub stands : StandsFor (window_of a.link.k) a.link end
+  pub some : StandsForSome a.link
   pub waiting : IsWaiting (under_way a.reader)

@@ -1,5 +1,6 @@
 pub mod Connected
 pub mod ConnectionState
+pub mod Feeding
 pub mod Hearing
 pub mod Inside
 pub mod Taking

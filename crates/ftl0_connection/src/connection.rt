@@ -1,11 +1,11 @@
 //! One caller's connection.
 
-ghost use Rattle.std.specs.Prelude.{◌≡◌, ◌<◌, ℕ, List, [], false, true, not, IfOk, IsErrOf, IsTrue, None};
+ghost use Rattle.std.specs.Prelude.{◌≡◌, ◌<◌, ◌≤◌, ◌↔◌, ℕ, List, [], ◌∷◌, drop, length, false, true, not, IfOk, IsErrOf, IsTrue, None};
 ghost use Rattle.ax25_frames.specs.Values.{value_of};
 ghost use Rattle.ax25_link.specs.Air.{is_information};
 ghost use Rattle.ax25_link.specs.Calls.{after_push};
 ghost use Rattle.ax25_link.specs.Ends.{LinkEnd};
-ghost use Rattle.ax25_link.specs.Kept.{GivesNext, HasStations, IsFromPeer, SameStations, StandsFor, Steps, Tells, is_pending, most_pending};
+ghost use Rattle.ax25_link.specs.Kept.{Fits, GivesNext, HasStations, IsFromPeer, SameStations, StandsFor, Steps, Tells, is_pending, most_pending};
 ghost use Rattle.ax25_link.specs.declared.state.LinkState.{LinkState};
 ghost use Rattle.ax25_link.specs.Window.{IsGoodK, Window, window_of};
 ghost use Rattle.ftl0_packets.specs.Layout.{packet_text};
@@ -14,7 +14,8 @@ ghost use Rattle.file_entries.specs.Kept.{KeepsComplete};
 ghost use Rattle.file_journal.specs.Calls.{Puts};
 ghost use Rattle.file_store.specs.State.{StandsOn, StoreState, store_in};
 ghost use Rattle.ftl0_connection.specs.Connected.{Connected, answering, beginning};
-ghost use Rattle.ftl0_connection.specs.ConnectionState.{Hears, IsConnection, StandsAfter, is_over, taking_one, with_nothing_left};
+ghost use Rattle.ftl0_connection.specs.ConnectionState.{Hears, IsConnection, StandsAfter, is_over, taking_some, with_nothing_left};
+ghost use Rattle.ftl0_connection.specs.Feeding.{Feeds, IsGoing, LeavesFit, MayTake, with_octets};
 ghost use Rattle.ftl0_connection.specs.Hearing.{hearing, taking_octets, ticking};
 ghost use Rattle.ftl0_connection.specs.Taking.{fits, replied};
 ghost use Rattle.ftl0_session.specs.Others.{KeepsOtherCallers};
@@ -182,6 +183,13 @@ impl Connection {
         self.session.caller()
     }
 
+    /// A law, which does nothing: whatever end the link stands for is one that frames and ticks can bring about.
+    pub fn fits_law(&self)
+        ensures { Fits self.now.link }
+    {
+        let _ = self.link.state();
+    }
+
     /// Ends the session, which parks its upload, and gives the link, which may have frames to give out still. Takes no
     /// memory.
     pub fn end(self, store: &mut FileStore) -> Link
@@ -227,32 +235,49 @@ impl Connection {
         octets: &[u8],
         moment: u32,
     ) -> Told
-        requires up { self.old.link.state ≡ LinkState.Up }
-        requires healthy { store.old.journal.failed ≡ false }
-        requires stands_on { StandsOn D.Disk store.old disk.old }
-        requires held { IsHeld store.old self.old.session }
-        requires only { IsOnlyOut store.old self.old.session }
+        requires { MayTake D.Disk store.old disk.old self.old.link self.old.session }
         ensures hears { (w : Window) (c : Connected) → IsConnection w store.old self.old c →
             Hears D.Disk w (taking_octets moment (store_in store.old) c c.end octets.now)
             store.old store.new disk.old disk.new self.new result }
-        ensures puts { Puts D.Disk (IsErrOf result.1 ServerStop.Disk) disk.old disk.new }
-        ensures kept { KeepsComplete (store_in store.old) (store_in store.new) }
-        ensures others { KeepsOtherCallers store.old store.new self.old.session.caller }
-        ensures healthy { ¬ IsErrOf result.1 ServerStop.Disk → store.new.journal.failed ≡ false }
-        ensures stands_on { StandsOn D.Disk store.new disk.new }
-        ensures held { IsHeld store.new self.new.session }
-        ensures only { IsOnlyOut store.new self.new.session }
-        ensures up { result.0 ≡ Fate.Stays → self.new.link.state ≡ LinkState.Up }
-        ensures caller { self.new.session.caller ≡ self.old.session.caller }
-        ensures stations { SameStations self.old.link self.new.link }
+        ensures fit { LeavesFit D.Disk store.old store.new disk.old disk.new self.old.link self.new.link
+            self.old.session self.new.session result }
     {
-        // Whatever is accepted is a stream of packets, and no packet is whole of what waits.
+        // Whatever is accepted is a stream of packets, and no packet is whole of what waits before and after it.
         stream_law();
+        let _ = &self.reader;
         let mut piece = octets;
         while !piece.is_empty() {
-            let (taken, fed) = self.reader.feed(piece);
+            let (taken, told) = self.feed(disk, store, piece, moment);
+            if !goes_on(&told) {
+                return told;
+            }
             piece = piece.split_at(taken).1;
-            if let PacketFed::Whole = fed {
+        }
+        let _ = &self.reader;
+        (Fate::Stays, Ok(()))
+    }
+
+    /// Takes octets up to the end of the packet under way, and the packet where it is whole, and tells how many they are.
+    fn feed<D: Disk>(
+        &mut self,
+        disk: &mut D,
+        store: &mut FileStore,
+        piece: &[u8],
+        moment: u32,
+    ) -> (usize, Told)
+        requires some { 0 < length piece.now }
+        requires may { MayTake D.Disk store.old disk.old self.old.link self.old.session }
+        ensures some { 0 < result.0 }
+        ensures taken { result.0 ≤ length piece.now }
+        ensures feeds { Feeds D.Disk moment (with_octets self.old piece.now) (with_octets self.new (drop result.0 piece.now))
+            store.old store.new disk.old disk.new result.1 }
+        ensures fit { LeavesFit D.Disk store.old store.new disk.old disk.new self.old.link self.new.link
+            self.old.session self.new.session result.1 }
+    {
+        let (taken, fed) = self.reader.feed(piece);
+        match fed {
+            PacketFed::More => (taken, (Fate::Stays, Ok(()))),
+            PacketFed::Whole => {
                 let told = answer(
                     &self.reader,
                     &mut self.link,
@@ -261,12 +286,9 @@ impl Connection {
                     store,
                     moment,
                 );
-                let (Fate::Stays, Ok(())) = told else {
-                    return told;
-                };
+                (taken, told)
             }
         }
-        (Fate::Stays, Ok(()))
     }
 }
 
@@ -281,24 +303,11 @@ fn answer<D: Disk>(
     moment: u32,
 ) -> Told
     requires whole { IsTrue (is_whole reader.now) }
-    requires up { link.old.state ≡ LinkState.Up }
-    requires healthy { store.old.journal.failed ≡ false }
-    requires stands_on { StandsOn D.Disk store.old disk.old }
-    requires held { IsHeld store.old session.old }
-    requires only { IsOnlyOut store.old session.old }
+    requires may { MayTake D.Disk store.old disk.old link.old session.old }
     ensures hears { (w : Window) (end : LinkEnd) → StandsFor w link.old end →
-        Hears D.Disk w (taking_one moment session.old (state_of store.old session.old.phase) (store_in store.old) end
-        (read_item reader.now)) store.old store.new disk.old disk.new (with_nothing_left link.new session.new) result }
-    ensures puts { Puts D.Disk (IsErrOf result.1 ServerStop.Disk) disk.old disk.new }
-    ensures kept { KeepsComplete (store_in store.old) (store_in store.new) }
-    ensures others { KeepsOtherCallers store.old store.new session.old.caller }
-    ensures healthy { ¬ IsErrOf result.1 ServerStop.Disk → store.new.journal.failed ≡ false }
-    ensures stands_on { StandsOn D.Disk store.new disk.new }
-    ensures held { IsHeld store.new session.new }
-    ensures only { IsOnlyOut store.new session.new }
-    ensures up { result.0 ≡ Fate.Stays → link.new.state ≡ LinkState.Up }
-    ensures caller { session.new.caller ≡ session.old.caller }
-    ensures stations { SameStations link.old link.new }
+        Hears D.Disk w (taking_some moment session.old (state_of store.old session.old.phase) (store_in store.old) end
+        (read_item reader.now ∷ [])) store.old store.new disk.old disk.new (with_nothing_left link.new session.new) result }
+    ensures fit { LeavesFit D.Disk store.old store.new disk.old disk.new link.old link.new session.old session.new result }
 {
     let mut replies = Replies::new();
     match session.take(disk, reader.packet(), moment, store, &mut replies) {
@@ -307,8 +316,16 @@ fn answer<D: Disk>(
             reply(link, replies.as_slice());
             (Fate::Ends, Err(ServerStop::Disk))
         }
-        Err(stop) => (Fate::Stays, Err(stop)),
+        Err(ServerStop::NotBuilt { kind }) => (Fate::Stays, Err(ServerStop::NotBuilt { kind })),
+        Err(ServerStop::OutOfMemory) => (Fate::Stays, Err(ServerStop::OutOfMemory)),
     }
+}
+
+/// Whether neither the connection nor the server is stopped.
+fn goes_on(told: &Told) -> bool
+    ensures { IsTrue result ↔ IsGoing told.now }
+{
+    matches!(told, (Fate::Stays, Ok(())))
 }
 
 /// The session of this caller, whose LOGIN_RESP at this moment is queued on the link.
@@ -316,7 +333,6 @@ fn greet(link: &mut Link, caller: Call, moment: u32) -> Session
     requires { link.old.state ≡ LinkState.Up }
     ensures session { result ≡ new_session caller }
     ensures queued { Steps link.old link.new (λ w end. after_push end (packet_text (greeting moment))) }
-    ensures up { link.new.state ≡ LinkState.Up }
     ensures stations { SameStations link.old link.new }
 {
     let mut replies = Replies::new();
@@ -330,7 +346,6 @@ fn reply(link: &mut Link, text: &[u8]) -> Fate
     requires { link.old.state ≡ LinkState.Up }
     ensures queued { Steps link.old link.new (λ w end. replied end text.now) }
     ensures over { Tells link.old (λ w end. not (fits end text.now)) (is_over result) }
-    ensures up { result ≡ Fate.Stays → link.new.state ≡ LinkState.Up }
     ensures stations { SameStations link.old link.new }
 {
     if text.len() > link.free() {

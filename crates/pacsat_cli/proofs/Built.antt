@@ -1,7 +1,7 @@
 -- Which packets have rows of a session's table, and what the turns of a session say of its end.
-use Rattle.std.proofs.Common.{◌≡◌, ℕ, List, [], ◌∷◌, ◌++◌, refl, ap, sym, subst, ◌∙◌, inl, inr, Bool, true, false, arith}
+use Rattle.std.proofs.Common.{◌≡◌, ℕ, List, [], ◌∷◌, ◌++◌, refl, subst, Bool, true, false}
 use Rattle.std.specs.List.{AllByRecursion}
-use Rattle.std.specs.Prelude.{◌||◌, Option, Some, None, Result, Ok, Err, not, if◌then◌else◌}
+use Rattle.std.specs.Prelude.{◌||◌, Some, None, Ok, not, if◌then◌else◌}
 use Rattle.px_base.specs.CallSign.{CallSign}
 use Rattle.px_base.specs.Polling.{EndsWith, HasEnd, IsOpen}
 use Rattle.px_base.specs.declared.air.Turn.{Turn}

@@ -1,22 +1,18 @@
--- How a session that was heard ended, as its status says.
-use Rattle.std.proofs.Common.{◌≡◌, ℕ, List, [], ◌∷◌, ◌++◌, refl, ap, sym, subst, ◌∙◌, inl, inr, Bool, true, false, arith}
+-- How a session or a service ended, as its status says.
+use Rattle.std.proofs.Common.{◌≡◌, ℕ, List, ◌++◌, refl, ap, sym, subst, ◌∙◌, inl, inr, Bool, true, false, arith}
 use Rattle.std.proofs.lemmas.List.{append_cancel_left}
-use Rattle.std.specs.Prelude.{◌⊎◌, slice_index, Option, Some, None, Result, Ok, Err, IsErrOf, if◌then◌else◌}
+use Rattle.std.specs.Prelude.{◌⊎◌, slice_index, Option, Some, Result, Ok, Err, IsErrOf, if◌then◌else◌}
 use Rattle.px_base.specs.CallSign.{CallSign}
-use Rattle.px_base.specs.Outside.{Grows, Rose}
-use Rattle.px_base.specs.Polling.{EndsWith, HasEnd, HearsAll, octets_heard}
-use Rattle.px_base.specs.declared.air.Air.{Ghosts as AirGhosts}
+use Rattle.px_base.specs.Outside.{Grows}
+use Rattle.px_base.specs.Polling.{EndsWith, HasEnd}
 use Rattle.px_base.specs.declared.air.Turn.{Turn}
 use Rattle.px_base.specs.declared.air.Turn.TheVariants as turn
-use Rattle.ftl0_packets.specs.Laws.{IsOneStream}
-use Rattle.ftl0_packets.specs.Layout.{Item}
-use Rattle.ftl0_packets.specs.Stream.{Stream}
 use Rattle.file_entries.specs.Command.{Command}
 use Rattle.file_entries.specs.Store.{Store}
 use Rattle.ftl0_session.specs.Events.{Event, packets_in}
 use Rattle.ftl0_session.specs.Session.{command}
 use Rattle.session_node.specs.Running.{StopsOver}
-use Rattle.session_node.specs.SessionRan.{EndsOver, IsGreeted, IsUngreeted, SessionRan, TurnsBy}
+use Rattle.session_node.specs.SessionRan.{EndsOver, IsGreeted, IsUngreeted, TurnsBy}
 use Rattle.session_node.specs.Stops.{CountsBy}
 use Rattle.session_node.specs.declared.stop.NodeStop.{NodeStop}
 use Rattle.session_node.specs.declared.stop.NodeStop.TheVariants as stop
@@ -26,11 +22,11 @@ use Rattle.pacsat_cli.specs.declared.status.BadStore.TheVariants as bad
 use Rattle.pacsat_cli.specs.declared.status.Status.{Status}
 use Rattle.pacsat_cli.specs.declared.status.Status.TheVariants as status
 use Rattle.pacsat_cli.specs.Run.{HasStatusCause}
-use Rattle.pacsat_cli.specs.Sessions.{HasWriteCause, AsksFresh, IsDoneBy, IsNotBuiltBy, IsSpentBy, has_unbuilt}
+use Rattle.pacsat_cli.specs.Sessions.{HasWriteCause, AsksFresh, IsNotBuiltBy, IsSpentBy, has_unbuilt}
 use Rattle.pacsat_cli.specs.Stops.{status_in_memory, status_of}
 use Rattle.pacsat_cli.proofs.Built.{ends_with-not_open, failed-no_end, open-no_end, run-built, stop-unbuilt}
 
--- the status of a session over a disk, or over one in memory
+-- the status over a disk, or over one in memory
 abbrev pub mended : Bool → Status → Status
 mended memory status.Disk = if memory then status.OutOfMemory else status.Disk
 mended memory s = s
@@ -57,19 +53,19 @@ mended-disk (Err stop.Spent) = refl
 mended-disk (Err (stop.NotBuilt kind)) = refl
 mended-disk (Err stop.OutOfMemory) = refl
 
--- where the end was heard, the run is done
-pub done_by : (memory : Bool) (ended : Result Served NodeStop) (polls asked : ℕ) (turns : List Turn) (packets : List Item) → TurnsBy ended polls turns → IsDoneBy (mended memory (status_of ended)) asked turns packets
-done_by memory (Ok served) polls asked turns packets h end = refl
-done_by memory (Err stop.AirRead) polls asked turns packets h end = let P : List Turn → Type 0 = λ x. HasEnd x in absurd (failed-no_end h.0 h.2 (subst P h.1 end))
-done_by memory (Err stop.AirWrite) polls asked turns packets h end = absurd (open-no_end turns h end)
-done_by memory (Err stop.Disk) polls asked turns packets h end = absurd (open-no_end turns h end)
-done_by memory (Err (stop.NotAStore found)) polls asked turns packets h end = absurd h
-done_by memory (Err (stop.Damaged at)) polls asked turns packets h end = absurd h
-done_by memory (Err stop.Spent) polls asked turns packets h end = absurd (open-no_end turns h.1 end)
-done_by memory (Err (stop.NotBuilt kind)) polls asked turns packets h end = absurd (open-no_end turns h end)
-done_by memory (Err stop.OutOfMemory) polls asked turns packets h end = absurd (open-no_end turns h end)
+-- where the end was heard, it is done
+pub done_by : (memory : Bool) (ended : Result Served NodeStop) (polls : ℕ) (turns : List Turn) → TurnsBy ended polls turns → HasEnd turns → mended memory (status_of ended) ≡ status.Done
+done_by memory (Ok served) polls turns h end = refl
+done_by memory (Err stop.AirRead) polls turns h end = let P : List Turn → Type 0 = λ x. HasEnd x in absurd (failed-no_end h.0 h.2 (subst P h.1 end))
+done_by memory (Err stop.AirWrite) polls turns h end = absurd (open-no_end turns h end)
+done_by memory (Err stop.Disk) polls turns h end = absurd (open-no_end turns h end)
+done_by memory (Err (stop.NotAStore found)) polls turns h end = absurd h
+done_by memory (Err (stop.Damaged at)) polls turns h end = absurd h
+done_by memory (Err stop.Spent) polls turns h end = absurd (open-no_end turns h.1 end)
+done_by memory (Err (stop.NotBuilt kind)) polls turns h end = absurd (open-no_end turns h end)
+done_by memory (Err stop.OutOfMemory) polls turns h end = absurd (open-no_end turns h end)
 
--- a session that is done read the end of the air
+-- what is done read the end of the air
 pub reads_end : (memory : Bool) (ended : Result Served NodeStop) (polls : ℕ) (turns : List Turn) → TurnsBy ended polls turns → mended memory (status_of ended) ≡ status.Done → EndsWith turns turn.End
 reads_end memory (Ok served) polls turns h done = h.0
 reads_end memory (Err stop.AirRead) polls turns h done = absurd (cc)

@@ -5,8 +5,10 @@ pub mod FilesShown
 pub mod Loading
 pub mod MakeEnds
 pub mod MemorySession
+pub mod NodeEnds
 pub mod OneTask
 pub mod RunFile
 pub mod RunMake
 pub mod RunRefused
+pub mod RunServe
 pub mod RunSession

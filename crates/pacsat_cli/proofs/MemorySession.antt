@@ -1,10 +1,10 @@
 -- A session over a fresh disk in memory.
 use Rattle.std.proofs.Common.{◌≡◌, ℕ, List, [], refl, ap, sym, subst, ◌∙◌, inl, inr}
-use Rattle.std.specs.Prelude.{Option, Some, IfSome, Result, Ok, Err, IsErrOf}
+use Rattle.std.specs.Prelude.{Option, Some, IfSome, Result, Err}
 use Rattle.px_base.specs.declared.air.Air.{Ghosts as AirGhosts}
 use Rattle.disk_model.specs.declared.disk.Disk.{Ghosts}
 use Rattle.file_journal.specs.Journal.{journal_of}
-use Rattle.file_journal.specs.Walk.{damaged_at, no_store, state}
+use Rattle.file_journal.specs.Walk.{state}
 use Rattle.file_entries.specs.Store.{Store, empty_store}
 use Rattle.file_store.specs.State.{standing_of}
 use Rattle.file_store.specs.declared.refusals.StoreFault.{StoreFault}
@@ -15,9 +15,7 @@ use Rattle.session_node.specs.declared.stop.NodeStop.{NodeStop}
 use Rattle.session_node.specs.declared.stop.NodeStop.TheVariants as stop
 use Rattle.session_node.specs.declared.terms.Served.{Served}
 use Rattle.session_node.specs.declared.terms.SessionTerms.{SessionTerms}
-use Rattle.pacsat_cli.specs.declared.status.Status.{Status}
-use Rattle.pacsat_cli.specs.declared.status.Status.TheVariants as status
-use Rattle.pacsat_cli.specs.Sessions.{InMemory, OverMemory}
+use Rattle.pacsat_cli.specs.Sessions.{OverMemory}
 use Rattle.pacsat_cli.specs.Stops.{status_in_memory, status_of}
 
 -- a disk without octets stands for the empty store

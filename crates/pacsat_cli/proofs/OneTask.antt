@@ -1,13 +1,14 @@
 -- Words ask for one thing to do.
 use Rattle.std.proofs.Common.{◌≡◌, ℕ, List, refl, inl, inr}
-use Rattle.command_words.specs.Laws.{AsksSession, Determined, OnlyOne}
+use Rattle.command_words.specs.Laws.{AsksServe, AsksSession, Determined, OnlyOne}
 use Rattle.command_words.specs.Words.{IsUnbuilt, IsUsage}
 use Rattle.pacsat_cli.specs.declared.files.FileCommand.{FileCommand}
 use Rattle.pacsat_cli.specs.declared.files.FileCommand.TheVariants.{Frames, Show, Check}
+use Rattle.pacsat_cli.specs.Sessions.{AsksNode}
 use Rattle.pacsat_cli.specs.Tasks.{AsksFile, AsksMake, AsksText}
 
 module _ (words : List (List ℕ)) (only : OnlyOne words) where
-  -- words that ask for the text of a file are in the command set and built, and ask for no session
+  -- words that ask for the text of a file are in the command set and built, and ask for no session and no service
   pub usage-file : IsUsage words → AsksFile words → ⊥
   usage-file usage (Frames, name, is) = only.usage_frames usage (name, is)
   usage-file usage (Show, name, is) = only.usage_header usage (inr (inl (name, is)))
@@ -22,6 +23,14 @@ module _ (words : List (List ℕ)) (only : OnlyOne words) where
   session-file session (Frames, name, is) = only.session_frames session (name, is)
   session-file session (Show, name, is) = only.session_header session (inr (inl (name, is)))
   session-file session (Check, name, is) = only.session_header session (inl (name, is))
+
+  pub serve-file : AsksServe words → AsksFile words → ⊥
+  serve-file serve (Frames, name, is) = only.serve_frames serve (name, is)
+  serve-file serve (Show, name, is) = only.serve_header serve (inr (inl (name, is)))
+  serve-file serve (Check, name, is) = only.serve_header serve (inl (name, is))
+
+  pub node-file : AsksNode words → AsksFile words → ⊥
+  node-file node file = elim node [ inl session ↦ session-file session file | inr serve ↦ serve-file serve file ]
 
   -- nor for a file that is made
   pub file-make : AsksFile words → AsksMake words → ⊥
@@ -38,6 +47,12 @@ module _ (words : List (List ℕ)) (only : OnlyOne words) where
 
   pub session-make : AsksSession words → AsksMake words → ⊥
   session-make session make = only.session_header session (inr (inr make))
+
+  pub serve-make : AsksServe words → AsksMake words → ⊥
+  serve-make serve make = only.serve_header serve (inr (inr make))
+
+  pub node-make : AsksNode words → AsksMake words → ⊥
+  node-make node make = elim node [ inl session ↦ session-make session make | inr serve ↦ serve-make serve make ]
 
   -- they ask for one text of one file
   pub one-text : Determined words → (command other : FileCommand) (name another : List ℕ) → AsksText words command name → AsksText words other another → (command ≡ other) × (name ≡ another)

@@ -1,13 +1,14 @@
 -- What a run did, where the words were refused.
-use Rattle.std.proofs.Common.{◌≡◌, ℕ, List, [], ◌∷◌, ◌++◌, refl, ap, sym, subst, ◌∙◌, inl, inr, arith, Bool, true, false, Err}
+use Rattle.std.proofs.Common.{◌≡◌, ℕ, List, [], ◌∷◌, refl, ap, sym, subst, inl, inr, arith, Bool, true, false, Err}
 use Rattle.std.specs.Prelude.{Option, None, Some, IfSome, Result}
 use Rattle.px_base.specs.Shelves.{Holding, content_of}
 use Rattle.px_base.specs.declared.air.Air.{Ghosts as AirGhosts}
 use Rattle.disk_model.specs.declared.disk.Disk.{Ghosts}
 use Rattle.command_words.specs.declared.request.SessionRequest.{SessionRequest}
+use Rattle.command_words.specs.declared.serve.ServeRequest.{ServeRequest}
 use Rattle.px_base.proofs.Told.{Gains-none}
 use Rattle.command_words.specs.Laws.{OnlyOne}
-use Rattle.command_words.specs.Words.{IsMake, IsSession, IsUnbuilt, IsUsage, NamesBuilt}
+use Rattle.command_words.specs.Words.{IsMake, IsServe, IsSession, IsUnbuilt, IsUsage, NamesBuilt}
 use Rattle.command_words.specs.declared.request.Refusal.{Refusal}
 use Rattle.command_words.specs.declared.request.Refusal.TheVariants as refusal
 use Rattle.header_tool.specs.Made.{MakeValue}
@@ -17,11 +18,12 @@ use Rattle.pacsat_cli.specs.declared.files.FileCommand.{FileCommand}
 use Rattle.pacsat_cli.specs.Files.{FileEnd, FileShown, IsNoSuchBy, IsShownBy, IsTooLongBy}
 use Rattle.pacsat_cli.specs.Making.{IsMakeStatus, MakeRan}
 use Rattle.pacsat_cli.specs.Run.{IsUnless, Shows}
+use Rattle.pacsat_cli.specs.Servers.{IsServeDoneBy, IsServeSpentBy, RunsServe, WhereServed}
 use Rattle.pacsat_cli.specs.Sessions.{HasDiskCause, HasStoreCause, IsDoneBy, IsNotBuiltBy, IsSpentBy, RunsSession, WhereHeard}
 use Rattle.pacsat_cli.specs.Status.{line_of}
 use Rattle.pacsat_cli.specs.Stops.{status_of_refusal}
 use Rattle.pacsat_cli.specs.Tasks.{AsksText, RunsFile, RunsMake, WhereHeld}
-use Rattle.pacsat_cli.proofs.RunSession.{Early, early-complete, is_early_status}
+use Rattle.pacsat_cli.proofs.NodeEnds.{Goes, is_early_status, node-complete}
 use Rattle.pacsat_cli.proofs.OneTask.{unbuilt-file, unbuilt-make, usage-file, usage-make}
 
 -- why words were refused
@@ -74,6 +76,11 @@ module _ (words : List (List ℕ)) (only : OnlyOne words) where
   session-memory refusal.NotBuilt h asked is = absurd (only.unbuilt_session h (asked, is))
   session-memory refusal.OutOfMemory h asked is = refl
 
+  serve-memory : (why : Refusal) → MeansOf words why → (asked : ServeRequest) → IsServe words asked → status_of_refusal why ≡ status.OutOfMemory
+  serve-memory refusal.Usage h asked is = absurd (only.usage_serve h (asked, is))
+  serve-memory refusal.NotBuilt h asked is = absurd (only.unbuilt_serve h (asked, is))
+  serve-memory refusal.OutOfMemory h asked is = refl
+
   file-memory : (why : Refusal) → MeansOf words why → (command : FileCommand) (name : List ℕ) → AsksText words command name → status_of_refusal why ≡ status.OutOfMemory
   file-memory refusal.Usage h command name is = absurd (usage-file words only h (command, name, is))
   file-memory refusal.NotBuilt h command name is = absurd (unbuilt-file words only h (command, name, is))
@@ -89,12 +96,21 @@ module _ (words : List (List ℕ)) (only : OnlyOne words) where
       pub refused-session : {C D : Type 0} (g : Ghosts D) (given : C → Option (List ℕ)) (disk : D) (clock : C) → RunsSession words g air given disk disk before before clock clock (status_of_refusal why)
       refused-session g given disk clock = λ asked is. inl ((session-memory why h asked is, refl, refl), refl)
 
-      -- words that ask for a session were refused before anything was heard
-      early : (asked : SessionRequest) → IsSession words asked → Early before before (status_of_refusal why)
-      early asked is = record { kind = ap is_early_status (session-memory why h asked is); same = refl }
+      pub refused-serve : {C D : Type 0} (g : Ghosts D) (given : C → Option (List ℕ)) (disk : D) (clock : C) → RunsServe words g air given disk disk before before clock clock (status_of_refusal why)
+      refused-serve g given disk clock = λ asked is. inl ((serve-memory why h asked is, refl, refl), refl)
+
+      -- words that ask for a session or a service were refused before anything was heard
+      early : (polls : ℕ) → status_of_refusal why ≡ status.OutOfMemory → Goes air polls false before before (status_of_refusal why)
+      early polls memory = inl (record { kind = ap is_early_status memory; same = refl })
 
       pub refused-complete : WhereHeard words air.heard before before (IsDoneBy (status_of_refusal why))
-      refused-complete = λ told. early-complete air before before (status_of_refusal why) words (early told.asked told.asks) told
+      refused-complete = λ told. node-complete air before before (status_of_refusal why) told.asked.polls false (early told.asked.polls (session-memory why h told.asked told.asks)) told.earlier told.turns told.told_before told.told_now
+
+      pub refused-serve_complete : WhereServed words air.heard before before (IsServeDoneBy (status_of_refusal why))
+      refused-serve_complete = λ told. node-complete air before before (status_of_refusal why) told.asked.polls false (early told.asked.polls (serve-memory why h told.asked told.asks)) told.earlier told.turns told.told_before told.told_now
+
+      pub refused-serve_spent : WhereServed words air.heard before before (IsServeSpentBy (status_of_refusal why))
+      refused-serve_spent = λ told counted all_open. inr (3, omega arith, sym (serve-memory why h told.asked told.asks))
 
       pub refused-not_built : WhereHeard words air.heard before before (IsNotBuiltBy (status_of_refusal why))
       refused-not_built = λ told some. inr (2, omega arith, sym (session-memory why h told.asked told.asks))
@@ -114,6 +130,7 @@ module _ (words : List (List ℕ)) (only : OnlyOne words) where
     refused-bad_store content = record {
       asked = λ bad e. absurd (refused-not why (status.BadStore bad) refl e);
       exact = λ asked is named disk_not memory_not. absurd (memory_not (session-memory why h asked is));
+      exact_served = λ asked is disk_not memory_not. absurd (memory_not (serve-memory why h asked is));
     }
 
     -- want of memory says nothing of the content

@@ -1,5 +1,5 @@
 -- What a run of the program did for a session, by its words, by what was heard, and by its disk.
-use Rattle.std.specs.Prelude.{◌≡◌, ◌⊎◌, ◌↔◌, ◌||◌, ℕ, ◌++◌, List, [], ◌∷◌, length, Bool, true, false, not, Option, None, Some, IfSome, Result, Ok, Err, IsErrOf}
+use Rattle.std.specs.Prelude.{◌≡◌, ◌⊎◌, ◌↔◌, ◌||◌, ℕ, ◌++◌, List, [], ◌∷◌, length, Bool, true, false, not, Option, Some, IfSome, Result, IsErrOf}
 use Rattle.std.specs.List.{AllByRecursion}
 use Rattle.px_base.specs.Moments.{MomentsOf}
 use Rattle.px_base.specs.Outside.{Gains, Rose}

@@ -1,4 +1,4 @@
--- The statuses of a session's end, of refused words, and of a file that wasn't loaded.
+-- The statuses of a session's or a service's end, of refused words, and of a file that wasn't loaded.
 use Rattle.std.specs.Prelude.{Result, Ok, Err}
 use Rattle.px_base.specs.declared.shelf.ShelfRefusal.{ShelfRefusal}
 use Rattle.px_base.specs.declared.shelf.ShelfRefusal.TheVariants as shelf
@@ -11,7 +11,7 @@ use Rattle.pacsat_cli.specs.declared.status.BadStore.TheVariants.{NotAStore, Dam
 use Rattle.pacsat_cli.specs.declared.status.Status.{Status}
 use Rattle.pacsat_cli.specs.declared.status.Status.TheVariants.{Done, Usage, AirRead, AirWrite, Disk, NoSuch, BadStore, OutOfMemory, Spent, Shelf, TooLong, NotBuilt}
 
--- the status of a session that ended so
+-- the status of a session or a service that ended so
 abbrev pub status_of : Result Served NodeStop → Status
 status_of (Ok served) = Done
 status_of (Err node.AirRead) = AirRead

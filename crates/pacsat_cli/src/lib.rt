@@ -1,5 +1,5 @@
-//! The program's one top call, `run`, and what it is made of: the session that a node serves, the texts of files, and the
-//! making of a file.
+//! The program's one top call, `run`, and what it is made of: the session or the service of a node, the texts of files,
+//! and the making of a file.
 #![tactic(auto)]
 
 mod files;

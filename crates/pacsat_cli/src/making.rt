@@ -1,6 +1,6 @@
 //! The command `pfh-make`.
 
-ghost use Rattle.std.specs.Prelude.{◌≡◌, ◌≤◌, None, length};
+ghost use Rattle.std.specs.Prelude.{◌≡◌, None};
 ghost use Rattle.header_tool.specs.Made.{make_value, spec_refusal};
 ghost use Rattle.pacsat_cli.specs.Making.{OctetsMade, FileKept, MakeRan};
 ghost use Rattle.pacsat_cli.specs.Run.{HasShelfCause};

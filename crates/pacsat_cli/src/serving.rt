@@ -3,7 +3,7 @@
 ghost use Rattle.std.specs.Prelude.{◌≡◌, ◌≤◌, IsSome};
 ghost use Rattle.command_words.specs.Words.{AreInRange};
 ghost use Rattle.pacsat_cli.specs.Servers.{IsServedOver, serve_terms};
-ghost use Rattle.pacsat_cli.specs.Sessions.{IsOver, OverDisk, OverMemory, run_terms};
+ghost use Rattle.pacsat_cli.specs.Sessions.{IsOver, OverMemory, run_terms};
 ghost use Rattle.pacsat_cli.specs.Stops.{status_in_memory, status_of as status_of_session};
 
 use crate::{BadStore, Status};

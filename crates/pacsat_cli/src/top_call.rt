@@ -5,11 +5,12 @@ ghost use Rattle.command_words.specs.Laws.{AsksServe, AsksSession};
 ghost use Rattle.command_words.specs.Words.{IsUnbuilt, IsUsage, NamesBuilt};
 ghost use Rattle.ftl0_session.specs.Laws.{AcknowledgedStandsLaw};
 ghost use Rattle.px_base.specs.Outside.{Rose};
+ghost use Rattle.session_node.specs.Laws.{AcknowledgedSinceLaw};
 ghost use Rattle.pacsat_cli.specs.Files.{IsNoSuchBy, IsShownBy, IsTooLongBy};
 ghost use Rattle.pacsat_cli.specs.Run.{AreRefused, HasShelfCause, HasStatusCause, IsUnless, Shows, Stays};
-ghost use Rattle.pacsat_cli.specs.Sessions.{AsksDisk, AsksMoment, AsksNode, HasDiskCause, HasStoreCause, HasWriteCause, IsDoneAtEnd};
 ghost use Rattle.pacsat_cli.specs.Servers.{IsServeDoneBy, IsServeSpentBy, RunsServe, WhereServed};
-ghost use Rattle.pacsat_cli.specs.Sessions.{IsDoneBy, IsNotBuiltBy, IsSpentBy, RunsSession, WhereHeard};
+ghost use Rattle.pacsat_cli.specs.Sessions.{AsksDisk, AsksMoment, AsksNode, HasDiskCause, HasStoreCause, HasWriteCause};
+ghost use Rattle.pacsat_cli.specs.Sessions.{IsDoneAtEnd, IsDoneBy, IsNotBuiltBy, IsSpentBy, RunsSession, WhereHeard};
 ghost use Rattle.pacsat_cli.specs.Status.{line_of};
 ghost use Rattle.pacsat_cli.specs.Stops.{status_of_refusal};
 ghost use Rattle.pacsat_cli.specs.Tasks.{AsksFile, AsksMake, RunsFile, RunsMake, WhereHeld};
@@ -25,6 +26,7 @@ use disk_model::Disk;
 use ftl0_packets::laws::stream_law;
 use ftl0_session::laws::acknowledged_stands_law;
 use px_base::{Air, Clock, Out, Shelf};
+use session_node::laws::acknowledged_since_law;
 use std::alloc::Global;
 
 /// Does what the words ask for, over this disk, air, shelf, output and clock, and shows the status's line on the output.
@@ -70,8 +72,10 @@ pub fn run<D: Disk, A: Air, S: Shelf, O: Out, C: Clock>(
     ensures serve_alone { AsksServe words.now → shelf.new ≡ shelf.old }
 
     // So what was acknowledged stands: once DATA_END's row replied UL_ACK_RESP, the file's entry is complete, with exactly the
-    // octets that came, stamped, in every image in which its commands are done, whatever comes behind them.
+    // octets that came, stamped, in every image in which its commands are done, whatever comes behind them; and so in every
+    // image that a crash leaves since the last call of the disk for them, in each session and each server, however it ends.
     ensures acknowledged { AcknowledgedStandsLaw }
+    ensures acknowledged_since { AcknowledgedSinceLaw D.Disk }
 
     // No other command touches the disk, nor does a session with `none` for DISK.
     ensures disk_alone { (AsksDisk words.now → ⊥) → disk.new ≡ disk.old }
@@ -125,6 +129,7 @@ pub fn run<D: Disk, A: Air, S: Shelf, O: Out, C: Clock>(
     stream_law();
     one_meaning();
     acknowledged_stands_law();
+    acknowledged_since_law::<D>();
     let request = match command_words::read(alloc, words) {
         Ok(request) => request,
         Err(refusal) => {

@@ -1,10 +1,10 @@
 -- A built file keeps all rules.
-use Rattle.std.proofs.Common.{◌≡◌, ◌≢◌, ℕ, ◌+◌, ◌*◌, ◌/◌, ◌%◌, ◌^◌, ◌<◌, ◌≤◌, ◌==◌, List, [], ◌∷◌, ◌++◌, length, map, Bool, true, false, cond, sum, refl, sym, ap, ◌∙◌, subst, arith, append_assoc, length-append}
+use Rattle.std.proofs.Common.{◌≡◌, ℕ, ◌+◌, ◌%◌, ◌^◌, ◌<◌, ◌≤◌, ◌==◌, List, [], ◌∷◌, ◌++◌, length, Bool, true, false, cond, sum, refl, sym, ap, ◌∙◌, subst, arith, append_assoc, length-append}
 use Rattle.std.specs.List.{AllByRecursion}
 use Rattle.std.proofs.lemmas.List.{append-nil, map-append}
 use Rattle.px_base.specs.Numbers.{le16, le32, le16_octets, le32_octets, sum16}
-use Rattle.pfh_items.specs.Faults.{items_with, content_of, with_content, header_sum, Stands, StandsOnce, HasMandatory, FitsFile, HasHeaderSum, HasBodySum, IsFaultless}
-use Rattle.pfh_items.specs.Layout.{ItemValue, AreItems, FileText, item_text, items_text, end_item, header_start, header_text}
+use Rattle.pfh_items.specs.Faults.{items_with, content_of, with_content, header_sum, Stands, StandsOnce, IsFaultless}
+use Rattle.pfh_items.specs.Layout.{ItemValue, AreItems, item_text, items_text, end_item, header_start, header_text}
 use Rattle.pfh_items.specs.Stamp.{renewed}
 use Rattle.pfh_items.specs.Table.{mandatory_items, is_mandatory}
 use Rattle.pfh_items.specs.declared.table.MandatoryItem.{MandatoryItem}

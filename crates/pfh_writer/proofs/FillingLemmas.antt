@@ -1,12 +1,12 @@
 -- A walk over a header in which a server's items are filled in, and the sum that is renewed after it.
-use Rattle.std.proofs.Common.{◌≡◌, ℕ, ◌+◌, ◌-◌, ◌*◌, ◌/◌, ◌%◌, ◌^◌, ◌<◌, ◌≤◌, ◌==◌, ◌&&◌, List, [], ◌∷◌, ◌++◌, length, map, take, drop, get_or, sum, Bool, true, false, cond, Option, Some, None, refl, sym, ap, ◌∙◌, subst, arith, append_assoc, length-append, length-drop}
+use Rattle.std.proofs.Common.{◌≡◌, ℕ, ◌+◌, ◌-◌, ◌*◌, ◌%◌, ◌≤◌, ◌==◌, ◌&&◌, List, [], ◌∷◌, ◌++◌, length, map, take, drop, get_or, sum, Bool, true, false, cond, Option, Some, None, refl, sym, ap, ◌∙◌, subst, arith, append_assoc, length-append, length-drop}
 use Rattle.std.specs.Option.{unwrap_or}
-use Rattle.std.proofs.lemmas.Bool.{eq-eqb, eqb-true, leb-true}
+use Rattle.std.proofs.lemmas.Bool.{eq-eqb, leb-true}
 use Rattle.std.proofs.lemmas.List.{take_at, drop_at, take_all, drop_all, append-nil, take-append-drop, get_or-append_right, get_or_append_left, nil_from_length}
 use Rattle.px_base.specs.CallSign.{IsCall}
 use Rattle.px_base.specs.Numbers.{le16, le16_octets}
 use Rattle.pfh_items.specs.Faults.{IsFaultless, StandsOnce, header_sum, items_with}
-use Rattle.pfh_items.specs.Layout.{ItemValue, IsItem, AreItems, item_text, items_text, end_item, header_start}
+use Rattle.pfh_items.specs.Layout.{ItemValue, AreItems, item_text, items_text, end_item, header_start}
 use Rattle.pfh_items.specs.Stamp.{StampValue, stamped}
 use Rattle.pfh_items.specs.Walk.{item_len}
 use Rattle.pfh_items.specs.declared.table.Form.TheVariants.{Number}

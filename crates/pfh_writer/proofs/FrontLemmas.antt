@@ -1,15 +1,14 @@
 -- What a stamper gave is the front of the stamped file.
-use Rattle.std.proofs.Common.{◌≡◌, ℕ, suc, ◌+◌, ◌*◌, ◌/◌, ◌%◌, ◌^◌, ◌<◌, ◌≤◌, ◌==◌, ◌&&◌, List, [], ◌∷◌, ◌++◌, length, map, take, drop, Bool, true, false, cond, Option, Some, None, refl, sym, ap, ◌∙◌, subst, arith, append_assoc, length-append, zero-add}
+use Rattle.std.proofs.Common.{◌≡◌, ℕ, suc, ◌+◌, ◌/◌, ◌%◌, ◌≤◌, List, [], ◌∷◌, ◌++◌, length, map, take, drop, Option, Some, None, refl, sym, ap, ◌∙◌, subst, arith, append_assoc, length-append, zero-add}
 use Rattle.std.specs.Option.{unwrap_or}
-use Rattle.std.proofs.lemmas.List.{append-nil, take_all, take_at, drop_at, take-append-le, take-append-drop, length-take-le, map-append}
+use Rattle.std.proofs.lemmas.List.{append-nil, take_all, take_at, drop_at, take-append-le, map-append}
 use Rattle.px_base.specs.CallSign.{IsCall}
 use Rattle.px_base.specs.Numbers.{le16_octets}
 use Rattle.pfh_items.specs.Faults.{IsFaultless}
-use Rattle.pfh_items.specs.Layout.{ItemValue, IsItem, AreItems, FileText, item_text, items_text, end_item, header_start, header_text}
+use Rattle.pfh_items.specs.Layout.{ItemValue, AreItems, item_text, items_text, end_item, header_start}
 use Rattle.pfh_items.specs.Stamp.{StampValue, stamped_items, stamped}
 use Rattle.pfh_items.proofs.HeaderLemmas.{after_start}
 use Rattle.pfh_items.proofs.StampLemmas.{stamped-text}
-use Rattle.pfh_items.proofs.TextLemmas.{item_at}
 use Rattle.pfh_writer.specs.declared.stamper.Stage.{Stage}
 use Rattle.pfh_writer.specs.declared.stamper.Stage.TheVariants.{Start, Begun, ItemStart, IdCut, IdRead, InData, Body}
 use Rattle.pfh_writer.specs.Given.{stamped_sum}

@@ -1,8 +1,8 @@
 -- The header of a file that keeps all rules.
-use Rattle.std.proofs.Common.{◌≡◌, ℕ, ◌+◌, ◌<◌, ◌≤◌, List, [], ◌∷◌, ◌++◌, length, take, drop, refl, sym, ap, ◌∙◌, subst, arith, length-append, append_assoc}
-use Rattle.std.proofs.lemmas.List.{append-nil, append_cancel_right, take_at, drop_at}
+use Rattle.std.proofs.Common.{◌≡◌, ℕ, ◌≤◌, List, [], ◌++◌, length, drop, sym, ap, ◌∙◌, arith}
+use Rattle.std.proofs.lemmas.List.{append-nil, append_cancel_right}
 use Rattle.pfh_items.specs.Faults.{IsFaultless}
-use Rattle.pfh_items.specs.Layout.{ItemValue, AreItems, HeaderText, items_text, end_item, header_start, header_text}
+use Rattle.pfh_items.specs.Layout.{ItemValue, AreItems, header_text}
 use Rattle.pfh_items.specs.Walk.{ItemList, items_from}
 use Rattle.pfh_items.proofs.HeaderLemmas.{after_start}
 use Rattle.pfh_items.proofs.WalkLemmas.{items_from-whole}

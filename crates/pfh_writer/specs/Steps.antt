@@ -1,5 +1,5 @@
 -- How a stamper goes on by one octet.
-use Rattle.std.specs.Prelude.{ℕ, ◌+◌, ◌*◌, ◌==◌, List, ◌&&◌, nat_lt, if◌then◌else◌, Option, Some, None, slice_index_or}
+use Rattle.std.specs.Prelude.{ℕ, ◌+◌, ◌*◌, ◌==◌, List, nat_lt, if◌then◌else◌, Option, Some, None, slice_index_or}
 use Rattle.pfh_items.specs.Stamp.{StampValue}
 use Rattle.pfh_writer.specs.declared.stamper.Stage.{Stage}
 use Rattle.pfh_writer.specs.declared.stamper.Stage.TheVariants.{Start, Begun, ItemStart, IdCut, IdRead, InData, Body}

@@ -1,5 +1,5 @@
 -- The sums of items' data, before and after a server fills them in.
-use Rattle.std.specs.Prelude.{ℕ, List, map, sum, sum_by, length, unwrap_or}
+use Rattle.std.specs.Prelude.{ℕ, List, sum, sum_by, length, unwrap_or}
 use Rattle.pfh_items.specs.Layout.{ItemValue}
 use Rattle.pfh_items.specs.Stamp.{StampValue}
 use Rattle.pfh_writer.specs.Stamping.{server_data}

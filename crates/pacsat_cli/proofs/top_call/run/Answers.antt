@@ -1,16 +1,16 @@
 -- Each task by what it did, and refused words by why they were.
-use Rattle.std.proofs.Common.{◌≡◌, ℕ, List, refl, ap, sym, subst, inl, inr, Err}
-use Rattle.command_words.specs.Laws.{AsksSession}
+use Rattle.std.proofs.Common.{◌≡◌, ℕ, List, refl, ap, sym, inl, inr, Err}
+use Rattle.command_words.specs.Laws.{AsksServe, AsksSession}
 use Rattle.header_tool.specs.Made.{make_value}
 use Rattle.pacsat_cli.specs.declared.files.FileCommand.{FileCommand}
 use Rattle.pacsat_cli.specs.declared.status.Status.TheVariants as status
-use Rattle.pacsat_cli.specs.Sessions.{AsksDisk}
 use Rattle.pacsat_cli.specs.Status.{line_of}
 use Rattle.pacsat_cli.specs.Tasks.{AsksFile, AsksMake, AsksText}
-use Rattle.pacsat_cli.proofs.OneTask.{file-make, one-text, session-file, session-make, unbuilt-file, unbuilt-make, usage-file, usage-make}
+use Rattle.pacsat_cli.proofs.OneTask.{file-make, node-file, node-make, one-text, serve-file, serve-make, session-file, session-make, unbuilt-file, unbuilt-make, usage-file, usage-make}
 use Rattle.pacsat_cli.proofs.RunFile.{file-done, file-no_such, file-not, file-rose, file-runs, file-shown, file-too_long}
 use Rattle.pacsat_cli.proofs.RunMake.{make-not, make-runs}
-use Rattle.pacsat_cli.proofs.RunRefused.{means, refused-bad_store, refused-complete, refused-disk, refused-files, refused-made, refused-no_such, refused-not, refused-not_built, refused-session, refused-shown, refused-spent, refused-too_long, refused-unbuilt, refused-unread, refused-usage, refused-usage_told}
+use Rattle.pacsat_cli.proofs.RunRefused.{means, refused-bad_store, refused-complete, refused-disk, refused-files, refused-made, refused-no_such, refused-not, refused-not_built, refused-serve, refused-serve_complete, refused-serve_spent, refused-session, refused-shown, refused-spent, refused-too_long, refused-unbuilt, refused-unread, refused-usage, refused-usage_told}
+use Rattle.pacsat_cli.proofs.RunServe.{serve-bad_store, serve-complete, serve-disk, serve-done, serve-not, serve-read, serve-runs, serve-spent, serve-write}
 use Rattle.pacsat_cli.proofs.RunSession.{asked_moment, most_blocks, session-alone, session-bad_store, session-complete, session-disk, session-done, session-not, session-not_built, session-read, session-runs, session-spent, session-write, some_blocks}
 use Rattle.pacsat_cli.proofs.top_call.run.Goals as goal
 
@@ -33,12 +33,17 @@ returns-in-Err g c =
       held = λ _. refl;
       session = refused-session words only why h g.A.Air c.args.air.now g.D.Disk g.C.Clock.given c.args.disk.now c.args.clock.now;
       session_alone = λ _. refl;
+      serve = refused-serve words only why h g.A.Air c.args.air.now g.D.Disk g.C.Clock.given c.args.disk.now c.args.clock.now;
+      serve_alone = λ _. refl;
       clock_unasked = λ _. refl;
       acknowledged = c.acknowledged_stands_law.ensures;
+      acknowledged_since = c.acknowledged_since_law.ensures;
       disk_alone = λ _. refl;
       complete = refused-complete words only why h g.A.Air c.args.air.now;
       not_built = refused-not_built words only why h g.A.Air c.args.air.now;
       spent = refused-spent words only why h g.A.Air c.args.air.now;
+      serve_complete = refused-serve_complete words only why h g.A.Air c.args.air.now;
+      serve_spent = refused-serve_spent words only why h g.A.Air c.args.air.now;
       files = refused-files words only why h g.S.Shelf.held g.O.Out.shown g.O.Out.faults c.args.shelf.now c.args.out.now c.show_line.new.out line.shown line.no_line;
       files_alone = λ _. (refl, refl);
       no_such = refused-no_such words only why h held;
@@ -52,7 +57,7 @@ returns-in-Err g c =
       shelf = record { rose = λ e. absurd (refused-not why status.Shelf refl e); same = λ _ _. refl };
       out = λ e. absurd (refused-not why status.Out refl e);
       bad_store = refused-bad_store words only why h (g.D.Disk.content c.args.disk.now);
-      session_done = λ _ e. absurd (refused-not why status.Done refl e);
+      node_done = λ _ e. absurd (refused-not why status.Done refl e);
       done = λ e. absurd (refused-not why status.Done refl e);
       unshown = λ e. absurd (refused-not why status.Done refl e);
       shown = λ _. line.shown;
@@ -77,7 +82,7 @@ returns-in-Session g c =
     let over = ran.ensures.over in
     let read = c.stream_law.ensures.read in
     let law = c.stream_law.ensures.only in
-    let isnt = session-not g.D.Disk g.A.Air g.C.Clock.given c.args.disk.now ran.new.disk c.args.air.now ran.new.air c.args.clock.now ran.new.clock asked ran.result words asks determined over read law in
+    let isnt = session-not g.D.Disk g.A.Air g.C.Clock.given c.args.disk.now ran.new.disk c.args.air.now ran.new.air c.args.clock.now ran.new.clock asked ran.result words asks only determined over read law in
     record {
       usage = λ e. absurd (isnt status.Usage refl e);
       usage_told = λ usage. absurd (only.usage_session usage session);
@@ -85,14 +90,19 @@ returns-in-Session g c =
       unread = λ refused. absurd (elim refused [ inl usage ↦ only.usage_session usage session | inr unbuilt ↦ only.unbuilt_session unbuilt session ]);
       untouched = λ refused. absurd (elim refused [ inl usage ↦ only.usage_session usage session | inr unbuilt ↦ only.unbuilt_session unbuilt session ]);
       held = λ _. refl;
-      session = session-runs g.D.Disk g.A.Air g.C.Clock.given c.args.disk.now ran.new.disk c.args.air.now ran.new.air c.args.clock.now ran.new.clock asked ran.result words asks determined over read law;
+      session = session-runs g.D.Disk g.A.Air g.C.Clock.given c.args.disk.now ran.new.disk c.args.air.now ran.new.air c.args.clock.now ran.new.clock asked ran.result words asks only determined over read law;
       session_alone = λ _. refl;
+      serve = λ other is. absurd (only.session_serve session (other, is));
+      serve_alone = λ serve. absurd (only.session_serve session serve);
       clock_unasked = λ given. ran.ensures.clock (asked_moment words asked asks determined given);
       acknowledged = c.acknowledged_stands_law.ensures;
-      disk_alone = session-alone g.D.Disk g.A.Air g.C.Clock.given c.args.disk.now ran.new.disk c.args.air.now ran.new.air c.args.clock.now ran.new.clock asked ran.result words asks determined over read law;
-      complete = session-complete g.D.Disk g.A.Air g.C.Clock.given c.args.disk.now ran.new.disk c.args.air.now ran.new.air c.args.clock.now ran.new.clock asked ran.result words asks determined over read law;
-      not_built = session-not_built g.D.Disk g.A.Air g.C.Clock.given c.args.disk.now ran.new.disk c.args.air.now ran.new.air c.args.clock.now ran.new.clock asked ran.result words asks determined over read law;
-      spent = session-spent g.D.Disk g.A.Air g.C.Clock.given c.args.disk.now ran.new.disk c.args.air.now ran.new.air c.args.clock.now ran.new.clock asked ran.result words asks determined over read law;
+      acknowledged_since = c.acknowledged_since_law.ensures;
+      disk_alone = session-alone g.D.Disk g.A.Air g.C.Clock.given c.args.disk.now ran.new.disk c.args.air.now ran.new.air c.args.clock.now ran.new.clock asked ran.result words asks only determined over read law;
+      complete = session-complete g.D.Disk g.A.Air g.C.Clock.given c.args.disk.now ran.new.disk c.args.air.now ran.new.air c.args.clock.now ran.new.clock asked ran.result words asks only determined over read law;
+      not_built = session-not_built g.D.Disk g.A.Air g.C.Clock.given c.args.disk.now ran.new.disk c.args.air.now ran.new.air c.args.clock.now ran.new.clock asked ran.result words asks only determined over read law;
+      spent = session-spent g.D.Disk g.A.Air g.C.Clock.given c.args.disk.now ran.new.disk c.args.air.now ran.new.air c.args.clock.now ran.new.clock asked ran.result words asks only determined over read law;
+      serve_complete = λ told. absurd (only.session_serve session (told.asked, told.asks));
+      serve_spent = λ told. absurd (only.session_serve session (told.asked, told.asks));
       files = λ command name is. absurd (session-file words only session (command, name, is));
       files_alone = λ file. absurd (session-file words only session file);
       no_such = λ command name shelf is. absurd (session-file words only session (command, name, is));
@@ -100,13 +110,69 @@ returns-in-Session g c =
       files_done = λ command name shelf is. absurd (session-file words only session (command, name, is));
       made = λ body name spec is. absurd (session-make words only session (body, name, spec, is));
       made_alone = λ make. absurd (session-make words only session make);
-      air_read = session-read g.D.Disk g.A.Air g.C.Clock.given c.args.disk.now ran.new.disk c.args.air.now ran.new.air c.args.clock.now ran.new.clock asked ran.result words asks determined over read law;
-      air_write = session-write g.D.Disk g.A.Air g.C.Clock.given c.args.disk.now ran.new.disk c.args.air.now ran.new.air c.args.clock.now ran.new.clock asked ran.result words asks determined over read law;
-      disk = session-disk g.D.Disk g.A.Air g.C.Clock.given c.args.disk.now ran.new.disk c.args.air.now ran.new.air c.args.clock.now ran.new.clock asked ran.result words asks determined over read law;
+      air_read = session-read g.D.Disk g.A.Air g.C.Clock.given c.args.disk.now ran.new.disk c.args.air.now ran.new.air c.args.clock.now ran.new.clock asked ran.result words asks only determined over read law;
+      air_write = session-write g.D.Disk g.A.Air g.C.Clock.given c.args.disk.now ran.new.disk c.args.air.now ran.new.air c.args.clock.now ran.new.clock asked ran.result words asks only determined over read law;
+      disk = session-disk g.D.Disk g.A.Air g.C.Clock.given c.args.disk.now ran.new.disk c.args.air.now ran.new.air c.args.clock.now ran.new.clock asked ran.result words asks only determined over read law;
       shelf = record { rose = λ e. absurd (isnt status.Shelf refl e); same = λ _ _. refl };
       out = λ e. absurd (isnt status.Out refl e);
-      bad_store = session-bad_store g.D.Disk g.A.Air g.C.Clock.given c.args.disk.now ran.new.disk c.args.air.now ran.new.air c.args.clock.now ran.new.clock asked ran.result words asks determined over read law;
-      session_done = λ _. session-done g.D.Disk g.A.Air g.C.Clock.given c.args.disk.now ran.new.disk c.args.air.now ran.new.air c.args.clock.now ran.new.clock asked ran.result words asks determined over read law;
+      bad_store = session-bad_store g.D.Disk g.A.Air g.C.Clock.given c.args.disk.now ran.new.disk c.args.air.now ran.new.air c.args.clock.now ran.new.clock asked ran.result words asks only determined over read law;
+      node_done = λ _. session-done g.D.Disk g.A.Air g.C.Clock.given c.args.disk.now ran.new.disk c.args.air.now ran.new.air c.args.clock.now ran.new.clock asked ran.result words asks only determined over read law;
+      done = λ e. (refl, ap g.O.Out.faults (line.no_line (ap line_of e)));
+      unshown = λ e _. line.no_line (ap line_of e);
+      shown = λ _. line.shown;
+    }
+
+pub run_serve-status-requires : goal.run_serve-status-requires
+run_serve-status-requires g c =
+    let asks = c.in-Serve.ensures c.args.words.now c.in-Ok.ensures.asks in
+    record { ranges = asks.text.ranges }
+
+pub returns-in-Serve : goal.returns-in-Serve
+returns-in-Serve g c =
+    let asked = c.in-Serve.request in
+    let words = c.args.words.now in
+    let asks = c.in-Serve.ensures words c.in-Ok.ensures.asks in
+    let serve : AsksServe words = (asked, asks) in
+    let only = c.one_meaning.ensures.only_one words in
+    let determined = c.one_meaning.ensures.determined words in
+    let ran = c.run_serve-status in
+    let line = c.show_line-in-Serve.ensures in
+    let over = ran.ensures.over in
+    let isnt = serve-not g.D.Disk g.A.Air g.C.Clock.given c.args.disk.now ran.new.disk c.args.air.now ran.new.air c.args.clock.now ran.new.clock asked ran.result words asks only determined over in
+    record {
+      usage = λ e. absurd (isnt status.Usage refl e);
+      usage_told = λ usage. absurd (only.usage_serve usage serve);
+      unbuilt_words = λ unbuilt. absurd (only.unbuilt_serve unbuilt serve);
+      unread = λ refused. absurd (elim refused [ inl usage ↦ only.usage_serve usage serve | inr unbuilt ↦ only.unbuilt_serve unbuilt serve ]);
+      untouched = λ refused. absurd (elim refused [ inl usage ↦ only.usage_serve usage serve | inr unbuilt ↦ only.unbuilt_serve unbuilt serve ]);
+      held = λ _. refl;
+      session = λ other is. absurd (only.session_serve (other, is) serve);
+      session_alone = λ session. absurd (only.session_serve session serve);
+      serve = serve-runs g.D.Disk g.A.Air g.C.Clock.given c.args.disk.now ran.new.disk c.args.air.now ran.new.air c.args.clock.now ran.new.clock asked ran.result words asks only determined over;
+      serve_alone = λ _. refl;
+      clock_unasked = λ given. absurd (only.session_serve (given.0, given.1) serve);
+      acknowledged = c.acknowledged_stands_law.ensures;
+      acknowledged_since = c.acknowledged_since_law.ensures;
+      disk_alone = λ none. absurd (none (inr serve));
+      complete = λ told. absurd (only.session_serve (told.asked, told.asks) serve);
+      not_built = λ told. absurd (only.session_serve (told.asked, told.asks) serve);
+      spent = λ told. absurd (only.session_serve (told.asked, told.asks) serve);
+      serve_complete = serve-complete g.D.Disk g.A.Air g.C.Clock.given c.args.disk.now ran.new.disk c.args.air.now ran.new.air c.args.clock.now ran.new.clock asked ran.result words asks only determined over;
+      serve_spent = serve-spent g.D.Disk g.A.Air g.C.Clock.given c.args.disk.now ran.new.disk c.args.air.now ran.new.air c.args.clock.now ran.new.clock asked ran.result words asks only determined over;
+      files = λ command name is. absurd (serve-file words only serve (command, name, is));
+      files_alone = λ file. absurd (serve-file words only serve file);
+      no_such = λ command name shelf is. absurd (serve-file words only serve (command, name, is));
+      too_long = λ command name shelf is. absurd (serve-file words only serve (command, name, is));
+      files_done = λ command name shelf is. absurd (serve-file words only serve (command, name, is));
+      made = λ body name spec is. absurd (serve-make words only serve (body, name, spec, is));
+      made_alone = λ make. absurd (serve-make words only serve make);
+      air_read = serve-read g.D.Disk g.A.Air g.C.Clock.given c.args.disk.now ran.new.disk c.args.air.now ran.new.air c.args.clock.now ran.new.clock asked ran.result words asks only determined over;
+      air_write = serve-write g.D.Disk g.A.Air g.C.Clock.given c.args.disk.now ran.new.disk c.args.air.now ran.new.air c.args.clock.now ran.new.clock asked ran.result words asks only determined over;
+      disk = serve-disk g.D.Disk g.A.Air g.C.Clock.given c.args.disk.now ran.new.disk c.args.air.now ran.new.air c.args.clock.now ran.new.clock asked ran.result words asks only determined over;
+      shelf = record { rose = λ e. absurd (isnt status.Shelf refl e); same = λ _ _. refl };
+      out = λ e. absurd (isnt status.Out refl e);
+      bad_store = serve-bad_store g.D.Disk g.A.Air g.C.Clock.given c.args.disk.now ran.new.disk c.args.air.now ran.new.air c.args.clock.now ran.new.clock asked ran.result words asks only determined over;
+      node_done = λ _. serve-done g.D.Disk g.A.Air g.C.Clock.given c.args.disk.now ran.new.disk c.args.air.now ran.new.air c.args.clock.now ran.new.clock asked ran.result words asks only determined over;
       done = λ e. (refl, ap g.O.Out.faults (line.no_line (ap line_of e)));
       unshown = λ e _. line.no_line (ap line_of e);
       shown = λ _. line.shown;
@@ -134,12 +200,17 @@ returns-in-File g c =
       held = λ _. ran.ensures.held;
       session = λ asked is. absurd (session-file words only (asked, is) file);
       session_alone = λ session. absurd (session-file words only session file);
+      serve = λ asked is. absurd (serve-file words only (asked, is) file);
+      serve_alone = λ serve. absurd (serve-file words only serve file);
       clock_unasked = λ _. refl;
       acknowledged = c.acknowledged_stands_law.ensures;
+      acknowledged_since = c.acknowledged_since_law.ensures;
       disk_alone = λ _. refl;
       complete = λ told. absurd (session-file words only (told.asked, told.asks) file);
       not_built = λ told. absurd (session-file words only (told.asked, told.asks) file);
       spent = λ told. absurd (session-file words only (told.asked, told.asks) file);
+      serve_complete = λ told. absurd (serve-file words only (told.asked, told.asks) file);
+      serve_spent = λ told. absurd (serve-file words only (told.asked, told.asks) file);
       files =
           file-runs g.O.Out.shown g.O.Out.faults command held name c.args.out.now ran.new.out ran.result ran.ensures.shown words one g.S.Shelf.held c.args.shelf.now refl
           c.show_line-in-File.new.out line.shown line.no_line;
@@ -157,8 +228,9 @@ returns-in-File g c =
       bad_store = record {
         asked = λ bad e. absurd (isnt (status.BadStore bad) refl e);
         exact = λ asked is named disk_not memory_not. absurd (session-file words only (asked, is) file);
+        exact_served = λ asked is disk_not memory_not. absurd (serve-file words only (asked, is) file);
       };
-      session_done = λ session. absurd (session-file words only session file);
+      node_done = λ node. absurd (node-file words only node file);
       done = λ e. (
         ran.ensures.shelf.same (λ f. let other = sym e in cc) (λ f. let other = sym e in cc),
         file-done g.O.Out.shown g.O.Out.faults command held name c.args.out.now ran.new.out ran.result ran.ensures.shown c.show_line-in-File.new.out (λ d. line.no_line (ap line_of d)) e,
@@ -196,12 +268,17 @@ returns-in-Make g c =
       held = λ others. absurd (others make);
       session = λ session is. absurd (session-make words only (session, is) make);
       session_alone = λ session. absurd (session-make words only session make);
+      serve = λ asked is. absurd (serve-make words only (asked, is) make);
+      serve_alone = λ serve. absurd (serve-make words only serve make);
       clock_unasked = λ _. refl;
       acknowledged = c.acknowledged_stands_law.ensures;
+      acknowledged_since = c.acknowledged_since_law.ensures;
       disk_alone = λ _. refl;
       complete = λ told. absurd (session-make words only (told.asked, told.asks) make);
       not_built = λ told. absurd (session-make words only (told.asked, told.asks) make);
       spent = λ told. absurd (session-make words only (told.asked, told.asks) make);
+      serve_complete = λ told. absurd (serve-make words only (told.asked, told.asks) make);
+      serve_spent = λ told. absurd (serve-make words only (told.asked, told.asks) make);
       files = λ command name is. absurd (file-make words only (command, name, is) make);
       files_alone = λ file. absurd (file-make words only file make);
       no_such = λ command name shelf is. absurd (file-make words only (command, name, is) make);
@@ -217,8 +294,9 @@ returns-in-Make g c =
       bad_store = record {
         asked = λ bad e. absurd (isnt (status.BadStore bad) refl e);
         exact = λ asked is named disk_not memory_not. absurd (session-make words only (asked, is) make);
+        exact_served = λ asked is disk_not memory_not. absurd (serve-make words only (asked, is) make);
       };
-      session_done = λ session. absurd (session-make words only session make);
+      node_done = λ node. absurd (node-make words only node make);
       done = λ e. (
         ran.ensures.shelf.same (λ f. let other = sym e in cc) (λ f. let other = sym e in cc),
         ap g.O.Out.faults (line.no_line (ap line_of e)),

@@ -1,4 +1,3 @@
-use Rattle.std.proofs.Common.{ℕ, ◌<◌, length}
 use Rattle.pfh_items.specs.Faults.{StandsOnce}
 use Rattle.pfh_items.specs.Layout.{header_start}
 use Rattle.pfh_items.specs.declared.table.Form.TheVariants.{Number}

@@ -1,4 +1,4 @@
-use Rattle.std.proofs.Common.{◌≡◌, ℕ, ◌+◌, ◌≤◌, List, length, Option, Some, None, sym, ap, ◌∙◌, arith, lit<}
+use Rattle.std.proofs.Common.{◌≡◌, ℕ, ◌+◌, List, length, Some, None, ap, ◌∙◌, arith, lit<}
 use Rattle.arrayvec.specs.ArrayVec.{array_vec_len}
 use Rattle.pfh_writer.proofs.ItemsLemmas.{field-once}
 use Rattle.pfh_writer.proofs.short.push_rule.Goals as goal

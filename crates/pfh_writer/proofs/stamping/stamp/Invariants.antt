@@ -1,5 +1,4 @@
 use Rattle.std.proofs.Common.{◌-◌, length}
-use Rattle.pfh_items.specs.Stamp.{StampValue}
 use Rattle.pfh_writer.proofs.FillingLemmas.{Walked}
 use Rattle.pfh_writer.specs.Stamping.{stamp_of}
 use Rattle.pfh_writer.proofs.stamping.stamp.Given as goal

@@ -1,13 +1,12 @@
-use Rattle.std.proofs.Common.{rules, ◌≡◌, List, ℕ, ◌+◌, ◌%◌, ◌≤◌, ◌++◌, length, map, refl, sym, ap, ◌∙◌, subst, arith}
+use Rattle.std.proofs.Common.{◌≡◌, List, ◌++◌, length, sym, ap, ◌∙◌, arith}
 use Rattle.px_base.specs.CallSign.{IsCall}
-use Rattle.pfh_items.specs.Layout.{ItemValue, header_text}
-use Rattle.pfh_items.specs.Stamp.{StampValue}
+use Rattle.pfh_items.specs.Layout.{ItemValue}
 use Rattle.pfh_items.specs.Walk.{ItemList}
 use Rattle.pfh_writer.specs.Given.{stamped_sum}
 use Rattle.pfh_writer.specs.Stamping.{stamp_of}
 use Rattle.pfh_writer.proofs.FilledLemmas.{number_lens}
 use Rattle.pfh_writer.proofs.SumLemmas.{renewed-stamped_sum, same_walk}
-use Rattle.pfh_writer.proofs.WholeLemmas.{header_is, header_long, walk_of_header}
+use Rattle.pfh_writer.proofs.WholeLemmas.{header_is, walk_of_header}
 use Rattle.pfh_writer.proofs.stamping.stamped_sum.Goals as goal
 
 pub items_of-requires : goal.items_of-requires

@@ -1,7 +1,6 @@
-use Rattle.std.proofs.Common.{◌≡◌, ℕ, List, Option, sym, ap, ◌∙◌, subst}
+use Rattle.std.proofs.Common.{ℕ, List, Option, sym, subst}
 use Rattle.std.specs.Option.{IfSome}
-use Rattle.pfh_items.specs.Faults.{IsFaultless}
-use Rattle.pfh_items.specs.Layout.{ItemValue, HeaderValue, FileText}
+use Rattle.pfh_items.specs.Layout.{HeaderValue, FileText}
 use Rattle.pfh_items.proofs.HeaderLemmas.{one_header}
 use Rattle.pfh_writer.specs.Short.{HasEachOnce}
 use Rattle.pfh_writer.proofs.tests.short_forms.Goals as goal

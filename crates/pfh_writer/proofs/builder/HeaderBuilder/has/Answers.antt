@@ -1,5 +1,4 @@
-use Rattle.std.proofs.Common.{◌≡◌, ℕ, ◌==◌, List, rules, tests, ap, ◌∙◌, sym}
-use Rattle.std.specs.List.{list_any}
+use Rattle.std.proofs.Common.{ℕ, ◌==◌, List, rules, tests, ap, ◌∙◌}
 use Rattle.std.proofs.lemmas.Iterator.Search.{any_from_yields_List}
 use Rattle.pfh_items.specs.Layout.{ItemValue}
 use Rattle.pfh_items.specs.Walk.{ItemList, items_from}

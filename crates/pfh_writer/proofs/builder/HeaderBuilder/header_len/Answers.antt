@@ -1,4 +1,4 @@
-use Rattle.std.proofs.Common.{◌≡◌, ◌+◌, ℕ, List, length, sym, ap, ◌∙◌, subst, arith}
+use Rattle.std.proofs.Common.{◌+◌, ℕ, List, length, ap, ◌∙◌, subst}
 use Rattle.pfh_items.specs.Layout.{ItemValue}
 use Rattle.pfh_writer.specs.Built.{AreOthers, BuilderValue}
 use Rattle.pfh_writer.proofs.BuiltLemmas.{built_len-is}

@@ -1,4 +1,4 @@
-use Rattle.std.proofs.Common.{◌≡◌, ◌+◌, ◌%◌, ℕ, List, sym, ap, ◌∙◌, subst}
+use Rattle.std.proofs.Common.{◌+◌, ◌%◌, ℕ, List, ap, ◌∙◌, subst}
 use Rattle.px_base.specs.Numbers.{sum16}
 use Rattle.pfh_items.specs.Layout.{ItemValue}
 use Rattle.pfh_writer.specs.Built.{AreOthers, BuilderValue}

@@ -1,4 +1,4 @@
-use Rattle.std.proofs.Common.{rules, ◌≡◌, ◌≤◌, length, ℕ, [], ◌∷◌, ◌++◌, List, None, sym, ap, ◌∙◌, subst, arith}
+use Rattle.std.proofs.Common.{rules, ◌≡◌, ◌≤◌, length, ℕ, [], ◌∷◌, ◌++◌, List, None, sym, ap, ◌∙◌, arith}
 use Rattle.pfh_items.specs.Layout.{ItemValue, item_text}
 use Rattle.pfh_items.specs.Walk.{items_from}
 use Rattle.pfh_writer.specs.Built.{AreOthers, BuilderValue, item, put_refusal}

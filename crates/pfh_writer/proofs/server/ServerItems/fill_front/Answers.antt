@@ -1,5 +1,5 @@
-use Rattle.std.proofs.Common.{◌≡◌, ℕ, ◌+◌, ◌-◌, arith, refl}
-use Rattle.pfh_writer.proofs.FillingLemmas.{fills_front, stays_at_end}
+use Rattle.std.proofs.Common.{◌≡◌, ◌+◌, ◌-◌, arith, refl}
+use Rattle.pfh_writer.proofs.FillingLemmas.{fills_front}
 use Rattle.pfh_writer.specs.Stamping.{stamp_of}
 use Rattle.pfh_writer.proofs.server.ServerItems.fill_front.Goals as goal
 use Rattle.pfh_writer.proofs.server.ServerItems.fill_front.Goals.{else-id-eq0-via-then-id-eq0+else-len-eq0, else-id-eq0-via-else-id-eq0}

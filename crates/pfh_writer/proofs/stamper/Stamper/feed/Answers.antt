@@ -1,7 +1,6 @@
-use Rattle.std.proofs.Common.{◌≡◌, ℕ, ◌+◌, ◌<◌, ◌≤◌, List, ◌∷◌, [], ◌++◌, length, take, drop, get_or, slice_set, arith, sym, ap, ◌∙◌, subst, refl}
-use Rattle.std.proofs.lemmas.List.{take_more, take_more_set, drop_more, drop-drop, drop-set-lt, take_all}
-use Rattle.pfh_writer.specs.Stamping.{HasStamped, StamperValue}
-use Rattle.pfh_writer.specs.declared.stamper.Stage.TheVariants.{Body}
+use Rattle.std.proofs.Common.{◌≡◌, ℕ, ◌<◌, ◌≤◌, List, length, take, get_or, arith, sym, ap, ◌∙◌, subst, refl}
+use Rattle.std.proofs.lemmas.List.{take_all}
+use Rattle.pfh_writer.specs.Stamping.{StamperValue}
 use Rattle.pfh_writer.proofs.StepLemmas.{StampsOn, stamps_none, passed_more, rest_more, same_octet}
 use Rattle.pfh_writer.proofs.FrontLemmas.{stamps_all, stamps_body}
 use Rattle.pfh_writer.proofs.stamper.Stamper.feed.Goals as goal

@@ -6,7 +6,7 @@ use Rattle.std.specs.Result.{result_ok}
 use Rattle.std.proofs.lemmas.List.Sorted.{answers_always}
 use Rattle.file_entries.specs.Files.{EntriesState, File, IsPlace, file_of}
 use Rattle.file_entries.proofs.PlaceLemmas.{searched}
-use Rattle.file_entries.proofs.entries.Entries.place_of.Goals as goal
+use Rattle.file_entries.proofs.entries.Entries.place_by_halving.Goals as goal
 
 -- the files, as the slice and as the value
 files-are : (c : goal.After-ok) → c.deref.result.now ≡ c.args.self.now.files.files

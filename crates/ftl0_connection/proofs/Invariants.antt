@@ -1,0 +1,13 @@
+-- What the loop over the octets of a frame keeps.
+use Rattle.std.proofs.Common.{ℕ, List}
+use Rattle.std.specs.Prelude.{Ok}
+use Rattle.disk_model.specs.declared.disk.Disk.{Ghosts}
+use Rattle.file_store.specs.State.{StoreState}
+use Rattle.ftl0_connection.specs.declared.fate.Fate.TheVariants.{Stays}
+use Rattle.ftl0_connection.specs.ConnectionState.{ConnectionState}
+use Rattle.ftl0_connection.specs.Feeding.{Feeds, LeavesFit, with_octets}
+
+-- From old to now packets were taken from the front of the octets, and these are left.
+pub record IsTaking {D : Type 0} (g : Ghosts D) (moment : ℕ) (old now : ConnectionState) (octets left : List ℕ) (store store_now : StoreState) (disk disk_now : D) : Type 0 where
+  pub feeds : Feeds g moment (with_octets old octets) (with_octets now left) store store_now disk disk_now (Stays, Ok tt)
+  pub fit : LeavesFit g store store_now disk disk_now old.link now.link old.session now.session (Stays, Ok tt)

@@ -1,0 +1,214 @@
+-- What a session and a service have in common: how they end, what they count, and what their disk has to do with it.
+use Rattle.std.proofs.Common.{◌≡◌, ℕ, List, [], ◌++◌, refl, ap, sym, subst, ◌∙◌, inl, inr, Bool, true, false, append-nil}
+use Rattle.std.proofs.lemmas.List.{append_cancel_left}
+use Rattle.std.specs.Prelude.{◌⊎◌, Option, Some, None, IfSome, Result, Ok, Err, IsErrOf}
+use Rattle.px_base.specs.Polling.{HasEnd, HearsAll}
+use Rattle.px_base.specs.declared.air.Air.{Ghosts as AirGhosts}
+use Rattle.px_base.specs.declared.air.Turn.{Turn}
+use Rattle.disk_model.specs.declared.disk.Disk.{Ghosts}
+use Rattle.file_journal.specs.Calls.{Puts, Runs}
+use Rattle.file_store.specs.declared.refusals.StoreFault.{StoreFault}
+use Rattle.file_store.specs.declared.refusals.StoreFault.TheVariants as fault
+use Rattle.session_node.specs.SessionRan.{TurnsBy}
+use Rattle.session_node.specs.Stops.{CountsBy, EndsExactly, RefusesSession, stop_of_fault}
+use Rattle.session_node.specs.declared.stop.NodeStop.{NodeStop}
+use Rattle.session_node.specs.declared.stop.NodeStop.TheVariants as stop
+use Rattle.session_node.specs.declared.terms.Served.{Served}
+use Rattle.pacsat_cli.specs.declared.status.Status.{Status}
+use Rattle.pacsat_cli.specs.declared.status.Status.TheVariants as status
+use Rattle.pacsat_cli.specs.Run.{HasStatusCause}
+use Rattle.pacsat_cli.specs.Sessions.{AsksDisk, AsksFresh, HasDiskCause, HasWriteCause, IsDoneAtEnd, RefusesExactly}
+use Rattle.pacsat_cli.specs.Stops.{status_of}
+use Rattle.pacsat_cli.proofs.Ended.{damaged-end, disk-end, done_by, mended, not_a_store-end, read_cause, reads_end, told-same, write_cause}
+
+-- whether a session or a service can end with this status
+abbrev pub is_node_status : Status → Bool
+is_node_status status.Done = true
+is_node_status status.AirRead = true
+is_node_status status.AirWrite = true
+is_node_status status.Disk = true
+is_node_status (status.BadStore why) = true
+is_node_status status.OutOfMemory = true
+is_node_status status.Spent = true
+is_node_status status.NotBuilt = true
+is_node_status s = false
+
+mended-node : (memory : Bool) (ended : Result Served NodeStop) → is_node_status (mended memory (status_of ended)) ≡ true
+mended-node memory (Ok served) = refl
+mended-node memory (Err stop.AirRead) = refl
+mended-node memory (Err stop.AirWrite) = refl
+mended-node true (Err stop.Disk) = refl
+mended-node false (Err stop.Disk) = refl
+mended-node memory (Err (stop.NotAStore found)) = refl
+mended-node memory (Err (stop.Damaged at)) = refl
+mended-node memory (Err stop.Spent) = refl
+mended-node memory (Err (stop.NotBuilt kind)) = refl
+mended-node memory (Err stop.OutOfMemory) = refl
+
+-- whether it can end so before anything is heard or said
+abbrev pub is_early_status : Status → Bool
+is_early_status status.Disk = true
+is_early_status (status.BadStore why) = true
+is_early_status status.OutOfMemory = true
+is_early_status s = false
+
+fault-early : (why : StoreFault) → is_early_status (status_of (Err (stop_of_fault why))) ≡ true
+fault-early (fault.NotAStore found) = refl
+fault-early (fault.Damaged at) = refl
+fault-early fault.Disk = refl
+fault-early fault.OutOfMemory = refl
+
+early-node : (s : Status) → is_early_status s ≡ true → is_node_status s ≡ true
+early-node status.Disk e = refl
+early-node (status.BadStore why) e = refl
+early-node status.OutOfMemory e = refl
+early-node status.Done e = refl
+early-node status.AirRead e = refl
+early-node status.AirWrite e = refl
+early-node status.Spent e = refl
+early-node status.NotBuilt e = refl
+early-node status.Refused e = absurd (cc)
+early-node status.Usage e = absurd (cc)
+early-node status.NoSuch e = absurd (cc)
+early-node status.Out e = absurd (cc)
+early-node status.Shelf e = absurd (cc)
+early-node status.TooLong e = absurd (cc)
+
+-- Nothing was heard or said, and it ended early.
+pub record Early {A : Type 0} (before now : A) (s : Status) : Type 0 where
+  pub kind : is_early_status s ≡ true
+  pub same : now ≡ before
+
+-- It took turns, over a disk, or over one in memory.
+pub record Went {A : Type 0} (air : AirGhosts A) (polls : ℕ) (memory : Bool) (before now : A) (s : Status) : Type 0 where
+  pub ended : Result Served NodeStop
+  pub turns : List Turn
+  pub turns_heard : HearsAll (air.heard before) (air.heard now) turns
+  pub ends : TurnsBy ended polls turns
+  pub counts : CountsBy ended (air.read_faults before) (air.read_faults now) (air.write_faults before) (air.write_faults now)
+  pub status_is : s ≡ mended memory (status_of ended)
+
+-- Either of the two.
+abbrev pub Goes : {A : Type 0} → AirGhosts A → ℕ → Bool → A → A → Status → Type 0
+Goes air polls memory before now s = Early before now s ⊎ Went air polls memory before now s
+
+module _ {A : Type 0} (air : AirGhosts A) (before now : A) (s : Status) where
+  -- where all stayed no turns were heard
+  pub no-turns : now ≡ before → (earlier turns : List Turn) → air.heard before ≡ Some earlier → air.heard now ≡ Some (earlier ++ turns) → turns ≡ []
+  no-turns same earlier turns told_before told_now =
+      let P : A → Type 0 = λ a. air.heard a ≡ Some (earlier ++ turns) in
+      let all : earlier ++ [] ≡ earlier ++ turns = (let one = sym told_before ∙ subst P same told_now in let nil = append-nil earlier in cc) in
+      sym (append_cancel_left earlier [] turns all)
+
+  module _ (polls : ℕ) (memory : Bool) where
+    -- no session and no service ends with another command's status
+    pub node-not : Goes air polls memory before now s → (other : Status) → is_node_status other ≡ false → s ≡ other → ⊥
+    node-not (inl early) other isnt is = let yes = early-node s early.kind in let same = ap is_node_status is in absurd (cc)
+    node-not (inr went) other isnt is = let yes = mended-node memory went.ended in let same = ap is_node_status (sym is ∙ went.status_is) in absurd (cc)
+
+    pub node-read : Goes air polls memory before now s → HasStatusCause status.AirRead (air.read_faults before) (air.read_faults now) s
+    node-read (inl early) = record {
+      rose = λ e. let other = ap is_early_status e in let yes = early.kind in absurd (cc);
+      same = λ _. ap air.read_faults early.same;
+    }
+    node-read (inr went) =
+        let P : Status → Type 0 = λ t. HasStatusCause status.AirRead (air.read_faults before) (air.read_faults now) t in
+        subst P (sym went.status_is) (read_cause memory went.ended (air.read_faults before) (air.read_faults now) (air.write_faults before) (air.write_faults now) went.counts)
+
+    pub node-write : (words : List (List ℕ)) → (memory ≡ true → AsksFresh words) → Goes air polls memory before now s → HasWriteCause words (air.write_faults before) (air.write_faults now) s
+    node-write words fresh (inl early) = record {
+      rose = λ e. let other = ap is_early_status e in let yes = early.kind in absurd (cc);
+      same = λ _ _ _. ap air.write_faults early.same;
+    }
+    node-write words fresh (inr went) =
+        let P : Status → Type 0 = λ t. HasWriteCause words (air.write_faults before) (air.write_faults now) t in
+        subst P (sym went.status_is) (write_cause memory words went.ended (air.read_faults before) (air.read_faults now) (air.write_faults before) (air.write_faults now) fresh went.counts)
+
+    -- the turns that it took are those that are told
+    pub turns_told : (went : Went air polls memory before now s) (earlier turns : List Turn) → air.heard before ≡ Some earlier → air.heard now ≡ Some (earlier ++ turns) → went.turns ≡ turns
+    turns_told went earlier turns told_before told_now = told-same (air.heard before) (air.heard now) earlier turns went.turns told_before told_now went.turns_heard
+
+    -- where the end was heard, it is done
+    pub node-complete : Goes air polls memory before now s → (earlier turns : List Turn) → air.heard before ≡ Some earlier → air.heard now ≡ Some (earlier ++ turns) → HasEnd turns → s ≡ status.Done
+    node-complete (inl early) earlier turns told_before told_now end =
+        let P : List Turn → Type 0 = λ x. HasEnd x in
+        absurd (subst P (no-turns early.same earlier turns told_before told_now) end)
+    node-complete (inr went) earlier turns told_before told_now end =
+        let P : List Turn → Type 0 = λ x. HasEnd x in
+        went.status_is ∙ done_by memory went.ended polls went.turns went.ends (subst P (sym (turns_told went earlier turns told_before told_now)) end)
+
+    -- where it is done, the end of the air was read, and no count rose
+    pub node-done :
+        {D : Type 0} (words : List (List ℕ)) (reads writes : D → ℕ) (disk disk_now : D) → (memory ≡ true → AsksFresh words)
+        → Goes air polls memory before now s → HasDiskCause words reads writes disk disk_now before now s → s ≡ status.Done
+        → IsDoneAtEnd air reads writes before now disk disk_now
+    node-done words reads writes disk disk_now fresh goes cause done =
+        let disks = cause.same (λ e. let other = sym done ∙ e in cc) in
+        record {
+          end =
+              elim goes [
+                | inl early ↦ absurd (let kind = sym early.kind ∙ ap is_early_status done in cc)
+                | inr went ↦ (went.turns, went.turns_heard, reads_end memory went.ended polls went.turns went.ends (sym went.status_is ∙ done))
+              ];
+          air_reads = (node-read goes).same (λ e. let other = sym done ∙ e in cc);
+          air_writes = (node-write words fresh goes).same (λ e. let other = sym done ∙ e in cc) (λ e. let other = sym done ∙ e in cc) (λ e. let other = sym done ∙ e in absurd (cc));
+          disk_reads = disks.0;
+          disk_writes = disks.1;
+        }
+
+-- It was over the disk that DISK names: the recovery of its store was refused, or it took turns.
+pub record OnDisk {A D : Type 0} (g : Ghosts D) (air : AirGhosts A) (blocks polls : ℕ) (disk disk_now : D) (before now : A) (s : Status) : Type 0 where
+  pub ended : Result Served NodeStop
+  pub refuses : RefusesSession blocks (g.content disk) ended
+  pub runs : Runs g (IsErrOf ended stop.Disk) disk disk_now
+  pub status_is : s ≡ status_of ended
+  pub goes :
+      ((why : StoreFault) × (ended ≡ Err (stop_of_fault why)) × (now ≡ before))
+      ⊎ (Puts g (IsErrOf ended stop.Disk) disk disk_now × Went air polls false before now s)
+
+-- the recovery was refused before anything was heard
+pub early-of : {A : Type 0} (before now : A) (s : Status) (ended : Result Served NodeStop) (why : StoreFault) → s ≡ status_of ended → ended ≡ Err (stop_of_fault why) → now ≡ before → Early before now s
+early-of before now s ended why is answer same = record { kind = ap is_early_status (is ∙ ap status_of answer) ∙ fault-early why; same = same }
+
+module _ {A D : Type 0} (g : Ghosts D) (air : AirGhosts A) (blocks polls : ℕ) (disk disk_now : D) (before now : A) (s : Status) (over : OnDisk g air blocks polls disk disk_now before now s) where
+  pub on_disk-goes : Goes air polls false before now s
+  on_disk-goes =
+      elim over.goes [
+        | inl refused ↦ inl (early-of before now s over.ended refused.0 over.status_is refused.1 refused.2)
+        | inr went ↦ inr went.1
+      ]
+
+  -- the disk's counts by how it ended
+  pub on_disk-cause : (words : List (List ℕ)) → AsksDisk words → HasDiskCause words g.read_faults g.write_faults disk disk_now before now s
+  on_disk-cause words asks = record {
+    asked = λ _. asks;
+    rose = λ e.
+        let failed = disk-end over.ended (sym over.status_is ∙ e) in
+        elim over.goes [
+          | inl refused ↦ elim (over.runs.faults.rose failed) [ inl reads ↦ inr (reads, refused.2) | inr writes ↦ inl writes ]
+          | inr went ↦ inl (went.0.faults.rose failed)
+        ];
+    same = λ isnt. over.runs.faults.same (λ failed. isnt (over.status_is ∙ ap status_of failed));
+  }
+
+  -- each refusal, by what the content stands for
+  exact-of : (octets : List ℕ) → EndsExactly blocks octets over.ended → RefusesExactly blocks octets s
+  exact-of octets h = record {
+    not_a_store = λ found. (
+      λ e. (h.not_a_store found).0 (not_a_store-end over.ended found (sym over.status_is ∙ e)),
+      λ stands. over.status_is ∙ ap status_of ((h.not_a_store found).1 stands),
+    );
+    damaged = λ at. (
+      λ e. (h.damaged at).0 (damaged-end over.ended at (sym over.status_is ∙ e)),
+      λ stands. over.status_is ∙ ap status_of ((h.damaged at).1 stands),
+    );
+  }
+
+  told-exact : (content : Option (List ℕ)) → IfSome content (λ octets. EndsExactly blocks octets over.ended) → IfSome content (λ octets. RefusesExactly blocks octets s)
+  told-exact None h = tt
+  told-exact (Some octets) h = exact-of octets h
+
+  pub on_disk-exact : (s ≡ status.Disk → ⊥) → (s ≡ status.OutOfMemory → ⊥) → IfSome (g.content disk) (λ octets. RefusesExactly blocks octets s)
+  on_disk-exact disk_not memory_not =
+      told-exact (g.content disk)
+      (over.refuses (λ failed. disk_not (over.status_is ∙ ap status_of failed)) (λ failed. memory_not (over.status_is ∙ ap status_of failed)))

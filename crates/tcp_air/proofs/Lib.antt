@@ -1,0 +1,4 @@
+mod Asked
+mod Runs
+mod Sending
+mod Turns

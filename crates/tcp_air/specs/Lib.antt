@@ -1,0 +1,4 @@
+pub mod Connections
+pub mod MemoryConnections
+pub mod RunLaws
+pub mod SendingLaws

@@ -1,0 +1,17 @@
+//! An air over a TCP connection to a modem, and what it asks of the connection.
+#![tactic(auto)]
+
+mod connection;
+mod connection_air;
+pub mod laws;
+mod memory_connection;
+mod steps;
+mod tcp_connection;
+
+pub use connection::{Connection, ConnectionCall, ConnectionError};
+pub use connection_air::ConnectionAir;
+pub use memory_connection::{MemoryAnswer, MemoryConnection};
+pub use tcp_connection::{TcpAir, TcpConnection};
+
+#[cfg(test)]
+mod tests;
