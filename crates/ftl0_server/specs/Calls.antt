@@ -1,23 +1,28 @@
 -- What a server's calls do.
-use Rattle.std.specs.Prelude.{◌≡◌, ℕ, List, [], ◌∷◌, ◌++◌, true, false, Bool, Option, None, Some, Result, Ok, Err, ⊤}
+use Rattle.std.specs.Prelude.{◌≡◌, ◌⊎◌, ℕ, List, [], ◌∷◌, slice_set, true, false, Bool, Option, None, Some, Result, Ok, Err, ⊤}
 use Rattle.disk_model.specs.declared.disk.Disk.{Ghosts}
 use Rattle.ax25_frames.specs.FrameText.{FrameText, canonical}
-use Rattle.file_entries.specs.Command.{Command}
+use Rattle.ax25_link.specs.Kept.{HasStations}
+use Rattle.ax25_link.specs.declared.state.LinkState.TheVariants.{Up}
 use Rattle.file_journal.specs.Calls.{Leaves}
 use Rattle.file_store.specs.OnDisk.{CutsOff, Does, MakesFirst}
 use Rattle.file_store.specs.State.{StoreState, store_in}
 use Rattle.ftl0_session.specs.declared.stop.ServerStop.{ServerStop}
 use Rattle.ftl0_session.specs.declared.stop.ServerStop.TheVariants as stop
+use Rattle.ftl0_session.specs.SessionState.{new_session}
+use Rattle.ftl0_connection.specs.ConnectionState.{ConnectionState}
 use Rattle.ftl0_connection.specs.Taking.{fails, goes_on, unbuilt}
 use Rattle.ftl0_server.specs.declared.place.Place.{Place}
+use Rattle.ftl0_server.specs.declared.place.Place.TheVariants.{Talking}
 use Rattle.ftl0_server.specs.Places.{SamePlace}
 use Rattle.ftl0_server.specs.Server.{Server, ServerHappened, ServerSends, server_next}
 use Rattle.ftl0_server.specs.ServerState.{IsServer, SendsFor, ServerState}
 
--- What a frame that is heard does, where `event` gives what it makes of the server once it is known at which packet the
--- disk fails, if it fails at one. Where all was taken its commands are done. Where the disk failed, at some packet, the
--- commands before it are done, and it failed in one of that packet's; the frames that are pending then are those of that
--- step. Where a row isn't built the commands before are done, and where there is no memory some of them, from the first on.
+-- What an event does, where `event` gives what it makes of the server once it is known at which packet the disk fails, if
+-- it fails at one. Where all was taken its commands are done. Where the disk failed, at some packet, the commands before it
+-- are done, and it failed in one of that packet's; the frames that are pending then are those of that step. Where a row
+-- isn't built the commands before are done. Where there was no memory none is done, as for a new session, or, at some
+-- packet, those before it.
 abbrev pub HearsBy :
     {D : Type 0} → Ghosts D → (Option ℕ → ServerHappened) → ServerState → ServerState → D → D → Result ⊤ ServerStop
     → Type 0
@@ -30,10 +35,11 @@ HearsBy g event old new disk disk_now (Err stop.Disk) =
 HearsBy g event old new disk disk_now (Err (stop.NotBuilt kind)) =
     ((event None).halt ≡ unbuilt kind) × Does g ⊥ old.store new.store disk disk_now (event None).done
 HearsBy g event old new disk disk_now (Err stop.OutOfMemory) =
-    (done : List Command) × (others : List Command) × ((event None).done ≡ done ++ others)
-    × Does g ⊥ old.store new.store disk disk_now done
+    Does g ⊥ old.store new.store disk disk_now []
+    ⊎ ((part : ℕ) × ((event (Some part)).halt ≡ fails)
+    × Does g ⊥ old.store new.store disk disk_now (event (Some part)).done)
 
--- A frame was heard. Since it came each image stands for the store after the first of the commands that it has where
+-- An event came. Since it came each image stands for the store after the first of the commands that it has where
 -- nothing fails, for some number of them: that is what a power cut inside it leaves.
 pub record Hears {D : Type 0} (g : Ghosts D) (event : Option ℕ → ServerHappened) (old new : ServerState)
     (disk disk_now : D) (result : Result ⊤ ServerStop) : Type 0 where
@@ -67,3 +73,21 @@ pub record SameButLinks (old new : ServerState) : Type 0 where
   pub k : new.k ≡ old.k
   pub places : SamePlaces old.places new.places
   pub store : new.store ≡ old.store
+
+-- A frame of a station without a connection makes this of whichever server it was, or there is no memory, and nothing
+-- changes.
+abbrev pub HearsStranger : (Server → Server) → ServerState → ServerState → Result ⊤ ServerStop → Type 0
+HearsStranger step old new (Ok done) = (server : Server) → IsServer old server → IsServer new (step server)
+HearsStranger step old new (Err stop.Disk) = ⊥
+HearsStranger step old new (Err (stop.NotBuilt kind)) = ⊥
+HearsStranger step old new (Err stop.OutOfMemory) = new ≡ old
+
+-- A connection of this server's was just answered.
+pub record IsNew (self : ServerState) (connection : ConnectionState) : Type 0 where
+  pub stations : HasStations connection.link false self.me connection.session.caller self.k
+  pub session : connection.session ≡ new_session connection.session.caller
+  pub up : connection.link.state ≡ Up
+
+-- The connection is at this place now.
+abbrev pub Seats : ℕ → ConnectionState → ServerState → ServerState → Type 0
+Seats place connection old new = new ≡ record old { places = slice_set old.places place (Talking connection) }

@@ -48,6 +48,10 @@ pub record IsSettled (me : CallSign) (k : ℕ) (store : StoreState) (places : Li
   pub distinct : AreDistinct places
   pub only : (caller : CallSign) (number : Option ℕ) → IsUploadOf places caller number → NoOtherOut store caller number
 
+-- some station's places are so, with some window
+abbrev pub IsWorking : StoreState → List Place → Type 0
+IsWorking store places = (me : CallSign) × (k : ℕ) × IsSettled me k store places
+
 abbrev pub IsKept : Inside → Type 0
 IsKept a = IsSettled a.me a.k a.store a.places
 

@@ -1,3 +1,4 @@
+pub mod AtPlace
 pub mod Calls
 pub mod Kept
 pub mod Laws

@@ -1,13 +1,13 @@
 -- What giving out a frame does to a place.
-use Rattle.std.specs.Prelude.{◌≡◌, ℕ, List, Bool, true, false, Option, None, Some, ⊤, ⊥}
+use Rattle.std.specs.Prelude.{◌≡◌, ℕ, List, Bool, true, false, Option, None, Some, ⊤}
 use Rattle.ax25_frames.specs.FrameText.{FrameText, canonical}
 use Rattle.ax25_link.specs.Kept.{SameStations}
 use Rattle.ax25_link.specs.Window.{Window}
 use Rattle.ftl0_connection.specs.ConnectionState.{ConnectionState}
 use Rattle.ftl0_server.specs.declared.place.Place.{Place}
 use Rattle.ftl0_server.specs.declared.place.Place.TheVariants.{Free, Talking, Leaving}
-use Rattle.ftl0_server.specs.ServerState.{SendsAs}
-use Rattle.ftl0_server.specs.Slots.{Slot, SlotSends, slot_next}
+use Rattle.ftl0_server.specs.ServerState.{AllPlaces, SendsAs}
+use Rattle.ftl0_server.specs.Slots.{PlacesSend, Slot, SlotSends, slot_next}
 
 -- the session and the stations of a connection are as they were
 pub record SameTalk (old new : ConnectionState) : Type 0 where
@@ -38,3 +38,10 @@ GivesOut (Some sends) w now before after answer =
 abbrev pub PlaceGives : Place → Place → List ℕ → List ℕ → Bool → Type 0
 PlaceGives old new before after answer =
     (w : Window) (slot : Slot) → SendsAs w old slot → GivesOut (slot_next w slot) w new before after answer
+
+-- What is given out where the places send this next: nothing; or the octets of its frame in place of those that the buffer
+-- held.
+abbrev pub PlacesGive : Option PlacesSend → Window → List Place → List ℕ → Bool → Type 0
+PlacesGive None w now after answer = answer ≡ false
+PlacesGive (Some sends) w now after answer =
+    (answer ≡ true) × AllPlaces (SendsAs w) now sends.after × (after ≡ canonical sends.frame) × FrameText sends.frame after

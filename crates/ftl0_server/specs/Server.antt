@@ -65,18 +65,18 @@ heard_at server place happened =
       halt = happened.halt;
     }
 
--- A station without a connection says SABM: it gets the lowest free place, or DM with F = P where none is free (AX.25 2.0,
+-- A station without a connection says SABM with this P bit: it gets the lowest free place, or DM with F = P where none is free (AX.25 2.0,
 -- 2.4.3.1).
-abbrev pub called_by : Server → FrameValue → ℕ → Option ℕ → Server
-called_by server frame moment None = refusing server frame.src frame.poll
-called_by server frame moment (Some place) =
-    with_slot server place (connected (answering server.me frame.src frame.poll moment))
+abbrev pub called_by : Server → CallSign → Bool → ℕ → Option ℕ → Server
+called_by server caller poll moment None = refusing server caller poll
+called_by server caller poll moment (Some place) =
+    with_slot server place (connected (answering server.me caller poll moment))
 
 -- A frame of a station without a connection: SABM calls; any other command with P = 1 gets DM with F = 1, and the rest is
 -- passed over (AX.25 2.0, 2.4.3.4).
 abbrev pub hearing_stranger : Server → FrameValue → ℕ → Server
 hearing_stranger server frame moment =
-    if is_call frame.kind.control then called_by server frame moment (first_empty server.slots)
+    if is_call frame.kind.control then called_by server frame.src frame.poll moment (first_empty server.slots)
     else if frame.command && frame.poll then refusing server frame.src true
     else server
 

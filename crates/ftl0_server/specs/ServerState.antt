@@ -1,5 +1,6 @@
 -- A server as contracts see it, and which of the definitions' servers it stands for.
-use Rattle.std.specs.Prelude.{◌≡◌, ℕ, ◌+◌, List, [], ◌∷◌, Bool, true, false, ◌||◌, Option, ⊤}
+use Rattle.std.specs.Prelude.{◌≡◌, ℕ, ◌+◌, List, [], ◌∷◌, Bool, true, false, not, ◌||◌, Option, ⊤}
+use Rattle.std.specs.List.{count_by, list_any}
 use Rattle.px_base.specs.CallSign.{CallSign}
 use Rattle.ax25_link.specs.Kept.{StandsFor, count_of, is_pending, is_there, most_pending}
 use Rattle.ax25_link.specs.Window.{Window, window_of}
@@ -73,8 +74,7 @@ place_pending (Talking connection) = is_pending connection.link
 place_pending (Leaving link) = is_pending link
 
 abbrev pub any_pending : List Place → Bool
-any_pending [] = false
-any_pending (place ∷ places) = place_pending place || any_pending places
+any_pending places = list_any place_pending places
 
 abbrev pub server_pending : ServerState → Bool
 server_pending self = is_there self.stray || any_pending self.places
@@ -106,7 +106,4 @@ has_caller caller (Leaving link) = false
 
 -- how many sessions are up
 abbrev pub sessions_in : List Place → ℕ
-sessions_in [] = 0
-sessions_in (Free ∷ places) = sessions_in places
-sessions_in (Talking connection ∷ places) = 1 + sessions_in places
-sessions_in (Leaving link ∷ places) = sessions_in places
+sessions_in places = count_by (λ place. not (is_empty_place place)) places

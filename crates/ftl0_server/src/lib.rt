@@ -4,8 +4,9 @@
 
 pub mod laws;
 mod place;
+mod places;
 mod server;
 mod stray;
 
-pub use ftl0_session::ServerStop;
+pub use ftl0_session::{Replies, ServerStop, Session};
 pub use server::{PLACES, Server};

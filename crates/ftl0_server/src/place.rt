@@ -1,14 +1,29 @@
 //! A place of a server.
 
-ghost use Rattle.std.specs.Prelude.{◌≡◌, ◌<◌, ◌↔◌, ◌→◌, IsTrue, false, true};
+ghost use Rattle.std.specs.Prelude.{◌≡◌, ◌<◌, false, true, None, IsErrOf};
+ghost use Rattle.ax25_frames.specs.Values.{value_of};
+ghost use Rattle.ax25_link.specs.Kept.{Fits};
 ghost use Rattle.ax25_link.specs.Window.{Window};
+ghost use Rattle.file_entries.specs.Kept.{KeepsComplete};
+ghost use Rattle.file_journal.specs.Calls.{Leaves, Puts};
+ghost use Rattle.file_store.specs.OnDisk.{MakesFirst};
+ghost use Rattle.file_store.specs.State.{StandsOn, store_in};
+ghost use Rattle.ftl0_connection.specs.Connected.{Connected};
+ghost use Rattle.ftl0_connection.specs.Hearing.{hearing};
+ghost use Rattle.ftl0_server.specs.AtPlace.{HasEnded, HasLeft, IsPlace, MayEnd, MayHear, MayLeave, MayTick, PlaceHears, Works};
+ghost use Rattle.ftl0_server.specs.Slots.{Slot, connected, slot_ticking};
 ghost use Rattle.ftl0_server.specs.Places.{PlaceGives, SamePlace};
 ghost use Rattle.ftl0_server.specs.ServerState.{has_caller, is_empty_place, place_most, place_pending};
 
 use arrayvec::ArrayVec;
+use ax25_frames::Frame;
 use ax25_link::Link;
-use ftl0_connection::Connection;
+use disk_model::Disk;
+use file_store::FileStore;
+use ftl0_connection::{Connection, Fate};
+use ftl0_session::ServerStop;
 use px_base::Call;
+use std::mem;
 
 /// A place of a server.
 pub(crate) enum Place {
@@ -65,6 +80,99 @@ impl Place {
             Place::Free => false,
             Place::Talking(connection) => connection.next_out(out),
             Place::Leaving(link) => link.next_out(out),
+        }
+    }
+
+    /// Hears a frame of the caller whose connection it has, at this moment: as [`Connection::hear`], but that where the
+    /// session is over its upload is parked, and its link kept for what it has to send.
+    pub(crate) fn hear<D: Disk>(
+        &mut self,
+        disk: &mut D,
+        store: &mut FileStore,
+        frame: &Frame<'_>,
+        moment: u32,
+    ) -> Result<(), ServerStop>
+        requires may { MayHear store.old (value_of frame.now) self.old }
+        requires healthy { store.old.journal.failed ≡ false }
+        requires stands_on { StandsOn D.Disk store.old disk.old }
+        ensures hears { (w : Window) (c : Connected) → IsPlace w store.old self.old (connected c) →
+            PlaceHears D.Disk w (hearing w moment (store_in store.old) c (value_of frame.now))
+            store.old store.new disk.old disk.new self.new result }
+        ensures since { (w : Window) (c : Connected) → IsPlace w store.old self.old (connected c) →
+            Leaves D.Disk disk.old disk.new (λ _. MakesFirst (store_in store.old)
+            (hearing w moment (store_in store.old) c (value_of frame.now) None).done) }
+        ensures puts { Puts D.Disk (IsErrOf result ServerStop.Disk) disk.old disk.new }
+        ensures kept { KeepsComplete (store_in store.old) (store_in store.new) }
+        ensures works { Works store.old store.new self.old self.new }
+        ensures healthy { ¬ IsErrOf result ServerStop.Disk → store.new.journal.failed ≡ false }
+        ensures stands_on { StandsOn D.Disk store.new disk.new }
+    {
+        match self {
+            Place::Talking(connection) => {
+                let (fate, heard) = connection.hear(disk, store, frame, moment);
+                if let Fate::Ends = fate {
+                    self.leave(store);
+                }
+                heard
+            }
+            Place::Free | Place::Leaving(_) => unreachable!(),
+        }
+    }
+
+    /// Counts a tick: where the caller doesn't answer any more the session is over, and its upload parked.
+    pub(crate) fn tick(&mut self, store: &mut FileStore)
+        requires { MayTick store.old self.old }
+        ensures ticks { (w : Window) (slot : Slot) → IsPlace w store.old self.old slot →
+            IsPlace w store.new self.new (slot_ticking slot) }
+        ensures works { Works store.old store.new self.old self.new }
+        ensures store { store_in store.new ≡ store_in store.old }
+        ensures journal { store.new.journal ≡ store.old.journal }
+    {
+        match self {
+            Place::Talking(connection) => {
+                if let Fate::Ends = connection.tick() {
+                    self.leave(store);
+                }
+            }
+            Place::Free | Place::Leaving(_) => {}
+        }
+    }
+
+    /// Puts this in its place, which has no session.
+    pub(crate) fn put(&mut self, place: Place)
+        requires { is_empty_place self.old ≡ true }
+        ensures { self.new ≡ place }
+    {
+        match mem::replace(self, place) {
+            Place::Free | Place::Leaving(_) => {}
+            Place::Talking(_connection) => unreachable!(),
+        }
+    }
+
+    /// Ends its session, if it has one, and parks its upload.
+    pub(crate) fn end(self, store: &mut FileStore)
+        requires { MayEnd store.old self }
+        ensures { HasEnded store.old store.new self }
+    {
+        match self {
+            Place::Talking(connection) => {
+                let _link = connection.end(store);
+            }
+            Place::Free | Place::Leaving(_) => {}
+        }
+    }
+
+    /// Ends its session, parks its upload, and keeps the link for what it has to send.
+    fn leave(&mut self, store: &mut FileStore)
+        requires { MayLeave store.old self.old }
+        ensures { HasLeft store.old store.new self.old self.new }
+    {
+        match mem::replace(self, Place::Free) {
+            Place::Talking(connection) => {
+                let link = connection.end(store);
+                self.put(Place::Leaving(link));
+            }
+            Place::Free | Place::Leaving(_) => unreachable!(),
         }
     }
 }

@@ -1,32 +1,40 @@
 //! The server.
 
-ghost use Rattle.std.specs.Prelude.{◌≡◌, ◌<◌, ◌≤◌, ℕ, false, true, IfOk, IsErrOf, Ok};
+ghost use Rattle.std.specs.Prelude.{◌≡◌, ◌<◌, ◌≤◌, ℕ, false, true, IfOk, IsErrOf, None, Ok, OnOk, Some};
+ghost use Rattle.std.specs.List.{position};
 ghost use Rattle.ax25_frames.specs.Kinds.{FitsControl};
-ghost use Rattle.ax25_frames.specs.Values.{value_of};
+ghost use Rattle.ax25_frames.specs.Values.{kind_value, value_of};
+ghost use Rattle.ax25_link.specs.Rows.{is_call};
 ghost use Rattle.ax25_link.specs.Window.{IsGoodK, window_of};
 ghost use Rattle.file_entries.specs.Kept.{KeepsComplete};
 ghost use Rattle.file_entries.specs.IsStore.{IsStore};
-ghost use Rattle.file_journal.specs.Calls.{Leaves, Puts, Runs};
+ghost use Rattle.file_entries.specs.Records.{store_magic};
+ghost use Rattle.file_journal.specs.Calls.{Becomes, Leaves, Puts, Runs, TakesStep};
+ghost use Rattle.file_journal.specs.Journal.{after_recovery};
 ghost use Rattle.file_store.specs.Recovery.{IsRecovered, LeavesAlikeSinceSync, RefusesRecovery, StandsAlike};
 ghost use Rattle.file_store.specs.State.{StandsOn, store_in};
-ghost use Rattle.node_events.specs.Events.{IsFor};
-ghost use Rattle.ftl0_server.specs.Calls.{HandsOutNext, Hears, SameButLinks};
-ghost use Rattle.ftl0_server.specs.Server.{Server as ServerValue, new_server, server_hearing, server_ticking, settled};
-ghost use Rattle.ftl0_server.specs.ServerState.{IsServer, SendsFor, server_most, server_pending, sessions_in};
+ghost use Rattle.node_events.specs.Events.{IsFor, ticks};
+ghost use Rattle.ftl0_server.specs.ServerStep.{happening};
+ghost use Rattle.ftl0_server.specs.Calls.{HandsOutNext, Hears, HearsStranger, IsNew, SameButLinks, Seats};
+ghost use Rattle.ftl0_server.specs.Server.{Server as ServerValue, called_by, hearing_stranger, new_server, refusing};
+ghost use Rattle.ftl0_server.specs.Server.{server_hearing, server_ticking, settled};
+ghost use Rattle.ftl0_server.specs.ServerState.{IsServer, SendsFor, has_caller, is_empty_place, server_most};
+ghost use Rattle.ftl0_server.specs.ServerState.{server_pending, sessions_in};
+ghost use Rattle.ftl0_server.specs.Slots.{first_empty};
 
 use crate::place::Place;
+use crate::places::{any_is_pending, count_sessions, empty_place, end_all, next_of, place_of, tick_all};
 use crate::stray::Stray;
 use arrayvec::ArrayVec;
 use ax25_frames::{Frame, Kind};
 use disk_model::Disk;
 use file_store::laws::state_law;
 use file_store::{FileStore, Limits, StoreFault};
-use ftl0_connection::{Connection, Fate};
+use ftl0_connection::Connection;
 use ftl0_session::ServerStop;
 use px_base::{Call, OutOfMemory};
 use std::alloc::Global;
 use std::marker::Model;
-use std::mem;
 
 /// How many sessions may be up at a time.
 pub const PLACES: usize = 8;
@@ -87,6 +95,8 @@ impl Server {
         ensures runs { Runs D.Disk (IsErrOf result StoreFault.Disk) disk.old disk.new }
         ensures since_start { Leaves D.Disk disk.old disk.new (StandsAlike limits.blocks) }
         ensures since_sync { LeavesAlikeSinceSync D.Disk limits.blocks result disk.old disk.new }
+        ensures octets { OnOk result
+            (TakesStep D.Disk disk.old disk.new (Becomes (after_recovery store_magic limits.blocks))) }
     {
         let store = FileStore::recover(alloc, disk, limits)?;
         state_law(&store);
@@ -141,7 +151,7 @@ impl Server {
         ensures stands_on { StandsOn D.Disk self.new.store disk.new }
         ensures me { self.new.me ≡ self.old.me }
     {
-        match self.place_of(frame.src) {
+        match place_of(&self.places, frame.src) {
             Some(place) => self.hear_at(place, disk, frame, moment),
             None => self.hear_stranger(frame, moment),
         }
@@ -150,22 +160,25 @@ impl Server {
     /// Counts a tick on each link, while nothing is pending (AX.25 2.0, 2.4.7): a session is over whose caller doesn't answer
     /// any more. So far a tick has nothing to do on the disk, and its moment makes no difference. It costs the eight places.
     /// Takes no memory.
-    pub fn tick<D: Disk>(&mut self, disk: &mut D, moment: u32) -> Result<(), ServerStop>
+    pub fn tick<D: Disk>(&mut self, _disk: &mut D, _moment: u32) -> Result<(), ServerStop>
         requires silent { server_pending self.old ≡ false }
         requires healthy { self.old.store.journal.failed ≡ false }
-        requires stands_on { StandsOn D.Disk self.old.store disk.old }
+        requires stands_on { StandsOn D.Disk self.old.store _disk.old }
         ensures ok { result ≡ Ok tt }
+
+        // What a power cut inside it leaves, said as of a frame.
+        ensures happens { (server : ServerValue) → IsServer self.old server →
+            Hears D.Disk (happening server (ticks _moment)) self.old self.new _disk.old _disk.new result }
+        ensures puts { Puts D.Disk (IsErrOf result ServerStop.Disk) _disk.old _disk.new }
+        ensures kept { KeepsComplete (store_in self.old.store) (store_in self.new.store) }
         ensures ticks { (server : ServerValue) → IsServer self.old server → IsServer self.new (server_ticking server) }
-        ensures untouched { disk.new ≡ disk.old }
+        ensures untouched { _disk.new ≡ _disk.old }
         ensures healthy { self.new.store.journal.failed ≡ false }
-        ensures stands_on { StandsOn D.Disk self.new.store disk.new }
+        ensures stands_on { StandsOn D.Disk self.new.store _disk.new }
         ensures store { store_in self.new.store ≡ store_in self.old.store }
         ensures me { self.new.me ≡ self.old.me }
     {
-        let _ = (disk, moment);
-        for place in 0..PLACES {
-            self.tick_at(place);
-        }
+        tick_all(&mut self.places, &mut self.store);
         Ok(())
     }
 
@@ -188,26 +201,21 @@ impl Server {
             self.stray = None;
             return true;
         }
-        for place in self.places.iter_mut() {
-            if place.next_out(out) {
-                return true;
-            }
-        }
-        false
+        next_of(&mut self.places, out)
     }
 
     /// Whether a frame is to be given out. Takes no memory.
     pub fn pending(&self) -> bool
         ensures { result ≡ server_pending self.now }
     {
-        self.stray.is_some() || self.places.iter().any(|place| place.pending())
+        self.stray.is_some() || any_is_pending(&self.places)
     }
 
     /// How many sessions are up. Takes no memory.
     pub fn sessions(&self) -> usize
         ensures { result ≡ sessions_in self.now.places }
     {
-        self.places.iter().filter(|place| !place.is_empty()).count()
+        count_sessions(&self.places)
     }
 
     /// Ends all sessions, and parks their uploads: what is held stays on the disk, which isn't touched. Takes no memory.
@@ -218,33 +226,10 @@ impl Server {
             k: _,
             places,
             stray: _,
-            mut store,
+            store,
         } = self;
-        let [first, second, third, fourth, fifth, sixth, seventh, eighth] = places;
-        end_place(first, &mut store);
-        end_place(second, &mut store);
-        end_place(third, &mut store);
-        end_place(fourth, &mut store);
-        end_place(fifth, &mut store);
-        end_place(sixth, &mut store);
-        end_place(seventh, &mut store);
-        end_place(eighth, &mut store);
-    }
-
-    /// The place of this caller's connection, if it has one.
-    fn place_of(&self, caller: Call) -> Option<usize>
-        ensures { FindsCaller self.now.places caller result }
-    {
-        self.places
-            .iter()
-            .position(|place| place.has_caller(caller))
-    }
-
-    /// The lowest free place, if there is one.
-    fn empty_place(&self) -> Option<usize>
-        ensures { FindsEmpty self.now.places result }
-    {
-        self.places.iter().position(|place| place.is_empty())
+        let mut store = store;
+        end_all(places, &mut store);
     }
 
     /// Hears a frame of the caller whose connection is at this place.
@@ -255,7 +240,7 @@ impl Server {
         frame: &Frame<'_>,
         moment: u32,
     ) -> Result<(), ServerStop>
-        requires place { FindsCaller self.old.places (value_of frame.now).src (Some place) }
+        requires place { position (has_caller (value_of frame.now).src) self.old.places ≡ Some place }
         requires frame { IsFor self.old.me (value_of frame.now) }
         requires numbers { FitsControl (value_of frame.now).kind.control }
         requires silent { server_pending self.old ≡ false }
@@ -269,45 +254,42 @@ impl Server {
         ensures stands_on { StandsOn D.Disk self.new.store disk.new }
         ensures me { self.new.me ≡ self.old.me }
     {
-        let (fate, heard) = match &mut self.places[place] {
-            Place::Talking(connection) => {
-                connection.hear(disk, &mut self.store, frame, moment)
-            }
-            Place::Free | Place::Leaving(_) => (Fate::Stays, Ok(())),
-        };
-        if let Fate::Ends = fate {
-            self.leave(place);
-        }
-        heard
+        let places = &mut self.places;
+        let at = &mut places[place];
+        at.hear(disk, &mut self.store, frame, moment)
     }
 
     /// Hears a frame of a station without a connection (AX.25 2.0, 2.4.3).
-    fn hear_stranger(&mut self, frame: &Frame<'_>, moment: u32) -> Result<(), ServerStop> {
-        match frame.kind {
-            Kind::Sabm => self.answer(frame, moment),
-            _ if frame.command && frame.poll => {
-                self.refuse(frame);
-                Ok(())
-            }
-            _ => Ok(()),
+    fn hear_stranger(&mut self, frame: &Frame<'_>, moment: u32) -> Result<(), ServerStop>
+        requires { position (has_caller (value_of frame.now).src) self.old.places ≡ None }
+        ensures heard { HearsStranger (λ server. hearing_stranger server (value_of frame.now) moment)
+            self.old self.new result }
+        ensures store { self.new.store ≡ self.old.store }
+        ensures me { self.new.me ≡ self.old.me }
+    {
+        if is_sabm(&frame.kind) {
+            return self.answer(frame.src, frame.poll, moment);
         }
+        if frame.command && frame.poll {
+            self.refuse(frame.src, true);
+        }
+        Ok(())
     }
 
-    /// Answers a SABM of a station without a connection: by a session at the lowest free place, or by DM where none is free.
-    fn answer(&mut self, frame: &Frame<'_>, moment: u32) -> Result<(), ServerStop> {
-        let Some(place) = self.empty_place() else {
-            self.refuse(frame);
+    /// Answers a SABM with this P bit of a station without a connection: by a session at the lowest free place, or by DM
+    /// where none is free (AX.25 2.0, 2.4.3.1).
+    fn answer(&mut self, caller: Call, poll: bool, moment: u32) -> Result<(), ServerStop>
+        requires { position (has_caller caller) self.old.places ≡ None }
+        ensures heard { HearsStranger (λ server. called_by server caller poll moment (first_empty server.slots))
+            self.old self.new result }
+        ensures store { self.new.store ≡ self.old.store }
+        ensures me { self.new.me ≡ self.old.me }
+    {
+        let Some(place) = empty_place(&self.places) else {
+            self.refuse(caller, poll);
             return Ok(());
         };
-        let connection = Connection::answer(
-            self.alloc,
-            self.me,
-            frame.src,
-            self.k,
-            frame.poll,
-            moment,
-        );
-        match connection {
+        match Connection::answer(self.alloc, self.me, caller, self.k, poll, moment) {
             Ok(connection) => {
                 self.seat(place, connection);
                 Ok(())
@@ -316,55 +298,34 @@ impl Server {
         }
     }
 
-    /// The DM to the sender of this frame is to be given out, with F = P.
-    fn refuse(&mut self, frame: &Frame<'_>) {
-        self.stray = Some(Stray {
-            to: frame.src,
-            poll: frame.poll,
-        });
+    /// The DM to this station is to be given out, with this F bit.
+    fn refuse(&mut self, to: Call, poll: bool)
+        ensures refuses { (server : ServerValue) → IsServer self.old server →
+            IsServer self.new (refusing server to poll) }
+        ensures store { self.new.store ≡ self.old.store }
+        ensures me { self.new.me ≡ self.old.me }
+    {
+        self.stray = Some(Stray { to, poll });
     }
 
-    /// Seats a connection at this place, which has no session.
-    fn seat(&mut self, place: usize, connection: Connection) {
-        match mem::replace(&mut self.places[place], Place::Talking(connection)) {
-            Place::Free | Place::Leaving(_) => {}
-            Place::Talking(_connection) => unreachable!(),
-        }
-    }
-
-    /// Ends the session at this place, which parks its upload, and keeps its link for what it has to send.
-    fn leave(&mut self, place: usize) {
-        match mem::replace(&mut self.places[place], Place::Free) {
-            Place::Talking(connection) => {
-                let link = connection.end(&mut self.store);
-                match mem::replace(&mut self.places[place], Place::Leaving(link)) {
-                    Place::Free | Place::Leaving(_) => {}
-                    Place::Talking(_connection) => unreachable!(),
-                }
-            }
-            Place::Free => {}
-            Place::Leaving(_link) => {}
-        }
-    }
-
-    /// Counts a tick at this place.
-    fn tick_at(&mut self, place: usize) {
-        let fate = match &mut self.places[place] {
-            Place::Talking(connection) => connection.tick(),
-            Place::Free | Place::Leaving(_) => Fate::Stays,
-        };
-        if let Fate::Ends = fate {
-            self.leave(place);
-        }
+    /// Seats a connection at this place, which has no session, of a caller that has none.
+    fn seat(&mut self, place: usize, connection: Connection)
+        requires empty { position is_empty_place self.old.places ≡ Some place }
+        requires stranger { position (has_caller connection.session.caller) self.old.places ≡ None }
+        requires new { IsNew self.old connection }
+        ensures seats { Seats place connection self.old self.new }
+        ensures store { self.new.store ≡ self.old.store }
+        ensures me { self.new.me ≡ self.old.me }
+    {
+        let places = &mut self.places;
+        let at = &mut places[place];
+        at.put(Place::Talking(connection));
     }
 }
 
-/// Ends the session of a place, if it has one, which parks its upload.
-fn end_place(place: Place, store: &mut FileStore) {
-    match place {
-        Place::Talking(connection) => {
-            let _link = connection.end(store);
-        }
-        Place::Free | Place::Leaving(_) => {}
-    }
+/// Whether it is SABM.
+fn is_sabm(kind: &Kind<'_>) -> bool
+    ensures { result ≡ is_call (kind_value kind.now).control }
+{
+    matches!(kind, Kind::Sabm)
 }

@@ -1,0 +1,99 @@
+-- Facts of each place of a server and the slot at it.
+use Rattle.std.proofs.Common.{◌≡◌, ◌≢◌, ℕ, zero, suc, ◌+◌, List, [], ◌∷◌, length, set, map, Bool, true, false, not, cond, nat_lt, Option, None, Some, refl, sym, ◌∙◌, ap, subst}
+use Rattle.std.specs.Prelude.{slice_get}
+use Rattle.std.specs.List.{position, prefix_len}
+use Rattle.std.proofs.lemmas.Option.{same_Some}
+use Rattle.ftl0_server.specs.declared.place.Place.{Place}
+use Rattle.ftl0_server.specs.ServerState.{AllPlaces}
+use Rattle.ftl0_server.specs.Slots.{Slot}
+
+pub never : {X : Type 0} (x : X) → None ≡ Some x → ⊥
+never x same = cc
+
+suc_no : (j : ℕ) → suc j ≡ 0 → ⊥
+suc_no j same = cc
+
+suc_same : (j i : ℕ) → suc j ≡ suc i → j ≡ i
+suc_same j i same = cc
+
+module _ (P : Place → Slot → Type 0) where
+  -- what holds of the place at an index and its slot
+  pub all-get : (places : List Place) (slots : List Slot) (i : ℕ) (place : Place) → AllPlaces P places slots → slice_get places i ≡ Some place
+      → (slot : Slot) × (slice_get slots i ≡ Some slot) × P place slot
+  all-get [] slots i place all at = absurd (never place at)
+  all-get (p ∷ ps) [] i place all at = absurd all
+  all-get (p ∷ ps) (s ∷ ss) zero place all at = (s, refl, subst (λ (x : Place). P x s) (same_Some p place at) all.0)
+  all-get (p ∷ ps) (s ∷ ss) (suc i) place all at = all-get ps ss i place all.1 at
+
+  pub all-set : (places : List Place) (slots : List Slot) (i : ℕ) (place : Place) (slot : Slot) → AllPlaces P places slots → P place slot
+      → AllPlaces P (set places i place) (set slots i slot)
+  all-set [] [] i place slot all one = tt
+  all-set [] (s ∷ ss) i place slot all one = absurd all
+  all-set (p ∷ ps) [] i place slot all one = absurd all
+  all-set (p ∷ ps) (s ∷ ss) zero place slot all one = (one, all.1)
+  all-set (p ∷ ps) (s ∷ ss) (suc i) place slot all one = (all.0, all-set ps ss i place slot all.1 one)
+
+  pub all-length : (places : List Place) (slots : List Slot) → AllPlaces P places slots → length places ≡ length slots
+  all-length [] [] all = refl
+  all-length [] (s ∷ ss) all = absurd all
+  all-length (p ∷ ps) [] all = absurd all
+  all-length (p ∷ ps) (s ∷ ss) all = ap suc (all-length ps ss all.1)
+
+  -- the same fact of the slots that they become
+  pub all-map : (change : Slot → Slot) (places : List Place) (slots : List Slot)
+      → AllPlaces (λ place slot. P place (change slot)) places slots → AllPlaces P places (map change slots)
+  all-map change [] [] all = tt
+  all-map change [] (s ∷ ss) all = absurd all
+  all-map change (p ∷ ps) [] all = absurd all
+  all-map change (p ∷ ps) (s ∷ ss) all = (all.0, all-map change ps ss all.1)
+
+  module _ (Q : Place → Slot → Type 0) where
+    -- one fact gives another at each index
+    pub all-to : (places : List Place) (slots : List Slot)
+        → ((i : ℕ) (place : Place) (slot : Slot) → slice_get places i ≡ Some place → slice_get slots i ≡ Some slot → P place slot → Q place slot)
+        → AllPlaces P places slots → AllPlaces Q places slots
+    all-to [] [] to all = tt
+    all-to [] (s ∷ ss) to all = absurd all
+    all-to (p ∷ ps) [] to all = absurd all
+    all-to (p ∷ ps) (s ∷ ss) to all = (to 0 p s refl refl all.0, all-to ps ss (λ i place slot at it. to (suc i) place slot at it) all.1)
+
+    pub all-both : (places : List Place) (slots : List Slot) → AllPlaces P places slots → AllPlaces Q places slots
+        → AllPlaces (λ place slot. P place slot × Q place slot) places slots
+    all-both [] [] one other = tt
+    all-both [] (s ∷ ss) one other = absurd one
+    all-both (p ∷ ps) [] one other = absurd one
+    all-both (p ∷ ps) (s ∷ ss) one other = ((one.0, other.0), all-both ps ss one.1 other.1)
+
+-- Another fact holds of each pair: at one index of these, and elsewhere by the one that held.
+pub all-set-to : (P Q : Place → Slot → Type 0) (places : List Place) (slots : List Slot) (i : ℕ) (place : Place) (slot : Slot)
+    → ((j : ℕ) (p : Place) (s : Slot) → j ≢ i → slice_get places j ≡ Some p → slice_get slots j ≡ Some s → P p s → Q p s)
+    → AllPlaces P places slots → Q place slot → AllPlaces Q (set places i place) (set slots i slot)
+all-set-to P Q [] [] i place slot to all one = tt
+all-set-to P Q [] (s ∷ ss) i place slot to all one = absurd all
+all-set-to P Q (p ∷ ps) [] i place slot to all one = absurd all
+all-set-to P Q (p ∷ ps) (s ∷ ss) zero place slot to all one =
+    (one, all-to P Q ps ss (λ j x y at it. to (suc j) x y (λ same. suc_no j same) at it) all.1)
+all-set-to P Q (p ∷ ps) (s ∷ ss) (suc i) place slot to all one = (
+  to 0 p s (λ same. suc_no i (sym same)) refl refl all.0,
+  all-set-to P Q ps ss i place slot (λ j x y ne at it. to (suc j) x y (λ same. ne (suc_same j i same)) at it) all.1 one,
+)
+
+-- the first place that passes is the first slot that does
+module _ (p : Place → Bool) (q : Slot → Bool) where
+  same-front : (places : List Place) (slots : List Slot) → AllPlaces (λ place slot. p place ≡ q slot) places slots
+      → prefix_len (λ (x : Place). not (p x)) places ≡ prefix_len (λ (x : Slot). not (q x)) slots
+  same-front [] [] all = refl
+  same-front [] (s ∷ ss) all = absurd all
+  same-front (x ∷ xs) [] all = absurd all
+  same-front (x ∷ xs) (s ∷ ss) all =
+      let later = same-front xs ss all.1 in
+      let F : Bool → ℕ → ℕ = λ b n. cond (not b) (1 + n) 0 in
+      ap (λ (b : Bool). F b (prefix_len (λ (y : Place). not (p y)) xs)) all.0 ∙ ap (λ (n : ℕ). F (q s) n) later
+
+  pub same-position : (places : List Place) (slots : List Slot) → AllPlaces (λ place slot. p place ≡ q slot) places slots
+      → position p places ≡ position q slots
+  same-position places slots all =
+      let front = same-front places slots all in
+      let size = all-length (λ place slot. p place ≡ q slot) places slots all in
+      let F : ℕ → ℕ → Option ℕ = λ n m. cond (nat_lt n m) (Some n) None in
+      ap (λ (n : ℕ). F n (length places)) front ∙ ap (λ (m : ℕ). F (prefix_len (λ (x : Slot). not (q x)) slots) m) size

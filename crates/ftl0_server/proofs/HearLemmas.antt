@@ -1,0 +1,252 @@
+-- What a frame makes of a server, by what it makes of one place.
+use Rattle.std.proofs.Common.{◌≡◌, ◌≢◌, ℕ, zero, suc, ◌<◌, List, [], ◌∷◌, length, get_or, set, Bool, true, false, Option, None, Some, refl, sym, ◌∙◌, ap, subst, inl, inr}
+use Rattle.std.specs.Prelude.{slice_get, ⊤, Result, Ok, Err}
+use Rattle.std.specs.List.{position}
+use Rattle.std.proofs.lemmas.List.Quantifiers.{position-Some}
+use Rattle.std.proofs.lemmas.Option.{same_Some, slice_get-get_or}
+use Rattle.px_base.specs.CallSign.{CallSign}
+use Rattle.disk_model.specs.declared.disk.Disk.{Ghosts}
+use Rattle.ax25_frames.specs.FrameText.{FrameValue}
+use Rattle.ax25_frames.specs.Kinds.{FitsControl}
+use Rattle.ax25_link.specs.Kept.{IsFromPeer, Kept, is_pending}
+use Rattle.ax25_link.specs.Window.{Window, window_of}
+use Rattle.file_entries.specs.Command.{Command, after_all}
+use Rattle.file_entries.specs.Store.{Store}
+use Rattle.file_journal.specs.Calls.{Leaves}
+use Rattle.file_store.specs.OnDisk.{Does, MakesFirst}
+use Rattle.file_store.specs.State.{StandsOn, StoreState, store_in}
+use Rattle.file_store.proofs.DoesLemmas.{Does-none}
+use Rattle.ftl0_session.specs.Session.{is_same_call}
+use Rattle.ftl0_session.specs.declared.stop.ServerStop.{ServerStop}
+use Rattle.ftl0_session.specs.declared.stop.ServerStop.TheVariants as stop
+use Rattle.ftl0_session.proofs.UploadRows.{same_call-decides}
+use Rattle.ftl0_connection.specs.Connected.{Connected}
+use Rattle.ftl0_connection.specs.ConnectionState.{ConnectionState}
+use Rattle.ftl0_connection.specs.Hearing.{Happened, hearing}
+use Rattle.node_events.specs.Events.{IsFor}
+use Rattle.ftl0_server.specs.AtPlace.{IsPlace, MayHear, PlaceHears, Works}
+use Rattle.ftl0_server.specs.Calls.{Hears, HearsBy, HearsStranger}
+use Rattle.ftl0_server.specs.declared.place.Place.{Place}
+use Rattle.ftl0_server.specs.declared.place.Place.TheVariants.{Free, Talking, Leaving}
+use Rattle.ftl0_server.specs.Kept.{IsAt, IsSettled}
+use Rattle.ftl0_server.specs.Server.{Server, ServerHappened, becoming, heard_at, hearing_at, hearing_by, hearing_stranger, server_hearing}
+use Rattle.ftl0_server.specs.ServerState.{AllPlaces, IsServer, SaysAs, SendsAs, SendsFor, ServerState, any_pending, has_caller, is_empty_place, place_pending}
+use Rattle.ftl0_server.specs.Slots.{Slot, connected, first_empty, free, is_callers, is_empty, leaving, place_of, slot_after}
+use Rattle.ftl0_server.proofs.AllPlaces.{all-both, all-get, all-set, all-to, never, same-position}
+use Rattle.ftl0_server.proofs.NextLemmas.{none_first}
+use Rattle.ftl0_server.proofs.TickLemmas.{all-works, own-only}
+
+false_no : {X : Type 0} → false ≡ true → X
+false_no same = absurd (let x : ⊥ = cc in x)
+
+-- ---- whose connection it is
+
+talks : (caller : CallSign) (p : Place) → has_caller caller p ≡ true → (c : ConnectionState) × (p ≡ Talking c) × (c.session.caller ≡ caller)
+talks caller Free is = false_no is
+talks caller (Talking c) is = (c, refl, (same_call-decides c.session.caller caller).0 is)
+talks caller (Leaving link) is = false_no is
+
+-- the place that was found
+pub found-within : (p : Place → Bool) (places : List Place) (i : ℕ) → position p places ≡ Some i → i < length places
+found-within p places i found = (position-Some p places i Free found).0
+
+pub found-passes : (p : Place → Bool) (places : List Place) (i : ℕ) (d : Place) → position p places ≡ Some i → p (get_or places i d) ≡ true
+found-passes p places i d found = (position-Some p places i d found).1
+
+-- the connection of this caller
+pub found-talks : (caller : CallSign) (places : List Place) (i : ℕ) (d : Place) → position (has_caller caller) places ≡ Some i
+    → (c : ConnectionState) × (get_or places i d ≡ Talking c) × (c.session.caller ≡ caller)
+found-talks caller places i d found = talks caller (get_or places i d) (found-passes (has_caller caller) places i d found)
+
+pub found-at : (caller : CallSign) (places : List Place) (i : ℕ) (d : Place) (c : ConnectionState) → position (has_caller caller) places ≡ Some i
+    → get_or places i d ≡ Talking c → IsAt places i c
+found-at caller places i d c found is = slice_get-get_or places i d (found-within (has_caller caller) places i found) ∙ ap (λ (p : Place). Some p) is
+
+-- nothing is pending at any place
+pub quiet-any : (places : List Place) (i : ℕ) (c : ConnectionState) → IsAt places i c → any_pending places ≡ false → is_pending c.link ≡ false
+quiet-any [] i c at none = absurd (never (Talking c) at)
+quiet-any (p ∷ ps) zero c at none =
+    ap (λ (x : Place). place_pending x) (sym (same_Some p (Talking c) at)) ∙ (none_first (place_pending p) (any_pending ps) none).0
+quiet-any (p ∷ ps) (suc i) c at none = quiet-any ps i c at (none_first (place_pending p) (any_pending ps) none).1
+
+-- the sender's connection may hear the frame
+pub may-hear : (me : CallSign) (k : ℕ) (store : StoreState) (places : List Place) (i : ℕ) (d : Place) (frame : FrameValue)
+    → position (has_caller frame.src) places ≡ Some i → IsSettled me k store places → any_pending places ≡ false → IsFor me frame
+    → FitsControl frame.kind.control → MayHear store frame (get_or places i d)
+may-hear me k store places i d frame found settled none is_for numbers =
+    let c = found-talks frame.src places i d found in
+    let at = found-at frame.src places i d c.0 found c.1 in
+    let seated = settled.seated i c.0 at in
+    let may : MayHear store frame (Talking c.0) = (
+      record {
+        quiet = quiet-any places i c.0 at none;
+        up = seated.up;
+        held = seated.held;
+        only = own-only me k store places i c.0 at settled;
+      },
+      record {
+        dest = is_for.dest ∙ sym seated.me_is;
+        src = sym c.2 ∙ sym seated.peer_is;
+        via = is_for.via;
+        numbers = numbers;
+      },
+    ) in
+    subst (λ (p : Place). MayHear store frame p) (sym c.1) may
+
+-- ---- places and slots
+
+module _ (self : ServerState) (server : Server) (is : IsServer self server) where
+  pub all-are : AllPlaces (IsPlace server.window self.store) self.places server.slots
+  all-are = all-both (SendsAs server.window) (SaysAs self.store) self.places server.slots is.sends.links is.says
+
+  same-caller : (caller : CallSign) (p : Place) (s : Slot) → ((c : ConnectionState) → p ≡ Talking c → c.link.peer ≡ c.session.caller)
+      → SendsAs server.window p s → has_caller caller p ≡ is_callers caller s
+  same-caller caller Free free peer sends = refl
+  same-caller caller Free (connected d) peer sends = absurd sends
+  same-caller caller Free (leaving end) peer sends = absurd sends
+  same-caller caller (Talking c) free peer sends = absurd sends
+  same-caller caller (Talking c) (connected d) peer sends =
+      ap (λ (x : CallSign). is_same_call x caller) (sym (peer c refl) ∙ ap (λ (k : Kept). k.peer) sends.kept)
+  same-caller caller (Talking c) (leaving end) peer sends = absurd sends
+  same-caller caller (Leaving link) free peer sends = refl
+  same-caller caller (Leaving link) (connected d) peer sends = absurd sends
+  same-caller caller (Leaving link) (leaving end) peer sends = refl
+
+  -- the caller's place
+  pub same-place_of : (me : CallSign) (k : ℕ) → IsSettled me k self.store self.places → (caller : CallSign)
+      → position (has_caller caller) self.places ≡ place_of caller server.slots
+  same-place_of me k settled caller =
+      same-position (has_caller caller) (is_callers caller) self.places server.slots
+      (all-to (SendsAs server.window) (λ p s. has_caller caller p ≡ is_callers caller s) self.places server.slots
+      (λ i p s at there sends. same-caller caller p s (λ c talks_is. (settled.seated i c (at ∙ ap (λ (x : Place). Some x) talks_is)).peer_is) sends)
+      is.sends.links)
+
+  same-empty : (p : Place) (s : Slot) → SendsAs server.window p s → is_empty_place p ≡ is_empty s
+  same-empty Free free sends = refl
+  same-empty Free (connected d) sends = absurd sends
+  same-empty Free (leaving end) sends = absurd sends
+  same-empty (Talking c) free sends = absurd sends
+  same-empty (Talking c) (connected d) sends = refl
+  same-empty (Talking c) (leaving end) sends = absurd sends
+  same-empty (Leaving link) free sends = refl
+  same-empty (Leaving link) (connected d) sends = absurd sends
+  same-empty (Leaving link) (leaving end) sends = refl
+
+  -- the lowest free place
+  pub same-first_empty : position is_empty_place self.places ≡ first_empty server.slots
+  same-first_empty =
+      same-position is_empty_place is_empty self.places server.slots
+      (all-to (SendsAs server.window) (λ p s. is_empty_place p ≡ is_empty s) self.places server.slots (λ i p s at there sends. same-empty p s sends) is.sends.links)
+
+-- the slot of a connection
+connected-of : (w : Window) (store : StoreState) (c : ConnectionState) (s : Slot) → IsPlace w store (Talking c) s
+    → (d : Connected) × (s ≡ connected d) × IsPlace w store (Talking c) (connected d)
+connected-of w store c free is = absurd is.0
+connected-of w store c (connected d) is = (d, refl, is)
+connected-of w store c (leaving end) is = absurd is.0
+
+-- ---- a frame of a connected caller
+
+module _ {D : Type 0} (g : Ghosts D) (old new : ServerState) (server : Server) (is : IsServer old server)
+    (settled : IsSettled old.me old.k old.store old.places) (frame : FrameValue) (moment : ℕ) (disk disk_now : D) (place : ℕ)
+    (found : position (has_caller frame.src) old.places ≡ Some place) (c : ConnectionState) (at : IsAt old.places place c) (p : Place)
+    (works : Works old.store new.store (Talking c) p) (me : new.me ≡ old.me) (k : new.k ≡ old.k) (stray : new.stray ≡ old.stray)
+    (places : new.places ≡ set old.places place p) where
+  -- the server that stands now, where the place is this one
+  now-sends : (s : Slot) (store : Store) → SendsAs server.window p s → SendsFor new (record server { slots = set server.slots place s; store = store })
+  now-sends s store here = record {
+    me = me ∙ is.sends.me;
+    window = is.sends.window ∙ ap (λ (n : ℕ). window_of n) (sym k);
+    stray = stray ∙ is.sends.stray;
+    links =
+        subst (λ (ps : List Place). AllPlaces (SendsAs server.window) ps (set server.slots place s)) (sym places)
+        (all-set (SendsAs server.window) old.places server.slots place p s is.sends.links here);
+  }
+
+  now-is : (s : Slot) (store : Store) → IsPlace server.window new.store p s → store_in new.store ≡ store
+      → IsServer new (record server { slots = set server.slots place s; store = store })
+  now-is s store here same =
+      let all = all-works server.window old.me old.k old.store new.store old.places server.slots place (Talking c) p s at settled works (all-are old server is) here in
+      record {
+        sends = now-sends s store here.0;
+        says =
+            subst (λ (ps : List Place). AllPlaces (SaysAs new.store) ps (set server.slots place s)) (sym places)
+            (all-to (IsPlace server.window new.store) (SaysAs new.store) (set old.places place p) (set server.slots place s) (λ i q t there it both. both.1) all);
+        store = same;
+      }
+
+  module _ (event : Option ℕ → Happened) where
+    heard-by : (result : Result ⊤ ServerStop) → PlaceHears g server.window event old.store new.store disk disk_now p result
+        → HearsBy g (λ failing. heard_at server place (event failing)) old new disk disk_now result
+    heard-by (Ok done) by = (
+      by.0,
+      now-is (slot_after (event None)) (after_all server.store (event None).done) by.1
+      ((by.2.done (λ never. never)).0 ∙ ap (λ (s : Store). after_all s (event None).done) is.store),
+      by.2,
+    )
+    heard-by (Err stop.Disk) by = (
+      by.0,
+      by.1,
+      now-sends (slot_after (event (Some by.0))) (after_all server.store (event (Some by.0)).done) by.2,
+      by.3,
+    )
+    heard-by (Err (stop.NotBuilt kind)) by = by
+    heard-by (Err stop.OutOfMemory) by = inr by
+
+  -- the slot of the place
+  slot_is : (d : Connected) × (slice_get server.slots place ≡ Some (connected d)) × IsPlace server.window old.store (Talking c) (connected d)
+  slot_is =
+      let got = all-get (IsPlace server.window old.store) old.places server.slots place (Talking c) (all-are old server is) at in
+      let of = connected-of server.window old.store c got.0 got.2 in
+      (of.0, got.1 ∙ ap (λ (s : Slot). Some s) of.1, of.2)
+
+  pub server-hears : (result : Result ⊤ ServerStop)
+      → ((w : Window) (d : Connected) → IsPlace w old.store (Talking c) (connected d)
+      → PlaceHears g w (hearing w moment (store_in old.store) d frame) old.store new.store disk disk_now p result)
+      → ((w : Window) (d : Connected) → IsPlace w old.store (Talking c) (connected d)
+      → Leaves g disk disk_now (λ _. MakesFirst (store_in old.store) (hearing w moment (store_in old.store) d frame None).done))
+      → Hears g (server_hearing server frame moment) old new disk disk_now result
+  server-hears result hears since =
+      let slot = slot_is in
+      let by : Hears g (λ failing. heard_at server place (hearing server.window moment (store_in old.store) slot.0 frame failing)) old new disk disk_now result =
+          record {
+            by = heard-by (hearing server.window moment (store_in old.store) slot.0 frame) result (hears server.window slot.0 slot.2);
+            since = since server.window slot.0 slot.2;
+          } in
+      let over = subst (λ (s : Store). Hears g (λ failing. heard_at server place (hearing server.window moment s slot.0 frame failing)) old new disk disk_now result) is.store by in
+      let at_slot = subst (λ (o : Option Slot). Hears g (λ failing. hearing_at server frame moment failing place o) old new disk disk_now result) (sym slot.1) over in
+      subst (λ (o : Option ℕ). Hears g (λ failing. hearing_by server frame moment failing o) old new disk disk_now result)
+      (sym found ∙ same-place_of old server is old.me old.k settled frame.src) at_slot
+
+-- ---- a frame of a station without a connection
+
+module _ {D : Type 0} (g : Ghosts D) (old new : ServerState) (server : Server) (is : IsServer old server)
+    (settled : IsSettled old.me old.k old.store old.places) (frame : FrameValue) (moment : ℕ) (disk : D)
+    (found : position (has_caller frame.src) old.places ≡ None) (healthy : old.store.journal.failed ≡ false)
+    (stands : StandsOn g old.store disk) (lasts : g.lasts disk disk) (same : new.store ≡ old.store) where
+  nothing-done : Does g ⊥ old.store new.store disk disk []
+  nothing-done =
+      subst (λ (s : StoreState). Does g ⊥ old.store s disk disk []) (sym same) (Does-none g ⊥ old.store disk (λ never. never) stands healthy lasts)
+
+  stranger-by : (result : Result ⊤ ServerStop) → HearsStranger (λ s. hearing_stranger s frame moment) old new result
+      → HearsBy g (λ failing. becoming (hearing_stranger server frame moment)) old new disk disk result
+  stranger-by (Ok done) heard = (refl, heard server is, nothing-done)
+  stranger-by (Err stop.Disk) heard = absurd heard
+  stranger-by (Err (stop.NotBuilt kind)) heard = absurd heard
+  stranger-by (Err stop.OutOfMemory) heard = inl nothing-done
+
+  pub stranger-hears : (result : Result ⊤ ServerStop) → HearsStranger (λ s. hearing_stranger s frame moment) old new result
+      → Hears g (server_hearing server frame moment) old new disk disk result
+  stranger-hears result heard =
+      let by : Hears g (λ failing. becoming (hearing_stranger server frame moment)) old new disk disk result =
+          record { by = stranger-by result heard; since = nothing-done.since } in
+      subst (λ (o : Option ℕ). Hears g (λ failing. hearing_by server frame moment failing o) old new disk disk result)
+      (sym found ∙ same-place_of old server is old.me old.k settled frame.src) by
+
+-- what a frame of a station without a connection makes of a server, said otherwise
+pub stranger-at : (step other : Server → Server) (old new : ServerState) (result : Result ⊤ ServerStop) → ((s : Server) → step s ≡ other s)
+    → HearsStranger step old new result → HearsStranger other old new result
+stranger-at step other old new (Ok done) same heard = λ server is. subst (λ (s : Server). IsServer new s) (same server) (heard server is)
+stranger-at step other old new (Err stop.Disk) same heard = heard
+stranger-at step other old new (Err (stop.NotBuilt kind)) same heard = heard
+stranger-at step other old new (Err stop.OutOfMemory) same heard = heard

@@ -1,0 +1,246 @@
+-- What holds of each server stays so, whatever happens at one place.
+use Rattle.std.proofs.Common.{◌≡◌, ◌≢◌, ◌⊎◌, ℕ, zero, suc, ◌<◌, List, [], ◌∷◌, length, set, Bool, true, false, Option, None, Some, refl, sym, ◌∙◌, ap, subst, inl, inr}
+use Rattle.std.specs.Prelude.{slice_get}
+use Rattle.std.proofs.lemmas.Bool.Decides.{eqb_tells}
+use Rattle.std.proofs.lemmas.Option.{same_Some, slice_get_within}
+use Rattle.px_base.specs.CallSign.{CallSign}
+use Rattle.ax25_link.specs.Kept.{Kept}
+use Rattle.ax25_link.proofs.Places.{slice_get-set_other, slice_get-set_same}
+use Rattle.file_entries.specs.Files.{octets_or_none}
+use Rattle.file_entries.specs.Store.{Entry, entry_of, partial}
+use Rattle.file_store.specs.State.{StoreState, rest_in, store_in}
+use Rattle.file_store.specs.Upload.{entry_for}
+use Rattle.ftl0_session.specs.Others.{KeepsOtherCallers}
+use Rattle.ftl0_session.specs.Session.{is_same_call, receiving}
+use Rattle.ftl0_session.specs.SessionState.{NoOtherOut, PhaseIsHeld, number_of, state_of}
+use Rattle.ftl0_session.specs.declared.phase.Phase.{Phase}
+use Rattle.ftl0_session.specs.declared.phase.Phase.TheVariants as phase
+use Rattle.ftl0_session.proofs.UploadRows.{same_call-decides}
+use Rattle.ftl0_connection.specs.ConnectionState.{ConnectionState}
+use Rattle.ftl0_server.specs.AtPlace.{GoesOn, Works}
+use Rattle.ftl0_server.specs.declared.place.Place.{Place}
+use Rattle.ftl0_server.specs.declared.place.Place.TheVariants.{Free, Talking, Leaving}
+use Rattle.ftl0_server.specs.Kept.{IsAt, IsSeated, IsSettled, IsUploadOf}
+use Rattle.ftl0_server.specs.ServerState.{SaysAs}
+use Rattle.ftl0_server.specs.Slots.{Slot, connected, free, leaving}
+
+bool-cases : (b : Bool) → (b ≡ true) ⊎ (b ≡ false)
+bool-cases true = inl refl
+bool-cases false = inr refl
+
+pub same-call : (one other : CallSign) → (one ≡ other) ⊎ (one ≢ other)
+same-call one other =
+    elim (bool-cases (is_same_call one other)) [
+      | inl is ↦ inl ((same_call-decides one other).0 is)
+      | inr not_is ↦ inr (λ same. let is = (same_call-decides one other).1 same in let x : ⊥ = cc in x)
+    ]
+
+module _ (before now : StoreState) (caller : CallSign) (others : KeepsOtherCallers before now caller) where
+  -- the upload of another caller's session stays held, with the same octets that wait
+  pub held-kept : (other : CallSign) → other ≢ caller → (p : Phase) → PhaseIsHeld before other p → PhaseIsHeld now other p
+  held-kept other ne phase.Command held = tt
+  held-kept other ne (phase.Receiving up) held = (others.uploads up (λ same. ne (sym held.1 ∙ same)) held.0, held.1)
+  held-kept other ne phase.Aborting held = tt
+
+  pub state-kept : (other : CallSign) → other ≢ caller → (p : Phase) → PhaseIsHeld before other p → state_of now p ≡ state_of before p
+  state-kept other ne phase.Command held = refl
+  state-kept other ne (phase.Receiving up) held =
+      let theirs : up.caller ≢ caller = λ same. ne (sym held.1 ∙ same) in
+      let holds = others.uploads up theirs held.0 in
+      let rest = (others.entries up.number (entry_for up holds.begun (partial holds.held)) theirs holds.entry).1 in
+      ap (λ (o : Option (List ℕ)). receiving up.number (octets_or_none o)) rest
+  state-kept other ne phase.Aborting held = refl
+
+  pub out-kept : (other : CallSign) (number : Option ℕ) → other ≢ caller → NoOtherOut before other number → NoOtherOut now other number
+  out-kept other number ne only n entry found theirs own =
+      let was = others.entries n entry (λ same. ne (sym theirs ∙ same)) found in
+      was.1 ∙ only n entry was.0 theirs own
+
+-- the connection at a place of places of which one is another now
+pub at-set : (places : List Place) (i j : ℕ) (p : Place) (c : ConnectionState) → i < length places → IsAt (set places i p) j c
+    → ((j ≡ i) × (p ≡ Talking c)) ⊎ ((j ≢ i) × IsAt places j c)
+at-set places i j p c within at =
+    elim (eqb_tells j i) [
+      | inl w ↦
+          let here : slice_get (set places i p) i ≡ Some (Talking c) = subst (λ (n : ℕ). slice_get (set places i p) n ≡ Some (Talking c)) w.1 at in
+          inl (w.1, same_Some p (Talking c) (sym (slice_get-set_same places i p within) ∙ here))
+      | inr w ↦ inr (w.1, sym (slice_get-set_other places i j p w.1) ∙ at)
+    ]
+
+-- the same connection at the same place
+pub same-at : (places : List Place) (i : ℕ) (one other : ConnectionState) → IsAt places i one → IsAt places i other → one ≡ other
+same-at places i one other at too =
+    let same : Talking one ≡ Talking other = same_Some (Talking one) (Talking other) (sym at ∙ too) in cc
+
+pub leaving-no : (link : Kept) (c : ConnectionState) → Leaving link ≡ Talking c → ⊥
+leaving-no link c same = cc
+
+-- ---- an event at the place of a connection
+
+module _ (me : CallSign) (k : ℕ) (before now : StoreState) (places : List Place) (i : ℕ) (old : ConnectionState) (at : IsAt places i old)
+    (settled : IsSettled me k before places) (others : KeepsOtherCallers before now old.session.caller) where
+  abbrev within : i < length places
+  within = slice_get_within places i (Talking old) at
+
+  -- a connection at another place has another caller
+  pub other-caller : (j : ℕ) (c : ConnectionState) → j ≢ i → IsAt places j c → c.session.caller ≢ old.session.caller
+  other-caller j c ne there same = ne (settled.distinct j i c old there at same)
+
+  -- it is seated still
+  pub seated-kept : (j : ℕ) (c : ConnectionState) → j ≢ i → IsAt places j c → IsSeated me k now c
+  seated-kept j c ne there =
+      let was = settled.seated j c there in
+      record {
+        me_is = was.me_is;
+        peer_is = was.peer_is;
+        answers = was.answers;
+        k_is = was.k_is;
+        up = was.up;
+        held = held-kept before now old.session.caller others c.session.caller (other-caller j c ne there) c.session.phase was.held;
+      }
+
+  -- the place is this one now
+  module _ (p : Place) (same : (c : ConnectionState) → p ≡ Talking c → c.session.caller ≡ old.session.caller)
+      (seat : (c : ConnectionState) → p ≡ Talking c → IsSeated me k now c)
+      (own : (number : Option ℕ) → IsUploadOf (set places i p) old.session.caller number → NoOtherOut now old.session.caller number) where
+    set-seated : (j : ℕ) (c : ConnectionState) → IsAt (set places i p) j c → IsSeated me k now c
+    set-seated j c there =
+        elim (at-set places i j p c within there) [
+          | inl w ↦ seat c w.1
+          | inr w ↦ seated-kept j c w.0 w.1
+        ]
+
+    set-distinct : (one another : ℕ) (first second : ConnectionState) → IsAt (set places i p) one first → IsAt (set places i p) another second
+        → first.session.caller ≡ second.session.caller → one ≡ another
+    set-distinct one another first second a b callers =
+        elim (at-set places i one p first within a) [
+          | inl w ↦
+              elim (at-set places i another p second within b) [
+                | inl v ↦ w.0 ∙ sym v.0
+                | inr v ↦ absurd (other-caller another second v.0 v.1 (sym callers ∙ same first w.1))
+              ]
+          | inr w ↦
+              elim (at-set places i another p second within b) [
+                | inl v ↦ absurd (other-caller one first w.0 w.1 (callers ∙ same second v.1))
+                | inr v ↦ settled.distinct one another first second w.1 v.1 callers
+              ]
+        ]
+
+    set-upload : (caller : CallSign) (number : Option ℕ) → caller ≢ old.session.caller → IsUploadOf (set places i p) caller number
+        → IsUploadOf places caller number
+    set-upload caller number ne is = (
+      λ j c there theirs. elim (eqb_tells j i) [
+        | inl w ↦
+            let here : IsAt places i c = subst (λ (n : ℕ). IsAt places n c) w.1 there in
+            let one : c ≡ old = same-at places i c old here at in
+            absurd (ne (sym theirs ∙ ap (λ (x : ConnectionState). x.session.caller) one))
+        | inr w ↦ is.0 j c (slice_get-set_other places i j p w.1 ∙ there) theirs
+      ],
+      λ nobody. is.1 (λ j c there theirs.
+      elim (at-set places i j p c within there) [
+        | inl w ↦ ne (sym theirs ∙ same c w.1)
+        | inr w ↦ nobody j c w.1 theirs
+      ]),
+    )
+
+    pub settled-set : IsSettled me k now (set places i p)
+    settled-set = record {
+      good = settled.good;
+      seated = set-seated;
+      distinct = set-distinct;
+      only = λ caller number is.
+          elim (same-call caller old.session.caller) [
+            | inl same_one ↦
+                subst (λ (x : CallSign). NoOtherOut now x number) (sym same_one)
+                (own number (subst (λ (x : CallSign). IsUploadOf (set places i p) x number) same_one is))
+            | inr ne ↦
+                out-kept before now old.session.caller others caller number ne (settled.only caller number (set-upload caller number ne is))
+          ];
+    }
+
+-- a place that is what it was
+pub set-get : {X : Type 0} (xs : List X) (i : ℕ) (x : X) → slice_get xs i ≡ Some x → set xs i x ≡ xs
+set-get [] i x at = refl
+set-get (y ∷ ys) zero x at = let same = same_Some y x at in ap (λ z. z ∷ ys) (sym same)
+set-get (y ∷ ys) (suc i) x at = ap (λ zs. y ∷ zs) (set-get ys i x at)
+
+-- the connection goes on
+module _ (me : CallSign) (k : ℕ) (before now : StoreState) (places : List Place) (i : ℕ) (c : ConnectionState) (at : IsAt places i c)
+    (settled : IsSettled me k before places) (others : KeepsOtherCallers before now c.session.caller) where
+  goes_on-seat : (d : ConnectionState) → GoesOn now c d → (e : ConnectionState) → Talking d ≡ Talking e → IsSeated me k now e
+  goes_on-seat d on e is =
+      let one : d ≡ e = cc in
+      let was = settled.seated i c at in
+      let seat : IsSeated me k now d = record {
+        me_is = on.stations.me ∙ was.me_is;
+        peer_is = on.stations.peer ∙ was.peer_is ∙ sym on.caller;
+        answers = on.stations.called ∙ was.answers;
+        k_is = on.stations.k ∙ was.k_is;
+        up = on.up;
+        held = on.held;
+      } in
+      subst (λ (x : ConnectionState). IsSeated me k now x) one seat
+
+  goes_on-same : (d : ConnectionState) → GoesOn now c d → (e : ConnectionState) → Talking d ≡ Talking e → e.session.caller ≡ c.session.caller
+  goes_on-same d on e is = let one : d ≡ e = cc in ap (λ (x : ConnectionState). x.session.caller) (sym one) ∙ on.caller
+
+  goes_on-own : (d : ConnectionState) → GoesOn now c d → (number : Option ℕ) → IsUploadOf (set places i (Talking d)) c.session.caller number
+      → NoOtherOut now c.session.caller number
+  goes_on-own d on number is =
+      let here = slice_get-set_same places i (Talking d) (slice_get_within places i (Talking c) at) in
+      let the_number = is.0 i d here on.caller in
+      subst (λ (x : Option ℕ). NoOtherOut now c.session.caller x) (sym the_number)
+      (subst (λ (x : CallSign). NoOtherOut now x (number_of d.session.phase)) on.caller on.only)
+
+  pub settled-goes_on : (d : ConnectionState) → GoesOn now c d → IsSettled me k now (set places i (Talking d))
+  settled-goes_on d on =
+      settled-set me k before now places i c at settled others (Talking d) (goes_on-same d on) (goes_on-seat d on) (goes_on-own d on)
+
+  -- its session is over
+  over-own : (link : Kept) → NoOtherOut now c.session.caller None → (number : Option ℕ) → IsUploadOf (set places i (Leaving link)) c.session.caller number
+      → NoOtherOut now c.session.caller number
+  over-own link only number is =
+      let none : number ≡ None = is.1 (λ j e there theirs.
+      elim (at-set places i j (Leaving link) e (slice_get_within places i (Talking c) at) there) [
+        | inl w ↦ leaving-no link e w.1
+        | inr w ↦ other-caller me k before now places i c at settled others j e w.0 w.1 theirs
+      ]) in
+      subst (λ (x : Option ℕ). NoOtherOut now c.session.caller x) (sym none) only
+
+  pub settled-over : (link : Kept) → NoOtherOut now c.session.caller None → IsSettled me k now (set places i (Leaving link))
+  settled-over link only =
+      settled-set me k before now places i c at settled others (Leaving link) (λ e is. absurd (leaving-no link e is)) (λ e is. absurd (leaving-no link e is)) (over-own link only)
+
+-- nothing changes
+unchanged : (me : CallSign) (k : ℕ) (before now : StoreState) (places : List Place) (i : ℕ) (old new : Place) → slice_get places i ≡ Some old
+    → IsSettled me k before places → now ≡ before → new ≡ old → IsSettled me k now (set places i new)
+unchanged me k before now places i old new at settled store same =
+    let one : set places i old ≡ places = set-get places i old at in
+    let all : set places i new ≡ places = ap (λ (x : Place). set places i x) same ∙ one in
+    subst (λ (x : List Place). IsSettled me k now x) (sym all) (subst (λ (x : StoreState). IsSettled me k x places) (sym store) settled)
+
+-- whatever the place becomes
+pub settled-works : (me : CallSign) (k : ℕ) (before now : StoreState) (places : List Place) (i : ℕ) (old new : Place) → slice_get places i ≡ Some old
+    → IsSettled me k before places → Works before now old new → IsSettled me k now (set places i new)
+settled-works me k before now places i Free new at settled works = unchanged me k before now places i Free new at settled works.0 works.1
+settled-works me k before now places i (Talking c) Free at settled works = absurd works.1
+settled-works me k before now places i (Talking c) (Talking d) at settled works = settled-goes_on me k before now places i c at settled works.0 d works.1
+settled-works me k before now places i (Talking c) (Leaving link) at settled works = settled-over me k before now places i c at settled works.0 link works.1
+settled-works me k before now places i (Leaving link) new at settled works = unchanged me k before now places i (Leaving link) new at settled works.0 works.1
+
+-- what another place is doesn't change
+pub says-kept : (me : CallSign) (k : ℕ) (before now : StoreState) (places : List Place) (i : ℕ) (old new : Place) → slice_get places i ≡ Some old
+    → IsSettled me k before places → Works before now old new → (j : ℕ) (place : Place) (slot : Slot) → j ≢ i → slice_get places j ≡ Some place
+    → SaysAs before place slot → SaysAs now place slot
+says-kept me k before now places i Free new at settled works j place slot ne there says =
+    subst (λ (x : StoreState). SaysAs x place slot) (sym works.0) says
+says-kept me k before now places i (Leaving link) new at settled works j place slot ne there says =
+    subst (λ (x : StoreState). SaysAs x place slot) (sym works.0) says
+says-kept me k before now places i (Talking c) new at settled works j Free slot ne there says = tt
+says-kept me k before now places i (Talking c) new at settled works j (Leaving link) slot ne there says = tt
+says-kept me k before now places i (Talking c) new at settled works j (Talking d) free ne there says = tt
+says-kept me k before now places i (Talking c) new at settled works j (Talking d) (leaving end) ne there says = tt
+says-kept me k before now places i (Talking c) new at settled works j (Talking d) (connected e) ne there says =
+    let other = other-caller me k before now places i c at settled works.0 j d ne there in
+    let held = (settled.seated j d there).held in
+    record { rest = says.rest; state = state-kept before now c.session.caller works.0 d.session.caller other d.session.phase held ∙ says.state }

@@ -1,0 +1,86 @@
+-- Ticks at the first places of a server.
+use Rattle.std.proofs.Common.{◌≡◌, ◌≢◌, ℕ, zero, suc, ◌+◌, ◌<◌, List, [], ◌∷◌, length, set, take, drop, map, Bool, true, false, Option, None, Some, refl, sym, ◌∙◌, ap, subst, inl, inr, arith}
+use Rattle.std.specs.Prelude.{slice_get}
+use Rattle.std.proofs.lemmas.Bool.Decides.{eqb_tells}
+use Rattle.std.proofs.lemmas.Option.{same_Some, slice_get_within}
+use Rattle.px_base.specs.CallSign.{CallSign}
+use Rattle.ax25_link.specs.Window.{Window}
+use Rattle.ax25_link.proofs.Places.{slice_get-set_other}
+use Rattle.file_store.specs.State.{StoreState}
+use Rattle.ftl0_session.specs.SessionState.{IsOnlyOut, number_of}
+use Rattle.ftl0_connection.specs.ConnectionState.{ConnectionState}
+use Rattle.ftl0_server.specs.AtPlace.{IsPlace, MayTick, Works}
+use Rattle.ftl0_server.specs.declared.place.Place.{Place}
+use Rattle.ftl0_server.specs.declared.place.Place.TheVariants.{Free, Talking, Leaving}
+use Rattle.ftl0_server.specs.Kept.{IsAt, IsSettled}
+use Rattle.ftl0_server.specs.ServerState.{AllPlaces, any_pending, place_pending}
+use Rattle.ftl0_server.specs.Slots.{Slot, slot_ticking}
+use Rattle.ftl0_server.proofs.AllPlaces.{all-get, all-length, all-map, all-set-to, all-to, never}
+use Rattle.ftl0_server.proofs.NextLemmas.{none_first}
+use Rattle.ftl0_server.proofs.SettledLemmas.{same-at, says-kept}
+
+-- a tick came at the first so many of these
+abbrev pub ticked : ℕ → List Slot → List Slot
+ticked zero slots = slots
+ticked (suc i) [] = []
+ticked (suc i) (s ∷ ss) = slot_ticking s ∷ ticked i ss
+
+pub ticked-get : (i : ℕ) (slots : List Slot) → slice_get (ticked i slots) i ≡ slice_get slots i
+ticked-get zero slots = refl
+ticked-get (suc i) [] = refl
+ticked-get (suc i) (s ∷ ss) = ticked-get i ss
+
+pub ticked-set : (i : ℕ) (slots : List Slot) (s : Slot) → slice_get slots i ≡ Some s → set (ticked i slots) i (slot_ticking s) ≡ ticked (suc i) slots
+ticked-set i [] s at = absurd (never s at)
+ticked-set zero (x ∷ xs) s at = ap (λ (y : Slot). slot_ticking y ∷ xs) (sym (same_Some x s at))
+ticked-set (suc i) (x ∷ xs) s at = ap (λ (ys : List Slot). slot_ticking x ∷ ys) (ticked-set i xs s at)
+
+pub ticked-all : (slots : List Slot) → ticked (length slots) slots ≡ map slot_ticking slots
+ticked-all [] = refl
+ticked-all (s ∷ ss) = ap (λ (ys : List Slot). slot_ticking s ∷ ys) (ticked-all ss)
+
+-- one place was changed, and the store with it
+pub all-works : (w : Window) (me : CallSign) (k : ℕ) (before now : StoreState) (places : List Place) (slots : List Slot) (i : ℕ) (old new : Place) (s : Slot)
+    → slice_get places i ≡ Some old → IsSettled me k before places → Works before now old new → AllPlaces (IsPlace w before) places slots
+    → IsPlace w now new s → AllPlaces (IsPlace w now) (set places i new) (set slots i s)
+all-works w me k before now places slots i old new s at settled works all here =
+    all-set-to (IsPlace w before) (IsPlace w now) places slots i new s
+    (λ j place slot ne there it is. (is.0, says-kept me k before now places i old new at settled works j place slot ne there is.1)) all here
+
+-- of its caller no upload is out but its own
+pub own-only : (me : CallSign) (k : ℕ) (store : StoreState) (places : List Place) (i : ℕ) (c : ConnectionState) → IsAt places i c
+    → IsSettled me k store places → IsOnlyOut store c.session
+own-only me k store places i c at settled =
+    settled.only c.session.caller (number_of c.session.phase) (
+      λ j d there same.
+          let here : j ≡ i = settled.distinct j i d c there at same in
+          let one : d ≡ c = same-at places i d c (subst (λ (n : ℕ). IsAt places n d) here there) at in
+          ap (λ (x : ConnectionState). number_of x.session.phase) (sym one),
+      λ nobody. absurd (nobody i c at refl),
+    )
+
+-- the place at which the tick comes next
+pub quiet-at : (places : List Place) (i : ℕ) (place : Place) → slice_get places i ≡ Some place → any_pending (drop i places) ≡ false → place_pending place ≡ false
+quiet-at [] i place at none = absurd (never place at)
+quiet-at (p ∷ ps) zero place at none =
+    ap (λ (x : Place). place_pending x) (sym (same_Some p place at)) ∙ (none_first (place_pending p) (any_pending ps) none).0
+quiet-at (p ∷ ps) (suc i) place at none = quiet-at ps i place at none
+
+pub may-tick : (me : CallSign) (k : ℕ) (store : StoreState) (places : List Place) (i : ℕ) (place : Place) → slice_get places i ≡ Some place
+    → IsSettled me k store places → any_pending (drop i places) ≡ false → MayTick store place
+may-tick me k store places i Free at settled none = tt
+may-tick me k store places i (Talking c) at settled none =
+    let seated = settled.seated i c at in
+    record {
+      quiet = quiet-at places i (Talking c) at none;
+      up = seated.up;
+      held = seated.held;
+      only = own-only me k store places i c at settled;
+    }
+may-tick me k store places i (Leaving link) at settled none = tt
+
+-- the places behind it are as they were
+pub quiet-later : (places : List Place) (i : ℕ) (new : Place) → any_pending (drop i places) ≡ false → any_pending (drop (suc i) (set places i new)) ≡ false
+quiet-later [] i new none = refl
+quiet-later (p ∷ ps) zero new none = (none_first (place_pending p) (any_pending ps) none).1
+quiet-later (p ∷ ps) (suc i) new none = quiet-later ps i new none

@@ -1,0 +1,58 @@
+-- A tick comes at one place more.
+use Rattle.std.proofs.Common.{◌≡◌, ℕ, suc, ◌+◌, ◌<◌, List, length, set, drop, get_or, Option, None, Some, false, refl, sym, ◌∙◌, ap, subst, arith, add-one}
+use Rattle.std.specs.Prelude.{slice_get}
+use Rattle.std.proofs.lemmas.Option.{slice_get-get_or}
+use Rattle.ftl0_server.specs.AtPlace.{IsPlace}
+use Rattle.ftl0_server.specs.declared.place.Place.{Place}
+use Rattle.ftl0_server.specs.ServerState.{AllPlaces, any_pending}
+use Rattle.ftl0_server.specs.Slots.{Slot, slot_ticking}
+use Rattle.ftl0_server.proofs.AllPlaces.{all-get, all-length}
+use Rattle.ftl0_server.proofs.SettledLemmas.{settled-works}
+use Rattle.ftl0_server.proofs.TickLemmas.{all-works, may-tick, quiet-later, ticked, ticked-all, ticked-get, ticked-set}
+use Rattle.ftl0_server.proofs.places.tick_all.Goals as goal
+
+pub tick-requires : goal.tick-requires
+tick-requires c =
+    let lt : c.loop-i.i < length c.loop-i.places = omega arith in
+    let at = slice_get-get_or c.loop-i.places c.loop-i.i c.index-places-i.result lt in
+    let working = c.loop-i.invariant.working in
+    may-tick working.0 working.1 c.loop-i.store c.loop-i.places c.loop-i.i (get_or c.loop-i.places c.loop-i.i c.index-places-i.result) at working.2 c.loop-i.invariant.silent
+
+pub loop-i-preserved : goal.loop-i-preserved
+loop-i-preserved c =
+    let lt : c.loop-i.i < length c.loop-i.places = omega arith in
+    let old = get_or c.loop-i.places c.loop-i.i c.index-places-i.result in
+    let at = slice_get-get_or c.loop-i.places c.loop-i.i c.index-places-i.result lt in
+    let working = c.loop-i.invariant.working in
+    let works = c.tick.ensures.works in
+    let step : c.loop-i.i + 1 ≡ suc c.loop-i.i = add-one c.loop-i.i in
+    record {
+      silent =
+          subst (λ (n : ℕ). any_pending (drop n (set c.loop-i.places c.loop-i.i c.tick.new.self)) ≡ false) (sym step)
+          (quiet-later c.loop-i.places c.loop-i.i c.tick.new.self c.loop-i.invariant.silent);
+      working = (
+        working.0,
+        working.1,
+        settled-works working.0 working.1 c.loop-i.store c.tick.new.store c.loop-i.places c.loop-i.i old c.tick.new.self at working.2 works,
+      );
+      settled = λ me k h.
+          settled-works me k c.loop-i.store c.tick.new.store c.loop-i.places c.loop-i.i old c.tick.new.self at (c.loop-i.invariant.settled me k h) works;
+      ticks = λ w slots all.
+          let was = c.loop-i.invariant.ticks w slots all in
+          let got = all-get (IsPlace w c.loop-i.store) c.loop-i.places (ticked c.loop-i.i slots) c.loop-i.i old was at in
+          let here : slice_get slots c.loop-i.i ≡ Some got.0 = sym (ticked-get c.loop-i.i slots) ∙ got.1 in
+          let next =
+              all-works w working.0 working.1 c.loop-i.store c.tick.new.store c.loop-i.places (ticked c.loop-i.i slots) c.loop-i.i old c.tick.new.self (slot_ticking got.0) at working.2 works was
+              (c.tick.ensures.ticks w got.0 got.2) in
+          subst (λ (ss : List Slot). AllPlaces (IsPlace w c.tick.new.store) (set c.loop-i.places c.loop-i.i c.tick.new.self) ss)
+          (ticked-set c.loop-i.i slots got.0 here ∙ ap (λ (n : ℕ). ticked n slots) (sym step)) next;
+      store = c.tick.ensures.store ∙ c.loop-i.invariant.store;
+      journal = c.tick.ensures.journal ∙ c.loop-i.invariant.journal;
+    }
+
+pub returns-clause-ticks : goal.returns-clause-ticks
+returns-clause-ticks c = λ w slots all.
+    let size : length c.args.places.now ≡ length slots = all-length (IsPlace w c.args.store.now) c.args.places.now slots all in
+    let last : c.loop-i.i ≡ length slots = omega (arith, size) in
+    subst (λ (ss : List Slot). AllPlaces (IsPlace w c.loop-i.store) c.loop-i.places ss)
+    (ap (λ (n : ℕ). ticked n slots) last ∙ ticked-all slots) (c.loop-i.invariant.ticks w slots all)

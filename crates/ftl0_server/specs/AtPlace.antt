@@ -1,0 +1,120 @@
+-- What an event at one place of a server needs, and what it leaves.
+use Rattle.std.specs.Prelude.{◌≡◌, ℕ, List, [], ◌∷◌, false, Option, None, Some, Result, Ok, Err, ⊤}
+use Rattle.disk_model.specs.declared.disk.Disk.{Ghosts}
+use Rattle.ax25_frames.specs.FrameText.{FrameValue}
+use Rattle.ax25_link.specs.Kept.{IsFromPeer, SameStations, is_pending}
+use Rattle.ax25_link.specs.Window.{Window}
+use Rattle.ax25_link.specs.declared.state.LinkState.TheVariants.{Up}
+use Rattle.file_store.specs.OnDisk.{CutsOff, Does}
+use Rattle.file_store.specs.State.{StoreState}
+use Rattle.ftl0_session.specs.Others.{KeepsOtherCallers}
+use Rattle.ftl0_session.specs.SessionState.{IsHeld, IsOnlyOut, NoOtherOut, Parks}
+use Rattle.ftl0_session.specs.declared.stop.ServerStop.{ServerStop}
+use Rattle.ftl0_session.specs.declared.stop.ServerStop.TheVariants as stop
+use Rattle.ftl0_connection.specs.ConnectionState.{ConnectionState}
+use Rattle.ftl0_connection.specs.Hearing.{Happened}
+use Rattle.ftl0_connection.specs.Taking.{fails, goes_on, unbuilt}
+use Rattle.ftl0_server.specs.declared.place.Place.{Place}
+use Rattle.ftl0_server.specs.declared.place.Place.TheVariants.{Free, Talking, Leaving}
+use Rattle.ftl0_server.specs.ServerState.{SaysAs, SendsAs}
+use Rattle.ftl0_server.specs.Slots.{Slot, slot_after}
+
+-- the place is that one, over this store
+abbrev pub IsPlace : Window → StoreState → Place → Slot → Type 0
+IsPlace w store place slot = SendsAs w place slot × SaysAs store place slot
+
+-- The connection may take an event: nothing is pending, its link is up, and the store holds its session's upload, the only
+-- one of its caller's that is out.
+pub record IsAwaiting (store : StoreState) (connection : ConnectionState) : Type 0 where
+  pub quiet : is_pending connection.link ≡ false
+  pub up : connection.link.state ≡ Up
+  pub held : IsHeld store connection.session
+  pub only : IsOnlyOut store connection.session
+
+-- the place may take a tick
+abbrev pub MayTick : StoreState → Place → Type 0
+MayTick store Free = ⊤
+MayTick store (Talking connection) = IsAwaiting store connection
+MayTick store (Leaving link) = ⊤
+
+-- the place has the connection of this frame's sender, which may hear it
+abbrev pub MayHear : StoreState → FrameValue → Place → Type 0
+MayHear store frame Free = ⊥
+MayHear store frame (Talking connection) = IsAwaiting store connection × IsFromPeer connection.link frame
+MayHear store frame (Leaving link) = ⊥
+
+-- the place has a connection, and the store holds its session's upload
+abbrev pub MayLeave : StoreState → Place → Type 0
+MayLeave store Free = ⊥
+MayLeave store (Talking connection) = IsHeld store connection.session
+MayLeave store (Leaving link) = ⊥
+
+-- the connection is of the same stations and the same caller, its link is up, and the store holds its session's upload,
+-- the only one of its caller's that is out
+pub record GoesOn (store : StoreState) (old new : ConnectionState) : Type 0 where
+  pub stations : SameStations old.link new.link
+  pub caller : new.session.caller ≡ old.session.caller
+  pub up : new.link.state ≡ Up
+  pub held : IsHeld store new.session
+  pub only : IsOnlyOut store new.session
+
+-- what is left at the place of this connection: the connection, or its link, where no upload of its caller is out
+abbrev pub IsLeft : StoreState → ConnectionState → Place → Type 0
+IsLeft store old Free = ⊥
+IsLeft store old (Talking connection) = GoesOn store old connection
+IsLeft store old (Leaving link) = NoOtherOut store old.session.caller None
+
+-- An event came at a place: the store keeps the uploads of other callers than the connection's. Where there is no
+-- connection nothing changes.
+abbrev pub Works : StoreState → StoreState → Place → Place → Type 0
+Works before now Free new = (now ≡ before) × (new ≡ Free)
+Works before now (Talking connection) new =
+    KeepsOtherCallers before now connection.session.caller × IsLeft now connection new
+Works before now (Leaving link) new = (now ≡ before) × (new ≡ Leaving link)
+
+-- What a frame that is heard at a place does, where `event` gives what it makes of the connection there once it is known
+-- at which packet the disk fails, if it fails at one: as the connection's call says it, but that the place is the one
+-- that is left.
+abbrev pub PlaceHears :
+    {D : Type 0} → Ghosts D → Window → (Option ℕ → Happened) → StoreState → StoreState → D → D → Place
+    → Result ⊤ ServerStop → Type 0
+PlaceHears g w event store store_now disk disk_now place (Ok done) =
+    ((event None).halt ≡ goes_on) × IsPlace w store_now place (slot_after (event None))
+    × Does g ⊥ store store_now disk disk_now (event None).done
+PlaceHears g w event store store_now disk disk_now place (Err stop.Disk) =
+    (part : ℕ) × ((event (Some part)).halt ≡ fails) × SendsAs w place (slot_after (event (Some part)))
+    × CutsOff g ⊤ store store_now disk disk_now (event (Some part)).done (event (Some part)).cut
+PlaceHears g w event store store_now disk disk_now place (Err (stop.NotBuilt kind)) =
+    ((event None).halt ≡ unbuilt kind) × Does g ⊥ store store_now disk disk_now (event None).done
+PlaceHears g w event store store_now disk disk_now place (Err stop.OutOfMemory) =
+    (part : ℕ) × ((event (Some part)).halt ≡ fails) × Does g ⊥ store store_now disk disk_now (event (Some part)).done
+
+-- the session of this connection is over: its upload is parked
+pub record IsOver (before now : StoreState) (connection : ConnectionState) : Type 0 where
+  pub parks : Parks before now connection.session.phase
+  pub only : IsOnlyOut before connection.session → NoOtherOut now connection.session.caller None
+  pub others : KeepsOtherCallers before now connection.session.caller
+
+-- the session at the place is over, and its link is left
+abbrev pub HasLeft : StoreState → StoreState → Place → Place → Type 0
+HasLeft before now Free new = ⊥
+HasLeft before now (Talking connection) new = IsOver before now connection × (new ≡ Leaving connection.link)
+HasLeft before now (Leaving link) new = ⊥
+
+-- the place may be ended: the store holds its session's upload
+abbrev pub MayEnd : StoreState → Place → Type 0
+MayEnd store Free = ⊤
+MayEnd store (Talking connection) = IsHeld store connection.session
+MayEnd store (Leaving link) = ⊤
+
+-- the session of the place is over, if there was one
+abbrev pub HasEnded : StoreState → StoreState → Place → Type 0
+HasEnded before now Free = now ≡ before
+HasEnded before now (Talking connection) = IsOver before now connection
+HasEnded before now (Leaving link) = now ≡ before
+
+-- the places may be ended, one after another
+abbrev pub MayAllEnd : StoreState → List Place → Type 0
+MayAllEnd store [] = ⊤
+MayAllEnd store (place ∷ places) =
+    MayEnd store place × ((now : StoreState) → HasEnded store now place → MayAllEnd now places)
