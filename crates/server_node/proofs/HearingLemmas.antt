@@ -1,7 +1,7 @@
 -- How a node hears octets.
 use Rattle.std.proofs.Common.{◌≡◌, ℕ, List, [], ◌∷◌, ◌++◌, Bool, true, false, Option, None, Some, IfSome, refl, ap, sym, subst, ◌∙◌, inl, inr, append_assoc, append-nil}
 use Rattle.std.proofs.lemmas.List.{map-append}
-use Rattle.std.specs.Prelude.{Result, Ok, Err, ⊤, IsSome, OnOk, option_to_list}
+use Rattle.std.specs.Prelude.{Result, Ok, Err, ⊤, IsSome, IsTrue, OnOk, option_to_list}
 use Rattle.px_base.specs.CallSign.{CallSign}
 use Rattle.px_base.specs.Octets.{IsOctets}
 use Rattle.px_base.specs.declared.air.Air.{Ghosts as AirGhosts}
@@ -27,6 +27,10 @@ heard_at-append moment xs ys = map-append (λ (frame : FrameValue). hears frame 
 heard-none : (reader : StationValue) (octets : List ℕ) → HasHeard reader octets → HasHeard reader (octets ++ [])
 heard-none reader octets h = subst (λ (o : List ℕ). HasHeard reader o) (sym (append-nil octets)) h
 
+-- what is true is true
+pub is_true : (b : Bool) → b ≡ true → IsTrue b
+is_true b h = subst (λ (x : Bool). IsTrue x) (sym h) refl
+
 module _ (me : CallSign) (old new : StationValue) (octet : ℕ) (all : List ℕ) (heard : HasHeard old all) where
   -- the octet ended no frame
   pub no-frame : (ended : Bool) → ended ≡ false → HearsOctet old octet new ended → Finishes me all (octet ∷ []) []
@@ -43,7 +47,7 @@ module _ (me : CallSign) (old new : StationValue) (octet : ℕ) (all : List ℕ)
     where
       by : (o : Option (List ℕ)) → IsSome o → (found : Option FrameValue) → IfSome o (λ octets. Finds me octets found) → kiss_frames (all ++ octet ∷ []) ≡ kiss_frames all ++ option_to_list o
           → Finishes me all (octet ∷ []) (option_to_list found)
-      by None some found finds same = absurd some
+      by None some found finds same = absurd (cc some)
       by (Some octets) some None finds same = (octets ∷ [], same, inr (finds, refl))
       by (Some octets) some (Some frame) finds same = (octets ∷ [], same, inl (frame, [], finds.0, finds.1, refl, refl))
 

@@ -1,6 +1,7 @@
 -- How a node takes events.
 use Rattle.std.proofs.Common.{◌≡◌, ℕ, List, [], ◌∷◌, ◌++◌, Option, None, Some, refl, ap, sym, subst, ◌∙◌, false, inl, inr}
-use Rattle.std.specs.Prelude.{◌≢◌, Result, Ok, Err, ⊤, OnErr, OnOk}
+use Rattle.std.proofs.lemmas.Bool.{eq-eqb, ne_eqb}
+use Rattle.std.specs.Prelude.{◌≢◌, Bool, if◌then◌else◌, Result, Ok, Err, ⊤, OnErr, OnOk}
 use Rattle.px_base.specs.Octets.{IsFront}
 use Rattle.px_base.specs.Outside.{Gains, HasCause}
 use Rattle.px_base.specs.declared.air.Air.{Ghosts as AirGhosts}
@@ -12,7 +13,7 @@ use Rattle.file_entries.specs.Command.{Command}
 use Rattle.file_store.specs.OnDisk.{CutsOff, Does}
 use Rattle.file_store.specs.State.{StoreState}
 use Rattle.file_store.proofs.DoesLemmas.{Does-none, Does-then}
-use Rattle.node_events.specs.Events.{NodeEvent}
+use Rattle.node_events.specs.Events.{NodeEvent, tick_since, ticks}
 use Rattle.ftl0_connection.specs.Taking.{fails, goes_on, unbuilt}
 use Rattle.ftl0_session.specs.declared.stop.ServerStop.{ServerStop}
 use Rattle.ftl0_session.specs.declared.stop.ServerStop.TheVariants as server_stop
@@ -224,13 +225,22 @@ module _ {A D : Type 0} (g : Ghosts D) (air : AirGhosts A) (lasts : (disk : D) �
 
     -- There was no memory for it.
     pub event-unmade : Heard (Err server_stop.OutOfMemory) → Stopped before before old mid disk disk_n server (event ∷ []) stop.OutOfMemory
-    event-unmade by = record {
+    event-unmade (inl does) = record {
       text = [];
       text_said = Gains-none (air.said before);
-      done = by.0;
+      done = [];
       cut = [];
-      stops = stops-at stop.OutOfMemory (air.write_faults before) (air.write_faults before) [] server event [] by.0 (by.1, by.2, refl, refl);
-      cuts = cuts_none g _ (λ (e : stop.OutOfMemory ≡ stop.Disk). cc e) old.store mid.store disk disk_n by.0 (lasts disk_n) by.3;
+      stops = stops-at stop.OutOfMemory (air.write_faults before) (air.write_faults before) [] server event [] [] (inl refl, refl, refl);
+      cuts = cuts_none g _ (λ (e : stop.OutOfMemory ≡ stop.Disk). cc e) old.store mid.store disk disk_n [] (lasts disk_n) does;
+    }
+    event-unmade (inr by) = record {
+      text = [];
+      text_said = Gains-none (air.said before);
+      done = (happening server event (Some by.0)).done;
+      cut = [];
+      stops =
+          stops-at stop.OutOfMemory (air.write_faults before) (air.write_faults before) [] server event [] (happening server event (Some by.0)).done (inr (by.0, by.1, refl), refl, refl);
+      cuts = cuts_none g _ (λ (e : stop.OutOfMemory ≡ stop.Disk). cc e) old.store mid.store disk disk_n (happening server event (Some by.0)).done (lasts disk_n) by.2;
     }
 
 -- the cause of a call behind others after which the counts were as they were
@@ -238,3 +248,10 @@ pub counts-after : {T : Type 0} (reads reads_m reads_n writes writes_m writes_n 
     → CountsBy result reads_m reads_n writes_m writes_n → CountsBy result reads reads_n writes writes_n
 counts-after reads reads_m reads_n writes writes_m writes_n result same_reads same_writes h =
     subst (λ (n : ℕ). CountsBy result n reads_n writes writes_n) same_reads (subst (λ (n : ℕ). CountsBy result reads_m reads_n n writes_n) same_writes h)
+
+-- whether there is a tick
+pub tick-none : (last moment : ℕ) → moment ≡ last → tick_since last moment ≡ []
+tick-none last moment same = ap (λ (b : Bool). if b then [] else ticks moment ∷ []) (eq-eqb moment last same)
+
+pub tick-one : (last moment : ℕ) → (moment ≡ last → ⊥) → tick_since last moment ≡ ticks moment ∷ []
+tick-one last moment other = ap (λ (b : Bool). if b then [] else ticks moment ∷ []) (ne_eqb moment last other)

@@ -35,7 +35,7 @@ heard-turn [] next = append-nil (octets_of_turn next)
 heard-turn (t ∷ turns) next = ap (λ (o : List ℕ). octets_of_turn t ++ o) (heard-turn turns next) ∙ sym (append_assoc (octets_of_turn t) (octets_heard turns) (octets_of_turn next))
 
 -- the last of the moments, or this one
-last_of : ℕ → List ℕ → ℕ
+abbrev last_of : ℕ → List ℕ → ℕ
 last_of last [] = last
 last_of last (moment ∷ moments) = last_of moment moments
 
@@ -87,5 +87,5 @@ events-turn me turns [] events next last moment frames same last_is h finishes =
     (subst (λ (o : Option ℕ). TurnsBring me [] moment (next ∷ []) (moment ∷ []) (turn_events next (unwrap_or o moment) moment frames)) (sym last_is) brings))
 events-turn me turns (first ∷ moments) events next last moment frames same last_is h finishes =
     let more = bring-turn me [] first turns (first ∷ moments) events next moment frames same h finishes in
-    let is : last_of first moments ≡ unwrap_or last moment = sym (ap (λ (o : Option ℕ). unwrap_or o moment) last_is ∙ last_same first moments moment) in
+    let is : last_of first (first ∷ moments) ≡ unwrap_or last moment = sym (ap (λ (o : Option ℕ). unwrap_or o moment) last_is ∙ last_same first moments moment) in
     subst (λ (n : ℕ). TurnsBring me [] first (turns ++ next ∷ []) (first ∷ moments ++ moment ∷ []) (events ++ turn_events next n moment frames)) is more

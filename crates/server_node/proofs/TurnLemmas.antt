@@ -145,3 +145,7 @@ module _ {A D : Type 0} (g : Ghosts D) (air : AirGhosts A) (lasts : (disk : D) �
       heard_more = tt;
       ends = (refl, nothing_taken);
     }
+
+-- what was heard stays heard
+pub still-heard : {A : Type 0} (air : AirGhosts A) (start before now : A) (next : Turn) → air.heard now ≡ air.heard before → Hears (air.heard start) (air.heard before) next → Hears (air.heard start) (air.heard now) next
+still-heard air start before now next same h = subst (λ (o : Option (List Turn)). Hears (air.heard start) o next) (sym same) h

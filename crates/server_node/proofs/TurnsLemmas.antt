@@ -17,7 +17,7 @@ use Rattle.disk_model.specs.declared.disk.Disk.{Ghosts}
 use Rattle.file_entries.specs.Command.{Command}
 use Rattle.file_store.specs.OnDisk.{CutsOff}
 use Rattle.ftl0_packets.proofs.OctetLemmas.{IsOctets-append}
-use Rattle.node_events.specs.Events.{NodeEvent, NodeEvents}
+use Rattle.node_events.specs.Events.{Finishes, NodeEvent, NodeEvents}
 use Rattle.node_events.specs.Reading.{HasHeard}
 use Rattle.ftl0_server.specs.Server.{Server}
 use Rattle.session_node.specs.declared.stop.NodeStop.{NodeStop}
@@ -28,7 +28,7 @@ use Rattle.session_node.proofs.DiskLemmas.{cuts_after, cuts_none, cuts_same}
 use Rattle.session_node.proofs.Listening.{of_error, open_append}
 use Rattle.server_node.specs.Node.{IsServing, IsUp, NodeState, Takes, TakesTurn, TakesTurns, TurnEnds, turn_events}
 use Rattle.server_node.specs.Served.{EndsOver}
-use Rattle.server_node.specs.Serving.{StopsBehind, StopsOver, text_of}
+use Rattle.server_node.specs.Serving.{StopsBehind, StopsOver, TakesAll, text_of}
 use Rattle.server_node.proofs.Invariants.{IsTaking}
 use Rattle.server_node.proofs.ServesLemmas.{stops-behind}
 use Rattle.server_node.proofs.TakesLemmas.{takes-none, takes-then, up-after}
@@ -39,6 +39,16 @@ turn_open : (next : Turn) (S : Result ⊤ NodeStop → Type 0) (answer : Polled)
 turn_open next S (polled.Bytes count) not_end ends = ends
 turn_open next S polled.Quiet not_end ends = ends
 turn_open next S polled.End not_end ends = absurd (not_end refl)
+
+-- a turn, whatever octets were heard before
+abbrev pub OneTurnAt : {A D : Type 0} → Ghosts D → AirGhosts A → A → A → NodeState → NodeState → D → D → ℕ → ℕ → Result Polled NodeStop → Type 0
+OneTurnAt g air mid now node_m node_n disk_m disk_n moment last result =
+    (all : List ℕ) → IsOctets all → HasHeard node_m.reader all → TakesTurn g air.heard air.said air.write_faults mid now node_m node_n disk_m disk_n last moment all result
+
+pub turn_at : {A D : Type 0} (g : Ghosts D) (air : AirGhosts A) (mid now : A) (node_m node_n : NodeState) (disk_m disk_n : D) (moment last other : ℕ) (result : Result Polled NodeStop) → last ≡ other
+    → OneTurnAt g air mid now node_m node_n disk_m disk_n moment last result → OneTurnAt g air mid now node_m node_n disk_m disk_n moment other result
+turn_at g air mid now node_m node_n disk_m disk_n moment last other result same h =
+    subst (λ (n : ℕ). OneTurnAt g air mid now node_m node_n disk_m disk_n moment n result) same h
 
 module _ {A C D : Type 0} (g : Ghosts D) (air : AirGhosts A) (given : C → Option (List ℕ)) (lasts : (disk : D) → g.lasts disk disk)
     (on : (first second third : D) → g.lasts first second → g.lasts second third → g.lasts first third) (polls : ℕ) (node : NodeState)
@@ -139,7 +149,7 @@ module _ {A C D : Type 0} (g : Ghosts D) (air : AirGhosts A) (given : C → Opti
 
       brings_n : NodeEvents node.server.me turns_n moments_n (h.events ++ more)
       brings_n = events-turn node.server.me h.turns h.moments h.events taken.next last moment taken.frames h.one_each h.last_is h.brings
-          (subst (λ (me : CallSign). Rattle.node_events.specs.Events.Finishes me (octets_heard h.turns) (octets_of_turn taken.next) taken.frames) h.me taken.finishes)
+          (subst (λ (me : CallSign). Finishes me (octets_heard h.turns) (octets_of_turn taken.next) taken.frames) h.me taken.finishes)
 
       -- how the serving ended in this turn
       turn-ended : (ended : Result Served NodeStop) (server : Server) → IsServing node.server server → (text : List ℕ) (done cut : List Command) → count < polls → TurnsBy ended polls turns_n
@@ -212,7 +222,7 @@ module _ {A C D : Type 0} (g : Ghosts D) (air : AirGhosts A) (given : C → Opti
 
         -- the serving ended with all events taken
         taking-all : (ended : Result Served NodeStop) → count < polls → TurnsBy ended polls turns_n → ¬ IsErrOf ended stop.Disk
-            → ((server : Server) (text : List ℕ) (done cut : List Command) → Rattle.server_node.specs.Serving.TakesAll server (h.events ++ more) text done cut
+            → ((server : Server) (text : List ℕ) (done cut : List Command) → TakesAll server (h.events ++ more) text done cut
             → EndsOver ended h.events server (h.events ++ more) (air.write_faults old) (air.write_faults now) text done cut)
             → Ended now clock_n disk_n node_n ended
         taking-all ended below ends no_disk over server serving =
@@ -239,9 +249,7 @@ module _ {A C D : Type 0} (g : Ghosts D) (air : AirGhosts A) (given : C → Opti
           (cuts_after g on (why ≡ stop.Disk) node.server.store node_m.server.store node_n.server.store disk disk_m disk_n runs.commands stop_is.done stop_is.cut runs.does stop_is.cuts))
 
     abbrev OneTurn : Result Polled NodeStop → Type 0
-    OneTurn result =
-        (all : List ℕ) → IsOctets all → HasHeard node_m.reader all
-        → TakesTurn g air.heard air.said air.write_faults mid now node_m node_n disk_m disk_n (unwrap_or last moment) moment all result
+    OneTurn result = OneTurnAt g air mid now node_m node_n disk_m disk_n moment (unwrap_or last moment) result
 
     -- this turn, behind the others
     this_turn : (result : Result Polled NodeStop) → OneTurn result

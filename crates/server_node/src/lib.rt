@@ -6,4 +6,5 @@ mod serving;
 mod terms;
 
 pub use serving::serve;
+pub use session_node::{NodeStop, Served, SessionTerms, session};
 pub use terms::ServerTerms;

@@ -4,7 +4,7 @@ use Rattle.px_base.specs.CallSign.{CallSign}
 use Rattle.ax25_frames.specs.Values.{value_of}
 use Rattle.node_events.specs.Events.{Finishes}
 use Rattle.server_node.specs.Node.{HearsAfter, IsUp, NodeState}
-use Rattle.server_node.proofs.HearingLemmas.{hears-so, no-frame, octet-heard, one-frame}
+use Rattle.server_node.proofs.HearingLemmas.{hears-so, is_true, no-frame, octet-heard, one-frame}
 use Rattle.server_node.proofs.TakesLemmas.{takes-none}
 use Rattle.server_node.proofs.node.ServerNode.hear_octet.Goals as goal
 
@@ -32,7 +32,7 @@ returns-in-Some-clause-hears g c =
     hears-so g.D.Disk g.A.Air g.met.D.Disk.lasts_same g.met.D.Disk.lasts_on c.args.moment c.args.air.now c.hear.new.air (record { reader = a.reader; server = a.server }) new c.args.disk.now c.hear.new.disk all (c.args.octet ∷ [])
     (value_of c.in-Some.frame ∷ []) c.hear.result
     (subst (λ (m : CallSign). Finishes m all (c.args.octet ∷ []) (value_of c.in-Some.frame ∷ [])) me
-    (one-frame c.feed.new.self.me a.reader c.feed.new.self c.args.octet all heard (Some (value_of c.in-Some.frame)) (c.feed.ensures.ended.0 ?) c.in-Some.ensures.frame c.feed.result c.if-not-feed.false c.feed.ensures.hears))
+    (one-frame c.feed.new.self.me a.reader c.feed.new.self c.args.octet all heard (Some (value_of c.in-Some.frame)) (c.feed.ensures.ended.0 (is_true c.feed.result c.if-not-feed.false)) c.in-Some.ensures.frame c.feed.result c.if-not-feed.false c.feed.ensures.hears))
     (octet-heard a.server.me a.reader c.feed.new.self c.args.octet all heard c.feed.result c.feed.ensures.hears)
     c.hear.ensures.takes)
 
@@ -47,6 +47,6 @@ returns-in-None-clause-hears g c =
     subst at_old c.self.view_is (λ up all octets heard.
     hears-so g.D.Disk g.A.Air g.met.D.Disk.lasts_same g.met.D.Disk.lasts_on c.args.moment c.args.air.now c.args.air.now (record { reader = a.reader; server = a.server }) new c.args.disk.now c.args.disk.now all (c.args.octet ∷ []) [] (Ok tt)
     (subst (λ (m : CallSign). Finishes m all (c.args.octet ∷ []) []) me
-    (one-frame c.feed.new.self.me a.reader c.feed.new.self c.args.octet all heard None (c.feed.ensures.ended.0 ?) c.in-None.ensures.frame c.feed.result c.if-not-feed.false c.feed.ensures.hears))
+    (one-frame c.feed.new.self.me a.reader c.feed.new.self c.args.octet all heard None (c.feed.ensures.ended.0 (is_true c.feed.result c.if-not-feed.false)) c.in-None.ensures.frame c.feed.result c.if-not-feed.false c.feed.ensures.hears))
     (octet-heard a.server.me a.reader c.feed.new.self c.args.octet all heard c.feed.result c.feed.ensures.hears)
     (takes-none g.D.Disk g.A.Air g.met.D.Disk.lasts_same g.met.D.Disk.lasts_on c.args.air.now c.args.air.now a.server c.args.disk.now up refl)) c.requires.up

@@ -43,7 +43,7 @@ returns-in_err-hear_octet-clause-heard g c = c.in_err-hear_octet.ensures.heard �
 pub returns-in_err-hear_octet-clause-counts : goal.returns-in_err-hear_octet-clause-counts
 returns-in_err-hear_octet-clause-counts g c =
     at_exit (λ (r : Result ⊤ NodeStop). HasAirCause g.A.Air.read_faults g.A.Air.write_faults c.args.air.now c.hear_octet.new.air r) c.from_residual.result c.in_err-hear_octet.field-0.0
-    c.from_residual.ensures.1 (counts-after _ _ _ _ _ _ (Err c.in_err-hear_octet.field-0.0) c.loop-octet.invariant.same_reads c.loop-octet.invariant.same_writes c.in_err-hear_octet.ensures.counts)
+    c.from_residual.ensures.1 (counts-after {T = ⊤} _ _ _ _ _ _ (Err c.in_err-hear_octet.field-0.0) c.loop-octet.invariant.same_reads c.loop-octet.invariant.same_writes c.in_err-hear_octet.ensures.counts)
 
 pub loop-octet-preserved : goal.loop-octet-preserved
 loop-octet-preserved g c =
@@ -55,7 +55,7 @@ loop-octet-preserved g c =
 
 pub returns-clause-hears : goal.returns-clause-hears
 returns-clause-hears g c =
-    let all : take c.loop-octet.octet-index c.args.octets.now ≡ c.args.octets.now = take_all c.args.octets.now c.loop-octet.octet-index (omega (arith, c.loop-octet-test.false)) in
+    let all : take c.loop-octet.octet-index c.args.octets.now ≡ c.args.octets.now = take_all c.loop-octet.octet-index c.args.octets.now (omega (arith, c.loop-octet-test.false)) in
     subst
     (λ (o : List ℕ). HearsAfter g.D.Disk g.A.Air.said g.A.Air.write_faults c.args.air.now c.loop-octet.air c.args.self.now c.loop-octet.self c.args.disk.now c.loop-octet.disk c.args.moment o (Ok tt))
     all c.loop-octet.invariant.hears

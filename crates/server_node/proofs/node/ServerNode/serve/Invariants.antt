@@ -1,16 +1,6 @@
-use Rattle.std.proofs.Common.{◌≡◌, ◌≤◌, ℕ, List, [], ◌∷◌, length, OnErr, OnOk, ◌+◌, ◌-◌, ◌*◌, ◌<◌}
-use Rattle.px_base.specs.Octets.{IsOctets}
-use Rattle.px_base.specs.Outside.{Gains, GainsPrefix, HasCause}
-use Rattle.ax25_frames.specs.Kinds.{FitsControl}
-use Rattle.ax25_frames.specs.Values.{value_of}
-use Rattle.kiss.specs.KissText.{kiss_text}
-use Rattle.node_events.specs.Events.{IsFor, hears, tick_since}
-use Rattle.node_events.specs.Reading.{HasHeard}
-use Rattle.ftl0_server.specs.Server.{Server as ServerValue}
-use Rattle.ftl0_server.specs.ServerState.{IsServer, SendsFor}
-use Rattle.server_node.specs.Node.{HearsAfter, IsServing, IsUp, SaysFrames, SaysTaking, Settles, TakesTurn, TakesTurns}
-use Rattle.session_node.specs.Stops.{HasAirCause}
+-- What was heard so far, at which moments, in turns that are all open ones, and that all their events were taken.
+use Rattle.server_node.proofs.Invariants.{IsTaking}
 use Rattle.server_node.proofs.node.ServerNode.serve.Given as goal
 
 abbrev pub invariant-loop-turn : goal.invariant-loop-turn
-invariant-loop-turn g l = ?
+invariant-loop-turn g l = IsTaking g.D.Disk g.A.Air g.C.Clock.given l.fn.air l.fn.clock l.fn.disk l.fn.self l.air l.clock l.disk l.self l.last l.turn
