@@ -134,6 +134,7 @@ impl ServerNode {
         requires up { IsUp D.Disk self.old.server disk.old }
         ensures hears { HearsAfter D.Disk A.said A.write_faults air.old air.new self.old self.new disk.old disk.new moment
             octets.now result }
+        ensures are_octets { IsOctets octets.now }
         ensures up { OnOk result (IsUp D.Disk self.new.server disk.new) }
         ensures me { self.new.server.me ≡ self.old.server.me }
         ensures heard { A.heard air.new ≡ A.heard air.old }

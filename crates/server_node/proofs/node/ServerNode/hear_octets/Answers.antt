@@ -34,6 +34,9 @@ returns-in_err-hear_octet-clause-hears g c =
     (IsOctets-drop (c.loop-octet.octet-index + 1) c.args.octets.now octets)
     (sym (take-append-drop (c.loop-octet.octet-index + 1) c.args.octets.now) ∙ ap (λ (o : List ℕ). o ++ drop (c.loop-octet.octet-index + 1) c.args.octets.now) one_more))
 
+pub returns-in_err-hear_octet-clause-are_octets : goal.returns-in_err-hear_octet-clause-are_octets
+returns-in_err-hear_octet-clause-are_octets g c = octets_from c.args.octets.now (λ i. omega (arith, c.type_inv.octets i))
+
 pub returns-in_err-hear_octet-clause-me : goal.returns-in_err-hear_octet-clause-me
 returns-in_err-hear_octet-clause-me g c = c.in_err-hear_octet.ensures.me ∙ c.loop-octet.invariant.me
 
@@ -59,6 +62,9 @@ returns-clause-hears g c =
     subst
     (λ (o : List ℕ). HearsAfter g.D.Disk g.A.Air.said g.A.Air.write_faults c.args.air.now c.loop-octet.air c.args.self.now c.loop-octet.self c.args.disk.now c.loop-octet.disk c.args.moment o (Ok tt))
     all c.loop-octet.invariant.hears
+
+pub returns-clause-are_octets : goal.returns-clause-are_octets
+returns-clause-are_octets g c = octets_from c.args.octets.now (λ i. omega (arith, c.type_inv.octets i))
 
 pub returns-clause-up : goal.returns-clause-up
 returns-clause-up g c = c.loop-octet.invariant.up

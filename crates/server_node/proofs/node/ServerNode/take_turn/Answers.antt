@@ -1,8 +1,7 @@
 -- A turn's octets are heard, and then it ticks; or one of the two stops it.
-use Rattle.std.proofs.Common.{ℕ, List, [], take, arith, Result, Ok, Err, ◌∙◌}
+use Rattle.std.proofs.Common.{take, Result, Ok, Err, ◌∙◌}
 use Rattle.px_base.specs.declared.air.Polled.{Polled}
-use Rattle.px_base.specs.declared.air.Turn.{Turn}
-use Rattle.ftl0_packets.proofs.OctetLemmas.{IsOctets-nil, IsOctets-take, octets_from}
+use Rattle.ftl0_packets.proofs.OctetLemmas.{IsOctets-nil}
 use Rattle.session_node.specs.declared.stop.NodeStop.{NodeStop}
 use Rattle.session_node.proofs.Serving.{at_exit}
 use Rattle.server_node.specs.Node.{TakesTurn}
@@ -18,11 +17,20 @@ returns-in_err-hear_octets-in-Ok-Bytes-clause-turn g c all octets heard =
     c.args.last c.args.moment all r) c.from_residual.result (c.in_err-hear_octets-in-Ok-Bytes).field-0.0 c.from_residual.ensures.1
     (bytes-stopped g.D.Disk g.A.Air g.met.D.Disk.lasts_same g.met.D.Disk.lasts_on c.args.air.now c.poll.new.self c.args.self.now c.args.disk.now c.args.last c.args.moment all c.in-Ok-Bytes.ensures.said
     c.in-Ok-Bytes.ensures.write_faults c.requires.up c.hear_octets.new.air c.hear_octets.new.self c.hear_octets.new.disk (take c.in-Ok-Bytes.count c.poll.new.room)
-    (IsOctets-take c.in-Ok-Bytes.count c.poll.new.room (octets_from c.poll.new.room (λ i. omega (arith, ?room)))) (c.in_err-hear_octets-in-Ok-Bytes).field-0.0 (fed.hears all octets heard)
+    fed.are_octets (c.in_err-hear_octets-in-Ok-Bytes).field-0.0 (fed.hears all octets heard)
     (still-heard g.A.Air _ _ _ _ fed.heard polled))
 
 pub returns-in_err-tick-in-Ok-Bytes-clause-turn : goal.returns-in_err-tick-in-Ok-Bytes-clause-turn
-returns-in_err-tick-in-Ok-Bytes-clause-turn g c all octets heard = ?
+returns-in_err-tick-in-Ok-Bytes-clause-turn g c all octets heard =
+    let polled = rw c.in-Ok-Bytes.field-0-is at c.in-Ok-Bytes.ensures.heard in
+    let fed = (c.in_ok-hear_octets-in-Ok-Bytes).ensures in
+    let ticked = c.in_err-tick-in-Ok-Bytes.ensures in
+    at_exit
+    (λ (r : Result Polled NodeStop). TakesTurn g.D.Disk g.A.Air.heard g.A.Air.said g.A.Air.write_faults c.args.air.now c.tick.new.air c.args.self.now c.tick.new.self c.args.disk.now c.tick.new.disk
+    c.args.last c.args.moment all r) (c.from_residual-in_err-tick-in-Ok-Bytes).result c.in_err-tick-in-Ok-Bytes.field-0.0 (c.from_residual-in_err-tick-in-Ok-Bytes).ensures.1
+    (bytes-tick-stopped g.D.Disk g.A.Air g.met.D.Disk.lasts_same g.met.D.Disk.lasts_on c.args.air.now c.poll.new.self c.args.self.now c.args.disk.now c.args.last c.args.moment all c.in-Ok-Bytes.ensures.said
+    c.in-Ok-Bytes.ensures.write_faults c.requires.up c.hear_octets.new.air c.hear_octets.new.self c.hear_octets.new.disk (take c.in-Ok-Bytes.count c.poll.new.room) fed.are_octets (fed.hears all octets heard)
+    fed.counts.1 c.tick.new.air c.tick.new.self c.tick.new.disk c.in_err-tick-in-Ok-Bytes.field-0.0 (still-heard g.A.Air _ _ _ _ (ticked.heard ∙ fed.heard) polled) ticked.ticks)
 
 pub returns-in_err-tick-in-Ok-Quiet-clause-turn : goal.returns-in_err-tick-in-Ok-Quiet-clause-turn
 returns-in_err-tick-in-Ok-Quiet-clause-turn g c all octets heard =
@@ -36,7 +44,13 @@ returns-in_err-tick-in-Ok-Quiet-clause-turn g c all octets heard =
     (still-heard g.A.Air _ _ _ _ ticked.heard polled) ticked.ticks)
 
 pub returns-in_ok-tick-in-Ok-Bytes-clause-turn : goal.returns-in_ok-tick-in-Ok-Bytes-clause-turn
-returns-in_ok-tick-in-Ok-Bytes-clause-turn g c all octets heard = ?
+returns-in_ok-tick-in-Ok-Bytes-clause-turn g c all octets heard =
+    let polled = rw c.in-Ok-Bytes.field-0-is at c.in-Ok-Bytes.ensures.heard in
+    let fed = (c.in_ok-hear_octets-in-Ok-Bytes).ensures in
+    let ticked = c.in_ok-tick-in-Ok-Bytes.ensures in
+    bytes-taken g.D.Disk g.A.Air g.met.D.Disk.lasts_same g.met.D.Disk.lasts_on c.args.air.now c.poll.new.self c.args.self.now c.args.disk.now c.args.last c.args.moment all c.in-Ok-Bytes.ensures.said
+    c.in-Ok-Bytes.ensures.write_faults c.requires.up c.hear_octets.new.air c.hear_octets.new.self c.hear_octets.new.disk (take c.in-Ok-Bytes.count c.poll.new.room) fed.are_octets (fed.hears all octets heard)
+    fed.counts.1 c.tick.new.air c.tick.new.self c.tick.new.disk c.in-Ok-Bytes.count (still-heard g.A.Air _ _ _ _ (ticked.heard ∙ fed.heard) polled) ticked.reader ticked.ticks
 
 pub returns-in_ok-tick-in-Ok-Quiet-clause-turn : goal.returns-in_ok-tick-in-Ok-Quiet-clause-turn
 returns-in_ok-tick-in-Ok-Quiet-clause-turn g c all octets heard =
