@@ -2,6 +2,7 @@ pub mod HearingLemmas
 pub mod Invariants
 pub mod SendingLemmas
 pub mod ServesLemmas
+pub mod ServingLemmas
 pub mod StepLemmas
 pub mod TakesLemmas
 pub mod TurnEvents
