@@ -4,6 +4,7 @@ pub mod SendingLemmas
 pub mod ServesLemmas
 pub mod ServingLemmas
 pub mod StepLemmas
+pub mod StoreLemmas
 pub mod TakesLemmas
 pub mod TurnEvents
 pub mod TurnLemmas

@@ -1,6 +1,7 @@
 //! The node of a server: what serves its sessions over an air, a clock and the disk of its store.
 #![tactic(auto)]
 
+pub mod laws;
 mod node;
 mod serving;
 mod terms;
