@@ -111,11 +111,11 @@ module _ {A D : Type 0} (g : Ghosts D) (air : AirGhosts A) (lasts : (disk : D) �
       same_reads = refl;
       same_writes = refl;
       hears = λ all octets heard. record {
-          frames = [];
-          finishes = finishes-none node.server.me all;
-          heard = heard-none node.reader all heard;
-          takes = takes-none g air lasts on old old node.server disk up refl;
-        };
+        frames = [];
+        finishes = finishes-none node.server.me all;
+        heard = heard-none node.reader all heard;
+        takes = takes-none g air lasts on old old node.server disk up refl;
+      };
     }
 
     module _ (mid : A) (disk_m : D) (node_m : NodeState) (seen : List ℕ) (h : IsHearing g air moment old disk node mid disk_m node_m seen) (seen_octets : IsOctets seen)

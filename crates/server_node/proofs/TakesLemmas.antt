@@ -176,8 +176,7 @@ module _ {A D : Type 0} (g : Ghosts D) (air : AirGhosts A) (lasts : (disk : D) â
       done = (happening server event None).done;
       cut = [];
       stops =
-          stops-at stop.AirWrite (air.write_faults before) (air.write_faults now) [] server event s.text (happening server event None).done
-          (
+          stops-at stop.AirWrite (air.write_faults before) (air.write_faults now) [] server event s.text (happening server event None).done (
             s.frames,
             settled s.last,
             record { silent = serving.silent; done_is = refl; cut_is = sym (uncut server event); halt_is = sym by.0; last = s.last; sent = s.empties; new_is = refl },
@@ -199,8 +198,7 @@ module _ {A D : Type 0} (g : Ghosts D) (air : AirGhosts A) (lasts : (disk : D) â
       done = (happening server event (Some by.0)).done;
       cut = (happening server event (Some by.0)).cut;
       stops =
-          stops-at stop.Disk (air.write_faults before) (air.write_faults now) (happening server event (Some by.0)).cut server event s.text (happening server event (Some by.0)).done
-          (
+          stops-at stop.Disk (air.write_faults before) (air.write_faults now) (happening server event (Some by.0)).cut server event s.text (happening server event (Some by.0)).done (
             by.0,
             s.frames,
             settled s.last,
