@@ -1,4 +1,5 @@
 pub mod Inside
+pub mod Laws
 pub mod Node
 pub mod Served
 pub mod Serving

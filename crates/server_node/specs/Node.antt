@@ -1,7 +1,7 @@
 -- How a server's node goes on: what it hears and says, octet by octet and turn by turn.
 use Rattle.std.specs.Prelude.{◌≡◌, ◌≢◌, ℕ, List, [], ◌++◌, false, Result, Ok, Err, IsErrOf, MatchResult, OnErr, OnOk, Option, ⊤}
-use Rattle.px_base.specs.Octets.{IsOctets}
-use Rattle.px_base.specs.Outside.{Gains, GainsPrefix, Grows}
+use Rattle.px_base.specs.Octets.{IsFront, IsOctets}
+use Rattle.px_base.specs.Outside.{Gains, Grows}
 use Rattle.px_base.specs.Polling.{Hears, HearsAll, IsOpen, octets_of_turn}
 use Rattle.px_base.specs.declared.air.Air.{Ghosts as AirGhosts}
 use Rattle.px_base.specs.declared.air.AirDown.{AirDown}
@@ -17,7 +17,7 @@ use Rattle.file_store.specs.State.{StandsOn}
 use Rattle.node_events.specs.Events.{Finishes, NodeEvent, heard_at, tick_of}
 use Rattle.node_events.specs.Reading.{HasHeard}
 use Rattle.node_events.specs.Station.{StationValue}
-use Rattle.ftl0_server.specs.Server.{Server, settled}
+use Rattle.ftl0_server.specs.Server.{IsSilent, Server, settled}
 use Rattle.ftl0_server.specs.ServerState.{IsServer, ServerState, server_pending}
 use Rattle.ftl0_server.specs.ServerStep.{Empties}
 use Rattle.session_node.specs.declared.stop.NodeStop.{NodeStop}
@@ -31,11 +31,18 @@ pub record NodeState : Type 0 where
   pub reader : StationValue
   pub server : ServerState
 
--- The server stands on the disk, and nothing is to be sent.
-pub record IsUp {D : Type 0} (g : Ghosts D) (server : ServerState) (disk : D) : Type 0 where
-  pub healthy : server.store.journal.failed ≡ false
-  pub stands_on : StandsOn g server.store disk
-  pub silent : server_pending server ≡ false
+-- The server stands for that one, which has nothing to send.
+pub record IsServing (self : ServerState) (server : Server) : Type 0 where
+  pub is : IsServer self server
+  pub silent : IsSilent server
+
+-- The server stands on the disk, it stands for one of the definitions, and nothing is to be sent.
+pub record IsUp {D : Type 0} (g : Ghosts D) (self : ServerState) (disk : D) : Type 0 where
+  pub healthy : self.store.journal.failed ≡ false
+  pub stands_on : StandsOn g self.store disk
+  pub silent : server_pending self ≡ false
+  pub server : Server
+  pub serving : IsServing self server
 
 -- All that the server has to send was said; or a front of it, of which there is some, where saying failed.
 pub record SaysFrames {A : Type 0} (said : A → Option (List ℕ)) (before now : A) (server : Server)
@@ -43,51 +50,52 @@ pub record SaysFrames {A : Type 0} (said : A → Option (List ℕ)) (before now 
   pub frames : List FrameValue
   pub last : Server
   pub empties : Empties server frames last
-  pub ok : OnOk result (Gains (said before) (said now) (text_of frames))
-  pub err : OnErr result (GainsPrefix (said before) (said now) (text_of frames))
-  pub some : OnErr result (frames ≢ [])
+  pub text : List ℕ
+  pub text_said : Gains (said before) (said now) text
+  pub ok : OnOk result (text ≡ text_of frames)
+  pub err : OnErr result (IsFront text (text_of frames) × (frames ≢ []))
 
--- whichever server it stood for, it is that one once it has sent all
-abbrev pub Settles : ServerState → ServerState → Type 0
-Settles old new =
-    (server : Server) (frames : List FrameValue) (last : Server) → IsServer old server → Empties server frames last
-    → IsServer new (settled last)
+-- All that the server had to send was said, and it is the one that has sent it.
+pub record Settles {A : Type 0} (said : A → Option (List ℕ)) (before now : A) (new : ServerState) (server : Server) :
+    Type 0 where
+  pub frames : List FrameValue
+  pub last : Server
+  pub empties : Empties server frames last
+  pub text_said : Gains (said before) (said now) (text_of frames)
+  pub settled_is : IsServer new (settled last)
+  pub silent : server_pending new ≡ false
 
--- From one server to another the node takes these events, says this text, and the commands are done on the disk.
-pub record RunsOn {D : Type 0} (g : Ghosts D) (old new : ServerState) (disk disk_now : D) (server : Server)
-    (events : List NodeEvent) (text : List ℕ) : Type 0 where
+-- From one server to another the node takes these events: their frames are said, and the commands are done on the disk.
+pub record RunsOn {A D : Type 0} (g : Ghosts D) (said : A → Option (List ℕ)) (before now : A) (old new : ServerState)
+    (disk disk_now : D) (server : Server) (events : List NodeEvent) : Type 0 where
   pub frames : List FrameValue
   pub commands : List Command
-  pub now : Server
-  pub serves : ServesOver server events frames commands now
-  pub text_is : text ≡ text_of frames
-  pub stands : IsServer new now
+  pub next : Server
+  pub serves : ServesOver server events frames commands next
+  pub text_said : Gains (said before) (said now) (text_of frames)
+  pub serving : IsServing new next
+  pub silent : server_pending new ≡ false
   pub does : Does g ⊥ old.store new.store disk disk_now commands
 
--- The node stopped at one of these events, and its commands up to there are done on the disk.
-pub record StopsOn {D : Type 0} (g : Ghosts D) (old new : ServerState) (disk disk_now : D) (server : Server)
-    (events : List NodeEvent) (why : NodeStop) (writes writes_now : ℕ) (text : List ℕ) : Type 0 where
+-- The node stopped at one of these events: this was said, and the commands up to there are done on the disk.
+pub record StopsOn {A D : Type 0} (g : Ghosts D) (said : A → Option (List ℕ)) (writes : A → ℕ) (before now : A)
+    (old new : ServerState) (disk disk_now : D) (server : Server) (events : List NodeEvent) (why : NodeStop) :
+    Type 0 where
+  pub text : List ℕ
+  pub text_said : Gains (said before) (said now) text
   pub done : List Command
   pub cut : List Command
-  pub stops : StopsOver server events why writes writes_now text done cut
+  pub stops : StopsOver server events why (writes before) (writes now) text done cut
   pub cuts : CutsOff g (why ≡ stop.Disk) old.store new.store disk disk_now done cut
 
 -- These events were taken, or the node stopped at one of them, whichever server it stood for.
 abbrev pub Takes :
-    {D : Type 0} → Ghosts D → ServerState → ServerState → D → D → List NodeEvent → ℕ → ℕ → List ℕ
-    → Result ⊤ NodeStop → Type 0
-Takes g old new disk disk_now events writes writes_now text result =
-    (server : Server) → IsServer old server
-    → MatchResult result (λ _. RunsOn g old new disk disk_now server events text)
-    (λ why. StopsOn g old new disk disk_now server events why writes writes_now text)
-
--- this text was said, and these events were taken, or the node stopped at one of them
-abbrev pub SaysTaking :
     {A D : Type 0} → Ghosts D → (A → Option (List ℕ)) → (A → ℕ) → A → A → ServerState → ServerState → D → D
     → List NodeEvent → Result ⊤ NodeStop → Type 0
-SaysTaking g said writes before now old new disk disk_now events result =
-    (text : List ℕ) × Gains (said before) (said now) text
-    × Takes g old new disk disk_now events (writes before) (writes now) text result
+Takes g said writes before now old new disk disk_now events result =
+    (server : Server) → IsServing old server
+    → MatchResult result (λ _. RunsOn g said before now old new disk disk_now server events)
+    (StopsOn g said writes before now old new disk disk_now server events)
 
 -- The reader, which has heard these octets, hears these others, and the node takes the frames for the station that they
 -- finish, all at this moment; or it stopped at one of them.
@@ -98,7 +106,7 @@ pub record HearsOctets {A D : Type 0} (g : Ghosts D) (said : A → Option (List 
   pub finishes : Finishes old.server.me all octets frames
   pub heard : OnOk result (HasHeard new.reader (all ++ octets))
   pub takes :
-      SaysTaking g said writes before now old.server new.server disk disk_now (heard_at moment frames) result
+      Takes g said writes before now old.server new.server disk disk_now (heard_at moment frames) result
 
 -- the same whatever octets the reader has heard
 abbrev pub HearsAfter :
@@ -139,7 +147,7 @@ pub record TakesTurn {A D : Type 0} (g : Ghosts D) (heard : A → Option (List T
   pub heard_more : OnOk result (HasHeard new.reader (all ++ octets_of_turn next))
   pub ends :
       TurnEnds next result
-      (SaysTaking g said writes before now old.server new.server disk disk_now (turn_events next last moment frames))
+      (Takes g said writes before now old.server new.server disk disk_now (turn_events next last moment frames))
 
 -- The turns of a node, from a server on: what was heard, said and done, and how they ended.
 pub record TakesTurns {A C D : Type 0} (g : Ghosts D) (air : AirGhosts A) (given : C → Option (List ℕ)) (before now : A)

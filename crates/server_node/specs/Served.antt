@@ -1,14 +1,16 @@
 -- What a server says over its turns, what it does to its disk, and why it ends.
-use Rattle.std.specs.Prelude.{◌≡◌, ◌⊎◌, ℕ, ◌≤◌, List, ◌++◌, length, Option, IfSome, Result, Ok, Err, IsErrOf}
+use Rattle.std.specs.Prelude.{◌≡◌, ◌⊎◌, ℕ, ◌≤◌, List, [], ◌++◌, length, Option, IfSome, Result, Ok, Err, IsErrOf}
 use Rattle.px_base.specs.Outside.{Gains, Grows}
 use Rattle.px_base.specs.Polling.{HearsAll}
 use Rattle.px_base.specs.declared.air.Turn.{Turn}
 use Rattle.px_base.specs.declared.air.Air.{Ghosts as AirGhosts}
 use Rattle.disk_model.specs.declared.disk.Disk.{Ghosts}
-use Rattle.file_journal.specs.Calls.{Puts}
+use Rattle.file_journal.specs.Calls.{Becomes, Puts, TakesStep}
+use Rattle.file_journal.specs.Journal.{after_recovery}
 use Rattle.file_journal.specs.Walk.{state}
 use Rattle.file_entries.specs.Command.{Command}
 use Rattle.file_entries.specs.IsStore.{IsStore}
+use Rattle.file_entries.specs.Records.{store_magic}
 use Rattle.file_entries.specs.Store.{Store}
 use Rattle.file_store.specs.State.{standing_of}
 use Rattle.ax25_link.specs.Window.{window_of}
@@ -65,13 +67,17 @@ pub record ServerRan (server : Server) (polls : ℕ) (moments : List ℕ) (turns
   pub ends_over : EndsOver result least server events writes writes_now text done cut
 
 -- A server of these terms was started over the store for which the disk's content stood, and served: what it said to what
--- was heard, and what stands on the disk at each moment. Only a write or a sync that failed ends it by the disk.
+-- was heard, and what stands on the disk at each moment. Its recovery changed no octet of a formatted store, and made a
+-- formatted one of any other content; without commands that is what the disk has at the end. Only a write or a sync that
+-- failed ends it by the disk.
 pub record ServerServed {A C D : Type 0} (g : Ghosts D) (air : AirGhosts A) (given : C → Option (List ℕ))
     (disk disk_now : D) (before now : A) (clock clock_now : C) (terms : ServerTerms)
     (result : Result Served NodeStop) : Type 0 where
   pub start : Store
   pub rules : IsStore start
   pub stood : IfSome (g.content disk) (λ octets. standing_of terms.limits.blocks octets ≡ state start)
+  pub recovered : D
+  pub octets : TakesStep g disk recovered (Becomes (after_recovery store_magic terms.limits.blocks))
   pub turns : List Turn
   pub moments : List ℕ
   pub text : List ℕ
@@ -85,6 +91,8 @@ pub record ServerServed {A C D : Type 0} (g : Ghosts D) (air : AirGhosts A) (giv
       done cut result
   pub puts : Puts g (IsErrOf result stop.Disk) disk disk_now
   pub stands : StandsThrough g (IsErrOf result stop.Disk) start done cut disk disk_now
+  pub ready : stands.ready ≡ g.moment recovered
+  pub none : done ++ cut ≡ [] → disk_now ≡ recovered
 
 -- The recovery of the store was refused, and nothing was heard or said; or the server was started, and served.
 abbrev pub ServerEnds :

@@ -1,6 +1,6 @@
 -- How a server goes on over the events of its node: which frames it says, and which commands of the store it does, up to a
 -- stop.
-use Rattle.std.specs.Prelude.{◌≡◌, ◌≢◌, ℕ, List, [], ◌∷◌, ◌++◌, flat_map, Option, None, Some}
+use Rattle.std.specs.Prelude.{◌≡◌, ◌≢◌, ◌⊎◌, ℕ, List, [], ◌∷◌, ◌++◌, flat_map, Option, None, Some}
 use Rattle.px_base.specs.Octets.{IsFront}
 use Rattle.kiss.specs.KissText.{kiss_text}
 use Rattle.ax25_frames.specs.FrameText.{FrameValue, canonical}
@@ -28,8 +28,8 @@ ServesOver server (event ∷ events) frames commands now =
 
 -- A stop at this event: the text said of its frames, the commands done, and those in one of which the disk failed. Where
 -- saying failed the event's commands are done, and a front of its frames' text was said. Where the disk failed at one of its
--- packets, the frames of that step were said. Where a row isn't built, or there is no memory, none was: the commands before
--- are done, or some of the event's.
+-- packets, the frames of that step were said. Where a row isn't built none was, and the commands before are done. Where
+-- there is no memory none was, and no command is done, as for a new session, or those before one of its packets.
 abbrev pub StopsAt : NodeStop → Server → NodeEvent → ℕ → ℕ → List ℕ → List Command → List Command → Type 0
 StopsAt stop.AirWrite server event writes writes_now text done cut =
     (frames : List FrameValue) × (next : Server) × ServerStep server event None done [] goes_on frames next
@@ -41,7 +41,9 @@ StopsAt (stop.NotBuilt kind) server event writes writes_now text done cut =
     ((happening server event None).halt ≡ unbuilt kind) × (done ≡ (happening server event None).done)
     × (text ≡ []) × (cut ≡ [])
 StopsAt stop.OutOfMemory server event writes writes_now text done cut =
-    (others : List Command) × ((happening server event None).done ≡ done ++ others) × (text ≡ []) × (cut ≡ [])
+    ((done ≡ []) ⊎ ((part : ℕ) × ((happening server event (Some part)).halt ≡ fails)
+    × (done ≡ (happening server event (Some part)).done)))
+    × (text ≡ []) × (cut ≡ [])
 StopsAt stop.AirRead server event writes writes_now text done cut = ⊥
 StopsAt stop.Spent server event writes writes_now text done cut = ⊥
 StopsAt (stop.NotAStore found) server event writes writes_now text done cut = ⊥

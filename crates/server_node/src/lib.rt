@@ -1,9 +1,11 @@
 //! The node of a server: what serves its sessions over an air, a clock and the disk of its store.
 #![tactic(auto)]
 
+pub mod laws;
 mod node;
-mod serve;
+mod serving;
 mod terms;
 
-pub use serve::serve;
+pub use serving::serve;
+pub use session_node::{NodeStop, Served, SessionTerms, session};
 pub use terms::ServerTerms;

@@ -1,6 +1,6 @@
 //! The node's turns: octets in from the air, frames out to it, the store's commands on the disk.
 
-ghost use Rattle.std.specs.Prelude.{◌≡◌, ◌≤◌, ℕ, List, [], ◌∷◌, length, false, OnErr, OnOk};
+ghost use Rattle.std.specs.Prelude.{◌≡◌, ◌≤◌, ℕ, List, [], ◌∷◌, length, OnErr, OnOk};
 ghost use Rattle.px_base.specs.Octets.{IsOctets};
 ghost use Rattle.px_base.specs.Outside.{Gains, GainsPrefix, HasCause};
 ghost use Rattle.ax25_frames.specs.Kinds.{FitsControl};
@@ -8,18 +8,19 @@ ghost use Rattle.ax25_frames.specs.Values.{value_of};
 ghost use Rattle.kiss.specs.KissText.{kiss_text};
 ghost use Rattle.node_events.specs.Events.{IsFor, hears, tick_since};
 ghost use Rattle.node_events.specs.Reading.{HasHeard};
-ghost use Rattle.ftl0_server.specs.Calls.{SameButLinks};
 ghost use Rattle.ftl0_server.specs.Server.{Server as ServerValue};
-ghost use Rattle.ftl0_server.specs.ServerState.{IsServer, SendsFor, server_pending};
-ghost use Rattle.server_node.specs.Node.{HearsAfter, IsUp, SaysFrames, SaysTaking, Settles, TakesTurn, TakesTurns};
+ghost use Rattle.ftl0_server.specs.ServerState.{IsServer, SendsFor};
+ghost use Rattle.server_node.specs.Node.{HearsAfter, IsServing, IsUp, SaysFrames, Settles, Takes, TakesTurn, TakesTurns};
 ghost use Rattle.session_node.specs.Stops.{HasAirCause};
 
 use arrayvec::ArrayVec;
 use ax25_frames::Frame;
 use disk_model::Disk;
+use ftl0_server::laws::empties_law;
 use ftl0_server::{Server, ServerStop};
 use kiss::write_frame;
 use node_events::StationReader;
+use node_events::laws::some_frames_law;
 use px_base::{Air, AirDown, Call, Clock, Polled, ROOM};
 use session_node::{NodeStop, Served};
 use std::marker::Model;
@@ -71,7 +72,7 @@ impl ServerNode {
     ) -> Result<Served, NodeStop>
         requires heard { HasHeard self.old.reader [] }
         requires up { IsUp D.Disk self.old.server disk.old }
-        ensures serves { (server : ServerValue) → IsServer self.old.server server →
+        ensures serves { (server : ServerValue) → IsServing self.old.server server →
             TakesTurns D.Disk A.Air C.given air.old air.new clock.old clock.new self.old self.new disk.old disk.new polls
             server result }
         ensures counts { HasAirCause A.read_faults A.write_faults air.old air.new result }
@@ -133,11 +134,14 @@ impl ServerNode {
         requires up { IsUp D.Disk self.old.server disk.old }
         ensures hears { HearsAfter D.Disk A.said A.write_faults air.old air.new self.old self.new disk.old disk.new moment
             octets.now result }
+        ensures are_octets { IsOctets octets.now }
         ensures up { OnOk result (IsUp D.Disk self.new.server disk.new) }
         ensures me { self.new.server.me ≡ self.old.server.me }
         ensures heard { A.heard air.new ≡ A.heard air.old }
         ensures counts { HasAirCause A.read_faults A.write_faults air.old air.new result }
     {
+        // A stop leaves octets that finish frames too.
+        some_frames_law();
         for octet in octets {
             self.hear_octet(*octet, disk, air, moment)?;
         }
@@ -178,7 +182,7 @@ impl ServerNode {
         last: u32,
     ) -> Result<(), NodeStop>
         requires up { IsUp D.Disk self.old.server disk.old }
-        ensures ticks { SaysTaking D.Disk A.said A.write_faults air.old air.new self.old.server self.new.server disk.old
+        ensures ticks { Takes D.Disk A.said A.write_faults air.old air.new self.old.server self.new.server disk.old
             disk.new (tick_since last moment) result }
         ensures reader { self.new.reader ≡ self.old.reader }
         ensures up { OnOk result (IsUp D.Disk self.new.server disk.new) }
@@ -189,9 +193,14 @@ impl ServerNode {
         if moment == last {
             return Ok(());
         }
-        self.server.tick(disk, moment)?;
-        put_frames(&mut self.server, air)?;
-        Ok(())
+        match self.server.tick(disk, moment) {
+            Ok(()) => {}
+            Err(_stop) => unreachable!(),
+        }
+        match put_frames(&mut self.server, air) {
+            Ok(()) => Ok(()),
+            Err(_down) => Err(NodeStop::AirWrite),
+        }
     }
 }
 
@@ -207,7 +216,7 @@ fn hear<D: Disk, A: Air>(
     requires frame { IsFor server.old.me (value_of frame.now) }
     requires numbers { FitsControl (value_of frame.now).kind.control }
     requires up { IsUp D.Disk server.old disk.old }
-    ensures takes { SaysTaking D.Disk A.said A.write_faults air.old air.new server.old server.new disk.old disk.new
+    ensures takes { Takes D.Disk A.said A.write_faults air.old air.new server.old server.new disk.old disk.new
         (hears (value_of frame.now) moment ∷ []) result }
     ensures up { OnOk result (IsUp D.Disk server.new disk.new) }
     ensures me { server.new.me ≡ server.old.me }
@@ -217,28 +226,33 @@ fn hear<D: Disk, A: Air>(
     match server.hear(disk, frame, moment) {
         Ok(()) => match put_frames(server, air) {
             Ok(()) => Ok(()),
-            Err(AirDown) => Err(NodeStop::AirWrite),
+            Err(_down) => Err(NodeStop::AirWrite),
         },
         Err(ServerStop::Disk) => {
             let _ = put_frames(server, air);
             Err(NodeStop::Disk)
         }
-        Err(stop) => Err(NodeStop::from(stop)),
+        Err(ServerStop::NotBuilt { kind }) => Err(NodeStop::NotBuilt { kind }),
+        Err(ServerStop::OutOfMemory) => Err(NodeStop::OutOfMemory),
     }
 }
 
 /// Puts all frames that are pending, each by one put.
 fn put_frames<A: Air>(server: &mut Server, air: &mut A) -> Result<(), AirDown>
-    ensures says { (value : ServerValue) → SendsFor server.old value → SaysFrames A.said air.old air.new value result }
-    ensures settles { OnOk result (Settles server.old server.new) }
-    ensures silent { OnOk result (server_pending server.new ≡ false) }
-    ensures same { SameButLinks server.old server.new }
+    ensures says { (value : ServerValue) → SendsFor server.old value →
+        SaysFrames A.said air.old air.new value result }
+    ensures settles { OnOk result ((value : ServerValue) → IsServer server.old value →
+        Settles A.said air.old air.new server.new value) }
+    ensures me { server.new.me ≡ server.old.me }
+    ensures store { server.new.store ≡ server.old.store }
     ensures cause { HasCause (A.write_faults air.old) (A.write_faults air.new) result }
     ensures heard { A.heard air.new ≡ A.heard air.old }
     ensures reads { A.read_faults air.new ≡ A.read_faults air.old }
 {
     let mut frame = ArrayVec::new();
     while server.next_out(&mut frame) {
+        // Whatever comes of this put, what is left to send comes to an end.
+        empties_law(server);
         put_frame(&frame, air)?;
     }
     Ok(())

@@ -41,7 +41,7 @@ use Rattle.session_node.proofs.NodeLemmas.{runs_none}
 use Rattle.session_node.proofs.RunLemmas.{runs_on-trans, stops_after}
 
 -- open turns and one more
-open_append : (turns : List Turn) (next : Turn) → AllByRecursion IsOpen turns → IsOpen next → AllByRecursion IsOpen (turns ++ next ∷ [])
+pub open_append : (turns : List Turn) (next : Turn) → AllByRecursion IsOpen turns → IsOpen next → AllByRecursion IsOpen (turns ++ next ∷ [])
 open_append [] next h k = (k, tt)
 open_append (t ∷ turns) next h k = (h.0, open_append turns next h.1 k)
 
@@ -57,7 +57,7 @@ turn-open next S polled.Quiet not_end ends = ends
 turn-open next S polled.End not_end ends = absurd (not_end refl)
 
 -- the error of a session
-of_error : (a b : NodeStop) (result : Result Served NodeStop) → result ≡ Err a → IsErrOf result b → a ≡ b
+pub of_error : (a b : NodeStop) (result : Result Served NodeStop) → result ≡ Err a → IsErrOf result b → a ≡ b
 of_error a b result was is = cc (was, is)
 
 -- the disk didn't fail

@@ -105,7 +105,7 @@ on_recovered g air given mid now before after clock clock_n first terms caller s
     subst P (ap (λ (s : ServerState). s.store) is) h
 
 -- no commands but those of two empty lists
-append-none : (a b : List Command) → a ++ b ≡ [] → (a ≡ []) × (b ≡ [])
+pub append-none : (a b : List Command) → a ++ b ≡ [] → (a ≡ []) × (b ≡ [])
 append-none [] b none = (refl, none)
 append-none (command ∷ a) b none = absurd (cc none)
 

@@ -1,0 +1,202 @@
+-- A server from the recovery of its store to its end.
+use Rattle.std.proofs.Common.{◌≡◌, inl, inr, ⊎_elim, ℕ, ◌+◌, ◌*◌, ◌≤◌, List, [], ◌∷◌, ◌++◌, length, refl, sym, ◌∙◌, ap, subst, arith, Option, Some, IfSome, false}
+use Rattle.std.specs.Prelude.{Result, Ok, Err, IsErrOf}
+use Rattle.px_base.specs.declared.air.Air.{Ghosts as AirGhosts}
+use Rattle.px_base.specs.declared.air.Turn.{Turn}
+use Rattle.disk_model.specs.declared.disk.Disk.{Ghosts}
+use Rattle.file_journal.specs.Calls.{Becomes, CountsFault, Leaves, Puts, Runs, TakesStep, TellsAlike, images_now}
+use Rattle.file_journal.specs.Journal.{after_recovery}
+use Rattle.file_journal.specs.Recovery.{IsFailedSync, IsSyncedFirst}
+use Rattle.file_journal.specs.Walk.{state}
+use Rattle.file_journal.proofs.CallLemmas.{stops_on}
+use Rattle.file_journal.proofs.ToldLemmas.{alike_on, at_told, if_told, told_before, told_weaker}
+use Rattle.file_entries.specs.Command.{Command}
+use Rattle.file_entries.specs.IsStore.{IsStore}
+use Rattle.file_entries.specs.Records.{store_magic}
+use Rattle.file_entries.specs.Store.{Store}
+use Rattle.file_store.specs.OnDisk.{CutsOff, Does, StayDone, after_first}
+use Rattle.file_store.specs.Recovery.{IsRecovered, LeavesAlikeSinceSync, RefusesRecovery, StandsAlike}
+use Rattle.file_store.specs.State.{StandsFor, StoreState, standing_of, store_in}
+use Rattle.file_store.specs.declared.refusals.StoreFault.{StoreFault}
+use Rattle.file_store.specs.declared.refusals.StoreFault.TheVariants as fault
+use Rattle.file_store.proofs.DoesLemmas.{after_first-all}
+use Rattle.ax25_link.specs.Window.{window_of}
+use Rattle.ftl0_server.specs.Server.{new_server}
+use Rattle.ftl0_server.specs.ServerState.{IsServer, ServerState, server_pending}
+use Rattle.session_node.specs.declared.stop.NodeStop.{NodeStop}
+use Rattle.session_node.specs.declared.stop.NodeStop.TheVariants as stop
+use Rattle.session_node.specs.declared.terms.Served.{Served}
+use Rattle.session_node.specs.OnDisk.{EachImage, LeavesStanding}
+use Rattle.session_node.specs.SessionRan.{TurnsBy}
+use Rattle.session_node.specs.Stops.{RefusesSession, stop_of_fault}
+use Rattle.session_node.proofs.DiskLemmas.{cuts_does, cuts_puts}
+use Rattle.session_node.proofs.Sessions.{append-none, refused_exactly, refused_leaves, refused_runs}
+use Rattle.session_node.proofs.Standing.{own_blocks, runs_of_puts, runs_same, stands_through}
+use Rattle.server_node.specs.declared.terms.ServerTerms.{ServerTerms}
+use Rattle.server_node.specs.Node.{IsServing, IsUp, NodeState, TakesTurns}
+use Rattle.server_node.specs.Served.{ServerServed, server_from}
+
+-- ---- a recovery that is refused, whatever it would have given
+
+-- the fault is the fault
+same_fault : (T U : Type 0) (why other : StoreFault) → IsErrOf {T = T} (Err why) other → IsErrOf {T = U} (Err why) other
+same_fault T U why other is = ap Err (faults why other is)
+  where
+    faults : (a b : StoreFault) → IsErrOf {T = T} (Err a) b → a ≡ b
+    faults a b is = cc is
+
+module _ (T : Type 0) (why : StoreFault) where
+  pub start_exactly : (blocks : ℕ) (content : Option (List ℕ)) → RefusesRecovery {T = T} blocks content (Err why) → RefusesSession {T = Served} blocks content (Err (stop_of_fault why))
+  start_exactly blocks content refuses =
+      refused_exactly blocks content why (λ no_disk no_memory. told_weaker content _ _ (λ before told exact. record {
+        not_a_store = λ found. (λ is. (exact.not_a_store found).0 (same_fault StoreState T why (fault.NotAStore found) is), λ stood. same_fault T StoreState why (fault.NotAStore found) ((exact.not_a_store found).1 stood));
+        damaged = λ at. (λ is. (exact.damaged at).0 (same_fault StoreState T why (fault.Damaged at) is), λ stood. same_fault T StoreState why (fault.Damaged at) ((exact.damaged at).1 stood));
+      }) (refuses (λ is. no_disk (same_fault T StoreState why fault.Disk is)) (λ is. no_memory (same_fault T StoreState why fault.OutOfMemory is))))
+
+  module _ {D : Type 0} (g : Ghosts D) (old now : D) where
+    pub start_runs : Runs g (IsErrOf {T = T} (Err why) fault.Disk) old now → Runs g (IsErrOf {T = Served} (Err (stop_of_fault why)) stop.Disk) old now
+    start_runs runs = refused_runs g old now why (runs_same g _ _ (same_fault T StoreState why fault.Disk) (same_fault StoreState T why fault.Disk) old now runs)
+
+    pub start_leaves : (blocks : ℕ) → Leaves g old now (StandsAlike blocks) → LeavesAlikeSinceSync {T = T} g blocks (Err why) old now
+        → ((found : _) → IsErrOf {T = T} (Err why) (fault.NotAStore found) → g.content now ≡ g.content old) → ((at : ℕ) → IsErrOf {T = T} (Err why) (fault.Damaged at) → g.content now ≡ g.content old)
+        → LeavesStanding g blocks (stop_of_fault why) old now
+    start_leaves blocks since_start since_sync untouched untouched_damage =
+        refused_leaves g blocks old now why since_start
+        (told_weaker (g.content old) _ _ (λ before told left. ⊎_elim
+        (λ (synced : IsSyncedFirst g old now (StandsAlike blocks before)). inl synced)
+        (λ (failed : IsErrOf {T = T} (Err why) fault.Disk × IsFailedSync g old now). inr (same_fault T StoreState why fault.Disk failed.0, failed.1))
+        left) since_sync)
+        (λ found is. untouched found (same_fault StoreState T why (fault.NotAStore found) is)) (λ at is. untouched_damage at (same_fault StoreState T why (fault.Damaged at) is))
+
+-- ---- a server over the store that was recovered
+
+-- The server was started over the store that was recovered.
+pub record IsStarted {D : Type 0} (g : Ghosts D) (terms : ServerTerms) (old mid : D) (self : ServerState) : Type 0 where
+  pub recovered : IsRecovered g terms.limits.blocks old mid self.store
+  pub server : IsServer self (new_server terms.me (window_of terms.k) (store_in self.store))
+  pub rules : IsStore (store_in self.store)
+  pub silent : server_pending self ≡ false
+
+-- it has nothing to send
+pub started_serving : {D : Type 0} (g : Ghosts D) (terms : ServerTerms) (old mid : D) (self : ServerState) → IsStarted g terms old mid self → IsServing self (server_from terms (store_in self.store))
+started_serving g terms old mid self started = record { is = started.server; silent = refl }
+
+pub started_up : {D : Type 0} (g : Ghosts D) (terms : ServerTerms) (old mid : D) (self : ServerState) → IsStarted g terms old mid self → IsUp g self mid
+started_up g terms old mid self started = record {
+  healthy = started.recovered.healthy;
+  stands_on = started.recovered.stands_on;
+  silent = started.silent;
+  server = server_from terms (store_in self.store);
+  serving = started_serving g terms old mid self started;
+}
+
+module _ {D : Type 0} (g : Ghosts D) (on : (first second third : D) → g.lasts first second → g.lasts second third → g.lasts first third)
+    (earlier : (disk : D) (t u : ℕ) (image : List ℕ) → t ≤ u → g.images_since disk u image → g.images_since disk t image) (failed : Type 0) (fine : ¬ failed) (blocks : ℕ) (old mid now : D) (start new : StoreState)
+    (alike : TellsAlike (g.content old) (g.content mid)) (stood : IfSome (g.content old) (λ before. standing_of blocks before ≡ state (store_in start)))
+    (since_sync : IfSome (g.content old) (λ before. IsSyncedFirst g old mid (StandsAlike blocks before))) where
+  -- without commands each image is one that the recovery left
+  left_none : Does g failed start new mid now [] → EachImage g now (λ image. StandsFor image (store_in new))
+  left_none does = if_told (g.content now) _ (λ octets told image here.
+      let middle = told_before (g.content mid) (g.content now) octets does.puts.told told in
+      let first = told_before (g.content old) (g.content mid) middle.0 alike middle.1 in
+      let synced = at_told (λ (before : List ℕ). IsSyncedFirst g old mid (StandsAlike blocks before)) first.0 first.1 since_sync in
+      let there : images_now g mid image = subst (λ (disk : D). images_now g disk image) (does.none refl) here in
+      let same = (synced.each image (earlier mid (g.moment old + 1) (g.moment mid) image synced.later there)).same in
+      subst (λ (s : Store). StandsFor image s) (sym (does.done fine).0)
+      (own_blocks blocks image (store_in start) (same ∙ at_told (λ (before : List ℕ). standing_of blocks before ≡ state (store_in start)) first.0 first.1 stood)))
+
+  -- and else one with all of them
+  left_some : (command : Command) (commands : List Command) → Does g failed start new mid now (command ∷ commands) → EachImage g now (λ image. StandsFor image (store_in new))
+  left_some command commands does = if_told (g.content now) _ (λ octets told image here.
+      let all : List Command = command ∷ commands in
+      let middle = told_before (g.content mid) (g.content now) octets does.puts.told told in
+      let calls : g.moment now ≡ g.moment mid + 4 * length all = at_told (λ (_ : List ℕ). g.moment now ≡ g.moment mid + 4 * length all) middle.0 middle.1 (does.calls fine) in
+      let stay : StayDone g (g.moment mid) (length all) (store_in start) all now =
+      at_told (λ (_ : List ℕ). StayDone g (g.moment mid) (length all) (store_in start) all now) middle.0 middle.1 (does.stay fine) in
+      let made = stay (length all) (omega arith) (omega arith) image (subst (λ (t : ℕ). g.images_since now t image) calls here) in
+      let count : made.0 ≡ length all = omega (arith, made.1, made.2) in
+      subst (λ (s : Store). StandsFor image s)
+      (ap (λ (n : ℕ). after_first n (store_in start) all) count ∙ after_first-all all (store_in start) ∙ sym (does.done fine).0) made.3)
+
+  left_by : (commands : List Command) → Does g failed start new mid now commands → EachImage g now (λ image. StandsFor image (store_in new))
+  left_by [] does = left_none does
+  left_by (command ∷ commands) does = left_some command commands does
+
+  -- each image stands for the store that was come to, where the disk didn't fail
+  pub left_at_end : (done cut : List Command) → CutsOff g failed start new mid now done cut → EachImage g now (λ image. StandsFor image (store_in new))
+  left_at_end done cut cuts = left_by (done ++ cut) (cuts_does g on failed start new mid now done cut cuts)
+
+-- writes and syncs after calls that didn't fail
+puts_after : {D : Type 0} (g : Ghosts D) (on : (first second third : D) → g.lasts first second → g.lasts second third → g.lasts first third) (old mid now : D) (P : Type 0) → ¬ P → (failed : Type 0)
+    → Runs g P old mid → Puts g failed mid now → Puts g failed old now
+puts_after g on old mid now P never failed first second =
+    let same = first.faults.same never in
+    record {
+      told = alike_on _ _ _ first.told second.told;
+      reads = second.reads ∙ same.0;
+      faults = subst (λ (n : ℕ). CountsFault n (g.write_faults now) failed) same.1 second.faults;
+      stops = stops_on g on old mid now first.lasts same.0 same.1 second.stops;
+      lasts = on old mid now first.lasts second.lasts;
+    }
+
+module _ {A C D : Type 0} (g : Ghosts D) (air : AirGhosts A) (given : C → Option (List ℕ)) (on : (first second third : D) → g.lasts first second → g.lasts second third → g.lasts first third)
+    (earlier : (disk : D) (t u : ℕ) (image : List ℕ) → t ≤ u → g.images_since disk u image → g.images_since disk t image) (old mid now : D) (before after : A) (clock clock_n : C) (terms : ServerTerms)
+    (node node_n : NodeState) (result : Result Served NodeStop) (started : IsStarted g terms old mid node.server) (failed : Type 0) (fine : ¬ failed) (ok : Runs g failed old mid)
+    (served : TakesTurns g air given before after clock clock_n node node_n mid now terms.polls (server_from terms (store_in node.server.store)) result) where
+  pub server_served : TakesStep g old mid (Becomes (after_recovery store_magic terms.limits.blocks)) → Leaves g old mid (StandsAlike terms.limits.blocks)
+      → IfSome (g.content old) (λ octets. IsSyncedFirst g old mid (StandsAlike terms.limits.blocks octets)) → ServerServed g air given old now before after clock clock_n terms result
+  server_served octets since_start synced =
+      let standing =
+      stands_through g on (IsErrOf result stop.Disk) terms.limits.blocks old mid now node.server.store node_n.server.store served.done served.cut ok.told started.recovered.content since_start synced served.cuts
+      (λ still. left_at_end g on earlier (IsErrOf result stop.Disk) still terms.limits.blocks old mid now node.server.store node_n.server.store ok.told started.recovered.content synced served.done served.cut
+      served.cuts) in
+      record {
+        start = store_in node.server.store;
+        rules = started.rules;
+        stood = started.recovered.content;
+        recovered = mid;
+        octets = octets;
+        turns = served.turns;
+        moments = served.moments;
+        text = served.text;
+        done = served.done;
+        cut = served.cut;
+        turns_heard = served.turns_heard;
+        moments_given = served.moments_given;
+        text_said = served.text_said;
+        ran = served.ran;
+        puts =
+            puts_after g on old mid now failed fine (IsErrOf result stop.Disk) ok (cuts_puts g on (IsErrOf result stop.Disk) node.server.store node_n.server.store mid now served.done served.cut served.cuts);
+        stands = standing.0;
+        ready = standing.1;
+        none = λ none.
+            let both = append-none served.done served.cut none in
+            served.cuts.second.none both.1 ∙ served.cuts.first.none both.0;
+      }
+
+  -- its calls of the disk
+  pub server_runs : Runs g (IsErrOf result stop.Disk) old now
+  server_runs =
+      runs_of_puts g (IsErrOf result stop.Disk) old now
+      (puts_after g on old mid now failed fine (IsErrOf result stop.Disk) ok (cuts_puts g on (IsErrOf result stop.Disk) node.server.store node_n.server.store mid now served.done served.cut served.cuts))
+
+  -- no server is refused that served
+  never_refused : (why : NodeStop) → ((turns : List Turn) → TurnsBy (Err why) terms.polls turns → ⊥) → IsErrOf result why → ⊥
+  never_refused why never is = never served.turns (subst (λ (r : Result Served NodeStop). TurnsBy r terms.polls served.turns) is served.ran.ends)
+
+  pub server_exactly : RefusesSession terms.limits.blocks (g.content old) result
+  server_exactly no_disk no_memory = told_weaker (g.content old) _ _ (λ octets told stood. record {
+    not_a_store = λ found. (λ is. absurd (never_refused (stop.NotAStore found) (λ turns h. h) is), λ none. absurd (cc (sym stood ∙ none)));
+    damaged = λ at. (λ is. absurd (never_refused (stop.Damaged at) (λ turns h. h) is), λ none. absurd (cc (sym stood ∙ none)));
+  }) started.recovered.content
+
+-- the first sync passed, where the recovery did
+pub start_synced : {D T : Type 0} (g : Ghosts D) (blocks : ℕ) (value : T) (old mid : D) → LeavesAlikeSinceSync {T = T} g blocks (Ok value) old mid
+    → IfSome (g.content old) (λ octets. IsSyncedFirst g old mid (StandsAlike blocks octets))
+start_synced {T = T} g blocks value old mid since_sync = told_weaker (g.content old) _ _ (λ octets told left. ⊎_elim
+    (λ (s : IsSyncedFirst g old mid (StandsAlike blocks octets)). s)
+    (λ (failed : IsErrOf {T = T} (Ok value) fault.Disk × IsFailedSync g old mid). absurd (cc failed.0)) left) since_sync
+
+-- and the disk didn't fail in it
+pub not_failed : (T : Type 0) (value : T) → ¬ IsErrOf {T = T} {E = StoreFault} (Ok value) fault.Disk
+not_failed T value is = cc is

@@ -1,0 +1,106 @@
+-- The store of a server is the one after its commands.
+use Rattle.std.proofs.Common.{◌≡◌, ℕ, List, [], ◌∷◌, ◌++◌, Bool, true, false, Option, None, Some, refl, ap, sym, ◌∙◌, append_assoc}
+use Rattle.std.specs.Prelude.{◌&&◌, if◌then◌else◌, slice_get}
+use Rattle.ax25_frames.specs.FrameText.{FrameValue}
+use Rattle.ax25_link.specs.Rows.{is_call}
+use Rattle.file_entries.specs.Command.{Command, after_all}
+use Rattle.file_entries.specs.Store.{Store}
+use Rattle.file_entries.proofs.GrowLemmas.{after_all-append}
+use Rattle.node_events.specs.Events.{NodeEvent, hears, ticks}
+use Rattle.ftl0_server.specs.Server.{Refused, Server, ServerSends, called_by, hearing_at, hearing_by, hearing_stranger, refusing, sends_by, sends_of_places, server_next}
+use Rattle.ftl0_server.specs.ServerStep.{Empties, ServerStep, happening}
+use Rattle.ftl0_server.specs.Slots.{PlacesSend, Slot, connected, first_empty, free, leaving, place_of, places_next}
+use Rattle.server_node.specs.Laws.{ServerComesTo, ServesLaw}
+use Rattle.server_node.specs.Serving.{ServesOver}
+
+-- ---- sending changes no store
+
+places_store : (server : Server) (places : Option PlacesSend) (sends : ServerSends) → sends_of_places server places ≡ Some sends → sends.after.store ≡ server.store
+places_store server None sends h = absurd (cc h)
+places_store server (Some places) sends h = ap (λ (s : Server). s.store) (same (record { frame = places.frame; after = record server { slots = places.after } }) sends h)
+  where
+    same : (one other : ServerSends) → Some one ≡ Some other → other.after ≡ one.after
+    same one other is = cc is
+
+sends_store : (server : Server) (stray : Option Refused) (sends : ServerSends) → sends_by server stray ≡ Some sends → sends.after.store ≡ server.store
+sends_store server None sends h = places_store server (places_next server.window server.slots) sends h
+sends_store server (Some refused) sends h = ap (λ (s : Server). s.store) (same _ sends h)
+  where
+    same : (one other : ServerSends) → Some one ≡ Some other → other.after ≡ one.after
+    same one other is = cc is
+
+empties_store : (server : Server) (frames : List FrameValue) (last : Server) → Empties server frames last → last.store ≡ server.store
+empties_store server [] last h = ap (λ (s : Server). s.store) h.1
+empties_store server (f ∷ frames) last h = empties_store h.0.after frames last h.3 ∙ sends_store server server.stray h.0 h.1
+
+-- ---- an event changes it by its commands
+
+called_store : (server : Server) (frame : FrameValue) (moment : ℕ) (place : Option ℕ) → (called_by server frame.src frame.poll moment place).store ≡ server.store
+called_store server frame moment None = refl
+called_store server frame moment (Some place) = refl
+
+by_refusal : (server : Server) (frame : FrameValue) (refuses : Bool) → (if refuses then refusing server frame.src true else server).store ≡ server.store
+by_refusal server frame true = refl
+by_refusal server frame false = refl
+
+by_call : (b : Bool) (one other : Server) (store : Store) → one.store ≡ store → other.store ≡ store → (if b then one else other).store ≡ store
+by_call true one other store h k = h
+by_call false one other store h k = k
+
+stranger_store : (server : Server) (frame : FrameValue) (moment : ℕ) → (hearing_stranger server frame moment).store ≡ server.store
+stranger_store server frame moment =
+    by_call (is_call frame.kind.control) (called_by server frame.src frame.poll moment (first_empty server.slots)) (if frame.command && frame.poll then refusing server frame.src true else server) server.store
+    (called_store server frame moment (first_empty server.slots)) (by_refusal server frame (frame.command && frame.poll))
+
+at_store : (server : Server) (frame : FrameValue) (moment : ℕ) (failing : Option ℕ) (place : ℕ) (slot : Option Slot)
+    → (hearing_at server frame moment failing place slot).after.store ≡ after_all server.store (hearing_at server frame moment failing place slot).done
+at_store server frame moment failing place None = refl
+at_store server frame moment failing place (Some free) = refl
+at_store server frame moment failing place (Some (leaving end)) = refl
+at_store server frame moment failing place (Some (connected c)) = refl
+
+by_store : (server : Server) (frame : FrameValue) (moment : ℕ) (failing : Option ℕ) (place : Option ℕ)
+    → (hearing_by server frame moment failing place).after.store ≡ after_all server.store (hearing_by server frame moment failing place).done
+by_store server frame moment failing None = stranger_store server frame moment
+by_store server frame moment failing (Some place) = at_store server frame moment failing place (slice_get server.slots place)
+
+happening_store : (server : Server) (event : NodeEvent) (failing : Option ℕ) → (happening server event failing).after.store ≡ after_all server.store (happening server event failing).done
+happening_store server (hears frame moment) failing = by_store server frame moment failing (place_of frame.src server.slots)
+happening_store server (ticks moment) failing = refl
+
+-- ---- events
+
+serves_store : (server : Server) (events : List NodeEvent) (frames : List FrameValue) (commands : List Command) (now : Server) → ServesOver server events frames commands now
+    → now.store ≡ after_all server.store commands
+serves_store server [] frames commands now h = rw (h.1, h.2) refl
+serves_store server (e ∷ events) frames commands now h =
+    let step = h.5 in
+    let next : h.2.store ≡ after_all server.store h.0 =
+    ap (λ (s : Server). s.store) step.new_is ∙ empties_store _ h.1 step.last step.sent ∙ happening_store server e None ∙ ap (after_all server.store) (sym step.done_is) in
+    serves_store h.2 events h.4 h.3 now h.8 ∙ ap (λ (s : Store). after_all s h.3) next ∙ sym (after_all-append h.0 h.3 server.store) ∙ ap (after_all server.store) (sym h.7)
+
+comes_to : (server : Server) (earlier : List NodeEvent) (next : NodeEvent) (later : List NodeEvent) (frames : List FrameValue) (commands : List Command) (now : Server)
+    → ServesOver server (earlier ++ next ∷ later) frames commands now → ServerComesTo server earlier next commands
+comes_to server [] next later frames commands now h = record {
+  frames = [];
+  before = [];
+  server_then = server;
+  serves = (refl, refl, refl);
+  others = h.3;
+  commands_are = h.7 ∙ ap (λ (cs : List Command). cs ++ h.3) h.5.done_is;
+}
+comes_to server (e ∷ earlier) next later frames commands now h =
+    let on = comes_to h.2 earlier next later h.4 h.3 now h.8 in
+    record {
+      frames = h.1 ++ on.frames;
+      before = h.0 ++ on.before;
+      server_then = on.server_then;
+      serves = (h.0, h.1, h.2, on.before, on.frames, h.5, refl, refl, on.serves);
+      others = on.others;
+      commands_are =
+          h.7 ∙ ap (λ (cs : List Command). h.0 ++ cs) on.commands_are
+          ∙ sym (append_assoc h.0 on.before ((happening on.server_then next None).done ++ on.others));
+    }
+
+pub serves : ServesLaw
+serves = record { store = serves_store; comes_to = comes_to }

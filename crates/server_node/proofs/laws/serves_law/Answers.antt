@@ -1,0 +1,5 @@
+use Rattle.server_node.proofs.StoreLemmas.{serves}
+use Rattle.server_node.proofs.laws.serves_law.Goals as goal
+
+pub returns : goal.returns
+returns c = serves
