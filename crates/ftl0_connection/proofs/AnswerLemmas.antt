@@ -1,6 +1,6 @@
 -- How a connection answers one packet.
-use Rattle.std.proofs.Common.{◌≡◌, ℕ, Bool, true, false, not, List, [], ◌∷◌, ◌++◌, refl, ap, sym, ◌∙◌, subst, append-nil}
-use Rattle.std.specs.Prelude.{Option, None, Some, Result, Ok, Err, ⊤, if◌then◌else◌}
+use Rattle.std.proofs.Common.{◌≡◌, ℕ, Bool, true, false, not, List, [], ◌∷◌, refl, ap, sym, ◌∙◌, subst, append-nil}
+use Rattle.std.specs.Prelude.{Option, Result, Ok, Err, ⊤, if◌then◌else◌}
 use Rattle.disk_model.specs.declared.disk.Disk.{Ghosts}
 use Rattle.ax25_link.specs.Calls.{after_abandon, after_push}
 use Rattle.ax25_link.specs.Ends.{LinkEnd}
@@ -15,7 +15,7 @@ use Rattle.file_store.specs.State.{StandsOn, StoreState, store_in}
 use Rattle.file_store.proofs.DoesLemmas.{Does-none}
 use Rattle.ftl0_session.specs.declared.stop.ServerStop.{ServerStop}
 use Rattle.ftl0_session.specs.declared.stop.ServerStop.TheVariants as stop
-use Rattle.ftl0_session.specs.Session.{Row, State, fault_reply, kind_of_item, session_row, texts}
+use Rattle.ftl0_session.specs.Session.{Row, session_row, texts}
 use Rattle.ftl0_session.specs.SessionState.{SessionState, state_of}
 use Rattle.ftl0_session.specs.Taking.{Answers, PutsRow}
 use Rattle.ftl0_connection.specs.declared.fate.Fate.{Fate}
@@ -24,7 +24,7 @@ use Rattle.ftl0_connection.specs.ConnectionState.{Hears, HearsBy, StandsAfter, S
 use Rattle.ftl0_connection.specs.Hearing.{progressed}
 use Rattle.ftl0_connection.specs.Taking.{Progress, after_doing, fails, fits, giving_up, goes_on, replied, resting, unbuilt}
 use Rattle.ftl0_connection.proofs.HearsLemmas.{hears-taking}
-use Rattle.ftl0_connection.proofs.TakingLemmas.{given, step}
+use Rattle.ftl0_connection.proofs.TakingLemmas.{step}
 
 module _ {D : Type 0} (g : Ghosts D) (lasts : (disk : D) → g.lasts disk disk) (on : (first second third : D) → g.lasts first second → g.lasts second third → g.lasts first third)
     (w : Window) (end : LinkEnd) (moment : ℕ) (session session_n : SessionState) (store store_n : StoreState) (disk disk_n : D) (link_n : Kept) (item : Item)
@@ -99,7 +99,10 @@ module _ {D : Type 0} (g : Ghosts D) (lasts : (disk : D) → g.lasts disk disk) 
   said-stop replies (stop.NotBuilt kind) other answers puts =
       let P : Option Row → Type 0 = λ row. ((one false row).halt ≡ unbuilt kind) × (Stays ≡ Stays) × Does g ⊥ store store_n disk disk_n (one false row).done in
       subst P (sym answers.0) (ap unbuilt (sym answers.1), refl, kept-back answers.2.0 puts)
-  said-stop replies stop.OutOfMemory other answers puts = ([], (one false row_here).done, refl, refl, kept-back answers.3.0 puts)
+  said-stop replies stop.OutOfMemory other answers puts =
+      let P : Option Row → Type 0 = λ row. ((one true row).halt ≡ fails) × (Stays ≡ Stays) × Does g ⊥ store store_n disk disk_n (one true row).done in
+      let at : P row_here = subst P (sym answers.1) (refl, refl, kept-back answers.3.0 puts) in
+      (0, at.0, at.1, at.2)
 
   -- what is made of the packet, as it is read
   pub hears-one : (fate : Fate) (result : Result ⊤ ServerStop) (read : Item) → item ≡ read → Said fate result

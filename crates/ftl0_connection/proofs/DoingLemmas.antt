@@ -1,5 +1,5 @@
 -- What commands do to a store on a disk, part by part, and what stands since they began.
-use Rattle.std.proofs.Common.{◌≡◌, ℕ, ◌+◌, List, ◌++◌, length, sym, subst, arith, length-append}
+use Rattle.std.proofs.Common.{◌≡◌, ◌+◌, List, ◌++◌, length, sym, subst, arith, length-append}
 use Rattle.disk_model.specs.declared.disk.Disk.{Ghosts}
 use Rattle.file_journal.specs.Calls.{Leaves}
 use Rattle.file_journal.proofs.MomentLemmas.{weaker}
@@ -7,7 +7,7 @@ use Rattle.file_journal.proofs.ToldLemmas.{told_weaker}
 use Rattle.file_entries.specs.Command.{Command}
 use Rattle.file_entries.specs.Store.{Store}
 use Rattle.file_store.specs.OnDisk.{CutsOff, Does, MakesFirst}
-use Rattle.file_store.specs.State.{StoreState, store_in}
+use Rattle.file_store.specs.State.{StoreState}
 use Rattle.file_store.proofs.DoesLemmas.{Does-then, makes-first, makes-within}
 use Rattle.ftl0_connection.proofs.TakingLemmas.{IsFront}
 

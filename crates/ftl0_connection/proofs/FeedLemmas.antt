@@ -1,15 +1,13 @@
 -- How a connection takes octets, piece by piece.
-use Rattle.std.proofs.Common.{◌≡◌, ℕ, List, [], ◌∷◌, ◌++◌, take, drop, refl, ap, sym, ◌∙◌, subst, append_assoc, append-nil}
+use Rattle.std.proofs.Common.{◌≡◌, ℕ, List, [], ◌++◌, refl, ap, sym, ◌∙◌, subst, append_assoc, append-nil}
 use Rattle.std.specs.Prelude.{false, Option, Result, Ok, Err, ⊤}
 use Rattle.px_base.specs.CallSign.{CallSign}
-use Rattle.px_base.specs.Octets.{IsOctets}
 use Rattle.disk_model.specs.declared.disk.Disk.{Ghosts}
-use Rattle.ax25_link.specs.declared.state.LinkState.TheVariants.{Up}
 use Rattle.ax25_link.specs.Ends.{LinkEnd}
 use Rattle.ax25_link.specs.Kept.{Kept, SameStations, StandsFor}
 use Rattle.ax25_link.specs.Window.{Window}
 use Rattle.ftl0_packets.specs.Layout.{Item}
-use Rattle.ftl0_packets.specs.Reading.{packets_of, rest_of, under_way}
+use Rattle.ftl0_packets.specs.Reading.{packets_of, rest_of}
 use Rattle.file_entries.specs.Kept.{KeepsComplete}
 use Rattle.file_entries.specs.Store.{Store}
 use Rattle.file_journal.proofs.CallLemmas.{puts_none, puts_on}
@@ -21,9 +19,9 @@ use Rattle.ftl0_session.specs.Others.{KeepsOtherCallers}
 use Rattle.ftl0_session.specs.Session.{State}
 use Rattle.ftl0_session.specs.SessionState.{SessionState, state_of}
 use Rattle.ftl0_connection.specs.declared.fate.Fate.{Fate}
-use Rattle.ftl0_connection.specs.declared.fate.Fate.TheVariants.{Stays, Ends}
+use Rattle.ftl0_connection.specs.declared.fate.Fate.TheVariants.{Stays}
 use Rattle.ftl0_connection.specs.Connected.{Connected}
-use Rattle.ftl0_connection.specs.ConnectionState.{ConnectionState, Hears, HearsBy, IsConnection, IsWaiting, taking_some, with_nothing_left}
+use Rattle.ftl0_connection.specs.ConnectionState.{ConnectionState, Hears, IsConnection, IsWaiting, with_nothing_left}
 use Rattle.ftl0_connection.specs.Feeding.{Feeds, LeavesFit, MayTake, with_octets}
 use Rattle.ftl0_connection.specs.Hearing.{Happened, progressed, taking_octets}
 use Rattle.ftl0_connection.specs.Taking.{taking}

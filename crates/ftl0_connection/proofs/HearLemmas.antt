@@ -10,7 +10,6 @@ use Rattle.ax25_link.specs.Kept.{Kept, StandsFor, Tells}
 use Rattle.ax25_link.specs.Rows.{after_frame, heard_of}
 use Rattle.ax25_link.specs.Window.{Window}
 use Rattle.ftl0_packets.specs.Reading.{packets_of, rest_of}
-use Rattle.file_entries.specs.Store.{Store}
 use Rattle.file_store.specs.OnDisk.{Does}
 use Rattle.file_store.specs.State.{StandsOn, StoreState, store_in}
 use Rattle.file_store.proofs.DoesLemmas.{Does-moved, Does-none}

@@ -1,5 +1,5 @@
 -- How what packets make of a connection is put together.
-use Rattle.std.proofs.Common.{◌≡◌, ℕ, Bool, true, false, not, ◌&&◌, List, [], ◌∷◌, ◌++◌, refl, ap, sym, ◌∙◌, subst, append_assoc}
+use Rattle.std.proofs.Common.{◌≡◌, ℕ, Bool, true, false, not, ◌&&◌, List, [], ◌++◌, refl, ap, sym, ◌∙◌, subst}
 use Rattle.std.specs.Prelude.{Option, None, Some, Result, Ok, Err, ⊤}
 use Rattle.px_base.specs.CallSign.{CallSign}
 use Rattle.disk_model.specs.declared.disk.Disk.{Ghosts}
@@ -23,7 +23,7 @@ use Rattle.ftl0_connection.specs.ConnectionState.{ConnectionState, Hears, HearsB
 use Rattle.ftl0_connection.specs.Hearing.{Happened, progressed}
 use Rattle.ftl0_connection.specs.Taking.{Halt, Progress, after_doing, fails, goes_on, taking, unbuilt}
 use Rattle.ftl0_connection.proofs.DoingLemmas.{cuts-after, cuts-does, leaves-front}
-use Rattle.ftl0_connection.proofs.TakingLemmas.{IsFront, behind, going, goes_from, is_going, moved, taking-begins, taking-ended, taking-failed, taking-front, taking-on}
+use Rattle.ftl0_connection.proofs.TakingLemmas.{IsFront, behind, front-part, going, is_going, moved, taking-begins, taking-ended, taking-failed, taking-on}
 
 -- whether more is taken, by its parts
 pub going-on : (progress : Progress) → progress.over ≡ false → progress.halt ≡ goes_on → going progress ≡ true
@@ -54,7 +54,7 @@ module _ {D : Type 0} (g : Ghosts D) (on : (first second third : D) → g.lasts 
       leaves-front g (store_in store) disk disk_n _ _ (begins h.0) (cuts-does g on ⊤ store store_n disk disk_n (event (Some h.0)).done (event (Some h.0)).cut h.3).since
   by-since event store store_n disk disk_n connection fate (Err (stop.NotBuilt kind)) begins h = h.2.since
   by-since event store store_n disk disk_n connection fate (Err stop.OutOfMemory) begins h =
-      leaves-front g (store_in store) disk disk_n h.0 (event None).done (h.1, h.2) h.4.since
+      leaves-front g (store_in store) disk disk_n _ _ (front-part (event (Some h.0)).done (event (Some h.0)).cut (event None).done (begins h.0)) h.3.since
 
   -- the same of packets
   pub hears-taking : (left : List ℕ) (caller : CallSign) (moment : ℕ) (state : State) (end : LinkEnd) (items : List Item) (store store_n : StoreState) (disk disk_n : D)
@@ -99,13 +99,11 @@ module _ {D : Type 0} (g : Ghosts D) (on : (first second third : D) → g.lasts 
     by-then (Err (stop.NotBuilt kind)) h =
         let P : Progress → Type 0 = λ p. (p.halt ≡ unbuilt kind) × (fate ≡ Stays) × Does g ⊥ store store_n disk disk_n p.done in
         subst P (sym (same None)) (h.0, h.1, Does-then g on ⊥ ⊥ store store_m store_n disk disk_m disk_n before (part None).done (λ never. never) first h.2)
-    by-then (Err stop.OutOfMemory) h = (
-      before ++ h.0,
-      h.1,
-      ap (λ (p : Progress). p.done) (same None) ∙ ap (λ (commands : List Command). before ++ commands) h.2 ∙ sym (append_assoc before h.0 h.1),
-      h.3,
-      Does-then g on ⊥ ⊥ store store_m store_n disk disk_m disk_n before h.0 (λ never. never) first h.4,
-    )
+    by-then (Err stop.OutOfMemory) h =
+        let P : Progress → Type 0 = λ p. (p.halt ≡ fails) × (fate ≡ Stays) × Does g ⊥ store store_n disk disk_n p.done in
+        let at : P (whole (Some (behind items h.0))) =
+        subst P (sym (same (Some h.0))) (h.1, h.2, Does-then g on ⊥ ⊥ store store_m store_n disk disk_m disk_n before (part (Some h.0)).done (λ never. never) first h.3) in
+        (behind items h.0, at.0, at.1, at.2)
 
   pub by-joined : (moment : ℕ) (session session_m : SessionState) (store store_m store_n : StoreState) (disk disk_m disk_n : D) (link_m : Kept) (connection : ConnectionState) (state : State) (end : LinkEnd)
       (items others : List Item) (fate : Fate) (result : Result ⊤ ServerStop) → session_m.caller ≡ session.caller
@@ -132,7 +130,7 @@ module _ {D : Type 0} (g : Ghosts D) (on : (first second third : D) → g.lasts 
   -- ---- a stop
 
   module _ (store store_n : StoreState) (disk disk_n : D) (connection now : ConnectionState) (link : now.link ≡ connection.link) (left : List ℕ) (part whole : Option ℕ → Progress)
-      (ended : (failing : Option ℕ) → going (part failing) ≡ false → whole failing ≡ part failing) (front : IsFront (part None).done (whole None).done)
+      (ended : (failing : Option ℕ) → going (part failing) ≡ false → whole failing ≡ part failing)
       (failed : (failing : Option ℕ) → (part failing).halt ≡ fails → (part failing).over ≡ true) where
     stands_after-ended : (some all : Progress) → all ≡ some → StandsAfter w store_n connection (progressed [] some) Ends → StandsAfter w store_n now (progressed left all) Ends
     stands_after-ended some all same h =
@@ -159,13 +157,9 @@ module _ {D : Type 0} (g : Ghosts D) (on : (first second third : D) → g.lasts 
     by-ended fate (Err (stop.NotBuilt kind)) stops h =
         let same : whole None ≡ part None = ended None (going-halted (part None) (unbuilt kind) refl h.0) in
         (ap (λ (p : Progress). p.halt) same ∙ h.0, h.1, subst (λ (p : Progress). Does g ⊥ store store_n disk disk_n p.done) (sym same) h.2)
-    by-ended fate (Err stop.OutOfMemory) stops h = (
-      h.0,
-      h.1 ++ front.0,
-      front.1 ∙ ap (λ (commands : List Command). commands ++ front.0) h.2 ∙ append_assoc h.0 h.1 front.0,
-      h.3,
-      h.4,
-    )
+    by-ended fate (Err stop.OutOfMemory) stops h =
+        let same : whole (Some h.0) ≡ part (Some h.0) = ended (Some h.0) (going-halted (part (Some h.0)) fails refl h.1) in
+        (h.0, ap (λ (p : Progress). p.halt) same ∙ h.1, h.2, subst (λ (p : Progress). Does g ⊥ store store_n disk disk_n p.done) (sym same) h.3)
 
   -- what comes behind packets that stopped the connection
   pub by-stopped : (caller : CallSign) (moment : ℕ) (state : State) (end : LinkEnd) (items others : List Item) (left : List ℕ) (store store_n : StoreState) (disk disk_n : D)
@@ -175,7 +169,7 @@ module _ {D : Type 0} (g : Ghosts D) (on : (first second third : D) → g.lasts 
   by-stopped caller moment state end items others left store store_n disk disk_n connection now told link stops h =
       by-ended store store_n disk disk_n connection now link left
       (λ failing. taking caller moment (store_in store) state end items failing) (λ failing. taking caller moment (store_in store) state end (items ++ others) failing)
-      (λ failing. taking-ended caller moment (store_in store) state end items others failing) (taking-front caller moment (store_in store) state end items others)
+      (λ failing. taking-ended caller moment (store_in store) state end items others failing)
       (λ failing. taking-failed caller moment (store_in store) state end items failing) told.0 told.1 stops h
 
   -- all packets were taken

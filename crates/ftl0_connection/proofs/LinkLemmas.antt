@@ -1,23 +1,23 @@
 -- What becomes of an end that is up.
-use Rattle.std.proofs.Common.{◌≡◌, ℕ, ◌+◌, ◌==◌, Bool, true, false, ◌&&◌, ◌||◌, List, refl, ap, sym, ◌∙◌, subst}
+use Rattle.std.proofs.Common.{◌≡◌, ℕ, ◌+◌, ◌==◌, Bool, true, false, ◌&&◌, List, refl, ap, sym, ◌∙◌, subst}
 use Rattle.std.specs.Prelude.{Option, None, Some, IsTrue, nat_lt, if◌then◌else◌, ⊤}
 use Rattle.std.proofs.lemmas.Bool.{cond_both}
 use Rattle.ax25_frames.specs.declared.control.Control.{Control}
 use Rattle.ax25_frames.specs.declared.control.Control.TheVariants.{I, Rr, Rnr, Rej, Sabm, Disc, Dm, Ua, Frmr, Ui}
 use Rattle.ax25_frames.specs.FrameText.{FrameValue}
 use Rattle.ax25_link.specs.declared.state.Heard.{Heard}
-use Rattle.ax25_link.specs.declared.state.Heard.TheVariants.{Nothing, Opened, Reopened, Bytes, Closed}
+use Rattle.ax25_link.specs.declared.state.Heard.TheVariants.{Nothing, Bytes, Closed}
 use Rattle.ax25_link.specs.declared.state.LinkState.{LinkState}
 use Rattle.ax25_link.specs.declared.state.LinkState.TheVariants.{Up, Down}
 use Rattle.ax25_link.specs.declared.state.Why.{Why}
 use Rattle.ax25_link.specs.declared.state.Why.TheVariants as why
 use Rattle.ax25_link.specs.Acknowledging.{Meaning, good, stale, bad, applying, is_bad, is_good, meaning_of}
 use Rattle.ax25_link.specs.Air.{is_information}
-use Rattle.ax25_link.specs.Ends.{Farewell, LinkEnd, Reply, answering_end, ready}
+use Rattle.ax25_link.specs.Ends.{Farewell, LinkEnd, Reply, ready}
 use Rattle.ax25_link.specs.Frames.{receive_number}
 use Rattle.ax25_link.specs.Kept.{GivesNext, HandsOut, Kept, StandsFor, Steps, Tells}
-use Rattle.ax25_link.specs.Rows.{Outcome, accepting, after_frame, called_again, entering, heard_of, information_row, numbered_row, out_of_sequence, passed_over, replying, row, row_of_state, sending_again, supervisory_row, up_row, with_busy}
-use Rattle.ax25_link.specs.Sending.{Sending, after_new, has_new, last_sending, later_sending, next_sending, sending_after, sends_again, sends_new}
+use Rattle.ax25_link.specs.Rows.{Outcome, after_frame, entering, heard_of, information_row, numbered_row, replying, row, row_of_state, sending_again, supervisory_row, up_row, with_busy}
+use Rattle.ax25_link.specs.Sending.{Sending, after_new, has_new, last_sending, later_sending, next_sending, sending_after}
 use Rattle.ax25_link.specs.Timer.{after_tick, is_down, is_spent, runs_out, told_of_tick, trying}
 use Rattle.ax25_link.specs.Window.{Window}
 use Rattle.ax25_link.proofs.EndLemmas.{acknowledging-keeps}

@@ -1,13 +1,13 @@
 -- The loop over the octets of a frame.
 use Rattle.std.proofs.Common.{◌≡◌, ℕ, suc, true, List, [], ◌∷◌, length, drop, refl, sym, subst, arith}
-use Rattle.std.specs.Prelude.{Result, Ok, Err, ⊤, nat_eq}
+use Rattle.std.specs.Prelude.{Result, Ok, ⊤, nat_eq}
 use Rattle.std.proofs.lemmas.Bool.Decides.{nat_tests}
 use Rattle.disk_model.specs.declared.disk.Disk.{Ghosts}
 use Rattle.ax25_link.specs.Window.{Window}
 use Rattle.file_store.specs.State.{StoreState, store_in}
 use Rattle.ftl0_session.specs.declared.stop.ServerStop.{ServerStop}
 use Rattle.ftl0_connection.specs.declared.fate.Fate.{Fate}
-use Rattle.ftl0_connection.specs.declared.fate.Fate.TheVariants.{Stays, Ends}
+use Rattle.ftl0_connection.specs.declared.fate.Fate.TheVariants.{Stays}
 use Rattle.ftl0_connection.specs.Connected.{Connected}
 use Rattle.ftl0_connection.specs.ConnectionState.{ConnectionState, Hears, IsConnection, IsWaiting}
 use Rattle.ftl0_connection.specs.Feeding.{Feeds, IsGoing, LeavesFit, MayTake, with_octets}

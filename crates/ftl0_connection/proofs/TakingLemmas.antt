@@ -1,5 +1,5 @@
 -- How taking packets goes on, and how it stops.
-use Rattle.std.proofs.Common.{◌≡◌, ℕ, zero, suc, Bool, true, false, not, ◌&&◌, List, [], ◌∷◌, ◌++◌, refl, ap, sym, ◌∙◌, subst, append_assoc, append-nil}
+use Rattle.std.proofs.Common.{◌≡◌, ℕ, suc, Bool, true, false, not, ◌&&◌, List, [], ◌∷◌, ◌++◌, refl, ap, sym, ◌∙◌, subst, append_assoc, append-nil}
 use Rattle.std.specs.Prelude.{Option, None, Some, if◌then◌else◌}
 use Rattle.px_base.specs.CallSign.{CallSign}
 use Rattle.ax25_link.specs.Calls.{after_push}
@@ -10,7 +10,8 @@ use Rattle.file_entries.specs.Store.{Store}
 use Rattle.file_entries.proofs.GrowLemmas.{after_all-append}
 use Rattle.ftl0_session.specs.Run.{on_row}
 use Rattle.ftl0_session.specs.Session.{Row, State, kind_of_item, session_row, texts}
-use Rattle.ftl0_connection.specs.Taking.{Halt, Progress, after_doing, failing_at, fails, fails_first, fails_later, fits, giving_up, goes_on, resting, taking, unbuilt, unbuilt_at}
+use Rattle.ftl0_connection.specs.Laws.{TakingLaw}
+use Rattle.ftl0_connection.specs.Taking.{Halt, Progress, after_doing, failing_at, fails, fails_first, fails_later, fits, giving_up, goes_on, taking, unbuilt, unbuilt_at}
 
 -- whether nothing stopped the taking
 abbrev pub is_going : Halt → Bool
@@ -160,6 +161,10 @@ front-same commands = ([], sym (append-nil commands))
 front-then : (first front all : List Command) → IsFront front all → IsFront (first ++ front) (first ++ all)
 front-then first front all h = (h.0, ap (λ (commands : List Command). first ++ commands) h.1 ∙ sym (append_assoc first front h.0))
 
+-- a front of a front
+pub front-part : (first second all : List Command) → IsFront (first ++ second) all → IsFront first all
+front-part first second all h = (second ++ h.0, h.1 ∙ append_assoc first second h.0)
+
 -- done, and where the disk failed those in one of which it did
 abbrev pub begun : Progress → List Command
 begun progress = progress.done ++ progress.cut
@@ -200,24 +205,22 @@ module _ (caller : CallSign) (moment : ℕ) where
       (λ row. taking-begins (after_all store row.commands) row.state (after_push end (texts row.replies)) items (fails_later failing))
       (fails_first failing) (session_row caller moment store state item)
 
--- ---- what packets do is a front of what they do with others behind them
+-- ---- the row of one packet among others
 
-module _ (end : LinkEnd) (state : State) (item : Item) (some all : Row → Progress) (each : (row : Row) → IsFront (some row).done (all row).done) where
-  given-front : (row : Row) (enough : Bool)
-      → IsFront (if enough then after_doing row.commands (some row) else giving_up end row).done (if enough then after_doing row.commands (all row) else giving_up end row).done
-  given-front row true = front-then row.commands (some row).done (all row).done (each row)
-  given-front row false = front-same row.commands
+module _ (end : LinkEnd) (state : State) (item : Item) (later : Row → Progress) where
+  given-row : (row : Row) (enough : Bool) → IsFront row.commands (if enough then after_doing row.commands (later row) else giving_up end row).done
+  given-row row true = ((later row).done, refl)
+  given-row row false = front-same row.commands
 
-  step-front : (row : Option Row) → IsFront (step end state item false some row).done (step end state item false all row).done
-  step-front None = ([], refl)
-  step-front (Some row) = given-front row (fits end (texts row.replies))
+  step-row : (of : Option Row) (row : Row) → of ≡ Some row → IsFront row.commands (step end state item false later of).done
+  step-row of row is = subst (λ (o : Option Row). IsFront row.commands (step end state item false later o).done) (sym is) (given-row row (fits end (texts row.replies)))
 
-module _ (caller : CallSign) (moment : ℕ) where
-  pub taking-front : (store : Store) (state : State) (end : LinkEnd) (items others : List Item)
-      → IsFront (taking caller moment store state end items None).done (taking caller moment store state end (items ++ others) None).done
-  taking-front store state end [] others = ((taking caller moment store state end others None).done, refl)
-  taking-front store state end (item ∷ items) others =
-      step-front end state item
-      (λ row. taking caller moment (after_all store row.commands) row.state (after_push end (texts row.replies)) items None)
-      (λ row. taking caller moment (after_all store row.commands) row.state (after_push end (texts row.replies)) (items ++ others) None)
-      (λ row. taking-front (after_all store row.commands) row.state (after_push end (texts row.replies)) items others) (session_row caller moment store state item)
+pub taking-law : TakingLaw
+taking-law caller moment store state end items item more goes not_over row is =
+    let before : Progress = taking caller moment store state end items None in
+    let from : Store = after_all store before.done in
+    let all : taking caller moment store state end (items ++ item ∷ more) None ≡ goes_from caller moment store before (item ∷ more) None =
+    taking-on caller moment store state end items (item ∷ more) None (rw (not_over, goes) refl) in
+    let one = step-row before.end before.state item
+    (λ row. taking caller moment (after_all from row.commands) row.state (after_push before.end (texts row.replies)) more None) (session_row caller moment from before.state item) row is in
+    record { others = one.0; done_is = ap (λ (p : Progress). p.done) all ∙ ap (λ (commands : List Command). before.done ++ commands) one.1 }

@@ -1,5 +1,5 @@
 -- The octets that wait in a connection.
-use Rattle.std.proofs.Common.{◌≡◌, ℕ, Bool, true, false, List, [], ◌++◌, take, refl, ap, sym, ◌∙◌, subst, append-nil}
+use Rattle.std.proofs.Common.{◌≡◌, ℕ, Bool, true, false, List, [], ◌++◌, take, ap, sym, ◌∙◌, subst, append-nil}
 use Rattle.std.specs.Prelude.{if◌then◌else◌}
 use Rattle.px_base.specs.Octets.{IsOctets}
 use Rattle.ftl0_packets.specs.Reading.{is_whole, packets_of, rest_of, under_way}

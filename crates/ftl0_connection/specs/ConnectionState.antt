@@ -1,5 +1,5 @@
 -- A connection as contracts see it, which of the definitions' it stands for, and what its calls do.
-use Rattle.std.specs.Prelude.{◌≡◌, ℕ, List, [], ◌∷◌, ◌++◌, Bool, true, false, Option, None, Some, Result, Ok, Err, ⊤}
+use Rattle.std.specs.Prelude.{◌≡◌, ℕ, List, [], Bool, true, false, Option, None, Some, Result, Ok, Err, ⊤}
 use Rattle.px_base.specs.Octets.{IsOctets}
 use Rattle.disk_model.specs.declared.disk.Disk.{Ghosts}
 use Rattle.ax25_link.specs.Ends.{LinkEnd}
@@ -8,7 +8,6 @@ use Rattle.ax25_link.specs.Window.{Window}
 use Rattle.ftl0_packets.specs.Layout.{Item}
 use Rattle.ftl0_packets.specs.Reading.{packets_of, rest_of}
 use Rattle.file_journal.specs.Calls.{Leaves}
-use Rattle.file_entries.specs.Command.{Command}
 use Rattle.file_entries.specs.Store.{Store}
 use Rattle.file_store.specs.OnDisk.{CutsOff, Does, MakesFirst}
 use Rattle.file_store.specs.State.{StoreState, store_in}
@@ -55,7 +54,8 @@ StandsAfter w store connection happened Ends =
 -- What a frame that is heard does, where `event` gives what it makes of the connection once it is known at which packet
 -- the disk fails, if it fails at one. Where all was taken its commands are done. Where the disk failed, at some packet,
 -- the commands before it are done, and it failed in one of that packet's; the replies before it and code 3 are left to be
--- sent. Where a row isn't built the commands before are done, and where there is no memory some of them, from the first on.
+-- sent. Where a row isn't built the commands before are done, and where there was no memory for some packet, those of the
+-- packets before it: the packet's own commands aren't begun then.
 abbrev pub HearsBy :
     {D : Type 0} → Ghosts D → Window → (Option ℕ → Happened) → StoreState → StoreState → D → D → ConnectionState → Fate
     → Result ⊤ ServerStop → Type 0
@@ -69,8 +69,8 @@ HearsBy g w event store store_now disk disk_now connection fate (Err (stop.NotBu
     ((event None).halt ≡ unbuilt kind) × (fate ≡ Stays)
     × Does g ⊥ store store_now disk disk_now (event None).done
 HearsBy g w event store store_now disk disk_now connection fate (Err stop.OutOfMemory) =
-    (done : List Command) × (others : List Command) × ((event None).done ≡ done ++ others) × (fate ≡ Stays)
-    × Does g ⊥ store store_now disk disk_now done
+    (part : ℕ) × ((event (Some part)).halt ≡ fails) × (fate ≡ Stays)
+    × Does g ⊥ store store_now disk disk_now (event (Some part)).done
 
 -- A frame was heard, of which this is what it makes of the connection. Since it came each image stands for the store after
 -- the first of the commands that it has where nothing fails, for some number of them.

@@ -1,5 +1,5 @@
 -- What a frame or a tick makes of a connection (AX.25 2.0, 2.4; FTL0 1990).
-use Rattle.std.specs.Prelude.{ℕ, ◌++◌, List, [], Bool, true, false, Option, None, Some}
+use Rattle.std.specs.Prelude.{ℕ, ◌++◌, List, [], Bool, true, false, Option}
 use Rattle.ax25_frames.specs.FrameText.{FrameValue}
 use Rattle.ax25_link.specs.declared.state.Heard.{Heard}
 use Rattle.ax25_link.specs.declared.state.Heard.TheVariants.{Nothing, Opened, Reopened, Bytes, Closed}

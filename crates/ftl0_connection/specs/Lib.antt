@@ -3,4 +3,5 @@ pub mod ConnectionState
 pub mod Feeding
 pub mod Hearing
 pub mod Inside
+pub mod Laws
 pub mod Taking

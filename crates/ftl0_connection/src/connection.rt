@@ -1,6 +1,6 @@
 //! One caller's connection.
 
-ghost use Rattle.std.specs.Prelude.{◌≡◌, ◌<◌, ◌≤◌, ◌↔◌, ℕ, List, [], ◌∷◌, drop, length, false, true, not, IfOk, IsErrOf, IsTrue, None};
+ghost use Rattle.std.specs.Prelude.{◌≡◌, ◌<◌, ◌≤◌, ◌↔◌, [], ◌∷◌, drop, length, false, true, not, IfOk, IsErrOf, IsTrue, None};
 ghost use Rattle.ax25_frames.specs.Values.{value_of};
 ghost use Rattle.ax25_link.specs.Air.{is_information};
 ghost use Rattle.ax25_link.specs.Calls.{after_push};

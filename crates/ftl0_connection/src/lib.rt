@@ -4,6 +4,7 @@
 
 mod connection;
 mod fate;
+pub mod laws;
 #[cfg(test)]
 mod tests;
 

@@ -1,5 +1,5 @@
 -- What is said leaves the session as it was.
-use Rattle.std.proofs.Common.{◌≡◌, sym, subst, ◌∙◌}
+use Rattle.std.proofs.Common.{sym, subst, ◌∙◌}
 use Rattle.ftl0_session.specs.SessionState.{IsOnlyOut, SessionState}
 use Rattle.ftl0_connection.proofs.tests.exchange.Goals as goal
 
