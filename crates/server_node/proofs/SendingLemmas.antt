@@ -9,7 +9,7 @@ use Rattle.px_base.proofs.Told.{Gains-front, Gains-none, Gains-trans}
 use Rattle.ax25_frames.specs.FrameText.{FrameValue, canonical}
 use Rattle.ftl0_server.specs.Calls.{HandsOut, HandsOutNext}
 use Rattle.ftl0_server.specs.Server.{IsSilent, Server, ServerSends, server_next, settled}
-use Rattle.ftl0_server.specs.ServerState.{IsServer, SendsFor, ServerState, server_pending}
+use Rattle.ftl0_server.specs.ServerState.{IsServer, ServerState, server_pending}
 use Rattle.ftl0_server.specs.ServerStep.{Empties}
 use Rattle.server_node.specs.Node.{SaysFrames, Settles}
 use Rattle.server_node.specs.Serving.{text_of}

@@ -1,5 +1,5 @@
 -- The steps of a server.
-use Rattle.std.proofs.Common.{◌≡◌, ℕ, List, [], ◌∷◌, ◌++◌, Bool, true, false, Option, None, Some, refl, ap, ap₂, sym, ◌∙◌}
+use Rattle.std.proofs.Common.{◌≡◌, ℕ, List, [], ◌∷◌, ◌++◌, Bool, true, false, Option, None, Some, refl, ap, ap₂}
 use Rattle.std.specs.Prelude.{if◌then◌else◌, slice_get}
 use Rattle.px_base.specs.CallSign.{CallSign}
 use Rattle.ax25_frames.specs.FrameText.{FrameValue}
@@ -11,19 +11,17 @@ use Rattle.ax25_link.specs.declared.state.Heard.{Heard}
 use Rattle.ax25_link.specs.declared.state.Heard.TheVariants.{Nothing, Opened, Reopened, Bytes, Closed}
 use Rattle.ftl0_packets.specs.Layout.{Item}
 use Rattle.ftl0_packets.specs.Reading.{packets_of}
-use Rattle.file_entries.specs.Command.{Command, after_all}
+use Rattle.file_entries.specs.Command.{after_all}
 use Rattle.file_entries.specs.Store.{Store}
 use Rattle.ftl0_session.specs.Run.{on_row}
 use Rattle.ftl0_session.specs.Session.{Row, State, kind_of_item, session_row, texts}
 use Rattle.node_events.specs.Events.{NodeEvent, hears, ticks}
 use Rattle.ftl0_connection.specs.Connected.{Connected, caller_of}
-use Rattle.ftl0_connection.specs.Hearing.{Happened, hearing, hearing_as}
-use Rattle.ftl0_connection.specs.Taking.{Progress, after_doing, fits, giving_up, goes_on, taking, unbuilt_at}
-use Rattle.ftl0_server.specs.Server.{IsSilent, Refused, Server, ServerSends, hearing_at, hearing_by, sends_by, sends_of_places, settled}
-use Rattle.ftl0_server.specs.ServerState.{IsServer, ServerState}
+use Rattle.ftl0_connection.specs.Hearing.{hearing_as}
+use Rattle.ftl0_connection.specs.Taking.{Progress, after_doing, fits, giving_up, taking, unbuilt_at}
+use Rattle.ftl0_server.specs.Server.{IsSilent, Refused, Server, hearing_at, hearing_by, sends_by, sends_of_places, settled}
 use Rattle.ftl0_server.specs.ServerStep.{happening}
 use Rattle.ftl0_server.specs.Slots.{PlacesSend, Slot, SlotSends, all_freed, connected, first_of, free, freed, leaving, place_of, places_next, slot_next}
-use Rattle.server_node.specs.Node.{IsServing}
 
 -- ---- what has nothing to send has nothing to send once its places are settled
 

@@ -1,5 +1,5 @@
 -- How a node takes events.
-use Rattle.std.proofs.Common.{◌≡◌, ℕ, List, [], ◌∷◌, ◌++◌, Option, None, Some, refl, ap, sym, subst, ◌∙◌, false, inl, inr}
+use Rattle.std.proofs.Common.{◌≡◌, ℕ, List, [], ◌∷◌, ◌++◌, Option, None, Some, refl, ap, sym, subst, inl, inr}
 use Rattle.std.proofs.lemmas.Bool.{eq-eqb, ne_eqb}
 use Rattle.std.specs.Prelude.{◌≢◌, Bool, if◌then◌else◌, Result, Ok, Err, ⊤, OnErr, OnOk}
 use Rattle.px_base.specs.Octets.{IsFront}
@@ -9,17 +9,15 @@ use Rattle.px_base.specs.declared.air.AirDown.{AirDown}
 use Rattle.px_base.proofs.Told.{Gains-none, Gains-trans}
 use Rattle.disk_model.specs.declared.disk.Disk.{Ghosts}
 use Rattle.ax25_frames.specs.FrameText.{FrameValue}
-use Rattle.file_entries.specs.Command.{Command}
 use Rattle.file_store.specs.OnDisk.{CutsOff, Does}
 use Rattle.file_store.specs.State.{StoreState}
 use Rattle.file_store.proofs.DoesLemmas.{Does-none, Does-then}
 use Rattle.node_events.specs.Events.{NodeEvent, tick_since, ticks}
-use Rattle.ftl0_connection.specs.Taking.{fails, goes_on, unbuilt}
 use Rattle.ftl0_session.specs.declared.stop.ServerStop.{ServerStop}
 use Rattle.ftl0_session.specs.declared.stop.ServerStop.TheVariants as server_stop
 use Rattle.ftl0_server.specs.Calls.{HearsBy}
 use Rattle.ftl0_server.specs.Server.{Server, settled}
-use Rattle.ftl0_server.specs.ServerState.{IsServer, SendsFor, ServerState}
+use Rattle.ftl0_server.specs.ServerState.{ServerState}
 use Rattle.ftl0_server.specs.ServerStep.{happening}
 use Rattle.session_node.specs.declared.stop.NodeStop.{NodeStop}
 use Rattle.session_node.specs.declared.stop.NodeStop.TheVariants as stop

@@ -1,11 +1,11 @@
 -- The events that a turn more brings.
-use Rattle.std.proofs.Common.{◌≡◌, ℕ, ◌+◌, ◌<◌, List, [], ◌∷◌, ◌++◌, length, Option, None, Some, refl, ap, sym, subst, ◌∙◌, inl, inr, append_assoc, append-nil, unwrap_or, arith}
+use Rattle.std.proofs.Common.{◌≡◌, ℕ, List, [], ◌∷◌, ◌++◌, length, Option, Some, refl, ap, sym, subst, ◌∙◌, inl, inr, append_assoc, append-nil, unwrap_or, arith}
 use Rattle.px_base.specs.CallSign.{CallSign}
 use Rattle.px_base.specs.Polling.{octets_heard, octets_of_turn}
 use Rattle.px_base.specs.declared.air.Turn.{Turn}
 use Rattle.kiss.specs.KissText.{kiss_frames}
-use Rattle.ax25_frames.specs.FrameText.{FrameText, FrameValue}
-use Rattle.node_events.specs.Events.{Finishes, FramesFor, IsFor, NodeEvent, NodeEvents, TurnsBring, heard_at, tick_of}
+use Rattle.ax25_frames.specs.FrameText.{FrameValue}
+use Rattle.node_events.specs.Events.{Finishes, FramesFor, NodeEvent, NodeEvents, TurnsBring, heard_at, tick_of}
 use Rattle.server_node.specs.Node.{turn_events}
 use Rattle.server_node.proofs.Invariants.{last_in}
 

@@ -1,16 +1,15 @@
 -- How a node takes a turn.
-use Rattle.std.proofs.Common.{◌≡◌, ℕ, List, [], ◌∷◌, ◌++◌, Option, refl, ap, sym, subst, ◌∙◌, append-nil}
-use Rattle.std.specs.Prelude.{Result, Ok, Err, ⊤, OnOk}
+use Rattle.std.proofs.Common.{◌≡◌, ℕ, List, [], ◌++◌, Option, refl, sym, subst, append-nil}
+use Rattle.std.specs.Prelude.{Result, Ok, Err, ⊤}
 use Rattle.px_base.specs.Octets.{IsOctets}
-use Rattle.px_base.specs.Polling.{Hears, IsOpen, octets_of_turn}
+use Rattle.px_base.specs.Polling.{Hears, IsOpen}
 use Rattle.px_base.specs.declared.air.Air.{Ghosts as AirGhosts}
 use Rattle.px_base.specs.declared.air.Polled.{Polled}
 use Rattle.px_base.specs.declared.air.Polled.TheVariants as polled
 use Rattle.px_base.specs.declared.air.Turn.{Turn}
 use Rattle.px_base.specs.declared.air.Turn.TheVariants as turn
 use Rattle.disk_model.specs.declared.disk.Disk.{Ghosts}
-use Rattle.ax25_frames.specs.FrameText.{FrameValue}
-use Rattle.node_events.specs.Events.{Finishes, NodeEvent, heard_at, tick_of, tick_since}
+use Rattle.node_events.specs.Events.{NodeEvent, heard_at, tick_since}
 use Rattle.node_events.specs.Reading.{HasHeard}
 use Rattle.node_events.specs.Station.{StationValue}
 use Rattle.session_node.specs.declared.stop.NodeStop.{NodeStop}

@@ -5,13 +5,12 @@ use Rattle.std.specs.Prelude.{Result, Ok, Err, IsErrOf, ⊤}
 use Rattle.px_base.specs.CallSign.{CallSign}
 use Rattle.px_base.specs.Moments.{Gives}
 use Rattle.px_base.specs.Octets.{IsOctets}
-use Rattle.px_base.specs.Outside.{Gains, Grows}
+use Rattle.px_base.specs.Outside.{Gains}
 use Rattle.px_base.specs.Polling.{IsOpen, octets_heard, octets_of_turn}
 use Rattle.px_base.specs.declared.air.Air.{Ghosts as AirGhosts}
 use Rattle.px_base.specs.declared.air.Polled.{Polled}
 use Rattle.px_base.specs.declared.air.Polled.TheVariants as polled
 use Rattle.px_base.specs.declared.air.Turn.{Turn}
-use Rattle.px_base.specs.declared.air.Turn.TheVariants as turn
 use Rattle.px_base.proofs.Told.{Gains-trans, Grows-none, Grows-trans}
 use Rattle.disk_model.specs.declared.disk.Disk.{Ghosts}
 use Rattle.file_entries.specs.Command.{Command}

@@ -23,6 +23,6 @@ pub record ServesLaw : Type 0 where
       (server : Server) (events : List NodeEvent) (frames : List FrameValue) (commands : List Command) (now : Server)
       → ServesOver server events frames commands now → now.store ≡ after_all server.store commands
   pub comes_to :
-      (server : Server) (earlier : List NodeEvent) (next : NodeEvent) (later : List NodeEvent) (frames : List FrameValue)
-      (commands : List Command) (now : Server)
+      (server : Server) (earlier : List NodeEvent) (next : NodeEvent) (later : List NodeEvent)
+      (frames : List FrameValue) (commands : List Command) (now : Server)
       → ServesOver server (earlier ++ next ∷ later) frames commands now → ServerComesTo server earlier next commands

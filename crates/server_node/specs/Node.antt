@@ -1,5 +1,6 @@
 -- How a server's node goes on: what it hears and says, octet by octet and turn by turn.
-use Rattle.std.specs.Prelude.{◌≡◌, ◌≢◌, ℕ, List, [], ◌++◌, false, Result, Ok, Err, IsErrOf, MatchResult, OnErr, OnOk, Option, ⊤}
+use Rattle.std.specs.Prelude.{◌≡◌, ◌≢◌, ℕ, List, [], ◌++◌, false, Result, Ok, Err, IsErrOf, MatchResult, OnErr, OnOk}
+use Rattle.std.specs.Prelude.{Option, ⊤}
 use Rattle.px_base.specs.Octets.{IsFront, IsOctets}
 use Rattle.px_base.specs.Outside.{Gains, Grows}
 use Rattle.px_base.specs.Polling.{Hears, HearsAll, IsOpen, octets_of_turn}

@@ -24,8 +24,8 @@ use Rattle.session_node.specs.SessionRan.{IsButLast, IsUnrecovered, TurnsBy}
 use Rattle.server_node.specs.declared.terms.ServerTerms.{ServerTerms}
 use Rattle.server_node.specs.Serving.{StopsBehind, TakesAll}
 
--- What was said to these events, and which commands were done, by how the serving ended: all of them where the end of the
--- air was read, a poll failed, or as many polls were made as may be; else up to a stop behind the least of them.
+-- What was said to these events, and which commands were done, by how the serving ended: all of them where the end of
+-- the air was read, a poll failed, or as many polls were made as may be; else up to a stop behind the least of them.
 abbrev pub EndsOver :
     Result Served NodeStop → List NodeEvent → Server → List NodeEvent → ℕ → ℕ → List ℕ → List Command → List Command
     → Type 0
@@ -47,9 +47,9 @@ EndsOver (Err (stop.Damaged at)) least server events writes writes_now text done
 abbrev pub server_from : ServerTerms → Store → Server
 server_from terms start = new_server terms.me (window_of terms.k) start
 
--- A server over these turns at these moments, of which there are at most so many, said this text, did these commands and
--- ended so. Nothing was heard after what ended it: a stop is at an event that only the last turn brings, behind all those
--- that the others bring.
+-- A server over these turns at these moments, of which there are at most so many, said this text, did these commands
+-- and ended so. Nothing was heard after what ended it: a stop is at an event that only the last turn brings, behind all
+-- those that the others bring.
 pub record ServerRan (server : Server) (polls : ℕ) (moments : List ℕ) (turns : List Turn) (writes writes_now : ℕ)
     (text : List ℕ) (done cut : List Command) (result : Result Served NodeStop) : Type 0 where
   pub one_each : length moments ≡ length turns
@@ -66,10 +66,10 @@ pub record ServerRan (server : Server) (polls : ℕ) (moments : List ℕ) (turns
   pub brought : NodeEvents server.me earlier earlier_moments least
   pub ends_over : EndsOver result least server events writes writes_now text done cut
 
--- A server of these terms was started over the store for which the disk's content stood, and served: what it said to what
--- was heard, and what stands on the disk at each moment. Its recovery changed no octet of a formatted store, and made a
--- formatted one of any other content; without commands that is what the disk has at the end. Only a write or a sync that
--- failed ends it by the disk.
+-- A server of these terms was started over the store for which the disk's content stood, and served: what it said to
+-- what was heard, and what stands on the disk at each moment. Its recovery changed no octet of a formatted store, and
+-- made a formatted one of any other content; without commands that is what the disk has at the end. Only a write or a
+-- sync that failed ends it by the disk.
 pub record ServerServed {A C D : Type 0} (g : Ghosts D) (air : AirGhosts A) (given : C → Option (List ℕ))
     (disk disk_now : D) (before now : A) (clock clock_now : C) (terms : ServerTerms)
     (result : Result Served NodeStop) : Type 0 where
@@ -87,8 +87,8 @@ pub record ServerServed {A C D : Type 0} (g : Ghosts D) (air : AirGhosts A) (giv
   pub moments_given : Grows (given clock) (given clock_now) moments
   pub text_said : Gains (air.said before) (air.said now) text
   pub ran :
-      ServerRan (server_from terms start) terms.polls moments turns (air.write_faults before) (air.write_faults now) text
-      done cut result
+      ServerRan (server_from terms start) terms.polls moments turns (air.write_faults before) (air.write_faults now)
+      text done cut result
   pub puts : Puts g (IsErrOf result stop.Disk) disk disk_now
   pub stands : StandsThrough g (IsErrOf result stop.Disk) start done cut disk disk_now
   pub ready : stands.ready ≡ g.moment recovered

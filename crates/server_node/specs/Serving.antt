@@ -1,6 +1,6 @@
--- How a server goes on over the events of its node: which frames it says, and which commands of the store it does, up to a
--- stop.
-use Rattle.std.specs.Prelude.{◌≡◌, ◌≢◌, ◌⊎◌, ℕ, List, [], ◌∷◌, ◌++◌, flat_map, Option, None, Some}
+-- How a server goes on over the events of its node: which frames it says, and which commands of the store it does, up
+-- to a stop.
+use Rattle.std.specs.Prelude.{◌≡◌, ◌≢◌, ◌⊎◌, ℕ, List, [], ◌∷◌, ◌++◌, flat_map, None, Some}
 use Rattle.px_base.specs.Octets.{IsFront}
 use Rattle.kiss.specs.KissText.{kiss_text}
 use Rattle.ax25_frames.specs.FrameText.{FrameValue, canonical}
@@ -26,16 +26,18 @@ ServesOver server (event ∷ events) frames commands now =
     × (more : List FrameValue) × ServerStep server event None done [] goes_on sent next
     × (frames ≡ sent ++ more) × (commands ≡ done ++ others) × ServesOver next events more others now
 
--- A stop at this event: the text said of its frames, the commands done, and those in one of which the disk failed. Where
--- saying failed the event's commands are done, and a front of its frames' text was said. Where the disk failed at one of its
--- packets, the frames of that step were said. Where a row isn't built none was, and the commands before are done. Where
--- there is no memory none was, and no command is done, as for a new session, or those before one of its packets.
+-- A stop at this event: the text said of its frames, the commands done, and those in one of which the disk failed.
+-- Where saying failed the event's commands are done, and a front of its frames' text was said. Where the disk failed at
+-- one of its packets, the frames of that step were said. Where a row isn't built none was, and the commands before are
+-- done. Where there is no memory none was, and no command is done, as for a new session, or those before one of its
+-- packets.
 abbrev pub StopsAt : NodeStop → Server → NodeEvent → ℕ → ℕ → List ℕ → List Command → List Command → Type 0
 StopsAt stop.AirWrite server event writes writes_now text done cut =
     (frames : List FrameValue) × (next : Server) × ServerStep server event None done [] goes_on frames next
     × (frames ≢ []) × IsFront text (text_of frames) × (cut ≡ [])
 StopsAt stop.Disk server event writes writes_now text done cut =
-    (part : ℕ) × (frames : List FrameValue) × (next : Server) × ServerStep server event (Some part) done cut fails frames next
+    (part : ℕ) × (frames : List FrameValue) × (next : Server)
+    × ServerStep server event (Some part) done cut fails frames next
     × IsSaid writes writes_now (text_of frames) text
 StopsAt (stop.NotBuilt kind) server event writes writes_now text done cut =
     ((happening server event None).halt ≡ unbuilt kind) × (done ≡ (happening server event None).done)
@@ -51,8 +53,8 @@ StopsAt (stop.Damaged at) server event writes writes_now text done cut = ⊥
 
 -- The server stopped at one of these events. At none of those before it did it stop: all their frames were said and all
 -- their commands done; of those after it nothing was taken.
-pub record StopsOver (server : Server) (events : List NodeEvent) (why : NodeStop) (writes writes_now : ℕ) (text : List ℕ)
-    (done cut : List Command) : Type 0 where
+pub record StopsOver (server : Server) (events : List NodeEvent) (why : NodeStop) (writes writes_now : ℕ)
+    (text : List ℕ) (done cut : List Command) : Type 0 where
   pub before : List NodeEvent
   pub next : NodeEvent
   pub later : List NodeEvent

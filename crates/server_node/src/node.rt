@@ -10,7 +10,8 @@ ghost use Rattle.node_events.specs.Events.{IsFor, hears, tick_since};
 ghost use Rattle.node_events.specs.Reading.{HasHeard};
 ghost use Rattle.ftl0_server.specs.Server.{Server as ServerValue};
 ghost use Rattle.ftl0_server.specs.ServerState.{IsServer, SendsFor};
-ghost use Rattle.server_node.specs.Node.{HearsAfter, IsServing, IsUp, SaysFrames, Settles, Takes, TakesTurn, TakesTurns};
+ghost use Rattle.server_node.specs.Node.{HearsAfter, IsServing, IsUp, SaysFrames, Settles, Takes};
+ghost use Rattle.server_node.specs.Node.{TakesTurn, TakesTurns};
 ghost use Rattle.session_node.specs.Stops.{HasAirCause};
 
 use arrayvec::ArrayVec;
@@ -25,8 +26,8 @@ use px_base::{Air, AirDown, Call, Clock, Polled, ROOM};
 use session_node::{NodeStop, Served};
 use std::marker::Model;
 
-/// What serves: the reader of the station's frames, and the server. It must be closed, which parks all uploads. Contracts
-/// see it as a `NodeState`.
+/// What serves: the reader of the station's frames, and the server. It must be closed, which parks all uploads.
+/// Contracts see it as a `NodeState`.
 pub(crate) struct ServerNode {
     reader: StationReader,
     server: Server,
@@ -73,8 +74,8 @@ impl ServerNode {
         requires heard { HasHeard self.old.reader [] }
         requires up { IsUp D.Disk self.old.server disk.old }
         ensures serves { (server : ServerValue) → IsServing self.old.server server →
-            TakesTurns D.Disk A.Air C.given air.old air.new clock.old clock.new self.old self.new disk.old disk.new polls
-            server result }
+            TakesTurns D.Disk A.Air C.given air.old air.new clock.old clock.new self.old self.new disk.old disk.new
+            polls server result }
         ensures counts { HasAirCause A.read_faults A.write_faults air.old air.new result }
     {
         let mut room = [0; ROOM];
@@ -102,8 +103,8 @@ impl ServerNode {
     ) -> Result<Polled, NodeStop>
         requires up { IsUp D.Disk self.old.server disk.old }
         ensures turn { (all : List ℕ) → IsOctets all → HasHeard self.old.reader all →
-            TakesTurn D.Disk A.heard A.said A.write_faults air.old air.new self.old self.new disk.old disk.new last moment
-            all result }
+            TakesTurn D.Disk A.heard A.said A.write_faults air.old air.new self.old self.new disk.old disk.new last
+            moment all result }
         ensures up { OnOk result (IsUp D.Disk self.new.server disk.new) }
         ensures me { self.new.server.me ≡ self.old.server.me }
         ensures counts { HasAirCause A.read_faults A.write_faults air.old air.new result }
@@ -132,8 +133,8 @@ impl ServerNode {
         moment: u32,
     ) -> Result<(), NodeStop>
         requires up { IsUp D.Disk self.old.server disk.old }
-        ensures hears { HearsAfter D.Disk A.said A.write_faults air.old air.new self.old self.new disk.old disk.new moment
-            octets.now result }
+        ensures hears { HearsAfter D.Disk A.said A.write_faults air.old air.new self.old self.new disk.old disk.new
+            moment octets.now result }
         ensures are_octets { IsOctets octets.now }
         ensures up { OnOk result (IsUp D.Disk self.new.server disk.new) }
         ensures me { self.new.server.me ≡ self.old.server.me }
@@ -157,8 +158,8 @@ impl ServerNode {
         moment: u32,
     ) -> Result<(), NodeStop>
         requires up { IsUp D.Disk self.old.server disk.old }
-        ensures hears { HearsAfter D.Disk A.said A.write_faults air.old air.new self.old self.new disk.old disk.new moment
-            (octet ∷ []) result }
+        ensures hears { HearsAfter D.Disk A.said A.write_faults air.old air.new self.old self.new disk.old disk.new
+            moment (octet ∷ []) result }
         ensures up { OnOk result (IsUp D.Disk self.new.server disk.new) }
         ensures me { self.new.server.me ≡ self.old.server.me }
         ensures heard { A.heard air.new ≡ A.heard air.old }
@@ -204,8 +205,8 @@ impl ServerNode {
     }
 }
 
-/// Hears a frame, and puts the frames that it gives. After a fault of the disk these are put too, whatever becomes of that:
-/// what stopped first is the answer.
+/// Hears a frame, and puts the frames that it gives. After a fault of the disk these are put too, whatever becomes of
+/// that: what stopped first is the answer.
 fn hear<D: Disk, A: Air>(
     server: &mut Server,
     frame: &Frame<'_>,

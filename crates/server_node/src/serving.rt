@@ -15,13 +15,13 @@ use session_node::{NodeStop, Served};
 use std::alloc::Global;
 
 /// Serves up to eight sessions on the air. The store is recovered from the disk first; where that is refused nothing is
-/// heard or said, and the clock isn't asked. Then come turns, up to the end of the air or as many polls as may be made. A
-/// turn takes the clock's moment, then one poll. Each frame that its octets finish, that reads, in which no repeater is
-/// named and that is for this station, is heard, and the frames that it gives are put, each by one put, before the next
-/// octet is looked at; every other part is passed over. Then, where the moment isn't the one of the turn before, there is
-/// one tick, and its frames are put. The commands of a frame's packets are on the disk before any of its frames is put.
-/// After a fault of the disk the frames of that event are put, code 3 among them, and the server is over; after want of
-/// memory none of them is. However it ends, all uploads are parked. Takes memory.
+/// heard or said, and the clock isn't asked. Then come turns, up to the end of the air or as many polls as may be made.
+/// A turn takes the clock's moment, then one poll. Each frame that its octets finish, that reads, in which no repeater
+/// is named and that is for this station, is heard, and the frames that it gives are put, each by one put, before the
+/// next octet is looked at; every other part is passed over. Then, where the moment isn't the one of the turn before,
+/// there is one tick, and its frames are put. The commands of a frame's packets are on the disk before any of its
+/// frames is put. After a fault of the disk the frames of that event are put, code 3 among them, and the server is
+/// over; after want of memory none of them is. However it ends, all uploads are parked. Takes memory.
 pub fn serve<D: Disk, A: Air, C: Clock>(
     alloc: Global,
     disk: &mut D,
@@ -37,7 +37,8 @@ pub fn serve<D: Disk, A: Air, C: Clock>(
     // for it.
     ensures refuses { RefusesSession terms.now.limits.blocks (D.content disk.old) result }
 
-    // It was refused, or the server served: what was said to what was heard, and what stands on the disk at each moment.
+    // It was refused, or the server served: what was said to what was heard, and what stands on the disk at each
+    // moment.
     ensures ends { ServerEnds D.Disk A.Air C.given disk.old disk.new air.old air.new clock.old clock.new terms.now
         result }
 

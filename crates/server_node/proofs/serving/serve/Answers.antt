@@ -2,7 +2,6 @@
 use Rattle.std.proofs.Common.{inl, inr, refl, sym, subst, Result}
 use Rattle.std.specs.Prelude.{IsErrOf}
 use Rattle.file_journal.specs.Calls.{Runs}
-use Rattle.file_store.specs.State.{store_in}
 use Rattle.ftl0_server.specs.ServerState.{ServerState}
 use Rattle.session_node.specs.declared.stop.NodeStop.{NodeStop}
 use Rattle.session_node.specs.declared.stop.NodeStop.TheVariants as stop

@@ -1,5 +1,5 @@
 -- An octet that ends no frame for the station gives nothing, and one that ends one is answered by what the frame gives.
-use Rattle.std.proofs.Common.{[], ◌∷◌, Ok, None, Some, subst, sym, ◌∙◌, refl}
+use Rattle.std.proofs.Common.{[], ◌∷◌, Ok, None, Some, subst, ◌∙◌, refl}
 use Rattle.px_base.specs.CallSign.{CallSign}
 use Rattle.ax25_frames.specs.Values.{value_of}
 use Rattle.node_events.specs.Events.{Finishes}

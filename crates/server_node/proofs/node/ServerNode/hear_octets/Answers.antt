@@ -1,5 +1,5 @@
 -- The loop goes on by each octet, and stops where that stops.
-use Rattle.std.proofs.Common.{◌≡◌, ◌+◌, List, ℕ, [], ◌∷◌, ◌++◌, take, drop, sym, subst, ap, ◌∙◌, arith, take-append-drop, take_all, Result, Ok, Err, slice_index}
+use Rattle.std.proofs.Common.{◌≡◌, ◌+◌, List, ℕ, ◌++◌, take, drop, sym, subst, ap, ◌∙◌, arith, take-append-drop, take_all, Result, Ok, Err}
 use Rattle.std.specs.Prelude.{⊤}
 use Rattle.std.proofs.lemmas.List.{take_more}
 use Rattle.px_base.specs.Octets.{IsOctets}

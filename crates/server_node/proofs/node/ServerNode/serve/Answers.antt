@@ -1,14 +1,13 @@
 -- The loop over turns.
-use Rattle.std.proofs.Common.{◌≡◌, Option, ℕ, arith, Result, Ok, Err, subst, sym, List, ◌∙◌}
-use Rattle.px_base.specs.Octets.{IsOctets}
+use Rattle.std.proofs.Common.{◌≡◌, arith, Result, Ok, Err, ◌∙◌}
 use Rattle.ftl0_packets.proofs.OctetLemmas.{IsOctets-nil}
 use Rattle.session_node.specs.declared.stop.NodeStop.{NodeStop}
 use Rattle.session_node.specs.declared.terms.Served.{Served}
 use Rattle.session_node.specs.Stops.{HasAirCause}
 use Rattle.session_node.proofs.Serving.{at_exit}
-use Rattle.server_node.specs.Node.{IsServing, TakesTurns}
+use Rattle.server_node.specs.Node.{TakesTurns}
 use Rattle.server_node.proofs.TakesLemmas.{counts-after}
-use Rattle.server_node.proofs.TurnsLemmas.{OneTurnAt, taking-done, taking-more, taking-spent, taking-start, taking-stops, turn_at}
+use Rattle.server_node.proofs.TurnsLemmas.{taking-done, taking-more, taking-spent, taking-start, taking-stops, turn_at}
 use Rattle.server_node.proofs.node.ServerNode.serve.Goals as goal
 
 pub loop-turn-init : goal.loop-turn-init

@@ -1,5 +1,5 @@
 -- A turn's octets are heard, and then it ticks; or one of the two stops it.
-use Rattle.std.proofs.Common.{take, Result, Ok, Err, ◌∙◌}
+use Rattle.std.proofs.Common.{take, Result, ◌∙◌}
 use Rattle.px_base.specs.declared.air.Polled.{Polled}
 use Rattle.ftl0_packets.proofs.OctetLemmas.{IsOctets-nil}
 use Rattle.session_node.specs.declared.stop.NodeStop.{NodeStop}
