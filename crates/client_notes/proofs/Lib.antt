@@ -1,1 +1,5 @@
-
+pub mod ListLemmas
+pub mod NotesLemmas
+pub mod PutLemmas
+pub mod RecordLemmas
+pub mod RecoveryLemmas

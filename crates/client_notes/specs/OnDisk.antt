@@ -81,8 +81,8 @@ pub record Does {D : Type 0} (g : Ghosts D) (failed : Type 0) (old new : NotesSt
 
 -- Neither the notes nor the disk is touched.
 pub record Untouched {D : Type 0} (old new : NotesState) (disk disk_now : D) : Type 0 where
-  pub notes : new ≡ old
-  pub disk : disk_now ≡ disk
+  pub same : new ≡ old
+  pub same_disk : disk_now ≡ disk
 
 -- What a call answers that notes one command: `Failed` exactly where the notes had failed, and then nothing is touched;
 -- else the command is done, or the disk failed in it.

@@ -1,8 +1,8 @@
 //! Commands that were read from a journal's records, applied to the notes.
 
-ghost use Rattle.std.specs.Prelude.{◌≡◌, ◌==◌, ◌+◌, ◌&&◌, nat_le, IfOk, OnErr};
+ghost use Rattle.std.specs.Prelude.{◌≡◌, ◌==◌, ◌+◌, ◌&&◌, nat_le, IsTrue, IfOk, OnErr, OnOk};
 ghost use Rattle.client_notes.specs.Applied.{Applied};
-ghost use Rattle.client_notes.specs.Command.{got, is_allowed, is_going as is_unfinished, is_name, is_numbered, is_unnumbered, passes};
+ghost use Rattle.client_notes.specs.Command.{after, got, is_allowed, is_going as is_unfinished, is_name, is_numbered, is_unnumbered, passes};
 ghost use Rattle.client_notes.specs.Commands.{command_value};
 ghost use Rattle.client_notes.specs.Notes.{task_count, task_of};
 ghost use Rattle.client_notes.specs.Records.{IsWritable};
@@ -18,14 +18,25 @@ use px_base::{Call, OutOfMemory};
 impl Lists {
     /// Applies a command that was read from a record: whether its condition holds. One whose condition doesn't hold
     /// changes nothing, and so does want of memory. Takes memory.
-    fn apply_command(&mut self, command: Command<'_>) -> Result<bool, OutOfMemory>
-        requires { IsWritable (command_value command) }
-        ensures applied { IfOk result (λ done. Applied done self.old self.new (command_value command.entry)) }
+    fn apply_command(&mut self, command: &Command<'_>) -> Result<bool, OutOfMemory>
+        requires { IsWritable (command_value command.now) }
+        ensures applied { IfOk result (λ done. Applied done self.old self.new (command_value command.now)) }
         ensures err { OnErr result (self.new ≡ self.old) }
     {
-        if !self.allows(&command) {
+        if !self.allows(command) {
             return Ok(false);
         }
+        self.make(command)?;
+        Ok(true)
+    }
+
+    /// Does a command whose condition holds, or nothing where there is no memory. Takes memory.
+    fn make(&mut self, command: &Command<'_>) -> Result<(), OutOfMemory>
+        requires allowed { IsTrue (is_allowed self.old (command_value command.now)) }
+        requires writable { IsWritable (command_value command.now) }
+        ensures ok { OnOk result (self.new ≡ after self.old (command_value command.now)) }
+        ensures err { OnErr result (self.new ≡ self.old) }
+    {
         match command {
             Command::Start {
                 server,
@@ -34,24 +45,43 @@ impl Lists {
                 length,
                 digest,
                 ..
-            } => self.add_task(StoredTask::new(server, caller, name, length, digest))?,
-            Command::Numbered { task, number } => self.set_number(task, number),
-            Command::Acked { task } => self.ack(task),
-            Command::Refused { task, code } => self.refuse(task, code),
+            } => self.add_task(StoredTask::new(*server, *caller, name, *length, digest)),
+            Command::Numbered { task, number } => {
+                self.set_number(*task, *number);
+                Ok(())
+            }
+            Command::Acked { task } => {
+                self.ack(*task);
+                Ok(())
+            }
+            Command::Refused { task, code } => {
+                self.refuse(*task, *code);
+                Ok(())
+            }
             Command::Got {
                 server,
                 number,
                 octets,
-            } => {
-                let _behind = self.add_got(server, number, octets)?;
+            } => self.make_got(*server, *number, octets),
+            Command::Forgot { server, number } => {
+                self.forget(*server, *number);
+                Ok(())
             }
-            Command::Forgot { server, number } => self.forget(server, number),
         }
-        Ok(true)
+    }
+
+    /// Octets of a file are got, or nothing changes where there is no memory. Takes memory.
+    fn make_got(&mut self, server: Call, number: u32, octets: &[u8]) -> Result<(), OutOfMemory>
+        requires { IsTrue (is_allowed self.old (got server number octets.now)) }
+        ensures ok { OnOk result (self.new ≡ after self.old (got server number octets.now)) }
+        ensures err { OnErr result (self.new ≡ self.old) }
+    {
+        let _behind = self.add_got(server, number, octets)?;
+        Ok(())
     }
 
     /// Whether the condition of a command holds. Takes no memory.
-    fn allows(&self, command: &Command<'_>) -> bool
+    pub(crate) fn allows(&self, command: &Command<'_>) -> bool
         ensures { result ≡ is_allowed self.now (command_value command.now) }
     {
         match command {
@@ -126,7 +156,7 @@ impl Ledger for Lists {
 
     fn apply(&mut self, kind: u8, content: &[u8]) -> Result<bool, OutOfMemory> {
         match Command::read(kind, content) {
-            Some(command) => self.apply_command(command),
+            Some(command) => self.apply_command(&command),
             None => Ok(false),
         }
     }

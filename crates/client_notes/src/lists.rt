@@ -1,12 +1,12 @@
 //! The list of tasks and the list of got files, and what the commands do to them.
 
-ghost use Rattle.std.specs.Prelude.{◌≡◌, ◌-◌, ◌≤◌, ◌<◌, ◌∷◌, ◌++◌, [], length, take, IsTrue, IfOk, OnOk, OnErr};
+ghost use Rattle.std.specs.Prelude.{◌≡◌, ◌-◌, ◌≤◌, ◌<◌, ◌∷◌, ◌++◌, [], find, length, take, IsTrue, IfOk, IfSome, OnOk, OnErr};
 ghost use Rattle.std.specs.List.{position};
 ghost use Rattle.std.specs.Option.{option_copied};
 ghost use Rattle.client_notes.specs.Answers.{answer_by, answer_of, noted_as as noted_as_task, noted_of};
 ghost use Rattle.client_notes.specs.Applied.{IsPlaceOf, taken_back};
 ghost use Rattle.client_notes.specs.Command.{acked, after, forgot, got, is_allowed, numbered, refused};
-ghost use Rattle.client_notes.specs.Notes.{got_of, is_file_of, is_of_file, last_task as number_of_last_task, no_notes, task_count as count_of_tasks, task_of};
+ghost use Rattle.client_notes.specs.Notes.{got_of, is_file_of, is_of_file, last_task as number_of_last_task, no_notes, place_from_end as place_of_last_task, task_count as count_of_tasks, task_of};
 
 use crate::limits::{LONGEST_FILE, MOST_TASKS};
 use crate::task::{StoredGot, StoredTask};
@@ -74,16 +74,25 @@ impl Lists {
         self.tasks.get(task as usize - 1)
     }
 
-    /// The number of the last task of this server, caller and name.
-    pub(crate) fn last_task(&self, server: Call, caller: Call, name: &[u8]) -> Option<u32>
-        ensures { result ≡ number_of_last_task self.now server caller name.now }
+    /// The place of the last task of this server, caller and name, counted from the end.
+    fn place_from_end(&self, server: Call, caller: Call, name: &[u8]) -> Option<usize>
+        ensures place { result ≡ place_of_last_task self.now server caller name.now }
+        ensures within { IfSome result (λ place. place < count_of_tasks self.now) }
     {
-        let place = self
-            .tasks
+        self.tasks
             .iter()
             .rev()
-            .position(|task| task.is_for(server, caller, name))?;
-        Some((self.tasks.len() - place) as u32)
+            .position(|task| task.is_for(server, caller, name))
+    }
+
+    /// The number of the last task of this server, caller and name.
+    fn last_task(&self, server: Call, caller: Call, name: &[u8]) -> Option<u32>
+        ensures { result ≡ number_of_last_task self.now server caller name.now }
+    {
+        match self.place_from_end(server, caller, name) {
+            Some(place) => Some((self.tasks.len() - place) as u32),
+            None => None,
+        }
     }
 
     /// How the last task of this server, caller and name stands.
@@ -162,10 +171,17 @@ impl Lists {
         ensures octets { result.now ≡ got_of self.now server number }
         ensures fits { length result.now ≤ LONGEST_FILE }
     {
-        match self.got.iter().find(|file| file.is_of(server, number)) {
+        match self.got_file(server, number) {
             Some(file) => file.octets(),
             None => &[],
         }
+    }
+
+    /// The file of this number of this server.
+    fn got_file(&self, server: Call, number: u32) -> Option<&StoredGot>
+        ensures { option_copied result ≡ find (is_file_of server number) self.now.got }
+    {
+        self.got.iter().find(|file| file.is_of(server, number))
     }
 
     /// The place of the file of this number of this server.

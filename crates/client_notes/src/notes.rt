@@ -96,7 +96,7 @@ impl Notes {
         server: Call,
         me: Call,
         name: &str,
-        length: u32,
+        file_length: u32,
         digest: [u8; 32],
     ) -> Result<Begun, NotesRefusal>
         requires stands_on { StandsOn D.Disk self.old disk.old }
@@ -104,21 +104,21 @@ impl Notes {
         requires most { length name.now ≤ 64 }
 
         // Each answer comes exactly where its cause holds; a fault of the disk only where it counts one.
-        ensures answers { StartsBy self.old (answer_of self.old.lists server me name.now length digest) result }
+        ensures answers { StartsBy self.old (answer_of self.old.lists server me name.now file_length digest) result }
         ensures untouched { IsTrue (start_reaches result) ⊎ Untouched self.old self.new disk.old disk.new }
 
         // The command is on the disk before the answer, and a crash at any moment leaves the notes before it or after it.
         ensures does { IsTrue (start_reaches result) → Does D.Disk (IsErr result) self.old self.new disk.old disk.new
-            (fresh_task self.old.lists server me name.now length digest) }
+            (fresh_task self.old.lists server me name.now file_length digest) }
         ensures stands_on { StandsOn D.Disk self.new disk.new }
     {
-        if let Some(begun) = self.lists.answer(server, me, name.as_bytes(), length, &digest)? {
+        if let Some(begun) = self.lists.answer(server, me, name.as_bytes(), file_length, &digest)? {
             return Ok(begun);
         }
         if self.lists.task_count() == MOST_TASKS {
             return Err(NotesRefusal::Full);
         }
-        let task = self.begin(disk, server, me, name.as_bytes(), length, &digest)?;
+        let task = self.begin(disk, server, me, name.as_bytes(), file_length, &digest)?;
         Ok(Begun::Fresh { task })
     }
 
@@ -129,7 +129,7 @@ impl Notes {
         server: Call,
         me: Call,
         name: &[u8],
-        length: u32,
+        file_length: u32,
         digest: &[u8; 32],
     ) -> Result<u32, NotesRefusal>
         requires stands_on { StandsOn D.Disk self.old disk.old }
@@ -138,20 +138,20 @@ impl Notes {
         requires most { length name.now ≤ 64 }
         ensures task { IfOk result (λ task. task ≡ task_count self.old.lists + 1) }
         ensures noting { Noting D.Disk self.old self.new disk.old disk.new
-            (fresh_task self.old.lists server me name.now length digest.now) result }
+            (fresh_task self.old.lists server me name.now file_length digest.now) result }
     {
         if self.journal.failed() {
             return Err(NotesRefusal::Failed);
         }
         let task = self.lists.task_count() + 1;
         self.lists
-            .add_task(StoredTask::new(server, me, name, length, digest))?;
+            .add_task(StoredTask::new(server, me, name, file_length, digest))?;
         let start = Command::Start {
             task,
             server,
             caller: me,
             name,
-            length,
+            length: file_length,
             digest,
         };
         match put_command(&mut self.journal, disk, &start) {
@@ -287,7 +287,7 @@ impl Notes {
     /// no memory.
     pub fn read_got(&self, server: Call, number: u32, at: u32, room: &mut [u8])
         requires { at + length room.old ≤ length (got_of self.now.lists server number) }
-        ensures { FillsRoom (got_of self.now.lists server number) at room.old room.new }
+        ensures { FillsRoom (got_of self.now.lists server number) at (length room.old) room.new }
     {
         let at = at as usize;
         room.copy_from_slice(&self.lists.got(server, number)[at..at + room.len()]);
@@ -308,8 +308,18 @@ impl Notes {
         self.journal.failed()
     }
 
+    /// Whether the condition of a command holds.
+    #[cfg(test)]
+    pub(crate) fn allows(&self, command: &Command<'_>) -> bool
+        ensures { result ≡ is_allowed self.now.lists (command_value command.now) }
+    {
+        self.lists.allows(command)
+    }
+
     /// The journal was read to its end.
     pub(crate) fn read_law(&self)
         ensures { IsRead self.now.journal }
-    {}
+    {
+        let _failed = self.journal.failed();
+    }
 }

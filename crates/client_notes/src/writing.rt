@@ -23,19 +23,19 @@ pub(crate) fn put_start(
     server: &Call,
     caller: &Call,
     name: &[u8],
-    length: u32,
+    file_length: u32,
     digest: &[u8],
 ) -> u8
     requires name { length name.now ≤ 64 }
     requires digest { length digest.now ≡ 32 }
     ensures { record_of result content.new.items
-        ≡ record_of_command (start task server.now caller.now name.now length digest.now) }
+        ≡ record_of_command (start task server.now caller.now name.now file_length digest.now) }
 {
     content.clear();
     put_number(content, task);
     put_call(content, server);
     put_call(content, caller);
-    put_number(content, length);
+    put_number(content, file_length);
     content.try_extend_from_slice(digest).unwrap();
     content.push(name.len() as u8);
     content.try_extend_from_slice(name).unwrap();
