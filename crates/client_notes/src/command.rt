@@ -6,9 +6,7 @@ ghost use Rattle.file_journal.specs.Records.{record_of};
 ghost use Rattle.client_notes.specs.Commands.{command_value};
 ghost use Rattle.client_notes.specs.Records.{IsWritable, command_of, record_of_command};
 
-use crate::reading::{
-    read_acked, read_forgot, read_got, read_numbered, read_refused, read_start,
-};
+use crate::reading::{read_acked, read_forgot, read_got, read_numbered, read_refused, read_start};
 use crate::writing::{put_acked, put_forgot, put_got, put_numbered, put_refused, put_start};
 use arrayvec::ArrayVec;
 use px_base::Call;
@@ -28,11 +26,19 @@ pub(crate) enum Command<'a> {
         digest: &'a [u8],
     },
     /// The task's file has this number on the server.
-    Numbered { task: u32, number: u32 },
+    Numbered {
+        task: u32,
+        number: u32,
+    },
     /// The task's file was acknowledged.
-    Acked { task: u32 },
+    Acked {
+        task: u32,
+    },
     /// The task's file was refused.
-    Refused { task: u32, code: u8 },
+    Refused {
+        task: u32,
+        code: u8,
+    },
     /// Octets of a file were got.
     Got {
         server: Call,
@@ -41,7 +47,10 @@ pub(crate) enum Command<'a> {
         octets: &'a [u8],
     },
     /// What was got of a file is given up.
-    Forgot { server: Call, number: u32 },
+    Forgot {
+        server: Call,
+        number: u32,
+    },
 }
 
 impl<'a> Command<'a> {

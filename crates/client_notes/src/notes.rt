@@ -112,7 +112,10 @@ impl Notes {
             (fresh_task self.old.lists server me name.now file_length digest) }
         ensures stands_on { StandsOn D.Disk self.new disk.new }
     {
-        if let Some(begun) = self.lists.answer(server, me, name.as_bytes(), file_length, &digest)? {
+        if let Some(begun) = self
+            .lists
+            .answer(server, me, name.as_bytes(), file_length, &digest)?
+        {
             return Ok(begun);
         }
         if self.lists.task_count() == MOST_TASKS {

@@ -6,8 +6,7 @@ pub returns-clause-writable : goal.returns-clause-writable
 returns-clause-writable c =
     let content = c.args.content.now in
     let octets = octets-slice content (λ i. omega (arith, c.type_inv.content i)) in
-    let whole = length-part content 11 (length content - 11) (omega arith) in
-    (
+    let whole = length-part content 11 (length content - 11) (omega arith) in (
       c.in_ok-server.ensures.valid,
       omega arith,
       (IsOctets-part content 11 (length content - 11) octets, omega (arith, whole), omega (arith, whole)),

@@ -16,8 +16,7 @@ returns-clause-writable c =
     let octets = octets-slice content (λ i. omega (arith, c.type_inv.content i)) in
     let is = start_lengths content (sym c.if-not-is_start_len.ensures) in
     let name = length-part content 55 (length content - 55) (omega (arith, is.some)) in
-    let digest = length-part content 22 32 (omega (arith, is.some)) in
-    (
+    let digest = length-part content 22 32 (omega (arith, is.some)) in (
       omega arith,
       c.in_ok-server.ensures.valid,
       c.in_ok-caller.ensures.valid,
