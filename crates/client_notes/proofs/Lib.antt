@@ -3,3 +3,4 @@ pub mod NotesLemmas
 pub mod PutLemmas
 pub mod RecordLemmas
 pub mod RecoveryLemmas
+pub mod StandingLemmas

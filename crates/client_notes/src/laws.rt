@@ -1,7 +1,7 @@
 //! Laws of a client's notes.
 
 ghost use Rattle.std.specs.Prelude.{◌≡◌, false};
-ghost use Rattle.client_notes.specs.Laws.{RecordsLaw};
+ghost use Rattle.client_notes.specs.Laws.{RecordsLaw, StandingLaw};
 ghost use Rattle.client_notes.specs.OnDisk.{EachImage};
 ghost use Rattle.client_notes.specs.State.{IsRead, StandsFor, StandsOn};
 
@@ -12,6 +12,11 @@ use disk_model::Disk;
 /// one.
 pub fn records_law()
     ensures { RecordsLaw }
+{}
+
+/// What octets stand for: the notes after the commands that their records are, and no others.
+pub fn standing_law()
+    ensures { StandingLaw }
 {}
 
 /// What notes are: their journal was read to its end. Takes no memory.
