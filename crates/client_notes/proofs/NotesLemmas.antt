@@ -1,5 +1,5 @@
 -- What a call of the notes does and answers, from what the putting of its command's record does.
-use Rattle.std.proofs.Common.{◌≡◌, inl, inr, true, false, Result, Ok, Err, IsErr, IsErrOf, refl, sym, ◌∙◌, ap, subst}
+use Rattle.std.proofs.Common.{◌≡◌, inl, inr, true, false, Ok, Err, IsErr, refl, sym, ◌∙◌, ap, subst}
 use Rattle.std.specs.Prelude.{IsTrue}
 use Rattle.disk_model.specs.declared.disk.Disk.{Ghosts}
 use Rattle.file_journal.specs.Position.{Position}
@@ -11,7 +11,7 @@ use Rattle.file_journal.proofs.WalkLemmas.{failed_keeps}
 use Rattle.client_notes.specs.Answers.{Noting, RefusesNoting, noting_reaches}
 use Rattle.client_notes.specs.Command.{NotesCommand, after, is_allowed}
 use Rattle.client_notes.specs.Notes.{Lists}
-use Rattle.client_notes.specs.OnDisk.{Answers, Does, PutsCommand, PutsHealthy, Untouched}
+use Rattle.client_notes.specs.OnDisk.{Answers, Does, PutsCommand}
 use Rattle.client_notes.specs.Records.{notes_step}
 use Rattle.client_notes.specs.State.{NotesState, StandsOn, fresh_notes}
 use Rattle.client_notes.specs.declared.refusals.NotesRefusal.{NotesRefusal}

@@ -1,5 +1,5 @@
 -- What putting a command's record makes of the notes' disk.
-use Rattle.std.proofs.Common.{◌≡◌, inl, inr, ⊎_elim, ℕ, ◌≤◌, Bool, true, false, List, Err, IsErrOf, Option, None, Some, IfSome, refl, sym, ◌∙◌, ap}
+use Rattle.std.proofs.Common.{◌≡◌, inl, inr, ⊎_elim, ℕ, ◌≤◌, Bool, false, List, Err, IsErrOf, Option, None, Some, IfSome, refl, sym, ◌∙◌, ap}
 use Rattle.std.specs.Prelude.{IsTrue, if◌then◌else◌}
 use Rattle.std.specs.Option.{option_and_then}
 use Rattle.disk_model.specs.declared.disk.Disk.{Ghosts}

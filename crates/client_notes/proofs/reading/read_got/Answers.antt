@@ -1,4 +1,4 @@
-use Rattle.std.proofs.Common.{◌-◌, length, drop, arith, length-drop}
+use Rattle.std.proofs.Common.{◌-◌, length, arith}
 use Rattle.client_notes.proofs.RecordLemmas.{IsOctets-part, length-part, octets-slice}
 use Rattle.client_notes.proofs.reading.read_got.Goals as goal
 
