@@ -1,0 +1,43 @@
+-- Laws of a client's notes.
+use Rattle.std.specs.Prelude.{◌≡◌, ◌↔◌, ℕ, List, [], ◌∷◌, map, Option, Some, IsTrue, ⊤}
+use Rattle.std.specs.List.{AllByRecursion}
+use Rattle.px_base.specs.Octets.{IsOctets}
+use Rattle.file_journal.specs.Journal.{journal_of, store}
+use Rattle.file_journal.specs.Records.{IsRecord, Record, whole}
+use Rattle.client_notes.specs.Command.{NotesCommand, after, is_allowed}
+use Rattle.client_notes.specs.Notes.{Lists, no_notes}
+use Rattle.client_notes.specs.Records.{IsWritable, Writes, command_of, notes_magic, record_of_command}
+use Rattle.client_notes.specs.State.{StandsFor}
+
+-- A record of at most 600 octets is read as a command exactly where it is that command's record; and each command that
+-- can be written has such a record.
+abbrev pub RecordsLaw : Type 0
+RecordsLaw =
+    ((entry : Record) (command : NotesCommand) → IsRecord entry
+    → (command_of entry ≡ Some command) ↔ Writes entry command)
+    × ((command : NotesCommand) → IsWritable command → IsRecord (record_of_command command))
+
+-- the notes after these commands, one after another
+abbrev pub after_all : Lists → List NotesCommand → Lists
+after_all lists [] = lists
+after_all lists (command ∷ commands) = after_all (after lists command) commands
+
+-- the condition of each command holds when its turn comes
+abbrev pub AreAllowed : Lists → List NotesCommand → Type 0
+AreAllowed lists [] = ⊤
+AreAllowed lists (command ∷ commands) = IsTrue (is_allowed lists command) × AreAllowed (after lists command) commands
+
+-- The octets are a journal, with a block number or none yet, and its records are these commands, each of which the notes
+-- before it allow, from no notes on; and these are the notes after them.
+pub record IsNotesAfter (octets : List ℕ) (lists : Lists) (commands : List NotesCommand) : Type 0 where
+  pub number : Option ℕ
+  pub records : journal_of notes_magic octets ≡ store number (whole (map record_of_command commands))
+  pub writable : AllByRecursion IsWritable commands
+  pub allowed : AreAllowed no_notes commands
+  pub after : lists ≡ after_all no_notes commands
+
+-- octets stand for notes exactly where they are the records of commands that make them
+abbrev pub StandingLaw : Type 0
+StandingLaw =
+    (octets : List ℕ) (lists : Lists) → IsOctets octets
+    → StandsFor octets lists ↔ ((commands : List NotesCommand) × IsNotesAfter octets lists commands)

@@ -1,0 +1,11 @@
+pub mod Answers
+pub mod Applied
+pub mod Command
+pub mod Commands
+pub mod Laws
+pub mod Notes
+pub mod OnDisk
+pub mod Records
+pub mod Recovery
+pub mod Refusals
+pub mod State

@@ -1,0 +1,94 @@
+-- What a command of a call does to the disk of the notes, at every moment of it.
+use Rattle.std.specs.Prelude.{◌≡◌, ◌⊎◌, ◌↔◌, ℕ, ◌+◌, ◌≤◌, List, true, false, IfSome, IsTrue, Result, IsErr, IsErrOf, OnErr, OnOk}
+use Rattle.disk_model.specs.declared.disk.Disk.{Ghosts}
+use Rattle.file_journal.specs.Calls.{Leaves, Puts, images_now}
+use Rattle.file_journal.specs.Position.{Position}
+use Rattle.file_journal.specs.Walk.{KeepsState}
+use Rattle.file_journal.specs.declared.faults.JournalFault.{JournalFault}
+use Rattle.file_journal.specs.declared.faults.JournalFault.TheVariants as fault
+use Rattle.client_notes.specs.Command.{NotesCommand, after, is_allowed}
+use Rattle.client_notes.specs.Notes.{Lists}
+use Rattle.client_notes.specs.Records.{notes_step}
+use Rattle.client_notes.specs.State.{NotesState, StandsFor, StandsOn, fresh_notes}
+
+-- each image that a crash since this moment might have left, where the disk tells, has P
+abbrev pub EachImage : {D : Type 0} → Ghosts D → D → (List ℕ → Type 0) → Type 0
+EachImage g disk P = IfSome (g.content disk) (λ _. (image : List ℕ) → images_now g disk image → P image)
+
+-- the image stands for the notes before the command or after it
+abbrev pub IsBeforeOrAfter : Lists → NotesCommand → List ℕ → Type 0
+IsBeforeOrAfter lists command image = StandsFor image lists ⊎ StandsFor image (after lists command)
+
+-- The journal stood on the disk for these notes, which allow the command: now it stands for the notes after it, and so
+-- does each image; or, where the disk failed, each image stands for those before or those after. So does what a crash
+-- since the start leaves.
+pub record PutsFor {D T E : Type 0} (g : Ghosts D) (new : Position) (disk disk_now : D) (lists : Lists)
+    (command : NotesCommand) (result : Result T E) : Type 0 where
+  pub ok : OnOk result (KeepsState fresh_notes notes_step g new (after lists command) disk_now)
+  pub images : OnOk result (EachImage g disk_now (λ image. StandsFor image (after lists command)))
+  pub err : OnErr result (EachImage g disk_now (IsBeforeOrAfter lists command))
+  pub since : Leaves g disk disk_now (λ _. IsBeforeOrAfter lists command)
+
+-- the same for all notes for which the journal stood, and what becomes of journal and counts; it takes four calls of the
+-- disk
+pub record PutsCommand {D T E : Type 0} (g : Ghosts D) (old new : Position) (disk disk_now : D)
+    (command : NotesCommand) (result : Result T E) : Type 0 where
+  pub stands :
+      (lists : Lists) → KeepsState fresh_notes notes_step g old lists disk
+      → IsTrue (is_allowed lists command) → PutsFor g new disk disk_now lists command result
+  pub journal : new ≡ record old { place = new.place; failed = new.failed }
+  pub ok : OnOk result (new.failed ≡ false)
+  pub err : OnErr result (new.failed ≡ true)
+  pub calls : OnOk result (IfSome (g.content disk) (λ _. g.moment disk_now ≡ g.moment disk + 4))
+  pub at_most : g.moment disk_now ≤ g.moment disk + 4
+  pub puts : Puts g (IsErr result) disk disk_now
+
+-- the same of a journal that hadn't failed
+pub record PutsHealthy {D T E : Type 0} (g : Ghosts D) (old new : Position) (disk disk_now : D)
+    (command : NotesCommand) (result : Result T E) : Type 0 where
+  pub healthy : old.failed ≡ false
+  pub puts : PutsCommand g old new disk disk_now command result
+
+-- The command is done: each image stands for the notes after it. It took four calls of the disk.
+pub record IsDone {D : Type 0} (g : Ghosts D) (old new : NotesState) (disk disk_now : D) (command : NotesCommand)
+    : Type 0 where
+  pub lists : new.lists ≡ after old.lists command
+  pub healthy : new.journal.failed ≡ false
+  pub images : EachImage g disk_now (λ image. StandsFor image (after old.lists command))
+  pub calls : IfSome (g.content disk) (λ _. g.moment disk_now ≡ g.moment disk + 4)
+
+-- The disk failed: each image stands for the notes before the command or after it. The notes are as they were, and have
+-- failed.
+pub record IsCut {D : Type 0} (g : Ghosts D) (old new : NotesState) (disk_now : D) (command : NotesCommand)
+    : Type 0 where
+  pub lists : new.lists ≡ old.lists
+  pub failed : new.journal.failed ≡ true
+  pub images : EachImage g disk_now (IsBeforeOrAfter old.lists command)
+
+-- A call of notes that haven't failed did this command, whose condition holds, in four calls of the disk, or the disk
+-- failed in it. A crash since the call began leaves the notes before it or after it. The magic stays.
+pub record Does {D : Type 0} (g : Ghosts D) (failed : Type 0) (old new : NotesState) (disk disk_now : D)
+    (command : NotesCommand) : Type 0 where
+  pub stands_on : StandsOn g new disk_now
+  pub healthy : old.journal.failed ≡ false
+  pub allowed : IsTrue (is_allowed old.lists command)
+  pub since : Leaves g disk disk_now (λ _. IsBeforeOrAfter old.lists command)
+  pub done : ¬ failed → IsDone g old new disk disk_now command
+  pub cut : failed → IsCut g old new disk_now command
+  pub at_most : g.moment disk_now ≤ g.moment disk + 4
+  pub puts : Puts g failed disk disk_now
+  pub same_magic : new.journal.magic ≡ old.journal.magic
+
+-- Neither the notes nor the disk is touched.
+pub record Untouched {D : Type 0} (old new : NotesState) (disk disk_now : D) : Type 0 where
+  pub same : new ≡ old
+  pub same_disk : disk_now ≡ disk
+
+-- What a call answers that notes one command: `Failed` exactly where the notes had failed, and then nothing is touched;
+-- else the command is done, or the disk failed in it.
+pub record Answers {D T : Type 0} (g : Ghosts D) (old new : NotesState) (disk disk_now : D) (command : NotesCommand)
+    (result : Result T JournalFault) : Type 0 where
+  pub failed : IsErrOf result fault.Failed ↔ (old.journal.failed ≡ true)
+  pub untouched : IsErrOf result fault.Failed → Untouched old new disk disk_now
+  pub does : ¬ IsErrOf result fault.Failed → Does g (IsErr result) old new disk disk_now command
+  pub stands_on : StandsOn g new disk_now

@@ -1,0 +1,100 @@
+//! The commands of notes as records of their journal.
+
+ghost use Rattle.std.specs.Prelude.{◌≡◌, IfSome};
+ghost use Rattle.std.specs.Option.{option_map};
+ghost use Rattle.file_journal.specs.Records.{record_of};
+ghost use Rattle.client_notes.specs.Commands.{command_value};
+ghost use Rattle.client_notes.specs.Records.{IsWritable, command_of, record_of_command};
+
+use crate::reading::{read_acked, read_forgot, read_got, read_numbered, read_refused, read_start};
+use crate::writing::{put_acked, put_forgot, put_got, put_numbered, put_refused, put_start};
+use arrayvec::ArrayVec;
+use px_base::Call;
+
+/// A command that changes notes.
+#[derive(Clone, Copy)]
+pub(crate) enum Command<'a> {
+    /// A task is begun.
+    Start {
+        task: u32,
+        server: Call,
+        caller: Call,
+        /// 1 to 64 octets.
+        name: &'a [u8],
+        length: u32,
+        /// 32 octets.
+        digest: &'a [u8],
+    },
+    /// The task's file has this number on the server.
+    Numbered {
+        task: u32,
+        number: u32,
+    },
+    /// The task's file was acknowledged.
+    Acked {
+        task: u32,
+    },
+    /// The task's file was refused.
+    Refused {
+        task: u32,
+        code: u8,
+    },
+    /// Octets of a file were got.
+    Got {
+        server: Call,
+        number: u32,
+        /// 1 to 512 octets.
+        octets: &'a [u8],
+    },
+    /// What was got of a file is given up.
+    Forgot {
+        server: Call,
+        number: u32,
+    },
+}
+
+impl<'a> Command<'a> {
+    /// The command that a record of this kind and content is; `None` exactly where the content hasn't the kind's
+    /// length, a call in it is none, or there is no such kind. Takes no memory.
+    pub(crate) fn read(kind: u8, content: &'a [u8]) -> Option<Command<'a>>
+        ensures command { option_map command_value result ≡ command_of (record_of kind content.now) }
+        ensures writable { IfSome result (λ command. IsWritable (command_value command)) }
+    {
+        match kind {
+            1 => read_start(content),
+            2 => read_numbered(content),
+            3 => read_acked(content),
+            4 => read_refused(content),
+            5 => read_got(content),
+            6 => read_forgot(content),
+            _ => None,
+        }
+    }
+
+    /// Writes the command's content in place of what `content` holds, and gives the kind of its record. Takes no
+    /// memory.
+    pub(crate) fn write(&self, content: &mut ArrayVec<u8, 600>) -> u8
+        requires { IsWritable (command_value self.now) }
+        ensures { record_of result content.new.items ≡ record_of_command (command_value self.now) }
+    {
+        match self {
+            Command::Start {
+                task,
+                server,
+                caller,
+                name,
+                length,
+                digest,
+            } => put_start(content, *task, server, caller, name, *length, digest),
+            Command::Numbered { task, number } => put_numbered(content, *task, *number),
+            Command::Acked { task } => put_acked(content, *task),
+            Command::Refused { task, code } => put_refused(content, *task, *code),
+            Command::Got {
+                server,
+                number,
+                octets,
+            } => put_got(content, server, *number, octets),
+            Command::Forgot { server, number } => put_forgot(content, server, *number),
+        }
+    }
+}

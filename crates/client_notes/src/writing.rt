@@ -1,0 +1,114 @@
+//! The contents of the records of commands. Each call gives the kind of the record.
+
+ghost use Rattle.std.specs.Prelude.{◌≡◌, ◌+◌, ◌≤◌, ◌∷◌, ◌++◌, [], length};
+ghost use Rattle.arrayvec.specs.ArrayVec.{array_vec_len};
+ghost use Rattle.px_base.specs.Numbers.{le32_octets};
+ghost use Rattle.call_octets.specs.CallOctets.{call_octets as octets_of_call};
+ghost use Rattle.file_journal.specs.Records.{record_of};
+ghost use Rattle.client_notes.specs.Command.{acked, forgot, got, numbered, refused, start};
+ghost use Rattle.client_notes.specs.Records.{record_of_command};
+
+use arrayvec::ArrayVec;
+use byteorder::{ByteOrder, LittleEndian};
+use call_octets::write_call;
+use px_base::Call;
+
+/// The content of a record.
+type Content = ArrayVec<u8, 600>;
+
+/// The content of a Start, with a name of at most 64 octets and a digest of 32.
+pub(crate) fn put_start(
+    content: &mut Content,
+    task: u32,
+    server: &Call,
+    caller: &Call,
+    name: &[u8],
+    file_length: u32,
+    digest: &[u8],
+) -> u8
+    requires name { length name.now ≤ 64 }
+    requires digest { length digest.now ≡ 32 }
+    ensures { record_of result content.new.items
+        ≡ record_of_command (start task server.now caller.now name.now file_length digest.now) }
+{
+    content.clear();
+    put_number(content, task);
+    put_call(content, server);
+    put_call(content, caller);
+    put_number(content, file_length);
+    content.try_extend_from_slice(digest).unwrap();
+    content.push(name.len() as u8);
+    content.try_extend_from_slice(name).unwrap();
+    1
+}
+
+/// The content of a Numbered.
+pub(crate) fn put_numbered(content: &mut Content, task: u32, number: u32) -> u8
+    ensures { record_of result content.new.items ≡ record_of_command (numbered task number) }
+{
+    content.clear();
+    put_number(content, task);
+    put_number(content, number);
+    2
+}
+
+/// The content of an Acked.
+pub(crate) fn put_acked(content: &mut Content, task: u32) -> u8
+    ensures { record_of result content.new.items ≡ record_of_command (acked task) }
+{
+    content.clear();
+    put_number(content, task);
+    3
+}
+
+/// The content of a Refused.
+pub(crate) fn put_refused(content: &mut Content, task: u32, code: u8) -> u8
+    ensures { record_of result content.new.items ≡ record_of_command (refused task code) }
+{
+    content.clear();
+    put_number(content, task);
+    content.push(code);
+    4
+}
+
+/// The content of a Got of at most 512 octets.
+pub(crate) fn put_got(content: &mut Content, server: &Call, number: u32, octets: &[u8]) -> u8
+    requires { length octets.now ≤ 512 }
+    ensures { record_of result content.new.items ≡ record_of_command (got server.now number octets.now) }
+{
+    content.clear();
+    put_call(content, server);
+    put_number(content, number);
+    content.try_extend_from_slice(octets).unwrap();
+    5
+}
+
+/// The content of a Forgot.
+pub(crate) fn put_forgot(content: &mut Content, server: &Call, number: u32) -> u8
+    ensures { record_of result content.new.items ≡ record_of_command (forgot server.now number) }
+{
+    content.clear();
+    put_call(content, server);
+    put_number(content, number);
+    6
+}
+
+/// Puts the four octets of a number at the end.
+fn put_number(content: &mut Content, number: u32)
+    requires { array_vec_len content.old + 4 ≤ 600 }
+    ensures octets { content.new.items ≡ content.old.items ++ le32_octets number }
+    ensures len { array_vec_len content.new ≡ array_vec_len content.old + 4 }
+{
+    let mut octets = [0; 4];
+    LittleEndian::write_u32(&mut octets, number);
+    content.try_extend_from_slice(&octets).unwrap();
+}
+
+/// Puts the seven octets of a call at the end.
+fn put_call(content: &mut Content, call: &Call)
+    requires { array_vec_len content.old + 7 ≤ 600 }
+    ensures octets { content.new.items ≡ content.old.items ++ octets_of_call call.now }
+    ensures len { array_vec_len content.new ≡ array_vec_len content.old + 7 }
+{
+    content.try_extend_from_slice(&write_call(call)).unwrap();
+}
