@@ -163,6 +163,6 @@ one_stream octets (item ∷ items) (other ∷ others) rest left s t =
 
 -- a packet that was written is read again
 pub read_again : IsReadAgain
-read_again packet later fits built =
-    let t = IsText-PacketText (Ok packet) (packet_text packet) (fits, built, refl) in
+read_again packet later fits =
+    let t = IsText-PacketText (Ok packet) (packet_text packet) (fits, refl) in
     packets_of-whole (packet_text packet) later t.whole ∙ ap (λ (i : Item). i ∷ packets_of later) t.says

@@ -1,10 +1,10 @@
 -- The text of one packet: where it ends, and what it says.
 use Rattle.std.proofs.Common.{◌≡◌, ℕ, ◌+◌, ◌*◌, ◌/◌, ◌%◌, ◌<◌, ◌≤◌, List, [], ◌∷◌, ◌++◌, length, take, slice_index, Bool, true, false, cond, ◌&&◌, Ok, Err, refl, sym, ap, ◌∙◌, subst, arith}
-use Rattle.std.proofs.lemmas.Bool.{eqb-true, eq-eqb, and_parts, and_from, cond-true, cond-false, false≢true}
+use Rattle.std.proofs.lemmas.Bool.{eqb-true, eq-eqb, cond-true, cond-false, false≢true}
 use Rattle.std.proofs.lemmas.List.{get_or_append_left, take_at}
 use Rattle.ftl0_packets.specs.declared.packet.Malformed.{Malformed}
 use Rattle.px_base.specs.Octets.{IsOctets}
-use Rattle.ftl0_packets.specs.Layout.{PacketValue, kind_of, information, Fits, has_length, is_built, text_of, packet_text, Item, PacketText}
+use Rattle.ftl0_packets.specs.Layout.{PacketValue, kind_of, information, Fits, has_length, text_of, packet_text, Item, PacketText}
 use Rattle.ftl0_packets.specs.Reading.{text_len, is_whole, packet_from, item_from, read_item}
 use Rattle.ftl0_packets.proofs.OctetLemmas.{IsOctets-cons, IsOctets-drop, octet_at}
 use Rattle.ftl0_packets.proofs.InformationLemmas.{packet_from-information, has_length-information, kind_of-below, length-information, IsOctets-information, packet_from-made}
@@ -48,18 +48,16 @@ pub record IsText (item : Item) (text : List ℕ) : Type 0 where
   pub octets : IsOctets text
   pub says : read_item text ≡ item
 
-packet_text-is : (packet : PacketValue) → Fits packet → is_built (kind_of packet) ≡ true → IsText (Ok packet) (packet_text packet)
-packet_text-is packet fits built =
+packet_text-is : (packet : PacketValue) → Fits packet → IsText (Ok packet) (packet_text packet)
+packet_text-is packet fits =
     let below = kind_of-below packet in
     let short = length-information packet fits in
-    let test : (is_built (kind_of packet) && has_length (kind_of packet) (length (information packet))) ≡ true =
-    and_from _ _ built (has_length-information packet fits) in
     record {
       whole = whole-text_of (kind_of packet) (information packet) below short;
       octets = IsOctets-text_of (kind_of packet) (information packet) below short (IsOctets-information packet fits);
       says =
           read_item-text_of (kind_of packet) (information packet) below short
-          ∙ cond-true _ _ _ test
+          ∙ cond-true _ _ _ (has_length-information packet fits)
           ∙ ap (λ (p : PacketValue). Ok p) (packet_from-information packet fits);
     }
 
@@ -68,12 +66,11 @@ abbrev malformed_item : ℕ → ℕ → Item
 malformed_item kind len = Err (record { kind = kind; len = len })
 
 malformed-is : (malformed : Malformed) (info : List ℕ) → malformed.kind < 32 → malformed.len < 2048 → length info ≡ malformed.len
-    → IsOctets info → (is_built malformed.kind && has_length malformed.kind malformed.len) ≡ false
+    → IsOctets info → has_length malformed.kind malformed.len ≡ false
     → IsText (Err malformed) (text_of malformed.kind info)
 malformed-is malformed info below short len octets test =
     let bound : length info < 2048 = omega arith in
-    let here : (is_built malformed.kind && has_length malformed.kind (length info)) ≡ false =
-    ap (λ (n : ℕ). is_built malformed.kind && has_length malformed.kind n) len ∙ test in
+    let here : has_length malformed.kind (length info) ≡ false = ap (has_length malformed.kind) len ∙ test in
     record {
       whole = whole-text_of malformed.kind info below bound;
       octets = IsOctets-text_of malformed.kind info below bound octets;
@@ -86,7 +83,7 @@ malformed-is malformed info below short len octets test =
 -- a text is whole, of octets, and says its packet
 pub IsText-PacketText : (item : Item) (text : List ℕ) → PacketText item text → IsText item text
 IsText-PacketText (Ok packet) text h =
-    subst (λ (t : List ℕ). IsText (Ok packet) t) (sym h.2) (packet_text-is packet h.0 h.1)
+    subst (λ (t : List ℕ). IsText (Ok packet) t) (sym h.1) (packet_text-is packet h.0)
 IsText-PacketText (Err malformed) text h =
     subst (λ (t : List ℕ). IsText (Err malformed) t) (sym h.5) (malformed-is malformed h.0 h.1 h.2 h.3 h.4 h.6)
 
@@ -98,14 +95,12 @@ header-again low high info hl hh len =
     let second : 32 * (length info / 256) + high % 32 ≡ high = omega arith in
     ap (λ (n : ℕ). n ∷ high ∷ info) (sym first) ∙ ap (λ (n : ℕ). length info % 256 ∷ n ∷ info) (sym second)
 
-item-text : (kind : ℕ) (info text : List ℕ) (test : Bool) → test ≡ (is_built kind && has_length kind (length info))
+item-text : (kind : ℕ) (info text : List ℕ) (test : Bool) → test ≡ has_length kind (length info)
     → kind < 32 → length info < 2048 → IsOctets info → text ≡ text_of kind info
     → PacketText (cond test (Ok (packet_from kind info)) (Err (record { kind = kind; len = length info }))) text
 item-text kind info text true is below short octets same =
-    let parts = and_parts _ _ (sym is) in
-    let made = packet_from-made kind info parts.1 octets in (
+    let made = packet_from-made kind info (sym is) octets in (
       made.fits,
-      ap is_built made.same_kind ∙ parts.0,
       same ∙ ap (λ (k : ℕ). text_of k info) (sym made.same_kind) ∙ ap (λ (i : List ℕ). text_of (kind_of (packet_from kind info)) i) (sym made.same_information),
     )
 item-text kind info text false is below short octets same = (info, below, short, refl, octets, same, sym is)

@@ -1,7 +1,7 @@
 -- Laws of packets and their stream.
-use Rattle.std.specs.Prelude.{◌≡◌, ℕ, List, ◌∷◌, ◌++◌, Ok, IsTrue}
+use Rattle.std.specs.Prelude.{◌≡◌, ℕ, List, ◌∷◌, ◌++◌, Ok}
 use Rattle.px_base.specs.Octets.{IsOctets}
-use Rattle.ftl0_packets.specs.Layout.{PacketValue, kind_of, Fits, is_built, packet_text, Item, PacketText}
+use Rattle.ftl0_packets.specs.Layout.{PacketValue, Fits, packet_text, Item, PacketText}
 use Rattle.ftl0_packets.specs.Reading.{packets_of, rest_of}
 use Rattle.ftl0_packets.specs.Stream.{Stream}
 
@@ -21,8 +21,7 @@ abbrev pub IsOneText : Type 0
 IsOneText =
     (a b : Item) (x y p q : List ℕ) → PacketText a x → PacketText b y → x ++ p ≡ y ++ q → (x ≡ y) × (a ≡ b)
 
--- a packet that was written is read again first, whatever follows, if its type is one that is read
+-- a packet that was written is read again first, whatever follows
 abbrev pub IsReadAgain : Type 0
 IsReadAgain =
-    (packet : PacketValue) (later : List ℕ) → Fits packet → IsTrue (is_built (kind_of packet))
-    → packets_of (packet_text packet ++ later) ≡ Ok packet ∷ packets_of later
+    (packet : PacketValue) (later : List ℕ) → Fits packet → packets_of (packet_text packet ++ later) ≡ Ok packet ∷ packets_of later

@@ -88,7 +88,7 @@ Fits (dir_long_cmd number) = number < 2 ^ 32
 Fits (select_cmd tokens) = (length tokens < 2048) × IsOctets tokens
 Fits (select_resp count) = count < 2 ^ 16
 
--- whether this many octets of information are a length that the type has
+-- whether this many octets of information are a length that the type has; a type above 17 has none
 abbrev pub has_length : ℕ → ℕ → Bool
 has_length kind len =
     if (kind == 0) || (kind == 16) then nat_lt len 2048
@@ -100,10 +100,6 @@ has_length kind len =
     else if (kind == 3) || (kind == 4) then len == 8
     else if kind == 8 then len == 9
     else false
-
--- whether packets of this type are read: types 0 to 7 so far
-abbrev pub is_built : ℕ → Bool
-is_built kind = nat_le kind 7
 
 -- The two octets of header: the length's low eight bits, then its upper three bits above the type.
 abbrev pub header : ℕ → ℕ → List ℕ
@@ -121,11 +117,11 @@ packet_text packet = text_of (kind_of packet) (information packet)
 abbrev pub Item : Type 0
 Item = Result PacketValue Malformed
 
--- These octets are the text of the packet; or of a malformed one, whose type isn't read or hasn't this length.
+-- These octets are the text of the packet; or of a malformed one, whose type is above 17 or hasn't this length.
 abbrev pub PacketText : Item → List ℕ → Type 0
 PacketText (Ok packet) octets =
-    Fits packet × IsTrue (is_built (kind_of packet)) × (octets ≡ packet_text packet)
+    Fits packet × (octets ≡ packet_text packet)
 PacketText (Err malformed) octets =
     (info : List ℕ) × (malformed.kind < 32) × (malformed.len < 2048) × (length info ≡ malformed.len)
     × IsOctets info × (octets ≡ text_of malformed.kind info)
-    × (is_built malformed.kind && has_length malformed.kind malformed.len ≡ false)
+    × (has_length malformed.kind malformed.len ≡ false)

@@ -2,7 +2,7 @@
 use Rattle.std.specs.Prelude.{◌≡◌, ℕ, zero, suc, ◌+◌, ◌*◌, ◌/◌, ◌%◌, ◌==◌, List, [], ◌∷◌, length, take, drop, slice_index, Bool, ◌&&◌, nat_le, not, if◌then◌else◌, Ok, Err}
 use Rattle.ftl0_packets.specs.declared.packet.Malformed.{Malformed}
 use Rattle.px_base.specs.Numbers.{le16, le32}
-use Rattle.ftl0_packets.specs.Layout.{PacketValue, data_part, data_end, login_resp, upload_cmd, ul_go_resp, ul_error_resp, ul_ack_resp, ul_nak_resp, download_cmd, dl_error_resp, dl_aborted_resp, dl_completed_resp, dl_ack_cmd, dl_nak_cmd, dir_short_cmd, dir_long_cmd, select_cmd, select_resp, has_length, is_built, Item}
+use Rattle.ftl0_packets.specs.Layout.{PacketValue, data_part, data_end, login_resp, upload_cmd, ul_go_resp, ul_error_resp, ul_ack_resp, ul_nak_resp, download_cmd, dl_error_resp, dl_aborted_resp, dl_completed_resp, dl_ack_cmd, dl_nak_cmd, dir_short_cmd, dir_long_cmd, select_cmd, select_resp, has_length, Item}
 
 -- How many octets the packet has that begins so: two of header, and the length of its information, which is the first
 -- octet and, above it, bits 7 to 5 of the second. An octet that isn't there yet counts as 0.
@@ -47,19 +47,15 @@ packet_from kind info =
     else if kind == 16 then select_cmd info
     else select_resp (le16 info 0)
 
--- whether a packet of this type with so many octets of information is read
-abbrev pub is_read : ℕ → ℕ → Bool
-is_read kind len = is_built kind && has_length kind len
-
--- the packet of this type with this information, or malformed where the type isn't read or hasn't this length
+-- the packet of this type with this information, or malformed where the type is above 17 or hasn't this length
 abbrev pub item_from : ℕ → List ℕ → Item
 item_from kind info =
-    if is_read kind (length info) then Ok (packet_from kind info)
+    if has_length kind (length info) then Ok (packet_from kind info)
     else Err (record { kind = kind; len = length info })
 
--- whether the octets of a whole packet are malformed: their type isn't read, or hasn't this length
+-- whether the octets of a whole packet are malformed: their type is above 17, or hasn't this length
 unfoldable pub is_malformed : List ℕ → Bool
-is_malformed octets = not (is_read (kind_in octets) (length (information_in octets)))
+is_malformed octets = not (has_length (kind_in octets) (length (information_in octets)))
 
 -- the type and the length in octets that the octets of a whole packet say
 unfoldable pub malformed_in : List ℕ → Malformed

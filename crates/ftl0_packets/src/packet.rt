@@ -78,7 +78,7 @@ impl Packet<'_> {
     }
 }
 
-/// A packet of a type that isn't read, or of a length that its type doesn't have.
+/// A packet of a type above 17, or of a length that its type doesn't have.
 #[derive(Clone, Copy, Debug, PartialEq, Eq, Error)]
 #[error("a packet of type {kind} with {len} octets of information is malformed")]
 pub struct Malformed {

@@ -91,8 +91,8 @@ impl PacketReader {
         (taken, self.fed())
     }
 
-    /// The packet that is whole since the last `feed`, or `Malformed` exactly where its type isn't read, or its length
-    /// isn't one that its type has. Takes no memory.
+    /// The packet that is whole since the last `feed`, or `Malformed` exactly where its type is above 17, or its
+    /// length isn't one that its type has. Takes no memory.
     pub fn packet(&self) -> Result<Packet<'_>, Malformed>
         requires { IsTrue (is_whole_text self.now) }
         ensures text { PacketText (item_of result) self.now }

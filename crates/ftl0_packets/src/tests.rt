@@ -20,8 +20,8 @@ fn is_short(packet: &Packet<'_>) -> bool
     }
 }
 
-/// The packets of the types that are read, with least and greatest values, and the octets of each.
-const TABLE: [(Packet<'static>, &[u8]); 14] = [
+/// Packets of each type, with least and greatest values, and the octets of each.
+const TABLE: [(Packet<'static>, &[u8]); 33] = [
     (Packet::DataPart(&[]), &[0x00, 0x00]),
     (Packet::DataPart(&[0x00]), &[0x01, 0x00, 0x00]),
     (
@@ -75,10 +75,54 @@ const TABLE: [(Packet<'static>, &[u8]); 14] = [
     (Packet::UlErrorResp(0xFF), &[0x01, 0x05, 0xFF]),
     (Packet::UlAckResp, &[0x00, 0x06]),
     (Packet::UlNakResp(0x07), &[0x01, 0x07, 0x07]),
+    (
+        Packet::DownloadCmd {
+            number: 1,
+            offset: 0,
+            lock: 0,
+        },
+        &[0x09, 0x08, 0x01, 0, 0, 0, 0, 0, 0, 0, 0],
+    ),
+    (
+        Packet::DownloadCmd {
+            number: 0x0102_0304,
+            offset: 0x0506_0708,
+            lock: 0x09,
+        },
+        &[
+            0x09, 0x08, 0x04, 0x03, 0x02, 0x01, 0x08, 0x07, 0x06, 0x05, 0x09,
+        ],
+    ),
+    (Packet::DlErrorResp(0), &[0x01, 0x09, 0x00]),
+    (Packet::DlErrorResp(0xFF), &[0x01, 0x09, 0xFF]),
+    (Packet::DlAbortedResp, &[0x00, 0x0A]),
+    (Packet::DlCompletedResp, &[0x00, 0x0B]),
+    (Packet::DlAckCmd, &[0x00, 0x0C]),
+    (Packet::DlNakCmd, &[0x00, 0x0D]),
+    (Packet::DirShortCmd(0), &[0x04, 0x0E, 0, 0, 0, 0]),
+    (
+        Packet::DirShortCmd(0x0102_0304),
+        &[0x04, 0x0E, 0x04, 0x03, 0x02, 0x01],
+    ),
+    (Packet::DirLongCmd(0), &[0x04, 0x0F, 0, 0, 0, 0]),
+    (
+        Packet::DirLongCmd(0xFFFF_FFFE),
+        &[0x04, 0x0F, 0xFE, 0xFF, 0xFF, 0xFF],
+    ),
+    (Packet::SelectCmd(&[]), &[0x00, 0x10]),
+    (Packet::SelectCmd(&[0x20]), &[0x01, 0x10, 0x20]),
+    (
+        Packet::SelectCmd(&[0x15, 0x18, 0x00, 0x01, 0x03]),
+        &[0x05, 0x10, 0x15, 0x18, 0x00, 0x01, 0x03],
+    ),
+    (Packet::SelectResp(0), &[0x02, 0x11, 0, 0]),
+    (Packet::SelectResp(1), &[0x02, 0x11, 0x01, 0]),
+    (Packet::SelectResp(0x0201), &[0x02, 0x11, 0x01, 0x02]),
+    (Packet::SelectResp(0xFFFF), &[0x02, 0x11, 0xFF, 0xFF]),
 ];
 
-/// Octets of packets of a length that their type doesn't have, or of a type that isn't read, and what is said of them.
-const BAD: [(&[u8], Malformed); 10] = [
+/// Octets of packets of a length that their type doesn't have, or of a type above 17, and what is said of them.
+const BAD: [(&[u8], Malformed); 20] = [
     (&[0x01, 0x01, 0x09], Malformed { kind: 1, len: 1 }),
     (&[0x04, 0x02, 0, 0, 0, 0], Malformed { kind: 2, len: 4 }),
     (
@@ -97,10 +141,23 @@ const BAD: [(&[u8], Malformed); 10] = [
     (&[0x01, 0x06, 0x06], Malformed { kind: 6, len: 1 }),
     (&[0x02, 0x07, 0, 0], Malformed { kind: 7, len: 2 }),
     (
-        &[0x09, 0x08, 0, 0, 0, 0, 0, 0, 0, 0, 0],
-        Malformed { kind: 8, len: 9 },
+        &[0x08, 0x08, 0, 0, 0, 0, 0, 0, 0, 0],
+        Malformed { kind: 8, len: 8 },
     ),
-    (&[0x00, 0x0C], Malformed { kind: 12, len: 0 }),
+    (
+        &[0x0A, 0x08, 0, 0, 0, 0, 0, 0, 0, 0, 0, 0],
+        Malformed { kind: 8, len: 10 },
+    ),
+    (&[0x00, 0x09], Malformed { kind: 9, len: 0 }),
+    (&[0x01, 0x0A, 0x00], Malformed { kind: 10, len: 1 }),
+    (&[0x01, 0x0B, 0x00], Malformed { kind: 11, len: 1 }),
+    (&[0x01, 0x0C, 0x00], Malformed { kind: 12, len: 1 }),
+    (&[0x01, 0x0D, 0x00], Malformed { kind: 13, len: 1 }),
+    (&[0x03, 0x0E, 0, 0, 0], Malformed { kind: 14, len: 3 }),
+    (&[0x05, 0x0F, 0, 0, 0, 0, 0], Malformed { kind: 15, len: 5 }),
+    (&[0x01, 0x11, 0x00], Malformed { kind: 17, len: 1 }),
+    (&[0x00, 0x12], Malformed { kind: 18, len: 0 }),
+    (&[0x00, 0x1F], Malformed { kind: 31, len: 0 }),
 ];
 
 /// Reads the octets of one packet in pieces of `size`, and compares.
@@ -162,7 +219,7 @@ fn other_types_and_lengths_are_malformed(rt: HostRuntime) {
         check_read(&rt, octets, 1, Err(malformed));
         check_read(&rt, octets, 2049, Err(malformed));
     }
-    for kind in 8..32u8 {
+    for kind in 18..32u8 {
         check_read(
             &rt,
             &[0x02, kind, 0xAA, 0xBB],
@@ -214,12 +271,12 @@ impl PacketSink for Types {
 #[test]
 fn a_stream_is_cut_anywhere(rt: HostRuntime) -> Result<(), Fail> {
     let octets = [
-        0x00, 0x01, 0x03, 0x00, 0x07, 0x08, 0x09, 0x00, 0x0C, 0x00, 0x00, 0x05, 0x02, 0x01,
+        0x00, 0x01, 0x03, 0x00, 0x07, 0x08, 0x09, 0x00, 0x1F, 0x00, 0x00, 0x05, 0x02, 0x01,
     ];
     let (found, rest) = packets(rt.alloc(), &octets)?;
     assert_eq!(rt; found.len(), 4);
     assert_eq!(rt; found[1], Ok(Packet::DataPart(&[0x07, 0x08, 0x09])));
-    assert_eq!(rt; found[2], Err(Malformed { kind: 12, len: 0 }));
+    assert_eq!(rt; found[2], Err(Malformed { kind: 31, len: 0 }));
     assert_eq!(rt; rest, [0x05, 0x02, 0x01].as_slice());
     for at in 0..octets.len() {
         let (front, back) = octets.split_at(at);
@@ -231,7 +288,7 @@ fn a_stream_is_cut_anywhere(rt: HostRuntime) -> Result<(), Fail> {
             types: ArrayVec::new(),
         };
         let mut reader = feed_pieces(&pieces, &mut sink);
-        assert_eq!(rt; sink.types.as_slice(), [1, 0, 12, 0].as_slice());
+        assert_eq!(rt; sink.types.as_slice(), [1, 0, 31, 0].as_slice());
         assert_eq!(rt; reader.feed(&[0, 0, 0, 0, 0]), (4, PacketFed::Whole));
     }
     Ok(())

@@ -1,8 +1,8 @@
 //! The octets of one packet, read (FTL0 1990, packet format).
 
 ghost use Rattle.std.specs.Prelude.{◌≡◌, ◌+◌, ◌≤◌, ◌<◌, [], ◌∷◌, length, false, IfErr, IsErr, IsTrue, ◌↔◌};
-ghost use Rattle.ftl0_packets.specs.Layout.{has_length as fits_type, is_built as type_is_read, PacketText};
-ghost use Rattle.ftl0_packets.specs.Reading.{text_len as octets_of_text, is_whole as is_whole_text, is_malformed, is_read, item_from, malformed_in, packet_from, read_item};
+ghost use Rattle.ftl0_packets.specs.Layout.{has_length as fits_type, PacketText};
+ghost use Rattle.ftl0_packets.specs.Reading.{text_len as octets_of_text, is_whole as is_whole_text, is_malformed, item_from, malformed_in, packet_from, read_item};
 ghost use Rattle.ftl0_packets.specs.Values.{item_of, value_of};
 
 use crate::{Malformed, Packet};
@@ -13,9 +13,6 @@ pub(crate) const HEADER_LEN: usize = 2;
 
 /// How many octets a packet has at most.
 pub(crate) const MOST_OCTETS: usize = 2_049;
-
-/// The greatest type that is read so far.
-const LAST_BUILT: u8 = 7;
 
 /// How many octets the packet has that begins so, 2 to 2,049. An octet that isn't there yet counts as 0.
 pub(crate) fn text_len(octets: &[u8]) -> usize
@@ -47,14 +44,14 @@ pub(crate) fn read_text(octets: &[u8]) -> Result<Packet<'_>, Malformed>
     read_information(header[1] % 32, info)
 }
 
-/// The packet of this type, 0 to 31, with this information, if the type is read and has this length.
+/// The packet of this type, 0 to 31, with this information, if the type has this length.
 fn read_information(kind: u8, info: &[u8]) -> Result<Packet<'_>, Malformed>
     requires { length info.now < 2048 }
     ensures item { item_of result ≡ item_from kind info.now }
-    ensures malformed { IsErr result ↔ (is_read kind (length info.now) ≡ false) }
+    ensures malformed { IsErr result ↔ (fits_type kind (length info.now) ≡ false) }
     ensures fault { IfErr result (λ fault. (fault.kind ≡ kind) × (fault.len ≡ length info.now)) }
 {
-    if is_built(kind) && has_length(kind, info.len()) {
+    if has_length(kind, info.len()) {
         Ok(packet_of(kind, info))
     } else {
         Err(Malformed {
@@ -64,14 +61,7 @@ fn read_information(kind: u8, info: &[u8]) -> Result<Packet<'_>, Malformed>
     }
 }
 
-/// Whether packets of this type are read.
-fn is_built(kind: u8) -> bool
-    ensures { result ≡ type_is_read kind }
-{
-    kind <= LAST_BUILT
-}
-
-/// Whether the type has information of this length, in octets.
+/// Whether the type has information of this length, in octets. A type above 17 has none.
 fn has_length(kind: u8, len: usize) -> bool
     ensures { result ≡ fits_type kind len }
 {
