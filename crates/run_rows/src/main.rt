@@ -1,6 +1,7 @@
-//! Rows of runs over a disk in memory, as `session_rows` and `serve_rows` play them. A row has, parted by `;`, the
-//! words; the numbers of the air's calls that fail; the most octets of a poll; the turns; the disk's octets; and its
-//! failing calls.
+//! Plays rows of runs over a disk in memory, of one session and of the server of eight: each line of standard input is
+//! a row. An empty line and one that begins with `#` are printed as they are. A row has, parted by `;`, the words; the
+//! numbers of the air's calls that fail; the most octets of a poll; the turns; the disk's octets; and its failing
+//! calls.
 //!
 //! The turns are parted by blanks. Octets in hexadecimal are heard in as many turns as polls of so many octets take;
 //! `quiet`, `end` and `fail` are a turn each. Each turn has the clock's moment, which is 1 at first; `@` and a number
@@ -23,4 +24,10 @@ mod script;
 mod standing;
 mod turns;
 
-pub use row::RunRows;
+use anyhow::Result;
+use row::RunRows;
+use row_words::play_rows;
+
+fn main(rt: HostRuntime) -> Result<()> {
+    play_rows(&rt, &mut RunRows::new())
+}
