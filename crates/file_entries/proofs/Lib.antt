@@ -3,6 +3,7 @@ pub mod ChangeLemmas
 pub mod EntriesLemmas
 pub mod FilesLemmas
 pub mod GrowLemmas
+pub mod HeadersLemmas
 pub mod InfoLemmas
 pub mod LawLemmas
 pub mod PlaceLemmas

@@ -3,10 +3,13 @@ use Rattle.std.proofs.Common.{◌≡◌, ℕ, ◌+◌, Bool, true, false, List, 
 use Rattle.std.specs.Prelude.{IsSome, IsTrue}
 use Rattle.std.proofs.Math.Seq.{drop-drop, take-add, take-append_seam, take-length}
 use Rattle.px_base.specs.CallSign.{CallSign}
+use Rattle.pfh_items.specs.Faults.{fault_code}
 use Rattle.pfh_items.specs.Stamp.{StampValue, stamped}
 use Rattle.file_entries.specs.Command.{is_partial, sealed}
 use Rattle.file_entries.specs.Files.{AreHeld, File, file_holding, holding_more, rest_after}
-use Rattle.file_entries.specs.Store.{complete, partial, holding_of, octets_of}
+use Rattle.file_entries.specs.Headers.{KeepsRules}
+use Rattle.file_entries.specs.Info.{is_complete}
+use Rattle.file_entries.specs.Store.{Holding, complete, partial, holding_of, octets_of}
 
 -- a file by what the code has of it
 abbrev pub file_from : ℕ → CallSign → ℕ → ℕ → List ℕ → ℕ → Bool → Option ℕ → File
@@ -76,3 +79,8 @@ seal-is number caller file_length begun octets new held false None moment part a
 pub written-all : (len : ℕ) (octets new : List ℕ) → len ≡ length octets → length new ≡ length octets → take len (new ++ drop (length new) octets) ≡ new
 written-all len octets new is same =
     ap (λ (n : ℕ). take n (new ++ drop (length new) octets)) (is ∙ sym same) ∙ take-append_seam new (drop (length new) octets)
+
+-- the octets of a complete file keep all rules
+pub rules-complete : (holding : Holding) → IsTrue (is_complete holding) → KeepsRules holding → fault_code (octets_of holding) ≡ None
+rules-complete (partial held) whole rules = absurd (cc)
+rules-complete (complete octets moment) whole rules = rules

@@ -5,7 +5,8 @@ ghost use Rattle.std.specs.Option.{option_copied, option_map};
 ghost use Rattle.file_entries.specs.Bars.{Bars};
 ghost use Rattle.file_entries.specs.Command.{HasRoom, MayBegin, after, begin, drop_entry, fault_at, grow, is_allowed, seal};
 ghost use Rattle.file_entries.specs.Files.{Becomes, ChangesRest, IsOut, IsPlace, NothingOut, Waits, file_of, grow_waiting, is_complete_file, octets_or_none, rest_of, rest_with, rest_without, store_of};
-ghost use Rattle.file_entries.specs.Info.{IsNextComplete, info_of};
+ghost use Rattle.file_entries.specs.Headers.{IsHeaderOf, IsWholeHeader};
+ghost use Rattle.file_entries.specs.Info.{IsCompleteIn, IsNextComplete, info_of};
 ghost use Rattle.file_entries.specs.IsStore.{IsStore};
 ghost use Rattle.file_entries.specs.Store.{empty_store, entry_of, octets_at, octets_of};
 
@@ -257,6 +258,16 @@ impl Entries {
             Some(file) => file.held(),
             None => &[],
         }
+    }
+
+    /// The octets of the header of a complete file: its front up to and with the end item. [`header_in`](crate::header_in)
+    /// reads them. It reads the header and never the body. Takes no memory.
+    pub fn header(&self, number: u32) -> &[u8]
+        requires { IsCompleteIn (store_of self.now.files) number }
+        ensures header { IsHeaderOf (octets_at (entry_of (store_of self.now.files) number)) result.now }
+        ensures whole { IsWholeHeader result.now }
+    {
+        self.file_of(number).unwrap().header()
     }
 
     /// The least number above this one of a complete file, or `None` exactly where there is none. Takes no memory.

@@ -3,18 +3,20 @@
 ghost use Rattle.std.specs.Prelude.{◌≡◌, ◌+◌, ◌≤◌, ◌++◌, length, drop, take, [], None, Some, is_some, IsSome, IsTrue, OnOk, OnErr};
 ghost use Rattle.file_entries.specs.Command.{grown, is_partial, sealed};
 ghost use Rattle.file_entries.specs.Files.{brought, file_holding, holding_more, octets_or_none};
+ghost use Rattle.file_entries.specs.Headers.{IsHeaderOf, IsWholeHeader, KeepsRules};
 ghost use Rattle.file_entries.specs.Info.{info_of, is_complete as is_whole_and_sealed};
 ghost use Rattle.file_entries.specs.Store.{blocks_for, new_entry, octets_of};
 ghost use Rattle.pfh_items.specs.Faults.{fault_code};
 
 use crate::Info;
-use crate::header::stamp_file;
+use crate::header::{header_front, stamp_file};
 use crate::limits::{LONGEST_FILE, blocks_of_length};
 use px_base::{Call, OutOfMemory};
 use std::alloc::Global;
 use std::marker::Model;
 
-/// A file that the store holds, or begins to hold. Contracts see it as a `File`.
+/// A file that the store holds, or begins to hold. One that is sealed keeps all rules of file headers. Contracts see it as
+/// a `File`.
 #[derive(Drop)]
 pub(crate) struct StoredFile {
     number: u32,
@@ -34,6 +36,7 @@ pub(crate) struct StoredFile {
 impl Model for StoredFile {
     ghost use Rattle.std.specs.Prelude.{take};
     ghost use Rattle.file_entries.specs.Files.{AreHeld, File, rest_after};
+    ghost use Rattle.file_entries.specs.Headers.{KeepsRules};
     ghost use Rattle.file_entries.specs.Store.{holding_of};
 
     ghost Value = { File };
@@ -49,7 +52,8 @@ impl Model for StoredFile {
       rest = rest_after a.out a.held a.octets.items;
     } };
 
-    ghost invariant = { λ a. AreHeld a.held a.out a.octets.items };
+    ghost invariant = { λ a. AreHeld a.held a.out a.octets.items
+        × KeepsRules (holding_of (take a.held a.octets.items) a.sealed) };
 }
 
 impl StoredFile {
@@ -103,9 +107,10 @@ impl StoredFile {
         blocks_of_length(self.length)
     }
 
-    /// The octets held.
+    /// The octets held. Those of a sealed file keep all rules of headers.
     pub(crate) fn held(&self) -> &[u8]
-        ensures { result.now ≡ octets_of self.now.entry.holding }
+        ensures octets { result.now ≡ octets_of self.now.entry.holding }
+        ensures rules { KeepsRules self.now.entry.holding }
     {
         &self.octets.as_slice()[..self.held]
     }
@@ -115,6 +120,15 @@ impl StoredFile {
         ensures { result.now ≡ octets_or_none self.now.rest }
     {
         &self.octets.as_slice()[self.held..]
+    }
+
+    /// The octets of the header of a file that is sealed. It reads the header and never the body.
+    pub(crate) fn header(&self) -> &[u8]
+        requires { IsTrue (is_whole_and_sealed self.now.entry.holding) }
+        ensures header { IsHeaderOf (octets_of self.now.entry.holding) result.now }
+        ensures whole { IsWholeHeader result.now }
+    {
+        header_front(self.held())
     }
 
     /// What the store tells of the file.

@@ -1,14 +1,17 @@
 //! The store of files.
 
 ghost use Rattle.std.specs.Prelude.{◌≡◌, ◌↔◌, ℕ, ◌+◌, ◌≤◌, ◌<◌, ◌/◌, ◌*◌, ◌⊎◌, List, [], ◌∷◌, ◌++◌, drop, length, true, false, take, IsTrue, IsErr, IsErrOf, IfOk, IfErr, IfSome, OnOk, OnErr, None, Some};
+ghost use Rattle.std.specs.Borrow.{sem};
+ghost use Rattle.std.specs.Io.BufRead.{Rests};
 ghost use Rattle.std.specs.Option.{option_map};
 ghost use Rattle.px_base.specs.CallSign.{CallSign};
 ghost use Rattle.disk_model.specs.Disk.{FillsRoom};
 ghost use Rattle.pfh_items.specs.Faults.{fault_code};
-ghost use Rattle.file_journal.specs.Calls.{Becomes, Leaves, Runs, TakesStep};
+ghost use Rattle.file_journal.specs.Calls.{Becomes, Leaves, Reads, Runs, TakesStep};
 ghost use Rattle.file_journal.specs.Journal.{after_recovery};
 ghost use Rattle.file_entries.specs.Command.{begin, drop_entry, fault_at, grow, grows, is_allowed, last_grow, seal, unfilled_block};
 ghost use Rattle.file_entries.specs.Files.{ChangesRest, IsOut, KeepsRests, octets_or_none};
+ghost use Rattle.file_entries.specs.Headers.{IsHeaderOf, IsWholeHeader};
 ghost use Rattle.file_entries.specs.Info.{IsCompleteIn, IsNextComplete, info_of};
 ghost use Rattle.file_entries.specs.IsStore.{IsStore};
 ghost use Rattle.file_entries.specs.Kept.{KeepsComplete};
@@ -58,6 +61,8 @@ impl Model for FileStore {
 }
 
 impl FileStore {
+    ghost use Rattle.file_store.specs.contracts.file_store.FileStore.{the_row};
+
     /// Recovers the store from whatever a crash, a fault or a killed program left on the disk: the store that its content
     /// stands for. It syncs before it reads. A disk of at most 16 octets is formatted with the limits' block number; one
     /// whose formatting was interrupted is formatted to its end. It may be cut at any of its writes and syncs, and is then
@@ -376,8 +381,9 @@ impl FileStore {
         self.entries.next_complete(after)
     }
 
-    /// Fills the room with the octets from this place on of a complete file; they have to be there. The octets are in
-    /// memory, so it can't fail and leaves the disk alone. Takes no memory.
+    /// Fills the room with the octets from this place on of a complete file; they have to be there. The fault comes only
+    /// where a read of the disk failed, and leaves the store and the disk's content as they were, and the room open. Takes
+    /// no memory.
     pub fn read_at<D: Disk>(
         &mut self,
         disk: &mut D,
@@ -389,14 +395,40 @@ impl FileStore {
         requires complete { IsCompleteIn (store_in self.old) number }
         requires there { offset + length room.old ≤ length (octets_at (entry_of (store_in self.old) number)) }
         requires stands_on { StandsOn D.Disk self.old disk.old }
-        ensures ok { result ≡ Ok tt }
-        ensures room { FillsRoom (octets_at (entry_of (store_in self.old) number)) offset (length room.old) room.new }
-        ensures untouched { (self.new ≡ self.old) × (disk.new ≡ disk.old) }
+        ensures room { OnOk result
+            (FillsRoom (octets_at (entry_of (store_in self.old) number)) offset (length room.old) room.new) }
+
+        // It makes no write and no sync: but for the count of failed reads the disk is as it was, and so is the store.
+        ensures reads { Reads D.Disk (IsErr result) disk.old disk.new }
+        ensures store { self.new ≡ self.old }
+        ensures stands_on { StandsOn D.Disk self.new disk.new }
     {
         let start = offset as usize;
         let octets = self.entries.octets(number);
         room.copy_from_slice(&octets[start..start + room.len()]);
         Ok(())
+    }
+
+    /// Lends the header of a complete file: its octets up to and with the end item (PFH 1990), which [`header_in`] reads.
+    /// The header is read, and never the body. The fault comes only where a read of the disk failed, and leaves the store
+    /// and the disk's content as they were. Takes no memory.
+    ///
+    /// [`header_in`]: crate::header_in
+    pub fn header<D: Disk>(&mut self, disk: &mut D, number: u32) -> Result<&[u8], DiskFault>
+        requires healthy { self.old.journal.failed ≡ false }
+        requires complete { IsCompleteIn (store_in self.old) number }
+        requires stands_on { StandsOn D.Disk self.old disk.old }
+        ensures header { IfOk result (λ octets.
+            IsHeaderOf (octets_at (entry_of (store_in self.old) number)) octets.now) }
+        ensures whole { IfOk result (λ octets. IsWholeHeader octets.now) }
+
+        // It makes no write and no sync: but for the count of failed reads the disk is as it was. So is the store, once
+        // the header is given back.
+        ensures reads { Reads D.Disk (IsErr result) disk.old disk.new }
+        ensures stands_on { StandsOn D.Disk self.old disk.new }
+        ensures* store { sem 𝓛 (Rests the_row self.entry (λ new. new ≡ self.old)) }
+    {
+        Ok(self.entries.header(number))
     }
 
     /// Its journal has the store's magic, and was read to its end.

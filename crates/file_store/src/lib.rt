@@ -15,7 +15,7 @@ mod refusals;
 #[cfg(test)]
 mod tests;
 
-pub use file_entries::{Info, LAST_NEXT, LONGEST_FILE, MOST_ENTRIES};
+pub use file_entries::{Info, LAST_NEXT, LONGEST_FILE, MOST_ENTRIES, header_in};
 pub use file_store::FileStore;
 pub use limits::Limits;
 pub use open_upload::OpenUpload;

@@ -7,6 +7,7 @@ ghost use Rattle.file_store.specs.Upload.{Holds};
 
 use super::*;
 use disk_model::{Disk, FuseDisk, MemoryDisk};
+use pfh_writer::short_form;
 use px_base::Call;
 use std::alloc::Global;
 use std::process::Abort;
@@ -22,6 +23,16 @@ const FILE: [u8; 73] = [
 ];
 
 const LIMITS: Limits = Limits { blocks: 8 };
+
+/// The header of `FILE` with another length and its sum, and a body of zeros: three blocks.
+fn long_file() -> [u8; 1_536] {
+    let mut long = [0u8; 1_536];
+    long[..73].copy_from_slice(&FILE);
+    long[29] = 0x00;
+    long[30] = 0x06;
+    long[63] = 0x13;
+    long
+}
 
 fn caller(rt: &impl Abort) -> Call {
     Call::read("NOCALL").expect(rt, "no call")
@@ -100,8 +111,27 @@ fn sealed(rt: &impl Abort, answer: Result<Receipt, SealRefusal>) -> u32 {
     }
 }
 
-/// Reads a complete file of 73 octets: whether it is one.
-fn read_whole<D: Disk>(
+/// Reads octets of a complete file from this place on: whether they are there.
+fn read_part<D: Disk>(
+    store: &mut FileStore,
+    disk: &mut D,
+    number: u32,
+    offset: u32,
+    room: &mut [u8],
+) -> bool
+    requires healthy { store.old.journal.failed ≡ false }
+    requires stands_on { StandsOn D.Disk store.old disk.old }
+{
+    match store.info(number) {
+        Some(info) if info.complete && offset as usize + room.len() <= info.held as usize => {
+            store.read_at(disk, number, offset, room).is_ok()
+        }
+        _ => false,
+    }
+}
+
+/// Reads the header of a complete file: whether it has 73 octets and its short form is itself.
+fn read_short_header<D: Disk>(
     store: &mut FileStore,
     disk: &mut D,
     number: u32,
@@ -111,9 +141,13 @@ fn read_whole<D: Disk>(
     requires stands_on { StandsOn D.Disk store.old disk.old }
 {
     match store.info(number) {
-        Some(info) if info.complete && info.held == 73 => {
-            store.read_at(disk, number, 0, room).is_ok()
-        }
+        Some(info) if info.complete => match store.header(disk, number) {
+            Ok(octets) if octets.len() == 73 => {
+                room.copy_from_slice(octets);
+                short_form(&header_in(octets)).as_slice() == octets
+            }
+            _ => false,
+        },
         _ => false,
     }
 }
@@ -158,8 +192,11 @@ fn two_uploads_out(rt: HostRuntime) -> Result<(), Fail> {
     stamped[63] = 0x57;
     let mut store = FileStore::recover(rt.alloc(), &mut disk, LIMITS)?;
     let mut room = [0; 73];
-    assert!(rt; read_whole(&mut store, &mut disk, 1, &mut room));
+    assert!(rt; read_part(&mut store, &mut disk, 1, 0, &mut room));
     assert_eq!(rt; room.as_slice(), stamped.as_slice());
+    let mut header = [0; 73];
+    assert!(rt; read_short_header(&mut store, &mut disk, 1, &mut header));
+    assert_eq!(rt; header.as_slice(), stamped.as_slice());
     assert_eq!(rt;
         (store.numbers(0), store.numbers(1), store.numbers(2)),
         (Some(1), Some(2), None)
@@ -167,6 +204,32 @@ fn two_uploads_out(rt: HostRuntime) -> Result<(), Fail> {
     let info = store.info(2).expect(&rt, "no entry");
     assert_eq!(rt; (info.number, info.caller.ssid, info.length), (2, 0, 73));
     assert_eq!(rt; (info.held, info.complete, info.begun), (73, true, 7));
+    Ok(())
+}
+
+#[test]
+fn header_before_a_body(rt: HostRuntime) -> Result<(), Fail> {
+    let mut disk = MemoryDisk::new(rt.alloc(), &[], &[])?;
+    let mut store = FileStore::recover(rt.alloc(), &mut disk, LIMITS)?;
+    let file = long_file();
+    let up = store.begin(&mut disk, caller(&rt), 1_536, 5)?;
+    let up = appended(&rt, store.append(&mut disk, up, &file));
+    assert_eq!(rt; sealed(&rt, store.seal(&mut disk, up, 6)), 1);
+    let mut store = FileStore::recover(rt.alloc(), &mut disk, LIMITS)?;
+    // The stamp: file_number is 1, and so the header's sum is one more.
+    let mut stamped = file;
+    stamped[5] = 0x01;
+    stamped[63] = 0x14;
+    let mut header = [0; 73];
+    assert!(rt; read_short_header(&mut store, &mut disk, 1, &mut header));
+    assert_eq!(rt; header.as_slice(), &stamped[..73]);
+    let mut size = [0; 4];
+    assert!(rt; read_part(&mut store, &mut disk, 1, 29, &mut size));
+    assert_eq!(rt; size, [0x00, 0x06, 0x00, 0x00]);
+    let mut end = [1; 2];
+    assert!(rt; read_part(&mut store, &mut disk, 1, 1_534, &mut end));
+    assert_eq!(rt; end, [0, 0]);
+    assert!(rt; !read_part(&mut store, &mut disk, 1, 1_535, &mut end));
     Ok(())
 }
 
@@ -281,12 +344,7 @@ fn crashed(
 fn stops_at_each_call(rt: HostRuntime) -> Result<(), Fail> {
     let mut faulty = FILE;
     faulty[63] = 0x55;
-    // The header of `FILE` with another length and its sum, and a body of zeros: three blocks.
-    let mut long = [0u8; 1_536];
-    long[..73].copy_from_slice(&FILE);
-    long[29] = 0x00;
-    long[30] = 0x06;
-    long[63] = 0x13;
+    let long = long_file();
     let rows: [(&[u8], bool, Ended); 3] = [
         (&FILE, false, Ended::Sealed),
         (&faulty, true, Ended::Dropped),

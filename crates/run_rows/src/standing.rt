@@ -27,9 +27,9 @@ pub fn standing_text(alloc: Global, octets: &[u8]) -> Result<String> {
 }
 
 /// What a store holds: the number that the next file gets, and each entry.
-fn store_text(alloc: Global, store: &mut FileStore, disk: &mut MemoryDisk) -> Result<String>
+fn store_text<D: Disk>(alloc: Global, store: &mut FileStore, disk: &mut D) -> Result<String>
     requires healthy { store.old.journal.failed ≡ false }
-    requires stands_on { StandsOn ⟦<MemoryDisk as Disk>⟧ store.old disk.old }
+    requires stands_on { StandsOn D.Disk store.old disk.old }
 {
     let next = store.next_number();
     let mut text = format!(in alloc; "next {next}")?;
@@ -41,15 +41,16 @@ fn store_text(alloc: Global, store: &mut FileStore, disk: &mut MemoryDisk) -> Re
 }
 
 /// What a store says of the entry of this number, after a blank; nothing where there is none.
-fn entry_text(
+fn entry_text<D: Disk>(
     alloc: Global,
     store: &mut FileStore,
-    disk: &mut MemoryDisk,
+    disk: &mut D,
     number: u32,
 ) -> Result<String>
     requires healthy { store.old.journal.failed ≡ false }
-    requires stands_on { StandsOn ⟦<MemoryDisk as Disk>⟧ store.old disk.old }
-    ensures untouched { (store.new ≡ store.old) × (disk.new ≡ disk.old) }
+    requires stands_on { StandsOn D.Disk store.old disk.old }
+    ensures store { store.new ≡ store.old }
+    ensures stands_on { StandsOn D.Disk store.new disk.new }
 {
     match store.info(number) {
         None => Ok(String::new(alloc)),
@@ -58,17 +59,18 @@ fn entry_text(
 }
 
 /// What is said of an entry of this number.
-fn info_text(
+fn info_text<D: Disk>(
     alloc: Global,
     store: &mut FileStore,
-    disk: &mut MemoryDisk,
+    disk: &mut D,
     number: u32,
     info: Info,
 ) -> Result<String>
     requires healthy { store.old.journal.failed ≡ false }
-    requires stands_on { StandsOn ⟦<MemoryDisk as Disk>⟧ store.old disk.old }
+    requires stands_on { StandsOn D.Disk store.old disk.old }
     requires there { option_map info_of (entry_of (store_in store.old) number) ≡ Some info }
-    ensures untouched { (store.new ≡ store.old) × (disk.new ≡ disk.old) }
+    ensures store { store.new ≡ store.old }
+    ensures stands_on { StandsOn D.Disk store.new disk.new }
 {
     let caller = info.caller.text();
     let call = caller.as_str();
@@ -82,18 +84,19 @@ fn info_text(
 }
 
 /// The sum of the octets of a complete entry of this number.
-fn sum_of(
+fn sum_of<D: Disk>(
     alloc: Global,
     store: &mut FileStore,
-    disk: &mut MemoryDisk,
+    disk: &mut D,
     number: u32,
     info: Info,
 ) -> Result<u16>
     requires healthy { store.old.journal.failed ≡ false }
-    requires stands_on { StandsOn ⟦<MemoryDisk as Disk>⟧ store.old disk.old }
+    requires stands_on { StandsOn D.Disk store.old disk.old }
     requires there { option_map info_of (entry_of (store_in store.old) number) ≡ Some info }
     requires complete { info.complete ≡ true }
-    ensures untouched { (store.new ≡ store.old) × (disk.new ≡ disk.old) }
+    ensures store { store.new ≡ store.old }
+    ensures stands_on { StandsOn D.Disk store.new disk.new }
 {
     let mut octets = Vec::new(alloc);
     octets.resize(info.held as usize, 0)?;

@@ -1,6 +1,7 @@
--- Neither the store nor the disk is touched.
+-- The store is as it was, and stands on its disk.
 use Rattle.std.proofs.Common.{◌≡◌}
+use Rattle.file_store.specs.State.{StandsOn}
 use Rattle.run_rows.proofs.standing.store_text.Given as goal
 
 abbrev pub invariant-loop-number : goal.invariant-loop-number
-invariant-loop-number l = (l.store ≡ l.fn.store) × (l.disk ≡ l.fn.disk)
+invariant-loop-number g l = (l.store ≡ l.fn.store) × StandsOn g.D.Disk l.store l.disk

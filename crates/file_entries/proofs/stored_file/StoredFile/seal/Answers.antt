@@ -12,7 +12,7 @@ pub stamp_file-requires : goal.stamp_file-requires
 stamp_file-requires c =
     ap fault_code
     (c.as_mut_slice.ensures.value
-    ∙ sym (octets-held c.self.inside.octets.items c.self.inside.held c.self.inside.out c.self.inside.sealed c.self.invariant (ap (λ (f : File). f.rest) c.self.view_is ∙ c.requires.in_))
+    ∙ sym (octets-held c.self.inside.octets.items c.self.inside.held c.self.inside.out c.self.inside.sealed c.self.invariant.0 (ap (λ (f : File). f.rest) c.self.view_is ∙ c.requires.in_))
     ∙ ap (λ (f : File). octets_of f.entry.holding) c.self.view_is)
     ∙ c.requires.faultless
 
@@ -22,8 +22,8 @@ returns c =
     let written = written-all c.self.inside.octets.len c.self.inside.octets.items c.stamp_file.new.file c.self.inside.octets.ok.0 same in
     seal-is c.self.inside.number c.self.inside.caller c.self.inside.length c.self.inside.begun c.self.inside.octets.items _ c.self.inside.held c.self.inside.out c.self.inside.sealed c.args.moment
     (subst (λ (f : File). IsTrue (is_partial f.entry.holding)) (sym c.self.view_is) c.requires.partial)
-    c.self.invariant
+    c.self.invariant.0
     (ap (λ (f : File). f.rest) c.self.view_is ∙ c.requires.in_)
-    (written ∙ c.stamp_file.ensures ∙ ap (stamped _) c.as_mut_slice.ensures.value)
+    (written ∙ c.stamp_file.ensures.text ∙ ap (stamped _) c.as_mut_slice.ensures.value)
     (ap (λ (os : List ℕ). length os) written ∙ same)
     ∙ ap (λ (f : File). file_holding f (sealed c.args.moment)) c.self.view_is
