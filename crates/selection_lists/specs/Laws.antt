@@ -17,7 +17,8 @@ SelectionLaw =
     → length later < MOST_LISTS → All (λ next. next.caller ≢ caller) later
     → left_of (after_selections (selected lists caller numbers) later) caller ≡ numbers
 
--- A list has to go when this caller selects: there are 64, none is this caller's, and it is the first one, of this owner.
+-- The owner's list has to go when this caller selects: there are 64, none is this caller's, and the first is the
+-- owner's.
 pub record HasToGo (lists : List CallerList) (caller owner : CallSign) : Type 0 where
   pub full : length lists ≡ MOST_LISTS
   pub none : list_of lists caller ≡ None

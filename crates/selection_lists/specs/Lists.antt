@@ -1,6 +1,6 @@
 -- The lists that a server's callers selected (FTL0 1990, SELECT_CMD), in the order in which they were set.
-use Rattle.std.specs.Prelude.{ℕ, ◌≢◌, ◌≤◌, ◌-◌, ◌==◌, List, [], ◌∷◌, ◌++◌, length, map, filter, find, drop, All, AllPairs}
-use Rattle.std.specs.Prelude.{bytes_eq, nat_lt, Bool, not, ◌&&◌, if◌then◌else◌, Option, None, Some}
+use Rattle.std.specs.Prelude.{ℕ, ◌≢◌, ◌≤◌, ◌-◌, ◌==◌, List, [], ◌∷◌, ◌++◌, length, map, filter, find, drop, All}
+use Rattle.std.specs.Prelude.{AllPairs, bytes_eq, nat_lt, Bool, not, ◌&&◌, if◌then◌else◌, Option, None, Some}
 use Rattle.px_base.specs.CallSign.{CallSign}
 use Rattle.selection_lists.specs.declared.limits.TheConstants.{MOST_LISTS, MOST_NUMBERS}
 
@@ -46,8 +46,8 @@ lists_of_others lists caller = filter (λ list. not (is_of caller list)) lists
 abbrev pub last_of : ℕ → List CallerList → List CallerList
 last_of count lists = drop (length lists - count) lists
 
--- SELECT_CMD: these numbers are the caller's list. Its old one is gone, the new one is the last, and of more than 64 the
--- first one goes.
+-- SELECT_CMD: these numbers are the caller's list. Its old one is gone, the new one is the last, and of more than 64
+-- the first one is gone.
 abbrev pub selected : List CallerList → CallSign → List ℕ → List CallerList
 selected lists caller numbers =
     last_of MOST_LISTS (lists_of_others lists caller ++ record { caller = caller; numbers = numbers } ∷ [])

@@ -2,7 +2,8 @@
 
 ghost use Rattle.std.specs.Prelude.{◌≡◌, ◌-◌, ◌<◌, ◌≤◌, [], length, IfOk};
 ghost use Rattle.std.specs.List.{position};
-ghost use Rattle.selection_lists.specs.Lists.{IsLists, after_taking, has_left, is_of, last_of, left_of, lists_of_others, selected};
+ghost use Rattle.selection_lists.specs.Lists.{IsLists, after_taking, has_left, is_of, last_of, left_of};
+ghost use Rattle.selection_lists.specs.Lists.{lists_of_others, selected};
 
 use crate::limits::{MOST_LISTS, MOST_NUMBERS};
 use crate::stored_list::StoredList;
@@ -38,8 +39,8 @@ impl Lists {
         })
     }
 
-    /// Whether any number is left in the caller's list, as LOGIN_RESP says it (FTL0 1990, LOGIN_RESP, flag bit 3). Takes no
-    /// memory.
+    /// Whether any number is left in the caller's list, as bit 3 of LOGIN_RESP's flags says it (FTL0 1990, LOGIN_RESP).
+    /// Takes no memory.
     pub fn left(&self, caller: Call) -> bool
         ensures { result ≡ has_left self.now caller }
     {
@@ -58,8 +59,9 @@ impl Lists {
         }
     }
 
-    /// Takes so many numbers of the caller's list, from the first on. They are there. The list stays where it is, also where
-    /// none is left then (FTL0 1990, DOWNLOAD_CMD, DIR_SHORT_CMD and DIR_LONG_CMD with number 0). Takes no memory.
+    /// Takes so many numbers of the caller's list, from the first on. They are there. The list stays where it is, also
+    /// where none is left then (FTL0 1990, DOWNLOAD_CMD, DIR_SHORT_CMD and DIR_LONG_CMD with number 0). Takes no
+    /// memory.
     pub fn take(&mut self, caller: Call, count: usize)
         requires { count ≤ length (left_of self.old caller) }
         ensures { self.new ≡ after_taking self.old caller count }
@@ -69,9 +71,9 @@ impl Lists {
         }
     }
 
-    /// These numbers, at most 1,024, become the caller's list: it goes last, and the caller's old one goes. Where there are
-    /// 64 lists, and none is the caller's, the first one goes (FTL0 1990, SELECT_CMD). At most 63 lists are moved, each of
-    /// about 4 KiB. Takes no memory.
+    /// These numbers, at most 1,024, become the caller's list: it goes last, and the caller's old one goes. Where
+    /// there are 64 lists, and none is the caller's, the first one goes (FTL0 1990, SELECT_CMD). It moves at most 63
+    /// lists, each of about 4 KiB. Takes no memory.
     pub fn select(&mut self, caller: Call, numbers: &[u32])
         requires { length numbers.now ≤ MOST_NUMBERS }
         ensures { self.new ≡ selected self.old caller numbers.now }

@@ -8,8 +8,8 @@ use arrayvec::ArrayVec;
 use px_base::Call;
 use std::marker::Model;
 
-/// The numbers that a caller selected, and how many of them were taken. Contracts see the caller and the numbers that are
-/// left, a `CallerList`.
+/// The numbers that a caller selected, and how many of them were taken. Contracts see the caller and the numbers that
+/// are left, a `CallerList`.
 #[derive(Drop)]
 pub(crate) struct StoredList {
     caller: Call,
