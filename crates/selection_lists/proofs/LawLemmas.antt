@@ -9,7 +9,6 @@ use Rattle.std.proofs.Math.Seq.{drop-nil}
 use Rattle.std.proofs.lemmas.List.Elements.{All-drop, All-filter, All-from_recursion, filter-append, recursion_from_All}
 use Rattle.std.proofs.lemmas.List.Folds.{find-append}
 use Rattle.px_base.specs.CallSign.{CallSign}
-use Rattle.selection_lists.specs.declared.limits.TheConstants.{MOST_LISTS}
 use Rattle.selection_lists.specs.Laws.{HasToGo, KeptLaw, OthersLaw, SelectionLaw, TakingLaw, after_selections, callers}
 use Rattle.selection_lists.specs.Lists.{CallerList, IsLists, after_taking, is_of, last_of, left_of, list_of, lists_of_others, numbers_or_none, selected, shortened}
 use Rattle.selection_lists.proofs.CallerLists.{last_of-all, not-both, not-of, others-none, same-call}
@@ -87,7 +86,7 @@ module _ (caller : CallSign) (numbers : List ℕ) where
         few = omega (arith, len_back, few, stands.few);
       }
 
-  stands-after : (later lists : List CallerList) (most : ℕ) → most + length later < MOST_LISTS
+  stands-after : (later lists : List CallerList) (most : ℕ) → most + length later < 64
       → AllByRecursion (λ next. next.caller ≢ caller) later → Stands lists caller numbers most
       → left_of (after_selections lists later) caller ≡ numbers
   stands-after [] lists most less others stands = stands-left lists caller numbers most stands

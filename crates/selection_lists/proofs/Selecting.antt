@@ -8,7 +8,6 @@ use Rattle.std.proofs.lemmas.List.Kept.{AllPairs-filter}
 use Rattle.std.proofs.lemmas.List.Quantifiers.{all_pairs_push}
 use Rattle.std.proofs.lemmas.Bool.{true≢false}
 use Rattle.px_base.specs.CallSign.{CallSign}
-use Rattle.selection_lists.specs.declared.limits.TheConstants.{MOST_LISTS, MOST_NUMBERS}
 use Rattle.selection_lists.specs.Lists.{CallerList, IsLists, is_of, last_of, lists_of_others, selected}
 use Rattle.selection_lists.proofs.CallerLists.{last_of-all, others-at, others-none, same-call, within}
 use Rattle.selection_lists.proofs.OnePasses.{find-nowhere, none-in_rest}
@@ -22,7 +21,7 @@ few-others lists caller =
     let both = length-filter_both (is_of caller) (λ l. not (is_of caller l)) (λ l. refl) lists in omega (arith, both)
 
 -- the last 63, and one more, are the last 64
-pub one-more : (lists : List CallerList) (list : CallerList) → last_of 63 lists ++ list ∷ [] ≡ last_of MOST_LISTS (lists ++ list ∷ [])
+pub one-more : (lists : List CallerList) (list : CallerList) → last_of 63 lists ++ list ∷ [] ≡ last_of 64 (lists ++ list ∷ [])
 one-more lists list =
     let longer = length-append lists (list ∷ []) in
     let same : length (lists ++ list ∷ []) - 64 ≡ length lists - 63 = omega (arith, longer) in
@@ -62,17 +61,17 @@ AllPairs-drop R n xs pairs i j d less below =
 
 -- lists of a server stay such lists
 pub IsLists-selected : (lists : List CallerList) (caller : CallSign) (numbers : List ℕ) → IsLists lists
-    → length numbers ≤ MOST_NUMBERS → IsLists (selected lists caller numbers)
+    → length numbers ≤ 1024 → IsLists (selected lists caller numbers)
 IsLists-selected lists caller numbers are short =
     let others = lists_of_others lists caller in
     let theirs = All-from_recursion (λ l. is_of caller l ≡ false) others (none-in_rest (is_of caller) lists) in
     let pairs = AllPairs-filter (λ (one other : CallerList). one.caller ≢ other.caller) (λ l. not (is_of caller l)) lists are.distinct in
     let all = all_pairs_push (λ (one other : CallerList). one.caller ≢ other.caller) others (own caller numbers) pairs
     (λ k d below same. true≢false (sym ((same-call (get_or others k d).caller caller).1 same) ∙ theirs k d below)) in
-    let lengths = All-push (λ (l : CallerList). length l.numbers ≤ MOST_NUMBERS) others (own caller numbers)
-    (All-filter (λ l. not (is_of caller l)) (λ (l : CallerList). length l.numbers ≤ MOST_NUMBERS) lists are.short) short in
+    let lengths = All-push (λ (l : CallerList). length l.numbers ≤ 1024) others (own caller numbers)
+    (All-filter (λ l. not (is_of caller l)) (λ (l : CallerList). length l.numbers ≤ 1024) lists are.short) short in
     record {
       distinct = AllPairs-drop (λ (one other : CallerList). one.caller ≢ other.caller) _ (others ++ own caller numbers ∷ []) all;
-      few = few-last MOST_LISTS (others ++ own caller numbers ∷ []);
-      short = All-drop (λ (l : CallerList). length l.numbers ≤ MOST_NUMBERS) _ (others ++ own caller numbers ∷ []) lengths;
+      few = few-last 64 (others ++ own caller numbers ∷ []);
+      short = All-drop (λ (l : CallerList). length l.numbers ≤ 1024) _ (others ++ own caller numbers ∷ []) lengths;
     }

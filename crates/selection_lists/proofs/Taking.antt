@@ -4,7 +4,6 @@ use Rattle.std.proofs.lemmas.Bool.{cases_Bool}
 use Rattle.std.proofs.lemmas.List.{get_or-map, length-drop, length-map}
 use Rattle.std.proofs.lemmas.List.Elements.{All-map}
 use Rattle.px_base.specs.CallSign.{CallSign}
-use Rattle.selection_lists.specs.declared.limits.TheConstants.{MOST_NUMBERS}
 use Rattle.selection_lists.specs.Lists.{CallerList, IsLists, after_taking, is_of, shortened}
 use Rattle.selection_lists.proofs.CallerLists.{here}
 use Rattle.selection_lists.proofs.OnePasses.{find-nowhere, map-none, map-one, none-from_find}
@@ -28,15 +27,15 @@ module _ (caller : CallSign) (count : ℕ) where
         | inr other ↦ ap (λ (b : Bool). is_of owner (cond b (short list) list)) other
       ]
 
-  fewer : (list : CallerList) → length list.numbers ≤ MOST_NUMBERS → length (shortened caller count list).numbers ≤ MOST_NUMBERS
+  fewer : (list : CallerList) → length list.numbers ≤ 1024 → length (shortened caller count list).numbers ≤ 1024
   fewer list few =
       elim (cases_Bool (is_of caller list)) [
         | inl is ↦
             let len = length-drop count list.numbers in
-            let most : length (drop count list.numbers) ≤ MOST_NUMBERS = omega (arith, len, few) in
-            subst (λ (b : Bool). length (cond b (short list) list).numbers ≤ MOST_NUMBERS) (sym is) most
+            let most : length (drop count list.numbers) ≤ 1024 = omega (arith, len, few) in
+            subst (λ (b : Bool). length (cond b (short list) list).numbers ≤ 1024) (sym is) most
         | inr other ↦
-            subst (λ (b : Bool). length (cond b (short list) list).numbers ≤ MOST_NUMBERS) (sym other) few
+            subst (λ (b : Bool). length (cond b (short list) list).numbers ≤ 1024) (sym other) few
       ]
 
   module _ (lists : List CallerList) where
@@ -63,5 +62,5 @@ module _ (caller : CallSign) (count : ℕ) where
               let other = ap (λ (l : CallerList). l.caller) (get_or-map (shortened caller count) lists j d d within) ∙ same-caller (get_or lists j d) in
               are.distinct i j d less within (sym one ∙ same ∙ other);
           few = omega (arith, len, are.few);
-          short = All-map (λ (l : CallerList). length l.numbers ≤ MOST_NUMBERS) (shortened caller count) lists (λ k d below. fewer (get_or lists k d) (are.short k d below));
+          short = All-map (λ (l : CallerList). length l.numbers ≤ 1024) (shortened caller count) lists (λ k d below. fewer (get_or lists k d) (are.short k d below));
         }

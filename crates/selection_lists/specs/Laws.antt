@@ -2,7 +2,6 @@
 use Rattle.std.specs.Prelude.{◌≡◌, ◌≢◌, ℕ, ◌<◌, ◌≤◌, List, [], ◌∷◌, length, map, drop, slice_get, All, None, Some}
 use Rattle.std.specs.Option.{option_map}
 use Rattle.px_base.specs.CallSign.{CallSign}
-use Rattle.selection_lists.specs.declared.limits.TheConstants.{MOST_LISTS, MOST_NUMBERS}
 use Rattle.selection_lists.specs.Lists.{CallerList, IsLists, after_taking, left_of, list_of, selected}
 
 -- the lists after these selections, one after another
@@ -14,13 +13,13 @@ after_selections lists (next ∷ later) = after_selections (selected lists next.
 abbrev pub SelectionLaw : Type 0
 SelectionLaw =
     (lists later : List CallerList) (caller : CallSign) (numbers : List ℕ)
-    → length later < MOST_LISTS → All (λ next. next.caller ≢ caller) later
+    → length later < 64 → All (λ next. next.caller ≢ caller) later
     → left_of (after_selections (selected lists caller numbers) later) caller ≡ numbers
 
 -- The owner's list has to go when this caller selects: there are 64, none is this caller's, and the first is the
 -- owner's.
 pub record HasToGo (lists : List CallerList) (caller owner : CallSign) : Type 0 where
-  pub full : length lists ≡ MOST_LISTS
+  pub full : length lists ≡ 64
   pub none : list_of lists caller ≡ None
   pub first : option_map (λ list. list.caller) (slice_get lists 0) ≡ Some owner
 
@@ -47,5 +46,5 @@ TakingLaw =
 abbrev pub KeptLaw : Type 0
 KeptLaw =
     (lists : List CallerList) (caller : CallSign) → IsLists lists
-    → ((numbers : List ℕ) → length numbers ≤ MOST_NUMBERS → IsLists (selected lists caller numbers))
+    → ((numbers : List ℕ) → length numbers ≤ 1024 → IsLists (selected lists caller numbers))
     × ((count : ℕ) → IsLists (after_taking lists caller count))

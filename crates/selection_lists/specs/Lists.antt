@@ -2,7 +2,6 @@
 use Rattle.std.specs.Prelude.{ℕ, ◌≢◌, ◌≤◌, ◌-◌, ◌==◌, List, [], ◌∷◌, ◌++◌, length, map, filter, find, drop, All}
 use Rattle.std.specs.Prelude.{AllPairs, bytes_eq, nat_lt, Bool, not, ◌&&◌, if◌then◌else◌, Option, None, Some}
 use Rattle.px_base.specs.CallSign.{CallSign}
-use Rattle.selection_lists.specs.declared.limits.TheConstants.{MOST_LISTS, MOST_NUMBERS}
 
 -- the list of a caller: the file numbers that are left in it, in order. One that is used up has none.
 pub record CallerList : Type 0 where
@@ -12,7 +11,7 @@ pub record CallerList : Type 0 where
 -- so many of these numbers are taken
 pub record AreTaken (taken : ℕ) (numbers : List ℕ) : Type 0 where
   pub within : taken ≤ length numbers
-  pub few : length numbers ≤ MOST_NUMBERS
+  pub few : length numbers ≤ 1024
 
 -- the same call
 abbrev pub is_same_call : CallSign → CallSign → Bool
@@ -50,7 +49,7 @@ last_of count lists = drop (length lists - count) lists
 -- the first one is gone.
 abbrev pub selected : List CallerList → CallSign → List ℕ → List CallerList
 selected lists caller numbers =
-    last_of MOST_LISTS (lists_of_others lists caller ++ record { caller = caller; numbers = numbers } ∷ [])
+    last_of 64 (lists_of_others lists caller ++ record { caller = caller; numbers = numbers } ∷ [])
 
 -- a list without its first numbers, so many, where it is the caller's
 abbrev pub shortened : CallSign → ℕ → CallerList → CallerList
@@ -65,5 +64,5 @@ after_taking lists caller count = map (shortened caller count) lists
 -- What lists of a server are: at most one of a caller, at most 64, each of at most 1,024 numbers.
 pub record IsLists (lists : List CallerList) : Type 0 where
   pub distinct : AllPairs (λ one other. one.caller ≢ other.caller) lists
-  pub few : length lists ≤ MOST_LISTS
-  pub short : All (λ list. length list.numbers ≤ MOST_NUMBERS) lists
+  pub few : length lists ≤ 64
+  pub short : All (λ list. length list.numbers ≤ 1024) lists

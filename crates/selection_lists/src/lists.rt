@@ -1,11 +1,11 @@
 //! The lists of all callers.
 
-ghost use Rattle.std.specs.Prelude.{◌≡◌, ◌-◌, ◌<◌, ◌≤◌, [], length, IfOk};
+ghost use Rattle.std.specs.Prelude.{◌≡◌, ◌<◌, ◌≤◌, [], length, IfOk};
 ghost use Rattle.std.specs.List.{position};
 ghost use Rattle.selection_lists.specs.Lists.{IsLists, after_taking, has_left, is_of, last_of, left_of};
 ghost use Rattle.selection_lists.specs.Lists.{lists_of_others, selected};
 
-use crate::limits::{MOST_LISTS, MOST_NUMBERS};
+use crate::limits::MOST_LISTS;
 use crate::stored_list::StoredList;
 use px_base::{Call, OutOfMemory};
 use std::alloc::Global;
@@ -20,13 +20,12 @@ pub struct Lists {
 impl Model for Lists {
     ghost use Rattle.std.specs.Prelude.{List, vec_capacity, ◌≤◌};
     ghost use Rattle.selection_lists.specs.Lists.{CallerList, IsLists};
-    ghost use Rattle.selection_lists.specs.declared.limits.TheConstants.{MOST_LISTS};
 
     ghost Value = { List CallerList };
 
     ghost view = { λ a. a.lists.items };
 
-    ghost invariant = { λ a. IsLists a.lists.items × (MOST_LISTS ≤ vec_capacity a.lists) };
+    ghost invariant = { λ a. IsLists a.lists.items × (64 ≤ vec_capacity a.lists) };
 }
 
 impl Lists {
@@ -50,7 +49,7 @@ impl Lists {
     /// The numbers that are left in the caller's list, in order; none where it has no list. Takes no memory.
     pub fn numbers(&self, caller: Call) -> &[u32]
         ensures numbers { result.now ≡ left_of self.now caller }
-        ensures most { length result.now ≤ MOST_NUMBERS }
+        ensures most { length result.now ≤ 1024 }
         ensures rules { IsLists self.now }
     {
         match self.place_of(caller) {
@@ -75,7 +74,7 @@ impl Lists {
     /// there are 64 lists, and none is the caller's, the first one goes (FTL0 1990, SELECT_CMD). It moves at most 63
     /// lists, each of about 4 KiB. Takes no memory.
     pub fn select(&mut self, caller: Call, numbers: &[u32])
-        requires { length numbers.now ≤ MOST_NUMBERS }
+        requires { length numbers.now ≤ 1024 }
         ensures { self.new ≡ selected self.old caller numbers.now }
     {
         self.make_room(caller);
@@ -85,8 +84,8 @@ impl Lists {
 
     /// The caller's old list goes. Where it has none, and there are 64, the first one goes.
     fn make_room(&mut self, caller: Call)
-        ensures lists { self.new ≡ last_of (MOST_LISTS - 1) (lists_of_others self.old caller) }
-        ensures room { length self.new < MOST_LISTS }
+        ensures lists { self.new ≡ last_of 63 (lists_of_others self.old caller) }
+        ensures room { length self.new < 64 }
         ensures rules { IsLists self.old }
     {
         match self.place_of(caller) {

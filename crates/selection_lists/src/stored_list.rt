@@ -32,7 +32,7 @@ impl Model for StoredList {
 impl StoredList {
     /// The caller's list of these numbers, of which none is taken. Takes no memory.
     pub(crate) fn new(caller: Call, numbers: &[u32]) -> StoredList
-        requires { length numbers.now ≤ MOST_NUMBERS }
+        requires { length numbers.now ≤ 1024 }
         ensures { result ≡ record { caller = caller; numbers = numbers.now } }
     {
         let mut copied = ArrayVec::new();
@@ -54,7 +54,7 @@ impl StoredList {
     /// The numbers that are left, in order. Takes no memory.
     pub(crate) fn left(&self) -> &[u32]
         ensures numbers { result.now ≡ self.now.numbers }
-        ensures most { length result.now ≤ MOST_NUMBERS }
+        ensures most { length result.now ≤ 1024 }
     {
         &self.numbers[self.taken..]
     }
