@@ -1,0 +1,5 @@
+pub mod CallerLists
+pub mod LawLemmas
+pub mod OnePasses
+pub mod Selecting
+pub mod Taking
