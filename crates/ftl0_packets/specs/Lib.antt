@@ -1,4 +1,5 @@
 pub mod Filling
+pub mod Items
 pub mod Layout
 pub mod Laws
 pub mod Pieces
