@@ -10,8 +10,8 @@ use Rattle.ax25_link.specs.Ends.{answering_end}
 use Rattle.ax25_link.specs.Window.{Window, window_of}
 use Rattle.ax25_link.proofs.Places.{slice_get-set_other, slice_get-set_same}
 use Rattle.file_store.specs.State.{StoreState}
-use Rattle.ftl0_session.specs.SessionState.{IsHeld, NoOtherOut, SessionState, new_session, number_of}
-use Rattle.ftl0_session.proofs.UploadRows.{same_call-decides}
+use Rattle.ftl0_uploads.specs.SessionState.{IsHeld, NoOtherOut, SessionState, new_session, number_of}
+use Rattle.ftl0_uploads.proofs.UploadRows.{same_call-decides}
 use Rattle.ftl0_connection.specs.Connected.{Connected, answering}
 use Rattle.ftl0_connection.specs.ConnectionState.{ConnectionState, IsConnection}
 use Rattle.ftl0_server.specs.declared.place.Place.{Place}
