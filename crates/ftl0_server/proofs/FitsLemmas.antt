@@ -9,7 +9,6 @@ use Rattle.ax25_link.specs.Calls.{after_abandon, after_push}
 use Rattle.ax25_link.specs.Ends.{IsEnd, LinkEnd, answering_end}
 use Rattle.ax25_link.specs.Rows.{after_frame, heard_of, is_call}
 use Rattle.ax25_link.specs.Sending.{Sending, next_sending}
-use Rattle.ax25_link.specs.Timer.{after_tick}
 use Rattle.ax25_link.specs.Window.{Window}
 use Rattle.ax25_link.specs.declared.state.Heard.{Heard}
 use Rattle.ax25_link.specs.declared.state.Heard.TheVariants.{Nothing, Opened, Reopened, Bytes, Closed}
@@ -23,10 +22,10 @@ use Rattle.ftl0_session.specs.Failures.{Failure, write_fails}
 use Rattle.ftl0_session.specs.Run.{on_row}
 use Rattle.ftl0_session.specs.Session.{Row, State, fault_reply, greeting, kind_of_item, session_row, texts}
 use Rattle.ftl0_connection.specs.Connected.{Connected, answering, caller_of}
-use Rattle.ftl0_connection.specs.Hearing.{Happened, hearing, hearing_as, ticking, with_end}
-use Rattle.ftl0_connection.specs.Taking.{Progress, after_doing, failing_at, fits, giving_up, replied, taking, unbuilt_at}
-use Rattle.ftl0_server.specs.Laws.{HasStep, MayStep, SlotFits, SlotsFit, SomeStepLaw}
-use Rattle.ftl0_server.specs.Server.{IsSilent, Refused, Server, ServerHappened, ServerSends, called_by, hearing_at, hearing_by, hearing_stranger, refusing, sends_by}
+use Rattle.ftl0_connection.specs.Hearing.{hearing, hearing_as, ticking, with_end}
+use Rattle.ftl0_connection.specs.Taking.{Progress, after_doing, failing_at, fits, giving_up, taking, unbuilt_at}
+use Rattle.ftl0_server.specs.Laws.{SlotFits, SlotsFit, SomeStepLaw}
+use Rattle.ftl0_server.specs.Server.{IsSilent, Refused, Server, ServerHappened, called_by, hearing_at, hearing_by, hearing_stranger, refusing, sends_by}
 use Rattle.ftl0_server.specs.Server.{sends_of_places, settled}
 use Rattle.ftl0_server.specs.ServerStep.{Empties, happening}
 use Rattle.ftl0_server.specs.Slots.{PlacesSend, Slot, SlotSends, all_freed, connected, first_empty, first_of, free, freed, leaving, left_by, place_of}

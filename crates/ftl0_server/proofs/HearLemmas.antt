@@ -1,5 +1,5 @@
 -- What a frame makes of a server, by what it makes of one place.
-use Rattle.std.proofs.Common.{◌≡◌, ◌≢◌, ℕ, zero, suc, ◌<◌, List, [], ◌∷◌, length, get_or, set, Bool, true, false, Option, None, Some, refl, sym, ◌∙◌, ap, subst, inl, inr}
+use Rattle.std.proofs.Common.{◌≡◌, ℕ, zero, suc, ◌<◌, List, [], ◌∷◌, length, get_or, set, Bool, true, false, Option, None, Some, refl, sym, ◌∙◌, ap, subst, inl, inr}
 use Rattle.std.specs.Prelude.{slice_get, ⊤, Result, Ok, Err}
 use Rattle.std.specs.List.{position}
 use Rattle.std.proofs.lemmas.List.Quantifiers.{position-Some}
@@ -8,9 +8,9 @@ use Rattle.px_base.specs.CallSign.{CallSign}
 use Rattle.disk_model.specs.declared.disk.Disk.{Ghosts}
 use Rattle.ax25_frames.specs.FrameText.{FrameValue}
 use Rattle.ax25_frames.specs.Kinds.{FitsControl}
-use Rattle.ax25_link.specs.Kept.{IsFromPeer, Kept, is_pending}
+use Rattle.ax25_link.specs.Kept.{Kept, is_pending}
 use Rattle.ax25_link.specs.Window.{Window, window_of}
-use Rattle.file_entries.specs.Command.{Command, after_all}
+use Rattle.file_entries.specs.Command.{after_all}
 use Rattle.file_entries.specs.Store.{Store}
 use Rattle.file_journal.specs.Calls.{Leaves}
 use Rattle.file_store.specs.OnDisk.{Does, MakesFirst}
@@ -30,7 +30,7 @@ use Rattle.ftl0_server.specs.Calls.{Hears, HearsBy, HearsStranger}
 use Rattle.ftl0_server.specs.declared.place.Place.{Place}
 use Rattle.ftl0_server.specs.declared.place.Place.TheVariants.{Free, Talking, Leaving}
 use Rattle.ftl0_server.specs.Kept.{IsAt, IsSettled}
-use Rattle.ftl0_server.specs.Server.{Server, ServerHappened, becoming, heard_at, hearing_at, hearing_by, hearing_stranger, server_hearing}
+use Rattle.ftl0_server.specs.Server.{Server, becoming, heard_at, hearing_at, hearing_by, hearing_stranger, server_hearing}
 use Rattle.ftl0_server.specs.ServerState.{AllPlaces, IsServer, SaysAs, SendsAs, SendsFor, ServerState, any_pending, has_caller, is_empty_place, place_pending}
 use Rattle.ftl0_server.specs.Slots.{Slot, connected, first_empty, free, is_callers, is_empty, leaving, place_of, slot_after}
 use Rattle.ftl0_server.proofs.AllPlaces.{all-both, all-get, all-set, all-to, never, same-position}

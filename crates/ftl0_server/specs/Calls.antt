@@ -6,7 +6,7 @@ use Rattle.ax25_link.specs.Kept.{HasStations}
 use Rattle.ax25_link.specs.declared.state.LinkState.TheVariants.{Up}
 use Rattle.file_journal.specs.Calls.{Leaves}
 use Rattle.file_store.specs.OnDisk.{CutsOff, Does, MakesFirst}
-use Rattle.file_store.specs.State.{StoreState, store_in}
+use Rattle.file_store.specs.State.{store_in}
 use Rattle.ftl0_session.specs.declared.stop.ServerStop.{ServerStop}
 use Rattle.ftl0_session.specs.declared.stop.ServerStop.TheVariants as stop
 use Rattle.ftl0_session.specs.Failures.{Failure, failed_write}

@@ -9,7 +9,7 @@ use Rattle.ax25_link.specs.Window.{Window}
 use Rattle.file_entries.specs.Command.{Command, after_all}
 use Rattle.file_entries.specs.Store.{Store}
 use Rattle.ftl0_session.specs.Failures.{Failure}
-use Rattle.ftl0_connection.specs.Connected.{Connected, answering}
+use Rattle.ftl0_connection.specs.Connected.{answering}
 use Rattle.ftl0_connection.specs.Hearing.{Happened, hearing}
 use Rattle.ftl0_connection.specs.Taking.{Halt, goes_on}
 use Rattle.ftl0_server.specs.Slots.{PlacesSend, Slot, all_freed, connected, first_empty, free, leaving, place_of, places_next, slot_after, slot_ticking}
