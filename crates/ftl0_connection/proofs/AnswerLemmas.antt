@@ -13,11 +13,11 @@ use Rattle.file_entries.specs.Command.{Command}
 use Rattle.file_store.specs.OnDisk.{CutsOff, Does}
 use Rattle.file_store.specs.State.{StandsOn, StoreState, store_in}
 use Rattle.file_store.proofs.DoesLemmas.{Does-none}
-use Rattle.ftl0_session.specs.declared.stop.ServerStop.{ServerStop}
-use Rattle.ftl0_session.specs.declared.stop.ServerStop.TheVariants as stop
-use Rattle.ftl0_session.specs.Session.{Row, session_row, texts}
-use Rattle.ftl0_session.specs.SessionState.{SessionState, state_of}
-use Rattle.ftl0_session.specs.Taking.{Answers, PutsRow}
+use Rattle.ftl0_uploads.specs.declared.stop.ServerStop.{ServerStop}
+use Rattle.ftl0_uploads.specs.declared.stop.ServerStop.TheVariants as stop
+use Rattle.ftl0_uploads.specs.Session.{Row, session_row, texts}
+use Rattle.ftl0_uploads.specs.SessionState.{SessionState, state_of}
+use Rattle.ftl0_uploads.specs.Taking.{Answers, PutsRow}
 use Rattle.ftl0_connection.specs.declared.fate.Fate.{Fate}
 use Rattle.ftl0_connection.specs.declared.fate.Fate.TheVariants.{Stays, Ends}
 use Rattle.ftl0_connection.specs.ConnectionState.{Hears, HearsBy, StandsAfter, StandsForSome, is_over, taking_some, with_nothing_left}

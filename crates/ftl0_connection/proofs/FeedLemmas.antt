@@ -13,12 +13,12 @@ use Rattle.file_entries.specs.Store.{Store}
 use Rattle.file_journal.proofs.CallLemmas.{puts_none, puts_on}
 use Rattle.file_store.specs.State.{StandsOn, StoreState, store_in}
 use Rattle.file_store.proofs.DoesLemmas.{Does-none}
-use Rattle.ftl0_session.specs.declared.stop.ServerStop.{ServerStop}
-use Rattle.ftl0_session.specs.declared.stop.ServerStop.TheVariants as stop
-use Rattle.ftl0_session.specs.Others.{KeepsOtherCallers}
-use Rattle.ftl0_session.specs.Failures.{Failure}
-use Rattle.ftl0_session.specs.Session.{State}
-use Rattle.ftl0_session.specs.SessionState.{SessionState, state_of}
+use Rattle.ftl0_uploads.specs.declared.stop.ServerStop.{ServerStop}
+use Rattle.ftl0_uploads.specs.declared.stop.ServerStop.TheVariants as stop
+use Rattle.ftl0_uploads.specs.Others.{KeepsOtherCallers}
+use Rattle.ftl0_uploads.specs.Failures.{Failure}
+use Rattle.ftl0_uploads.specs.Session.{State}
+use Rattle.ftl0_uploads.specs.SessionState.{SessionState, state_of}
 use Rattle.ftl0_connection.specs.declared.fate.Fate.{Fate}
 use Rattle.ftl0_connection.specs.declared.fate.Fate.TheVariants.{Stays}
 use Rattle.ftl0_connection.specs.Connected.{Connected}

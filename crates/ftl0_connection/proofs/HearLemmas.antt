@@ -13,11 +13,11 @@ use Rattle.ftl0_packets.specs.Reading.{packets_of, rest_of}
 use Rattle.file_store.specs.OnDisk.{Does}
 use Rattle.file_store.specs.State.{StandsOn, StoreState, store_in}
 use Rattle.file_store.proofs.DoesLemmas.{Does-moved, Does-none}
-use Rattle.ftl0_session.specs.declared.phase.Phase.{Phase}
-use Rattle.ftl0_session.specs.declared.phase.Phase.TheVariants as phase
-use Rattle.ftl0_session.specs.declared.stop.ServerStop.{ServerStop}
-use Rattle.ftl0_session.specs.Failures.{Failure}
-use Rattle.ftl0_session.specs.SessionState.{Parks}
+use Rattle.ftl0_uploads.specs.declared.phase.Phase.{Phase}
+use Rattle.ftl0_uploads.specs.declared.phase.Phase.TheVariants as phase
+use Rattle.ftl0_uploads.specs.declared.stop.ServerStop.{ServerStop}
+use Rattle.ftl0_uploads.specs.Failures.{Failure}
+use Rattle.ftl0_uploads.specs.SessionState.{Parks}
 use Rattle.ftl0_connection.specs.declared.fate.Fate.{Fate}
 use Rattle.ftl0_connection.specs.declared.fate.Fate.TheVariants.{Stays, Ends}
 use Rattle.ftl0_connection.specs.Connected.{Connected}

@@ -13,11 +13,11 @@ use Rattle.file_entries.specs.Store.{Store}
 use Rattle.file_store.specs.OnDisk.{CutsOff, Does, MakesFirst}
 use Rattle.file_store.specs.State.{StoreState, store_in}
 use Rattle.file_store.proofs.DoesLemmas.{Does-then}
-use Rattle.ftl0_session.specs.declared.stop.ServerStop.{ServerStop}
-use Rattle.ftl0_session.specs.declared.stop.ServerStop.TheVariants as stop
-use Rattle.ftl0_session.specs.Failures.{Failure, failed_write}
-use Rattle.ftl0_session.specs.Session.{State}
-use Rattle.ftl0_session.specs.SessionState.{SessionState, state_of}
+use Rattle.ftl0_uploads.specs.declared.stop.ServerStop.{ServerStop}
+use Rattle.ftl0_uploads.specs.declared.stop.ServerStop.TheVariants as stop
+use Rattle.ftl0_uploads.specs.Failures.{Failure, failed_write}
+use Rattle.ftl0_uploads.specs.Session.{State}
+use Rattle.ftl0_uploads.specs.SessionState.{SessionState, state_of}
 use Rattle.ftl0_connection.specs.declared.fate.Fate.{Fate}
 use Rattle.ftl0_connection.specs.declared.fate.Fate.TheVariants.{Stays, Ends}
 use Rattle.ftl0_connection.specs.ConnectionState.{ConnectionState, Hears, HearsBy, IsConnection, StandsAfter, taking_some, with_nothing_left}

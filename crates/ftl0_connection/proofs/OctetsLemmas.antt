@@ -5,7 +5,7 @@ use Rattle.std.proofs.lemmas.Bool.Decides.{nat_tests}
 use Rattle.disk_model.specs.declared.disk.Disk.{Ghosts}
 use Rattle.ax25_link.specs.Window.{Window}
 use Rattle.file_store.specs.State.{StoreState, store_in}
-use Rattle.ftl0_session.specs.declared.stop.ServerStop.{ServerStop}
+use Rattle.ftl0_uploads.specs.declared.stop.ServerStop.{ServerStop}
 use Rattle.ftl0_connection.specs.declared.fate.Fate.{Fate}
 use Rattle.ftl0_connection.specs.declared.fate.Fate.TheVariants.{Stays}
 use Rattle.ftl0_connection.specs.Connected.{Connected}

@@ -4,7 +4,7 @@ use Rattle.px_base.specs.CallSign.{CallSign}
 use Rattle.ax25_link.specs.Calls.{after_push}
 use Rattle.ax25_link.specs.Ends.{LinkEnd, answering_end}
 use Rattle.ftl0_packets.specs.Layout.{packet_text}
-use Rattle.ftl0_session.specs.Session.{State, command, greeting}
+use Rattle.ftl0_uploads.specs.Session.{State, command, greeting}
 
 -- the server's end, whose peer is the caller; the octets that were accepted and of which no packet was taken yet; and
 -- the session's state

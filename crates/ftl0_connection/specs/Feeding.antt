@@ -10,10 +10,10 @@ use Rattle.ftl0_packets.specs.Reading.{packets_of, rest_of}
 use Rattle.file_entries.specs.Kept.{KeepsComplete}
 use Rattle.file_journal.specs.Calls.{Puts}
 use Rattle.file_store.specs.State.{StandsOn, StoreState, store_in}
-use Rattle.ftl0_session.specs.declared.stop.ServerStop.{ServerStop}
-use Rattle.ftl0_session.specs.declared.stop.ServerStop.TheVariants as stop
-use Rattle.ftl0_session.specs.Others.{KeepsOtherCallers}
-use Rattle.ftl0_session.specs.SessionState.{IsHeld, IsOnlyOut, SessionState, state_of}
+use Rattle.ftl0_uploads.specs.declared.stop.ServerStop.{ServerStop}
+use Rattle.ftl0_uploads.specs.declared.stop.ServerStop.TheVariants as stop
+use Rattle.ftl0_uploads.specs.Others.{KeepsOtherCallers}
+use Rattle.ftl0_uploads.specs.SessionState.{IsHeld, IsOnlyOut, SessionState, state_of}
 use Rattle.ftl0_connection.specs.declared.fate.Fate.{Fate}
 use Rattle.ftl0_connection.specs.declared.fate.Fate.TheVariants.{Stays}
 use Rattle.ftl0_connection.specs.ConnectionState.{ConnectionState, Hears, StandsForSome, taking_some, with_nothing_left}

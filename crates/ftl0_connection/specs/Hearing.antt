@@ -11,7 +11,7 @@ use Rattle.ax25_link.specs.Window.{Window}
 use Rattle.ftl0_packets.specs.Reading.{packets_of, rest_of}
 use Rattle.file_entries.specs.Command.{Command}
 use Rattle.file_entries.specs.Store.{Store}
-use Rattle.ftl0_session.specs.Failures.{Failure}
+use Rattle.ftl0_uploads.specs.Failures.{Failure}
 use Rattle.ftl0_connection.specs.Connected.{Connected, beginning, caller_of}
 use Rattle.ftl0_connection.specs.Taking.{Halt, Progress, goes_on, taking}
 

@@ -5,7 +5,7 @@ use Rattle.ax25_link.specs.Ends.{LinkEnd}
 use Rattle.ftl0_packets.specs.Layout.{Item}
 use Rattle.file_entries.specs.Command.{Command, after_all}
 use Rattle.file_entries.specs.Store.{Store}
-use Rattle.ftl0_session.specs.Session.{Row, State, session_row}
+use Rattle.ftl0_uploads.specs.Session.{Row, State, session_row}
 use Rattle.ftl0_connection.specs.Taking.{Progress, goes_on, taking}
 
 -- what these packets make where nothing fails

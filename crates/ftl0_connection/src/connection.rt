@@ -18,9 +18,9 @@ ghost use Rattle.ftl0_connection.specs.ConnectionState.{Hears, IsConnection, Sta
 ghost use Rattle.ftl0_connection.specs.Feeding.{Feeds, IsGoing, LeavesFit, MayTake, with_octets};
 ghost use Rattle.ftl0_connection.specs.Hearing.{hearing, taking_octets, ticking};
 ghost use Rattle.ftl0_connection.specs.Taking.{fits, replied};
-ghost use Rattle.ftl0_session.specs.Others.{KeepsOtherCallers};
-ghost use Rattle.ftl0_session.specs.Session.{greeting};
-ghost use Rattle.ftl0_session.specs.SessionState.{IsHeld, IsOnlyOut, NoOtherOut, Parks, new_session, state_of};
+ghost use Rattle.ftl0_uploads.specs.Others.{KeepsOtherCallers};
+ghost use Rattle.ftl0_uploads.specs.Session.{greeting};
+ghost use Rattle.ftl0_uploads.specs.SessionState.{IsHeld, IsOnlyOut, NoOtherOut, Parks, new_session, state_of};
 
 use crate::Fate;
 use arrayvec::ArrayVec;
@@ -30,7 +30,7 @@ use disk_model::Disk;
 use file_store::FileStore;
 use ftl0_packets::laws::stream_law;
 use ftl0_packets::{PacketFed, PacketReader};
-use ftl0_session::{Replies, ServerStop, Session};
+use ftl0_uploads::{Replies, ServerStop, Session};
 use px_base::{Call, OutOfMemory};
 use std::alloc::Global;
 use std::marker::Model;

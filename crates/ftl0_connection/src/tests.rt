@@ -4,7 +4,7 @@ ghost use Rattle.std.specs.Prelude.{◌≡◌, ◌<◌, false, IsErrOf};
 ghost use Rattle.ax25_link.specs.Kept.{SameStations, is_pending};
 ghost use Rattle.ax25_link.specs.declared.state.LinkState.{LinkState};
 ghost use Rattle.file_store.specs.State.{StandsOn};
-ghost use Rattle.ftl0_session.specs.SessionState.{IsHeld, IsOnlyOut};
+ghost use Rattle.ftl0_uploads.specs.SessionState.{IsHeld, IsOnlyOut};
 
 use super::*;
 use crate::connection::Told;
@@ -12,7 +12,7 @@ use arrayvec::ArrayVec;
 use ax25_frames::{Frame, Kind};
 use disk_model::{Disk, MemoryDisk};
 use file_store::{FileStore, Limits};
-use ftl0_session::ServerStop;
+use ftl0_uploads::ServerStop;
 use px_base::Call;
 use std::alloc::Global;
 use std::process::Abort;

@@ -8,7 +8,7 @@ use Rattle.ax25_frames.specs.FrameText.{FrameText, canonical}
 use Rattle.ax25_link.specs.Sending.{Sending, next_sending}
 use Rattle.ax25_link.specs.Window.{Window, window_of}
 use Rattle.file_store.specs.State.{StoreState, store_in}
-use Rattle.ftl0_session.specs.SessionState.{IsHeld, SessionState, number_of, state_of}
+use Rattle.ftl0_uploads.specs.SessionState.{IsHeld, SessionState, number_of, state_of}
 use Rattle.ftl0_connection.specs.Connected.{Connected}
 use Rattle.ftl0_connection.specs.ConnectionState.{ConnectionState}
 use Rattle.ftl0_connection.specs.Hearing.{with_end}

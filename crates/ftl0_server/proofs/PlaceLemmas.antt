@@ -7,13 +7,13 @@ use Rattle.ax25_link.specs.Kept.{StandsFor}
 use Rattle.ax25_link.specs.Window.{Window}
 use Rattle.file_store.specs.State.{StoreState, store_in}
 use Rattle.file_store.proofs.DoesLemmas.{Does-moved}
-use Rattle.ftl0_session.specs.Failures.{Failure, failed_write}
-use Rattle.ftl0_session.specs.Others.{KeepsOtherCallers}
-use Rattle.ftl0_session.specs.SessionState.{IsOnlyOut, NoOtherOut, Parks}
-use Rattle.ftl0_session.specs.declared.phase.Phase.{Phase}
-use Rattle.ftl0_session.specs.declared.phase.Phase.TheVariants as phase
-use Rattle.ftl0_session.specs.declared.stop.ServerStop.{ServerStop}
-use Rattle.ftl0_session.specs.declared.stop.ServerStop.TheVariants as stop
+use Rattle.ftl0_uploads.specs.Failures.{Failure, failed_write}
+use Rattle.ftl0_uploads.specs.Others.{KeepsOtherCallers}
+use Rattle.ftl0_uploads.specs.SessionState.{IsOnlyOut, NoOtherOut, Parks}
+use Rattle.ftl0_uploads.specs.declared.phase.Phase.{Phase}
+use Rattle.ftl0_uploads.specs.declared.phase.Phase.TheVariants as phase
+use Rattle.ftl0_uploads.specs.declared.stop.ServerStop.{ServerStop}
+use Rattle.ftl0_uploads.specs.declared.stop.ServerStop.TheVariants as stop
 use Rattle.ftl0_connection.specs.ConnectionState.{ConnectionState, HearsBy}
 use Rattle.ftl0_connection.specs.declared.fate.Fate.TheVariants.{Ends}
 use Rattle.ftl0_connection.specs.Hearing.{Happened}

@@ -7,8 +7,8 @@ use Rattle.std.proofs.lemmas.Option.{same_Some}
 use Rattle.px_base.specs.CallSign.{CallSign}
 use Rattle.ax25_link.proofs.Places.{slice_get-set_other, slice_get-set_same}
 use Rattle.file_store.specs.State.{StoreState}
-use Rattle.ftl0_session.specs.SessionState.{IsHeld, NoOtherOut, SessionState, number_of}
-use Rattle.ftl0_session.proofs.UploadRows.{same_call-decides}
+use Rattle.ftl0_uploads.specs.SessionState.{IsHeld, NoOtherOut, SessionState, number_of}
+use Rattle.ftl0_uploads.proofs.UploadRows.{same_call-decides}
 use Rattle.ftl0_connection.specs.Connected.{Connected}
 use Rattle.ftl0_connection.specs.ConnectionState.{ConnectionState, IsConnection}
 use Rattle.ftl0_server.specs.declared.place.Place.{Place}

@@ -10,12 +10,12 @@ use Rattle.file_entries.specs.Files.{octets_or_none}
 use Rattle.file_entries.specs.Store.{partial}
 use Rattle.file_store.specs.State.{StoreState}
 use Rattle.file_store.specs.Upload.{entry_for}
-use Rattle.ftl0_session.specs.Others.{KeepsOtherCallers}
-use Rattle.ftl0_session.specs.Session.{is_same_call, receiving}
-use Rattle.ftl0_session.specs.SessionState.{NoOtherOut, PhaseIsHeld, number_of, state_of}
-use Rattle.ftl0_session.specs.declared.phase.Phase.{Phase}
-use Rattle.ftl0_session.specs.declared.phase.Phase.TheVariants as phase
-use Rattle.ftl0_session.proofs.UploadRows.{same_call-decides}
+use Rattle.ftl0_uploads.specs.Others.{KeepsOtherCallers}
+use Rattle.ftl0_uploads.specs.Session.{is_same_call, receiving}
+use Rattle.ftl0_uploads.specs.SessionState.{NoOtherOut, PhaseIsHeld, number_of, state_of}
+use Rattle.ftl0_uploads.specs.declared.phase.Phase.{Phase}
+use Rattle.ftl0_uploads.specs.declared.phase.Phase.TheVariants as phase
+use Rattle.ftl0_uploads.proofs.UploadRows.{same_call-decides}
 use Rattle.ftl0_connection.specs.ConnectionState.{ConnectionState}
 use Rattle.ftl0_server.specs.AtPlace.{GoesOn, Works}
 use Rattle.ftl0_server.specs.declared.place.Place.{Place}

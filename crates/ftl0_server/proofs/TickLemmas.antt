@@ -5,7 +5,7 @@ use Rattle.std.proofs.lemmas.Option.{same_Some}
 use Rattle.px_base.specs.CallSign.{CallSign}
 use Rattle.ax25_link.specs.Window.{Window}
 use Rattle.file_store.specs.State.{StoreState}
-use Rattle.ftl0_session.specs.SessionState.{IsOnlyOut, number_of}
+use Rattle.ftl0_uploads.specs.SessionState.{IsOnlyOut, number_of}
 use Rattle.ftl0_connection.specs.ConnectionState.{ConnectionState}
 use Rattle.ftl0_server.specs.AtPlace.{IsPlace, MayTick, Works}
 use Rattle.ftl0_server.specs.declared.place.Place.{Place}

@@ -7,11 +7,11 @@ use Rattle.ax25_link.specs.Window.{Window}
 use Rattle.ax25_link.specs.declared.state.LinkState.TheVariants.{Up}
 use Rattle.file_store.specs.OnDisk.{CutsOff, Does}
 use Rattle.file_store.specs.State.{StoreState}
-use Rattle.ftl0_session.specs.Failures.{Failure, failed_write}
-use Rattle.ftl0_session.specs.Others.{KeepsOtherCallers}
-use Rattle.ftl0_session.specs.SessionState.{IsHeld, IsOnlyOut, NoOtherOut, Parks}
-use Rattle.ftl0_session.specs.declared.stop.ServerStop.{ServerStop}
-use Rattle.ftl0_session.specs.declared.stop.ServerStop.TheVariants as stop
+use Rattle.ftl0_uploads.specs.Failures.{Failure, failed_write}
+use Rattle.ftl0_uploads.specs.Others.{KeepsOtherCallers}
+use Rattle.ftl0_uploads.specs.SessionState.{IsHeld, IsOnlyOut, NoOtherOut, Parks}
+use Rattle.ftl0_uploads.specs.declared.stop.ServerStop.{ServerStop}
+use Rattle.ftl0_uploads.specs.declared.stop.ServerStop.TheVariants as stop
 use Rattle.ftl0_connection.specs.ConnectionState.{ConnectionState}
 use Rattle.ftl0_connection.specs.Hearing.{Happened}
 use Rattle.ftl0_connection.specs.Taking.{fails, goes_on, unbuilt}

@@ -7,10 +7,10 @@ use Rattle.ax25_link.specs.declared.state.LinkState.TheVariants.{Up}
 use Rattle.file_journal.specs.Calls.{Leaves}
 use Rattle.file_store.specs.OnDisk.{CutsOff, Does, MakesFirst}
 use Rattle.file_store.specs.State.{store_in}
-use Rattle.ftl0_session.specs.declared.stop.ServerStop.{ServerStop}
-use Rattle.ftl0_session.specs.declared.stop.ServerStop.TheVariants as stop
-use Rattle.ftl0_session.specs.Failures.{Failure, failed_write}
-use Rattle.ftl0_session.specs.SessionState.{new_session}
+use Rattle.ftl0_uploads.specs.declared.stop.ServerStop.{ServerStop}
+use Rattle.ftl0_uploads.specs.declared.stop.ServerStop.TheVariants as stop
+use Rattle.ftl0_uploads.specs.Failures.{Failure, failed_write}
+use Rattle.ftl0_uploads.specs.SessionState.{new_session}
 use Rattle.ftl0_connection.specs.ConnectionState.{ConnectionState}
 use Rattle.ftl0_connection.specs.Taking.{fails, goes_on, unbuilt}
 use Rattle.ftl0_server.specs.declared.place.Place.{Place}

@@ -6,7 +6,7 @@ use Rattle.ax25_link.specs.Window.{IsGoodK}
 use Rattle.ax25_link.specs.declared.state.LinkState.TheVariants.{Up}
 use Rattle.file_store.specs.State.{StoreState}
 use Rattle.ftl0_connection.specs.ConnectionState.{ConnectionState}
-use Rattle.ftl0_session.specs.SessionState.{IsHeld, NoOtherOut, number_of}
+use Rattle.ftl0_uploads.specs.SessionState.{IsHeld, NoOtherOut, number_of}
 use Rattle.ftl0_server.specs.declared.place.Place.{Place}
 use Rattle.ftl0_server.specs.declared.place.Place.TheVariants.{Talking}
 use Rattle.ftl0_server.specs.declared.server.Server.TheInside.{Inside}

@@ -4,7 +4,7 @@ use Rattle.ax25_frames.specs.FrameText.{FrameValue}
 use Rattle.ax25_link.specs.Ends.{IsEnd}
 use Rattle.ax25_link.specs.Window.{Window}
 use Rattle.file_entries.specs.Command.{Command}
-use Rattle.ftl0_session.specs.Failures.{Failure}
+use Rattle.ftl0_uploads.specs.Failures.{Failure}
 use Rattle.ftl0_connection.specs.Taking.{Halt}
 use Rattle.node_events.specs.Events.{NodeEvent}
 use Rattle.ftl0_server.specs.Server.{IsSilent, Server}

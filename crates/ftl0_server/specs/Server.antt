@@ -8,7 +8,7 @@ use Rattle.ax25_link.specs.Rows.{is_call}
 use Rattle.ax25_link.specs.Window.{Window}
 use Rattle.file_entries.specs.Command.{Command, after_all}
 use Rattle.file_entries.specs.Store.{Store}
-use Rattle.ftl0_session.specs.Failures.{Failure}
+use Rattle.ftl0_uploads.specs.Failures.{Failure}
 use Rattle.ftl0_connection.specs.Connected.{answering}
 use Rattle.ftl0_connection.specs.Hearing.{Happened, hearing}
 use Rattle.ftl0_connection.specs.Taking.{Halt, goes_on}

@@ -4,8 +4,8 @@ use Rattle.std.specs.List.{count_by, list_any}
 use Rattle.px_base.specs.CallSign.{CallSign}
 use Rattle.ax25_link.specs.Kept.{StandsFor, count_of, is_pending, is_there, most_pending}
 use Rattle.ax25_link.specs.Window.{Window, window_of}
-use Rattle.ftl0_session.specs.Session.{is_same_call}
-use Rattle.ftl0_session.specs.SessionState.{state_of}
+use Rattle.ftl0_uploads.specs.Session.{is_same_call}
+use Rattle.ftl0_uploads.specs.SessionState.{state_of}
 use Rattle.file_store.specs.State.{StoreState, store_in}
 use Rattle.ftl0_connection.specs.Connected.{Connected}
 use Rattle.ftl0_connection.specs.ConnectionState.{ConnectionState}

@@ -2,7 +2,7 @@
 use Rattle.std.specs.Prelude.{◌≡◌, List, [], ◌∷◌, Some}
 use Rattle.ax25_frames.specs.FrameText.{FrameValue}
 use Rattle.file_entries.specs.Command.{Command}
-use Rattle.ftl0_session.specs.Failures.{Failure}
+use Rattle.ftl0_uploads.specs.Failures.{Failure}
 use Rattle.ftl0_connection.specs.Taking.{Halt}
 use Rattle.node_events.specs.Events.{NodeEvent, hears, ticks}
 use Rattle.ftl0_server.specs.Server.{IsSilent, Server, ServerHappened, ServerSends, becoming, server_hearing, server_next, server_ticking, settled}

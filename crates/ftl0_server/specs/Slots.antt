@@ -10,7 +10,7 @@ use Rattle.ax25_link.specs.Sending.{Sending, next_sending}
 use Rattle.ax25_link.specs.Window.{Window}
 use Rattle.ftl0_connection.specs.Connected.{Connected, caller_of}
 use Rattle.ftl0_connection.specs.Hearing.{Happened, ticking, with_end}
-use Rattle.ftl0_session.specs.Session.{is_same_call}
+use Rattle.ftl0_uploads.specs.Session.{is_same_call}
 
 pub data Slot : Type 0 where
   free : Slot

@@ -10,5 +10,5 @@ mod stray;
 #[cfg(test)]
 mod tests;
 
-pub use ftl0_session::{Replies, ServerStop, Session};
+pub use ftl0_uploads::{Replies, ServerStop, Session};
 pub use server::{PLACES, Server};

@@ -20,7 +20,7 @@ use ax25_link::Link;
 use disk_model::Disk;
 use file_store::FileStore;
 use ftl0_connection::{Connection, Fate};
-use ftl0_session::ServerStop;
+use ftl0_uploads::ServerStop;
 use px_base::Call;
 use std::mem;
 

@@ -34,7 +34,7 @@ use disk_model::Disk;
 use file_store::laws::state_law;
 use file_store::{FileStore, Limits, StoreFault};
 use ftl0_connection::Connection;
-use ftl0_session::ServerStop;
+use ftl0_uploads::ServerStop;
 use px_base::{Call, OutOfMemory};
 use std::alloc::Global;
 use std::marker::Model;

@@ -9,8 +9,8 @@ use Rattle.px_base.specs.declared.air.Turn.TheVariants as turn
 use Rattle.ftl0_packets.specs.Layout.{Item, data_end, data_part, ul_error_resp, upload_cmd}
 use Rattle.file_entries.specs.Command.{Command, after_all}
 use Rattle.file_entries.specs.Store.{Store}
-use Rattle.ftl0_session.specs.Events.{Event, packets_in}
-use Rattle.ftl0_session.specs.Session.{Row, State, aborting, command, is_upload_kind, kind_of_item, receiving, session_row}
+use Rattle.ftl0_uploads.specs.Events.{Event, packets_in}
+use Rattle.ftl0_uploads.specs.Session.{Row, State, aborting, command, is_upload_kind, kind_of_item, receiving, session_row}
 use Rattle.session_node.specs.Running.{RunsOver}
 use Rattle.pacsat_cli.specs.Sessions.{has_unbuilt, is_unbuilt}
 

@@ -9,8 +9,8 @@ use Rattle.px_base.specs.declared.air.Turn.{Turn}
 use Rattle.px_base.specs.declared.air.Turn.TheVariants as turn
 use Rattle.file_entries.specs.Command.{Command}
 use Rattle.file_entries.specs.Store.{Store}
-use Rattle.ftl0_session.specs.Events.{Event, packets_in}
-use Rattle.ftl0_session.specs.Session.{command}
+use Rattle.ftl0_uploads.specs.Events.{Event, packets_in}
+use Rattle.ftl0_uploads.specs.Session.{command}
 use Rattle.session_node.specs.Running.{StopsOver}
 use Rattle.session_node.specs.SessionRan.{EndsOver, IsGreeted, IsUngreeted, TurnsBy}
 use Rattle.session_node.specs.Stops.{CountsBy}

@@ -13,7 +13,7 @@ use Rattle.ftl0_packets.specs.Stream.{Stream}
 use Rattle.ftl0_packets.proofs.OctetLemmas.{IsOctets-nil}
 use Rattle.file_entries.specs.Command.{Command}
 use Rattle.file_entries.specs.Store.{Store, empty_store}
-use Rattle.ftl0_session.specs.Events.{packets_in}
+use Rattle.ftl0_uploads.specs.Events.{packets_in}
 use Rattle.session_node.specs.SessionRan.{SessionRan}
 use Rattle.command_words.specs.declared.disk.DiskWord.{DiskWord}
 use Rattle.command_words.specs.declared.disk.DiskWord.TheVariants.{Fresh, Named}

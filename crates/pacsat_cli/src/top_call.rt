@@ -3,7 +3,7 @@
 ghost use Rattle.std.specs.Prelude.{◌≡◌, ◌≤◌, [], ◌∷◌};
 ghost use Rattle.command_words.specs.Laws.{AsksServe, AsksSession};
 ghost use Rattle.command_words.specs.Words.{IsUnbuilt, IsUsage, NamesBuilt};
-ghost use Rattle.ftl0_session.specs.Laws.{AcknowledgedStandsLaw};
+ghost use Rattle.ftl0_uploads.specs.Laws.{AcknowledgedStandsLaw};
 ghost use Rattle.px_base.specs.Outside.{Rose};
 ghost use Rattle.session_node.specs.Laws.{AcknowledgedSinceLaw};
 ghost use Rattle.pacsat_cli.specs.Files.{IsNoSuchBy, IsShownBy, IsTooLongBy};
@@ -24,7 +24,7 @@ use command_words::Refusal;
 use command_words::laws::one_meaning;
 use disk_model::Disk;
 use ftl0_packets::laws::stream_law;
-use ftl0_session::laws::acknowledged_stands_law;
+use ftl0_uploads::laws::acknowledged_stands_law;
 use px_base::{Air, Clock, Out, Shelf};
 use session_node::laws::acknowledged_since_law;
 use std::alloc::Global;

@@ -7,7 +7,7 @@ use Rattle.file_entries.specs.Command.{Command, after_all}
 use Rattle.file_entries.specs.Store.{Store}
 use Rattle.file_entries.proofs.GrowLemmas.{after_all-append}
 use Rattle.node_events.specs.Events.{NodeEvent, hears, ticks}
-use Rattle.ftl0_session.specs.Failures.{Failure}
+use Rattle.ftl0_uploads.specs.Failures.{Failure}
 use Rattle.ftl0_server.specs.Server.{Refused, Server, ServerSends, called_by, hearing_at, hearing_by, hearing_stranger, refusing, sends_by, sends_of_places}
 use Rattle.ftl0_server.specs.ServerStep.{Empties, happening}
 use Rattle.ftl0_server.specs.Slots.{PlacesSend, Slot, connected, first_empty, free, leaving, place_of, places_next}

@@ -13,9 +13,9 @@ use Rattle.file_store.specs.OnDisk.{CutsOff, Does}
 use Rattle.file_store.specs.State.{StoreState}
 use Rattle.file_store.proofs.DoesLemmas.{Does-none, Does-then}
 use Rattle.node_events.specs.Events.{NodeEvent, tick_since, ticks}
-use Rattle.ftl0_session.specs.declared.stop.ServerStop.{ServerStop}
-use Rattle.ftl0_session.specs.declared.stop.ServerStop.TheVariants as server_stop
-use Rattle.ftl0_session.specs.Failures.{failed_write}
+use Rattle.ftl0_uploads.specs.declared.stop.ServerStop.{ServerStop}
+use Rattle.ftl0_uploads.specs.declared.stop.ServerStop.TheVariants as server_stop
+use Rattle.ftl0_uploads.specs.Failures.{failed_write}
 use Rattle.ftl0_server.specs.Calls.{HearsBy}
 use Rattle.ftl0_server.specs.Server.{Server, settled}
 use Rattle.ftl0_server.specs.ServerState.{ServerState}

@@ -6,7 +6,7 @@ use Rattle.kiss.specs.KissText.{kiss_text}
 use Rattle.ax25_frames.specs.FrameText.{FrameValue, canonical}
 use Rattle.file_entries.specs.Command.{Command}
 use Rattle.node_events.specs.Events.{NodeEvent}
-use Rattle.ftl0_session.specs.Failures.{failed_write}
+use Rattle.ftl0_uploads.specs.Failures.{failed_write}
 use Rattle.ftl0_connection.specs.Taking.{fails, goes_on, unbuilt}
 use Rattle.ftl0_server.specs.Server.{Server}
 use Rattle.ftl0_server.specs.ServerStep.{ServerStep, happening}

@@ -6,7 +6,7 @@ use Rattle.file_journal.proofs.ToldLemmas.{told_weaker}
 use Rattle.file_entries.specs.Command.{AreAllowed, Command}
 use Rattle.file_entries.specs.Store.{Store}
 use Rattle.file_store.specs.OnDisk.{MakesBetween, StayDone}
-use Rattle.ftl0_session.specs.Laws.{AcknowledgedStandsLaw}
+use Rattle.ftl0_uploads.specs.Laws.{AcknowledgedStandsLaw}
 use Rattle.session_node.specs.declared.stop.NodeStop.{NodeStop}
 use Rattle.session_node.specs.declared.stop.NodeStop.TheVariants as stop
 use Rattle.session_node.specs.declared.terms.Served.{Served}

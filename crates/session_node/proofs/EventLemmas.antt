@@ -7,7 +7,7 @@ use Rattle.ftl0_packets.specs.Laws.{IsOneStream}
 use Rattle.px_base.specs.Octets.{IsOctets}
 use Rattle.ftl0_packets.specs.Layout.{Item}
 use Rattle.ftl0_packets.specs.Stream.{IsPartial, Stream}
-use Rattle.ftl0_session.specs.Events.{Brings, Event, at_moment, packets_in}
+use Rattle.ftl0_uploads.specs.Events.{Brings, Event, at_moment, packets_in}
 use Rattle.session_node.proofs.OctetLemmas.{octets_back}
 
 -- the rest of a stream is less than a whole packet

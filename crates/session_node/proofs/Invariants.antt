@@ -9,8 +9,8 @@ use Rattle.px_base.specs.declared.air.Turn.{Turn}
 use Rattle.px_base.specs.declared.air.Air.{Ghosts as AirGhosts}
 use Rattle.disk_model.specs.declared.disk.Disk.{Ghosts}
 use Rattle.file_store.specs.State.{StoreState}
-use Rattle.ftl0_session.specs.Events.{Brings, Event}
-use Rattle.ftl0_session.specs.Session.{command}
+use Rattle.ftl0_uploads.specs.Events.{Brings, Event}
+use Rattle.ftl0_uploads.specs.Session.{command}
 use Rattle.session_node.specs.declared.terms.SessionTerms.{SessionTerms}
 use Rattle.session_node.specs.Node.{GoesOn}
 use Rattle.session_node.specs.Running.{RunsOn}

@@ -22,8 +22,8 @@ use Rattle.ftl0_packets.proofs.OctetLemmas.{IsOctets-nil}
 use Rattle.file_entries.specs.Command.{Command}
 use Rattle.file_store.specs.OnDisk.{CutsOff}
 use Rattle.file_store.specs.State.{StoreState, store_in}
-use Rattle.ftl0_session.specs.Events.{Brings, Event, at_moment}
-use Rattle.ftl0_session.specs.Session.{command, greeting}
+use Rattle.ftl0_uploads.specs.Events.{Brings, Event, at_moment}
+use Rattle.ftl0_uploads.specs.Session.{command, greeting}
 use Rattle.session_node.specs.declared.stop.NodeStop.{NodeStop}
 use Rattle.session_node.specs.declared.stop.NodeStop.TheVariants as stop
 use Rattle.session_node.specs.declared.terms.Served.{Served}

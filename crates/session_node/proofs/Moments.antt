@@ -8,7 +8,7 @@ use Rattle.px_base.specs.declared.air.Turn.{Turn}
 use Rattle.px_base.proofs.Told.{Grows-none, Grows-trans}
 use Rattle.ftl0_packets.specs.Layout.{Item}
 use Rattle.ftl0_packets.specs.Stream.{Stream}
-use Rattle.ftl0_session.specs.Events.{Brings, Event, at_moment}
+use Rattle.ftl0_uploads.specs.Events.{Brings, Event, at_moment}
 use Rattle.session_node.proofs.EventLemmas.{brings-more, brings-turn}
 
 -- each of the moments is the one given

@@ -6,8 +6,8 @@ use Rattle.disk_model.specs.declared.disk.Disk.{Ghosts}
 use Rattle.ftl0_packets.specs.Layout.{Item}
 use Rattle.ftl0_packets.specs.Reading.{packets_of, rest_of}
 use Rattle.file_store.specs.State.{StandsOn, StoreState, store_in}
-use Rattle.ftl0_session.specs.Events.{Event, at_moment}
-use Rattle.ftl0_session.specs.Session.{State}
+use Rattle.ftl0_uploads.specs.Events.{Event, at_moment}
+use Rattle.ftl0_uploads.specs.Session.{State}
 use Rattle.session_node.specs.declared.stop.NodeStop.{NodeStop}
 use Rattle.session_node.specs.Node.{GoesOn, RowSaid, StopSaid, Stops, events_at}
 use Rattle.session_node.specs.Running.{RunsOn, StopsOn}

@@ -6,9 +6,9 @@ use Rattle.disk_model.specs.declared.disk.Disk.{Ghosts}
 use Rattle.ftl0_packets.specs.Layout.{data_end, ul_ack_resp}
 use Rattle.file_entries.specs.Command.{Command, after_all}
 use Rattle.file_entries.specs.Store.{Entry, Store}
-use Rattle.ftl0_session.specs.Events.{Event}
-use Rattle.ftl0_session.specs.Laws.{HasEntry, IsWhole, kept}
-use Rattle.ftl0_session.specs.Session.{Row, State, receiving, session_row}
+use Rattle.ftl0_uploads.specs.Events.{Event}
+use Rattle.ftl0_uploads.specs.Laws.{HasEntry, IsWhole, kept}
+use Rattle.ftl0_uploads.specs.Session.{Row, State, receiving, session_row}
 use Rattle.session_node.specs.declared.stop.NodeStop.{NodeStop}
 use Rattle.session_node.specs.declared.stop.NodeStop.TheVariants as stop
 use Rattle.session_node.specs.declared.terms.Served.{Served}

@@ -2,7 +2,7 @@
 use Rattle.std.specs.Prelude.{◌≡◌, ℕ, List, []}
 use Rattle.px_base.specs.Octets.{IsOctets}
 use Rattle.ftl0_packets.specs.Reading.{packets_of, rest_of, under_way}
-use Rattle.ftl0_session.specs.SessionState.{IsHeld, IsOnlyOut, state_of}
+use Rattle.ftl0_uploads.specs.SessionState.{IsHeld, IsOnlyOut, state_of}
 use Rattle.session_node.specs.declared.server.SessionServer.TheInside.{Inside}
 use Rattle.session_node.specs.ServerState.{ServerState}
 

@@ -3,7 +3,7 @@ use Rattle.std.specs.Prelude.{◌≡◌, ℕ, List, [], ◌++◌, false}
 use Rattle.px_base.specs.CallSign.{CallSign}
 use Rattle.disk_model.specs.declared.disk.Disk.{Ghosts}
 use Rattle.file_store.specs.State.{StandsOn, StoreState}
-use Rattle.ftl0_session.specs.Session.{State, command}
+use Rattle.ftl0_uploads.specs.Session.{State, command}
 
 -- whose session it is, the store, the session's state, and the octets that were heard and of which no packet was taken
 -- yet

@@ -22,9 +22,9 @@ use Rattle.file_entries.specs.Store.{Store}
 use Rattle.file_store.specs.OnDisk.{CutsOff}
 use Rattle.file_store.specs.State.{StoreState, standing_of, store_in}
 use Rattle.file_store.specs.declared.refusals.StoreFault.{StoreFault}
-use Rattle.ftl0_session.specs.Events.{Brings, Event, packets_in}
-use Rattle.ftl0_session.specs.Run.{first_unbuilt, replies_to}
-use Rattle.ftl0_session.specs.Session.{State, command, greeting, texts}
+use Rattle.ftl0_uploads.specs.Events.{Brings, Event, packets_in}
+use Rattle.ftl0_uploads.specs.Run.{first_unbuilt, replies_to}
+use Rattle.ftl0_uploads.specs.Session.{State, command, greeting, texts}
 use Rattle.session_node.specs.declared.stop.NodeStop.{NodeStop}
 use Rattle.session_node.specs.declared.stop.NodeStop.TheVariants as stop
 use Rattle.session_node.specs.declared.terms.Served.{Served}

@@ -6,8 +6,8 @@ use Rattle.file_journal.specs.Walk.{damaged_at, no_store}
 use Rattle.file_store.specs.State.{standing_of}
 use Rattle.file_store.specs.declared.refusals.StoreFault.{StoreFault}
 use Rattle.file_store.specs.declared.refusals.StoreFault.TheVariants as fault
-use Rattle.ftl0_session.specs.declared.stop.ServerStop.{ServerStop}
-use Rattle.ftl0_session.specs.declared.stop.ServerStop.TheVariants as session_stop
+use Rattle.ftl0_uploads.specs.declared.stop.ServerStop.{ServerStop}
+use Rattle.ftl0_uploads.specs.declared.stop.ServerStop.TheVariants as session_stop
 use Rattle.session_node.specs.declared.stop.NodeStop.{NodeStop}
 use Rattle.session_node.specs.declared.stop.NodeStop.TheVariants as stop
 

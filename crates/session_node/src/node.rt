@@ -10,7 +10,7 @@ use crate::{NodeStop, Served, SessionTerms};
 use disk_model::Disk;
 use file_store::FileStore;
 use file_store::laws::state_law;
-use ftl0_session::Replies;
+use ftl0_uploads::Replies;
 use px_base::{Air, Clock};
 use std::alloc::Global;
 

@@ -4,7 +4,7 @@ ghost use Rattle.std.specs.Prelude.{◌≡◌};
 ghost use Rattle.session_node.specs.Stops.{stop_of_fault, stop_of_session};
 
 use file_store::StoreFault;
-use ftl0_session::ServerStop;
+use ftl0_uploads::ServerStop;
 use thiserror::Error;
 
 /// Why a session stopped before the end of the air.

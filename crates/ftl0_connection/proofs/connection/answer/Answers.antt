@@ -2,7 +2,7 @@
 use Rattle.std.proofs.Common.{Ok, Err}
 use Rattle.ftl0_packets.specs.Reading.{read_item}
 use Rattle.ftl0_packets.specs.Values.{item_of}
-use Rattle.ftl0_session.specs.declared.stop.ServerStop.TheVariants as stop
+use Rattle.ftl0_uploads.specs.declared.stop.ServerStop.TheVariants as stop
 use Rattle.ftl0_connection.specs.declared.fate.Fate.TheVariants.{Stays, Ends}
 use Rattle.ftl0_connection.proofs.AnswerLemmas.{hears-one, said-done, said-fault, said-stop, some-replied, up-replied}
 use Rattle.ftl0_connection.proofs.connection.answer.Goals as goal

@@ -1,6 +1,6 @@
 -- What is said leaves the session as it was.
 use Rattle.std.proofs.Common.{sym, subst, ◌∙◌}
-use Rattle.ftl0_session.specs.SessionState.{IsOnlyOut, SessionState}
+use Rattle.ftl0_uploads.specs.SessionState.{IsOnlyOut, SessionState}
 use Rattle.ftl0_connection.proofs.tests.exchange.Goals as goal
 
 pub returns-clause-only : goal.returns-clause-only

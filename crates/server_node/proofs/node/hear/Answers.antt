@@ -1,7 +1,7 @@
 -- A frame that was heard is taken, and its frames are put; or it stops the node.
 use Rattle.ax25_frames.specs.Values.{value_of}
 use Rattle.node_events.specs.Events.{hears}
-use Rattle.ftl0_session.specs.Failures.{failed_write}
+use Rattle.ftl0_uploads.specs.Failures.{failed_write}
 use Rattle.ftl0_server.specs.ServerStep.{happening}
 use Rattle.server_node.proofs.TakesLemmas.{event-failed, event-taken, event-unbuilt, event-unmade, event-unsaid, up-after}
 use Rattle.server_node.proofs.node.hear.Goals as goal

@@ -4,7 +4,7 @@ use Rattle.ax25_link.specs.Ends.{answering_end}
 use Rattle.ax25_link.specs.Kept.{Kept}
 use Rattle.ax25_link.specs.Window.{window_of}
 use Rattle.ftl0_packets.specs.Reading.{under_way}
-use Rattle.ftl0_session.specs.SessionState.{SessionState, state_of}
+use Rattle.ftl0_uploads.specs.SessionState.{SessionState, state_of}
 use Rattle.ftl0_connection.specs.Connected.{answering}
 use Rattle.ftl0_connection.proofs.WaitingLemmas.{waits-none}
 use Rattle.ftl0_connection.proofs.connection.Connection.answer.Goals as goal

@@ -2,8 +2,8 @@
 use Rattle.std.proofs.Common.{ap, sym, ◌∙◌}
 use Rattle.ax25_link.specs.Calls.{after_push}
 use Rattle.ftl0_packets.specs.Layout.{packet_text}
-use Rattle.ftl0_session.specs.Session.{greeting}
-use Rattle.ftl0_session.specs.SessionState.{SessionState}
+use Rattle.ftl0_uploads.specs.Session.{greeting}
+use Rattle.ftl0_uploads.specs.SessionState.{SessionState}
 use Rattle.ftl0_connection.proofs.LinkLemmas.{some-after}
 use Rattle.ftl0_connection.proofs.WaitingLemmas.{waits-none}
 use Rattle.ftl0_connection.proofs.connection.Connection.begin_anew.Goals as goal

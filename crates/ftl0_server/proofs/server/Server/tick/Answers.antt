@@ -3,7 +3,7 @@ use Rattle.std.proofs.Common.{◌≡◌, false, refl, subst, sym, []}
 use Rattle.std.specs.Prelude.{Ok}
 use Rattle.file_store.specs.OnDisk.{Does}
 use Rattle.file_store.specs.State.{StandsOn}
-use Rattle.ftl0_session.proofs.DoesLemmas.{does-none}
+use Rattle.ftl0_uploads.proofs.DoesLemmas.{does-none}
 use Rattle.ftl0_server.specs.Calls.{Hears}
 use Rattle.ftl0_server.specs.Kept.{server_state}
 use Rattle.ftl0_server.specs.Server.{becoming, server_ticking}

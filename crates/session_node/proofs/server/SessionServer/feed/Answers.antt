@@ -3,7 +3,7 @@ use Rattle.std.proofs.Common.{ℕ, [], ◌∷◌, refl, subst, arith, Result, Ok
 use Rattle.px_base.proofs.Told.{Gains-none}
 use Rattle.ftl0_packets.specs.Reading.{packets_of, read_item, rest_of}
 use Rattle.ftl0_packets.proofs.OctetLemmas.{octets_from}
-use Rattle.ftl0_session.specs.SessionState.{state_of}
+use Rattle.ftl0_uploads.specs.SessionState.{state_of}
 use Rattle.session_node.specs.declared.stop.NodeStop.{NodeStop}
 use Rattle.session_node.specs.Node.{FeedsPiece}
 use Rattle.session_node.specs.Server.{server_state}

@@ -3,7 +3,7 @@ use Rattle.std.proofs.Common.{◌≡◌, arith, Result}
 use Rattle.session_node.specs.declared.stop.NodeStop.{NodeStop}
 use Rattle.session_node.specs.declared.terms.Served.{Served}
 use Rattle.ftl0_packets.specs.Layout.{packet_text}
-use Rattle.ftl0_session.specs.Session.{greeting}
+use Rattle.ftl0_uploads.specs.Session.{greeting}
 use Rattle.session_node.specs.SessionRan.{SessionOn}
 use Rattle.session_node.proofs.Listening.{listening-done, listening-more, listening-spent, listening-start, listening-stops}
 use Rattle.session_node.proofs.Serving.{at_exit}

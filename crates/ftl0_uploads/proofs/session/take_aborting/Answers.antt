@@ -1,0 +1,24 @@
+-- Each packet in Aborting, by its row.
+use Rattle.std.proofs.Common.{refl}
+use Rattle.file_store.specs.State.{store_in}
+use Rattle.ftl0_uploads.specs.declared.phase.Phase.TheVariants as phase
+use Rattle.ftl0_uploads.specs.Session.{aborting, command, silent_row}
+use Rattle.ftl0_uploads.proofs.Rows.{alone-error, alone-row, error-aborting, row-aborting_data, row-aborting_end, row-at}
+use Rattle.ftl0_uploads.proofs.session.take_aborting.Goals as goal
+
+pub returns-in-Part : goal.returns-in-Part
+returns-in-Part c = λ caller moment store item only is.
+    let same = rw c.in-Part.is at is in
+    let row = row-at caller moment (store_in store) aborting item _ _ same (row-aborting_data caller moment (store_in store) _) in
+    alone-row caller moment aborting item store phase.Aborting (silent_row aborting) _ row refl (silent_row aborting, row, ((tt, refl), refl, c.requires)) tt only
+
+pub returns-in-End : goal.returns-in-End
+returns-in-End c = λ caller moment store item only is.
+    let same = rw c.in-End.is at is in
+    let row = row-at caller moment (store_in store) aborting item _ _ same (row-aborting_end caller moment (store_in store)) in
+    alone-row caller moment aborting item store phase.Command (silent_row command) _ row refl (silent_row command, row, ((tt, refl), refl, c.requires)) tt only
+
+pub returns-in_default : goal.returns-in_default
+returns-in_default c = λ caller moment store item only is.
+    let error = error-aborting caller moment (store_in store) item _ c.in_default.not-Part c.in_default.not-End is in
+    alone-error caller moment aborting item store phase.Aborting _ _ _ error.0 refl error.1 (rw c.kind.ensures at c.refuse.ensures) tt only
