@@ -15,7 +15,8 @@ use Rattle.file_store.specs.State.{StandsOn, StoreState, store_in}
 use Rattle.file_store.proofs.DoesLemmas.{Does-none}
 use Rattle.ftl0_uploads.specs.declared.stop.ServerStop.{ServerStop}
 use Rattle.ftl0_uploads.specs.declared.stop.ServerStop.TheVariants as stop
-use Rattle.ftl0_uploads.specs.Session.{Row, session_row, texts}
+use Rattle.ftl0_packets.specs.Items.{texts}
+use Rattle.ftl0_uploads.specs.Session.{Row, session_row}
 use Rattle.ftl0_uploads.specs.SessionState.{SessionState, state_of}
 use Rattle.ftl0_uploads.specs.Taking.{Answers, PutsRow}
 use Rattle.ftl0_connection.specs.declared.fate.Fate.{Fate}

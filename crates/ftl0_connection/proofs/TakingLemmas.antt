@@ -11,7 +11,8 @@ use Rattle.file_entries.specs.Store.{Store}
 use Rattle.file_entries.proofs.GrowLemmas.{after_all-append}
 use Rattle.ftl0_uploads.specs.Failures.{Failure, is_write_fault, write_fails}
 use Rattle.ftl0_uploads.specs.Run.{on_row}
-use Rattle.ftl0_uploads.specs.Session.{Row, State, kind_of_item, session_row, texts}
+use Rattle.ftl0_packets.specs.Items.{kind_of_item, texts}
+use Rattle.ftl0_uploads.specs.Session.{Row, State, session_row}
 use Rattle.ftl0_connection.specs.Laws.{TakingLaw}
 use Rattle.ftl0_connection.specs.Taking.{Halt, Progress, after_doing, failing_at, fails, fits, giving_up, goes_on, taking, unbuilt, unbuilt_at}
 

@@ -8,7 +8,8 @@ use Rattle.file_entries.specs.Command.{Command, after_all}
 use Rattle.file_entries.specs.Store.{Store}
 use Rattle.ftl0_uploads.specs.Failures.{Failure, write_fails}
 use Rattle.ftl0_uploads.specs.Run.{on_row}
-use Rattle.ftl0_uploads.specs.Session.{Row, State, command, fault_reply, kind_of_item, session_row, texts}
+use Rattle.ftl0_packets.specs.Items.{kind_of_item, texts}
+use Rattle.ftl0_uploads.specs.Session.{Row, State, command, fault_reply, session_row}
 
 -- whether the link has room for replies of this text
 abbrev pub fits : LinkEnd → List ℕ → Bool

@@ -20,7 +20,8 @@ use Rattle.file_entries.specs.Store.{Store}
 use Rattle.node_events.specs.Events.{NodeEvent, hears, ticks}
 use Rattle.ftl0_uploads.specs.Failures.{Failure, write_fails}
 use Rattle.ftl0_uploads.specs.Run.{on_row}
-use Rattle.ftl0_uploads.specs.Session.{Row, State, fault_reply, greeting, kind_of_item, session_row, texts}
+use Rattle.ftl0_packets.specs.Items.{kind_of_item, texts}
+use Rattle.ftl0_uploads.specs.Session.{Row, State, fault_reply, greeting, session_row}
 use Rattle.ftl0_connection.specs.Connected.{Connected, answering, caller_of}
 use Rattle.ftl0_connection.specs.Hearing.{hearing, hearing_as, ticking, with_end}
 use Rattle.ftl0_connection.specs.Taking.{Progress, after_doing, failing_at, fits, giving_up, taking, unbuilt_at}

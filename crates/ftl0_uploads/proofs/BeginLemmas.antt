@@ -20,7 +20,8 @@ use Rattle.ftl0_uploads.specs.declared.phase.Phase.TheVariants as phase
 use Rattle.ftl0_uploads.specs.declared.stop.ServerStop.{ServerStop}
 use Rattle.ftl0_uploads.specs.declared.stop.ServerStop.TheVariants as stop
 use Rattle.ftl0_uploads.specs.Others.{KeepsOtherCallers}
-use Rattle.ftl0_uploads.specs.Session.{command, granted_row, refused_row, session_row, texts}
+use Rattle.ftl0_packets.specs.Items.{texts}
+use Rattle.ftl0_uploads.specs.Session.{command, granted_row, refused_row, session_row}
 use Rattle.ftl0_uploads.specs.SessionState.{IsReady, NoOtherOut}
 use Rattle.ftl0_uploads.specs.Taking.{Answered, AnswersRefusal}
 use Rattle.ftl0_uploads.proofs.DoesLemmas.{answered-alone, does-row, some-at_front, touched, untouched as as-it-was}

@@ -12,7 +12,8 @@ use Rattle.file_entries.specs.Command.{can_begin, has_room, passes}
 use Rattle.file_entries.specs.Info.{is_complete}
 use Rattle.file_entries.specs.Store.{Entry, Store, entry_of, octets_at, octets_of}
 use Rattle.ftl0_uploads.specs.Laws.{FaultCodeLaw, IsNoFault}
-use Rattle.ftl0_uploads.specs.Session.{Row, State, aborting, begin_row, command, continue_row, data_row, end_row, error_row, granted_row, is_all, is_theirs, is_upload_kind, kind_of_item, receiving, refused_row, resumed_row, session_row, taken_row, whole_row}
+use Rattle.ftl0_packets.specs.Items.{kind_of_item}
+use Rattle.ftl0_uploads.specs.Session.{Row, State, aborting, begin_row, command, continue_row, data_row, end_row, error_row, granted_row, is_all, is_theirs, is_upload_kind, receiving, refused_row, resumed_row, session_row, taken_row, whole_row}
 
 abbrev NoFault : Row → Type 0
 NoFault row = AllByRecursion IsNoFault row.replies

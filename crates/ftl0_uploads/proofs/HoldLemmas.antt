@@ -14,7 +14,8 @@ use Rattle.file_store.specs.OnDisk.{after_first}
 use Rattle.file_store.specs.State.{StoreState, store_in}
 use Rattle.file_store.specs.Upload.{Holds, Upload, came, ending, entry_for, octets_come, sealing, waiting, with_bytes}
 use Rattle.ftl0_uploads.specs.declared.phase.Phase.{Phase}
-use Rattle.ftl0_uploads.specs.Session.{Row, aborting, command, session_row, taken_row, texts, whole_row}
+use Rattle.ftl0_packets.specs.Items.{texts}
+use Rattle.ftl0_uploads.specs.Session.{Row, aborting, command, session_row, taken_row, whole_row}
 use Rattle.ftl0_uploads.specs.SessionState.{NoOtherOut, PhaseIsHeld, number_of, receiving_of, state_of}
 use Rattle.ftl0_uploads.specs.Taking.{AnsweredAlone}
 use Rattle.ftl0_uploads.proofs.DoesLemmas.{some-at_end}

@@ -13,7 +13,8 @@ use Rattle.ftl0_uploads.specs.declared.phase.Phase.TheVariants as phase
 use Rattle.ftl0_uploads.specs.declared.stop.ServerStop.{ServerStop}
 use Rattle.ftl0_uploads.specs.declared.stop.ServerStop.TheVariants as stop
 use Rattle.ftl0_uploads.specs.Others.{KeepsOtherCallers}
-use Rattle.ftl0_uploads.specs.Session.{Row, State, aborting, command, error_row, is_upload_kind, kind_of_item, receiving, refused_row, session_row, silent_row, texts}
+use Rattle.ftl0_packets.specs.Items.{kind_of_item, texts}
+use Rattle.ftl0_uploads.specs.Session.{Row, State, aborting, command, error_row, is_upload_kind, receiving, refused_row, session_row, silent_row}
 use Rattle.ftl0_uploads.specs.SessionState.{NoOtherOut, PhaseIsHeld, number_of, state_of}
 use Rattle.ftl0_uploads.specs.Taking.{Answers, AnsweredAlone, Refuses}
 

@@ -8,7 +8,8 @@ use Rattle.ftl0_uploads.specs.declared.asked.Asked.{Asked}
 use Rattle.ftl0_uploads.specs.declared.asked.Asked.TheVariants as asked
 use Rattle.ftl0_uploads.specs.declared.phase.Phase.{Phase}
 use Rattle.ftl0_uploads.specs.declared.stop.ServerStop.{ServerStop}
-use Rattle.ftl0_uploads.specs.Session.{State, aborting, kind_of_item}
+use Rattle.ftl0_packets.specs.Items.{kind_of_item}
+use Rattle.ftl0_uploads.specs.Session.{State, aborting}
 use Rattle.ftl0_uploads.specs.SessionState.{NoOtherOut}
 use Rattle.ftl0_uploads.specs.Taking.{Answered, AnsweredAlone}
 

@@ -1,9 +1,10 @@
 -- The session of one caller (FTL0 1990, uploading): its states, and its table row by row.
-use Rattle.std.specs.Prelude.{ℕ, ◌+◌, ◌==◌, List, [], ◌∷◌, ◌++◌, length, flat_map, Option, None, Some, Ok, Err}
+use Rattle.std.specs.Prelude.{ℕ, ◌+◌, ◌==◌, List, [], ◌∷◌, ◌++◌, length, Option, None, Some, Ok}
 use Rattle.std.specs.Prelude.{bytes_eq, Bool, true, false, not, ◌&&◌, ◌||◌, if◌then◌else◌}
 use Rattle.px_base.specs.CallSign.{CallSign}
 use Rattle.pfh_items.specs.Faults.{fault_code}
-use Rattle.ftl0_packets.specs.Layout.{Item, PacketValue, data_part, data_end, kind_of, login_resp, packet_text}
+use Rattle.ftl0_packets.specs.Items.{kind_of_item}
+use Rattle.ftl0_packets.specs.Layout.{Item, PacketValue, data_part, data_end, login_resp}
 use Rattle.ftl0_packets.specs.Layout.{ul_ack_resp, ul_error_resp, ul_go_resp, ul_nak_resp, upload_cmd}
 use Rattle.file_entries.specs.Command.{Command, begin, drop_entry, seal, can_begin, has_room, passes}
 use Rattle.file_entries.specs.Command.{last_grow, unfilled_block, whole_grows}
@@ -32,11 +33,6 @@ pub record Row : Type 0 where
   pub state : State
   pub commands : List Command
   pub replies : List PacketValue
-
--- the type of a packet, malformed or not
-abbrev pub kind_of_item : Item → ℕ
-kind_of_item (Ok packet) = kind_of packet
-kind_of_item (Err malformed) = malformed.kind
 
 -- whether packets of this type belong to uploading, on the client's side: DATA, DATA_END and UPLOAD_CMD
 abbrev pub is_upload_kind : ℕ → Bool
@@ -178,7 +174,3 @@ takes_memory item next = false
 -- The reply to the connection (FTL0 1990, LOGIN_RESP): the moment; version 0, and file headers in use.
 abbrev pub greeting : ℕ → PacketValue
 greeting moment = login_resp moment 4
-
--- the texts of packets, one after another
-abbrev pub texts : List PacketValue → List ℕ
-texts packets = flat_map packet_text packets

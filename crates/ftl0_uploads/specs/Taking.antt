@@ -17,8 +17,9 @@ use Rattle.ftl0_uploads.specs.declared.phase.Phase.{Phase}
 use Rattle.ftl0_uploads.specs.declared.stop.ServerStop.{ServerStop}
 use Rattle.ftl0_uploads.specs.declared.stop.ServerStop.TheVariants as stop
 use Rattle.ftl0_uploads.specs.Others.{KeepsOtherCallers}
-use Rattle.ftl0_uploads.specs.Session.{Row, State, command, fault_reply, is_upload_kind, kind_of_item, session_row}
-use Rattle.ftl0_uploads.specs.Session.{takes_memory, texts}
+use Rattle.ftl0_packets.specs.Items.{kind_of_item, texts}
+use Rattle.ftl0_uploads.specs.Session.{Row, State, command, fault_reply, is_upload_kind, session_row}
+use Rattle.ftl0_uploads.specs.Session.{takes_memory}
 use Rattle.ftl0_uploads.specs.SessionState.{NoOtherOut, PhaseIsHeld, SessionState, number_of, state_of}
 
 -- the packet's row over this store, if it is built

@@ -10,7 +10,8 @@ use Rattle.ftl0_packets.specs.Layout.{Item, data_end, data_part, ul_error_resp, 
 use Rattle.file_entries.specs.Command.{Command, after_all}
 use Rattle.file_entries.specs.Store.{Store}
 use Rattle.ftl0_uploads.specs.Events.{Event, packets_in}
-use Rattle.ftl0_uploads.specs.Session.{Row, State, aborting, command, is_upload_kind, kind_of_item, receiving, session_row}
+use Rattle.ftl0_packets.specs.Items.{kind_of_item}
+use Rattle.ftl0_uploads.specs.Session.{Row, State, aborting, command, is_upload_kind, receiving, session_row}
 use Rattle.session_node.specs.Running.{RunsOver}
 use Rattle.pacsat_cli.specs.Sessions.{has_unbuilt, is_unbuilt}
 

@@ -15,7 +15,8 @@ use Rattle.file_journal.specs.Walk.{damaged_at, no_store}
 use Rattle.file_entries.specs.Command.{Command}
 use Rattle.file_entries.specs.Store.{empty_store}
 use Rattle.file_store.specs.State.{standing_of}
-use Rattle.ftl0_uploads.specs.Session.{is_upload_kind, kind_of_item}
+use Rattle.ftl0_packets.specs.Items.{kind_of_item}
+use Rattle.ftl0_uploads.specs.Session.{is_upload_kind}
 use Rattle.session_node.specs.SessionRan.{SessionEnds, SessionRan}
 use Rattle.session_node.specs.Stops.{HasAirCause, RefusesSession}
 use Rattle.session_node.specs.declared.stop.NodeStop.{NodeStop}

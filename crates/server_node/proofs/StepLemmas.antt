@@ -14,7 +14,8 @@ use Rattle.ftl0_packets.specs.Reading.{packets_of}
 use Rattle.file_entries.specs.Command.{after_all}
 use Rattle.file_entries.specs.Store.{Store}
 use Rattle.ftl0_uploads.specs.Run.{on_row}
-use Rattle.ftl0_uploads.specs.Session.{Row, State, kind_of_item, session_row, texts}
+use Rattle.ftl0_packets.specs.Items.{kind_of_item, texts}
+use Rattle.ftl0_uploads.specs.Session.{Row, State, session_row}
 use Rattle.node_events.specs.Events.{NodeEvent, hears, ticks}
 use Rattle.ftl0_connection.specs.Connected.{Connected, caller_of}
 use Rattle.ftl0_connection.specs.Hearing.{hearing_as}

@@ -9,7 +9,8 @@ use Rattle.file_entries.specs.Store.{Store}
 use Rattle.file_store.specs.State.{StoreState, store_in}
 use Rattle.ftl0_uploads.specs.Events.{Event, at_moment}
 use Rattle.ftl0_uploads.specs.Run.{first_unbuilt, replies_to}
-use Rattle.ftl0_uploads.specs.Session.{Row, State, session_row, texts}
+use Rattle.ftl0_packets.specs.Items.{texts}
+use Rattle.ftl0_uploads.specs.Session.{Row, State, session_row}
 use Rattle.session_node.specs.declared.stop.NodeStop.{NodeStop}
 use Rattle.session_node.specs.Laws.{ComesTo}
 use Rattle.session_node.specs.Running.{RunsOn, RunsOver, StopsBehind, StopsOn, StopsOver}

@@ -25,7 +25,8 @@ use Rattle.file_store.specs.OnDisk.{Does}
 use Rattle.file_store.specs.State.{StandsOn, StoreState, store_in}
 use Rattle.ftl0_uploads.specs.declared.stop.ServerStop.{ServerStop}
 use Rattle.ftl0_uploads.specs.declared.stop.ServerStop.TheVariants as session_stop
-use Rattle.ftl0_uploads.specs.Session.{Row, kind_of_item, session_row, takes_memory}
+use Rattle.ftl0_packets.specs.Items.{kind_of_item}
+use Rattle.ftl0_uploads.specs.Session.{Row, session_row, takes_memory}
 use Rattle.ftl0_uploads.specs.SessionState.{SessionState, state_of}
 use Rattle.ftl0_uploads.specs.Taking.{PutsRow, TakesPacket, row_for}
 use Rattle.session_node.specs.declared.server.SessionServer.TheInside.{Inside}

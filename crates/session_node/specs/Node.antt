@@ -16,7 +16,8 @@ use Rattle.file_entries.specs.Command.{Command}
 use Rattle.file_store.specs.OnDisk.{CutsOff, Does}
 use Rattle.file_store.specs.State.{StoreState, store_in}
 use Rattle.ftl0_uploads.specs.Events.{Event, at_moment}
-use Rattle.ftl0_uploads.specs.Session.{Row, State, session_row, texts}
+use Rattle.ftl0_packets.specs.Items.{texts}
+use Rattle.ftl0_uploads.specs.Session.{Row, State, session_row}
 use Rattle.ftl0_uploads.specs.SessionState.{SessionState, state_of}
 use Rattle.session_node.specs.declared.stop.NodeStop.{NodeStop}
 use Rattle.session_node.specs.declared.stop.NodeStop.TheVariants as stop

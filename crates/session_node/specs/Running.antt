@@ -10,7 +10,8 @@ use Rattle.file_entries.specs.Store.{Store}
 use Rattle.file_store.specs.OnDisk.{CutsOff, Does}
 use Rattle.file_store.specs.State.{StoreState, store_in}
 use Rattle.ftl0_uploads.specs.Events.{Event}
-use Rattle.ftl0_uploads.specs.Session.{Row, State, fault_reply, kind_of_item, session_row, takes_memory, texts}
+use Rattle.ftl0_packets.specs.Items.{kind_of_item, texts}
+use Rattle.ftl0_uploads.specs.Session.{Row, State, fault_reply, session_row, takes_memory}
 use Rattle.session_node.specs.declared.stop.NodeStop.{NodeStop}
 use Rattle.session_node.specs.declared.stop.NodeStop.TheVariants as stop
 

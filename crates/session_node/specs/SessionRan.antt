@@ -24,7 +24,8 @@ use Rattle.file_store.specs.State.{StoreState, standing_of, store_in}
 use Rattle.file_store.specs.declared.refusals.StoreFault.{StoreFault}
 use Rattle.ftl0_uploads.specs.Events.{Brings, Event, packets_in}
 use Rattle.ftl0_uploads.specs.Run.{first_unbuilt, replies_to}
-use Rattle.ftl0_uploads.specs.Session.{State, command, greeting, texts}
+use Rattle.ftl0_packets.specs.Items.{texts}
+use Rattle.ftl0_uploads.specs.Session.{State, command, greeting}
 use Rattle.session_node.specs.declared.stop.NodeStop.{NodeStop}
 use Rattle.session_node.specs.declared.stop.NodeStop.TheVariants as stop
 use Rattle.session_node.specs.declared.terms.Served.{Served}

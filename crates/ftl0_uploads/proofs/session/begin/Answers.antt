@@ -5,7 +5,8 @@ use Rattle.std.specs.Prelude.{Ok}
 use Rattle.file_entries.specs.Command.{begin}
 use Rattle.file_store.specs.State.{store_in}
 use Rattle.file_store.specs.Upload.{Upload}
-use Rattle.ftl0_uploads.specs.Session.{command, granted_row, texts}
+use Rattle.ftl0_packets.specs.Items.{texts}
+use Rattle.ftl0_uploads.specs.Session.{command, granted_row}
 use Rattle.ftl0_uploads.specs.SessionState.{NoOtherOut}
 use Rattle.ftl0_uploads.proofs.BeginLemmas.{begin-refused, begun-only, begun-others}
 use Rattle.ftl0_uploads.proofs.DoesLemmas.{does-row, some-at_front, touched}

@@ -5,7 +5,8 @@ use Rattle.file_entries.specs.Store.{Entry, entry_of, octets_of}
 use Rattle.file_entries.proofs.EntriesLemmas.{found-number}
 use Rattle.file_store.specs.State.{store_in}
 use Rattle.file_store.specs.Upload.{Upload}
-use Rattle.ftl0_uploads.specs.Session.{resumed_row, texts}
+use Rattle.ftl0_packets.specs.Items.{texts}
+use Rattle.ftl0_uploads.specs.Session.{resumed_row}
 use Rattle.ftl0_uploads.specs.SessionState.{NoOtherOut}
 use Rattle.ftl0_uploads.proofs.OtherLemmas.{only-own, only-wider, others-kept, touches-same}
 use Rattle.ftl0_uploads.proofs.Rows.{alone-refused, none-at}
