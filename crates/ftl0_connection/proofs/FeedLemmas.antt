@@ -1,6 +1,6 @@
 -- How a connection takes octets, piece by piece.
 use Rattle.std.proofs.Common.{◌≡◌, ℕ, List, [], ◌++◌, refl, ap, sym, ◌∙◌, subst, append_assoc, append-nil}
-use Rattle.std.specs.Prelude.{false, Option, Result, Ok, Err, ⊤}
+use Rattle.std.specs.Prelude.{false, Result, Ok, Err, ⊤}
 use Rattle.px_base.specs.CallSign.{CallSign}
 use Rattle.disk_model.specs.declared.disk.Disk.{Ghosts}
 use Rattle.ax25_link.specs.Ends.{LinkEnd}
@@ -16,6 +16,7 @@ use Rattle.file_store.proofs.DoesLemmas.{Does-none}
 use Rattle.ftl0_uploads.specs.declared.stop.ServerStop.{ServerStop}
 use Rattle.ftl0_uploads.specs.declared.stop.ServerStop.TheVariants as stop
 use Rattle.ftl0_uploads.specs.Others.{KeepsOtherCallers}
+use Rattle.ftl0_uploads.specs.Failures.{Failure}
 use Rattle.ftl0_uploads.specs.Session.{State}
 use Rattle.ftl0_uploads.specs.SessionState.{SessionState, state_of}
 use Rattle.ftl0_connection.specs.declared.fate.Fate.{Fate}
@@ -155,8 +156,8 @@ module _ {D : Type 0} (g : Ghosts D) where
     at-caller w store connection c is peer = sym peer ∙ ap (λ (k : Kept). k.peer) is.link.kept
 
     -- what packets of these octets make of it
-    abbrev octets_at : ℕ → CallSign → Store → State → LinkEnd → List ℕ → Option ℕ → Happened
-    octets_at moment caller store state end all failing = progressed (rest_of all) (taking caller moment store state end (packets_of all) failing)
+    abbrev octets_at : ℕ → CallSign → Store → State → LinkEnd → List ℕ → List Failure → Happened
+    octets_at moment caller store state end all failures = progressed (rest_of all) (taking caller moment store state end (packets_of all) failures 0)
 
     at-connected : (moment : ℕ) (w : Window) (store store_n : StoreState) (disk disk_n : D) (old now : ConnectionState) (c : Connected) (octets : List ℕ) (told : Fate × Result ⊤ ServerStop)
         → IsConnection w store old c → old.link.peer ≡ old.session.caller
@@ -174,7 +175,7 @@ module _ {D : Type 0} (g : Ghosts D) where
           → (w : Window) (c : Connected) → IsConnection w store old c → Hears g w (taking_octets moment (store_in store) c c.end octets) store store_n disk disk_n now told
       hears-stopped told stops feeds w c is =
           let all : List ℕ = old.octets ++ octets in
-          let P : List Item → Type 0 = λ items. Hears g w (λ failing. progressed (rest_of all) (taking old.session.caller moment (store_in store) (state_of store old.session.phase) c.end items failing)) store store_n disk disk_n now told in
+          let P : List Item → Type 0 = λ items. Hears g w (λ failures. progressed (rest_of all) (taking old.session.caller moment (store_in store) (state_of store old.session.phase) c.end items failures 0)) store store_n disk disk_n now told in
           at-connected moment w store store_n disk disk_n old now c octets told is peer
           (subst P (sym feeds.packets)
           (hears-taking g on w (rest_of all) old.session.caller moment (state_of store old.session.phase) c.end (feeds.items ++ packets_of (now.octets ++ left)) store store_n disk disk_n now told
@@ -190,7 +191,7 @@ module _ {D : Type 0} (g : Ghosts D) where
           let packets : packets_of all ≡ feeds.items =
           feeds.packets ∙ ap (λ (o : List ℕ). feeds.items ++ packets_of o) waits ∙ ap (λ (items : List Item). feeds.items ++ items) waiting.none ∙ append-nil feeds.items in
           let rest : rest_of all ≡ now.octets = feeds.rest ∙ ap rest_of waits ∙ waiting.left in
-          let P : List Item → Type 0 = λ items. Hears g w (λ failing. progressed (rest_of all) (taking old.session.caller moment (store_in store) (state_of store old.session.phase) c.end items failing)) store store_n disk disk_n now (Stays, Ok tt) in
+          let P : List Item → Type 0 = λ items. Hears g w (λ failures. progressed (rest_of all) (taking old.session.caller moment (store_in store) (state_of store old.session.phase) c.end items failures 0)) store store_n disk disk_n now (Stays, Ok tt) in
           at-connected moment w store store_n disk disk_n old now c octets (Stays, Ok tt) is peer
           (subst P (sym packets)
           (hears-taking g on w (rest_of all) old.session.caller moment (state_of store old.session.phase) c.end feeds.items store store_n disk disk_n now (Stays, Ok tt)

@@ -1,6 +1,6 @@
 -- How a connection hears a frame.
 use Rattle.std.proofs.Common.{◌≡◌, ℕ, false, true, List, [], ◌++◌, refl, ap, sym, ◌∙◌, subst}
-use Rattle.std.specs.Prelude.{Option, None, Result, Ok, ⊤}
+use Rattle.std.specs.Prelude.{Result, Ok, ⊤}
 use Rattle.px_base.specs.CallSign.{CallSign}
 use Rattle.ax25_frames.specs.FrameText.{FrameValue}
 use Rattle.disk_model.specs.declared.disk.Disk.{Ghosts}
@@ -16,6 +16,7 @@ use Rattle.file_store.proofs.DoesLemmas.{Does-moved, Does-none}
 use Rattle.ftl0_uploads.specs.declared.phase.Phase.{Phase}
 use Rattle.ftl0_uploads.specs.declared.phase.Phase.TheVariants as phase
 use Rattle.ftl0_uploads.specs.declared.stop.ServerStop.{ServerStop}
+use Rattle.ftl0_uploads.specs.Failures.{Failure}
 use Rattle.ftl0_uploads.specs.SessionState.{Parks}
 use Rattle.ftl0_connection.specs.declared.fate.Fate.{Fate}
 use Rattle.ftl0_connection.specs.declared.fate.Fate.TheVariants.{Stays, Ends}
@@ -37,19 +38,19 @@ module _ {D : Type 0} (g : Ghosts D) (lasts : (disk : D) → g.lasts disk disk) 
   does-nothing = Does-moved g ⊥ store store store store_n disk disk [] refl refl same journal (Does-none g ⊥ store disk (λ never. never) stands_on healthy (lasts disk))
 
   -- the session goes on
-  pub hears-on : (event : Option ℕ → Happened) (after : Connected) → event None ≡ quietly after false → IsConnection w store_n connection after
+  pub hears-on : (event : List Failure → Happened) (after : Connected) → event [] ≡ quietly after false → IsConnection w store_n connection after
       → Hears g w event store store_n disk disk connection (Stays, Ok tt)
   hears-on event after is stands =
       let P : Happened → Type 0 = λ h. (h.halt ≡ (quietly after false).halt) × ((h.over ≡ false) × IsConnection w store_n connection h.after) × Does g ⊥ store store_n disk disk h.done in
-      let by : P (event None) = subst P (sym is) (refl, (refl, stands), does-nothing) in
+      let by : P (event []) = subst P (sym is) (refl, (refl, stands), does-nothing) in
       record { by = by; since = by.2.since }
 
   -- the session is over
-  pub hears-over : (event : Option ℕ → Happened) (after : Connected) → event None ≡ quietly after true → StandsFor w connection.link after.end
+  pub hears-over : (event : List Failure → Happened) (after : Connected) → event [] ≡ quietly after true → StandsFor w connection.link after.end
       → Hears g w event store store_n disk disk connection (Ends, Ok tt)
   hears-over event after is stands =
       let P : Happened → Type 0 = λ h. (h.halt ≡ (quietly after true).halt) × ((h.over ≡ true) × StandsFor w connection.link h.after.end) × Does g ⊥ store store_n disk disk h.done in
-      let by : P (event None) = subst P (sym is) (refl, (refl, stands), does-nothing) in
+      let by : P (event []) = subst P (sym is) (refl, (refl, stands), does-nothing) in
       record { by = by; since = by.2.since }
 
 module _ {D : Type 0} (g : Ghosts D) (w : Window) (moment : ℕ) (frame : FrameValue) (store store_n : StoreState) (disk disk_n : D) (old now : ConnectionState) (told : Heard)
@@ -68,7 +69,7 @@ module _ {D : Type 0} (g : Ghosts D) (w : Window) (moment : ℕ) (frame : FrameV
       → Hears g w (taking_octets moment (store_in store) c end information) store store_n disk disk_n now result
   hears-bytes c end octets information peer same h =
       let P : CallSign → List ℕ → Type 0 =
-      λ caller o. Hears g w (λ failing. progressed (rest_of (c.rest ++ o)) (taking caller moment (store_in store) c.state end (packets_of (c.rest ++ o)) failing)) store store_n disk disk_n now result in
+      λ caller o. Hears g w (λ failures. progressed (rest_of (c.rest ++ o)) (taking caller moment (store_in store) c.state end (packets_of (c.rest ++ o)) failures 0)) store store_n disk disk_n now result in
       subst (P c.end.peer) same (subst (λ (caller : CallSign). P caller octets) peer h)
 
 -- the peer of an end is that of the link that stands for it

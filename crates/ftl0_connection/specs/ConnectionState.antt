@@ -1,5 +1,5 @@
 -- A connection as contracts see it, which of the definitions' it stands for, and what its calls do.
-use Rattle.std.specs.Prelude.{◌≡◌, ℕ, List, [], Bool, true, false, Option, None, Some, Result, Ok, Err, ⊤}
+use Rattle.std.specs.Prelude.{◌≡◌, ℕ, List, [], Bool, true, false, Result, Ok, Err, ⊤}
 use Rattle.px_base.specs.Octets.{IsOctets}
 use Rattle.disk_model.specs.declared.disk.Disk.{Ghosts}
 use Rattle.ax25_link.specs.Ends.{LinkEnd}
@@ -13,6 +13,7 @@ use Rattle.file_store.specs.OnDisk.{CutsOff, Does, MakesFirst}
 use Rattle.file_store.specs.State.{StoreState, store_in}
 use Rattle.ftl0_uploads.specs.declared.stop.ServerStop.{ServerStop}
 use Rattle.ftl0_uploads.specs.declared.stop.ServerStop.TheVariants as stop
+use Rattle.ftl0_uploads.specs.Failures.{Failure, failed_write}
 use Rattle.ftl0_uploads.specs.Session.{State}
 use Rattle.ftl0_uploads.specs.SessionState.{SessionState, state_of}
 use Rattle.ftl0_connection.specs.declared.fate.Fate.{Fate}
@@ -51,39 +52,39 @@ StandsAfter w store connection happened Stays =
 StandsAfter w store connection happened Ends =
     (happened.over ≡ true) × StandsFor w connection.link happened.after.end
 
--- What a frame that is heard does, where `event` gives what it makes of the connection once it is known at which packet
--- the disk fails, if it fails at one. Where all was taken its commands are done. Where the disk failed, at some packet,
--- the commands before it are done, and it failed in one of that packet's; the replies before it and code 3 are left to be
--- sent. Where a row isn't built the commands before are done, and where there was no memory for some packet, those of the
--- packets before it: the packet's own commands aren't begun then.
+-- What a frame that is heard does, where `event` gives what it makes of the connection by the event's failures. Where
+-- all was taken nothing failed, and its commands are done. Where the disk failed, at a write or a sync of some packet
+-- and nowhere else, the commands before it are done, and it failed in one of that packet's; the replies before it and
+-- code 3 are left to be sent. Where a row isn't built the commands before are done, and where there was no memory for
+-- some packet, those of the packets before it: the packet's own commands aren't begun then.
 abbrev pub HearsBy :
-    {D : Type 0} → Ghosts D → Window → (Option ℕ → Happened) → StoreState → StoreState → D → D → ConnectionState → Fate
-    → Result ⊤ ServerStop → Type 0
+    {D : Type 0} → Ghosts D → Window → (List Failure → Happened) → StoreState → StoreState → D → D → ConnectionState
+    → Fate → Result ⊤ ServerStop → Type 0
 HearsBy g w event store store_now disk disk_now connection fate (Ok done) =
-    ((event None).halt ≡ goes_on) × StandsAfter w store_now connection (event None) fate
-    × Does g ⊥ store store_now disk disk_now (event None).done
+    ((event []).halt ≡ goes_on) × StandsAfter w store_now connection (event []) fate
+    × Does g ⊥ store store_now disk disk_now (event []).done
 HearsBy g w event store store_now disk disk_now connection fate (Err stop.Disk) =
-    (part : ℕ) × ((event (Some part)).halt ≡ fails) × StandsAfter w store_now connection (event (Some part)) fate
-    × CutsOff g ⊤ store store_now disk disk_now (event (Some part)).done (event (Some part)).cut
+    (part : ℕ) × ((event (failed_write part)).halt ≡ fails)
+    × StandsAfter w store_now connection (event (failed_write part)) fate
+    × CutsOff g ⊤ store store_now disk disk_now (event (failed_write part)).done (event (failed_write part)).cut
 HearsBy g w event store store_now disk disk_now connection fate (Err (stop.NotBuilt kind)) =
-    ((event None).halt ≡ unbuilt kind) × (fate ≡ Stays)
-    × Does g ⊥ store store_now disk disk_now (event None).done
+    ((event []).halt ≡ unbuilt kind) × (fate ≡ Stays)
+    × Does g ⊥ store store_now disk disk_now (event []).done
 HearsBy g w event store store_now disk disk_now connection fate (Err stop.OutOfMemory) =
-    (part : ℕ) × ((event (Some part)).halt ≡ fails) × (fate ≡ Stays)
-    × Does g ⊥ store store_now disk disk_now (event (Some part)).done
+    (part : ℕ) × ((event (failed_write part)).halt ≡ fails) × (fate ≡ Stays)
+    × Does g ⊥ store store_now disk disk_now (event (failed_write part)).done
 
--- A frame was heard, of which this is what it makes of the connection. Since it came each image stands for the store after
--- the first of the commands that it has where nothing fails, for some number of them.
-pub record Hears {D : Type 0} (g : Ghosts D) (w : Window) (event : Option ℕ → Happened) (store store_now : StoreState)
-    (disk disk_now : D) (connection : ConnectionState) (heard : Fate × Result ⊤ ServerStop) : Type 0 where
+-- A frame was heard, of which this is what it makes of the connection. Since it came each image stands for the store
+-- after the first of the commands that it has where nothing fails, for some number of them.
+pub record Hears {D : Type 0} (g : Ghosts D) (w : Window) (event : List Failure → Happened)
+    (store store_now : StoreState) (disk disk_now : D) (connection : ConnectionState) (heard : Fate × Result ⊤ ServerStop) : Type 0 where
   pub by : HearsBy g w event store store_now disk disk_now connection heard.0 heard.1
-  pub since : Leaves g disk disk_now (λ _. MakesFirst (store_in store) (event None).done)
+  pub since : Leaves g disk disk_now (λ _. MakesFirst (store_in store) (event []).done)
 
--- what these packets make of a connection with this session, once it is known at which of them the disk fails, if it fails
--- at one
-abbrev pub taking_some : ℕ → SessionState → State → Store → LinkEnd → List Item → Option ℕ → Happened
-taking_some moment session state store end items failing =
-    progressed [] (taking session.caller moment store state end items failing)
+-- what these packets, the parts of an event from 0 on, make of a connection with this session, by the event's failures
+abbrev pub taking_some : ℕ → SessionState → State → Store → LinkEnd → List Item → List Failure → Happened
+taking_some moment session state store end items failures =
+    progressed [] (taking session.caller moment store state end items failures 0)
 
 -- the connection of this link and session, with no octets left
 abbrev pub with_nothing_left : Kept → SessionState → ConnectionState

@@ -1,11 +1,12 @@
 -- What the packets of a frame make of a connection, one after another.
-use Rattle.std.specs.Prelude.{ℕ, zero, suc, List, [], ◌∷◌, ◌++◌, length, Bool, true, false, nat_le, if◌then◌else◌, Option, None, Some}
+use Rattle.std.specs.Prelude.{ℕ, suc, List, [], ◌∷◌, ◌++◌, length, Bool, true, false, nat_le, if◌then◌else◌}
 use Rattle.px_base.specs.CallSign.{CallSign}
 use Rattle.ax25_link.specs.Calls.{after_abandon, after_push}
 use Rattle.ax25_link.specs.Ends.{LinkEnd, free_octets}
 use Rattle.ftl0_packets.specs.Layout.{Item}
 use Rattle.file_entries.specs.Command.{Command, after_all}
 use Rattle.file_entries.specs.Store.{Store}
+use Rattle.ftl0_uploads.specs.Failures.{Failure, write_fails}
 use Rattle.ftl0_uploads.specs.Run.{on_row}
 use Rattle.ftl0_packets.specs.Items.{kind_of_item, texts}
 use Rattle.ftl0_uploads.specs.Session.{Row, State, command, fault_reply, session_row}
@@ -18,8 +19,8 @@ fits end text = nat_le (length text) (free_octets end)
 abbrev pub replied : LinkEnd → List ℕ → LinkEnd
 replied end text = if fits end text then after_push end text else after_abandon end
 
--- Why no more is taken: all was, or the session is over; the disk failed in a packet's commands, and the server stops; or
--- the row of a packet of this type isn't built yet.
+-- Why no more is taken: all was, or the session is over; the disk failed in a packet's commands, and the server stops;
+-- or the row of a packet of this type isn't built yet.
 pub data Halt : Type 0 where
   goes_on : Halt
   fails : Halt
@@ -43,8 +44,7 @@ resting end state = record { end = end; state = state; over = false; done = []; 
 abbrev pub after_doing : List Command → Progress → Progress
 after_doing commands progress = record progress { done = commands ++ progress.done }
 
--- The disk fails at this packet's commands, if it is to fail at the first of the packets that are left: code 3 is
--- replied, the session is over, and the server stops.
+-- The disk fails at this packet's commands: code 3 is replied, the session is over, and the server stops.
 abbrev pub failing_at : LinkEnd → State → Row → Progress
 failing_at end state row =
     record {
@@ -72,28 +72,17 @@ giving_up end row =
 abbrev pub unbuilt_at : LinkEnd → State → ℕ → Progress
 unbuilt_at end state kind = record (resting end state) { halt = unbuilt kind }
 
--- whether the first of the packets that are left is the one at which the disk fails, where it fails at one: so many go
--- before it
-abbrev pub fails_first : Option ℕ → Bool
-fails_first None = false
-fails_first (Some zero) = true
-fails_first (Some (suc before)) = false
-
--- the same for the packets behind the first
-abbrev pub fails_later : Option ℕ → Option ℕ
-fails_later None = None
-fails_later (Some zero) = None
-fails_later (Some (suc before)) = Some before
-
--- The packets are taken one after another, each by its row of the session's table, all at this moment, up to one at whose
--- replies the link is given up, one at which the disk fails, if it fails at one, or one whose row isn't built.
-abbrev pub taking : CallSign → ℕ → Store → State → LinkEnd → List Item → Option ℕ → Progress
-taking caller moment store state end [] failing = resting end state
-taking caller moment store state end (item ∷ items) failing =
+-- The packets are taken one after another, each by its row of the session's table, all at this moment, up to one at
+-- whose replies the link is given up, one for which these failures list a write or a sync, or one whose row isn't
+-- built. The first of them is the event's part of this number, and each other one the next part. No row reads the disk
+-- yet, so a read that failed changes nothing.
+abbrev pub taking : CallSign → ℕ → Store → State → LinkEnd → List Item → List Failure → ℕ → Progress
+taking caller moment store state end [] failures part = resting end state
+taking caller moment store state end (item ∷ items) failures part =
     on_row (session_row caller moment store state item) (unbuilt_at end state (kind_of_item item))
-    (λ row. if fails_first failing then failing_at end state row
+    (λ row. if write_fails failures part then failing_at end state row
     else if fits end (texts row.replies)
     then after_doing row.commands
     (taking caller moment (after_all store row.commands) row.state (after_push end (texts row.replies)) items
-    (fails_later failing))
+    failures (suc part))
     else giving_up end row)

@@ -1,6 +1,5 @@
 -- Each server comes to send nothing, by one list of frames.
 use Rattle.std.proofs.Common.{◌≡◌, ◌⊎◌, ℕ, zero, suc, ◌+◌, ◌<◌, ◌≤◌, List, [], ◌∷◌, Option, None, Some, refl, sym, ◌∙◌, ap, subst, inl, inr, arith}
-use Rattle.std.specs.Prelude.{slice_get, ⊤}
 use Rattle.std.specs.Option.{option_map}
 use Rattle.std.proofs.lemmas.Option.{same_Some}
 use Rattle.ax25_frames.specs.FrameText.{FrameValue}
@@ -14,7 +13,7 @@ use Rattle.ftl0_connection.specs.Hearing.{with_end}
 use Rattle.ftl0_server.specs.AtPlace.{AllFit, PlaceFits}
 use Rattle.ftl0_server.specs.declared.place.Place.{Place}
 use Rattle.ftl0_server.specs.declared.place.Place.TheVariants.{Free, Talking, Leaving}
-use Rattle.ftl0_server.specs.Laws.{OneStepLaw}
+use Rattle.ftl0_server.specs.Laws.{OneStepLaw, SlotFits, SlotsFit}
 use Rattle.ftl0_server.specs.Server.{Refused, Server, ServerSends, sends_by, sends_of_places, server_next, settled}
 use Rattle.ftl0_server.specs.ServerState.{AllPlaces, SendsAs, SendsFor, ServerState}
 use Rattle.ftl0_server.specs.ServerStep.{Empties}
@@ -35,7 +34,7 @@ one_way server (f ∷ frames) (e ∷ others) last another h g =
     ((let both : f ∷ frames ≡ e ∷ others = ap (λ (x : FrameValue). x ∷ frames) first ∙ ap (λ (l : List FrameValue). e ∷ l) rest.0 in both), rest.1)
 
 pub one_step : OneStepLaw
-one_step old event failing done those_done cut those_cut halt that_halt frames those new that step other =
+one_step old event failures done those_done cut those_cut halt that_halt frames those new that step other =
     let same = one_way _ frames those step.last other.last step.sent other.sent in
     record {
       commands = step.done_is ∙ sym other.done_is;
@@ -48,15 +47,6 @@ one_step old event failing done those_done cut those_cut halt that_halt frames t
 -- ---- fewer frames are left
 
 module _ (w : Window) where
-  abbrev SlotFits : Slot → Type 0
-  SlotFits free = ⊤
-  SlotFits (connected c) = IsEnd w c.end
-  SlotFits (leaving end) = IsEnd w end
-
-  abbrev SlotsFit : List Slot → Type 0
-  SlotsFit [] = ⊤
-  SlotsFit (s ∷ ss) = SlotFits s × SlotsFit ss
-
   abbrev slot_left : Slot → ℕ
   slot_left free = 0
   slot_left (connected c) = left_to_send c.end
@@ -68,7 +58,7 @@ module _ (w : Window) where
 
   -- what a slot that has sent is
   abbrev SlotLess : ℕ → SlotSends → Type 0
-  SlotLess left x = SlotFits x.after × (slot_left x.after < left)
+  SlotLess left x = SlotFits w x.after × (slot_left x.after < left)
 
   connected-less : (c : Connected) (o : Option Sending) → next_sending w c.end ≡ o → IsEnd w c.end → (x : SlotSends)
       → option_map (slot_sends (λ end. connected (with_end c end))) o ≡ Some x → SlotLess (left_to_send c.end) x
@@ -84,16 +74,16 @@ module _ (w : Window) where
       let s = next_sending-Sends w end sending fits is in
       subst (λ (y : SlotSends). SlotLess (left_to_send end) y) (same_Some (slot_sends leaving sending) x sends) (s.fits, s.less)
 
-  slot-less : (s : Slot) → SlotFits s → (x : SlotSends) → slot_next w s ≡ Some x → SlotLess (slot_left s) x
+  slot-less : (s : Slot) → SlotFits w s → (x : SlotSends) → slot_next w s ≡ Some x → SlotLess (slot_left s) x
   slot-less free fits x sends = absurd (never x sends)
   slot-less (connected c) fits x sends = connected-less c (next_sending w c.end) refl fits x sends
   slot-less (leaving end) fits x sends = leaving-less end (next_sending w end) refl fits x sends
 
   abbrev PlacesLess : ℕ → PlacesSend → Type 0
-  PlacesLess left y = SlotsFit y.after × (slots_left y.after < left)
+  PlacesLess left y = SlotsFit w y.after × (slots_left y.after < left)
 
   first-less : (s : Slot) (ss : List Slot) (o : Option SlotSends) (l : Option PlacesSend) → ((x : SlotSends) → o ≡ Some x → SlotLess (slot_left s) x)
-      → ((y : PlacesSend) → l ≡ Some y → PlacesLess (slots_left ss) y) → SlotFits s → SlotsFit ss → (z : PlacesSend) → first_of s ss o l ≡ Some z
+      → ((y : PlacesSend) → l ≡ Some y → PlacesLess (slots_left ss) y) → SlotFits w s → SlotsFit w ss → (z : PlacesSend) → first_of s ss o l ≡ Some z
       → PlacesLess (slot_left s + slots_left ss) z
   first-less s ss None None first later fits all z sends = absurd (never z sends)
   first-less s ss None (Some y) first later fits all z sends =
@@ -105,12 +95,12 @@ module _ (w : Window) where
       let less : slot_left x.after < slot_left s = of.1 in
       subst (λ (v : PlacesSend). PlacesLess (slot_left s + slots_left ss) v) (same_Some _ z sends) ((of.0, all), omega (arith, less))
 
-  places-less : (slots : List Slot) → SlotsFit slots → (z : PlacesSend) → places_next w slots ≡ Some z → PlacesLess (slots_left slots) z
+  places-less : (slots : List Slot) → SlotsFit w slots → (z : PlacesSend) → places_next w slots ≡ Some z → PlacesLess (slots_left slots) z
   places-less [] fits z sends = absurd (never z sends)
   places-less (s ∷ ss) fits z sends =
       first-less s ss (slot_next w s) (places_next w ss) (slot-less s fits.0) (places-less ss fits.1) fits.0 fits.1 z sends
 
-  slot-fits : (p : Place) (s : Slot) → PlaceFits p → SendsAs w p s → SlotFits s
+  slot-fits : (p : Place) (s : Slot) → PlaceFits p → SendsAs w p s → SlotFits w s
   slot-fits Free free fit sends = tt
   slot-fits Free (connected c) fit sends = absurd sends
   slot-fits Free (leaving end) fit sends = absurd sends
@@ -121,17 +111,17 @@ module _ (w : Window) where
   slot-fits (Leaving link) (connected c) fit sends = absurd sends
   slot-fits (Leaving link) (leaving end) fit sends = fit w end sends
 
-  slots-fit : (places : List Place) (slots : List Slot) → AllFit places → AllPlaces (SendsAs w) places slots → SlotsFit slots
+  slots-fit : (places : List Place) (slots : List Slot) → AllFit places → AllPlaces (SendsAs w) places slots → SlotsFit w slots
   slots-fit [] [] fit all = tt
   slots-fit [] (s ∷ ss) fit all = absurd all
   slots-fit (p ∷ ps) [] fit all = absurd all
   slots-fit (p ∷ ps) (s ∷ ss) fit all = (slot-fits p s (fit 0 p refl) all.0, slots-fit ps ss (λ i here at. fit (suc i) here at) all.1)
 
 -- how many are left of a server
-abbrev server_left : Server → ℕ
+abbrev pub server_left : Server → ℕ
 server_left server = count_of server.stray + slots_left server.window server.slots
 
-abbrev ServerLess : ℕ → ServerSends → Type 0
+abbrev pub ServerLess : ℕ → ServerSends → Type 0
 ServerLess left sends = SlotsFit sends.after.window sends.after.slots × (server_left sends.after < left)
 
 by_places : (server : Server) (o : Option PlacesSend) → places_next server.window server.slots ≡ o → server.stray ≡ None
@@ -142,7 +132,7 @@ by_places server (Some z) is none fits sends gives =
     let less : slots_left server.window z.after < slots_left server.window server.slots = of.1 in
     subst (λ (v : ServerSends). ServerLess (server_left server) v) (same_Some _ sends gives) (of.0, omega (arith, less))
 
-by_stray : (server : Server) (o : Option Refused) → server.stray ≡ o → SlotsFit server.window server.slots → (sends : ServerSends)
+pub by_stray : (server : Server) (o : Option Refused) → server.stray ≡ o → SlotsFit server.window server.slots → (sends : ServerSends)
     → sends_by server o ≡ Some sends → ServerLess (server_left server) sends
 by_stray server None is fits sends gives = by_places server (places_next server.window server.slots) refl is fits sends gives
 by_stray server (Some refused) is fits sends gives =
@@ -153,7 +143,7 @@ option_cases : {X : Type 0} (o : Option X) → (o ≡ None) ⊎ ((x : X) × (o �
 option_cases None = inl refl
 option_cases (Some x) = inr (x, refl)
 
-emptied : (fuel : ℕ) (server : Server) → SlotsFit server.window server.slots → server_left server ≤ fuel
+pub emptied : (fuel : ℕ) (server : Server) → SlotsFit server.window server.slots → server_left server ≤ fuel
     → (frames : List FrameValue) × (last : Server) × Empties server frames last
 emptied zero server fits few =
     elim (option_cases (server_next server)) [

@@ -1,13 +1,12 @@
 -- Ending places one after another.
-use Rattle.std.proofs.Common.{◌≡◌, ◌≢◌, ℕ, zero, suc, ◌<◌, List, [], ◌∷◌, length, get_or, drop, set, Option, None, Some, refl, sym, ◌∙◌, ap, subst, arith}
-use Rattle.std.specs.Prelude.{slice_get}
+use Rattle.std.proofs.Common.{◌≡◌, ◌≢◌, ℕ, zero, suc, ◌<◌, List, [], ◌∷◌, length, get_or, drop, refl, sym, subst, arith}
 use Rattle.file_store.specs.State.{StoreState}
 use Rattle.ftl0_uploads.specs.SessionState.{IsHeld}
 use Rattle.ftl0_connection.specs.ConnectionState.{ConnectionState}
 use Rattle.ftl0_server.specs.AtPlace.{HasEnded, MayAllEnd, MayEnd}
 use Rattle.ftl0_server.specs.declared.place.Place.{Place}
 use Rattle.ftl0_server.specs.declared.place.Place.TheVariants.{Free, Talking, Leaving}
-use Rattle.ftl0_server.specs.Kept.{AreDistinct, IsAt, IsSettled}
+use Rattle.ftl0_server.specs.Kept.{AreDistinct, IsAt}
 use Rattle.ftl0_server.proofs.SettledLemmas.{held-kept}
 
 -- the place at this index may be ended

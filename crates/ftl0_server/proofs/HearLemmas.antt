@@ -1,5 +1,5 @@
 -- What a frame makes of a server, by what it makes of one place.
-use Rattle.std.proofs.Common.{◌≡◌, ◌≢◌, ℕ, zero, suc, ◌<◌, List, [], ◌∷◌, length, get_or, set, Bool, true, false, Option, None, Some, refl, sym, ◌∙◌, ap, subst, inl, inr}
+use Rattle.std.proofs.Common.{◌≡◌, ℕ, zero, suc, ◌<◌, List, [], ◌∷◌, length, get_or, set, Bool, true, false, Option, None, Some, refl, sym, ◌∙◌, ap, subst, inl, inr}
 use Rattle.std.specs.Prelude.{slice_get, ⊤, Result, Ok, Err}
 use Rattle.std.specs.List.{position}
 use Rattle.std.proofs.lemmas.List.Quantifiers.{position-Some}
@@ -8,14 +8,15 @@ use Rattle.px_base.specs.CallSign.{CallSign}
 use Rattle.disk_model.specs.declared.disk.Disk.{Ghosts}
 use Rattle.ax25_frames.specs.FrameText.{FrameValue}
 use Rattle.ax25_frames.specs.Kinds.{FitsControl}
-use Rattle.ax25_link.specs.Kept.{IsFromPeer, Kept, is_pending}
+use Rattle.ax25_link.specs.Kept.{Kept, is_pending}
 use Rattle.ax25_link.specs.Window.{Window, window_of}
-use Rattle.file_entries.specs.Command.{Command, after_all}
+use Rattle.file_entries.specs.Command.{after_all}
 use Rattle.file_entries.specs.Store.{Store}
 use Rattle.file_journal.specs.Calls.{Leaves}
 use Rattle.file_store.specs.OnDisk.{Does, MakesFirst}
 use Rattle.file_store.specs.State.{StandsOn, StoreState, store_in}
 use Rattle.file_store.proofs.DoesLemmas.{Does-none}
+use Rattle.ftl0_uploads.specs.Failures.{Failure, failed_write}
 use Rattle.ftl0_uploads.specs.Session.{is_same_call}
 use Rattle.ftl0_uploads.specs.declared.stop.ServerStop.{ServerStop}
 use Rattle.ftl0_uploads.specs.declared.stop.ServerStop.TheVariants as stop
@@ -29,7 +30,7 @@ use Rattle.ftl0_server.specs.Calls.{Hears, HearsBy, HearsStranger}
 use Rattle.ftl0_server.specs.declared.place.Place.{Place}
 use Rattle.ftl0_server.specs.declared.place.Place.TheVariants.{Free, Talking, Leaving}
 use Rattle.ftl0_server.specs.Kept.{IsAt, IsSettled}
-use Rattle.ftl0_server.specs.Server.{Server, ServerHappened, becoming, heard_at, hearing_at, hearing_by, hearing_stranger, server_hearing}
+use Rattle.ftl0_server.specs.Server.{Server, becoming, heard_at, hearing_at, hearing_by, hearing_stranger, server_hearing}
 use Rattle.ftl0_server.specs.ServerState.{AllPlaces, IsServer, SaysAs, SendsAs, SendsFor, ServerState, any_pending, has_caller, is_empty_place, place_pending}
 use Rattle.ftl0_server.specs.Slots.{Slot, connected, first_empty, free, is_callers, is_empty, leaving, place_of, slot_after}
 use Rattle.ftl0_server.proofs.AllPlaces.{all-both, all-get, all-set, all-to, never, same-position}
@@ -175,19 +176,19 @@ module _ {D : Type 0} (g : Ghosts D) (old new : ServerState) (server : Server) (
         store = same;
       }
 
-  module _ (event : Option ℕ → Happened) where
+  module _ (event : List Failure → Happened) where
     heard-by : (result : Result ⊤ ServerStop) → PlaceHears g server.window event old.store new.store disk disk_now p result
-        → HearsBy g (λ failing. heard_at server place (event failing)) old new disk disk_now result
+        → HearsBy g (λ failures. heard_at server place (event failures)) old new disk disk_now result
     heard-by (Ok done) by = (
       by.0,
-      now-is (slot_after (event None)) (after_all server.store (event None).done) by.1
-          ((by.2.done (λ never. never)).0 ∙ ap (λ (s : Store). after_all s (event None).done) is.store),
+      now-is (slot_after (event [])) (after_all server.store (event []).done) by.1
+          ((by.2.done (λ never. never)).0 ∙ ap (λ (s : Store). after_all s (event []).done) is.store),
       by.2,
     )
     heard-by (Err stop.Disk) by = (
       by.0,
       by.1,
-      now-sends (slot_after (event (Some by.0))) (after_all server.store (event (Some by.0)).done) by.2,
+      now-sends (slot_after (event (failed_write by.0))) (after_all server.store (event (failed_write by.0)).done) by.2,
       by.3,
     )
     heard-by (Err (stop.NotBuilt kind)) by = by
@@ -204,18 +205,18 @@ module _ {D : Type 0} (g : Ghosts D) (old new : ServerState) (server : Server) (
       → ((w : Window) (d : Connected) → IsPlace w old.store (Talking c) (connected d)
       → PlaceHears g w (hearing w moment (store_in old.store) d frame) old.store new.store disk disk_now p result)
       → ((w : Window) (d : Connected) → IsPlace w old.store (Talking c) (connected d)
-      → Leaves g disk disk_now (λ _. MakesFirst (store_in old.store) (hearing w moment (store_in old.store) d frame None).done))
+      → Leaves g disk disk_now (λ _. MakesFirst (store_in old.store) (hearing w moment (store_in old.store) d frame []).done))
       → Hears g (server_hearing server frame moment) old new disk disk_now result
   server-hears result hears since =
       let slot = slot_is in
-      let by : Hears g (λ failing. heard_at server place (hearing server.window moment (store_in old.store) slot.0 frame failing)) old new disk disk_now result =
+      let by : Hears g (λ failures. heard_at server place (hearing server.window moment (store_in old.store) slot.0 frame failures)) old new disk disk_now result =
       record {
         by = heard-by (hearing server.window moment (store_in old.store) slot.0 frame) result (hears server.window slot.0 slot.2);
         since = since server.window slot.0 slot.2;
       } in
-      let over = subst (λ (s : Store). Hears g (λ failing. heard_at server place (hearing server.window moment s slot.0 frame failing)) old new disk disk_now result) is.store by in
-      let at_slot = subst (λ (o : Option Slot). Hears g (λ failing. hearing_at server frame moment failing place o) old new disk disk_now result) (sym slot.1) over in
-      subst (λ (o : Option ℕ). Hears g (λ failing. hearing_by server frame moment failing o) old new disk disk_now result)
+      let over = subst (λ (s : Store). Hears g (λ failures. heard_at server place (hearing server.window moment s slot.0 frame failures)) old new disk disk_now result) is.store by in
+      let at_slot = subst (λ (o : Option Slot). Hears g (λ failures. hearing_at server frame moment failures place o) old new disk disk_now result) (sym slot.1) over in
+      subst (λ (o : Option ℕ). Hears g (λ failures. hearing_by server frame moment failures o) old new disk disk_now result)
       (sym found ∙ same-place_of old server is old.me old.k settled frame.src) at_slot
 
 -- ---- a frame of a station without a connection
@@ -229,7 +230,7 @@ module _ {D : Type 0} (g : Ghosts D) (old new : ServerState) (server : Server) (
       subst (λ (s : StoreState). Does g ⊥ old.store s disk disk []) (sym same) (Does-none g ⊥ old.store disk (λ never. never) stands healthy lasts)
 
   stranger-by : (result : Result ⊤ ServerStop) → HearsStranger (λ s. hearing_stranger s frame moment) old new result
-      → HearsBy g (λ failing. becoming (hearing_stranger server frame moment)) old new disk disk result
+      → HearsBy g (λ failures. becoming (hearing_stranger server frame moment)) old new disk disk result
   stranger-by (Ok done) heard = (refl, heard server is, nothing-done)
   stranger-by (Err stop.Disk) heard = absurd heard
   stranger-by (Err (stop.NotBuilt kind)) heard = absurd heard
@@ -238,9 +239,9 @@ module _ {D : Type 0} (g : Ghosts D) (old new : ServerState) (server : Server) (
   pub stranger-hears : (result : Result ⊤ ServerStop) → HearsStranger (λ s. hearing_stranger s frame moment) old new result
       → Hears g (server_hearing server frame moment) old new disk disk result
   stranger-hears result heard =
-      let by : Hears g (λ failing. becoming (hearing_stranger server frame moment)) old new disk disk result =
+      let by : Hears g (λ failures. becoming (hearing_stranger server frame moment)) old new disk disk result =
       record { by = stranger-by result heard; since = nothing-done.since } in
-      subst (λ (o : Option ℕ). Hears g (λ failing. hearing_by server frame moment failing o) old new disk disk result)
+      subst (λ (o : Option ℕ). Hears g (λ failures. hearing_by server frame moment failures o) old new disk disk result)
       (sym found ∙ same-place_of old server is old.me old.k settled frame.src) by
 
 -- what a frame of a station without a connection makes of a server, said otherwise

@@ -1,6 +1,7 @@
 pub mod AllPlaces
 pub mod EmptiesLemmas
 pub mod EndLemmas
+pub mod FitsLemmas
 pub mod HearLemmas
 pub mod NextLemmas
 pub mod OutLemmas

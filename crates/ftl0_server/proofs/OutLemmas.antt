@@ -1,11 +1,10 @@
 -- Frames are given out, and then nothing is pending.
 use Rattle.std.proofs.Common.{◌≡◌, ℕ, zero, suc, List, [], ◌∷◌, map, Bool, true, false, Option, None, Some, refl, sym, ◌∙◌, ap, subst}
-use Rattle.std.specs.Prelude.{slice_get, ⊤}
+use Rattle.std.specs.Prelude.{⊤}
 use Rattle.std.specs.Option.{option_map}
 use Rattle.std.proofs.lemmas.Option.{same_Some}
 use Rattle.px_base.specs.CallSign.{CallSign}
-use Rattle.ax25_frames.specs.FrameText.{FrameText, FrameValue, canonical}
-use Rattle.ax25_link.specs.Kept.{Kept}
+use Rattle.ax25_frames.specs.FrameText.{FrameText, canonical}
 use Rattle.ax25_link.specs.Sending.{Sending, next_sending}
 use Rattle.ax25_link.specs.Window.{Window, window_of}
 use Rattle.file_store.specs.State.{StoreState, store_in}
@@ -16,12 +15,12 @@ use Rattle.ftl0_connection.specs.Hearing.{with_end}
 use Rattle.ftl0_server.specs.declared.place.Place.{Place}
 use Rattle.ftl0_server.specs.declared.place.Place.TheVariants.{Free, Talking, Leaving}
 use Rattle.ftl0_server.specs.Calls.{HandsOut, SamePlaces}
-use Rattle.ftl0_server.specs.Kept.{IsAt, IsSeated, IsSettled, IsUploadOf}
+use Rattle.ftl0_server.specs.Kept.{IsAt, IsSettled}
 use Rattle.ftl0_server.specs.Places.{PlacesGive, SamePlace, SameTalk}
 use Rattle.ftl0_server.specs.Server.{Refused, Server, refusal_frame, sends_by, sends_of_places, server_next, settled}
 use Rattle.ftl0_server.specs.ServerState.{AllPlaces, IsServer, SaysAs, SendsAs, SendsFor, ServerState, any_pending, place_pending}
 use Rattle.ftl0_server.specs.Slots.{PlacesSend, Slot, SlotSends, connected, first_of, free, freed, leaving, places_next, slot_next, slot_sends}
-use Rattle.ftl0_server.proofs.AllPlaces.{all-map, never}
+use Rattle.ftl0_server.proofs.AllPlaces.{never}
 use Rattle.ftl0_server.proofs.NextLemmas.{none_first}
 
 -- the DM to a station without a connection goes out

@@ -1,5 +1,5 @@
 -- What an event at one place leaves.
-use Rattle.std.proofs.Common.{◌≡◌, ◌≢◌, ℕ, Bool, true, false, Option, None, Some, refl, sym, ◌∙◌, ap, subst}
+use Rattle.std.proofs.Common.{◌≡◌, List, [], Bool, true, None, refl, sym, ◌∙◌, ap, subst}
 use Rattle.std.specs.Prelude.{⊤, Result, Ok, Err}
 use Rattle.px_base.specs.CallSign.{CallSign}
 use Rattle.disk_model.specs.declared.disk.Disk.{Ghosts}
@@ -7,6 +7,7 @@ use Rattle.ax25_link.specs.Kept.{StandsFor}
 use Rattle.ax25_link.specs.Window.{Window}
 use Rattle.file_store.specs.State.{StoreState, store_in}
 use Rattle.file_store.proofs.DoesLemmas.{Does-moved}
+use Rattle.ftl0_uploads.specs.Failures.{Failure, failed_write}
 use Rattle.ftl0_uploads.specs.Others.{KeepsOtherCallers}
 use Rattle.ftl0_uploads.specs.SessionState.{IsOnlyOut, NoOtherOut, Parks}
 use Rattle.ftl0_uploads.specs.declared.phase.Phase.{Phase}
@@ -33,7 +34,7 @@ others-then before mid now caller first second = record {
 }
 
 -- Where the session is over its upload is parked, and the link left.
-module _ {D : Type 0} (g : Ghosts D) (w : Window) (event : Option ℕ → Happened) (store mid now : StoreState) (disk disk_now : D)
+module _ {D : Type 0} (g : Ghosts D) (w : Window) (event : List Failure → Happened) (store mid now : StoreState) (disk disk_now : D)
     (connection : ConnectionState) (same : store_in now ≡ store_in mid) (journal : now.journal ≡ mid.journal) where
   left : (happened : Happened) → happened.over ≡ true → StandsFor w connection.link happened.after.end
       → SendsAs w (Leaving connection.link) (slot_after happened)
@@ -42,11 +43,11 @@ module _ {D : Type 0} (g : Ghosts D) (w : Window) (event : Option ℕ → Happen
   pub heard-over : (result : Result ⊤ ServerStop) → HearsBy g w event store mid disk disk_now connection Ends result
       → PlaceHears g w event store now disk disk_now (Leaving connection.link) result
   heard-over (Ok done) by =
-      (by.0, (left (event None) by.1.0 by.1.1, tt), Does-moved g ⊥ store mid store now disk disk_now _ refl refl same journal by.2)
+      (by.0, (left (event []) by.1.0 by.1.1, tt), Does-moved g ⊥ store mid store now disk disk_now _ refl refl same journal by.2)
   heard-over (Err stop.Disk) by = (
     by.0,
     by.1,
-    left (event (Some by.0)) by.2.0 by.2.1,
+    left (event (failed_write by.0)) by.2.0 by.2.1,
     record {
       store_then = by.3.store_then;
       disk_then = by.3.disk_then;

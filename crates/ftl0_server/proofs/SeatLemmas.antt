@@ -3,26 +3,23 @@ use Rattle.std.proofs.Common.{◌≡◌, ◌≢◌, ℕ, zero, suc, ◌+◌, ◌
 use Rattle.std.specs.Prelude.{slice_get, nat_lt}
 use Rattle.std.specs.List.{position, prefix_len}
 use Rattle.std.proofs.lemmas.Bool.{lt-ltb}
-use Rattle.std.proofs.lemmas.Bool.Decides.{eqb_tells}
 use Rattle.std.proofs.lemmas.Option.{same_Some}
 use Rattle.px_base.specs.CallSign.{CallSign}
-use Rattle.ax25_link.specs.Ends.{answering_end}
-use Rattle.ax25_link.specs.Window.{Window, window_of}
 use Rattle.ax25_link.proofs.Places.{slice_get-set_other, slice_get-set_same}
 use Rattle.file_store.specs.State.{StoreState}
-use Rattle.ftl0_uploads.specs.SessionState.{IsHeld, NoOtherOut, SessionState, new_session, number_of}
+use Rattle.ftl0_uploads.specs.SessionState.{IsHeld, NoOtherOut, SessionState, number_of}
 use Rattle.ftl0_uploads.proofs.UploadRows.{same_call-decides}
-use Rattle.ftl0_connection.specs.Connected.{Connected, answering}
+use Rattle.ftl0_connection.specs.Connected.{Connected}
 use Rattle.ftl0_connection.specs.ConnectionState.{ConnectionState, IsConnection}
 use Rattle.ftl0_server.specs.declared.place.Place.{Place}
 use Rattle.ftl0_server.specs.declared.place.Place.TheVariants.{Free, Talking, Leaving}
 use Rattle.ftl0_server.specs.Calls.{IsNew}
 use Rattle.ftl0_server.specs.Kept.{IsAt, IsSeated, IsSettled, IsUploadOf}
 use Rattle.ftl0_server.specs.Server.{Server, with_slot}
-use Rattle.ftl0_server.specs.ServerState.{AllPlaces, IsServer, SaysAs, SendsAs, ServerState, has_caller, is_empty_place}
-use Rattle.ftl0_server.specs.Slots.{Slot, connected}
+use Rattle.ftl0_server.specs.ServerState.{IsServer, SaysAs, SendsAs, ServerState, has_caller, is_empty_place}
+use Rattle.ftl0_server.specs.Slots.{connected}
 use Rattle.ftl0_server.proofs.AllPlaces.{all-set, never}
-use Rattle.ftl0_server.proofs.SettledLemmas.{at-set, same-at, same-call}
+use Rattle.ftl0_server.proofs.SettledLemmas.{at-set, same-call}
 
 -- ---- a caller that no place has
 

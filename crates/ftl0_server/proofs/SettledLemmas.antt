@@ -7,8 +7,8 @@ use Rattle.px_base.specs.CallSign.{CallSign}
 use Rattle.ax25_link.specs.Kept.{Kept}
 use Rattle.ax25_link.proofs.Places.{slice_get-set_other, slice_get-set_same}
 use Rattle.file_entries.specs.Files.{octets_or_none}
-use Rattle.file_entries.specs.Store.{Entry, entry_of, partial}
-use Rattle.file_store.specs.State.{StoreState, rest_in, store_in}
+use Rattle.file_entries.specs.Store.{partial}
+use Rattle.file_store.specs.State.{StoreState}
 use Rattle.file_store.specs.Upload.{entry_for}
 use Rattle.ftl0_uploads.specs.Others.{KeepsOtherCallers}
 use Rattle.ftl0_uploads.specs.Session.{is_same_call, receiving}

@@ -1,6 +1,6 @@
 -- What the recovery of the store refuses.
-use Rattle.std.proofs.Common.{◌≡◌, ℕ, List, Option, refl, sym, ◌∙◌, ap, IfSome}
-use Rattle.std.specs.Prelude.{Result, Ok, Err, IsErrOf}
+use Rattle.std.proofs.Common.{◌≡◌, ℕ, List, Option, sym, ◌∙◌, ap}
+use Rattle.std.specs.Prelude.{Result, Err}
 use Rattle.file_journal.proofs.ToldLemmas.{told_weaker}
 use Rattle.file_store.specs.Recovery.{RefusesExactly, RefusesRecovery}
 use Rattle.file_store.specs.declared.refusals.StoreFault.{StoreFault}

@@ -1,5 +1,5 @@
 -- A tick at each place makes the server's tick; and what a frame of a station without a connection is.
-use Rattle.std.proofs.Common.{◌≡◌, ℕ, List, map, Bool, true, false, Option, None, Some, refl, sym, ◌∙◌, ap}
+use Rattle.std.proofs.Common.{◌≡◌, ℕ, List, map, Bool, true, false, refl, sym, ◌∙◌, ap}
 use Rattle.std.specs.Prelude.{if◌then◌else◌, ◌&&◌}
 use Rattle.ax25_frames.specs.FrameText.{FrameValue}
 use Rattle.ax25_link.specs.Rows.{is_call}

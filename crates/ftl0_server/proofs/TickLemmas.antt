@@ -1,11 +1,9 @@
 -- Ticks at the first places of a server.
-use Rattle.std.proofs.Common.{◌≡◌, ◌≢◌, ℕ, zero, suc, ◌+◌, ◌<◌, List, [], ◌∷◌, length, set, take, drop, map, Bool, true, false, Option, None, Some, refl, sym, ◌∙◌, ap, subst, inl, inr, arith}
+use Rattle.std.proofs.Common.{◌≡◌, ℕ, zero, suc, List, [], ◌∷◌, length, set, drop, map, false, Some, refl, sym, ◌∙◌, ap, subst}
 use Rattle.std.specs.Prelude.{slice_get}
-use Rattle.std.proofs.lemmas.Bool.Decides.{eqb_tells}
-use Rattle.std.proofs.lemmas.Option.{same_Some, slice_get_within}
+use Rattle.std.proofs.lemmas.Option.{same_Some}
 use Rattle.px_base.specs.CallSign.{CallSign}
 use Rattle.ax25_link.specs.Window.{Window}
-use Rattle.ax25_link.proofs.Places.{slice_get-set_other}
 use Rattle.file_store.specs.State.{StoreState}
 use Rattle.ftl0_uploads.specs.SessionState.{IsOnlyOut, number_of}
 use Rattle.ftl0_connection.specs.ConnectionState.{ConnectionState}
@@ -15,7 +13,7 @@ use Rattle.ftl0_server.specs.declared.place.Place.TheVariants.{Free, Talking, Le
 use Rattle.ftl0_server.specs.Kept.{IsAt, IsSettled}
 use Rattle.ftl0_server.specs.ServerState.{AllPlaces, any_pending, place_pending}
 use Rattle.ftl0_server.specs.Slots.{Slot, slot_ticking}
-use Rattle.ftl0_server.proofs.AllPlaces.{all-get, all-length, all-map, all-set-to, all-to, never}
+use Rattle.ftl0_server.proofs.AllPlaces.{all-set-to, never}
 use Rattle.ftl0_server.proofs.NextLemmas.{none_first}
 use Rattle.ftl0_server.proofs.SettledLemmas.{same-at, says-kept}
 

@@ -1,5 +1,5 @@
 -- What an event at one place of a server needs, and what it leaves.
-use Rattle.std.specs.Prelude.{◌≡◌, ℕ, List, [], ◌∷◌, false, slice_get, Option, None, Some, Result, Ok, Err, ⊤}
+use Rattle.std.specs.Prelude.{◌≡◌, ℕ, List, [], ◌∷◌, false, slice_get, None, Some, Result, Ok, Err, ⊤}
 use Rattle.disk_model.specs.declared.disk.Disk.{Ghosts}
 use Rattle.ax25_frames.specs.FrameText.{FrameValue}
 use Rattle.ax25_link.specs.Kept.{Fits, IsFromPeer, SameStations, is_pending}
@@ -7,6 +7,7 @@ use Rattle.ax25_link.specs.Window.{Window}
 use Rattle.ax25_link.specs.declared.state.LinkState.TheVariants.{Up}
 use Rattle.file_store.specs.OnDisk.{CutsOff, Does}
 use Rattle.file_store.specs.State.{StoreState}
+use Rattle.ftl0_uploads.specs.Failures.{Failure, failed_write}
 use Rattle.ftl0_uploads.specs.Others.{KeepsOtherCallers}
 use Rattle.ftl0_uploads.specs.SessionState.{IsHeld, IsOnlyOut, NoOtherOut, Parks}
 use Rattle.ftl0_uploads.specs.declared.stop.ServerStop.{ServerStop}
@@ -23,8 +24,8 @@ use Rattle.ftl0_server.specs.Slots.{Slot, slot_after}
 abbrev pub IsPlace : Window → StoreState → Place → Slot → Type 0
 IsPlace w store place slot = SendsAs w place slot × SaysAs store place slot
 
--- The connection may take an event: nothing is pending, its link is up, and the store holds its session's upload, the only
--- one of its caller's that is out.
+-- The connection may take an event: nothing is pending, its link is up, and the store holds its session's upload, the
+-- only one of its caller's that is out.
 pub record IsAwaiting (store : StoreState) (connection : ConnectionState) : Type 0 where
   pub quiet : is_pending connection.link ≡ false
   pub up : connection.link.state ≡ Up
@@ -72,22 +73,22 @@ Works before now (Talking connection) new =
     KeepsOtherCallers before now connection.session.caller × IsLeft now connection new
 Works before now (Leaving link) new = (now ≡ before) × (new ≡ Leaving link)
 
--- What a frame that is heard at a place does, where `event` gives what it makes of the connection there once it is known
--- at which packet the disk fails, if it fails at one: as the connection's call says it, but that the place is the one
--- that is left.
+-- What a frame that is heard at a place does, where `event` gives what it makes of the connection there by the event's
+-- failures: as the connection's call says it, but that the place is the one that is left.
 abbrev pub PlaceHears :
-    {D : Type 0} → Ghosts D → Window → (Option ℕ → Happened) → StoreState → StoreState → D → D → Place
+    {D : Type 0} → Ghosts D → Window → (List Failure → Happened) → StoreState → StoreState → D → D → Place
     → Result ⊤ ServerStop → Type 0
 PlaceHears g w event store store_now disk disk_now place (Ok done) =
-    ((event None).halt ≡ goes_on) × IsPlace w store_now place (slot_after (event None))
-    × Does g ⊥ store store_now disk disk_now (event None).done
+    ((event []).halt ≡ goes_on) × IsPlace w store_now place (slot_after (event []))
+    × Does g ⊥ store store_now disk disk_now (event []).done
 PlaceHears g w event store store_now disk disk_now place (Err stop.Disk) =
-    (part : ℕ) × ((event (Some part)).halt ≡ fails) × SendsAs w place (slot_after (event (Some part)))
-    × CutsOff g ⊤ store store_now disk disk_now (event (Some part)).done (event (Some part)).cut
+    (part : ℕ) × ((event (failed_write part)).halt ≡ fails) × SendsAs w place (slot_after (event (failed_write part)))
+    × CutsOff g ⊤ store store_now disk disk_now (event (failed_write part)).done (event (failed_write part)).cut
 PlaceHears g w event store store_now disk disk_now place (Err (stop.NotBuilt kind)) =
-    ((event None).halt ≡ unbuilt kind) × Does g ⊥ store store_now disk disk_now (event None).done
+    ((event []).halt ≡ unbuilt kind) × Does g ⊥ store store_now disk disk_now (event []).done
 PlaceHears g w event store store_now disk disk_now place (Err stop.OutOfMemory) =
-    (part : ℕ) × ((event (Some part)).halt ≡ fails) × Does g ⊥ store store_now disk disk_now (event (Some part)).done
+    (part : ℕ) × ((event (failed_write part)).halt ≡ fails)
+    × Does g ⊥ store store_now disk disk_now (event (failed_write part)).done
 
 -- whatever end the place's link stands for, it is one that frames can bring about
 abbrev pub PlaceFits : Place → Type 0

@@ -6,9 +6,10 @@ use Rattle.ax25_link.specs.Kept.{HasStations}
 use Rattle.ax25_link.specs.declared.state.LinkState.TheVariants.{Up}
 use Rattle.file_journal.specs.Calls.{Leaves}
 use Rattle.file_store.specs.OnDisk.{CutsOff, Does, MakesFirst}
-use Rattle.file_store.specs.State.{StoreState, store_in}
+use Rattle.file_store.specs.State.{store_in}
 use Rattle.ftl0_uploads.specs.declared.stop.ServerStop.{ServerStop}
 use Rattle.ftl0_uploads.specs.declared.stop.ServerStop.TheVariants as stop
+use Rattle.ftl0_uploads.specs.Failures.{Failure, failed_write}
 use Rattle.ftl0_uploads.specs.SessionState.{new_session}
 use Rattle.ftl0_connection.specs.ConnectionState.{ConnectionState}
 use Rattle.ftl0_connection.specs.Taking.{fails, goes_on, unbuilt}
@@ -18,36 +19,36 @@ use Rattle.ftl0_server.specs.Places.{SamePlace}
 use Rattle.ftl0_server.specs.Server.{Server, ServerHappened, ServerSends, server_next}
 use Rattle.ftl0_server.specs.ServerState.{IsServer, SendsFor, ServerState}
 
--- What an event does, where `event` gives what it makes of the server once it is known at which packet the disk fails, if
--- it fails at one. Where all was taken its commands are done. Where the disk failed, at some packet, the commands before it
--- are done, and it failed in one of that packet's; the frames that are pending then are those of that step. Where a row
--- isn't built the commands before are done. Where there was no memory none is done, as for a new session, or, at some
--- packet, those before it.
+-- What an event does, where `event` gives what it makes of the server by the event's failures. Where all was taken
+-- nothing failed, and its commands are done. Where the disk failed, at a write or a sync of some packet and nowhere
+-- else, the commands before it are done, and it failed in one of that packet's; the frames that are pending then are
+-- those of that step. Where a row isn't built the commands before are done. Where there was no memory none is done, as
+-- for a new session, or, at some packet, those before it.
 abbrev pub HearsBy :
-    {D : Type 0} → Ghosts D → (Option ℕ → ServerHappened) → ServerState → ServerState → D → D → Result ⊤ ServerStop
+    {D : Type 0} → Ghosts D → (List Failure → ServerHappened) → ServerState → ServerState → D → D → Result ⊤ ServerStop
     → Type 0
 HearsBy g event old new disk disk_now (Ok done) =
-    ((event None).halt ≡ goes_on) × IsServer new (event None).after
-    × Does g ⊥ old.store new.store disk disk_now (event None).done
+    ((event []).halt ≡ goes_on) × IsServer new (event []).after
+    × Does g ⊥ old.store new.store disk disk_now (event []).done
 HearsBy g event old new disk disk_now (Err stop.Disk) =
-    (part : ℕ) × ((event (Some part)).halt ≡ fails) × SendsFor new (event (Some part)).after
-    × CutsOff g ⊤ old.store new.store disk disk_now (event (Some part)).done (event (Some part)).cut
+    (part : ℕ) × ((event (failed_write part)).halt ≡ fails) × SendsFor new (event (failed_write part)).after
+    × CutsOff g ⊤ old.store new.store disk disk_now (event (failed_write part)).done (event (failed_write part)).cut
 HearsBy g event old new disk disk_now (Err (stop.NotBuilt kind)) =
-    ((event None).halt ≡ unbuilt kind) × Does g ⊥ old.store new.store disk disk_now (event None).done
+    ((event []).halt ≡ unbuilt kind) × Does g ⊥ old.store new.store disk disk_now (event []).done
 HearsBy g event old new disk disk_now (Err stop.OutOfMemory) =
     Does g ⊥ old.store new.store disk disk_now []
-    ⊎ ((part : ℕ) × ((event (Some part)).halt ≡ fails)
-    × Does g ⊥ old.store new.store disk disk_now (event (Some part)).done)
+    ⊎ ((part : ℕ) × ((event (failed_write part)).halt ≡ fails)
+    × Does g ⊥ old.store new.store disk disk_now (event (failed_write part)).done)
 
 -- An event came. Since it came each image stands for the store after the first of the commands that it has where
 -- nothing fails, for some number of them: that is what a power cut inside it leaves.
-pub record Hears {D : Type 0} (g : Ghosts D) (event : Option ℕ → ServerHappened) (old new : ServerState)
+pub record Hears {D : Type 0} (g : Ghosts D) (event : List Failure → ServerHappened) (old new : ServerState)
     (disk disk_now : D) (result : Result ⊤ ServerStop) : Type 0 where
   pub by : HearsBy g event old new disk disk_now result
-  pub since : Leaves g disk disk_now (λ _. MakesFirst (store_in old.store) (event None).done)
+  pub since : Leaves g disk disk_now (λ _. MakesFirst (store_in old.store) (event []).done)
 
--- What is handed out where this is sent next: nothing, and nothing changes; or the octets of its frame in place of those
--- that the buffer held. The server is then, in this sense, the one that has sent it.
+-- What is handed out where this is sent next: nothing, and nothing changes; or the octets of its frame in place of
+-- those that the buffer held. The server is then, in this sense, the one that has sent it.
 abbrev pub HandsOut :
     (ServerState → Server → Type 0) → Option ServerSends → ServerState → ServerState → List ℕ → List ℕ → Bool → Type 0
 HandsOut Stands None old new before now answer = (answer ≡ false) × (new ≡ old) × (now ≡ before)

@@ -1,11 +1,15 @@
 -- Laws of a server's steps.
-use Rattle.std.specs.Prelude.{◌≡◌, ℕ, List, Option}
+use Rattle.std.specs.Prelude.{◌≡◌, List, [], ◌∷◌, ⊤}
 use Rattle.ax25_frames.specs.FrameText.{FrameValue}
+use Rattle.ax25_link.specs.Ends.{IsEnd}
+use Rattle.ax25_link.specs.Window.{Window}
 use Rattle.file_entries.specs.Command.{Command}
+use Rattle.ftl0_uploads.specs.Failures.{Failure}
 use Rattle.ftl0_connection.specs.Taking.{Halt}
 use Rattle.node_events.specs.Events.{NodeEvent}
-use Rattle.ftl0_server.specs.Server.{Server}
+use Rattle.ftl0_server.specs.Server.{IsSilent, Server}
 use Rattle.ftl0_server.specs.ServerStep.{ServerStep}
+use Rattle.ftl0_server.specs.Slots.{Slot, connected, free, leaving}
 
 -- what a step gives
 pub record SameStep (done those_done cut those_cut : List Command) (halt that_halt : Halt)
@@ -16,11 +20,40 @@ pub record SameStep (done those_done cut those_cut : List Command) (halt that_ha
   pub sent : frames ≡ those
   pub server : new ≡ that
 
--- An event has one step, once it is known where the disk fails.
+-- With these failures an event has at most one step.
 abbrev pub OneStepLaw : Type 0
 OneStepLaw =
-    (old : Server) (event : NodeEvent) (failing : Option ℕ) (done those_done cut those_cut : List Command)
+    (old : Server) (event : NodeEvent) (failures : List Failure) (done those_done cut those_cut : List Command)
     (halt that_halt : Halt) (frames those : List FrameValue) (new that : Server)
-    → ServerStep old event failing done cut halt frames new
-    → ServerStep old event failing those_done those_cut that_halt those that
+    → ServerStep old event failures done cut halt frames new
+    → ServerStep old event failures those_done those_cut that_halt those that
     → SameStep done those_done cut those_cut halt that_halt frames those new that
+
+-- the end at this place, if there is one, is such as frames and ticks bring about
+abbrev pub SlotFits : Window → Slot → Type 0
+SlotFits w free = ⊤
+SlotFits w (connected c) = IsEnd w c.end
+SlotFits w (leaving end) = IsEnd w end
+
+abbrev pub SlotsFit : Window → List Slot → Type 0
+SlotsFit w [] = ⊤
+SlotsFit w (slot ∷ slots) = SlotFits w slot × SlotsFit w slots
+
+-- The server has nothing to send, and the ends of its links are such as frames and ticks bring about.
+pub record MayStep (server : Server) : Type 0 where
+  pub silent : IsSilent server
+  pub fits : SlotsFit server.window server.slots
+
+-- A step of the server for this event with these failures, after which it may step again.
+pub record HasStep (old : Server) (event : NodeEvent) (failures : List Failure) : Type 0 where
+  pub done : List Command
+  pub cut : List Command
+  pub halt : Halt
+  pub frames : List FrameValue
+  pub new : Server
+  pub step : ServerStep old event failures done cut halt frames new
+  pub may_step : MayStep new
+
+-- With any failures an event has a step.
+abbrev pub SomeStepLaw : Type 0
+SomeStepLaw = (old : Server) (event : NodeEvent) (failures : List Failure) → MayStep old → HasStep old event failures

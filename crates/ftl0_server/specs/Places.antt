@@ -28,7 +28,8 @@ SamePlace (Leaving link) Free = ⊥
 SamePlace (Leaving link) (Talking connection) = ⊥
 SamePlace (Leaving link) (Leaving after) = ⊤
 
--- What is given out where this is sent next: nothing; or the octets of its frame in place of those that the buffer held.
+-- What is given out where this is sent next: nothing; or the octets of its frame in place of those that the buffer
+-- held.
 abbrev pub GivesOut : Option SlotSends → Window → Place → List ℕ → List ℕ → Bool → Type 0
 GivesOut None w now before after answer = answer ≡ false
 GivesOut (Some sends) w now before after answer =
@@ -39,8 +40,8 @@ abbrev pub PlaceGives : Place → Place → List ℕ → List ℕ → Bool → T
 PlaceGives old new before after answer =
     (w : Window) (slot : Slot) → SendsAs w old slot → GivesOut (slot_next w slot) w new before after answer
 
--- What is given out where the places send this next: nothing; or the octets of its frame in place of those that the buffer
--- held.
+-- What is given out where the places send this next: nothing; or the octets of its frame in place of those that the
+-- buffer held.
 abbrev pub PlacesGive : Option PlacesSend → Window → List Place → List ℕ → Bool → Type 0
 PlacesGive None w now after answer = answer ≡ false
 PlacesGive (Some sends) w now after answer =

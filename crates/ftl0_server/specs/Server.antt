@@ -8,7 +8,8 @@ use Rattle.ax25_link.specs.Rows.{is_call}
 use Rattle.ax25_link.specs.Window.{Window}
 use Rattle.file_entries.specs.Command.{Command, after_all}
 use Rattle.file_entries.specs.Store.{Store}
-use Rattle.ftl0_connection.specs.Connected.{Connected, answering}
+use Rattle.ftl0_uploads.specs.Failures.{Failure}
+use Rattle.ftl0_connection.specs.Connected.{answering}
 use Rattle.ftl0_connection.specs.Hearing.{Happened, hearing}
 use Rattle.ftl0_connection.specs.Taking.{Halt, goes_on}
 use Rattle.ftl0_server.specs.Slots.{PlacesSend, Slot, all_freed, connected, first_empty, free, leaving, place_of, places_next, slot_after, slot_ticking}
@@ -35,8 +36,8 @@ abbrev pub new_server : CallSign → Window → Store → Server
 new_server me window store =
     record { me = me; window = window; slots = all_free; stray = None; store = store }
 
--- What a frame makes of a server: what it is then; the store's commands that are done, and those in one of which the disk
--- failed; and why no more of the frame was taken.
+-- What a frame makes of a server: what it is then; the store's commands that are done, and those in one of which the
+-- disk failed; and why no more of the frame was taken.
 pub record ServerHappened : Type 0 where
   pub after : Server
   pub done : List Command
@@ -65,40 +66,39 @@ heard_at server place happened =
       halt = happened.halt;
     }
 
--- A station without a connection says SABM with this P bit: it gets the lowest free place, or DM with F = P where none is free (AX.25 2.0,
--- 2.4.3.1).
+-- A station without a connection says SABM with this P bit: it gets the lowest free place, or DM with F = P where none
+-- is free (AX.25 2.0, 2.4.3.1).
 abbrev pub called_by : Server → CallSign → Bool → ℕ → Option ℕ → Server
 called_by server caller poll moment None = refusing server caller poll
 called_by server caller poll moment (Some place) =
     with_slot server place (connected (answering server.me caller poll moment))
 
--- A frame of a station without a connection: SABM calls; any other command with P = 1 gets DM with F = 1, and the rest is
--- passed over (AX.25 2.0, 2.4.3.4).
+-- A frame of a station without a connection: SABM calls; any other command with P = 1 gets DM with F = 1, and the rest
+-- is passed over (AX.25 2.0, 2.4.3.4).
 abbrev pub hearing_stranger : Server → FrameValue → ℕ → Server
 hearing_stranger server frame moment =
     if is_call frame.kind.control then called_by server frame.src frame.poll moment (first_empty server.slots)
     else if frame.command && frame.poll then refusing server frame.src true
     else server
 
--- the frame is heard at this place, which has the sender's connection
-abbrev pub hearing_at : Server → FrameValue → ℕ → Option ℕ → ℕ → Option Slot → ServerHappened
-hearing_at server frame moment failing place None = becoming server
-hearing_at server frame moment failing place (Some free) = becoming server
-hearing_at server frame moment failing place (Some (leaving end)) = becoming server
-hearing_at server frame moment failing place (Some (connected c)) =
-    heard_at server place (hearing server.window moment server.store c frame failing)
+-- the frame is heard at this place, which has the sender's connection, with these failures
+abbrev pub hearing_at : Server → FrameValue → ℕ → List Failure → ℕ → Option Slot → ServerHappened
+hearing_at server frame moment failures place None = becoming server
+hearing_at server frame moment failures place (Some free) = becoming server
+hearing_at server frame moment failures place (Some (leaving end)) = becoming server
+hearing_at server frame moment failures place (Some (connected c)) =
+    heard_at server place (hearing server.window moment server.store c frame failures)
 
 -- by the place of the sender's connection, if it has one
-abbrev pub hearing_by : Server → FrameValue → ℕ → Option ℕ → Option ℕ → ServerHappened
-hearing_by server frame moment failing None = becoming (hearing_stranger server frame moment)
-hearing_by server frame moment failing (Some place) =
-    hearing_at server frame moment failing place (slice_get server.slots place)
+abbrev pub hearing_by : Server → FrameValue → ℕ → List Failure → Option ℕ → ServerHappened
+hearing_by server frame moment failures None = becoming (hearing_stranger server frame moment)
+hearing_by server frame moment failures (Some place) =
+    hearing_at server frame moment failures place (slice_get server.slots place)
 
--- What a frame to the server makes of it at this moment. The disk fails at the packet with so many before it, if it fails
--- at one.
-abbrev pub server_hearing : Server → FrameValue → ℕ → Option ℕ → ServerHappened
-server_hearing server frame moment failing =
-    hearing_by server frame moment failing (place_of frame.src server.slots)
+-- what a frame to the server makes of it at this moment, with these failures
+abbrev pub server_hearing : Server → FrameValue → ℕ → List Failure → ServerHappened
+server_hearing server frame moment failures =
+    hearing_by server frame moment failures (place_of frame.src server.slots)
 
 -- what a tick makes of a server
 abbrev pub server_ticking : Server → Server

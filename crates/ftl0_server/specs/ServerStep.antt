@@ -1,7 +1,8 @@
 -- A step of a server: a frame or a tick comes, and all that it gives is sent.
-use Rattle.std.specs.Prelude.{◌≡◌, ℕ, List, [], ◌∷◌, Option, Some}
+use Rattle.std.specs.Prelude.{◌≡◌, List, [], ◌∷◌, Some}
 use Rattle.ax25_frames.specs.FrameText.{FrameValue}
 use Rattle.file_entries.specs.Command.{Command}
+use Rattle.ftl0_uploads.specs.Failures.{Failure}
 use Rattle.ftl0_connection.specs.Taking.{Halt}
 use Rattle.node_events.specs.Events.{NodeEvent, hears, ticks}
 use Rattle.ftl0_server.specs.Server.{IsSilent, Server, ServerHappened, ServerSends, becoming, server_hearing, server_next, server_ticking, settled}
@@ -13,21 +14,21 @@ Empties server (frame ∷ frames) last =
     (sends : ServerSends) × (server_next server ≡ Some sends) × (frame ≡ sends.frame)
     × Empties sends.after frames last
 
--- what an event makes of a server, before it sends anything; the disk fails at the packet with so many before it, if it
--- fails at one
-abbrev pub happening : Server → NodeEvent → Option ℕ → ServerHappened
-happening server (hears frame moment) failing = server_hearing server frame moment failing
-happening server (ticks moment) failing = becoming (server_ticking server)
+-- What an event makes of a server with these failures of the disk, before it sends anything. A tick has no part yet.
+abbrev pub happening : Server → NodeEvent → List Failure → ServerHappened
+happening server (hears frame moment) failures = server_hearing server frame moment failures
+happening server (ticks moment) failures = becoming (server_ticking server)
 
--- Nothing is to be sent by the server as it was. The event comes, these commands are done, and, where the disk failed,
--- in one of those; these frames are sent; and this is the server then, or, where it stops, its places.
+-- Nothing is to be sent by the server as it was. The event comes, with these failures of the disk. These commands are
+-- done, and, where the disk failed, in one of those; these frames are sent; and this is the server then, or, where it
+-- stops, its places.
 pub record ServerStep
-    (old : Server) (event : NodeEvent) (failing : Option ℕ) (done cut : List Command) (halt : Halt)
+    (old : Server) (event : NodeEvent) (failures : List Failure) (done cut : List Command) (halt : Halt)
     (frames : List FrameValue) (new : Server) : Type 0 where
   pub silent : IsSilent old
-  pub done_is : done ≡ (happening old event failing).done
-  pub cut_is : cut ≡ (happening old event failing).cut
-  pub halt_is : halt ≡ (happening old event failing).halt
+  pub done_is : done ≡ (happening old event failures).done
+  pub cut_is : cut ≡ (happening old event failures).cut
+  pub halt_is : halt ≡ (happening old event failures).halt
   pub last : Server
-  pub sent : Empties (happening old event failing).after frames last
+  pub sent : Empties (happening old event failures).after frames last
   pub new_is : new ≡ settled last

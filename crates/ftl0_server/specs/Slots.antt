@@ -23,7 +23,8 @@ is_callers caller free = false
 is_callers caller (connected c) = is_same_call (caller_of c) caller
 is_callers caller (leaving end) = false
 
--- whether the place has no session. Between events nothing is to be sent, and a link whose session is over counts no more.
+-- whether the place has no session. Between events nothing is to be sent, and a link whose session is over counts no
+-- more.
 abbrev pub is_empty : Slot → Bool
 is_empty free = true
 is_empty (connected c) = false

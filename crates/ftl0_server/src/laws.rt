@@ -2,7 +2,7 @@
 
 ghost use Rattle.std.specs.Prelude.{List};
 ghost use Rattle.ax25_frames.specs.FrameText.{FrameValue};
-ghost use Rattle.ftl0_server.specs.Laws.{OneStepLaw};
+ghost use Rattle.ftl0_server.specs.Laws.{OneStepLaw, SomeStepLaw};
 ghost use Rattle.ftl0_server.specs.Server.{Server as ServerValue};
 ghost use Rattle.ftl0_server.specs.ServerState.{SendsFor};
 ghost use Rattle.ftl0_server.specs.ServerStep.{Empties};
@@ -17,8 +17,14 @@ pub fn empties_law(server: &Server)
     server.fits_law();
 }
 
-/// Once it is known at which packet the disk fails, if it fails at one, an event has one step: these commands, these frames,
-/// and the server after it.
+/// With the same failures of the disk an event has at most one step: these commands, these frames, and the server after
+/// it.
 pub fn one_step_law()
     ensures { OneStepLaw }
+{}
+
+/// With any failures of the disk an event has a step, for a server that has nothing to send and whose links' ends are
+/// such as frames and ticks bring about; and it is such a server after it.
+pub fn some_step_law()
+    ensures { SomeStepLaw }
 {}

@@ -1,6 +1,6 @@
 //! A place of a server.
 
-ghost use Rattle.std.specs.Prelude.{◌≡◌, ◌<◌, false, true, None, IsErrOf};
+ghost use Rattle.std.specs.Prelude.{◌≡◌, ◌<◌, [], false, true, IsErrOf};
 ghost use Rattle.ax25_frames.specs.Values.{value_of};
 ghost use Rattle.ax25_link.specs.Window.{Window};
 ghost use Rattle.file_entries.specs.Kept.{KeepsComplete};
@@ -30,7 +30,8 @@ pub(crate) enum Place {
     Free,
     /// It has a caller's connection.
     Talking(Connection),
-    /// It has the link of a session that is over, which may have frames to give out still. Once they are out it is free.
+    /// It has the link of a session that is over, which may have frames to give out still. Once they are out it is
+    /// free.
     Leaving(Link),
 }
 
@@ -66,8 +67,8 @@ impl Place {
         }
     }
 
-    /// Replaces `out` by the octets of the next pending frame, which is then sent. It is false, and changes nothing, exactly
-    /// where nothing is pending.
+    /// Replaces `out` by the octets of the next pending frame, which is then sent. It is false, and changes nothing,
+    /// exactly where nothing is pending.
     pub(crate) fn next_out(&mut self, out: &mut ArrayVec<u8, 400>) -> bool
         ensures pending { result ≡ place_pending self.old }
         ensures none { result ≡ false → (self.new ≡ self.old) × (out.new.items ≡ out.old.items) }
@@ -112,7 +113,7 @@ impl Place {
             store.old store.new disk.old disk.new self.new result }
         ensures since { (w : Window) (c : Connected) → IsPlace w store.old self.old (connected c) →
             Leaves D.Disk disk.old disk.new (λ _. MakesFirst (store_in store.old)
-            (hearing w moment (store_in store.old) c (value_of frame.now) None).done) }
+            (hearing w moment (store_in store.old) c (value_of frame.now) []).done) }
         ensures puts { Puts D.Disk (IsErrOf result ServerStop.Disk) disk.old disk.new }
         ensures kept { KeepsComplete (store_in store.old) (store_in store.new) }
         ensures works { Works store.old store.new self.old self.new }

@@ -46,8 +46,8 @@ pub(crate) fn count_sessions(places: &[Place]) -> usize
     places.iter().filter(|place| !place.is_empty()).count()
 }
 
-/// Replaces `out` by the octets of the next pending frame of the first place that has one. It is false, and changes nothing,
-/// exactly where nothing is pending.
+/// Replaces `out` by the octets of the next pending frame of the first place that has one. It is false, and changes
+/// nothing, exactly where nothing is pending.
 pub(crate) fn next_of(places: &mut [Place], out: &mut ArrayVec<u8, 400>) -> bool
     ensures pending { result ≡ any_pending places.old }
     ensures none { result ≡ false → (places.new ≡ places.old) × (out.new.items ≡ out.old.items) }

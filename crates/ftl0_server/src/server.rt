@@ -42,10 +42,10 @@ use std::marker::Model;
 /// How many sessions may be up at a time.
 pub const PLACES: usize = 8;
 
-/// A server of FTL0 sessions. After each frame and each tick the frames that are pending are handed out by `next_out`, and
-/// only then it takes the next frame or tick. It must be closed, which parks all uploads. Contracts see it as a
-/// `ServerState`; they speak of the servers of the definitions that it stands for, whose links have all that was pushed,
-/// sent and taken.
+/// A server of FTL0 sessions. After each frame and each tick the frames that are pending are handed out by `next_out`,
+/// and only then it takes the next frame or tick. It must be closed, which parks all uploads. Contracts see it as a
+/// `ServerState`; they speak of the servers of the definitions that it stands for, whose links have all that was
+/// pushed, sent and taken.
 pub struct Server {
     alloc: Global,
     me: Call,
@@ -67,8 +67,8 @@ impl Model for Server {
 }
 
 impl Server {
-    /// Recovers the store from the disk, as [`FileStore::recover`] does, and starts a server of it, without sessions: the
-    /// station `me`, with at most k I frames outstanding on each link; `good_k(k)` holds. Takes memory.
+    /// Recovers the store from the disk, as [`FileStore::recover`] does, and starts a server of it, without sessions:
+    /// the station `me`, with at most k I frames outstanding on each link; `good_k(k)` holds. Takes memory.
     ///
     /// `NotAStore` and `Damaged` leave the disk's content as it was. After `Disk` and `OutOfMemory` the disk is to be
     /// recovered again.
@@ -122,15 +122,15 @@ impl Server {
         })
     }
 
-    /// Hears a frame for this station without repeaters at this moment, in seconds since 1 January 1970, while nothing is
-    /// pending. A frame of a connected caller is its connection's ([`Connection::hear`]). SABM of another station begins a
-    /// session at the lowest free place, or is refused by DM where there is none; any other command with P = 1 of such a
-    /// station gets DM, and the rest is passed over (AX.25 2.0, 2.4.3). The commands of the frame's packets are on the disk
-    /// before any frame is given out. It costs the frame's octets, finding its sender among eight, and what its packets
-    /// cost the store. Takes memory for a new session and for what packets bring.
+    /// Hears a frame for this station without repeaters at this moment, in seconds since 1 January 1970, while nothing
+    /// is pending. A frame of a connected caller is its connection's ([`Connection::hear`]). SABM of another station
+    /// begins a session at the lowest free place, or is refused by DM where there is none; any other command with P = 1
+    /// of such a station gets DM, and the rest is passed over (AX.25 2.0, 2.4.3). The commands of the frame's packets
+    /// are on the disk before any frame is given out. It costs the frame's octets, finding its sender among eight, and
+    /// what its packets cost the store. Takes memory for a new session and for what packets bring.
     ///
-    /// After `Disk` the frames that are pending are given out first, code 3 among them; after any other stop none is. Then
-    /// the server is closed.
+    /// After `Disk` the frames that are pending are given out first, code 3 among them; after any other stop none is.
+    /// Then the server is closed.
     pub fn hear<D: Disk>(
         &mut self,
         disk: &mut D,
@@ -160,9 +160,9 @@ impl Server {
         }
     }
 
-    /// Counts a tick on each link, while nothing is pending (AX.25 2.0, 2.4.7): a session is over whose caller doesn't answer
-    /// any more. So far a tick has nothing to do on the disk, and its moment makes no difference. It costs the eight places.
-    /// Takes no memory.
+    /// Counts a tick on each link, while nothing is pending (AX.25 2.0, 2.4.7): a session is over whose caller doesn't
+    /// answer any more. So far a tick has nothing to do on the disk, and its moment makes no difference. It costs the
+    /// eight places. Takes no memory.
     pub fn tick<D: Disk>(&mut self, _disk: &mut D, _moment: u32) -> Result<(), ServerStop>
         requires silent { server_pending self.old ≡ false }
         requires healthy { self.old.store.journal.failed ≡ false }
@@ -185,9 +185,9 @@ impl Server {
         Ok(())
     }
 
-    /// Replaces `out` by the octets of the next pending frame, which is then sent: the DM to a station without a connection
-    /// first, then the frames of the first place, then those of the next. It is false, and changes nothing, exactly where
-    /// nothing is pending. Takes no memory.
+    /// Replaces `out` by the octets of the next pending frame, which is then sent: the DM to a station without a
+    /// connection first, then the frames of the first place, then those of the next. It is false, and changes nothing,
+    /// exactly where nothing is pending. Takes no memory.
     pub fn next_out(&mut self, out: &mut ArrayVec<u8, 400>) -> bool
         ensures pending { result ≡ server_pending self.old }
         ensures fewer { result ≡ true → server_most self.new < server_most self.old }
@@ -231,7 +231,8 @@ impl Server {
         all_fit_law(&self.places);
     }
 
-    /// Ends all sessions, and parks their uploads: what is held stays on the disk, which isn't touched. Takes no memory.
+    /// Ends all sessions, and parks their uploads: what is held stays on the disk, which isn't touched. Takes no
+    /// memory.
     pub fn close(self) {
         let Server {
             alloc: _,
@@ -289,8 +290,8 @@ impl Server {
         Ok(())
     }
 
-    /// Answers a SABM with this P bit of a station without a connection: by a session at the lowest free place, or by DM
-    /// where none is free (AX.25 2.0, 2.4.3.1).
+    /// Answers a SABM with this P bit of a station without a connection: by a session at the lowest free place, or by
+    /// DM where none is free (AX.25 2.0, 2.4.3.1).
     fn answer(&mut self, caller: Call, poll: bool, moment: u32) -> Result<(), ServerStop>
         requires { position (has_caller caller) self.old.places ≡ None }
         ensures heard { HearsStranger (λ server. called_by server caller poll moment (first_empty server.slots))

@@ -10,6 +10,7 @@ use ax25_frames::{Frame, Kind};
 use disk_model::{Disk, MemoryDisk};
 use file_store::Limits;
 use px_base::Call;
+use std::alloc::Global;
 use std::process::Abort;
 use std::test::Fail;
 
@@ -32,6 +33,18 @@ const ACCEPT: [u8; 1] = [0x73];
 /// DM with F = 1.
 const REFUSE: [u8; 1] = [0x1F];
 
+/// DM with F = 0.
+const GIVEN_UP: u8 = 0x0F;
+
+/// A packet without a row where a command is waited for, DATA with one octet. The reply to it has three octets too.
+const PACKET: [u8; 3] = [0x01, 0x00, 0x41];
+
+/// How many octets of such packets an I frame has.
+const FRAME_OCTETS: usize = 255;
+
+/// As many replies as fit beside LOGIN_RESP, which has seven octets, in the 4,096 octets that a link holds.
+const FITTING: usize = 1363;
+
 fn call(rt: &impl Abort, text: &str) -> Call {
     Call::read(text).expect(rt, "no call")
 }
@@ -45,7 +58,23 @@ fn says(server: &mut Server, control: u8) -> bool
     server.next_out(&mut out) && out.as_slice().get(14) == Some(&control)
 }
 
-/// Hears SABM, or else DISC, of this station with this P bit: frames with these control octets are given out, and no more.
+/// Whether one of the frames that are pending has this control octet. They are all given out.
+fn says_among(rt: &impl Abort, server: &mut Server, control: u8) -> bool
+    ensures me { server.new.me ≡ server.old.me }
+    ensures store { server.new.store ≡ server.old.store }
+    ensures silent { server_pending server.new ≡ false }
+{
+    let mut out = ArrayVec::new();
+    let mut found = false;
+    while server.next_out(&mut out) {
+        found = found || out.as_slice().get(14) == Some(&control);
+    }
+    assert!(rt; !server.pending());
+    found
+}
+
+/// Hears SABM, or else DISC, of this station with this P bit: frames with these control octets are given out, and no
+/// more.
 fn hears<D: Disk>(
     rt: &impl Abort,
     server: &mut Server,
@@ -170,5 +199,72 @@ fn a_station_without_a_connection(rt: HostRuntime) -> Result<(), Fail> {
     hears(&rt, &mut server, &mut disk, (me, caller), false, false, &[]);
     assert_eq!(rt; server.sessions(), 0);
     server.close();
+    Ok(())
+}
+
+/// Hears these octets of this station in I frames, each but the last one full, that acknowledge nothing: whether DM
+/// with F = 0 is among the frames that the last one gives.
+fn hears_octets<D: Disk>(
+    rt: &impl Abort,
+    server: &mut Server,
+    disk: &mut D,
+    stations: (Call, Call),
+    octets: &[u8],
+) -> bool
+    requires me { server.old.me ≡ stations.0 }
+    requires silent { server_pending server.old ≡ false }
+    requires healthy { server.old.store.journal.failed ≡ false }
+    requires stands_on { StandsOn D.Disk server.old.store disk.old }
+{
+    let (me, caller) = stations;
+    let mut given_up = false;
+    let mut ns = 0;
+    for info in octets.chunks(FRAME_OCTETS) {
+        let frame = Frame {
+            dest: me,
+            src: caller,
+            via: 0,
+            kind: Kind::I {
+                ns,
+                nr: 0,
+                pid: 0xF0,
+                info,
+            },
+            poll: false,
+            command: true,
+        };
+        assert!(rt; server.hear(disk, &frame, 1).is_ok());
+        given_up = says_among(rt, server, GIVEN_UP);
+        ns = (ns + 1) % 8;
+    }
+    given_up
+}
+
+/// A station calls, and says so many packets: whether it gets DM with F = 0 for the last ones, and how many sessions
+/// are up then.
+fn flooded(rt: &impl Abort, alloc: Global, packets: usize) -> Result<(bool, usize), Fail> {
+    let (me, caller) = (call(rt, "PACSAT"), call(rt, "NOCALL"));
+    let octets = PACKET.repeat(alloc, packets)?;
+    let mut disk = MemoryDisk::new(alloc, &[], &[])?;
+    let mut server = Server::start(alloc, &mut disk, LIMITS, me, 4)?;
+    hears(
+        rt,
+        &mut server,
+        &mut disk,
+        (me, caller),
+        true,
+        true,
+        &ANSWER,
+    );
+    let given_up = hears_octets(rt, &mut server, &mut disk, (me, caller), &octets);
+    let sessions = server.sessions();
+    server.close();
+    Ok((given_up, sessions))
+}
+
+#[test]
+fn replies_that_do_not_fit(rt: HostRuntime) -> Result<(), Fail> {
+    assert_eq!(rt; flooded(&rt, rt.alloc(), FITTING)?, (false, 1));
+    assert_eq!(rt; flooded(&rt, rt.alloc(), FITTING + 1)?, (true, 0));
     Ok(())
 }

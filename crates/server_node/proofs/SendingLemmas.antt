@@ -38,11 +38,6 @@ emits-all : (server : Server) (frames : List FrameValue) (last : Server) → Emi
 emits-all server [] last h silent = (subst (λ (s : Server). IsSilent s) h silent, h)
 emits-all server (f ∷ fs) last h silent = (h.0, h.1, h.2, emits-all h.0.after fs last h.3 silent)
 
--- the last of them has nothing to send
-pub empties-silent : (server : Server) (frames : List FrameValue) (last : Server) → Empties server frames last → IsSilent last
-empties-silent server [] last h = subst (λ (s : Server). IsSilent s) (sym h.1) h.0
-empties-silent server (f ∷ fs) last h = empties-silent h.0.after fs last h.3
-
 -- there is a frame among frames with one more
 some_frame : (fs rest : List FrameValue) (f : FrameValue) → fs ++ f ∷ rest ≡ [] → ⊥
 some_frame [] rest f h = absurd (cc h)

@@ -1,5 +1,5 @@
 -- How a server goes on over events, and how it stops.
-use Rattle.std.proofs.Common.{ℕ, List, [], ◌∷◌, ◌++◌, None, refl, ap, sym, ◌∙◌, append_assoc, append-nil}
+use Rattle.std.proofs.Common.{ℕ, List, [], ◌∷◌, ◌++◌, refl, ap, sym, ◌∙◌, append_assoc, append-nil}
 use Rattle.ax25_frames.specs.FrameText.{FrameValue}
 use Rattle.file_entries.specs.Command.{Command}
 use Rattle.node_events.specs.Events.{NodeEvent}
@@ -11,7 +11,7 @@ use Rattle.server_node.specs.Serving.{ServesOver, StopsAt, StopsBehind, StopsOve
 use Rattle.server_node.proofs.SendingLemmas.{text-append}
 
 -- one event
-pub serves-one : (server : Server) (event : NodeEvent) (done : List Command) (sent : List FrameValue) (next : Server) → ServerStep server event None done [] goes_on sent next
+pub serves-one : (server : Server) (event : NodeEvent) (done : List Command) (sent : List FrameValue) (next : Server) → ServerStep server event [] done [] goes_on sent next
     → ServesOver server (event ∷ []) sent done next
 serves-one server event done sent next step = (done, sent, next, [], [], step, sym (append-nil sent), sym (append-nil done), (refl, refl, refl))
 

@@ -7,6 +7,7 @@ use Rattle.file_entries.specs.Command.{Command, after_all}
 use Rattle.file_entries.specs.Store.{Store}
 use Rattle.file_entries.proofs.GrowLemmas.{after_all-append}
 use Rattle.node_events.specs.Events.{NodeEvent, hears, ticks}
+use Rattle.ftl0_uploads.specs.Failures.{Failure}
 use Rattle.ftl0_server.specs.Server.{Refused, Server, ServerSends, called_by, hearing_at, hearing_by, hearing_stranger, refusing, sends_by, sends_of_places}
 use Rattle.ftl0_server.specs.ServerStep.{Empties, happening}
 use Rattle.ftl0_server.specs.Slots.{PlacesSend, Slot, connected, first_empty, free, leaving, place_of, places_next}
@@ -52,21 +53,21 @@ stranger_store server frame moment =
     by_call (is_call frame.kind.control) (called_by server frame.src frame.poll moment (first_empty server.slots)) (if frame.command && frame.poll then refusing server frame.src true else server) server.store
     (called_store server frame moment (first_empty server.slots)) (by_refusal server frame (frame.command && frame.poll))
 
-at_store : (server : Server) (frame : FrameValue) (moment : ℕ) (failing : Option ℕ) (place : ℕ) (slot : Option Slot)
-    → (hearing_at server frame moment failing place slot).after.store ≡ after_all server.store (hearing_at server frame moment failing place slot).done
-at_store server frame moment failing place None = refl
-at_store server frame moment failing place (Some free) = refl
-at_store server frame moment failing place (Some (leaving end)) = refl
-at_store server frame moment failing place (Some (connected c)) = refl
+at_store : (server : Server) (frame : FrameValue) (moment : ℕ) (failures : List Failure) (place : ℕ) (slot : Option Slot)
+    → (hearing_at server frame moment failures place slot).after.store ≡ after_all server.store (hearing_at server frame moment failures place slot).done
+at_store server frame moment failures place None = refl
+at_store server frame moment failures place (Some free) = refl
+at_store server frame moment failures place (Some (leaving end)) = refl
+at_store server frame moment failures place (Some (connected c)) = refl
 
-by_store : (server : Server) (frame : FrameValue) (moment : ℕ) (failing : Option ℕ) (place : Option ℕ)
-    → (hearing_by server frame moment failing place).after.store ≡ after_all server.store (hearing_by server frame moment failing place).done
-by_store server frame moment failing None = stranger_store server frame moment
-by_store server frame moment failing (Some place) = at_store server frame moment failing place (slice_get server.slots place)
+by_store : (server : Server) (frame : FrameValue) (moment : ℕ) (failures : List Failure) (place : Option ℕ)
+    → (hearing_by server frame moment failures place).after.store ≡ after_all server.store (hearing_by server frame moment failures place).done
+by_store server frame moment failures None = stranger_store server frame moment
+by_store server frame moment failures (Some place) = at_store server frame moment failures place (slice_get server.slots place)
 
-happening_store : (server : Server) (event : NodeEvent) (failing : Option ℕ) → (happening server event failing).after.store ≡ after_all server.store (happening server event failing).done
-happening_store server (hears frame moment) failing = by_store server frame moment failing (place_of frame.src server.slots)
-happening_store server (ticks moment) failing = refl
+happening_store : (server : Server) (event : NodeEvent) (failures : List Failure) → (happening server event failures).after.store ≡ after_all server.store (happening server event failures).done
+happening_store server (hears frame moment) failures = by_store server frame moment failures (place_of frame.src server.slots)
+happening_store server (ticks moment) failures = refl
 
 -- ---- events
 
@@ -76,7 +77,7 @@ serves_store server [] frames commands now h = rw (h.1, h.2) refl
 serves_store server (e ∷ events) frames commands now h =
     let step = h.5 in
     let next : h.2.store ≡ after_all server.store h.0 =
-    ap (λ (s : Server). s.store) step.new_is ∙ empties_store _ h.1 step.last step.sent ∙ happening_store server e None ∙ ap (after_all server.store) (sym step.done_is) in
+    ap (λ (s : Server). s.store) step.new_is ∙ empties_store _ h.1 step.last step.sent ∙ happening_store server e [] ∙ ap (after_all server.store) (sym step.done_is) in
     serves_store h.2 events h.4 h.3 now h.8 ∙ ap (λ (s : Store). after_all s h.3) next ∙ sym (after_all-append h.0 h.3 server.store) ∙ ap (after_all server.store) (sym h.7)
 
 comes_to : (server : Server) (earlier : List NodeEvent) (next : NodeEvent) (later : List NodeEvent) (frames : List FrameValue) (commands : List Command) (now : Server)
@@ -99,7 +100,7 @@ comes_to server (e ∷ earlier) next later frames commands now h =
       others = on.others;
       commands_are =
           h.7 ∙ ap (λ (cs : List Command). h.0 ++ cs) on.commands_are
-          ∙ sym (append_assoc h.0 on.before ((happening on.server_then next None).done ++ on.others));
+          ∙ sym (append_assoc h.0 on.before ((happening on.server_then next []).done ++ on.others));
     }
 
 pub serves : ServesLaw

@@ -1,5 +1,5 @@
 -- How a node takes events.
-use Rattle.std.proofs.Common.{◌≡◌, ℕ, List, [], ◌∷◌, ◌++◌, Option, None, Some, refl, ap, sym, subst, inl, inr}
+use Rattle.std.proofs.Common.{◌≡◌, ℕ, List, [], ◌∷◌, ◌++◌, Option, refl, ap, sym, subst, inl, inr}
 use Rattle.std.proofs.lemmas.Bool.{eq-eqb, ne_eqb}
 use Rattle.std.specs.Prelude.{◌≢◌, Bool, if◌then◌else◌, Result, Ok, Err, ⊤, OnErr, OnOk}
 use Rattle.px_base.specs.Octets.{IsFront}
@@ -15,10 +15,12 @@ use Rattle.file_store.proofs.DoesLemmas.{Does-none, Does-then}
 use Rattle.node_events.specs.Events.{NodeEvent, tick_since, ticks}
 use Rattle.ftl0_uploads.specs.declared.stop.ServerStop.{ServerStop}
 use Rattle.ftl0_uploads.specs.declared.stop.ServerStop.TheVariants as server_stop
+use Rattle.ftl0_uploads.specs.Failures.{failed_write}
 use Rattle.ftl0_server.specs.Calls.{HearsBy}
 use Rattle.ftl0_server.specs.Server.{Server, settled}
 use Rattle.ftl0_server.specs.ServerState.{ServerState}
 use Rattle.ftl0_server.specs.ServerStep.{happening}
+use Rattle.ftl0_server.proofs.FitsLemmas.{empties-silent, silent-settled}
 use Rattle.session_node.specs.declared.stop.NodeStop.{NodeStop}
 use Rattle.session_node.specs.declared.stop.NodeStop.TheVariants as stop
 use Rattle.session_node.specs.Running.{IsSaid}
@@ -27,9 +29,9 @@ use Rattle.session_node.proofs.DiskLemmas.{cuts_after, cuts_none, cuts_same, doe
 use Rattle.session_node.proofs.Serving.{gains-same}
 use Rattle.server_node.specs.Node.{IsServing, IsUp, RunsOn, SaysFrames, Settles, StopsOn, Takes}
 use Rattle.server_node.specs.Serving.{StopsOver, text_of}
-use Rattle.server_node.proofs.SendingLemmas.{empties-silent, text-append}
+use Rattle.server_node.proofs.SendingLemmas.{text-append}
 use Rattle.server_node.proofs.ServesLemmas.{serves-append, serves-one, stops-at, stops-behind, stops-longer}
-use Rattle.server_node.proofs.StepLemmas.{silent-settled, uncut}
+use Rattle.server_node.proofs.StepLemmas.{uncut}
 
 -- what was said of frames that were put, or of a front of them
 is_said : (writes writes_n : ℕ) (frames : List FrameValue) (text : List ℕ) (said : Result ⊤ AirDown) → OnOk said (text ≡ text_of frames) → OnErr said (IsFront text (text_of frames) × (frames ≢ []))
@@ -150,31 +152,31 @@ module _ {A D : Type 0} (g : Ghosts D) (air : AirGhosts A) (lasts : (disk : D) �
     Heard result = HearsBy g (happening server event) old mid disk disk_n result
 
     -- All of it was taken, and its frames were put.
-    pub event-taken : Heard (Ok tt) → new.store ≡ mid.store → Settles air.said before now new (happening server event None).after
+    pub event-taken : Heard (Ok tt) → new.store ≡ mid.store → Settles air.said before now new (happening server event []).after
         → RunsOn g air.said before now old new disk disk_n server (event ∷ [])
     event-taken by same s = record {
       frames = s.frames;
-      commands = (happening server event None).done;
+      commands = (happening server event []).done;
       next = settled s.last;
       serves =
-          serves-one server event (happening server event None).done s.frames (settled s.last)
+          serves-one server event (happening server event []).done s.frames (settled s.last)
           (record { silent = serving.silent; done_is = refl; cut_is = sym (uncut server event); halt_is = sym by.0; last = s.last; sent = s.empties; new_is = refl });
       text_said = s.text_said;
-      serving = record { is = s.settled_is; silent = silent-settled s.last (empties-silent (happening server event None).after s.frames s.last s.empties) };
+      serving = record { is = s.settled_is; silent = silent-settled s.last (empties-silent (happening server event []).after s.frames s.last s.empties) };
       silent = s.silent;
-      does = subst (λ (store : StoreState). Does g ⊥ old.store store disk disk_n (happening server event None).done) (sym same) by.2;
+      does = subst (λ (store : StoreState). Does g ⊥ old.store store disk disk_n (happening server event []).done) (sym same) by.2;
     }
 
     -- All of it was taken, and saying its frames failed.
-    pub event-unsaid : (down : AirDown) → Heard (Ok tt) → new.store ≡ mid.store → SaysFrames air.said before now (happening server event None).after (Err down)
+    pub event-unsaid : (down : AirDown) → Heard (Ok tt) → new.store ≡ mid.store → SaysFrames air.said before now (happening server event []).after (Err down)
         → Stopped before now old new disk disk_n server (event ∷ []) stop.AirWrite
     event-unsaid down by same s = record {
       text = s.text;
       text_said = s.text_said;
-      done = (happening server event None).done;
+      done = (happening server event []).done;
       cut = [];
       stops =
-          stops-at stop.AirWrite (air.write_faults before) (air.write_faults now) [] server event s.text (happening server event None).done (
+          stops-at stop.AirWrite (air.write_faults before) (air.write_faults now) [] server event s.text (happening server event []).done (
             s.frames,
             settled s.last,
             record { silent = serving.silent; done_is = refl; cut_is = sym (uncut server event); halt_is = sym by.0; last = s.last; sent = s.empties; new_is = refl },
@@ -183,20 +185,20 @@ module _ {A D : Type 0} (g : Ghosts D) (air : AirGhosts A) (lasts : (disk : D) �
             refl,
           );
       cuts =
-          cuts_none g _ (λ (e : stop.AirWrite ≡ stop.Disk). cc e) old.store new.store disk disk_n (happening server event None).done (lasts disk_n)
-          (subst (λ (store : StoreState). Does g ⊥ old.store store disk disk_n (happening server event None).done) (sym same) by.2);
+          cuts_none g _ (λ (e : stop.AirWrite ≡ stop.Disk). cc e) old.store new.store disk disk_n (happening server event []).done (lasts disk_n)
+          (subst (λ (store : StoreState). Does g ⊥ old.store store disk disk_n (happening server event []).done) (sym same) by.2);
     }
 
     -- The disk failed in it, and the frames of that step were put, or a front of them.
-    pub event-failed : (said : Result ⊤ AirDown) → (by : Heard (Err server_stop.Disk)) → new.store ≡ mid.store → SaysFrames air.said before now (happening server event (Some by.0)).after said
+    pub event-failed : (said : Result ⊤ AirDown) → (by : Heard (Err server_stop.Disk)) → new.store ≡ mid.store → SaysFrames air.said before now (happening server event (failed_write by.0)).after said
         → HasCause (air.write_faults before) (air.write_faults now) said → Stopped before now old new disk disk_n server (event ∷ []) stop.Disk
     event-failed said by same s cause = record {
       text = s.text;
       text_said = s.text_said;
-      done = (happening server event (Some by.0)).done;
-      cut = (happening server event (Some by.0)).cut;
+      done = (happening server event (failed_write by.0)).done;
+      cut = (happening server event (failed_write by.0)).cut;
       stops =
-          stops-at stop.Disk (air.write_faults before) (air.write_faults now) (happening server event (Some by.0)).cut server event s.text (happening server event (Some by.0)).done (
+          stops-at stop.Disk (air.write_faults before) (air.write_faults now) (happening server event (failed_write by.0)).cut server event s.text (happening server event (failed_write by.0)).done (
             by.0,
             s.frames,
             settled s.last,
@@ -205,7 +207,7 @@ module _ {A D : Type 0} (g : Ghosts D) (air : AirGhosts A) (lasts : (disk : D) �
           );
       cuts =
           cuts_same g ⊤ (stop.Disk ≡ stop.Disk) (λ _. refl) (λ _. tt) old.store new.store disk disk_n _ _
-          (subst (λ (store : StoreState). CutsOff g ⊤ old.store store disk disk_n (happening server event (Some by.0)).done (happening server event (Some by.0)).cut) (sym same) by.3);
+          (subst (λ (store : StoreState). CutsOff g ⊤ old.store store disk disk_n (happening server event (failed_write by.0)).done (happening server event (failed_write by.0)).cut) (sym same) by.3);
     }
 
     -- Its row isn't built.
@@ -213,10 +215,10 @@ module _ {A D : Type 0} (g : Ghosts D) (air : AirGhosts A) (lasts : (disk : D) �
     event-unbuilt kind by = record {
       text = [];
       text_said = Gains-none (air.said before);
-      done = (happening server event None).done;
+      done = (happening server event []).done;
       cut = [];
-      stops = stops-at (stop.NotBuilt kind) (air.write_faults before) (air.write_faults before) [] server event [] (happening server event None).done (by.0, refl, refl, refl);
-      cuts = cuts_none g _ (λ (e : stop.NotBuilt kind ≡ stop.Disk). cc e) old.store mid.store disk disk_n (happening server event None).done (lasts disk_n) by.1;
+      stops = stops-at (stop.NotBuilt kind) (air.write_faults before) (air.write_faults before) [] server event [] (happening server event []).done (by.0, refl, refl, refl);
+      cuts = cuts_none g _ (λ (e : stop.NotBuilt kind ≡ stop.Disk). cc e) old.store mid.store disk disk_n (happening server event []).done (lasts disk_n) by.1;
     }
 
     -- There was no memory for it.
@@ -232,11 +234,11 @@ module _ {A D : Type 0} (g : Ghosts D) (air : AirGhosts A) (lasts : (disk : D) �
     event-unmade (inr by) = record {
       text = [];
       text_said = Gains-none (air.said before);
-      done = (happening server event (Some by.0)).done;
+      done = (happening server event (failed_write by.0)).done;
       cut = [];
       stops =
-          stops-at stop.OutOfMemory (air.write_faults before) (air.write_faults before) [] server event [] (happening server event (Some by.0)).done (inr (by.0, by.1, refl), refl, refl);
-      cuts = cuts_none g _ (λ (e : stop.OutOfMemory ≡ stop.Disk). cc e) old.store mid.store disk disk_n (happening server event (Some by.0)).done (lasts disk_n) by.2;
+          stops-at stop.OutOfMemory (air.write_faults before) (air.write_faults before) [] server event [] (happening server event (failed_write by.0)).done (inr (by.0, by.1, refl), refl, refl);
+      cuts = cuts_none g _ (λ (e : stop.OutOfMemory ≡ stop.Disk). cc e) old.store mid.store disk disk_n (happening server event (failed_write by.0)).done (lasts disk_n) by.2;
     }
 
 -- the cause of a call behind others after which the counts were as they were

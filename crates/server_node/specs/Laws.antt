@@ -1,5 +1,5 @@
 -- Laws of a server over the events of its node.
-use Rattle.std.specs.Prelude.{◌≡◌, List, ◌∷◌, ◌++◌, None}
+use Rattle.std.specs.Prelude.{◌≡◌, List, [], ◌∷◌, ◌++◌}
 use Rattle.ax25_frames.specs.FrameText.{FrameValue}
 use Rattle.file_entries.specs.Command.{Command, after_all}
 use Rattle.node_events.specs.Events.{NodeEvent}
@@ -15,7 +15,7 @@ pub record ServerComesTo (server : Server) (earlier : List NodeEvent) (next : No
   pub server_then : Server
   pub serves : ServesOver server earlier frames before server_then
   pub others : List Command
-  pub commands_are : commands ≡ before ++ ((happening server_then next None).done ++ others)
+  pub commands_are : commands ≡ before ++ ((happening server_then next []).done ++ others)
 
 -- What a server went over: the store that it came to is the one after its commands, and so it was at each event.
 pub record ServesLaw : Type 0 where

@@ -1,11 +1,12 @@
 -- How a server goes on over the events of its node: which frames it says, and which commands of the store it does, up
 -- to a stop.
-use Rattle.std.specs.Prelude.{◌≡◌, ◌≢◌, ◌⊎◌, ℕ, List, [], ◌∷◌, ◌++◌, flat_map, None, Some}
+use Rattle.std.specs.Prelude.{◌≡◌, ◌≢◌, ◌⊎◌, ℕ, List, [], ◌∷◌, ◌++◌, flat_map}
 use Rattle.px_base.specs.Octets.{IsFront}
 use Rattle.kiss.specs.KissText.{kiss_text}
 use Rattle.ax25_frames.specs.FrameText.{FrameValue, canonical}
 use Rattle.file_entries.specs.Command.{Command}
 use Rattle.node_events.specs.Events.{NodeEvent}
+use Rattle.ftl0_uploads.specs.Failures.{failed_write}
 use Rattle.ftl0_connection.specs.Taking.{fails, goes_on, unbuilt}
 use Rattle.ftl0_server.specs.Server.{Server}
 use Rattle.ftl0_server.specs.ServerStep.{ServerStep, happening}
@@ -23,28 +24,28 @@ abbrev pub ServesOver : Server → List NodeEvent → List FrameValue → List C
 ServesOver server [] frames commands now = (frames ≡ []) × (commands ≡ []) × (now ≡ server)
 ServesOver server (event ∷ events) frames commands now =
     (done : List Command) × (sent : List FrameValue) × (next : Server) × (others : List Command)
-    × (more : List FrameValue) × ServerStep server event None done [] goes_on sent next
+    × (more : List FrameValue) × ServerStep server event [] done [] goes_on sent next
     × (frames ≡ sent ++ more) × (commands ≡ done ++ others) × ServesOver next events more others now
 
 -- A stop at this event: the text said of its frames, the commands done, and those in one of which the disk failed.
--- Where saying failed the event's commands are done, and a front of its frames' text was said. Where the disk failed at
--- one of its packets, the frames of that step were said. Where a row isn't built none was, and the commands before are
--- done. Where there is no memory none was, and no command is done, as for a new session, or those before one of its
--- packets.
+-- Where saying failed the event's commands are done, and a front of its frames' text was said. Where the disk failed,
+-- at a write or a sync of one of its packets and nowhere else, the frames of that step were said. Where a row isn't
+-- built none was, and the commands before are done. Where there is no memory none was, and no command is done, as for a
+-- new session, or those before one of its packets.
 abbrev pub StopsAt : NodeStop → Server → NodeEvent → ℕ → ℕ → List ℕ → List Command → List Command → Type 0
 StopsAt stop.AirWrite server event writes writes_now text done cut =
-    (frames : List FrameValue) × (next : Server) × ServerStep server event None done [] goes_on frames next
+    (frames : List FrameValue) × (next : Server) × ServerStep server event [] done [] goes_on frames next
     × (frames ≢ []) × IsFront text (text_of frames) × (cut ≡ [])
 StopsAt stop.Disk server event writes writes_now text done cut =
     (part : ℕ) × (frames : List FrameValue) × (next : Server)
-    × ServerStep server event (Some part) done cut fails frames next
+    × ServerStep server event (failed_write part) done cut fails frames next
     × IsSaid writes writes_now (text_of frames) text
 StopsAt (stop.NotBuilt kind) server event writes writes_now text done cut =
-    ((happening server event None).halt ≡ unbuilt kind) × (done ≡ (happening server event None).done)
+    ((happening server event []).halt ≡ unbuilt kind) × (done ≡ (happening server event []).done)
     × (text ≡ []) × (cut ≡ [])
 StopsAt stop.OutOfMemory server event writes writes_now text done cut =
-    ((done ≡ []) ⊎ ((part : ℕ) × ((happening server event (Some part)).halt ≡ fails)
-    × (done ≡ (happening server event (Some part)).done)))
+    ((done ≡ []) ⊎ ((part : ℕ) × ((happening server event (failed_write part)).halt ≡ fails)
+    × (done ≡ (happening server event (failed_write part)).done)))
     × (text ≡ []) × (cut ≡ [])
 StopsAt stop.AirRead server event writes writes_now text done cut = ⊥
 StopsAt stop.Spent server event writes writes_now text done cut = ⊥

@@ -1,5 +1,5 @@
 -- Each place may be ended once those before it are.
-use Rattle.std.proofs.Common.{◌≡◌, ◌<◌, length, arith, rules}
+use Rattle.std.proofs.Common.{◌≡◌, length, arith, rules}
 use Rattle.ftl0_server.proofs.EndLemmas.{end-here, end-later}
 use Rattle.ftl0_server.proofs.places.end_all.Goals as goal
 

@@ -1,9 +1,8 @@
 -- A tick comes at one place more.
-use Rattle.std.proofs.Common.{◌≡◌, ℕ, suc, ◌+◌, ◌<◌, List, length, set, drop, get_or, Option, None, Some, false, refl, sym, ◌∙◌, ap, subst, arith, add-one}
+use Rattle.std.proofs.Common.{◌≡◌, ℕ, suc, ◌+◌, ◌<◌, List, length, set, drop, get_or, Some, false, sym, ◌∙◌, ap, subst, arith, add-one}
 use Rattle.std.specs.Prelude.{slice_get}
 use Rattle.std.proofs.lemmas.Option.{slice_get-get_or}
 use Rattle.ftl0_server.specs.AtPlace.{IsPlace}
-use Rattle.ftl0_server.specs.declared.place.Place.{Place}
 use Rattle.ftl0_server.specs.ServerState.{AllPlaces, any_pending}
 use Rattle.ftl0_server.specs.Slots.{Slot, slot_ticking}
 use Rattle.ftl0_server.proofs.AllPlaces.{all-get, all-length}

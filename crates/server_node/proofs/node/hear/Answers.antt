@@ -1,7 +1,7 @@
 -- A frame that was heard is taken, and its frames are put; or it stops the node.
 use Rattle.ax25_frames.specs.Values.{value_of}
-use Rattle.std.specs.Prelude.{Some}
 use Rattle.node_events.specs.Events.{hears}
+use Rattle.ftl0_uploads.specs.Failures.{failed_write}
 use Rattle.ftl0_server.specs.ServerStep.{happening}
 use Rattle.server_node.proofs.TakesLemmas.{event-failed, event-taken, event-unbuilt, event-unmade, event-unsaid, up-after}
 use Rattle.server_node.proofs.node.hear.Goals as goal
@@ -28,7 +28,7 @@ returns-in-Err-Disk-clause-takes g c server serving =
     let heard = (rw c.in-Err-Disk.field-0-is at c.in-Err-Disk.ensures.hears) server serving.is in
     let put = c.put_frames-in-Err-Disk in
     event-failed g.D.Disk g.A.Air g.met.D.Disk.lasts_same g.met.D.Disk.lasts_on c.args.air.now put.new.air c.args.server.now c.hear.new.self put.new.server c.args.disk.now c.hear.new.disk
-    (hears (value_of c.args.frame.now) c.args.moment) server serving put.result heard.by put.ensures.store (put.ensures.says (happening server (hears (value_of c.args.frame.now) c.args.moment) (Some heard.by.0)).after heard.by.2) put.ensures.cause
+    (hears (value_of c.args.frame.now) c.args.moment) server serving put.result heard.by put.ensures.store (put.ensures.says (happening server (hears (value_of c.args.frame.now) c.args.moment) (failed_write heard.by.0)).after heard.by.2) put.ensures.cause
 
 pub returns-in-Err-NotBuilt-clause-takes : goal.returns-in-Err-NotBuilt-clause-takes
 returns-in-Err-NotBuilt-clause-takes g c server serving =

@@ -6,8 +6,6 @@ use Rattle.ftl0_connection.specs.Hearing.{hearing}
 use Rattle.ax25_frames.specs.Values.{value_of}
 use Rattle.file_store.specs.State.{store_in}
 use Rattle.ftl0_server.proofs.PlaceLemmas.{heard-over, parks-journal, parks-store, works-over}
-use Rattle.ftl0_server.proofs.SettledLemmas.{says-kept}
-use Rattle.ftl0_server.proofs.AllPlaces.{same-position}
 use Rattle.ftl0_server.proofs.place.Place.hear.Goals as goal
 
 pub returns-in-Ends-clause-hears : goal.returns-in-Ends-clause-hears

@@ -1,5 +1,5 @@
 -- A session begins at the lowest free place, or the station is refused.
-use Rattle.std.proofs.Common.{◌≡◌, ℕ, Option, None, Some, subst, sym, ◌∙◌}
+use Rattle.std.proofs.Common.{ℕ, Option, subst, sym, ◌∙◌}
 use Rattle.px_base.specs.CallSign.{CallSign}
 use Rattle.ax25_link.specs.Window.{Window}
 use Rattle.ftl0_connection.specs.Connected.{answering}

@@ -1,8 +1,8 @@
 -- A station without a connection: the store and its disk stay.
-use Rattle.std.proofs.Common.{◌≡◌, None, Option, ℕ, subst, sym, ◌∙◌}
+use Rattle.std.proofs.Common.{◌≡◌, None, subst, sym}
 use Rattle.std.specs.List.{position}
 use Rattle.ax25_frames.specs.Values.{value_of}
-use Rattle.ftl0_server.specs.Kept.{IsSettled, server_state}
+use Rattle.ftl0_server.specs.Kept.{IsSettled}
 use Rattle.ftl0_server.specs.ServerState.{ServerState, has_caller}
 use Rattle.ftl0_server.proofs.HearLemmas.{stranger-hears}
 use Rattle.ftl0_server.proofs.server.Server.hear.Goals as goal

@@ -1,18 +1,13 @@
 -- The frame is heard at the place of its sender's connection.
-use Rattle.std.proofs.Common.{◌≡◌, ℕ, ◌<◌, ◌*◌, length, get_or, set, false, Option, None, Some, refl, subst, sym, ◌∙◌, arith, rules}
+use Rattle.std.proofs.Common.{◌≡◌, get_or, set, false, Some, refl, subst, sym, ◌∙◌}
 use Rattle.std.specs.List.{position}
 use Rattle.std.specs.Option.{option_map}
 use Rattle.std.proofs.lemmas.Option.{slice_get-get_or}
 use Rattle.ax25_frames.specs.Values.{value_of}
 use Rattle.ax25_link.specs.Kept.{is_there}
-use Rattle.ftl0_connection.specs.Hearing.{hearing}
-use Rattle.file_journal.specs.Calls.{Leaves}
-use Rattle.file_store.specs.OnDisk.{MakesFirst}
-use Rattle.file_store.specs.State.{store_in}
-use Rattle.ftl0_server.specs.AtPlace.{IsPlace, PlaceHears, Works}
+use Rattle.ftl0_server.specs.AtPlace.{IsPlace, Works}
 use Rattle.ftl0_server.specs.Calls.{Hears}
 use Rattle.ftl0_server.specs.declared.place.Place.{Place}
-use Rattle.ftl0_server.specs.declared.place.Place.TheVariants.{Talking}
 use Rattle.ftl0_server.specs.Kept.{refused_of, server_state}
 use Rattle.ftl0_server.specs.Server.{server_hearing}
 use Rattle.ftl0_server.specs.ServerState.{IsServer, ServerState, any_pending, has_caller, server_pending}

@@ -1,5 +1,5 @@
 -- By what the frame is.
-use Rattle.std.proofs.Common.{◌≡◌, Bool, true, false, subst, sym, ◌∙◌}
+use Rattle.std.proofs.Common.{◌≡◌, false, subst, sym, ◌∙◌}
 use Rattle.std.specs.Prelude.{◌&&◌}
 use Rattle.ax25_frames.specs.Values.{value_of}
 use Rattle.ftl0_server.specs.Server.{Server, called_by, hearing_stranger}

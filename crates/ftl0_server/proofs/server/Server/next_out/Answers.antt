@@ -1,5 +1,5 @@
 -- The DM to a station without a connection comes first, then the places' frames.
-use Rattle.std.proofs.Common.{◌≡◌, Option, None, Some, true, false, Bool, List, refl, sym, ◌∙◌, ap, subst}
+use Rattle.std.proofs.Common.{◌≡◌, Option, None, true, false, List, refl, sym, ◌∙◌, ap, subst}
 use Rattle.std.specs.Option.{option_map}
 use Rattle.ftl0_server.specs.Calls.{HandsOut, SameButLinks}
 use Rattle.ftl0_server.specs.declared.place.Place.{Place}
@@ -7,7 +7,7 @@ use Rattle.ftl0_server.specs.declared.server.Server.TheInside.{Inside}
 use Rattle.ftl0_server.specs.declared.stray.Stray.{Stray}
 use Rattle.ftl0_server.specs.Kept.{refused_of, server_state}
 use Rattle.ftl0_server.specs.Server.{server_next, settled}
-use Rattle.ftl0_server.specs.ServerState.{AllPlaces, IsServer, SendsAs, SendsFor, ServerState, any_pending}
+use Rattle.ftl0_server.specs.ServerState.{IsServer, SendsFor, ServerState, any_pending}
 use Rattle.ftl0_server.proofs.NextLemmas.{same_places}
 use Rattle.ftl0_server.proofs.OutLemmas.{places-out-next, places-out-sends, settled-same, settles, stray-out}
 use Rattle.ftl0_server.proofs.server.Server.next_out.Goals as goal

@@ -1,12 +1,11 @@
 -- The place has no session, and no place has the caller.
-use Rattle.std.proofs.Common.{◌≡◌, ◌≢◌, ℕ, ◌<◌, length, get_or, set, true, Option, None, Some, refl, subst, sym, ◌∙◌, ap, arith, rules}
+use Rattle.std.proofs.Common.{◌≡◌, get_or, None, Some, subst, sym, ◌∙◌, ap}
 use Rattle.std.specs.List.{position}
 use Rattle.std.proofs.lemmas.Option.{same_Some, slice_get-get_or}
 use Rattle.ftl0_uploads.specs.SessionState.{SessionState, number_of}
-use Rattle.ftl0_connection.specs.ConnectionState.{ConnectionState}
 use Rattle.ftl0_server.specs.Calls.{IsNew}
 use Rattle.ftl0_server.specs.declared.place.Place.TheVariants.{Talking}
-use Rattle.ftl0_server.specs.Kept.{IsAt, IsSettled, server_state}
+use Rattle.ftl0_server.specs.Kept.{server_state}
 use Rattle.ftl0_server.specs.ServerState.{ServerState, has_caller, is_empty_place}
 use Rattle.ftl0_server.proofs.HearLemmas.{found-passes, found-within}
 use Rattle.ftl0_server.proofs.SeatLemmas.{empty-none, new-seated, nobody, settled-seat}

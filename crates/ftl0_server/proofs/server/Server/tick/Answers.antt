@@ -1,8 +1,8 @@
 -- A tick came at each place, and the disk stays.
-use Rattle.std.proofs.Common.{◌≡◌, false, refl, subst, sym, [], ◌∙◌}
+use Rattle.std.proofs.Common.{◌≡◌, false, refl, subst, sym, []}
 use Rattle.std.specs.Prelude.{Ok}
 use Rattle.file_store.specs.OnDisk.{Does}
-use Rattle.file_store.specs.State.{StandsOn, StoreState}
+use Rattle.file_store.specs.State.{StandsOn}
 use Rattle.ftl0_uploads.proofs.DoesLemmas.{does-none}
 use Rattle.ftl0_server.specs.Calls.{Hears}
 use Rattle.ftl0_server.specs.Kept.{server_state}
@@ -32,5 +32,5 @@ returns-clause-happens g c = λ server is.
     let does : Does g.D.Disk ⊥ c.self.inside.store c.tick_all.new.store c.args._disk.now c.args._disk.now [] =
     does-none g.D.Disk c.self.inside.store c.tick_all.new.store c.args._disk.now healthy stands c.tick_all.ensures.store c.tick_all.ensures.journal
     (g.met.D.Disk.lasts_same c.args._disk.now) in
-    subst (λ (s : ServerState). Hears g.D.Disk (λ failing. becoming (server_ticking server)) s new c.args._disk.now c.args._disk.now (Ok tt)) c.self.view_is
+    subst (λ (s : ServerState). Hears g.D.Disk (λ failures. becoming (server_ticking server)) s new c.args._disk.now c.args._disk.now (Ok tt)) c.self.view_is
     (record { by = (refl, ticked, does); since = does.since })
