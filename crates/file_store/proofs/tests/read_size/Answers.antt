@@ -3,7 +3,7 @@ use Rattle.file_entries.specs.Store.{octets_at}
 use Rattle.file_entries.proofs.InfoLemmas.{told}
 use Rattle.file_store.specs.State.{store_in}
 use Rattle.file_store.proofs.ToldLemmas.{told-complete, told-count}
-use Rattle.file_store.proofs.tests.read_part.Goals as goal
+use Rattle.file_store.proofs.tests.read_size.Goals as goal
 
 pub read_at-requires-clause-complete : goal.read_at-requires-clause-complete
 read_at-requires-clause-complete g c =
