@@ -1,6 +1,7 @@
 pub mod Asked
 pub mod Continued
 pub mod Events
+pub mod Failures
 pub mod Laws
 pub mod Others
 pub mod Run

@@ -1,4 +1,5 @@
--- The session of one caller (FTL0 1990, uploading): its states, and its table row by row.
+-- The uploads of a caller's session (FTL0 1990, uploading): its states while it receives files or is ready to, and its table
+-- row by row, as far as it is of uploading.
 use Rattle.std.specs.Prelude.{ℕ, ◌+◌, ◌==◌, List, [], ◌∷◌, ◌++◌, length, Option, None, Some, Ok}
 use Rattle.std.specs.Prelude.{bytes_eq, Bool, true, false, not, ◌&&◌, ◌||◌, if◌then◌else◌}
 use Rattle.px_base.specs.CallSign.{CallSign}
@@ -11,22 +12,12 @@ use Rattle.file_entries.specs.Command.{last_grow, unfilled_block, whole_grows}
 use Rattle.file_entries.specs.Info.{is_complete}
 use Rattle.file_entries.specs.Store.{Entry, Store, entry_of, octets_at, octets_of}
 
--- What is to be sent next: the octets of the complete file of this number from one place up to another; or these octets,
--- which are kept.
-pub data Due : Type 0 where
-  stored : ℕ → ℕ → ℕ → Due
-  kept : List ℕ → Due
-
 -- A session waits for a command; or receives the file of this number, of which these octets aren't held yet; or waits
--- for the end of a file that it refused; or sends the file of this number from one place up to another; or waits for the
--- word that the file came; or sends headers, of which these are still due. No row leads to the last three yet.
+-- for the end of a file that it refused.
 pub data State : Type 0 where
   command : State
   receiving : ℕ → List ℕ → State
   aborting : State
-  sending : ℕ → ℕ → ℕ → State
-  waiting : State
-  listing : List Due → State
 
 -- what a row of the table gives: the state after it, the store's commands and the replies, in order
 pub record Row : Type 0 where
@@ -127,15 +118,16 @@ end_row moment store number rest =
 abbrev pub silent_row : State → Row
 silent_row state = record { state = state; commands = []; replies = [] }
 
--- Any packet without a row of its own, malformed ones too: error 1, and nothing else changes. So far only the packets
--- that belong to uploading have it.
+-- Any packet that belongs to uploading and has no row of its own, malformed ones too: error 1, and nothing else changes.
+-- Any other packet has no row here.
 abbrev pub error_row : State → Item → Option Row
 error_row state item =
     if is_upload_kind (kind_of_item item)
     then Some (record { state = state; commands = []; replies = ul_error_resp 1 ∷ [] })
     else None
 
--- The table, row by row: what a packet gives in a state, over a store, at a moment. None where the row isn't built yet.
+-- The table, row by row: what a packet gives in a state, over a store, at a moment. None where the packet has no row of
+-- uploading.
 unfoldable pub session_row : CallSign → ℕ → Store → State → Item → Option Row
 session_row caller moment store command (Ok (upload_cmd number file_length)) =
     Some (upload_row caller moment store number file_length)
@@ -152,18 +144,12 @@ abbrev pub fault_reply : State → PacketValue
 fault_reply command = ul_error_resp 3
 fault_reply (receiving number rest) = ul_nak_resp 3
 fault_reply aborting = ul_error_resp 3
-fault_reply (sending number place last) = ul_error_resp 3
-fault_reply waiting = ul_error_resp 3
-fault_reply (listing due) = ul_error_resp 3
 
 -- whether a file is received in this state
 abbrev pub is_receiving : State → Bool
 is_receiving command = false
 is_receiving (receiving number rest) = true
 is_receiving aborting = false
-is_receiving (sending number place last) = false
-is_receiving waiting = false
-is_receiving (listing due) = false
 
 -- whether a packet takes memory that leads to this state: it begins a new file, or its octets are taken
 abbrev pub takes_memory : Item → State → Bool

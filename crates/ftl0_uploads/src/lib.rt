@@ -1,4 +1,5 @@
-//! The session of one caller of the server (FTL0 1990): its table row by row, over a store of files on a disk.
+//! The uploads of one caller's session with the server (FTL0 1990, uploading): the rows of the session's table for DATA,
+//! DATA_END and UPLOAD_CMD, over a store of files on a disk. Any other packet has no row here.
 #![tactic(auto)]
 
 mod asked;

@@ -1,6 +1,6 @@
-//! The session of one caller: what each packet gives (FTL0 1990, uploading).
+//! The uploads of one caller's session: what each packet of uploading gives (FTL0 1990, uploading).
 
-ghost use Rattle.std.specs.Prelude.{◌≡◌, ◌≢◌, ℕ, [], ◌∷◌, false, true, IsErrOf, None, Ok};
+ghost use Rattle.std.specs.Prelude.{◌≡◌, ◌≢◌, ◌↔◌, ℕ, [], ◌∷◌, false, true, IsErrOf, IsTrue, None, Ok};
 ghost use Rattle.ftl0_packets.specs.Layout.{data_end, data_part, packet_text, ul_ack_resp, ul_error_resp};
 ghost use Rattle.ftl0_packets.specs.Layout.{ul_go_resp, upload_cmd};
 ghost use Rattle.file_entries.specs.Kept.{KeepsComplete};
@@ -87,10 +87,24 @@ impl Session {
             flags: FLAGS,
         };
         write_packet(&greeting, replies);
+        Session::of_caller(caller)
+    }
+
+    /// The session of this caller, in the state Command; nothing is replied. Takes no memory.
+    pub fn of_caller(caller: Call) -> Session
+        ensures { result ≡ new_session caller }
+    {
         Session {
             caller,
             phase: Phase::Command,
         }
+    }
+
+    /// Whether it waits for a command: it receives no file, and waits for the end of none. Takes no memory.
+    pub fn is_ready(&self) -> bool
+        ensures { IsTrue result ↔ (self.now.phase ≡ command_phase) }
+    {
+        matches!(self.phase, Phase::Command)
     }
 
     /// Whose session it is. Takes no memory.
@@ -409,8 +423,8 @@ fn take_aborting(asked: Asked<'_>, replies: &mut Replies) -> Taken
     }
 }
 
-/// A packet of this type that is malformed or has no row of its own in the state: error 1. So far only DATA, DATA_END
-/// and UPLOAD_CMD have it.
+/// A packet of this type that is malformed or has no row of its own in the state: error 1 where it is DATA, DATA_END or
+/// UPLOAD_CMD. Any other has no row of uploading.
 fn refuse(kind: u8, replies: &mut Replies) -> Result<(), ServerStop>
     requires { replies.old.items ≡ [] }
     ensures { Refuses kind replies.new.items result }

@@ -5,7 +5,7 @@ use thiserror::Error;
 /// Why a session goes on no further.
 #[derive(Clone, Copy, Debug, PartialEq, Eq, Error)]
 pub enum ServerStop {
-    /// The packet's row isn't built yet. The packet gave nothing: session, store and disk are as they were.
+    /// The packet has no row of uploading. It gave nothing: session, store and disk are as they were.
     #[error("the packet asks for what is not built yet")]
     NotBuilt {
         /// The packet's type.

@@ -1,0 +1,4 @@
+pub mod Filling
+pub mod SessionState
+pub mod Table
+pub mod Taking
