@@ -1,0 +1,5 @@
+pub mod FillLemmas
+pub mod LawLemmas
+pub mod RowLemmas
+pub mod TakenLemmas
+pub mod UploadLemmas

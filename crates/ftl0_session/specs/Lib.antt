@@ -1,4 +1,5 @@
 pub mod Filling
+pub mod Laws
 pub mod SessionState
 pub mod Table
 pub mod Taking

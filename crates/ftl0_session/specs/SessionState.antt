@@ -16,9 +16,13 @@ pub record SessionState : Type 0 where
   pub uploads : upload.SessionState
   pub downloads : DownloadState
 
+-- a session by its parts
+abbrev pub session_of : upload.SessionState → DownloadState → SessionState
+session_of uploads downloads = record { uploads = uploads; downloads = downloads }
+
 -- a session that was just connected
 abbrev pub new_session : CallSign → SessionState
-new_session caller = record { uploads = upload.new_session caller; downloads = ready }
+new_session caller = session_of (upload.new_session caller) ready
 
 -- whose session it is
 abbrev pub caller_of : SessionState → CallSign

@@ -131,10 +131,13 @@ fault_reply state = upload.fault_reply (upload_part state)
 abbrev pub takes_memory : Item → State → Bool
 takes_memory item next = upload.takes_memory item (upload_part next)
 
--- The reply to the connection (FTL0 1990, LOGIN_RESP): the moment; version 0, file headers in use, and whether the caller's
--- list has numbers left.
+-- LOGIN_RESP's flags: version 0, file headers in use, and in bit 3 whether the caller's list has numbers left
+abbrev pub flags : Bool → ℕ
+flags left = if left then 12 else 4
+
+-- the reply to the connection (FTL0 1990, LOGIN_RESP)
 abbrev pub greeting : ℕ → Bool → PacketValue
-greeting moment left = login_resp moment (if left then 12 else 4)
+greeting moment left = login_resp moment (flags left)
 
 -- a packet that is sent, and the state after it
 pub record DuePacket : Type 0 where

@@ -1,8 +1,8 @@
 -- How the code's session answers a packet, and what that does to the disk.
-use Rattle.std.specs.Prelude.{◌≡◌, ℕ, List, [], ◌∷◌, Bool, true, false, IsTrue, ⊤, Result, Ok, Err, IsErrOf}
+use Rattle.std.specs.Prelude.{◌≡◌, ℕ, List, [], ◌∷◌, Bool, true, IsTrue, ⊤, Result, Ok, Err, IsErrOf}
 use Rattle.px_base.specs.CallSign.{CallSign}
 use Rattle.disk_model.specs.declared.disk.Disk.{Ghosts}
-use Rattle.ftl0_packets.specs.Items.{kind_of_item, texts}
+use Rattle.ftl0_packets.specs.Items.{texts}
 use Rattle.ftl0_packets.specs.Layout.{Item}
 use Rattle.selection_lists.specs.Lists.{CallerList}
 use Rattle.file_entries.specs.Command.{DoesAll}
@@ -13,14 +13,13 @@ use Rattle.file_store.specs.State.{StandsOn, StoreState, store_in}
 use Rattle.ftl0_uploads.specs.declared.stop.ServerStop.{ServerStop as UploadStop}
 use Rattle.ftl0_uploads.specs.declared.stop.ServerStop.TheVariants as upload_stop
 use Rattle.ftl0_uploads.specs.Others.{KeepsOtherCallers}
-use Rattle.ftl0_uploads.specs.Session.{is_upload_kind}
-use Rattle.ftl0_uploads.specs.SessionState.{IsHeld, IsOnlyOut}
+use Rattle.ftl0_uploads.specs.SessionState.{IsHeld, IsOnlyOut, SessionState as Uploading}
 use Rattle.ftl0_downloads.specs.Needs.{AreComplete, IsDueIn}
-use Rattle.ftl0_downloads.specs.Table.{DownloadState, ready}
+use Rattle.ftl0_downloads.specs.Table.{DownloadState}
 use Rattle.ftl0_downloads.specs.Taking.{IsRow, made}
 use Rattle.ftl0_session.specs.declared.stop.ServerStop.{ServerStop}
 use Rattle.ftl0_session.specs.declared.stop.ServerStop.TheVariants as stop
-use Rattle.ftl0_session.specs.SessionState.{SessionState, caller_of, state_in}
+use Rattle.ftl0_session.specs.SessionState.{SessionState, caller_of, session_of, state_in}
 use Rattle.ftl0_session.specs.Table.{Row, State, command, download_row, fault_reply, session_row, takes_memory}
 
 -- what a session takes a packet over, and what it leaves for the next one: the store, the lists of all callers, its state
@@ -99,20 +98,16 @@ pub record Taken {D : Type 0} (g : Ghosts D) (moment : ℕ) (item : Item) (old n
   pub due : IsDueIn (store_in store_now) new.downloads
   pub complete : AreComplete (store_in store_now) lists_now
 
--- the packet is of uploading, and the session does nothing of downloading: its row is one of uploading
-pub record IsUpload (item : Item) (downloads : DownloadState) : Type 0 where
-  pub kind : is_upload_kind (kind_of_item item) ≡ true
-  pub free : downloads ≡ ready
-
--- A packet has this row of downloading, and it was made; or it has none, was not taken, and nothing changed. Before it
--- the disk was read, and a read failed or none did.
-pub record TakesDownload {D : Type 0} (g : Ghosts D) (item : Item) (old new : SessionState) (store : StoreState)
-    (lists lists_now : List CallerList) (disk disk_now : D) (replies : List ℕ) (taken : Bool) : Type 0 where
+-- A packet has a row of downloading, and that was made; or it has none, was not taken, and nothing changed. The disk was
+-- read, and a read failed or none did.
+pub record TakesDownload {D : Type 0} (g : Ghosts D) (item : Item) (uploads : Uploading)
+    (downloads downloads_now : DownloadState) (store : StoreState) (lists lists_now : List CallerList)
+    (disk disk_now : D) (replies : List ℕ) (taken : Bool) : Type 0 where
   pub fails : Bool
   pub reads : Reads g (IsTrue fails) disk disk_now
   pub is_row :
-      IsRow (download_row (caller_of old) (store_in store) lists (state_in store old) item fails) taken disk disk_now
-      (made old.downloads lists []) (made new.downloads lists_now replies)
+      IsRow (download_row uploads.caller (store_in store) lists (state_in store (session_of uploads downloads)) item fails)
+      taken disk disk_now (made downloads lists []) (made downloads_now lists_now replies)
 
 -- an answer of uploading, which has a row for the packet, as one of the session
 abbrev pub IsAnswer : Result ⊤ UploadStop → Result ⊤ ServerStop → Type 0

@@ -5,6 +5,7 @@
 //! store is on the disk before its replies are given.
 #![tactic(auto)]
 
+pub mod laws;
 mod session;
 mod stop;
 #[cfg(test)]

@@ -1,7 +1,7 @@
 //! The session of one caller: what each packet gives, and what is sent next (FTL0 1990).
 
-ghost use Rattle.std.specs.Prelude.{◌≡◌, [], ◌∷◌, false, true, IsErrOf, None};
-ghost use Rattle.ftl0_packets.specs.Items.{kind_of_item, texts};
+ghost use Rattle.std.specs.Prelude.{◌≡◌, ◌≢◌, ℕ, [], false, true, IsErrOf, None};
+ghost use Rattle.ftl0_packets.specs.Items.{kind_of_item};
 ghost use Rattle.ftl0_packets.specs.Layout.{packet_text};
 ghost use Rattle.ftl0_packets.specs.Values.{item_of};
 ghost use Rattle.selection_lists.specs.Lists.{has_left};
@@ -11,10 +11,11 @@ ghost use Rattle.ftl0_uploads.specs.Others.{KeepsOtherCallers};
 ghost use Rattle.ftl0_uploads.specs.Session.{is_upload_kind};
 ghost use Rattle.ftl0_uploads.specs.SessionState.{IsHeld, IsOnlyOut, NoOtherOut, Parks};
 ghost use Rattle.ftl0_downloads.specs.Needs.{AreComplete, IsDueIn};
+ghost use Rattle.ftl0_downloads.specs.Table.{ready};
 ghost use Rattle.ftl0_session.specs.Filling.{PutsDue};
-ghost use Rattle.ftl0_session.specs.SessionState.{MayTake, caller_of, new_session, state_in};
-ghost use Rattle.ftl0_session.specs.Table.{error_by, greeting};
-ghost use Rattle.ftl0_session.specs.Taking.{HasRow, IsAnswer, IsUpload, ReadsAlone, Taken, TakesDownload, TakesPacket};
+ghost use Rattle.ftl0_session.specs.SessionState.{DoesOne, MayTake, caller_of, new_session, session_of, state_in};
+ghost use Rattle.ftl0_session.specs.Table.{error_by, flags, greeting};
+ghost use Rattle.ftl0_session.specs.Taking.{HasRow, IsAnswer, ReadsAlone, Taken, TakesDownload, TakesPacket};
 ghost use Rattle.ftl0_session.specs.Taking.{row_over, working};
 
 use crate::ServerStop;
@@ -46,11 +47,11 @@ pub struct Session {
 }
 
 impl Model for Session {
-    ghost use Rattle.ftl0_session.specs.SessionState.{DoesOne, SessionState};
+    ghost use Rattle.ftl0_session.specs.SessionState.{DoesOne, SessionState, session_of};
 
     ghost Value = { SessionState };
 
-    ghost view = { λ a. record { uploads = a.uploads; downloads = a.downloads } };
+    ghost view = { λ a. session_of a.uploads a.downloads };
 
     ghost invariant = { λ a. DoesOne a.uploads.phase a.downloads };
 }
@@ -63,12 +64,11 @@ impl Session {
         ensures session { result ≡ new_session caller }
         ensures text { replies.new.items ≡ packet_text (greeting moment (has_left lists.now caller)) }
     {
-        let flags = if lists.left(caller) {
-            FLAGS + SELECTED
-        } else {
-            FLAGS
+        let greeting = Packet::LoginResp {
+            moment,
+            flags: flags_of(lists.left(caller)),
         };
-        write_packet(&Packet::LoginResp { moment, flags }, replies);
+        write_packet(&greeting, replies);
         Session {
             uploads: Uploads::of_caller(caller),
             downloads: Downloads::new(),
@@ -123,11 +123,16 @@ impl Session {
         ensures due { IsDueIn (store_in store.new) self.new.downloads }
         ensures complete { AreComplete (store_in store.new) lists.new }
     {
-        if is_of_uploading(&packet) && self.downloads.is_ready() {
-            return self.take_upload(disk, packet, moment, store, lists, replies);
-        }
-        self.take_other(disk, packet, store, lists, replies);
-        Ok(())
+        take_packet(
+            &mut self.uploads,
+            &mut self.downloads,
+            disk,
+            packet,
+            moment,
+            store,
+            lists,
+            replies,
+        )
     }
 
     /// Puts what is due next in place of what `out` holds: DATA of the next 254 octets, the last one shorter, or DATA_END
@@ -166,89 +171,143 @@ impl Session {
         } = self;
         uploads.end(store);
     }
+}
 
-    /// Takes a packet of uploading, while the session does nothing of downloading. The lists stay.
-    fn take_upload<D: Disk>(
-        &mut self,
-        disk: &mut D,
-        packet: Result<Packet<'_>, Malformed>,
-        moment: u32,
-        store: &mut FileStore,
-        lists: &Lists,
-        replies: &mut Replies,
-    ) -> Result<(), ServerStop>
-        requires empty { replies.old.items ≡ [] }
-        requires may { MayTake D.Disk store.old disk.old lists.now self.old }
-        requires upload { IsUpload (item_of packet.entry) self.old.downloads }
-        ensures { Taken D.Disk moment (item_of packet.entry) self.old self.new store.old store.new lists.now lists.now
-            disk.old disk.new replies.new.items result }
-    {
-        // While the store keeps its complete files, so do the lists.
-        stays_law();
-        answer_of(
-            self.uploads
-                .take(disk, packet, moment, store, replies),
-        )
+/// LOGIN_RESP's flags, by whether the caller's selection has numbers left.
+fn flags_of(left: bool) -> u8
+    ensures { result ≡ flags left }
+{
+    if left { FLAGS + SELECTED } else { FLAGS }
+}
+
+/// Takes a packet: by its row of uploading where it is of uploading and the session does nothing of downloading, else by its
+/// row of downloading, or by error 1.
+fn take_packet<D: Disk>(
+    uploads: &mut Uploads,
+    downloads: &mut Downloads,
+    disk: &mut D,
+    packet: Result<Packet<'_>, Malformed>,
+    moment: u32,
+    store: &mut FileStore,
+    lists: &mut Lists,
+    replies: &mut Replies,
+) -> Result<(), ServerStop>
+    requires empty { replies.old.items ≡ [] }
+    requires may { MayTake D.Disk store.old disk.old lists.old (session_of uploads.old downloads.old) }
+    requires one { DoesOne uploads.old.phase downloads.old }
+    ensures taken { Taken D.Disk moment (item_of packet.entry) (session_of uploads.old downloads.old)
+        (session_of uploads.new downloads.new) store.old store.new lists.old lists.new disk.old disk.new
+        replies.new.items result }
+    ensures one { DoesOne uploads.new.phase downloads.new }
+{
+    let of_uploading = is_of_uploading(&packet);
+    if of_uploading && downloads.is_ready() {
+        return take_upload(uploads, disk, packet, moment, store, lists, replies);
     }
+    take_other(
+        uploads,
+        downloads,
+        disk,
+        packet,
+        of_uploading,
+        store,
+        lists,
+        replies,
+    );
+    Ok(())
+}
 
-    /// Takes any other packet: its row of downloading, or error 1.
-    fn take_other<D: Disk>(
-        &mut self,
-        disk: &mut D,
-        packet: Result<Packet<'_>, Malformed>,
-        store: &mut FileStore,
-        lists: &mut Lists,
-        replies: &mut Replies,
-    )
-        requires empty { replies.old.items ≡ [] }
-        requires may { MayTake D.Disk store.old disk.old lists.old self.old }
-        requires other { ¬ IsUpload (item_of packet.entry) self.old.downloads }
-        ensures { (moment : _) → Taken D.Disk moment (item_of packet.entry) self.old self.new store.old store.new
-            lists.old lists.new disk.old disk.new replies.new.items (Ok tt) }
-    {
-        let of_uploading = is_of_uploading(&packet);
-        if !self.take_download(disk, packet, store, lists, replies) {
-            refuse(of_uploading, replies);
-        }
+/// Takes a packet of uploading, while the session does nothing of downloading. The lists stay.
+fn take_upload<D: Disk>(
+    uploads: &mut Uploads,
+    disk: &mut D,
+    packet: Result<Packet<'_>, Malformed>,
+    moment: u32,
+    store: &mut FileStore,
+    lists: &Lists,
+    replies: &mut Replies,
+) -> Result<(), ServerStop>
+    requires empty { replies.old.items ≡ [] }
+    requires may { MayTake D.Disk store.old disk.old lists.now (session_of uploads.old ready) }
+    requires kind { is_upload_kind (kind_of_item (item_of packet)) ≡ true }
+    ensures { Taken D.Disk moment (item_of packet.entry) (session_of uploads.old ready) (session_of uploads.new ready)
+        store.old store.new lists.now lists.now disk.old disk.new replies.new.items result }
+{
+    // While the store keeps its complete files, so do the lists.
+    stays_law();
+    answer_of(uploads.take(disk, packet, moment, store, replies))
+}
+
+/// Takes any other packet: by its row of downloading, or by error 1.
+fn take_other<D: Disk>(
+    uploads: &Uploads,
+    downloads: &mut Downloads,
+    disk: &mut D,
+    packet: Result<Packet<'_>, Malformed>,
+    of_uploading: bool,
+    store: &mut FileStore,
+    lists: &mut Lists,
+    replies: &mut Replies,
+)
+    requires empty { replies.old.items ≡ [] }
+    requires may { MayTake D.Disk store.old disk.old lists.old (session_of uploads.now downloads.old) }
+    requires one { DoesOne uploads.now.phase downloads.old }
+    requires kind { of_uploading ≡ is_upload_kind (kind_of_item (item_of packet)) }
+    requires other { of_uploading ≡ true → downloads.old ≢ ready }
+    ensures taken { (moment : ℕ) → Taken D.Disk moment (item_of packet.entry) (session_of uploads.now downloads.old)
+        (session_of uploads.now downloads.new) store.old store.new lists.old lists.new disk.old disk.new
+        replies.new.items (Ok tt) }
+    ensures one { DoesOne uploads.now.phase downloads.new }
+{
+    if take_download(uploads, downloads, disk, packet, store, lists, replies) {
+        return;
     }
+    refuse(of_uploading, replies);
+}
 
-    /// Takes a packet that has a row of downloading. It answers false, and nothing changed, exactly where it has none.
-    fn take_download<D: Disk>(
-        &mut self,
-        disk: &mut D,
-        packet: Result<Packet<'_>, Malformed>,
-        store: &mut FileStore,
-        lists: &mut Lists,
-        replies: &mut Replies,
-    ) -> bool
-        requires empty { replies.old.items ≡ [] }
-        requires may { MayTake D.Disk store.old disk.old lists.old self.old }
-        ensures takes { TakesDownload D.Disk (item_of packet.entry) self.old self.new store.old lists.old lists.new
-            disk.old disk.new replies.new.items result }
-        ensures uploads { self.new.uploads ≡ self.old.uploads }
-        ensures store { store.new ≡ store.old }
-        ensures may { MayTake D.Disk store.new disk.new lists.new self.new }
-    {
-        match packet {
-            Ok(packet) if self.uploads.is_ready() => {
-                let caller = self.uploads.caller();
-                self.downloads
-                    .take(disk, &packet, caller, store, lists, replies)
-            }
-            _ => false,
-        }
+/// Takes a packet that has a row of downloading. It answers false, and nothing changed, exactly where it has none.
+fn take_download<D: Disk>(
+    uploads: &Uploads,
+    downloads: &mut Downloads,
+    disk: &mut D,
+    packet: Result<Packet<'_>, Malformed>,
+    store: &mut FileStore,
+    lists: &mut Lists,
+    replies: &mut Replies,
+) -> bool
+    requires empty { replies.old.items ≡ [] }
+    requires may { MayTake D.Disk store.old disk.old lists.old (session_of uploads.now downloads.old) }
+    ensures takes { TakesDownload D.Disk (item_of packet.entry) uploads.now downloads.old downloads.new store.old
+        lists.old lists.new disk.old disk.new replies.new.items result }
+    ensures store { store.new ≡ store.old }
+    ensures stands_on { StandsOn D.Disk store.new disk.new }
+    ensures due { IsDueIn (store_in store.new) downloads.new }
+    ensures complete { AreComplete (store_in store.new) lists.new }
+{
+    let Ok(packet) = packet else {
+        return false;
+    };
+    if !uploads.is_ready() {
+        return false;
+    }
+    downloads.take(disk, &packet, uploads.caller(), store, lists, replies)
+}
+
+/// The type of a packet, malformed or not.
+fn kind_of(packet: &Result<Packet<'_>, Malformed>) -> u8
+    ensures { result ≡ kind_of_item (item_of packet.now) }
+{
+    match packet {
+        Ok(packet) => packet.kind(),
+        Err(malformed) => malformed.kind,
     }
 }
 
-/// Whether the packet is of uploading: DATA, DATA_END or UPLOAD_CMD, malformed or not.
+/// Whether a packet is of uploading: DATA, DATA_END or UPLOAD_CMD, malformed or not.
 fn is_of_uploading(packet: &Result<Packet<'_>, Malformed>) -> bool
     ensures { result ≡ is_upload_kind (kind_of_item (item_of packet.now)) }
 {
-    let kind = match packet {
-        Ok(packet) => packet.kind(),
-        Err(malformed) => malformed.kind,
-    };
-    matches!(kind, 0 | 1 | 3)
+    matches!(kind_of(packet), 0 | 1 | 3)
 }
 
 /// The answer of uploading to a packet that has a row of it.
@@ -266,13 +325,11 @@ fn answer_of(taken: Result<(), UploadStop>) -> Result<(), ServerStop>
 
 /// A packet that is malformed or has no row in the state: error 1.
 fn refuse(of_uploading: bool, replies: &mut Replies)
-    requires { replies.old.items ≡ [] }
     ensures { replies.new.items ≡ packet_text (error_by of_uploading) }
 {
-    let error = if of_uploading {
-        Packet::UlErrorResp(ILL_FORMED)
+    if of_uploading {
+        write_packet(&Packet::UlErrorResp(ILL_FORMED), replies);
     } else {
-        Packet::DlErrorResp(ILL_FORMED)
-    };
-    write_packet(&error, replies);
+        write_packet(&Packet::DlErrorResp(ILL_FORMED), replies);
+    }
 }
