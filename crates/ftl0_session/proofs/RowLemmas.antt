@@ -32,6 +32,12 @@ download_part-is (download.sending number place last) = refl
 download_part-is download.waiting = refl
 download_part-is (download.listing dues) = refl
 
+-- nothing is done of downloading, whatever is done of uploading
+pub one-free : (here : Phase) (part : DownloadState) → part ≡ ready → DoesOne here part
+one-free phase.Command part free = tt
+one-free (phase.Receiving up) part free = free
+one-free phase.Aborting part free = free
+
 -- ---- rows of uploading
 
 -- of a session that does nothing of downloading

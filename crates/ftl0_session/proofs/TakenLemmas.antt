@@ -10,13 +10,14 @@ use Rattle.file_journal.specs.Calls.{Reads}
 use Rattle.file_journal.proofs.CallLemmas.{puts_none, reads_none}
 use Rattle.file_entries.specs.Command.{Command, DoesAll}
 use Rattle.file_store.specs.OnDisk.{Does}
-use Rattle.file_store.specs.State.{StoreState, store_in}
+use Rattle.file_store.specs.State.{StandsOn, StoreState, store_in}
 use Rattle.file_store.proofs.DoesLemmas.{Does-none}
 use Rattle.ftl0_uploads.specs.declared.phase.Phase.{Phase}
 use Rattle.ftl0_uploads.specs.declared.phase.Phase.TheVariants as phase
 use Rattle.ftl0_uploads.specs.Session.{is_upload_kind}
 use Rattle.ftl0_uploads.specs.SessionState.{SessionState as Uploading, state_of}
 use Rattle.ftl0_uploads.proofs.Rows.{others-same}
+use Rattle.ftl0_downloads.specs.Needs.{AreComplete, IsDueIn}
 use Rattle.ftl0_downloads.specs.Table.{DownloadRow, DownloadState}
 use Rattle.ftl0_downloads.specs.Taking.{IsRow, Made, made, made_by}
 use Rattle.ftl0_session.specs.declared.stop.ServerStop.{ServerStop}
@@ -41,6 +42,19 @@ row-passed None disk disk_now before now is = (refl, is.2)
 row-passed (Some row) disk disk_now before now is = absurd (let e : false ≡ true = is.0 in cc)
 
 module _ {D : Type 0} (g : Ghosts D) where
+  -- what the next packet needs, where the store stayed
+  pub may-still : (uploads : Uploading) (part part_now : DownloadState) (store store_now : StoreState) (lists lists_now : List CallerList) (disk disk_now : D) → store_now ≡ store
+      → MayTake g store disk lists (session_of uploads part) → StandsOn g store_now disk_now → IsDueIn (store_in store_now) part_now → AreComplete (store_in store_now) lists_now
+      → MayTake g store disk_now lists_now (session_of uploads part_now)
+  may-still uploads part part_now store store_now lists lists_now disk disk_now same may stands due complete = record {
+    healthy = may.healthy;
+    stands_on = subst (λ (s : StoreState). StandsOn g s disk_now) same stands;
+    held = may.held;
+    only = may.only;
+    due = subst (λ (s : StoreState). IsDueIn (store_in s) part_now) same due;
+    complete = subst (λ (s : StoreState). AreComplete (store_in s) lists_now) same complete;
+  }
+
   -- a row without commands
   still : (moment : ℕ) (item : Item) (old new : SessionState) (store : StoreState) (lists lists_now : List CallerList) (disk disk_now : D) (replies : List ℕ) (fails : Bool) (row : Row)
       → row_over (caller_of old) moment (working old store lists) item fails ≡ row → row.commands ≡ [] → lists_now ≡ row.lists → state_in store new ≡ row.state → replies ≡ texts row.replies

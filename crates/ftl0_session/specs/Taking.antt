@@ -1,5 +1,5 @@
 -- How the code's session answers a packet, and what that does to the disk.
-use Rattle.std.specs.Prelude.{◌≡◌, ℕ, List, [], ◌∷◌, Bool, true, IsTrue, ⊤, Result, Ok, Err, IsErrOf}
+use Rattle.std.specs.Prelude.{◌≡◌, ℕ, List, [], ◌∷◌, Bool, true, false, IsTrue, ⊤, Result, Ok, Err, IsErrOf}
 use Rattle.px_base.specs.CallSign.{CallSign}
 use Rattle.disk_model.specs.declared.disk.Disk.{Ghosts}
 use Rattle.ftl0_packets.specs.Items.{texts}

@@ -1,6 +1,7 @@
-//! Laws of the session's whole table, as far as it is of uploading.
+//! Laws of the session's whole table, as far as it is of uploading, and of a session over events.
 
 ghost use Rattle.ftl0_session.specs.Laws.{AcknowledgedLaw, AcknowledgedStandsLaw, GrantedLaw, ResumedLaw, UploadsLaw};
+ghost use Rattle.ftl0_session.specs.Run.{CommandsLaw, UploadRunLaw};
 
 /// Each row of uploading is a row of the whole table: what holds of the rows of `ftl0_uploads` holds of it.
 pub fn uploads_law()
@@ -28,4 +29,15 @@ pub fn acknowledged_law()
 /// at least these commands, whatever comes behind them.
 pub fn acknowledged_stands_law()
     ensures { AcknowledgedStandsLaw }
+{}
+
+/// The store that a session over events comes to is the one after the commands of their rows.
+pub fn commands_law()
+    ensures { CommandsLaw }
+{}
+
+/// Over packets of uploading a session that does nothing of downloading says and does what uploading says and does: what
+/// holds of uploading over events holds of the whole session.
+pub fn upload_run_law()
+    ensures { UploadRunLaw }
 {}
