@@ -1,16 +1,16 @@
 -- What is due, and what is left of it once octets were sent.
-use Rattle.std.proofs.Common.{◌≡◌, ℕ, zero, suc, ◌+◌, ◌-◌, ◌≤◌, ◌<◌, min, List, [], ◌∷◌, ◌++◌, length, map, get_or, take, drop, refl, sym, ap, ◌∙◌, append_assoc, arith, rules, inl, inr}
+use Rattle.std.proofs.Common.{◌≡◌, ℕ, zero, suc, ◌+◌, ◌-◌, ◌≤◌, ◌<◌, min, List, [], ◌∷◌, ◌++◌, length, map, get_or, take, drop, refl, sym, ap, ◌∙◌, append_assoc, arith, inl, inr, true}
 use Rattle.std.proofs.Common.{length-append, length-drop, drop-cons, add-one}
 use Rattle.std.proofs.Math.Seq.{take-append-add, drop-append-add, take-length, drop-length}
 use Rattle.std.proofs.lemmas.Bool.{cases_lt}
 use Rattle.std.proofs.lemmas.Grind.{common_steps}
-use Rattle.std.proofs.lemmas.List.{drop-append-le, drop-drop, drop-take, length-take, take-append-drop, take-append-le, take_min}
-use Rattle.std.specs.List.{AllByRecursion, flat_map}
+use Rattle.std.proofs.lemmas.List.{drop-append-le, drop-drop, drop-take, length-take, flat_map_more, map-append, take-append-le, take_min, take_more}
+use Rattle.std.specs.List.{AllByRecursion, flat_map, list_any}
 use Rattle.file_entries.specs.Info.{IsCompleteIn}
 use Rattle.file_entries.specs.Kept.{KeepsComplete}
 use Rattle.file_entries.specs.Store.{Store, entry_of, octets_at}
 use Rattle.ftl0_downloads.specs.Needs.{AreStored, IsDueIn, IsStored, LiesIn}
-use Rattle.ftl0_downloads.specs.Sending.{after_octets, due_len, due_octets, joined, moved, octets_due, state_after, state_at_end}
+use Rattle.ftl0_downloads.specs.Sending.{after_octets, due_len, due_octets, is_stored, joined, moved, octets_due, state_after, state_at_end}
 use Rattle.ftl0_downloads.specs.Table.{DownloadState, Due, kept, listing, octets_in, ready, sending, stored, waiting}
 
 -- ---- fronts and rests of lists
@@ -222,3 +222,73 @@ pub at-map : {X Y : Type 0} (P : Y → Type 0) (f : X → Y) (xs : List X) (i : 
 at-map P f [] i d lt all = absurd (omega (arith, lt))
 at-map P f (x ∷ xs) zero d lt all = all.0
 at-map P f (x ∷ xs) (suc i) d lt all = at-map P f xs i d (omega (arith, lt)) all.1
+
+-- something is due of one, so of all
+pub some-at : (store : Store) {X : Type 0} (f : X → Due) (xs : List X) (i : ℕ) (d : X) → i < length xs → IsStored store (f (get_or xs i d)) → 0 < due_len (f (get_or xs i d))
+    → 0 < length (joined store (map f xs))
+some-at store f [] i d lt is some = absurd (omega (arith, lt))
+some-at store f (x ∷ xs) zero d lt is some =
+    omega (arith, some, length-due store (f x) is, length-append (due_octets store (f x)) (joined store (map f xs)))
+some-at store f (x ∷ xs) (suc i) d lt is some =
+    omega (arith, some-at store f xs i d (omega (arith, lt)) is some, length-append (due_octets store (f x)) (joined store (map f xs)))
+
+-- the rest from a place on
+rest-at : {X : Type 0} (xs : List X) (i : ℕ) (d : X) → i < length xs → drop i xs ≡ get_or xs i d ∷ drop (i + 1) xs
+rest-at xs i d lt = rw (add-one, drop-cons xs i d)
+
+module _ (store : Store) {X : Type 0} (f : X → Due) (xs : List X) (i : ℕ) (d : X) (lt : i < length xs) (part octets : List ℕ) (few : length part ≤ 254)
+    (is : octets ≡ part ++ take (254 - length part) (due_octets store (f (get_or xs i d)))) where
+  pub step-octets : (whole : List ℕ) → part ++ take (254 - length part) (joined store (map f (drop i xs))) ≡ whole
+      → octets ++ take (254 - length octets) (joined store (map f (drop (i + 1) xs))) ≡ whole
+  step-octets whole so_far =
+      ap (λ (l : List ℕ). l ++ take (254 - length l) (joined store (map f (drop (i + 1) xs)))) is
+      ∙ part-more part (due_octets store (f (get_or xs i d))) (joined store (map f (drop (i + 1) xs))) 254 few
+      ∙ ap (λ (l : List X). part ++ take (254 - length part) (joined store (map f l))) (sym (rest-at xs i d lt))
+      ∙ so_far
+
+  pub step-few : length octets ≤ 254
+  step-few =
+      omega (
+        arith,
+        few,
+        ap (λ (l : List ℕ). length l) is,
+        length-append part (take (254 - length part) (due_octets store (f (get_or xs i d)))),
+        length-take (254 - length part) (due_octets store (f (get_or xs i d))),
+      )
+
+  pub step-left : (lies : IsStored store (f (get_or xs i d))) (left : List X) (moved_on : X) (whole : List Due) → f moved_on ≡ moved (min (254 - length part) (due_len (f (get_or xs i d)))) (f (get_or xs i d))
+      → map f left ++ after_octets (254 - length part) (map f (drop i xs)) ≡ whole
+      → map f (left ++ moved_on ∷ []) ++ after_octets (254 - length octets) (map f (drop (i + 1) xs)) ≡ whole
+  step-left lies left moved_on whole here so_far =
+      let later : List Due = map f (drop (i + 1) xs) in
+      let room : 254 - length octets ≡ (254 - length part) - due_len (f (get_or xs i d)) =
+      ap (λ (l : List ℕ). 254 - length l) is ∙ room-more part (due_octets store (f (get_or xs i d))) 254 few
+      ∙ ap (λ (k : ℕ). (254 - length part) - k) (length-due store (f (get_or xs i d)) lies) in
+      ap (λ (l : List Due). l ++ after_octets (254 - length octets) later) (map-append f left (moved_on ∷ []))
+      ∙ append_assoc (map f left) (f moved_on ∷ []) (after_octets (254 - length octets) later)
+      ∙ ap (λ (due : Due). map f left ++ due ∷ after_octets (254 - length octets) later) here
+      ∙ ap (λ (k : ℕ). map f left ++ moved (min (254 - length part) (due_len (f (get_or xs i d)))) (f (get_or xs i d)) ∷ after_octets k later) room
+      ∙ ap (λ (l : List X). map f left ++ after_octets (254 - length part) (map f l)) (sym (rest-at xs i d lt))
+      ∙ so_far
+
+-- octets of one more
+pub flat-more : (f : ℕ → List ℕ) (xs : List ℕ) (i : ℕ) (octets more : List ℕ) → i < length xs → octets ≡ flat_map f (take i xs) → more ≡ f (get_or xs i 0)
+    → octets ++ more ≡ flat_map f (take (i + 1) xs)
+flat-more f xs i octets more lt is here =
+    ap (λ (l : List ℕ). l ++ more) is ∙ ap (λ (l : List ℕ). flat_map f (take i xs) ++ l) here
+    ∙ flat_map_more f [] (take i xs) (get_or xs i 0)
+    ∙ ap (flat_map f) (sym (take_more xs i 0 lt))
+
+-- what is kept is not read, and headers are
+pub read-some : (store : Store) {X : Type 0} (f : X → Due) (xs : List X) → ((x : X) → is_stored (f x) ≡ true) → 0 < length (joined store (map f xs)) → list_any is_stored (map f xs) ≡ true
+read-some store f [] stores some = absurd (omega (arith, some))
+read-some store f (x ∷ xs) stores some = rw (stores x) refl
+
+-- the first octets of those that are left
+pub first-left : (forms shown : List ℕ) (sent count : ℕ) → shown ≡ forms → count ≡ min (length (take (length shown - sent) (drop sent shown))) 254
+    → take count (take (length shown - sent) (drop sent shown)) ≡ take 254 (drop sent forms)
+first-left forms shown sent count same is =
+    let left : List ℕ = drop sent shown in
+    let all : take (length shown - sent) left ≡ left = take-all (length shown - sent) left (omega (arith, length-drop sent shown)) in
+    let least : count ≡ min 254 (length left) = omega (arith, is, ap (λ (l : List ℕ). length l) all) in
+    ap (λ (l : List ℕ). take count l) all ∙ ap (λ (k : ℕ). take k left) least ∙ take_min 254 left ∙ ap (λ (l : List ℕ). take 254 (drop sent l)) same

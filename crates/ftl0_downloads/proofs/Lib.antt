@@ -5,3 +5,4 @@ pub mod ListLemmas
 pub mod ReadsLemmas
 pub mod SelectLemmas
 pub mod SentLemmas
+pub mod TakeLemmas

@@ -2,6 +2,8 @@
 use Rattle.std.proofs.Common.{◌≡◌, ℕ, ◌==◌, ◌≤◌, List, [], ◌∷◌, ◌++◌, length, map, drop, Bool, true, false, not, cond, Some, refl, arith}
 use Rattle.std.specs.Prelude.{All, find, filter}
 use Rattle.std.specs.List.{AllByRecursion}
+use Rattle.std.proofs.lemmas.Bool.Decides.{nat_tests}
+use Rattle.std.proofs.lemmas.List.{length-take}
 use Rattle.std.proofs.lemmas.List.Elements.{All-append, All-cons, All-drop, All-filter, All-from_recursion, All-map, All-nil, All-take, All-weaker, recursion_from_All}
 use Rattle.px_base.specs.CallSign.{CallSign}
 use Rattle.selection_lists.specs.Lists.{CallerList, after_taking, is_of, left_of, lists_of_others, numbers_or_none, selected, shortened}
@@ -9,7 +11,7 @@ use Rattle.file_entries.specs.Info.{IsCompleteIn}
 use Rattle.file_entries.specs.Kept.{KeepsComplete}
 use Rattle.file_entries.specs.Store.{Store}
 use Rattle.ftl0_downloads.specs.Needs.{AreComplete, AreFiles}
-use Rattle.ftl0_downloads.specs.Table.{lists_after}
+use Rattle.ftl0_downloads.specs.Table.{listed_files, lists_after}
 use Rattle.ftl0_downloads.proofs.DueLemmas.{complete-kept}
 
 -- the list's numbers are those of complete files
@@ -60,3 +62,9 @@ pub lists-kept : (before now : Store) (lists : List CallerList) → KeepsComplet
 lists-kept before now lists keeps are =
     All-weaker (IsOfFiles before) (IsOfFiles now)
     (λ list of. All-weaker (IsCompleteIn before) (IsCompleteIn now) (λ number is. complete-kept before now number keeps is) list.numbers of) lists are
+
+-- a directory command with number 0 lists no more than are left
+pub listed-few : (lists : List CallerList) (caller : CallSign) (number : ℕ) → number ≡ 0 → length (listed_files lists caller number) ≤ length (left_of lists caller)
+listed-few lists caller number zero =
+    let test : (number == 0) ≡ true = grind (arith, nat_tests) in
+    rw test (omega (arith, length-take 10 (left_of lists caller)))

@@ -1,5 +1,5 @@
 -- Reads of a disk, one after another.
-use Rattle.std.proofs.Common.{◌≡◌, true, false}
+use Rattle.std.proofs.Common.{◌≡◌, true, false, Result, Ok, Err, OnErr}
 use Rattle.disk_model.specs.declared.disk.Disk.{Ghosts}
 use Rattle.file_journal.specs.Calls.{Reads}
 use Rattle.file_journal.proofs.CallLemmas.{reads_none, reads_on, reads_same}
@@ -17,3 +17,8 @@ module _ {D : Type 0} (g : Ghosts D) where
     -- the last one, which failed or didn't
     pub the-last : (P Q : Type 0) → (P → Q) → (Q → P) → Reads g P mid new → Reads g Q old new
     the-last P Q there back second = reads_on g on old mid new ⊥ Q (λ never. never) first (reads_same g mid new P Q there back second)
+
+-- what holds anyway holds at an error
+pub at_error : {T E P : Type 0} (result : Result T E) → P → OnErr result P
+at_error (Ok x) p = tt
+at_error (Err e) p = p

@@ -16,7 +16,7 @@ use Rattle.file_entries.specs.Store.{Store}
 use Rattle.ftl0_downloads.specs.Laws.{BeginWithHeaders, IsSent, Sends, SendsAll}
 use Rattle.ftl0_downloads.specs.Needs.{AreFiles, AreStored, IsDueIn, LiesIn}
 use Rattle.ftl0_downloads.specs.Sending.{DuePacket, due_octets, due_packet, is_due, is_read, joined, most_data, next_due, octets_due, state_after, state_at_end}
-use Rattle.ftl0_downloads.specs.Table.{DownloadRow, DownloadState, Due, command_row, download_row, file_of, file_row, header_due, kept, listing, long_due, octets_in, ready, sending, short_due, short_octets, stored, waiting}
+use Rattle.ftl0_downloads.specs.Table.{DownloadRow, DownloadState, Due, command_row, download_row, file_of, file_row, header_due, kept, lists_after, listing, long_due, octets_in, ready, sending, short_due, short_octets, stored, waiting}
 use Rattle.ftl0_downloads.proofs.DueLemmas.{due-after, octets_due-after, take-all}
 use Rattle.ftl0_downloads.proofs.FileLemmas.{file-complete}
 
@@ -103,13 +103,17 @@ sent-same store state octets is due same =
 
 -- ---- a download
 
+none-taken : (lists : List CallerList) (caller : CallSign) (number count : ℕ) → (number == 0) ≡ false → lists_after lists caller number count ≡ lists
+none-taken lists caller number count is = rw is refl
+
 granted : (caller : CallSign) (store : Store) (lists : List CallerList) (number offset : ℕ) (file : List ℕ) → number ≢ 0 → file_of store number ≡ Some file → offset ≤ length file
     → download_row caller store lists ready (download_cmd number offset 0) false ≡ Some (record { state = sending number offset (length file); lists = lists; replies = [] })
 unfolding download_row command_row
 granted caller store lists number offset file not_zero is within =
     let test : (number == 0) ≡ false = grind (arith, nat_tests) in
     let fits : nat_lt (length file) offset ≡ false = grind (arith, nat_tests) in
-    rw test (rw is (rw fits refl))
+    rw test (rw is (rw fits (ap (λ (l : List CallerList). let row : DownloadRow = record { state = sending number offset (length file); lists = l; replies = [] } in Some row)
+    (none-taken lists caller number 1 test))))
 
 pub downloaded : (caller : CallSign) (store : Store) (lists : List CallerList) (number offset : ℕ) (file : List ℕ) → number ≢ 0 → file_of store number ≡ Some file → offset ≤ length file → IsSent caller store lists number offset file
 downloaded caller store lists number offset file not_zero is within =
@@ -144,22 +148,33 @@ header-lies store number is begins =
 header-due : (store : Store) (number : ℕ) → IsHeaderOf (octets_in store number) (header_octets (octets_in store number)) → due_octets store (header_due store number) ≡ header_octets (octets_in store number)
 header-due store number begins =
     let file = octets_in store number in
-    ap (λ (l : List ℕ). take (length (header_octets file)) l) begins.front
+    let all : length (header_octets file) - 0 ≡ length (header_octets file) = omega arith in
+    ap (λ (k : ℕ). take k file) all
+    ∙ ap (λ (l : List ℕ). take (length (header_octets file)) l) begins.front
     ∙ take-append_seam (header_octets file) (body_octets file)
+
+-- the file begins with its header
+abbrev Begins : Store → ℕ → Type 0
+Begins store number = IsHeaderOf (octets_in store number) (header_octets (octets_in store number))
+
+others : (store : Store) (number : ℕ) (numbers : List ℕ) → BeginWithHeaders store (number ∷ numbers) → BeginWithHeaders store numbers
+others store number numbers are = record {
+  complete = All-tail (IsCompleteIn store) number numbers are.complete;
+  headers = All-tail (Begins store) number numbers are.headers;
+}
 
 pub headers-lie : (store : Store) (numbers : List ℕ) → BeginWithHeaders store numbers → AreStored store (long_due store numbers)
 headers-lie store [] are = tt
 headers-lie store (number ∷ numbers) are = (
-  header-lies store number (All-head _ number numbers are.complete) (All-head _ number numbers are.headers),
-  headers-lie store numbers (record { complete = All-tail _ number numbers are.complete; headers = All-tail _ number numbers are.headers }),
+  header-lies store number (All-head (IsCompleteIn store) number numbers are.complete) (All-head (Begins store) number numbers are.headers),
+  headers-lie store numbers (others store number numbers are),
 )
 
 headers-due : (store : Store) (numbers : List ℕ) → BeginWithHeaders store numbers → joined store (long_due store numbers) ≡ flat_map (λ number. header_octets (octets_in store number)) numbers
 headers-due store [] are = refl
 headers-due store (number ∷ numbers) are =
-    let rest : BeginWithHeaders store numbers = record { complete = All-tail _ number numbers are.complete; headers = All-tail _ number numbers are.headers } in
-    ap (λ (l : List ℕ). l ++ joined store (long_due store numbers)) (header-due store number (All-head _ number numbers are.headers))
-    ∙ ap (λ (l : List ℕ). header_octets (octets_in store number) ++ l) (headers-due store numbers rest)
+    ap (λ (l : List ℕ). l ++ joined store (long_due store numbers)) (header-due store number (All-head (Begins store) number numbers are.headers))
+    ∙ ap (λ (l : List ℕ). header_octets (octets_in store number) ++ l) (headers-due store numbers (others store number numbers are))
 
 pub long-listed : (store : Store) (numbers : List ℕ) → BeginWithHeaders store numbers → SendsAll store (listing (long_due store numbers)) (flat_map (λ number. header_octets (octets_in store number)) numbers) ready
 long-listed store numbers are =

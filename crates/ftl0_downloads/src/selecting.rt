@@ -41,7 +41,8 @@ pub(crate) fn chosen_files<D: Disk>(
     let mut numbers = ArrayVec::new();
     let mut above = 0;
     while let Some(number) = store.numbers(above) {
-        if is_chosen(disk, store, number, selection)? {
+        let holds = is_chosen(disk, store, number, selection)?;
+        if holds {
             numbers.push(number);
         }
         above = number;

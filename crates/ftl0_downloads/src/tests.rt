@@ -71,6 +71,16 @@ fn keep<D: Disk>(rt: &impl Abort, disk: &mut D, store: &mut FileStore, file: &[u
     }
 }
 
+/// Stores these files, one after another.
+fn keep_all<D: Disk>(rt: &impl Abort, disk: &mut D, store: &mut FileStore, files: &[&[u8]])
+    requires { StandsOn D.Disk store.old disk.old }
+    ensures { StandsOn D.Disk store.new disk.new }
+{
+    for file in files {
+        keep(rt, disk, store, file);
+    }
+}
+
 /// Takes the packet of these octets: whether it has a row. The replies are heard.
 fn say<D: Disk>(
     rt: &impl Abort,
@@ -117,7 +127,7 @@ fn fill<D: Disk>(
     ensures stands_on { StandsOn D.Disk store.new disk.new }
     ensures due { IsDueIn (store_in store.new) downloads.new }
 {
-    for _ in 0..12 {
+    'due: for _ in 0..12 {
         let mut out = ArrayVec::new();
         if !downloads.fill(disk, store, &mut out) {
             return;
@@ -212,26 +222,32 @@ fn a_download_is_given_up_while_data_is_due(rt: HostRuntime) -> Result<(), Fail>
     let mut lists = Lists::new(rt.alloc())?;
     let mut downloads = Downloads::new();
     let mut heard = ArrayVec::new();
-    for (says, ready) in [
-        (
-            [0x09, 0x08, 0x01, 0, 0, 0, 0, 0, 0, 0, 0x00].as_slice(),
-            false,
-        ),
-        ([0x00, 0x0D].as_slice(), true),
-    ] {
-        assert!(rt;
-            say(
-                &rt,
-                &mut downloads,
-                &mut disk,
-                &mut store,
-                &mut lists,
-                says,
-                &mut heard
-            )
-        );
-        assert_eq!(rt; downloads.is_ready(), ready);
-    }
+    let asks = [0x09, 0x08, 0x01, 0, 0, 0, 0, 0, 0, 0, 0x00];
+    assert!(rt;
+        say(
+            &rt,
+            &mut downloads,
+            &mut disk,
+            &mut store,
+            &mut lists,
+            &asks,
+            &mut heard
+        )
+    );
+    assert!(rt; !downloads.is_ready());
+    let gives_up = [0x00, 0x0D];
+    assert!(rt;
+        say(
+            &rt,
+            &mut downloads,
+            &mut disk,
+            &mut store,
+            &mut lists,
+            &gives_up,
+            &mut heard
+        )
+    );
+    assert!(rt; downloads.is_ready());
     fill(&rt, &mut downloads, &mut disk, &mut store, &mut heard);
     assert_eq!(rt; heard.as_slice(), [0x00, 0x0A].as_slice());
     Ok(())
@@ -264,8 +280,8 @@ fn the_rest_of_a_file_is_sent(rt: HostRuntime) -> Result<(), Fail> {
     let limits = Limits { blocks: 8 };
     let mut store = FileStore::recover(rt.alloc(), &mut disk, limits)?;
     let mut body = [0; 1_027];
-    for (place, octet) in (0_u8..76).zip(&mut body[951..]) {
-        *octet = 100 + place;
+    for place in 0..76 {
+        body[951 + place] = 100 + place as u8;
     }
     let file = file_with(&rt, rt.alloc(), None, &[], &body);
     assert_eq!(rt; file.len(), 1_100);
@@ -274,8 +290,8 @@ fn the_rest_of_a_file_is_sent(rt: HostRuntime) -> Result<(), Fail> {
     let mut lists = Lists::new(rt.alloc())?;
     let mut rest = [0; 80];
     rest[0] = 0x4C;
-    for (place, octet) in (0_u8..76).zip(&mut rest[2..]) {
-        *octet = 100 + place;
+    for place in 0..76 {
+        rest[2 + place] = 100 + place as u8;
     }
     rest[79] = 0x01;
     let rows: [Row<'_>; 4] = [
@@ -301,17 +317,19 @@ fn files_are_selected_and_listed(rt: HostRuntime) -> Result<(), Fail> {
     let mut disk = MemoryDisk::new(rt.alloc(), &[], &[])?;
     let limits = Limits { blocks: 8 };
     let mut store = FileStore::recover(rt.alloc(), &mut disk, limits)?;
-    let files: [(Option<u8>, &[&[u8]]); 5] = [
-        (Some(2), &[b"KB0ABC"]),
-        (Some(3), &[b"KB0ABC"]),
-        (Some(9), &[b"KA9XYZ"]),
-        (None, &[b"KB0ABC"]),
-        (Some(5), &[b"KA9XYZ", b"KB0ABC"]),
+    let first = file_with(&rt, rt.alloc(), Some(2), &[b"KB0ABC"], &[]);
+    let second = file_with(&rt, rt.alloc(), Some(3), &[b"KB0ABC"], &[]);
+    let third = file_with(&rt, rt.alloc(), Some(9), &[b"KA9XYZ"], &[]);
+    let fourth = file_with(&rt, rt.alloc(), None, &[b"KB0ABC"], &[]);
+    let fifth = file_with(&rt, rt.alloc(), Some(5), &[b"KA9XYZ", b"KB0ABC"], &[]);
+    let files = [
+        first.as_slice(),
+        second.as_slice(),
+        third.as_slice(),
+        fourth.as_slice(),
+        fifth.as_slice(),
     ];
-    for (priority, destinations) in files {
-        let file = file_with(&rt, rt.alloc(), priority, destinations, &[]);
-        keep(&rt, &mut disk, &mut store, file.as_slice());
-    }
+    keep_all(&rt, &mut disk, &mut store, &files);
     let mut store = FileStore::recover(rt.alloc(), &mut disk, limits)?;
     let mut lists = Lists::new(rt.alloc())?;
     // File 2 has 86 octets; its short form has the sum of its own octets, its header that of all.
@@ -363,20 +381,17 @@ fn headers_are_sent_across_packets(rt: HostRuntime) -> Result<(), Fail> {
     let mut disk = MemoryDisk::new(rt.alloc(), &[], &[])?;
     let limits = Limits { blocks: 16 };
     let mut store = FileStore::recover(rt.alloc(), &mut disk, limits)?;
-    for _ in 0..11 {
-        keep(&rt, &mut disk, &mut store, &FILE);
-    }
+    keep_all(&rt, &mut disk, &mut store, &[FILE.as_slice(); 11]);
     let mut store = FileStore::recover(rt.alloc(), &mut disk, limits)?;
     let mut lists = Lists::new(rt.alloc())?;
     // Ten headers of 73 octets are two DATA of 254 octets and one of 222. The eleventh is left.
-    let mut headers: ArrayVec<u8, 803> = ArrayVec::new();
-    for number in 1..12 {
+    let mut headers = [0; 803];
+    for place in 0..11 {
         let mut header = FILE;
-        header[5] = number;
-        header[63] = 0x56 + number;
-        assert!(rt; headers.try_extend_from_slice(&header).is_ok());
+        header[5] = place as u8 + 1;
+        header[63] = place as u8 + 0x57;
+        headers[73 * place..73 * place + 73].copy_from_slice(&header);
     }
-    assert_eq!(rt; headers.len(), 803);
     let mut ten = [0; 738];
     ten[0] = 0xFE;
     ten[2..256].copy_from_slice(&headers[..254]);

@@ -13,8 +13,8 @@ IsDue None put disk disk_now state state_now out out_now =
 IsDue (Some due) put disk disk_now state state_now out out_now =
     (put ≡ true) × (state_now ≡ due.state) × (out_now ≡ packet_text due.packet)
 
--- A packet is put exactly where one is due. The disk is as reads leave it, of which one failed or none; and what was put
--- is what is due for that.
+-- A packet is put exactly where one is due. The disk is as reads leave it, of which one failed or none; and what was
+-- put is what is due for that.
 pub record PutsDue {D : Type 0} (g : Ghosts D) (store : Store) (disk disk_now : D) (state state_now : State)
     (out out_now : List ℕ) (put : Bool) : Type 0 where
   pub fails : Bool

@@ -15,8 +15,8 @@ use Rattle.ftl0_uploads.specs.Session as upload
 use Rattle.ftl0_downloads.specs.Table.{ready}
 use Rattle.ftl0_session.specs.Table.{Row, by_upload, command, receiving, session_row, state_by}
 
--- Each row of uploading is a row of the whole table, in the state in which nothing is done of downloading, whether a read
--- fails or none does. It leaves the lists.
+-- Each row of uploading is a row of the whole table, in the state in which nothing is done of downloading, whether a
+-- read fails or none does. It leaves the lists.
 abbrev pub UploadsLaw : Type 0
 UploadsLaw =
     (caller : CallSign) (moment : ℕ) (store : Store) (lists : List CallerList) (part : upload.State) (item : Item)
@@ -39,8 +39,9 @@ ResumedLaw =
     → session_row caller moment store lists command (Ok (upload_cmd number entry.length)) fails
     ≡ by_upload lists (upload.resumed_row number (length held))
 
--- The row replies UL_ACK_RESP, and leaves the lists. After its commands the entry is complete with exactly the octets of
--- the file, stamped. What is kept has the client's body, and the client's items but for those that the server fills in.
+-- The row replies UL_ACK_RESP, and leaves the lists. After its commands the entry is complete with exactly the octets
+-- of the file, stamped. What is kept has the client's body, and the client's items but for those that the server fills
+-- in.
 pub record Acknowledges (store : Store) (lists : List CallerList) (number : ℕ) (entry : Entry) (file : List ℕ)
     (moment : ℕ) (row : Row) : Type 0 where
   pub state : row.state ≡ command
@@ -59,8 +60,8 @@ AcknowledgedLaw =
     (session_row caller moment store lists (receiving number rest) (Ok data_end) fails)
 
 -- Over the store that these commands come to, DATA_END's row has commands and replies UL_ACK_RESP. In each image that
--- stands for the store after at least these commands and the row's, whatever commands come behind them, the file's entry
--- is complete with the octets that came, stamped.
+-- stands for the store after at least these commands and the row's, whatever commands come behind them, the file's
+-- entry is complete with the octets that came, stamped.
 pub record StandsAcknowledged (caller : CallSign) (start store : Store) (lists : List CallerList) (fails : Bool)
     (commands : List Command) (moment number : ℕ) (entry : Entry) (file rest : List ℕ) : Type 0 where
   pub row : Row

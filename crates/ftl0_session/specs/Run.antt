@@ -1,5 +1,5 @@
--- A session over events without a link. An event is a packet, which is its first part, and all that is due right behind the
--- replies to it, one DATA or DATA_END a part.
+-- A session over events without a link. An event is a packet, which is its first part, and all that is due right behind
+-- the replies to it, one DATA or DATA_END a part.
 use Rattle.std.specs.Prelude.{◌≡◌, ℕ, suc, List, [], ◌∷◌, ◌++◌, map, true, None, Some}
 use Rattle.std.specs.List.{AllByRecursion}
 use Rattle.px_base.specs.CallSign.{CallSign}
@@ -34,8 +34,8 @@ Sends store state failures part (packet ∷ packets) now =
     (next : State) × (due_at store state failures part ≡ Some (record { packet = packet; state = next }))
     × Sends store next failures (suc part) packets now
 
--- Over these events, at no packet of which a write or a sync fails, the session comes from one store, lists and state to
--- another: it says these packets, all that is due right behind each packet's replies, and does these commands.
+-- Over these events, at no packet of which a write or a sync fails, the session comes from one store, lists and state
+-- to another: it says these packets, all that is due right behind each packet's replies, and does these commands.
 abbrev pub RunsOver :
     CallSign → Store → List CallerList → State → List Event → List PacketValue → List Command → Store
     → List CallerList → State → Type 0

@@ -38,9 +38,9 @@ DoesOne phase.Command downloads = ⊤
 DoesOne (phase.Receiving up) downloads = downloads ≡ ready
 DoesOne phase.Aborting downloads = downloads ≡ ready
 
--- What a session needs to take a packet: the store hasn't failed, stands on the disk, holds the session's upload, and has
--- no other upload of an entry of its caller out; what is due lies within complete files, and the lists' numbers are those
--- of complete files.
+-- What a session needs to take a packet: the store hasn't failed, stands on the disk, holds the session's upload, and
+-- has no other upload of an entry of its caller out; what is due lies within complete files, and the lists' numbers are
+-- those of complete files.
 pub record MayTake {D : Type 0} (g : Ghosts D) (store : StoreState) (disk : D) (lists : List CallerList)
     (session : SessionState) : Type 0 where
   pub healthy : store.journal.failed ≡ false

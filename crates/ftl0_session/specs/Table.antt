@@ -14,8 +14,8 @@ use Rattle.ftl0_downloads.specs.Table as download
 use Rattle.ftl0_downloads.specs.Table.{DownloadRow, DownloadState, Due}
 
 -- A session waits for a command; or receives the file of this number, of which these octets aren't held yet; or waits
--- for the end of a file that it refused; or sends the file of this number from one place up to another; or waits for the
--- word that the file came; or sends headers, of which these are still due.
+-- for the end of a file that it refused; or sends the file of this number from one place up to another; or waits for
+-- the word that the file came; or sends headers, of which these are still due.
 pub data State : Type 0 where
   command : State
   receiving : ℕ → List ℕ → State
@@ -91,8 +91,8 @@ abbrev pub error_row : List CallerList → State → Item → Row
 error_row lists state item =
     record { state = state; lists = lists; commands = []; replies = error_reply item ∷ [] }
 
--- The packet's row of uploading, if it has one: none while something is sent or listed, or the word is waited for that a
--- file came.
+-- The packet's row of uploading, if it has one: none while something is sent or listed, or the word is waited for that
+-- a file came.
 abbrev pub upload_row : CallSign → ℕ → Store → State → Item → Option upload.Row
 upload_row caller moment store command item = upload.session_row caller moment store upload.command item
 upload_row caller moment store (receiving number rest) item =
@@ -100,8 +100,8 @@ upload_row caller moment store (receiving number rest) item =
 upload_row caller moment store aborting item = upload.session_row caller moment store upload.aborting item
 upload_row caller moment store state item = None
 
--- The packet's row of downloading, where a read fails or none does, if it has one: none while a file is received, or the
--- end of a refused one is waited for, and none where it is malformed.
+-- The packet's row of downloading, where a read fails or none does, if it has one: none while a file is received, or
+-- the end of a refused one is waited for, and none where it is malformed.
 abbrev pub download_row : CallSign → Store → List CallerList → State → Item → Bool → Option DownloadRow
 download_row caller store lists state (Err malformed) fails = None
 download_row caller store lists (receiving number rest) (Ok packet) fails = None
@@ -153,7 +153,8 @@ in_session next = record { packet = next.packet; state = downloading next.state 
 abbrev pub next_due : Store → State → Bool → Option DuePacket
 next_due store state fails = option_map in_session (due.next_due store (download_part state) fails)
 
--- The row of a packet that is the part of this number of an event with these failures: a read fails where they list one.
+-- The row of a packet that is the part of this number of an event with these failures: a read fails where they list
+-- one.
 abbrev pub row_at : CallSign → ℕ → Store → List CallerList → State → Item → List Failure → ℕ → Row
 row_at caller moment store lists state item failures part =
     session_row caller moment store lists state item (read_fails failures part)

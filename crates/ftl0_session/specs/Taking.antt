@@ -22,7 +22,8 @@ use Rattle.ftl0_session.specs.declared.stop.ServerStop.TheVariants as stop
 use Rattle.ftl0_session.specs.SessionState.{SessionState, caller_of, session_of, state_in}
 use Rattle.ftl0_session.specs.Table.{Row, State, command, download_row, fault_reply, session_row, takes_memory}
 
--- what a session takes a packet over, and what it leaves for the next one: the store, the lists of all callers, its state
+-- what a session takes a packet over, and what it leaves for the next one: the store, the lists of all callers, its
+-- state
 pub record Working : Type 0 where
   pub store : StoreState
   pub lists : List CallerList
@@ -54,9 +55,9 @@ Answers before item row now replies (Err stop.OutOfMemory) =
 Answers before item row now replies (Err stop.Disk) =
     (now.state ≡ command) × (now.lists ≡ before.lists) × (replies ≡ texts (fault_reply before.state ∷ []))
 
--- What a packet with this row does to the disk behind its reads. Where it is answered, the row's commands are done, or the
--- disk failed in one of them: a crash since the packet came leaves the store after the first so many of them. Else the
--- disk isn't touched.
+-- What a packet with this row does to the disk behind its reads. Where it is answered, the row's commands are done, or
+-- the disk failed in one of them: a crash since the packet came leaves the store after the first so many of them. Else
+-- the disk isn't touched.
 abbrev pub PutsRow :
     {D : Type 0} → Ghosts D → StoreState → StoreState → D → D → Row → Result ⊤ ServerStop → Type 0
 PutsRow g before now disk disk_now row (Ok done) = Does g ⊥ before now disk disk_now row.commands
@@ -98,16 +99,17 @@ pub record Taken {D : Type 0} (g : Ghosts D) (moment : ℕ) (item : Item) (old n
   pub due : IsDueIn (store_in store_now) new.downloads
   pub complete : AreComplete (store_in store_now) lists_now
 
--- A packet has a row of downloading, and that was made; or it has none, was not taken, and nothing changed. The disk was
--- read, and a read failed or none did.
+-- A packet has a row of downloading, and that was made; or it has none, was not taken, and nothing changed. The disk
+-- was read, and a read failed or none did.
 pub record TakesDownload {D : Type 0} (g : Ghosts D) (item : Item) (uploads : Uploading)
     (downloads downloads_now : DownloadState) (store : StoreState) (lists lists_now : List CallerList)
     (disk disk_now : D) (replies : List ℕ) (taken : Bool) : Type 0 where
   pub fails : Bool
   pub reads : Reads g (IsTrue fails) disk disk_now
   pub is_row :
-      IsRow (download_row uploads.caller (store_in store) lists (state_in store (session_of uploads downloads)) item fails)
-      taken disk disk_now (made downloads lists []) (made downloads_now lists_now replies)
+      IsRow
+      (download_row uploads.caller (store_in store) lists (state_in store (session_of uploads downloads)) item fails) taken
+      disk disk_now (made downloads lists []) (made downloads_now lists_now replies)
 
 -- an answer of uploading, which has a row for the packet, as one of the session
 abbrev pub IsAnswer : Result ⊤ UploadStop → Result ⊤ ServerStop → Type 0

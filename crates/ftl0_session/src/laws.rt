@@ -36,8 +36,8 @@ pub fn commands_law()
     ensures { CommandsLaw }
 {}
 
-/// Over packets of uploading a session that does nothing of downloading says and does what uploading says and does: what
-/// holds of uploading over events holds of the whole session.
+/// Over packets of uploading a session that does nothing of downloading says and does what uploading says and does:
+/// what holds of uploading over events holds of the whole session.
 pub fn upload_run_law()
     ensures { UploadRunLaw }
 {}

@@ -39,8 +39,8 @@ const SELECTED: u8 = 8;
 /// The code of an ill-formed command, or of a packet that has no place in the state.
 const ILL_FORMED: u8 = 1;
 
-/// The session of one caller. It must be ended, which parks its upload. While it receives a file, or waits for the end of
-/// one that it refused, it does nothing of downloading. Contracts see it as a `SessionState`.
+/// The session of one caller. It must be ended, which parks its upload. While it receives a file, or waits for the end
+/// of one that it refused, it does nothing of downloading. Contracts see it as a `SessionState`.
 pub struct Session {
     uploads: Uploads,
     downloads: Downloads,
@@ -82,9 +82,9 @@ impl Session {
         self.uploads.caller()
     }
 
-    /// Takes a packet: one row of the session's table, or code 3 where a write or a sync of the disk fails. The row's commands
-    /// are on the disk before its replies are given. A read that fails gives the row for that, and the session goes on. Takes
-    /// memory, before it writes to the disk.
+    /// Takes a packet: one row of the session's table, or code 3 where a write or a sync of the disk fails. The row's
+    /// commands are on the disk before its replies are given. A read that fails gives the row for that, and the session
+    /// goes on. Takes memory, before it writes to the disk.
     pub fn take<D: Disk>(
         &mut self,
         disk: &mut D,
@@ -102,8 +102,8 @@ impl Session {
         requires due { IsDueIn (store_in store.old) self.old.downloads }
         requires complete { AreComplete (store_in store.old) lists.old }
 
-        // The answer is the packet's row for the reads that were made, and the row's commands are on the disk; or the disk
-        // failed in one of them.
+        // The answer is the packet's row for the reads that were made, and the row's commands are on the disk; or the
+        // disk failed in one of them.
         ensures takes { TakesPacket D.Disk (caller_of self.old) moment (item_of packet.entry)
             (working self.old store.old lists.old) (working self.new store.new lists.new) disk.old disk.new
             replies.new.items result }
@@ -135,9 +135,9 @@ impl Session {
         )
     }
 
-    /// Puts what is due next in place of what `out` holds: DATA of the next 254 octets, the last one shorter, or DATA_END
-    /// where none is left; or code 3 in the place of a DATA whose octets can't be read. It answers false, and nothing
-    /// changed, exactly where nothing is due. It reads what it sends. Takes no memory.
+    /// Puts what is due next in place of what `out` holds: DATA of the next 254 octets, the last one shorter, or
+    /// DATA_END where none is left; or code 3 in the place of a DATA whose octets can't be read. It answers false, and
+    /// nothing changed, exactly where nothing is due. It reads what it sends. Takes no memory.
     pub fn fill<D: Disk>(
         &mut self,
         disk: &mut D,
@@ -180,8 +180,8 @@ fn flags_of(left: bool) -> u8
     if left { FLAGS + SELECTED } else { FLAGS }
 }
 
-/// Takes a packet: by its row of uploading where it is of uploading and the session does nothing of downloading, else by its
-/// row of downloading, or by error 1.
+/// Takes a packet: by its row of uploading where it is of uploading and the session does nothing of downloading, else
+/// by its row of downloading, or by error 1.
 fn take_packet<D: Disk>(
     uploads: &mut Uploads,
     downloads: &mut Downloads,
