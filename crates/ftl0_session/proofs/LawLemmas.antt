@@ -1,0 +1,51 @@
+-- Laws of the whole table, by those of uploading.
+use Rattle.std.proofs.Common.{◌≡◌, ℕ, List, ◌++◌, refl, ap, ◌∙◌, sym, subst, Bool, Option, Some}
+use Rattle.std.specs.Prelude.{Ok}
+use Rattle.px_base.specs.CallSign.{CallSign}
+use Rattle.ftl0_packets.specs.Layout.{data_end}
+use Rattle.selection_lists.specs.Lists.{CallerList}
+use Rattle.file_entries.specs.Store.{Entry, Store}
+use Rattle.ftl0_uploads.specs.Session as upload
+use Rattle.ftl0_uploads.proofs.AckLemmas.{acknowledged_stands as upload_stands}
+use Rattle.ftl0_uploads.proofs.UploadRows.{row-granted as upload_granted}
+use Rattle.ftl0_uploads.proofs.Uploads.{acknowledged as upload_acknowledged, resumed as upload_resumed}
+use Rattle.ftl0_downloads.specs.Table.{ready}
+use Rattle.ftl0_session.specs.Laws.{Acknowledges, AcknowledgedLaw, AcknowledgedStandsLaw, GrantedLaw, ResumedLaw, UploadsLaw}
+use Rattle.ftl0_session.specs.Table.{Row, by_upload, state_by}
+use Rattle.ftl0_session.proofs.RowLemmas.{row-upload, upload-free}
+
+pub uploads : UploadsLaw
+uploads caller moment store lists part item fails row is =
+    row-upload caller moment store lists (state_by part ready) item fails row (upload-free caller moment store part item ∙ is)
+
+pub granted : GrantedLaw
+granted caller moment store lists file_length fails can =
+    uploads caller moment store lists upload.command _ fails (upload.granted_row caller moment store.next file_length) (upload_granted caller moment store file_length can)
+
+pub resumed : ResumedLaw
+resumed caller moment store lists number entry held fails some under_way by =
+    uploads caller moment store lists upload.command _ fails _ (upload_resumed caller moment store number entry held some under_way by)
+
+pub acknowledged : AcknowledgedLaw
+acknowledged caller moment store lists number entry held rest fails under_way all good =
+    let given = upload_acknowledged caller moment store number entry held rest under_way all good in
+    subst (λ (row : Row). Acknowledges store lists number entry (held ++ rest) moment row)
+    (sym (uploads caller moment store lists (upload.receiving number rest) (Ok data_end) fails given.0 given.1))
+    (record {
+      state = ap (λ (part : upload.State). state_by part ready) given.2;
+      lists_stay = refl;
+      replies = given.3;
+      entry_now = given.4;
+      client = given.5;
+    })
+
+pub acknowledged_stands : AcknowledgedStandsLaw
+acknowledged_stands caller start store lists fails commands moment number entry held rest is whole =
+    let given = upload_stands caller start store commands moment number entry held rest is whole in
+    record {
+      row = by_upload lists given.row;
+      is_row = uploads caller moment store lists (upload.receiving number rest) (Ok data_end) fails given.row given.is_row;
+      replies = given.replies;
+      some = given.some;
+      stands = given.stands;
+    }

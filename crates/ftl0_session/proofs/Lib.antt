@@ -1,0 +1,6 @@
+pub mod FillLemmas
+pub mod LawLemmas
+pub mod RowLemmas
+pub mod RunLemmas
+pub mod TakenLemmas
+pub mod UploadLemmas

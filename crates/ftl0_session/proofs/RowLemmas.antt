@@ -1,0 +1,146 @@
+-- Which row a packet has, by what the session does of uploading and of downloading.
+use Rattle.std.proofs.Common.{◌≡◌, ℕ, List, [], ◌∷◌, refl, ap, ◌∙◌, true≢false, sym, Bool, true, false, Option, None, Some}
+use Rattle.std.specs.Prelude.{Ok, Err}
+use Rattle.px_base.specs.CallSign.{CallSign}
+use Rattle.ftl0_packets.specs.Items.{kind_of_item}
+use Rattle.ftl0_packets.specs.Layout.{Item, PacketValue, data_end, data_part, ul_error_resp, upload_cmd}
+use Rattle.ftl0_packets.specs.declared.packet.Malformed.{Malformed}
+use Rattle.selection_lists.specs.Lists.{CallerList}
+use Rattle.file_entries.specs.Store.{Store}
+use Rattle.file_store.specs.State.{StoreState, store_in}
+use Rattle.ftl0_uploads.specs.declared.phase.Phase.{Phase}
+use Rattle.ftl0_uploads.specs.declared.phase.Phase.TheVariants as phase
+use Rattle.ftl0_uploads.specs.Session as upload
+use Rattle.ftl0_uploads.specs.Session.{is_upload_kind, session_row as upload_session_row}
+use Rattle.ftl0_uploads.specs.SessionState.{state_of}
+use Rattle.ftl0_uploads.proofs.Rows.{error-other, error-upload}
+use Rattle.ftl0_downloads.specs.Table as download
+use Rattle.ftl0_downloads.specs.Table.{DownloadRow, DownloadState, ready}
+use Rattle.ftl0_session.specs.SessionState.{DoesOne}
+use Rattle.ftl0_session.specs.Table.{State, aborting, by_download, by_upload, command, download_part, download_row, downloading, error_row, listing, receiving, row_among, sending, session_row, state_by, upload_part, upload_row, waiting}
+
+-- ---- the parts of a state
+
+pub upload_part-free : (part : upload.State) → upload_part (state_by part ready) ≡ part
+upload_part-free upload.command = refl
+upload_part-free (upload.receiving number rest) = refl
+upload_part-free upload.aborting = refl
+
+pub download_part-is : (part : DownloadState) → download_part (downloading part) ≡ part
+download_part-is download.ready = refl
+download_part-is (download.sending number place last) = refl
+download_part-is download.waiting = refl
+download_part-is (download.listing dues) = refl
+
+-- nothing is done of downloading, whatever is done of uploading
+pub one-free : (here : Phase) (part : DownloadState) → part ≡ ready → DoesOne here part
+one-free phase.Command part free = tt
+one-free (phase.Receiving up) part free = free
+one-free phase.Aborting part free = free
+
+-- ---- rows of uploading
+
+-- of a session that does nothing of downloading
+pub upload-free : (caller : CallSign) (moment : ℕ) (store : Store) (part : upload.State) (item : Item) → upload_row caller moment store (state_by part ready) item ≡ upload_session_row caller moment store part item
+upload-free caller moment store upload.command item = refl
+upload-free caller moment store (upload.receiving number rest) item = refl
+upload-free caller moment store upload.aborting item = refl
+
+-- a packet of uploading has one
+pub upload-has : (caller : CallSign) (moment : ℕ) (store : Store) (part : upload.State) (item : Item) → is_upload_kind (kind_of_item item) ≡ true → (row : upload.Row) × (upload_session_row caller moment store part item ≡ Some row)
+unfolding upload_session_row
+upload-has caller moment store upload.command (Ok (upload_cmd number len)) kind = (upload.upload_row caller moment store number len, refl)
+upload-has caller moment store (upload.receiving number rest) (Ok (data_part octets)) kind = (upload.data_row store number rest octets, refl)
+upload-has caller moment store (upload.receiving number rest) (Ok data_end) kind = (upload.end_row moment store number rest, refl)
+upload-has caller moment store upload.aborting (Ok (data_part octets)) kind = (upload.silent_row upload.aborting, refl)
+upload-has caller moment store upload.aborting (Ok data_end) kind = (upload.silent_row upload.command, refl)
+upload-has caller moment store part item kind = (record { state = part; commands = []; replies = ul_error_resp 1 ∷ [] }, error-upload part item kind)
+
+-- and any other has none
+pub upload-none : (caller : CallSign) (moment : ℕ) (store : Store) (part : upload.State) (item : Item) → is_upload_kind (kind_of_item item) ≡ false → upload_session_row caller moment store part item ≡ None
+unfolding upload_session_row
+upload-none caller moment store upload.command (Ok (upload_cmd number len)) kind = absurd (true≢false kind)
+upload-none caller moment store (upload.receiving number rest) (Ok (data_part octets)) kind = absurd (true≢false kind)
+upload-none caller moment store (upload.receiving number rest) (Ok data_end) kind = absurd (true≢false kind)
+upload-none caller moment store upload.aborting (Ok (data_part octets)) kind = absurd (true≢false kind)
+upload-none caller moment store upload.aborting (Ok data_end) kind = absurd (true≢false kind)
+upload-none caller moment store part item kind = error-other part item kind
+
+none-in : (caller : CallSign) (moment : ℕ) (store : Store) (state : State) (item : Item) → is_upload_kind (kind_of_item item) ≡ false → upload_row caller moment store state item ≡ None
+none-in caller moment store command item kind = upload-none caller moment store upload.command item kind
+none-in caller moment store (receiving number rest) item kind = upload-none caller moment store (upload.receiving number rest) item kind
+none-in caller moment store aborting item kind = upload-none caller moment store upload.aborting item kind
+none-in caller moment store (sending number place last) item kind = refl
+none-in caller moment store waiting item kind = refl
+none-in caller moment store (listing dues) item kind = refl
+
+none-beside : (caller : CallSign) (moment : ℕ) (store : Store) (part : DownloadState) (item : Item) → (part ≡ ready → ⊥) → upload_row caller moment store (downloading part) item ≡ None
+none-beside caller moment store download.ready item busy = absurd (busy refl)
+none-beside caller moment store (download.sending number place last) item busy = refl
+none-beside caller moment store download.waiting item busy = refl
+none-beside caller moment store (download.listing dues) item busy = refl
+
+none-busy : (caller : CallSign) (moment : ℕ) (files : StoreState) (here : Phase) (part : DownloadState) (item : Item) → DoesOne here part → (part ≡ ready → ⊥)
+    → upload_row caller moment (store_in files) (state_by (state_of files here) part) item ≡ None
+none-busy caller moment files phase.Command part item one busy = none-beside caller moment (store_in files) part item busy
+none-busy caller moment files (phase.Receiving up) part item one busy = absurd (busy one)
+none-busy caller moment files phase.Aborting part item one busy = absurd (busy one)
+
+-- a packet that isn't of uploading, or comes while something is done of downloading
+pub upload-other : (caller : CallSign) (moment : ℕ) (files : StoreState) (here : Phase) (part : DownloadState) (item : Item) (of_uploading : Bool) → DoesOne here part
+    → of_uploading ≡ is_upload_kind (kind_of_item item) → (of_uploading ≡ true → part ≡ ready → ⊥) → upload_row caller moment (store_in files) (state_by (state_of files here) part) item ≡ None
+upload-other caller moment files here part item true one kind other = none-busy caller moment files here part item one (other refl)
+upload-other caller moment files here part item false one kind other = none-in caller moment (store_in files) (state_by (state_of files here) part) item (sym kind)
+
+-- ---- rows of downloading
+
+-- of a session that does nothing of uploading
+pub download-free : (caller : CallSign) (store : Store) (lists : List CallerList) (part : DownloadState) (packet : PacketValue) (fails : Bool)
+    → download_row caller store lists (downloading part) (Ok packet) fails ≡ download.download_row caller store lists part packet fails
+download-free caller store lists download.ready packet fails = refl
+download-free caller store lists (download.sending number place last) packet fails = refl
+download-free caller store lists download.waiting packet fails = refl
+download-free caller store lists (download.listing dues) packet fails = refl
+
+pub download-malformed : (caller : CallSign) (store : Store) (lists : List CallerList) (state : State) (malformed : Malformed) (fails : Bool) → download_row caller store lists state (Err malformed) fails ≡ None
+download-malformed caller store lists command malformed fails = refl
+download-malformed caller store lists (receiving number rest) malformed fails = refl
+download-malformed caller store lists aborting malformed fails = refl
+download-malformed caller store lists (sending number place last) malformed fails = refl
+download-malformed caller store lists waiting malformed fails = refl
+download-malformed caller store lists (listing dues) malformed fails = refl
+
+-- while a file is received, or the end of one is waited for, there is none
+pub download-busy : (caller : CallSign) (files : StoreState) (lists : List CallerList) (here : Phase) (part : DownloadState) (packet : PacketValue) (fails : Bool) → (here ≡ phase.Command → ⊥)
+    → download_row caller (store_in files) lists (state_by (state_of files here) part) (Ok packet) fails ≡ None
+download-busy caller files lists phase.Command part packet fails busy = absurd (busy refl)
+download-busy caller files lists (phase.Receiving up) part packet fails busy = refl
+download-busy caller files lists phase.Aborting part packet fails busy = refl
+
+-- so where there is one the session waits for a command as far as uploading goes
+pub download-command : (caller : CallSign) (files : StoreState) (lists : List CallerList) (here : Phase) (part : DownloadState) (item : Item) (fails : Bool) (row : DownloadRow)
+    → download_row caller (store_in files) lists (state_by (state_of files here) part) item fails ≡ Some row → here ≡ phase.Command
+download-command caller files lists phase.Command part item fails row is = refl
+download-command caller files lists (phase.Receiving up) part (Ok packet) fails row is = absurd (cc)
+download-command caller files lists (phase.Receiving up) part (Err malformed) fails row is = absurd (cc)
+download-command caller files lists phase.Aborting part (Ok packet) fails row is = absurd (cc)
+download-command caller files lists phase.Aborting part (Err malformed) fails row is = absurd (cc)
+
+-- ---- the row of the whole table
+
+module _ (caller : CallSign) (moment : ℕ) (store : Store) (lists : List CallerList) (state : State) (item : Item) (fails : Bool) where
+  pub row-upload : (row : upload.Row) → upload_row caller moment store state item ≡ Some row → session_row caller moment store lists state item fails ≡ by_upload lists row
+  unfolding session_row
+  row-upload row is = ap (λ (o : Option upload.Row). row_among lists state item o (download_row caller store lists state item fails)) is
+
+  pub row-download : (row : DownloadRow) → upload_row caller moment store state item ≡ None → download_row caller store lists state item fails ≡ Some row → session_row caller moment store lists state item fails ≡ by_download row
+  unfolding session_row
+  row-download row none is =
+      ap (λ (o : Option upload.Row). row_among lists state item o (download_row caller store lists state item fails)) none
+      ∙ ap (λ (o : Option DownloadRow). row_among lists state item None o) is
+
+  pub row-error : upload_row caller moment store state item ≡ None → download_row caller store lists state item fails ≡ None → session_row caller moment store lists state item fails ≡ error_row lists state item
+  unfolding session_row
+  row-error none other =
+      ap (λ (o : Option upload.Row). row_among lists state item o (download_row caller store lists state item fails)) none
+      ∙ ap (λ (o : Option DownloadRow). row_among lists state item None o) other

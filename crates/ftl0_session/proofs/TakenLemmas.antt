@@ -1,0 +1,135 @@
+-- What a packet does whose row has no command of the store: one of downloading, or error 1.
+use Rattle.std.proofs.Common.{◌≡◌, ℕ, List, [], ◌∷◌, ◌++◌, refl, ap, sym, ◌∙◌, subst, append-nil, Bool, true, false, Option, None, Some}
+use Rattle.std.specs.Prelude.{⊤, Result, Ok, IsErrOf, IsTrue}
+use Rattle.px_base.specs.CallSign.{CallSign}
+use Rattle.disk_model.specs.declared.disk.Disk.{Ghosts}
+use Rattle.ftl0_packets.specs.Items.{kind_of_item, texts}
+use Rattle.ftl0_packets.specs.Layout.{Item, packet_text}
+use Rattle.selection_lists.specs.Lists.{CallerList}
+use Rattle.file_journal.specs.Calls.{Reads}
+use Rattle.file_journal.proofs.CallLemmas.{puts_none, reads_none}
+use Rattle.file_entries.specs.Command.{Command, DoesAll}
+use Rattle.file_store.specs.OnDisk.{Does}
+use Rattle.file_store.specs.State.{StandsOn, StoreState, store_in}
+use Rattle.file_store.proofs.DoesLemmas.{Does-none}
+use Rattle.ftl0_uploads.specs.declared.phase.Phase.{Phase}
+use Rattle.ftl0_uploads.specs.declared.phase.Phase.TheVariants as phase
+use Rattle.ftl0_uploads.specs.Session.{is_upload_kind}
+use Rattle.ftl0_uploads.specs.SessionState.{SessionState as Uploading, state_of}
+use Rattle.ftl0_uploads.proofs.Rows.{others-same}
+use Rattle.ftl0_downloads.specs.Needs.{AreComplete, IsDueIn}
+use Rattle.ftl0_downloads.specs.Table.{DownloadRow, DownloadState}
+use Rattle.ftl0_downloads.specs.Taking.{IsRow, Made, made, made_by}
+use Rattle.ftl0_session.specs.declared.stop.ServerStop.{ServerStop}
+use Rattle.ftl0_session.specs.declared.stop.ServerStop.TheVariants as stop
+use Rattle.ftl0_session.specs.SessionState.{DoesOne, MayTake, SessionState, caller_of, session_of, state_in}
+use Rattle.ftl0_session.specs.Table.{Row, State, by_download, download_row, downloading, error_by, error_row, state_by, upload_row}
+use Rattle.ftl0_session.specs.Taking.{Taken, TakesDownload, row_over, working}
+use Rattle.ftl0_session.proofs.RowLemmas.{download-command, row-download, row-error}
+
+-- the answer that all was done
+abbrev answered : Result ⊤ ServerStop
+answered = Ok tt
+
+-- a packet that was taken had a row, and that was made
+row-taken : {D : Type 0} (o : Option DownloadRow) (disk disk_now : D) (before now : Made) → IsRow o true disk disk_now before now → (row : DownloadRow) × (o ≡ Some row) × (now ≡ made_by row)
+row-taken None disk disk_now before now is = absurd (let e : true ≡ false = is.0 in cc)
+row-taken (Some row) disk disk_now before now is = (row, refl, is.1)
+
+-- and one that wasn't had none, and nothing changed
+row-passed : {D : Type 0} (o : Option DownloadRow) (disk disk_now : D) (before now : Made) → IsRow o false disk disk_now before now → (o ≡ None) × (now ≡ before)
+row-passed None disk disk_now before now is = (refl, is.2)
+row-passed (Some row) disk disk_now before now is = absurd (let e : false ≡ true = is.0 in cc)
+
+module _ {D : Type 0} (g : Ghosts D) where
+  -- what the next packet needs, where the store stayed
+  pub may-still : (uploads : Uploading) (part part_now : DownloadState) (store store_now : StoreState) (lists lists_now : List CallerList) (disk disk_now : D) → store_now ≡ store
+      → MayTake g store disk lists (session_of uploads part) → StandsOn g store_now disk_now → IsDueIn (store_in store_now) part_now → AreComplete (store_in store_now) lists_now
+      → MayTake g store disk_now lists_now (session_of uploads part_now)
+  may-still uploads part part_now store store_now lists lists_now disk disk_now same may stands due complete = record {
+    healthy = may.healthy;
+    stands_on = subst (λ (s : StoreState). StandsOn g s disk_now) same stands;
+    held = may.held;
+    only = may.only;
+    due = subst (λ (s : StoreState). IsDueIn (store_in s) part_now) same due;
+    complete = subst (λ (s : StoreState). AreComplete (store_in s) lists_now) same complete;
+  }
+
+  -- a row without commands
+  still : (moment : ℕ) (item : Item) (old new : SessionState) (store : StoreState) (lists lists_now : List CallerList) (disk disk_now : D) (replies : List ℕ) (fails : Bool) (row : Row)
+      → row_over (caller_of old) moment (working old store lists) item fails ≡ row → row.commands ≡ [] → lists_now ≡ row.lists → state_in store new ≡ row.state → replies ≡ texts row.replies
+      → Reads g (IsTrue fails) disk disk_now → new.uploads ≡ old.uploads → MayTake g store disk_now lists_now new → g.lasts disk_now disk_now
+      → Taken g moment item old new store store lists lists_now disk disk_now replies answered
+  still moment item old new store lists lists_now disk disk_now replies fails row is none lists_are state text reads same may lasts =
+      let fine : ¬ IsErrOf answered stop.Disk = λ e. cc e in
+      let commands : (row_over (caller_of old) moment (working old store lists) item fails).commands ≡ [] = ap (λ (r : Row). r.commands) is ∙ none in
+      record {
+        takes = record {
+          fails = fails;
+          answers = (
+            subst (λ (cs : List Command). DoesAll (store_in store) (store_in store) cs) (sym commands) (tt, refl),
+            lists_are ∙ sym (ap (λ (r : Row). r.lists) is),
+            state ∙ sym (ap (λ (r : Row). r.state) is),
+            text ∙ sym (ap (λ (r : Row). texts r.replies) is),
+          );
+          disk_then = disk_now;
+          reads = reads;
+          on_disk =
+              subst (λ (cs : List Command). Does g ⊥ store store disk_now disk_now cs) (sym commands)
+              (Does-none g ⊥ store disk_now (λ never. never) may.stands_on may.healthy lasts);
+          puts = puts_none g disk_now (IsErrOf answered stop.Disk) fine lasts;
+        };
+        untouched = λ any without. reads.only;
+        failed = λ e. absurd (fine e);
+        kept = λ number entry found whole. found;
+        others = others-same store (caller_of old);
+        caller = ap (λ (u : Uploading). u.caller) same;
+        healthy = λ no_fault. may.healthy;
+        stands_on = may.stands_on;
+        held = may.held;
+        only = may.only;
+        due = may.due;
+        complete = may.complete;
+      }
+
+  module _ (moment : ℕ) (item : Item) (uploads : Uploading) (part part_now : DownloadState) (store : StoreState) (lists lists_now : List CallerList) (disk disk_now : D)
+      (none : upload_row uploads.caller moment (store_in store) (state_in store (session_of uploads part)) item ≡ None)
+      (may : MayTake g store disk_now lists_now (session_of uploads part_now)) (lasts : g.lasts disk_now disk_now) where
+    -- the packet's row of downloading
+    pub taken-download : (replies : List ℕ) → TakesDownload g item uploads part part_now store lists lists_now disk disk_now replies true
+        → Taken g moment item (session_of uploads part) (session_of uploads part_now) store store lists lists_now disk disk_now replies answered
+    taken-download replies takes =
+        let has = row-taken (download_row uploads.caller (store_in store) lists (state_in store (session_of uploads part)) item takes.fails) disk disk_now
+        (made part lists []) (made part_now lists_now replies) takes.is_row in
+        let row : Row = by_download has.0 in
+        let is : row_over uploads.caller moment (working (session_of uploads part) store lists) item takes.fails ≡ row =
+        row-download uploads.caller moment (store_in store) lists (state_in store (session_of uploads part)) item takes.fails has.0 none has.1 in
+        let here : uploads.phase ≡ phase.Command = download-command uploads.caller store lists uploads.phase part item takes.fails has.0 has.1 in
+        let state : state_in store (session_of uploads part_now) ≡ downloading part_now = ap (λ (p : Phase). state_by (state_of store p) part_now) here in
+        still moment item (session_of uploads part) (session_of uploads part_now) store lists lists_now disk disk_now replies takes.fails row is refl
+        (ap (λ (m : Made). m.lists) has.2) (state ∙ ap (λ (m : Made). downloading m.state) has.2) (ap (λ (m : Made). m.replies) has.2) takes.reads refl may lasts
+
+    -- error 1
+    pub taken-error : (given replies : List ℕ) (of_uploading : Bool) → of_uploading ≡ is_upload_kind (kind_of_item item) → replies ≡ packet_text (error_by of_uploading)
+        → TakesDownload g item uploads part part_now store lists lists_now disk disk_now given false
+        → Taken g moment item (session_of uploads part) (session_of uploads part_now) store store lists lists_now disk disk_now replies answered
+    taken-error given replies of_uploading kind text takes =
+        let none_of = row-passed (download_row uploads.caller (store_in store) lists (state_in store (session_of uploads part)) item takes.fails) disk disk_now
+        (made part lists []) (made part_now lists_now given) takes.is_row in
+        let row : Row = error_row lists (state_in store (session_of uploads part)) item in
+        let is : row_over uploads.caller moment (working (session_of uploads part) store lists) item takes.fails ≡ row =
+        row-error uploads.caller moment (store_in store) lists (state_in store (session_of uploads part)) item takes.fails none none_of.0 in
+        still moment item (session_of uploads part) (session_of uploads part_now) store lists lists_now disk disk_now replies takes.fails row is refl
+        (ap (λ (m : Made). m.lists) none_of.1) (ap (λ (m : Made). state_in store (session_of uploads m.state)) none_of.1)
+        (text ∙ ap (λ (b : Bool). packet_text (error_by b)) kind ∙ sym (append-nil (packet_text (error_by (is_upload_kind (kind_of_item item)))))) takes.reads refl may lasts
+
+-- while a file is received, or the end of one is waited for, nothing of downloading is done by any packet
+pub one-download : {D : Type 0} (caller : CallSign) (files : StoreState) (lists lists_now : List CallerList) (here : Phase) (part part_now : DownloadState) (item : Item) (fails taken : Bool)
+    (disk disk_now : D) (replies : List ℕ) → DoesOne here part
+    → IsRow (download_row caller (store_in files) lists (state_by (state_of files here) part) item fails) taken disk disk_now (made part lists []) (made part_now lists_now replies) → DoesOne here part_now
+one-download caller files lists lists_now here part part_now item fails true disk disk_now replies one is =
+    let has = row-taken (download_row caller (store_in files) lists (state_by (state_of files here) part) item fails) disk disk_now (made part lists []) (made part_now lists_now replies) is in
+    subst (λ (p : Phase). DoesOne p part_now) (sym (download-command caller files lists here part item fails has.0 has.1)) tt
+one-download caller files lists lists_now here part part_now item fails false disk disk_now replies one is =
+    let none = row-passed (download_row caller (store_in files) lists (state_by (state_of files here) part) item fails) disk disk_now (made part lists []) (made part_now lists_now replies) is in
+    subst (λ (p : DownloadState). DoesOne here p) (sym (ap (λ (m : Made). m.state) none.1)) one

@@ -1,0 +1,38 @@
+-- A session takes a packet as its parts do.
+use Rattle.std.proofs.Common.{◌≡◌, sym, subst}
+use Rattle.ftl0_packets.specs.Values.{item_of}
+use Rattle.ftl0_session.specs.SessionState.{MayTake, SessionState, session_of}
+use Rattle.ftl0_session.specs.Taking.{Taken}
+use Rattle.ftl0_session.proofs.session.Session.take.Goals as goal
+
+pub take_packet-requires-clause-may : goal.take_packet-requires-clause-may
+take_packet-requires-clause-may g c =
+    let P : SessionState → Type 0 = λ s. MayTake g.D.Disk c.args.store.now c.args.disk.now c.args.lists.now s in
+    subst P (sym c.self.view_is)
+    (record {
+      healthy = c.requires.healthy;
+      stands_on = c.requires.stands_on;
+      held = c.requires.held;
+      only = c.requires.only;
+      due = c.requires.due;
+      complete = c.requires.complete;
+    })
+
+pub returns : goal.returns
+returns g c =
+    let P : SessionState → Type 0 = λ s. Taken g.D.Disk c.args.moment (item_of c.args.packet) s (session_of c.take_packet.new.uploads c.take_packet.new.downloads) c.args.store.now c.take_packet.new.store c.args.lists.now c.take_packet.new.lists c.args.disk.now c.take_packet.new.disk c.take_packet.new.replies.items c.take_packet.result in
+    let all = subst P c.self.view_is c.take_packet.ensures.taken in
+    record {
+      takes = all.takes;
+      untouched = all.untouched;
+      failed = all.failed;
+      kept = all.kept;
+      others = all.others;
+      caller = all.caller;
+      healthy = all.healthy;
+      stands_on = all.stands_on;
+      held = all.held;
+      only = all.only;
+      due = all.due;
+      complete = all.complete;
+    }

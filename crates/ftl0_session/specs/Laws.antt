@@ -1,0 +1,83 @@
+-- Laws of the whole table: that it has the rows of uploading, and what these promise.
+use Rattle.std.specs.Prelude.{◌≡◌, ◌≢◌, ℕ, ◌+◌, ◌≤◌, List, [], ◌∷◌, ◌++◌, length, Bool, true, None, Some, Ok}
+use Rattle.px_base.specs.CallSign.{CallSign, IsCall}
+use Rattle.px_base.specs.Octets.{IsOctets}
+use Rattle.ftl0_packets.specs.Layout.{Item, data_end, ul_ack_resp, upload_cmd}
+use Rattle.pfh_items.specs.Faults.{fault_code}
+use Rattle.pfh_items.specs.Stamp.{stamped}
+use Rattle.pfh_writer.specs.KeptFile.{KeepsClient}
+use Rattle.selection_lists.specs.Lists.{CallerList}
+use Rattle.file_entries.specs.Command.{AreAllowed, Command, after_all, can_begin, stamp_of}
+use Rattle.file_entries.specs.Store.{Entry, Store, entry_of}
+use Rattle.file_store.specs.OnDisk.{MakesBetween}
+use Rattle.ftl0_uploads.specs.Laws.{HasEntry, IsUnderWay, IsWhole, kept}
+use Rattle.ftl0_uploads.specs.Session as upload
+use Rattle.ftl0_downloads.specs.Table.{ready}
+use Rattle.ftl0_session.specs.Table.{Row, by_upload, command, receiving, session_row, state_by}
+
+-- Each row of uploading is a row of the whole table, in the state in which nothing is done of downloading, whether a
+-- read fails or none does. It leaves the lists.
+abbrev pub UploadsLaw : Type 0
+UploadsLaw =
+    (caller : CallSign) (moment : ℕ) (store : Store) (lists : List CallerList) (part : upload.State) (item : Item)
+    (fails : Bool) (row : upload.Row) → upload.session_row caller moment store part item ≡ Some row
+    → session_row caller moment store lists (state_by part ready) item fails ≡ by_upload lists row
+
+-- A new file that may be begun is begun, with the next number, and UL_GO_RESP says this number and place 0.
+abbrev pub GrantedLaw : Type 0
+GrantedLaw =
+    (caller : CallSign) (moment : ℕ) (store : Store) (lists : List CallerList) (file_length : ℕ) (fails : Bool)
+    → can_begin store file_length ≡ true
+    → session_row caller moment store lists command (Ok (upload_cmd 0 file_length)) fails
+    ≡ by_upload lists (upload.granted_row caller moment store.next file_length)
+
+-- The caller's own file that is under way goes on, at the place behind the octets that are held, and no other.
+abbrev pub ResumedLaw : Type 0
+ResumedLaw =
+    (caller : CallSign) (moment : ℕ) (store : Store) (lists : List CallerList) (number : ℕ) (entry : Entry)
+    (held : List ℕ) (fails : Bool) → number ≢ 0 → IsUnderWay store number entry held → entry.caller ≡ caller
+    → session_row caller moment store lists command (Ok (upload_cmd number entry.length)) fails
+    ≡ by_upload lists (upload.resumed_row number (length held))
+
+-- The row replies UL_ACK_RESP, and leaves the lists. After its commands the entry is complete with exactly the octets
+-- of the file, stamped. What is kept has the client's body, and the client's items but for those that the server fills
+-- in.
+pub record Acknowledges (store : Store) (lists : List CallerList) (number : ℕ) (entry : Entry) (file : List ℕ)
+    (moment : ℕ) (row : Row) : Type 0 where
+  pub state : row.state ≡ command
+  pub lists_stay : row.lists ≡ lists
+  pub replies : row.replies ≡ ul_ack_resp ∷ []
+  pub entry_now : entry_of (after_all store row.commands) number ≡ Some (kept entry file moment)
+  pub client : IsCall entry.caller → IsOctets file → KeepsClient file (stamped (stamp_of moment entry) file)
+
+-- A file of which all octets came, and which has no fault, is acknowledged.
+abbrev pub AcknowledgedLaw : Type 0
+AcknowledgedLaw =
+    (caller : CallSign) (moment : ℕ) (store : Store) (lists : List CallerList) (number : ℕ) (entry : Entry)
+    (held rest : List ℕ) (fails : Bool) → IsUnderWay store number entry held
+    → length held + length rest ≡ entry.length → fault_code (held ++ rest) ≡ None
+    → Acknowledges store lists number entry (held ++ rest) moment
+    (session_row caller moment store lists (receiving number rest) (Ok data_end) fails)
+
+-- Over the store that these commands come to, DATA_END's row has commands and replies UL_ACK_RESP. In each image that
+-- stands for the store after at least these commands and the row's, whatever commands come behind them, the file's
+-- entry is complete with the octets that came, stamped.
+pub record StandsAcknowledged (caller : CallSign) (start store : Store) (lists : List CallerList) (fails : Bool)
+    (commands : List Command) (moment number : ℕ) (entry : Entry) (file rest : List ℕ) : Type 0 where
+  pub row : Row
+  pub is_row : session_row caller moment store lists (receiving number rest) (Ok data_end) fails ≡ row
+  pub replies : row.replies ≡ ul_ack_resp ∷ []
+  pub some : 1 ≤ length row.commands
+  pub stands :
+      (others : List Command) (least most : ℕ) (image : List ℕ)
+      → AreAllowed start (commands ++ (row.commands ++ others)) → length commands + length row.commands ≤ least
+      → MakesBetween least most start (commands ++ (row.commands ++ others)) image
+      → HasEntry number (kept entry file moment) image
+
+-- So it is whatever the commands before were, of this session or of others.
+abbrev pub AcknowledgedStandsLaw : Type 0
+AcknowledgedStandsLaw =
+    (caller : CallSign) (start store : Store) (lists : List CallerList) (fails : Bool) (commands : List Command)
+    (moment number : ℕ) (entry : Entry) (held rest : List ℕ) → store ≡ after_all start commands
+    → IsWhole store number entry held rest
+    → StandsAcknowledged caller start store lists fails commands moment number entry (held ++ rest) rest

@@ -1,0 +1,125 @@
+-- How the code's session answers a packet, and what that does to the disk.
+use Rattle.std.specs.Prelude.{◌≡◌, ℕ, List, [], ◌∷◌, Bool, true, false, IsTrue, ⊤, Result, Ok, Err, IsErrOf}
+use Rattle.px_base.specs.CallSign.{CallSign}
+use Rattle.disk_model.specs.declared.disk.Disk.{Ghosts}
+use Rattle.ftl0_packets.specs.Items.{texts}
+use Rattle.ftl0_packets.specs.Layout.{Item}
+use Rattle.selection_lists.specs.Lists.{CallerList}
+use Rattle.file_entries.specs.Command.{DoesAll}
+use Rattle.file_entries.specs.Kept.{KeepsComplete}
+use Rattle.file_journal.specs.Calls.{ChangesReads, Puts, Reads}
+use Rattle.file_store.specs.OnDisk.{Does}
+use Rattle.file_store.specs.State.{StandsOn, StoreState, store_in}
+use Rattle.ftl0_uploads.specs.declared.stop.ServerStop.{ServerStop as UploadStop}
+use Rattle.ftl0_uploads.specs.declared.stop.ServerStop.TheVariants as upload_stop
+use Rattle.ftl0_uploads.specs.Others.{KeepsOtherCallers}
+use Rattle.ftl0_uploads.specs.SessionState.{IsHeld, IsOnlyOut, SessionState as Uploading}
+use Rattle.ftl0_downloads.specs.Needs.{AreComplete, IsDueIn}
+use Rattle.ftl0_downloads.specs.Table.{DownloadState}
+use Rattle.ftl0_downloads.specs.Taking.{IsRow, made}
+use Rattle.ftl0_session.specs.declared.stop.ServerStop.{ServerStop}
+use Rattle.ftl0_session.specs.declared.stop.ServerStop.TheVariants as stop
+use Rattle.ftl0_session.specs.SessionState.{SessionState, caller_of, session_of, state_in}
+use Rattle.ftl0_session.specs.Table.{Row, State, command, download_row, fault_reply, session_row, takes_memory}
+
+-- what a session takes a packet over, and what it leaves for the next one: the store, the lists of all callers, its
+-- state
+pub record Working : Type 0 where
+  pub store : StoreState
+  pub lists : List CallerList
+  pub state : State
+
+-- a session over this store and these lists
+abbrev pub working : SessionState → StoreState → List CallerList → Working
+working session store lists = record { store = store; lists = lists; state = state_in store session }
+
+-- the packet's row, where a read fails or none does
+abbrev pub row_over : CallSign → ℕ → Working → Item → Bool → Row
+row_over caller moment before item fails =
+    session_row caller moment (store_in before.store) before.lists before.state item fails
+
+-- what the row gives is the store, the lists, the state and the replies now; the condition of each of its commands held
+-- in turn
+abbrev pub Gives : Working → Row → Working → List ℕ → Type 0
+Gives before row now replies =
+    DoesAll (store_in before.store) (store_in now.store) row.commands × (now.lists ≡ row.lists)
+    × (now.state ≡ row.state) × (replies ≡ texts row.replies)
+
+-- The answer to a packet is its row of the table. A stop says that there is no memory, where the row begins a file or
+-- takes octets, and nothing changed and nothing is replied; or that the disk failed in one of the row's commands, which
+-- code 3 replies.
+abbrev pub Answers : Working → Item → Row → Working → List ℕ → Result ⊤ ServerStop → Type 0
+Answers before item row now replies (Ok done) = Gives before row now replies
+Answers before item row now replies (Err stop.OutOfMemory) =
+    IsTrue (takes_memory item row.state) × (now ≡ before) × (replies ≡ [])
+Answers before item row now replies (Err stop.Disk) =
+    (now.state ≡ command) × (now.lists ≡ before.lists) × (replies ≡ texts (fault_reply before.state ∷ []))
+
+-- What a packet with this row does to the disk behind its reads. Where it is answered, the row's commands are done, or
+-- the disk failed in one of them: a crash since the packet came leaves the store after the first so many of them. Else
+-- the disk isn't touched.
+abbrev pub PutsRow :
+    {D : Type 0} → Ghosts D → StoreState → StoreState → D → D → Row → Result ⊤ ServerStop → Type 0
+PutsRow g before now disk disk_now row (Ok done) = Does g ⊥ before now disk disk_now row.commands
+PutsRow g before now disk disk_now row (Err stop.Disk) = Does g ⊤ before now disk disk_now row.commands
+PutsRow g before now disk disk_now row (Err stop.OutOfMemory) = disk_now ≡ disk
+
+-- A session takes a packet, malformed or not. First the disk is read, and a read failed or none did; the answer is the
+-- packet's row for that. Then the row's commands are done.
+pub record TakesPacket {D : Type 0} (g : Ghosts D) (caller : CallSign) (moment : ℕ) (item : Item)
+    (before now : Working) (disk disk_now : D) (replies : List ℕ) (result : Result ⊤ ServerStop) : Type 0 where
+  pub fails : Bool
+  pub answers : Answers before item (row_over caller moment before item fails) now replies result
+  pub disk_then : D
+  pub reads : Reads g (IsTrue fails) disk disk_then
+  pub on_disk :
+      PutsRow g before.store now.store disk_then disk_now (row_over caller moment before item fails) result
+  pub puts : Puts g (IsErrOf result stop.Disk) disk_then disk_now
+
+-- a packet whose row has no command, whether a read fails or none does, leaves the disk as reads do
+abbrev pub ReadsAlone : {D : Type 0} → Ghosts D → (Bool → Row) → D → D → Type 0
+ReadsAlone g row disk disk_now = (fails : Bool) → (row fails).commands ≡ [] → ChangesReads g disk disk_now
+
+-- What a packet does to a session, to the store, the lists and the disk, and what it keeps.
+pub record Taken {D : Type 0} (g : Ghosts D) (moment : ℕ) (item : Item) (old new : SessionState)
+    (store store_now : StoreState) (lists lists_now : List CallerList) (disk disk_now : D) (replies : List ℕ)
+    (result : Result ⊤ ServerStop) : Type 0 where
+  pub takes :
+      TakesPacket g (caller_of old) moment item (working old store lists) (working new store_now lists_now) disk
+      disk_now replies result
+  pub untouched : ReadsAlone g (row_over (caller_of old) moment (working old store lists) item) disk disk_now
+  pub failed : IsErrOf result stop.Disk → store_now.journal.failed ≡ true
+  pub kept : KeepsComplete (store_in store) (store_in store_now)
+  pub others : KeepsOtherCallers store store_now (caller_of old)
+  pub caller : caller_of new ≡ caller_of old
+  pub healthy : ¬ IsErrOf result stop.Disk → store_now.journal.failed ≡ false
+  pub stands_on : StandsOn g store_now disk_now
+  pub held : IsHeld store_now new.uploads
+  pub only : IsOnlyOut store_now new.uploads
+  pub due : IsDueIn (store_in store_now) new.downloads
+  pub complete : AreComplete (store_in store_now) lists_now
+
+-- A packet has a row of downloading, and that was made; or it has none, was not taken, and nothing changed. The disk
+-- was read, and a read failed or none did.
+pub record TakesDownload {D : Type 0} (g : Ghosts D) (item : Item) (uploads : Uploading)
+    (downloads downloads_now : DownloadState) (store : StoreState) (lists lists_now : List CallerList)
+    (disk disk_now : D) (replies : List ℕ) (taken : Bool) : Type 0 where
+  pub fails : Bool
+  pub reads : Reads g (IsTrue fails) disk disk_now
+  pub is_row :
+      IsRow
+      (download_row uploads.caller (store_in store) lists (state_in store (session_of uploads downloads)) item fails) taken
+      disk disk_now (made downloads lists []) (made downloads_now lists_now replies)
+
+-- an answer of uploading, which has a row for the packet, as one of the session
+abbrev pub IsAnswer : Result ⊤ UploadStop → Result ⊤ ServerStop → Type 0
+IsAnswer (Ok done) result = result ≡ Ok tt
+IsAnswer (Err upload_stop.Disk) result = result ≡ Err stop.Disk
+IsAnswer (Err upload_stop.OutOfMemory) result = result ≡ Err stop.OutOfMemory
+IsAnswer (Err (upload_stop.NotBuilt kind)) result = ⊥
+
+abbrev pub HasRow : Result ⊤ UploadStop → Type 0
+HasRow (Ok done) = ⊤
+HasRow (Err upload_stop.Disk) = ⊤
+HasRow (Err upload_stop.OutOfMemory) = ⊤
+HasRow (Err (upload_stop.NotBuilt kind)) = ⊥

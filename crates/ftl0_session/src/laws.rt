@@ -1,0 +1,43 @@
+//! Laws of the session's whole table, as far as it is of uploading, and of a session over events.
+
+ghost use Rattle.ftl0_session.specs.Laws.{AcknowledgedLaw, AcknowledgedStandsLaw, GrantedLaw, ResumedLaw, UploadsLaw};
+ghost use Rattle.ftl0_session.specs.Run.{CommandsLaw, UploadRunLaw};
+
+/// Each row of uploading is a row of the whole table: what holds of the rows of `ftl0_uploads` holds of it.
+pub fn uploads_law()
+    ensures { UploadsLaw }
+{}
+
+/// A new file that may be begun is granted.
+pub fn granted_law()
+    ensures { GrantedLaw }
+{}
+
+/// The caller's own file that is under way goes on behind the octets that are held.
+pub fn resumed_law()
+    ensures { ResumedLaw }
+{}
+
+/// A file of which all octets came, and which has no fault, is acknowledged, and is then complete with these octets,
+/// stamped: it has the client's body, and the client's items but for the server's.
+pub fn acknowledged_law()
+    ensures { AcknowledgedLaw }
+{}
+
+/// What was acknowledged stands: once the commands before and those of the row that replies UL_ACK_RESP are done, the
+/// file's entry is complete, with exactly the octets that came, stamped, in every image that stands for the store after
+/// at least these commands, whatever comes behind them.
+pub fn acknowledged_stands_law()
+    ensures { AcknowledgedStandsLaw }
+{}
+
+/// The store that a session over events comes to is the one after the commands of their rows.
+pub fn commands_law()
+    ensures { CommandsLaw }
+{}
+
+/// Over packets of uploading a session that does nothing of downloading says and does what uploading says and does:
+/// what holds of uploading over events holds of the whole session.
+pub fn upload_run_law()
+    ensures { UploadRunLaw }
+{}

@@ -1,0 +1,335 @@
+//! The session of one caller: what each packet gives, and what is sent next (FTL0 1990).
+
+ghost use Rattle.std.specs.Prelude.{◌≡◌, ◌≢◌, ℕ, [], false, true, IsErrOf, None};
+ghost use Rattle.ftl0_packets.specs.Items.{kind_of_item};
+ghost use Rattle.ftl0_packets.specs.Layout.{packet_text};
+ghost use Rattle.ftl0_packets.specs.Values.{item_of};
+ghost use Rattle.selection_lists.specs.Lists.{has_left};
+ghost use Rattle.file_entries.specs.Kept.{KeepsComplete};
+ghost use Rattle.file_store.specs.State.{StandsOn, store_in};
+ghost use Rattle.ftl0_uploads.specs.Others.{KeepsOtherCallers};
+ghost use Rattle.ftl0_uploads.specs.Session.{is_upload_kind};
+ghost use Rattle.ftl0_uploads.specs.SessionState.{IsHeld, IsOnlyOut, NoOtherOut, Parks};
+ghost use Rattle.ftl0_downloads.specs.Needs.{AreComplete, IsDueIn};
+ghost use Rattle.ftl0_downloads.specs.Table.{ready};
+ghost use Rattle.ftl0_session.specs.Filling.{PutsDue};
+ghost use Rattle.ftl0_session.specs.SessionState.{DoesOne, MayTake, caller_of, new_session, session_of, state_in};
+ghost use Rattle.ftl0_session.specs.Table.{error_by, flags, greeting};
+ghost use Rattle.ftl0_session.specs.Taking.{HasRow, IsAnswer, ReadsAlone, Taken, TakesDownload, TakesPacket};
+ghost use Rattle.ftl0_session.specs.Taking.{row_over, working};
+
+use crate::ServerStop;
+use arrayvec::ArrayVec;
+use disk_model::Disk;
+use file_store::FileStore;
+use ftl0_downloads::Downloads;
+use ftl0_downloads::laws::stays_law;
+use ftl0_packets::{Malformed, Packet, write_packet};
+use ftl0_uploads::{Replies, ServerStop as UploadStop, Session as Uploads};
+use px_base::Call;
+use selection_lists::Lists;
+use std::marker::Model;
+
+/// LOGIN_RESP's flags: bit 2, file headers are in use. Bits 1 and 0 are the version, 0.
+const FLAGS: u8 = 4;
+
+/// Bit 3 of LOGIN_RESP's flags: the caller's selection has numbers left.
+const SELECTED: u8 = 8;
+
+/// The code of an ill-formed command, or of a packet that has no place in the state.
+const ILL_FORMED: u8 = 1;
+
+/// The session of one caller. It must be ended, which parks its upload. While it receives a file, or waits for the end
+/// of one that it refused, it does nothing of downloading. Contracts see it as a `SessionState`.
+pub struct Session {
+    uploads: Uploads,
+    downloads: Downloads,
+}
+
+impl Model for Session {
+    ghost use Rattle.ftl0_session.specs.SessionState.{DoesOne, SessionState, session_of};
+
+    ghost Value = { SessionState };
+
+    ghost view = { λ a. session_of a.uploads a.downloads };
+
+    ghost invariant = { λ a. DoesOne a.uploads.phase a.downloads };
+}
+
+impl Session {
+    /// The session of this caller, in the state Command, with LOGIN_RESP at this moment among the replies (FTL0 1990,
+    /// LOGIN_RESP): bit 3 of its flags says whether the caller's selection has numbers left. Takes no memory.
+    pub fn new(caller: Call, moment: u32, lists: &Lists, replies: &mut Replies) -> Session
+        requires { replies.old.items ≡ [] }
+        ensures session { result ≡ new_session caller }
+        ensures text { replies.new.items ≡ packet_text (greeting moment (has_left lists.now caller)) }
+    {
+        let greeting = Packet::LoginResp {
+            moment,
+            flags: flags_of(lists.left(caller)),
+        };
+        write_packet(&greeting, replies);
+        Session {
+            uploads: Uploads::of_caller(caller),
+            downloads: Downloads::new(),
+        }
+    }
+
+    /// Whose session it is. Takes no memory.
+    pub fn caller(&self) -> Call
+        ensures { result ≡ caller_of self.now }
+    {
+        self.uploads.caller()
+    }
+
+    /// Takes a packet: one row of the session's table, or code 3 where a write or a sync of the disk fails. The row's
+    /// commands are on the disk before its replies are given. A read that fails gives the row for that, and the session
+    /// goes on. Takes memory, before it writes to the disk.
+    pub fn take<D: Disk>(
+        &mut self,
+        disk: &mut D,
+        packet: Result<Packet<'_>, Malformed>,
+        moment: u32,
+        store: &mut FileStore,
+        lists: &mut Lists,
+        replies: &mut Replies,
+    ) -> Result<(), ServerStop>
+        requires empty { replies.old.items ≡ [] }
+        requires healthy { store.old.journal.failed ≡ false }
+        requires stands_on { StandsOn D.Disk store.old disk.old }
+        requires held { IsHeld store.old self.old.uploads }
+        requires only { IsOnlyOut store.old self.old.uploads }
+        requires due { IsDueIn (store_in store.old) self.old.downloads }
+        requires complete { AreComplete (store_in store.old) lists.old }
+
+        // The answer is the packet's row for the reads that were made, and the row's commands are on the disk; or the
+        // disk failed in one of them.
+        ensures takes { TakesPacket D.Disk (caller_of self.old) moment (item_of packet.entry)
+            (working self.old store.old lists.old) (working self.new store.new lists.new) disk.old disk.new
+            replies.new.items result }
+        ensures untouched { ReadsAlone D.Disk
+            (row_over (caller_of self.old) moment (working self.old store.old lists.old) (item_of packet.entry))
+            disk.old disk.new }
+        ensures failed { IsErrOf result ServerStop.Disk → store.new.journal.failed ≡ true }
+        ensures kept { KeepsComplete (store_in store.old) (store_in store.new) }
+        ensures others { KeepsOtherCallers store.old store.new (caller_of self.old) }
+
+        // What the next packet needs.
+        ensures caller { caller_of self.new ≡ caller_of self.old }
+        ensures healthy { ¬ IsErrOf result ServerStop.Disk → store.new.journal.failed ≡ false }
+        ensures stands_on { StandsOn D.Disk store.new disk.new }
+        ensures held { IsHeld store.new self.new.uploads }
+        ensures only { IsOnlyOut store.new self.new.uploads }
+        ensures due { IsDueIn (store_in store.new) self.new.downloads }
+        ensures complete { AreComplete (store_in store.new) lists.new }
+    {
+        take_packet(
+            &mut self.uploads,
+            &mut self.downloads,
+            disk,
+            packet,
+            moment,
+            store,
+            lists,
+            replies,
+        )
+    }
+
+    /// Puts what is due next in place of what `out` holds: DATA of the next 254 octets, the last one shorter, or
+    /// DATA_END where none is left; or code 3 in the place of a DATA whose octets can't be read. It answers false, and
+    /// nothing changed, exactly where nothing is due. It reads what it sends. Takes no memory.
+    pub fn fill<D: Disk>(
+        &mut self,
+        disk: &mut D,
+        store: &mut FileStore,
+        out: &mut ArrayVec<u8, 256>,
+    ) -> bool
+        requires healthy { store.old.journal.failed ≡ false }
+        requires stands_on { StandsOn D.Disk store.old disk.old }
+        requires due { IsDueIn (store_in store.old) self.old.downloads }
+        ensures puts { PutsDue D.Disk (store_in store.old) disk.old disk.new (state_in store.old self.old)
+            (state_in store.new self.new) out.old.items out.new.items result }
+        ensures uploads { self.new.uploads ≡ self.old.uploads }
+        ensures store { store.new ≡ store.old }
+        ensures stands_on { StandsOn D.Disk store.new disk.new }
+        ensures due { IsDueIn (store_in store.new) self.new.downloads }
+    {
+        self.downloads.fill(disk, store, out)
+    }
+
+    /// Ends the session, and parks its upload. No upload of an entry of its caller is out then, if none was but the
+    /// session's own. Takes no memory.
+    pub fn end(self, store: &mut FileStore)
+        requires { IsHeld store.old self.uploads }
+        ensures parks { Parks store.old store.new self.uploads.phase }
+        ensures only { IsOnlyOut store.old self.uploads → NoOtherOut store.new (caller_of self) None }
+        ensures others { KeepsOtherCallers store.old store.new (caller_of self) }
+    {
+        let Session {
+            uploads,
+            downloads: _,
+        } = self;
+        uploads.end(store);
+    }
+}
+
+/// LOGIN_RESP's flags, by whether the caller's selection has numbers left.
+fn flags_of(left: bool) -> u8
+    ensures { result ≡ flags left }
+{
+    if left { FLAGS + SELECTED } else { FLAGS }
+}
+
+/// Takes a packet: by its row of uploading where it is of uploading and the session does nothing of downloading, else
+/// by its row of downloading, or by error 1.
+fn take_packet<D: Disk>(
+    uploads: &mut Uploads,
+    downloads: &mut Downloads,
+    disk: &mut D,
+    packet: Result<Packet<'_>, Malformed>,
+    moment: u32,
+    store: &mut FileStore,
+    lists: &mut Lists,
+    replies: &mut Replies,
+) -> Result<(), ServerStop>
+    requires empty { replies.old.items ≡ [] }
+    requires may { MayTake D.Disk store.old disk.old lists.old (session_of uploads.old downloads.old) }
+    requires one { DoesOne uploads.old.phase downloads.old }
+    ensures taken { Taken D.Disk moment (item_of packet.entry) (session_of uploads.old downloads.old)
+        (session_of uploads.new downloads.new) store.old store.new lists.old lists.new disk.old disk.new
+        replies.new.items result }
+    ensures one { DoesOne uploads.new.phase downloads.new }
+{
+    let of_uploading = is_of_uploading(&packet);
+    if of_uploading && downloads.is_ready() {
+        return take_upload(uploads, disk, packet, moment, store, lists, replies);
+    }
+    take_other(
+        uploads,
+        downloads,
+        disk,
+        packet,
+        of_uploading,
+        store,
+        lists,
+        replies,
+    );
+    Ok(())
+}
+
+/// Takes a packet of uploading, while the session does nothing of downloading. The lists stay.
+fn take_upload<D: Disk>(
+    uploads: &mut Uploads,
+    disk: &mut D,
+    packet: Result<Packet<'_>, Malformed>,
+    moment: u32,
+    store: &mut FileStore,
+    lists: &Lists,
+    replies: &mut Replies,
+) -> Result<(), ServerStop>
+    requires empty { replies.old.items ≡ [] }
+    requires may { MayTake D.Disk store.old disk.old lists.now (session_of uploads.old ready) }
+    requires kind { is_upload_kind (kind_of_item (item_of packet)) ≡ true }
+    ensures { Taken D.Disk moment (item_of packet.entry) (session_of uploads.old ready) (session_of uploads.new ready)
+        store.old store.new lists.now lists.now disk.old disk.new replies.new.items result }
+{
+    // While the store keeps its complete files, so do the lists.
+    stays_law();
+    answer_of(uploads.take(disk, packet, moment, store, replies))
+}
+
+/// Takes any other packet: by its row of downloading, or by error 1.
+fn take_other<D: Disk>(
+    uploads: &Uploads,
+    downloads: &mut Downloads,
+    disk: &mut D,
+    packet: Result<Packet<'_>, Malformed>,
+    of_uploading: bool,
+    store: &mut FileStore,
+    lists: &mut Lists,
+    replies: &mut Replies,
+)
+    requires empty { replies.old.items ≡ [] }
+    requires may { MayTake D.Disk store.old disk.old lists.old (session_of uploads.now downloads.old) }
+    requires one { DoesOne uploads.now.phase downloads.old }
+    requires kind { of_uploading ≡ is_upload_kind (kind_of_item (item_of packet)) }
+    requires other { of_uploading ≡ true → downloads.old ≢ ready }
+    ensures taken { (moment : ℕ) → Taken D.Disk moment (item_of packet.entry) (session_of uploads.now downloads.old)
+        (session_of uploads.now downloads.new) store.old store.new lists.old lists.new disk.old disk.new
+        replies.new.items (Ok tt) }
+    ensures one { DoesOne uploads.now.phase downloads.new }
+{
+    if take_download(uploads, downloads, disk, packet, store, lists, replies) {
+        return;
+    }
+    refuse(of_uploading, replies);
+}
+
+/// Takes a packet that has a row of downloading. It answers false, and nothing changed, exactly where it has none.
+fn take_download<D: Disk>(
+    uploads: &Uploads,
+    downloads: &mut Downloads,
+    disk: &mut D,
+    packet: Result<Packet<'_>, Malformed>,
+    store: &mut FileStore,
+    lists: &mut Lists,
+    replies: &mut Replies,
+) -> bool
+    requires empty { replies.old.items ≡ [] }
+    requires may { MayTake D.Disk store.old disk.old lists.old (session_of uploads.now downloads.old) }
+    ensures takes { TakesDownload D.Disk (item_of packet.entry) uploads.now downloads.old downloads.new store.old
+        lists.old lists.new disk.old disk.new replies.new.items result }
+    ensures store { store.new ≡ store.old }
+    ensures stands_on { StandsOn D.Disk store.new disk.new }
+    ensures due { IsDueIn (store_in store.new) downloads.new }
+    ensures complete { AreComplete (store_in store.new) lists.new }
+{
+    let Ok(packet) = packet else {
+        return false;
+    };
+    if !uploads.is_ready() {
+        return false;
+    }
+    downloads.take(disk, &packet, uploads.caller(), store, lists, replies)
+}
+
+/// The type of a packet, malformed or not.
+fn kind_of(packet: &Result<Packet<'_>, Malformed>) -> u8
+    ensures { result ≡ kind_of_item (item_of packet.now) }
+{
+    match packet {
+        Ok(packet) => packet.kind(),
+        Err(malformed) => malformed.kind,
+    }
+}
+
+/// Whether a packet is of uploading: DATA, DATA_END or UPLOAD_CMD, malformed or not.
+fn is_of_uploading(packet: &Result<Packet<'_>, Malformed>) -> bool
+    ensures { result ≡ is_upload_kind (kind_of_item (item_of packet.now)) }
+{
+    matches!(kind_of(packet), 0 | 1 | 3)
+}
+
+/// The answer of uploading to a packet that has a row of it.
+fn answer_of(taken: Result<(), UploadStop>) -> Result<(), ServerStop>
+    requires { HasRow taken }
+    ensures { IsAnswer taken result }
+{
+    match taken {
+        Ok(()) => Ok(()),
+        Err(UploadStop::Disk) => Err(ServerStop::Disk),
+        Err(UploadStop::OutOfMemory) => Err(ServerStop::OutOfMemory),
+        Err(UploadStop::NotBuilt { .. }) => unreachable!(),
+    }
+}
+
+/// A packet that is malformed or has no row in the state: error 1.
+fn refuse(of_uploading: bool, replies: &mut Replies)
+    ensures { replies.new.items ≡ packet_text (error_by of_uploading) }
+{
+    if of_uploading {
+        write_packet(&Packet::UlErrorResp(ILL_FORMED), replies);
+    } else {
+        write_packet(&Packet::DlErrorResp(ILL_FORMED), replies);
+    }
+}
