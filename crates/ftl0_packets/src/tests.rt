@@ -7,6 +7,7 @@ ghost use Rattle.ftl0_packets.specs.Values.{value_of};
 use super::*;
 use arrayvec::ArrayVec;
 use px_base::FileBytes;
+use std::alloc::Global;
 use std::process::Abort;
 use std::test::Fail;
 
@@ -182,19 +183,30 @@ fn check_read(rt: &impl Abort, octets: &[u8], size: usize, expected: Result<Pack
     assert_eq!(rt; last, PacketFed::Whole);
 }
 
+/// Writes a packet of at most 32 octets, compares, and reads it again, in pieces and in a stream.
+fn check_packet(
+    rt: &impl Abort,
+    alloc: Global,
+    packet: Packet<'_>,
+    octets: &[u8],
+) -> Result<(), Fail> {
+    assert!(rt; is_short(&packet));
+    let mut out: ArrayVec<u8, 32> = ArrayVec::new();
+    write_packet(&packet, &mut out);
+    assert_eq!(rt; out.as_slice(), octets);
+    check_read(rt, octets, 1, Ok(packet));
+    check_read(rt, octets, 2049, Ok(packet));
+    let (found, rest) = packets(alloc, octets)?;
+    assert_eq!(rt; found.len(), 1);
+    assert_eq!(rt; found[0], Ok(packet));
+    assert!(rt; rest.is_empty());
+    Ok(())
+}
+
 #[test]
 fn packets_are_written_and_read_again(rt: HostRuntime) -> Result<(), Fail> {
     for (packet, octets) in TABLE {
-        assert!(rt; is_short(&packet));
-        let mut out: ArrayVec<u8, 32> = ArrayVec::new();
-        write_packet(&packet, &mut out);
-        assert_eq!(rt; out.as_slice(), octets);
-        check_read(&rt, octets, 1, Ok(packet));
-        check_read(&rt, octets, 2049, Ok(packet));
-        let (found, rest) = packets(rt.alloc(), octets)?;
-        assert_eq!(rt; found.len(), 1);
-        assert_eq!(rt; found[0], Ok(packet));
-        assert!(rt; rest.is_empty());
+        check_packet(&rt, rt.alloc(), packet, octets)?;
     }
     Ok(())
 }
