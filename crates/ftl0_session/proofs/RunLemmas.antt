@@ -50,8 +50,7 @@ upload_run caller store lists part (event ∷ events) all =
     let P : Store → upload.State → Type 0 = λ s p. RunsOver caller (after_all store row.commands) lists (state_by row.state ready) (map as_event events)
     (replies_to caller (after_all store row.commands) row.state events) (commands_of caller (after_all store row.commands) row.state events) s lists (state_by p ready) in
     let first = subst (λ (s : Store). P s (state_after caller (after_all store row.commands) row.state events)) (sym store_is) later in
-    let all_of = subst (λ (p : upload.State). P (store_after caller store part (event ∷ events)) p) (sym state_is) first in
-    (
+    let all_of = subst (λ (p : upload.State). P (store_after caller store part (event ∷ events)) p) (sym state_is) first in (
       by_upload lists row,
       [],
       state_by row.state ready,

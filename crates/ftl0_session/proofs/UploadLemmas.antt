@@ -102,7 +102,7 @@ module _ {D : Type 0} (g : Ghosts D) (moment : ℕ) (item : Item) (uploads uploa
       let is = row-is said.0 said.1 false in
       subst (λ (r : Result ⊤ ServerStop). Answers before item (row false) now replies r) (sym answer) (
         subst (λ (r : Row). IsTrue (takes_memory item r.state)) (sym is)
-        (subst (λ (p : upload.State). IsTrue (upload.takes_memory item p)) (sym (upload_part-free said.0.state)) said.2),
+            (subst (λ (p : upload.State). IsTrue (upload.takes_memory item p)) (sym (upload_part-free said.0.state)) said.2),
         ap₂ (λ (s : StoreState) (p : upload.State). working_at lists s (state_by p ready)) said.3.0 said.3.1,
         said.3.2,
       )

@@ -113,7 +113,10 @@ fn each_packet_has_a_row(rt: HostRuntime) -> Result<(), Fail> {
     let session = Session::new(caller, 1, &lists, &mut replies);
     session.end(&mut store);
     assert!(rt; greeted && filled && is_callers);
-    assert_eq!(rt; replies.as_slice(), [0x05, 0x02, 0x01, 0, 0, 0, 0x0C].as_slice());
+    assert_eq!(rt;
+        replies.as_slice(),
+        [0x05, 0x02, 0x01, 0, 0, 0, 0x0C].as_slice()
+    );
     // The stamp: file_number is 1, and so the header's sum is one more.
     let mut whole = FILE;
     whole[7] = 0x01;
