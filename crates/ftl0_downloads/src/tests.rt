@@ -137,6 +137,32 @@ fn fill<D: Disk>(
     panic!(rt; "no end");
 }
 
+/// Plays a row, and hears all that is due then.
+fn play_row<D: Disk>(
+    rt: &impl Abort,
+    downloads: &mut Downloads,
+    disk: &mut D,
+    store: &mut FileStore,
+    lists: &mut Lists,
+    row: &Row<'_>,
+)
+    requires healthy { store.old.journal.failed ≡ false }
+    requires stands_on { StandsOn D.Disk store.old disk.old }
+    requires due { IsDueIn (store_in store.old) downloads.old }
+    requires complete { AreComplete (store_in store.old) lists.old }
+    ensures healthy { store.new.journal.failed ≡ false }
+    ensures stands_on { StandsOn D.Disk store.new disk.new }
+    ensures due { IsDueIn (store_in store.new) downloads.new }
+    ensures complete { AreComplete (store_in store.new) lists.new }
+{
+    let (says, is_taken, hears) = *row;
+    let mut heard = ArrayVec::new();
+    let taken = say(rt, downloads, disk, store, lists, says, &mut heard);
+    assert_eq!(rt; taken, is_taken);
+    fill(rt, downloads, disk, store, &mut heard);
+    assert_eq!(rt; heard.as_slice(), hears);
+}
+
 /// Plays rows one after another; with each, all that is due is heard before the next.
 fn play<D: Disk>(
     rt: &impl Abort,
@@ -150,12 +176,8 @@ fn play<D: Disk>(
     requires complete { AreComplete (store_in store.old) lists.old }
 {
     let mut downloads = Downloads::new();
-    for (says, is_taken, hears) in rows {
-        let mut heard = ArrayVec::new();
-        let taken = say(rt, &mut downloads, disk, store, lists, says, &mut heard);
-        assert_eq!(rt; taken, *is_taken);
-        fill(rt, &mut downloads, disk, store, &mut heard);
-        assert_eq!(rt; heard.as_slice(), *hears);
+    for row in rows {
+        play_row(rt, &mut downloads, disk, store, lists, row);
     }
 }
 
@@ -376,6 +398,18 @@ fn files_are_selected_and_listed(rt: HostRuntime) -> Result<(), Fail> {
     Ok(())
 }
 
+/// These octets as a caller hears them: DATA of 254 octets, the last one shorter, and DATA_END.
+fn heard_of(rt: &impl Abort, octets: &[u8]) -> Heard {
+    let mut heard = ArrayVec::new();
+    for piece in octets.chunks(254) {
+        let length = u8::try_from(piece.len()).expect(rt, "too long");
+        assert!(rt; heard.try_extend_from_slice(&[length, 0x00]).is_ok());
+        assert!(rt; heard.try_extend_from_slice(piece).is_ok());
+    }
+    assert!(rt; heard.try_extend_from_slice(&DATA_END).is_ok());
+    heard
+}
+
 #[test]
 fn headers_are_sent_across_packets(rt: HostRuntime) -> Result<(), Fail> {
     let mut disk = MemoryDisk::new(rt.alloc(), &[], &[])?;
@@ -385,33 +419,24 @@ fn headers_are_sent_across_packets(rt: HostRuntime) -> Result<(), Fail> {
     let mut store = FileStore::recover(rt.alloc(), &mut disk, limits)?;
     let mut lists = Lists::new(rt.alloc())?;
     // Ten headers of 73 octets are two DATA of 254 octets and one of 222. The eleventh is left.
-    let mut headers = [0; 803];
-    for place in 0..11 {
+    let mut headers: Heard = ArrayVec::new();
+    for place in 0..11u8 {
         let mut header = FILE;
-        header[5] = place as u8 + 1;
-        header[63] = place as u8 + 0x57;
-        headers[73 * place..73 * place + 73].copy_from_slice(&header);
+        header[5] = place + 1;
+        header[63] = place + 0x57;
+        assert!(rt; headers.try_extend_from_slice(&header).is_ok());
     }
-    let mut ten = [0; 738];
-    ten[0] = 0xFE;
-    ten[2..256].copy_from_slice(&headers[..254]);
-    ten[256] = 0xFE;
-    ten[258..512].copy_from_slice(&headers[254..508]);
-    ten[512] = 0xDE;
-    ten[514..736].copy_from_slice(&headers[508..730]);
-    ten[737] = 0x01;
-    let mut last = [0; 77];
-    last[0] = 0x49;
-    last[2..75].copy_from_slice(&headers[730..]);
-    last[76] = 0x01;
+    assert_eq!(rt; headers.len(), 803);
+    let (first, eleventh) = headers.as_slice().split_at(730);
+    let (ten, last) = (heard_of(&rt, first), heard_of(&rt, eleventh));
     let select = [0x05, 0x10, 0x10, 0x7F, 0x00, 0x00, 0x22];
     let rows: [Row<'_>; 6] = [
         (&select, true, &[0x02, 0x11, 0x0B, 0x00]),
-        (&[0x04, 0x0F, 0, 0, 0, 0], true, &ten),
-        (&[0x04, 0x0F, 0, 0, 0, 0], true, &last),
+        (&[0x04, 0x0F, 0, 0, 0, 0], true, ten.as_slice()),
+        (&[0x04, 0x0F, 0, 0, 0, 0], true, last.as_slice()),
         (&[0x04, 0x0F, 0, 0, 0, 0], true, &[0x01, 0x09, 0x0B]),
         (&select, true, &[0x02, 0x11, 0x0B, 0x00]),
-        (&[0x04, 0x0E, 0, 0, 0, 0], true, &ten),
+        (&[0x04, 0x0E, 0, 0, 0, 0], true, ten.as_slice()),
     ];
     play(&rt, &mut disk, &mut store, &mut lists, &rows);
     Ok(())

@@ -3,8 +3,8 @@ use Rattle.file_store.specs.State.{StandsOn, store_in}
 use Rattle.ftl0_downloads.specs.Needs.{AreComplete, IsDueIn}
 use Rattle.ftl0_downloads.proofs.tests.play.Given as goal
 
-abbrev pub invariant-loop-says : goal.invariant-loop-says
-invariant-loop-says g l = record {
+abbrev pub invariant-loop-row : goal.invariant-loop-row
+invariant-loop-row g l = record {
   healthy : l.store.journal.failed ≡ false;
   stands_on : StandsOn g.D.Disk l.store l.disk;
   due : IsDueIn (store_in l.store) l.downloads;
