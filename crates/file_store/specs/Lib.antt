@@ -7,3 +7,4 @@ pub mod Recovery
 pub mod Refusals
 pub mod State
 pub mod Upload
+pub mod Working

@@ -1,6 +1,7 @@
 -- What a connection keeps, and its fields as contracts see them.
 use Rattle.std.specs.Prelude.{◌≡◌, false}
 use Rattle.ftl0_packets.specs.Reading.{under_way}
+use Rattle.ftl0_session.specs.SessionState.{caller_of}
 use Rattle.ftl0_connection.specs.declared.connection.Connection.TheInside.{Inside}
 use Rattle.ftl0_connection.specs.ConnectionState.{ConnectionState, IsWaiting, StandsForSome}
 
@@ -11,6 +12,6 @@ connection_state a = record { link = a.link; octets = under_way a.reader; sessio
 -- accepted and of which no packet was taken wait.
 pub record IsInside (a : Inside) : Type 0 where
   pub called : a.link.called ≡ false
-  pub peer : a.link.peer ≡ a.session.caller
+  pub peer : a.link.peer ≡ caller_of a.session
   pub some : StandsForSome a.link
   pub waiting : IsWaiting (under_way a.reader)

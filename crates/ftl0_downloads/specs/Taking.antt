@@ -1,9 +1,9 @@
 -- How the code answers a packet.
-use Rattle.std.specs.Prelude.{◌≡◌, List, ℕ, [], flat_map, Bool, true, false, IsTrue, Option, None, Some, Result}
+use Rattle.std.specs.Prelude.{◌≡◌, List, ℕ, [], ◌∷◌, flat_map, Bool, true, false, IsTrue, Option, None, Some, IfSome, Result}
 use Rattle.std.specs.Prelude.{Ok, Err}
 use Rattle.px_base.specs.CallSign.{CallSign}
 use Rattle.disk_model.specs.declared.disk.Disk.{Ghosts}
-use Rattle.ftl0_packets.specs.Layout.{PacketValue, packet_text}
+use Rattle.ftl0_packets.specs.Layout.{PacketValue, dl_error_resp, packet_text}
 use Rattle.selection_lists.specs.Lists.{CallerList}
 use Rattle.file_journal.specs.Calls.{Reads}
 use Rattle.file_entries.specs.Store.{Store}
@@ -29,11 +29,13 @@ made state lists replies = record { state = state; lists = lists; replies = repl
 abbrev pub made_by : DownloadRow → Made
 made_by row = made row.state row.lists (flat_map packet_text row.replies)
 
--- The disk is as reads leave it, of which one failed or none; and what was made is the row for that.
+-- The disk is as reads leave it, of which one failed or none; and what was made is the row for that, which tells of a
+-- read that failed by code 3.
 pub record MakesRow {D : Type 0} (g : Ghosts D) (disk disk_now : D) (row : Bool → DownloadRow) (now : Made) :
     Type 0 where
   pub fails : Bool
   pub reads : Reads g (IsTrue fails) disk disk_now
+  pub told : fails ≡ true → (row fails).replies ≡ dl_error_resp 3 ∷ []
   pub is_row : now ≡ made_by (row fails)
 
 -- the packet has this row, and it was made; or it has none, was not taken, and nothing changed
@@ -42,11 +44,15 @@ IsRow None taken disk disk_now before now = (taken ≡ false) × (disk_now ≡ d
 IsRow (Some row) taken disk disk_now before now = (taken ≡ true) × (now ≡ made_by row)
 
 -- A packet is taken exactly where it has a row. The disk is as reads leave it, of which one failed or none; and what
--- was made is the packet's row for that.
+-- was made is the packet's row for that, which tells of a read that failed by code 3.
 pub record TakesPacket {D : Type 0} (g : Ghosts D) (caller : CallSign) (packet : PacketValue) (store : Store)
     (disk disk_now : D) (before now : Made) (taken : Bool) : Type 0 where
   pub fails : Bool
   pub reads : Reads g (IsTrue fails) disk disk_now
+  pub told :
+      fails ≡ true
+      → IfSome (download_row caller store before.lists before.state packet fails)
+      (λ row. row.replies ≡ dl_error_resp 3 ∷ [])
   pub is_row :
       IsRow (download_row caller store before.lists before.state packet fails) taken disk disk_now before now
 

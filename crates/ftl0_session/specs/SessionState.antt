@@ -49,3 +49,13 @@ pub record MayTake {D : Type 0} (g : Ghosts D) (store : StoreState) (disk : D) (
   pub only : upload.IsOnlyOut store session.uploads
   pub due : IsDueIn (store_in store) session.downloads
   pub complete : AreComplete (store_in store) lists
+
+-- What a session leaves for the next packet, whatever came: the store stands on the disk, or has failed; it holds the
+-- session's upload, and no other of the caller is out; what is due lies within complete files, and so do the lists.
+pub record IsFit {D : Type 0} (g : Ghosts D) (store : StoreState) (disk : D) (lists : List CallerList)
+    (session : SessionState) : Type 0 where
+  pub stands_on : StandsOn g store disk
+  pub held : upload.IsHeld store session.uploads
+  pub only : upload.IsOnlyOut store session.uploads
+  pub due : IsDueIn (store_in store) session.downloads
+  pub complete : AreComplete (store_in store) lists

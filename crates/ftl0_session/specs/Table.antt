@@ -1,5 +1,6 @@
 -- The session of one caller (FTL0 1990): its states, and its table, which has a row for each packet.
-use Rattle.std.specs.Prelude.{ℕ, List, [], ◌∷◌, Bool, if◌then◌else◌, Option, None, Some, Ok, Err}
+use Rattle.std.specs.Prelude.{ℕ, ◌==◌, List, [], ◌∷◌, Bool, false, if◌then◌else◌, Option, None, Some, Ok, Err}
+use Rattle.std.specs.List.{list_any}
 use Rattle.std.specs.Option.{option_map}
 use Rattle.px_base.specs.CallSign.{CallSign}
 use Rattle.ftl0_packets.specs.Items.{kind_of_item}
@@ -152,6 +153,15 @@ in_session next = record { packet = next.packet; state = downloading next.state 
 -- headers are.
 abbrev pub next_due : Store → State → Bool → Option DuePacket
 next_due store state fails = option_map in_session (due.next_due store (download_part state) fails)
+
+-- whether a packet tells that a read of the disk failed: DL_ERROR_RESP with code 3
+abbrev pub tells_failed_read : PacketValue → Bool
+tells_failed_read (dl_error_resp code) = code == 3
+tells_failed_read packet = false
+
+-- whether any of these packets does
+abbrev pub tell_failed_read : List PacketValue → Bool
+tell_failed_read packets = list_any tells_failed_read packets
 
 -- The row of a packet that is the part of this number of an event with these failures: a read fails where they list
 -- one.

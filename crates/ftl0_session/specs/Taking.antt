@@ -1,9 +1,9 @@
 -- How the code's session answers a packet, and what that does to the disk.
-use Rattle.std.specs.Prelude.{◌≡◌, ℕ, List, [], ◌∷◌, Bool, true, false, IsTrue, ⊤, Result, Ok, Err, IsErrOf}
+use Rattle.std.specs.Prelude.{◌≡◌, ℕ, List, [], ◌∷◌, Bool, true, false, IfSome, IsTrue, ⊤, Result, Ok, Err, IsErrOf}
 use Rattle.px_base.specs.CallSign.{CallSign}
 use Rattle.disk_model.specs.declared.disk.Disk.{Ghosts}
 use Rattle.ftl0_packets.specs.Items.{texts}
-use Rattle.ftl0_packets.specs.Layout.{Item}
+use Rattle.ftl0_packets.specs.Layout.{Item, dl_error_resp}
 use Rattle.selection_lists.specs.Lists.{CallerList}
 use Rattle.file_entries.specs.Command.{DoesAll}
 use Rattle.file_entries.specs.Kept.{KeepsComplete}
@@ -65,10 +65,11 @@ PutsRow g before now disk disk_now row (Err stop.Disk) = Does g ⊤ before now d
 PutsRow g before now disk disk_now row (Err stop.OutOfMemory) = disk_now ≡ disk
 
 -- A session takes a packet, malformed or not. First the disk is read, and a read failed or none did; the answer is the
--- packet's row for that. Then the row's commands are done.
+-- packet's row for that, which tells of a read that failed by code 3. Then the row's commands are done.
 pub record TakesPacket {D : Type 0} (g : Ghosts D) (caller : CallSign) (moment : ℕ) (item : Item)
     (before now : Working) (disk disk_now : D) (replies : List ℕ) (result : Result ⊤ ServerStop) : Type 0 where
   pub fails : Bool
+  pub told : fails ≡ true → (row_over caller moment before item fails).replies ≡ dl_error_resp 3 ∷ []
   pub answers : Answers before item (row_over caller moment before item fails) now replies result
   pub disk_then : D
   pub reads : Reads g (IsTrue fails) disk disk_then
@@ -106,6 +107,11 @@ pub record TakesDownload {D : Type 0} (g : Ghosts D) (item : Item) (uploads : Up
     (disk disk_now : D) (replies : List ℕ) (taken : Bool) : Type 0 where
   pub fails : Bool
   pub reads : Reads g (IsTrue fails) disk disk_now
+  pub told :
+      fails ≡ true
+      → IfSome
+      (download_row uploads.caller (store_in store) lists (state_in store (session_of uploads downloads)) item fails)
+      (λ row. row.replies ≡ dl_error_resp 3 ∷ [])
   pub is_row :
       IsRow
       (download_row uploads.caller (store_in store) lists (state_in store (session_of uploads downloads)) item fails) taken

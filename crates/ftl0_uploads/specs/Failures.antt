@@ -1,6 +1,6 @@
 -- The disk faults of an event. A part of an event is one packet that is taken, or one DATA that is due; the parts are
 -- numbered in order through the event, from 0 on.
-use Rattle.std.specs.Prelude.{ℕ, ◌==◌, List, [], ◌∷◌, Bool, true, false, ◌&&◌}
+use Rattle.std.specs.Prelude.{ℕ, ◌==◌, List, [], ◌∷◌, Bool, true, false, ◌&&◌, map}
 use Rattle.std.specs.List.{list_any}
 
 -- what failed: a read; or a write or a sync
@@ -32,3 +32,7 @@ write_fails failures part = list_any (λ failure. (failure.part == part) && is_w
 -- nothing failed but a write or a sync of this part
 abbrev pub failed_write : ℕ → List Failure
 failed_write part = record { part = part; fault = write_fault } ∷ []
+
+-- reads failed at these parts, and nothing else
+abbrev pub failed_reads : List ℕ → List Failure
+failed_reads parts = map (λ part. record { part = part; fault = read_fault }) parts
