@@ -60,3 +60,33 @@ pub record Feeds {D : Type 0} (g : Ghosts D) (moment : ℕ) (before now : Connec
       → Hears g w
       (taking_some moment before.session (state_in store before.session) (store_in store) lists end items)
       store store_now lists_now disk disk_now (with_nothing_left now.link now.session) told
+
+-- what these octets, next in the stream, make of the connection, before what is due is queued
+abbrev pub packets_as : ℕ → Store → List CallerList → Connected → LinkEnd → List ℕ → List Failure → Happened
+packets_as moment store lists c end octets failures =
+    progressed (rest_of (c.rest ++ octets)) (taking_octets moment store lists c end octets failures)
+
+-- what a frame makes of it, before what is due is queued
+abbrev pub unqueued : Window → ℕ → Store → List CallerList → Connected → FrameValue → List Failure → Happened
+unqueued w moment store lists c frame failures =
+    progressed (rest_of_frame w c frame) (parts_of_frame w moment store lists c frame failures)
+
+-- Behind these parts of an event, at which the session goes on, what is due was queued: reads failed at these later parts,
+-- and the count of failed reads rose exactly where one of the packets tells of it.
+pub record Queued {D : Type 0} (g : Ghosts D) (w : Window) (store : StoreState) (disk disk_now : D)
+    (new : ConnectionState) (progress : Progress) : Type 0 where
+  pub parts : List ℕ
+  pub behind : All (λ part. progress.part ≤ part) parts
+  pub now : Progress
+  pub is_now : now ≡ queuing (free_octets progress.end) (store_in store) (failed_reads parts) progress
+  pub link : StandsFor w new.link now.end
+  pub state : state_in store new.session ≡ now.state
+  pub missed : Bool
+  pub missed_is : now.missed ≡ (progress.missed || missed)
+  pub reads : DoesAmongReads g ⊥ missed store store disk disk_now []
+
+-- the same behind whichever parts
+abbrev pub QueuesDue : {D : Type 0} → Ghosts D → StoreState → D → D → ConnectionState → ConnectionState → Type 0
+QueuesDue g store disk disk_now old new =
+    (w : Window) (progress : Progress) → StandsFor w old.link progress.end → state_in store old.session ≡ progress.state
+    → Queued g w store disk disk_now new progress

@@ -71,15 +71,21 @@ rest_as Reopened c octets = []
 rest_as Bytes c octets = rest_of (c.rest ++ octets)
 rest_as (Closed why) c octets = c.rest
 
--- and then what is due is queued
-abbrev pub hearing_as : Heard → ℕ → Store → List CallerList → Connected → LinkEnd → List ℕ → List Failure → Happened
-hearing_as heard moment store lists c end octets failures =
-    progressed (rest_as heard c octets) (queued store failures (parts_as heard moment store lists c end octets failures))
+-- what a frame makes of it before what is due is queued
+abbrev pub parts_of_frame : Window → ℕ → Store → List CallerList → Connected → FrameValue → List Failure → Progress
+parts_of_frame w moment store lists c frame failures =
+    parts_as (heard_of w c.end frame) moment store lists c (after_frame w c.end frame) frame.kind.information failures
 
--- what a frame from the caller makes of the connection, at this moment, over this store and the lists of all callers
+-- the octets of which no packet was taken after it
+abbrev pub rest_of_frame : Window → Connected → FrameValue → List ℕ
+rest_of_frame w c frame = rest_as (heard_of w c.end frame) c frame.kind.information
+
+-- What a frame from the caller makes of the connection, at this moment, over this store and the lists of all callers. At
+-- its end what is due is queued.
 abbrev pub hearing : Window → ℕ → Store → List CallerList → Connected → FrameValue → List Failure → Happened
 hearing w moment store lists c frame failures =
-    hearing_as (heard_of w c.end frame) moment store lists c (after_frame w c.end frame) frame.kind.information failures
+    progressed (rest_of_frame w c frame)
+    (queued store failures (parts_of_frame w moment store lists c frame failures))
 
 -- what a tick makes of a connection: what it is then, and whether its session is over
 pub record Ticked : Type 0 where

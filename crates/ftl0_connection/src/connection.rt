@@ -11,16 +11,19 @@ ghost use Rattle.ax25_link.specs.Window.{IsGoodK, Window, window_of};
 ghost use Rattle.ftl0_packets.specs.Layout.{packet_text};
 ghost use Rattle.ftl0_packets.specs.Reading.{is_whole, read_item};
 ghost use Rattle.file_entries.specs.Kept.{KeepsComplete};
-ghost use Rattle.file_journal.specs.Calls.{Puts};
+ghost use Rattle.selection_lists.specs.Lists.{CallerList, has_left};
 ghost use Rattle.file_store.specs.State.{StandsOn, StoreState, store_in};
-ghost use Rattle.ftl0_connection.specs.Connected.{Connected, answering, beginning};
-ghost use Rattle.ftl0_connection.specs.ConnectionState.{Hears, IsConnection, StandsAfter, is_over, taking_some, with_nothing_left};
-ghost use Rattle.ftl0_connection.specs.Feeding.{Feeds, IsGoing, LeavesFit, MayTake, with_octets};
-ghost use Rattle.ftl0_connection.specs.Hearing.{hearing, taking_octets, ticking};
-ghost use Rattle.ftl0_connection.specs.Taking.{fits, replied};
+ghost use Rattle.file_store.specs.Working.{DoesAmongReads};
 ghost use Rattle.ftl0_uploads.specs.Others.{KeepsOtherCallers};
-ghost use Rattle.ftl0_uploads.specs.Session.{greeting};
-ghost use Rattle.ftl0_uploads.specs.SessionState.{IsHeld, IsOnlyOut, NoOtherOut, Parks, new_session, state_of};
+ghost use Rattle.ftl0_uploads.specs.SessionState.{IsHeld, IsOnlyOut, NoOtherOut, Parks};
+ghost use Rattle.ftl0_downloads.specs.Needs.{AreComplete, IsDueIn};
+ghost use Rattle.ftl0_session.specs.SessionState.{MayTake as SessionMayTake, caller_of, new_session, state_in};
+ghost use Rattle.ftl0_session.specs.Table.{greeting};
+ghost use Rattle.ftl0_connection.specs.Connected.{Connected, answering, beginning, greeted};
+ghost use Rattle.ftl0_connection.specs.ConnectionState.{Hears, IsConnection, StandsAfter, is_over, taking_some, with_nothing_left};
+ghost use Rattle.ftl0_connection.specs.Feeding.{Feeds, IsGoing, LeavesFit, MayTake, QueuesDue, packets_as, unqueued, with_octets};
+ghost use Rattle.ftl0_connection.specs.Hearing.{hearing, ticking};
+ghost use Rattle.ftl0_connection.specs.Taking.{fits, replied};
 
 use crate::Fate;
 use arrayvec::ArrayVec;
@@ -30,11 +33,15 @@ use disk_model::Disk;
 use file_store::FileStore;
 use ftl0_packets::laws::stream_law;
 use ftl0_packets::{PacketFed, PacketReader};
-use ftl0_uploads::{Replies, ServerStop, Session};
+use ftl0_session::{Replies, ServerStop, Session};
 use px_base::{Call, OutOfMemory};
+use selection_lists::Lists;
 use std::alloc::Global;
 use std::marker::Model;
 use std::mem;
+
+/// How many octets are free on the link at least where DATA or DATA_END is queued.
+const ENOUGH_FREE: usize = 1280;
 
 /// What a frame that was heard did: what becomes of the session, and whether the server goes on.
 pub type Told = (Fate, Result<(), ServerStop>);
@@ -62,8 +69,8 @@ impl Model for Connection {
 
 impl Connection {
     /// The connection of a station whose SABM with this P bit is answered at this moment: UA is pending, and LOGIN_RESP
-    /// queued (AX.25 2.0, 2.4.3.1; FTL0 1990, LOGIN_RESP). At most k I frames are outstanding at a time; `good_k(k)`
-    /// holds. Takes memory, and fails only where there is none.
+    /// queued, which says whether numbers are left in the caller's list (AX.25 2.0, 2.4.3.1; FTL0 1990, LOGIN_RESP). At
+    /// most k I frames are outstanding at a time; `good_k(k)` holds. Takes memory, and fails only where there is none.
     pub fn answer(
         alloc: Global,
         me: Call,
@@ -71,16 +78,18 @@ impl Connection {
         k: u8,
         poll: bool,
         moment: u32,
+        lists: &Lists,
     ) -> Result<Connection, OutOfMemory>
         requires { IsGoodK k }
         ensures connection { IfOk result (λ connection. (store : StoreState) →
-            IsConnection (window_of k) store connection (answering me caller poll moment)) }
+            IsConnection (window_of k) store connection
+            (answering me caller poll moment (has_left lists.now caller))) }
         ensures stations { IfOk result (λ connection. HasStations connection.link false me caller k) }
         ensures session { IfOk result (λ connection. connection.session ≡ new_session caller) }
         ensures up { IfOk result (λ connection. connection.link.state ≡ LinkState.Up) }
     {
         let mut link = Link::answer(alloc, me, caller, k, poll)?;
-        let session = greet(&mut link, caller, moment);
+        let session = greet(&mut link, caller, moment, lists);
         Ok(Connection {
             link,
             reader: PacketReader::new(),
@@ -91,49 +100,37 @@ impl Connection {
     /// Hears a frame of the caller at this moment, while nothing is pending (AX.25 2.0, 2.4; FTL0 1990): the frame's row
     /// of the link's table, and for information that is next in the stream the packets' rows of the session's table. Their
     /// commands are on the disk before any frame of the event is given out. A reply for which the link has no room ends
-    /// the session by DM. After a stop the server goes on no further: after `Disk` the frames that are pending are given
-    /// out first, code 3 among them; after any other none is. Takes memory, before a packet touches the disk.
+    /// the session by DM. Then DATA and DATA_END that are due are queued while at least 1,280 octets are free. A read of
+    /// the disk that fails is told by code 3, and the session goes on. After a stop nothing more is queued, and the server
+    /// goes on no further: after `Disk` the frames that are pending are given out first, code 3 among them; after want of
+    /// memory none is. Takes memory, before a packet touches the disk.
     pub fn hear<D: Disk>(
         &mut self,
         disk: &mut D,
         store: &mut FileStore,
+        lists: &mut Lists,
         frame: &Frame<'_>,
         moment: u32,
     ) -> Told
         requires frame { IsFromPeer self.old.link (value_of frame.now) }
         requires quiet { is_pending self.old.link ≡ false }
         requires up { self.old.link.state ≡ LinkState.Up }
-        requires healthy { store.old.journal.failed ≡ false }
-        requires stands_on { StandsOn D.Disk store.old disk.old }
-        requires held { IsHeld store.old self.old.session }
-        requires only { IsOnlyOut store.old self.old.session }
+        requires may { SessionMayTake D.Disk store.old disk.old lists.old self.old.session }
 
         // Of whichever connection it stands for, it is what the frame makes of that, or the server stops.
         ensures hears { (w : Window) (c : Connected) → IsConnection w store.old self.old c →
-            Hears D.Disk w (hearing w moment (store_in store.old) c (value_of frame.now))
-            store.old store.new disk.old disk.new self.new result }
-        ensures puts { Puts D.Disk (IsErrOf result.1 ServerStop.Disk) disk.old disk.new }
-        ensures kept { KeepsComplete (store_in store.old) (store_in store.new) }
-        ensures others { KeepsOtherCallers store.old store.new self.old.session.caller }
+            Hears D.Disk w (hearing w moment (store_in store.old) lists.old c (value_of frame.now))
+            store.old store.new lists.new disk.old disk.new self.new result }
 
         // What the next event needs.
-        ensures healthy { ¬ IsErrOf result.1 ServerStop.Disk → store.new.journal.failed ≡ false }
-        ensures stands_on { StandsOn D.Disk store.new disk.new }
-        ensures held { IsHeld store.new self.new.session }
-        ensures only { IsOnlyOut store.new self.new.session }
-        ensures up { result.0 ≡ Fate.Stays → self.new.link.state ≡ LinkState.Up }
-        ensures caller { self.new.session.caller ≡ self.old.session.caller }
-        ensures stations { SameStations self.old.link self.new.link }
+        ensures fit { LeavesFit D.Disk store.old store.new lists.new disk.old disk.new self.old.link self.new.link
+            self.old.session self.new.session result }
     {
-        match self.link.take(frame) {
-            Heard::Nothing | Heard::Opened => (Fate::Stays, Ok(())),
-            Heard::Reopened => {
-                self.begin_anew(store, moment);
-                (Fate::Stays, Ok(()))
-            }
-            Heard::Bytes => self.take_octets(disk, store, information(frame), moment),
-            Heard::Closed(_why) => (Fate::Ends, Ok(())),
+        let told = self.take_frame(disk, store, lists, frame, moment);
+        if goes_on(&told) {
+            self.queue_due(disk, store);
         }
+        told
     }
 
     /// Counts a tick, while nothing is pending (AX.25 2.0, 2.4.7): the session is over where the caller doesn't answer any
@@ -142,7 +139,7 @@ impl Connection {
         requires quiet { is_pending self.old.link ≡ false }
         requires up { self.old.link.state ≡ LinkState.Up }
         ensures ticks { (w : Window) (store : StoreState) (c : Connected) → IsConnection w store self.old c →
-            StandsAfter w store self.new (ticking c) result }
+            StandsAfter w store self.new (ticking c).over (ticking c).after result }
         ensures session { self.new.session ≡ self.old.session }
         ensures octets { self.new.octets ≡ self.old.octets }
         ensures up { result ≡ Fate.Stays → self.new.link.state ≡ LinkState.Up }
@@ -178,7 +175,7 @@ impl Connection {
 
     /// Whose connection it is. Takes no memory.
     pub fn caller(&self) -> Call
-        ensures { result ≡ self.now.session.caller }
+        ensures { result ≡ caller_of self.now.session }
     {
         self.session.caller()
     }
@@ -193,11 +190,11 @@ impl Connection {
     /// Ends the session, which parks its upload, and gives the link, which may have frames to give out still. Takes no
     /// memory.
     pub fn end(self, store: &mut FileStore) -> Link
-        requires { IsHeld store.old self.session }
+        requires { IsHeld store.old self.session.uploads }
         ensures link { result ≡ self.link }
-        ensures parks { Parks store.old store.new self.session.phase }
-        ensures only { IsOnlyOut store.old self.session → NoOtherOut store.new self.session.caller None }
-        ensures others { KeepsOtherCallers store.old store.new self.session.caller }
+        ensures parks { Parks store.old store.new self.session.uploads.phase }
+        ensures only { IsOnlyOut store.old self.session.uploads → NoOtherOut store.new (caller_of self.session) None }
+        ensures others { KeepsOtherCallers store.old store.new (caller_of self.session) }
     {
         let Connection {
             link,
@@ -208,21 +205,73 @@ impl Connection {
         link
     }
 
-    /// Ends the session, which parks its upload, and begins a new one over the link, which begins anew.
-    fn begin_anew(&mut self, store: &mut FileStore, moment: u32)
+    /// Hears a frame, but that what is due isn't queued yet.
+    fn take_frame<D: Disk>(
+        &mut self,
+        disk: &mut D,
+        store: &mut FileStore,
+        lists: &mut Lists,
+        frame: &Frame<'_>,
+        moment: u32,
+    ) -> Told
+        requires frame { IsFromPeer self.old.link (value_of frame.now) }
+        requires quiet { is_pending self.old.link ≡ false }
         requires up { self.old.link.state ≡ LinkState.Up }
-        requires held { IsHeld store.old self.old.session }
-        requires only { IsOnlyOut store.old self.old.session }
-        ensures begins { (w : Window) (end : _) → StandsFor w self.old.link end →
-            IsConnection w store.new self.new (beginning end moment) }
-        ensures parks { Parks store.old store.new self.old.session.phase }
-        ensures session { self.new.session ≡ new_session self.old.session.caller }
-        ensures only { NoOtherOut store.new self.old.session.caller None }
-        ensures others { KeepsOtherCallers store.old store.new self.old.session.caller }
+        requires may { SessionMayTake D.Disk store.old disk.old lists.old self.old.session }
+        ensures hears { (w : Window) (c : Connected) → IsConnection w store.old self.old c →
+            Hears D.Disk w (unqueued w moment (store_in store.old) lists.old c (value_of frame.now))
+            store.old store.new lists.new disk.old disk.new self.new result }
+        ensures fit { LeavesFit D.Disk store.old store.new lists.new disk.old disk.new self.old.link self.new.link
+            self.old.session self.new.session result }
+    {
+        match self.link.take(frame) {
+            Heard::Nothing | Heard::Opened => (Fate::Stays, Ok(())),
+            Heard::Reopened => {
+                self.begin_anew(store, lists, moment);
+                (Fate::Stays, Ok(()))
+            }
+            Heard::Bytes => self.take_octets(disk, store, lists, information(frame), moment),
+            Heard::Closed(_why) => (Fate::Ends, Ok(())),
+        }
+    }
+
+    /// Queues DATA and DATA_END that are due, one after another, while enough octets are free.
+    fn queue_due<D: Disk>(&mut self, disk: &mut D, store: &mut FileStore)
+        requires up { self.old.link.state ≡ LinkState.Up }
+        requires healthy { store.old.journal.failed ≡ false }
+        requires stands_on { StandsOn D.Disk store.old disk.old }
+        requires due { IsDueIn (store_in store.old) self.old.session.downloads }
+        ensures queues { QueuesDue D.Disk store.old disk.old disk.new self.old self.new }
+        ensures uploads { self.new.session.uploads ≡ self.old.session.uploads }
+        ensures octets { self.new.octets ≡ self.old.octets }
+        ensures store { store.new ≡ store.old }
+        ensures stands_on { StandsOn D.Disk store.new disk.new }
+        ensures due { IsDueIn (store_in store.new) self.new.session.downloads }
         ensures up { self.new.link.state ≡ LinkState.Up }
         ensures stations { SameStations self.old.link self.new.link }
     {
-        let session = greet(&mut self.link, self.session.caller(), moment);
+        let mut packet = ArrayVec::new();
+        while self.link.free() >= ENOUGH_FREE && self.session.fill(disk, store, &mut packet) {
+            self.link.push(&packet);
+        }
+    }
+
+    /// Ends the session, which parks its upload, and begins a new one over the link, which begins anew.
+    fn begin_anew(&mut self, store: &mut FileStore, lists: &Lists, moment: u32)
+        requires up { self.old.link.state ≡ LinkState.Up }
+        requires held { IsHeld store.old self.old.session.uploads }
+        requires only { IsOnlyOut store.old self.old.session.uploads }
+        ensures begins { (w : Window) (end : _) → StandsFor w self.old.link end →
+            IsConnection w store.new self.new
+            (beginning end moment (has_left lists.now (caller_of self.old.session))) }
+        ensures parks { Parks store.old store.new self.old.session.uploads.phase }
+        ensures session { self.new.session ≡ new_session (caller_of self.old.session) }
+        ensures only { NoOtherOut store.new (caller_of self.old.session) None }
+        ensures others { KeepsOtherCallers store.old store.new (caller_of self.old.session) }
+        ensures up { self.new.link.state ≡ LinkState.Up }
+        ensures stations { SameStations self.old.link self.new.link }
+    {
+        let session = greet(&mut self.link, self.session.caller(), moment, lists);
         mem::replace(&mut self.session, session).end(store);
         self.reader = PacketReader::new();
     }
@@ -232,14 +281,15 @@ impl Connection {
         &mut self,
         disk: &mut D,
         store: &mut FileStore,
+        lists: &mut Lists,
         octets: &[u8],
         moment: u32,
     ) -> Told
-        requires { MayTake D.Disk store.old disk.old self.old.link self.old.session }
+        requires { MayTake D.Disk store.old disk.old lists.old self.old.link self.old.session }
         ensures hears { (w : Window) (c : Connected) → IsConnection w store.old self.old c →
-            Hears D.Disk w (taking_octets moment (store_in store.old) c c.end octets.now)
-            store.old store.new disk.old disk.new self.new result }
-        ensures fit { LeavesFit D.Disk store.old store.new disk.old disk.new self.old.link self.new.link
+            Hears D.Disk w (packets_as moment (store_in store.old) lists.old c c.end octets.now)
+            store.old store.new lists.new disk.old disk.new self.new result }
+        ensures fit { LeavesFit D.Disk store.old store.new lists.new disk.old disk.new self.old.link self.new.link
             self.old.session self.new.session result }
     {
         // Whatever is accepted is a stream of packets, and no packet is whole of what waits before and after it.
@@ -247,7 +297,7 @@ impl Connection {
         let _ = &self.reader;
         let mut piece = octets;
         while !piece.is_empty() {
-            let (taken, told) = self.feed(disk, store, piece, moment);
+            let (taken, told) = self.feed(disk, store, lists, piece, moment);
             if !goes_on(&told) {
                 return told;
             }
@@ -262,16 +312,17 @@ impl Connection {
         &mut self,
         disk: &mut D,
         store: &mut FileStore,
+        lists: &mut Lists,
         piece: &[u8],
         moment: u32,
     ) -> (usize, Told)
         requires some { 0 < length piece.now }
-        requires may { MayTake D.Disk store.old disk.old self.old.link self.old.session }
+        requires may { MayTake D.Disk store.old disk.old lists.old self.old.link self.old.session }
         ensures some { 0 < result.0 }
         ensures taken { result.0 ≤ length piece.now }
         ensures feeds { Feeds D.Disk moment (with_octets self.old piece.now) (with_octets self.new (drop result.0 piece.now))
-            store.old store.new disk.old disk.new result.1 }
-        ensures fit { LeavesFit D.Disk store.old store.new disk.old disk.new self.old.link self.new.link
+            store.old store.new lists.old lists.new disk.old disk.new result.1 }
+        ensures fit { LeavesFit D.Disk store.old store.new lists.new disk.old disk.new self.old.link self.new.link
             self.old.session self.new.session result.1 }
     {
         let (taken, fed) = self.reader.feed(piece);
@@ -284,6 +335,7 @@ impl Connection {
                     &mut self.session,
                     disk,
                     store,
+                    lists,
                     moment,
                 );
                 (taken, told)
@@ -300,23 +352,25 @@ fn answer<D: Disk>(
     session: &mut Session,
     disk: &mut D,
     store: &mut FileStore,
+    lists: &mut Lists,
     moment: u32,
 ) -> Told
     requires whole { IsTrue (is_whole reader.now) }
-    requires may { MayTake D.Disk store.old disk.old link.old session.old }
+    requires may { MayTake D.Disk store.old disk.old lists.old link.old session.old }
     ensures hears { (w : Window) (end : LinkEnd) → StandsFor w link.old end →
-        Hears D.Disk w (taking_some moment session.old (state_of store.old session.old.phase) (store_in store.old) end
-        (read_item reader.now ∷ [])) store.old store.new disk.old disk.new (with_nothing_left link.new session.new) result }
-    ensures fit { LeavesFit D.Disk store.old store.new disk.old disk.new link.old link.new session.old session.new result }
+        Hears D.Disk w (taking_some moment session.old (state_in store.old session.old) (store_in store.old) lists.old end
+        (read_item reader.now ∷ [])) store.old store.new lists.new disk.old disk.new
+        (with_nothing_left link.new session.new) result }
+    ensures fit { LeavesFit D.Disk store.old store.new lists.new disk.old disk.new link.old link.new session.old
+        session.new result }
 {
     let mut replies = Replies::new();
-    match session.take(disk, reader.packet(), moment, store, &mut replies) {
+    match session.take(disk, reader.packet(), moment, store, lists, &mut replies) {
         Ok(()) => (reply(link, replies.as_slice()), Ok(())),
         Err(ServerStop::Disk) => {
             reply(link, replies.as_slice());
             (Fate::Ends, Err(ServerStop::Disk))
         }
-        Err(ServerStop::NotBuilt { kind }) => (Fate::Stays, Err(ServerStop::NotBuilt { kind })),
         Err(ServerStop::OutOfMemory) => (Fate::Stays, Err(ServerStop::OutOfMemory)),
     }
 }
@@ -329,14 +383,14 @@ fn goes_on(told: &Told) -> bool
 }
 
 /// The session of this caller, whose LOGIN_RESP at this moment is queued on the link.
-fn greet(link: &mut Link, caller: Call, moment: u32) -> Session
+fn greet(link: &mut Link, caller: Call, moment: u32, lists: &Lists) -> Session
     requires { link.old.state ≡ LinkState.Up }
     ensures session { result ≡ new_session caller }
-    ensures queued { Steps link.old link.new (λ w end. after_push end (packet_text (greeting moment))) }
+    ensures queued { Steps link.old link.new (λ w end. greeted end moment (has_left lists.now caller)) }
     ensures stations { SameStations link.old link.new }
 {
     let mut replies = Replies::new();
-    let session = Session::new(caller, moment, &mut replies);
+    let session = Session::new(caller, moment, lists, &mut replies);
     link.push(replies.as_slice());
     session
 }
