@@ -1,10 +1,5 @@
-pub mod AnswerLemmas
-pub mod DoingLemmas
-pub mod FeedLemmas
-pub mod HearLemmas
-pub mod HearsLemmas
-pub mod Invariants
+pub mod FailureLemmas
 pub mod LinkLemmas
-pub mod OctetsLemmas
+pub mod QueuingLemmas
 pub mod TakingLemmas
 pub mod WaitingLemmas
