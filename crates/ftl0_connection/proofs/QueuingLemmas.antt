@@ -2,18 +2,21 @@
 use Rattle.std.proofs.Common.{◌≡◌, ◌⊎◌, inl, inr, ⊎_elim, ℕ, zero, suc, ◌+◌, ◌<◌, ◌≤◌, min, Bool, true, false, List, ◌++◌, length, take, drop, refl, ap, sym, ◌∙◌, subst, arith, length-append}
 use Rattle.std.specs.Prelude.{Option, None, Some, nat_le, if◌then◌else◌}
 use Rattle.std.specs.List.{concat}
-use Rattle.std.specs.Option.{option_map}
 use Rattle.std.proofs.lemmas.Bool.Decides.{leb_tells}
 use Rattle.std.proofs.lemmas.List.{length-take}
 use Rattle.ax25_link.specs.Calls.{after_push}
 use Rattle.ax25_link.specs.Ends.{LinkEnd, free_octets, held}
+use Rattle.ax25_link.specs.Kept.{Kept, Steps}
+use Rattle.ax25_link.specs.Queue.{room_of}
 use Rattle.ftl0_packets.specs.Layout.{PacketValue, packet_text}
 use Rattle.selection_lists.specs.Lists.{CallerList}
 use Rattle.file_entries.specs.Command.{Command, after_all}
 use Rattle.file_entries.specs.Store.{Store}
 use Rattle.ftl0_uploads.specs.Failures.{Failure, read_fails}
-use Rattle.ftl0_downloads.specs.Sending as due
-use Rattle.ftl0_session.specs.Table.{DuePacket, State, download_part, due_at, in_session, next_due}
+use Rattle.ftl0_session.specs.Table.{DuePacket, due_at, next_due}
+use Rattle.ftl0_session.proofs.WorkingLemmas.{none-whatever}
+use Rattle.ftl0_connection.specs.ConnectionState.{StandsForSome}
+use Rattle.ftl0_connection.specs.Feeding.{AreFree}
 use Rattle.ftl0_connection.specs.Laws.{IsQueued, QueuedLaw}
 use Rattle.ftl0_connection.specs.Taking.{Halt, Progress, after_due, enough_free, on_due, queued, queuing}
 
@@ -31,6 +34,17 @@ push-fewer end text some room =
     let behind : length (end.queued ++ added) ≡ length end.queued + length added = length-append end.queued added in
     let before : length (pieces ++ end.queued) ≡ length pieces + length end.queued = length-append pieces end.queued in
     let new : length added ≡ min (free_octets end) (length text) = length-take (free_octets end) text in
+    omega arith
+
+-- so it is of a link
+pub room-fewer : (link link_n : Kept) (text : List ℕ) → StandsForSome link → 0 < length text → AreFree link (λ free. enough_free ≤ free) → Steps link link_n (λ w end. after_push end text)
+    → room_of link_n.queue < room_of link.queue
+room-fewer link link_n text some any enough steps =
+    let end : LinkEnd = some.end in
+    let before : room_of link.queue ≡ free_octets end = ap (λ (k : Kept). room_of k.queue) some.stands.kept in
+    let after : room_of link_n.queue ≡ free_octets (after_push end text) = ap (λ (k : Kept). room_of k.queue) (steps some.w end some.stands).kept in
+    let free : enough_free ≤ free_octets end = enough some.w end some.stands in
+    let fewer : free_octets (after_push end text) < free_octets end = push-fewer end text any (omega arith) in
     omega arith
 
 -- ---- one packet
@@ -69,18 +83,16 @@ is-fewer end fewer =
     (λ (w : (nat_le enough_free (free_octets end) ≡ false) × (free_octets end < enough_free)). w.0) (free-tells end)
 
 -- fewer octets are free behind a packet
-due-fewer : (progress : Progress) (due : DuePacket) → enough_free ≤ free_octets progress.end → free_octets (after_due due progress).end < free_octets progress.end
+pub due-fewer : (progress : Progress) (due : DuePacket) → enough_free ≤ free_octets progress.end → free_octets (after_due due progress).end < free_octets progress.end
 due-fewer progress due enough = push-fewer progress.end (packet_text due.packet) (packet-some due.packet) (omega arith)
 
--- where nothing is due nothing is whatever fails
-pub none-due : (store : Store) (state : State) (some other : Bool) → next_due store state some ≡ None → next_due store state other ≡ None
-none-due store state some other none =
-    let by : (b : Bool) (x y : due.DuePacket) → option_map in_session (if b then Some x else None) ≡ None → option_map in_session (if b then Some y else None) ≡ None =
-    λ b x y no. elim b as (λ t. option_map in_session (if t then Some x else None) ≡ None → option_map in_session (if t then Some y else None) ≡ None) [
-      | true ↦ λ is. absurd (let never : Some (in_session x) ≡ None = is in cc)
-      | false ↦ λ is. refl
-    ] no in
-    by (due.is_due (download_part state)) (due.due_packet store (download_part state) some) (due.due_packet store (download_part state) other) none
+-- all but the end, the state, the part and what failed reads are told
+pub record KeepsRest (before now : Progress) : Type 0 where
+  pub over : now.over ≡ before.over
+  pub lists : now.lists ≡ before.lists
+  pub done : now.done ≡ before.done
+  pub cut : now.cut ≡ before.cut
+  pub halt : now.halt ≡ before.halt
 
 module _ (store : Store) where
   -- the rest of what is due, of which there are so many packets at most
@@ -123,14 +135,6 @@ module _ (store : Store) where
   keeps-by progress P here true next later each = keeps-due progress P here next later each
   keeps-by progress P here false next later each = here
 
-  -- all but the end, the state, the part and what failed reads are told
-  pub record KeepsRest (before now : Progress) : Type 0 where
-    pub over : now.over ≡ before.over
-    pub lists : now.lists ≡ before.lists
-    pub done : now.done ≡ before.done
-    pub cut : now.cut ≡ before.cut
-    pub halt : now.halt ≡ before.halt
-
   keeps-same : (progress : Progress) → KeepsRest progress progress
   keeps-same progress = record { over = refl; lists = refl; done = refl; cut = refl; halt = refl }
 
@@ -151,7 +155,7 @@ IsAtEnd store progress = IsQueued store progress.state progress.end
 module _ (store : Store) where
   ends-due : (progress : Progress) (failures : List Failure) (later : DuePacket → Progress) → ((due : DuePacket) → IsAtEnd store (later due)) → (next : Option DuePacket)
       → due_at store progress.state failures progress.part ≡ next → IsAtEnd store (on_due next progress later)
-  ends-due progress failures later each None is = inl (λ others part. none-due store progress.state (read_fails failures progress.part) (read_fails others part) is)
+  ends-due progress failures later each None is = inl (λ others part. none-whatever store progress.state (read_fails failures progress.part) (read_fails others part) is)
   ends-due progress failures later each (Some due) is = each due
 
   queuing-ends : (count : ℕ) (failures : List Failure) (progress : Progress) → free_octets progress.end ≤ count → IsAtEnd store (queuing count store failures progress)
@@ -176,6 +180,17 @@ module _ (store : Store) where
   pub queued-over : (failures : List Failure) (progress : Progress) → progress.over ≡ true → queued store failures progress ≡ progress
   queued-over failures progress over =
       ap (λ (b : Bool). if b then progress else queuing (free_octets progress.end) (after_all store progress.done) failures progress) over
+
+-- what is left as it was, whether the session goes on or not
+module _ (store : Store) (failures : List Failure) (progress : Progress) where
+  keeps-whether : (over : Bool) (now : Progress) → KeepsRest progress now → KeepsRest progress (if over then progress else now)
+  keeps-whether true now h = record { over = refl; lists = refl; done = refl; cut = refl; halt = refl }
+  keeps-whether false now h = h
+
+  pub queued-keeps : KeepsRest progress (queued store failures progress)
+  queued-keeps =
+      keeps-whether progress.over (queuing (free_octets progress.end) (after_all store progress.done) failures progress)
+      (queuing-keeps (after_all store progress.done) (free_octets progress.end) failures progress)
 
 pub queued-law : QueuedLaw
 queued-law store failures progress going =

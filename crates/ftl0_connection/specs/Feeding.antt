@@ -27,7 +27,7 @@ use Rattle.ftl0_connection.specs.declared.fate.Fate.TheVariants.{Stays}
 use Rattle.ftl0_connection.specs.ConnectionState.{ConnectionState, Hears, HearsBy, StandsForSome, with_nothing_left}
 use Rattle.ftl0_connection.specs.ConnectionState.{with_reads}
 use Rattle.ftl0_connection.specs.Hearing.{Happened, progressed}
-use Rattle.ftl0_connection.specs.Taking.{Progress, enough_free, queuing, taking}
+use Rattle.ftl0_connection.specs.Taking.{Progress, enough_free, fails, queuing, taking}
 
 -- what a link and a session need to take packets: the link is up, and stands for some end; and the session may take one
 pub record MayTake {D : Type 0} (g : Ghosts D) (store : StoreState) (disk : D) (lists : List CallerList) (link : Kept)
@@ -100,12 +100,13 @@ pub record IsSettled (event : List Failure → Progress) (parts : List ℕ) : Ty
       → event (failed_reads (parts ++ more)) ≡ event (failed_reads parts)
 
 -- A frame was heard, of which this event is what its packets make, and these octets were left; what is due behind them
--- isn't queued yet.
+-- isn't queued yet. Where a write or a sync fails the session is over.
 pub record HearsParts {D : Type 0} (g : Ghosts D) (w : Window) (left : List ℕ) (event : List Failure → Progress)
     (store store_now : StoreState) (lists_now : List CallerList) (disk disk_now : D) (connection : ConnectionState)
     (told : Fate × Result ⊤ ServerStop) : Type 0 where
   pub hears :
       Hears g w (λ failures. progressed left (event failures)) store store_now lists_now disk disk_now connection told
+  pub over : (failures : List Failure) → (event failures).halt ≡ fails → (event failures).over ≡ true
   pub settled : IsGoing told → IsSettled event hears.parts
 
 -- nothing is due, whatever reads fail
@@ -128,12 +129,12 @@ pub record QueuesPacket {D : Type 0} (g : Ghosts D) (store : StoreState) (disk d
   pub reads : DoesAmongReads g ⊥ (tells_failed_read due.packet) store store disk disk_now []
   pub fewer : room_of new.link.queue < room_of old.link.queue
 
--- the same; or nothing is due, or fewer octets are free, and nothing changed
+-- the same; or nothing is due, or fewer octets are free, and it stands as it stood
 abbrev pub QueuesNext :
     {D : Type 0} → Ghosts D → StoreState → D → D → ConnectionState → ConnectionState → Bool → Type 0
 QueuesNext g store disk disk_now old new true = QueuesPacket g store disk disk_now old new
 QueuesNext g store disk disk_now old new false =
-    (new ≡ old) × (disk_now ≡ disk)
+    (new.link ≡ old.link) × (state_in store new.session ≡ state_in store old.session) × (disk_now ≡ disk)
     × (IsNothingDue store old.session ⊎ AreFree old.link (λ free. free < enough_free))
 
 -- Behind these parts of an event, at which the session goes on, what is due was queued: reads failed at these later parts,

@@ -15,7 +15,7 @@ ghost use Rattle.ftl0_uploads.specs.SessionState.{IsHeld, IsOnlyOut, NoOtherOut,
 ghost use Rattle.ftl0_downloads.specs.Needs.{IsDueIn};
 ghost use Rattle.ftl0_session.specs.SessionState.{MayTake as SessionMayTake, caller_of, new_session, state_in};
 ghost use Rattle.ftl0_connection.specs.Connected.{Connected, answering, beginning, greeted};
-ghost use Rattle.ftl0_connection.specs.ConnectionState.{Hears, IsConnection, StandsAfter, is_over};
+ghost use Rattle.ftl0_connection.specs.ConnectionState.{Hears, IsConnection, StandsAfter, StandsForSome, is_over};
 ghost use Rattle.ftl0_connection.specs.Feeding.{Feeds, HearsParts, IsGoing, KeepsFit, LeavesFit, MayTake, QueuesDue};
 ghost use Rattle.ftl0_connection.specs.Feeding.{QueuesNext, TakesPackets, with_octets};
 ghost use Rattle.ftl0_connection.specs.Hearing.{hearing, parts_of_frame, rest_of_frame, taking_octets, ticking};
@@ -234,6 +234,7 @@ impl Connection {
 
     /// Queues DATA and DATA_END that are due, one after another, while enough octets are free.
     fn queue_due<D: Disk>(&mut self, disk: &mut D, store: &mut FileStore)
+        requires some { StandsForSome self.old.link }
         requires up { self.old.link.state ≡ LinkState.Up }
         requires healthy { store.old.journal.failed ≡ false }
         requires stands_on { StandsOn D.Disk store.old disk.old }
