@@ -194,14 +194,14 @@ module _ {D : Type 0} (g : Ghosts D) where
       packets = packets;
       rest = rest;
       takes = λ w end first stands. record {
-          parts = [];
-          among = All-nil (IsAmong first 0);
-          by = (
-            refl,
-            (refl, (refl, record { link = subst (λ (k : Kept). StandsFor w k end) (sym link) stands; rest = refl; state = ap (state_in store) session })),
-            does-among g ⊥ store store disk disk [] (Does-none g ⊥ store disk (λ never. never) stands_on healthy lasts),
-          );
-        };
+        parts = [];
+        among = All-nil (IsAmong first 0);
+        by = (
+          refl,
+          (refl, (refl, record { link = subst (λ (k : Kept). StandsFor w k end) (sym link) stands; rest = refl; state = ap (state_in store) session })),
+          does-among g ⊥ store store disk disk [] (Does-none g ⊥ store disk (λ never. never) stands_on healthy lasts),
+        );
+      };
     }
 
     -- some packets, and then others

@@ -9,6 +9,7 @@ pub mod Invariants
 pub mod LinkLemmas
 pub mod OctetsLemmas
 pub mod QueuingLemmas
+pub mod StartLemmas
 pub mod StationLemmas
 pub mod TakingLemmas
 pub mod WaitingLemmas

@@ -270,8 +270,15 @@ fn packets_and_a_further_call(rt: HostRuntime) -> Result<(), Fail> {
     let mut disk = MemoryDisk::new(rt.alloc(), &[], &[])?;
     let mut store = FileStore::recover(rt.alloc(), &mut disk, LIMITS)?;
     let mut lists = Lists::new(rt.alloc())?;
-    let mut connection =
-        Connection::answer(rt.alloc(), stations.0, stations.1, 4, true, 1, &lists)?;
+    let mut connection = Connection::answer(
+        rt.alloc(),
+        stations.0,
+        stations.1,
+        4,
+        true,
+        1,
+        &lists,
+    )?;
     assert_eq!(rt; connection.caller(), stations.1);
     // UA with F = 1, and LOGIN_RESP.
     let mut heard = ArrayVec::new();
@@ -413,20 +420,10 @@ fn a_download_is_queued_as_far_as_there_is_room(rt: HostRuntime) -> Result<(), F
     // Twelve DATA are queued, after which 1,024 octets are free: DL_ABORTED_RESP comes behind them.
     let rows: [Row<'_>; 5] = [
         (Says::Information(0, 1, &DOWNLOAD), 0x21, 1103, &[0x00]),
-        (
-            Says::Information(1, 1, &[0x00, 0x0D]),
-            0x41,
-            15,
-            &[0x41],
-        ),
+        (Says::Information(1, 1, &[0x00, 0x0D]), 0x41, 15, &[0x41]),
         (Says::Ready(5), 0x4A, 1088, &[0x00]),
         (Says::Ready(1), 0x42, 1088, &[0x00]),
-        (
-            Says::Ready(5),
-            0x4A,
-            18,
-            &[0x4A, 0xF0, 0x00, 0x0A],
-        ),
+        (Says::Ready(5), 0x4A, 18, &[0x4A, 0xF0, 0x00, 0x0A]),
     ];
     serve(&rt, rt.alloc(), &rows)
 }
