@@ -1,5 +1,5 @@
 -- How a session's server goes on: what it takes and says, packet by packet and turn by turn.
-use Rattle.std.specs.Prelude.{◌≡◌, ◌≢◌, ℕ, ◌<◌, ◌≤◌, List, [], ◌∷◌, ◌++◌, drop, length, All, Result, Ok, Err, MatchResult, OnErr, OnOk, Option, ⊤}
+use Rattle.std.specs.Prelude.{◌≡◌, ◌≢◌, ℕ, ◌<◌, ◌≤◌, List, [], ◌∷◌, ◌++◌, drop, length, false, Result, Ok, Err, MatchResult, OnErr, OnOk, Option, ⊤}
 use Rattle.px_base.specs.CallSign.{CallSign}
 use Rattle.px_base.specs.Octets.{IsFront}
 use Rattle.px_base.specs.Outside.{Gains, GainsPrefix, HasCause}
@@ -17,7 +17,7 @@ use Rattle.ftl0_packets.specs.Stream.{Stream}
 use Rattle.file_store.specs.State.{StoreState, store_in}
 use Rattle.file_store.specs.Working.{DoesAmongReads}
 use Rattle.ftl0_uploads.specs.Events.{Event, at_moment}
-use Rattle.ftl0_uploads.specs.Failures.{failed_reads}
+use Rattle.ftl0_uploads.specs.Failures.{failed_reads, read_fails}
 use Rattle.ftl0_session.specs.Run.{Sends}
 use Rattle.ftl0_session.specs.Table.{State, tell_failed_read}
 use Rattle.ftl0_session.specs.Taking.{Working}
@@ -37,12 +37,12 @@ pub record SaysText {A : Type 0} (said : A → Option (List ℕ)) (writes : A �
   pub cause : HasCause (writes before) (writes now) result
 
 -- What is due in a state was said behind the replies to a packet, one packet a put, as the parts of the packet's event
--- from 1 on, at some of which reads failed, or at none: all of it, up to this state; or saying one failed, and a front of
--- it was said. The count of failed reads rose exactly where what was sent tells of one.
+-- from 1 on, at some of which reads failed, or at none: all of it, up to this state; or saying one failed, and a front
+-- was said of what was to be. The count of failed reads rose exactly where one of these packets tells of it.
 pub record SaysDue {A D : Type 0} (g : Ghosts D) (said : A → Option (List ℕ)) (before now : A) (store : StoreState)
     (disk disk_now : D) (state next : State) (result : Result ⊤ NodeStop) : Type 0 where
   pub parts : List ℕ
-  pub behind : All (λ part. 1 ≤ part) parts
+  pub none_yet : read_fails (failed_reads parts) 0 ≡ false
   pub sent : List PacketValue
   pub text : List ℕ
   pub text_said : Gains (said before) (said now) text
