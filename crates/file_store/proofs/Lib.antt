@@ -9,3 +9,4 @@ pub mod StandingLemmas
 pub mod ToldLemmas
 pub mod TokenLemmas
 pub mod UploadLemmas
+pub mod WorkingLemmas

@@ -1,5 +1,5 @@
 -- What a run of a store's calls does to the disk where reads come among its commands.
-use Rattle.std.specs.Prelude.{◌≡◌, ◌⊎◌, ℕ, ◌+◌, ◌*◌, ◌≤◌, List, [], length, Bool, true, IfSome}
+use Rattle.std.specs.Prelude.{◌≡◌, ◌⊎◌, ◌+◌, ◌*◌, ◌≤◌, List, [], length, Bool, true, false, IfSome}
 use Rattle.disk_model.specs.Moments.{TimePasses}
 use Rattle.disk_model.specs.declared.disk.Disk.{Ghosts}
 use Rattle.file_journal.specs.Calls.{ChangesReads, CountsFault, Leaves, TellsAlike}

@@ -1,4 +1,4 @@
-use Rattle.std.proofs.Common.{◌≡◌, ◌≤◌, true, length, sym, ◌∙◌, ap, subst, arith, rules}
+use Rattle.std.proofs.Common.{◌≡◌, true, length, sym, ◌∙◌, ap, arith, rules}
 use Rattle.file_entries.specs.Store.{octets_at}
 use Rattle.file_entries.proofs.InfoLemmas.{told}
 use Rattle.file_store.specs.State.{store_in}
