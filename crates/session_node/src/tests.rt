@@ -21,10 +21,6 @@ fn stops_are_shown(rt: HostRuntime) -> Result<(), Fail> {
             "the store is damaged at octet 16",
         ),
         (NodeStop::Spent, "as many polls were made as may be"),
-        (
-            NodeStop::NotBuilt { kind: 8 },
-            "a packet asks for what is not built yet",
-        ),
         (NodeStop::OutOfMemory, "out of memory"),
     ] {
         assert_eq!(rt; format!(in rt.alloc(); "{stop}")?.as_str(), text);
