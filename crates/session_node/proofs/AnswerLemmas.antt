@@ -21,7 +21,9 @@ use Rattle.ftl0_uploads.specs.Failures.{Failure, failed_reads, read_fails}
 use Rattle.ftl0_session.specs.declared.stop.ServerStop.{ServerStop}
 use Rattle.ftl0_session.specs.declared.stop.ServerStop.TheVariants as session_stop
 use Rattle.ftl0_session.specs.Run.{Event as MetEvent, Sends, event_row}
-use Rattle.ftl0_session.specs.SessionState.{SessionState, caller_of, state_in}
+use Rattle.ftl0_uploads.specs.SessionState.{IsHeld, IsOnlyOut}
+use Rattle.ftl0_downloads.specs.Needs.{AreComplete, IsDueIn}
+use Rattle.ftl0_session.specs.SessionState.{IsFit, SessionState, caller_of, state_in}
 use Rattle.ftl0_session.specs.Table.{Row, State, tell_failed_read}
 use Rattle.ftl0_session.specs.Taking.{TakesPacket, Working, row_over, working}
 use Rattle.ftl0_session.proofs.WorkingLemmas.{row-at, taken-among, taken-cut, taken-none}
@@ -30,7 +32,7 @@ use Rattle.session_node.specs.declared.stop.NodeStop.TheVariants as stop
 use Rattle.session_node.specs.Node.{SaysDue, SaysText, event_of}
 use Rattle.session_node.specs.Running.{RunsOn, SendsSome, StopsAt, StopsOn}
 use Rattle.session_node.specs.Stops.{CountsBy, HasAirCause, first_stop}
-use Rattle.session_node.proofs.RunLemmas.{runs-one, tells-append, texts-append}
+use Rattle.session_node.proofs.RunLemmas.{tells-append, texts-append}
 use Rattle.session_node.proofs.SendingLemmas.{sends-same, some-same, with-here, with-other, with_part}
 
 -- what nothing was said of stays
@@ -43,6 +45,13 @@ counts-since result r s r_n w v w_n reads writes counts =
     let P : ℕ → Type 0 = λ n. CountsBy result n r_n w w_n in
     let Q : ℕ → Type 0 = λ n. CountsBy result s r_n n w_n in
     subst P reads (subst Q writes counts)
+
+-- one error is one stop
+abbrev stopping : NodeStop → Result ⊤ NodeStop
+stopping why = Err why
+
+error-same : (one other : NodeStop) → stopping one ≡ stopping other → one ≡ other
+error-same one other same = cc same
 
 -- a part behind the first isn't the first
 later-part : (number : ℕ) → 1 ≤ number → (0 == number) ≡ false
@@ -179,22 +188,10 @@ module _ {A D : Type 0} (g : Ghosts D) (air : AirGhosts A) (lasts : (disk : D) �
 
   -- A stop before anything that is due: what stopped first, taking the packet or saying its replies.
   pub answer-stops : (text : List ℕ) (taken : Result ⊤ ServerStop) (said : Result ⊤ AirDown) (why : NodeStop) → text ≡ replies → first_stop taken said ≡ Err why → Takes taken → Said text said → Stopped why
-  answer-stops text (Ok done) (Ok whole) why is first takes says = absurd (let e : Ok tt ≡ Stop why = first in cc e)
-    where
-      abbrev Stop : NodeStop → Result ⊤ NodeStop
-      Stop w = Err w
-  answer-stops text (Ok done) (Err down) why is first takes says = subst Stopped (same first) (stop-said text down is takes says)
-    where
-      same : Err stop.AirWrite ≡ Err why → stop.AirWrite ≡ why
-      same e = cc e
-  answer-stops text (Err session_stop.Disk) said why is first takes says = subst Stopped (same first) (stop-disk text said is takes says)
-    where
-      same : Err stop.Disk ≡ Err why → stop.Disk ≡ why
-      same e = cc e
-  answer-stops text (Err session_stop.OutOfMemory) said why is first takes says = subst Stopped (same first) (stop-memory text said is takes says)
-    where
-      same : Err stop.OutOfMemory ≡ Err why → stop.OutOfMemory ≡ why
-      same e = cc e
+  answer-stops text (Ok done) (Ok whole) why is first takes says = absurd (cc first)
+  answer-stops text (Ok done) (Err down) why is first takes says = subst Stopped (error-same stop.AirWrite why first) (stop-said text down is takes says)
+  answer-stops text (Err session_stop.Disk) said why is first takes says = subst Stopped (error-same stop.Disk why first) (stop-disk text said is takes says)
+  answer-stops text (Err session_stop.OutOfMemory) said why is first takes says = subst Stopped (error-same stop.OutOfMemory why first) (stop-memory text said is takes says)
 
   -- what the air counts by that, whether it stopped or not
   pub first-counts : (text : List ℕ) (taken : Result ⊤ ServerStop) (said : Result ⊤ AirDown) → text ≡ replies → Takes taken → Said text said → air.read_faults mid ≡ air.read_faults before
@@ -250,8 +247,8 @@ module _ {A D : Type 0} (g : Ghosts D) (air : AirGhosts A) (lasts : (disk : D) �
       said-front front rest same =
           texts-append (row takes.fails).replies due.sent ∙ ap₂ (λ (a b : List ℕ). a ++ b) (sym (is ∙ takes.answers.3)) same ∙ sym (append_assoc text front rest)
 
-      over-row : {P : Store → State → Type 0} → P (store_in store_m) (state_in store_m session_m) → P (after_all (store_in store) (row takes.fails).commands) (row takes.fails).state
-      over-row {P} h =
+      over-row : (P : Store → State → Type 0) → P (store_in store_m) (state_in store_m session_m) → P (after_all (store_in store) (row takes.fails).commands) (row takes.fails).state
+      over-row P h =
           subst (λ (s : Store). P s (row takes.fails).state) at_store (subst (λ (s : State). P (store_in store_m) s) takes.answers.2 h)
 
     -- the texts said
@@ -265,19 +262,28 @@ module _ {A D : Type 0} (g : Ghosts D) (air : AirGhosts A) (lasts : (disk : D) �
         → RunsOn g caller store store_m lists lists_m disk disk_n state state_n (event_of moment item) (text ++ due.text)
     runs due =
         let sends : Sends (after_all (store_in store) (row takes.fails).commands) (row takes.fails).state (failed_reads due.parts) 1 due.sent state_n =
-        over-row (Ok tt) due {P = λ s st. Sends s st (failed_reads due.parts) 1 due.sent state_n} due.ends.1 in
+        over-row (Ok tt) due (λ s st. Sends s st (failed_reads due.parts) 1 due.sent state_n) due.ends.1 in
         let met_sends =
         sends-same (after_all (store_in store) (row takes.fails).commands) (failed_reads due.parts) (failed_reads (with_part takes.fails 0 due.parts)) (row takes.fails).state 1 due.sent state_n
         (later-met takes.fails due.parts) sends in
-        let one =
-        runs-one caller (store_in store) lists state (met takes.fails due.parts) (row takes.fails) due.sent state_n (row-met takes.fails due.parts due.none_yet) met_sends in
         record {
           met = met takes.fails due.parts ∷ [];
           heard = refl;
           said = (row takes.fails).replies ++ due.sent;
           text_is = said-all (Ok tt) due due.text due.ends.0;
           commands = (row takes.fails).commands;
-          runs = (one.0, one.1, one.2, one.3, one.4, one.5, one.6, one.7, one.8, (refl, refl, at_store (Ok tt) due, takes.answers.1, refl));
+          runs = (
+            row takes.fails,
+            due.sent,
+            state_n,
+            [],
+            [],
+            row-met takes.fails due.parts due.none_yet,
+            met_sends,
+            ap (λ (s : List PacketValue). (row takes.fails).replies ++ s) (sym (append-nil due.sent)),
+            sym (append-nil (row takes.fails).commands),
+            (refl, refl, at_store (Ok tt) due, takes.answers.1, refl),
+          );
           does = does (Ok tt) due;
         }
 
@@ -285,7 +291,7 @@ module _ {A D : Type 0} (g : Ghosts D) (air : AirGhosts A) (lasts : (disk : D) �
         → StopsOn g caller store store_m lists disk disk_n state (event_of moment item) why (air.write_faults before) (air.write_faults now) (text ++ due.text)
     stops why due =
         let sends : SendsSome (after_all (store_in store) (row takes.fails).commands) (row takes.fails).state (failed_reads due.parts) 1 due.sent =
-        over-row (Err why) due {P = λ s st. SendsSome s st (failed_reads due.parts) 1 due.sent} due.ends.3 in
+        over-row (Err why) due (λ s st. SendsSome s st (failed_reads due.parts) 1 due.sent) due.ends.3 in
         let met_sends =
         some-same (after_all (store_in store) (row takes.fails).commands) (failed_reads due.parts) (failed_reads (with_part takes.fails 0 due.parts)) (row takes.fails).state 1 due.sent
         (later-met takes.fails due.parts) sends in
@@ -321,3 +327,15 @@ module _ {A D : Type 0} (g : Ghosts D) (air : AirGhosts A) (lasts : (disk : D) �
       subst (λ (s : StoreState). StopsOn g caller store s lists disk disk_n state (event_of moment item) why (air.write_faults before) (air.write_faults now) (text ++ due.text)) (sym same_store)
           (stops why due),
     )
+
+-- what a packet leaves, once what is due behind it is said
+pub fit-after : {D : Type 0} (g : Ghosts D) (store store_n : StoreState) (lists : List CallerList) (disk_n : D) (session session_n : SessionState) → store_n ≡ store → session_n.uploads ≡ session.uploads
+    → IsHeld store session.uploads → IsOnlyOut store session.uploads → AreComplete (store_in store) lists → StandsOn g store_n disk_n → IsDueIn (store_in store_n) session_n.downloads
+    → IsFit g store_n disk_n lists session_n
+fit-after g store store_n lists disk_n session session_n same uploads held only complete stands due = record {
+  stands_on = stands;
+  held = subst (λ (s : StoreState). IsHeld s session_n.uploads) (sym same) (subst (IsHeld store) (sym uploads) held);
+  only = subst (λ (s : StoreState). IsOnlyOut s session_n.uploads) (sym same) (subst (IsOnlyOut store) (sym uploads) only);
+  due = due;
+  complete = subst (λ (s : StoreState). AreComplete (store_in s) lists) (sym same) complete;
+}

@@ -14,7 +14,7 @@ use Rattle.file_store.specs.State.{StoreState, store_in}
 use Rattle.file_store.specs.Working.{CutsOffAmongReads}
 use Rattle.file_store.proofs.WorkingLemmas.{among-same, among-then, cuts-among-then}
 use Rattle.ftl0_uploads.specs.Events.{Event, at_moment}
-use Rattle.ftl0_session.specs.Run.{Event as MetEvent, RunsOver, Sends, event_row, heard_of}
+use Rattle.ftl0_session.specs.Run.{Event as MetEvent, RunsOver, event_row, heard_of}
 use Rattle.ftl0_session.specs.Table.{Row, State, tell_failed_read, tells_failed_read}
 use Rattle.session_node.specs.declared.stop.NodeStop.{NodeStop}
 use Rattle.session_node.specs.declared.stop.NodeStop.TheVariants as stop
@@ -85,14 +85,6 @@ module _ (caller : CallSign) where
     ap (λ c. c ++ further) h.8 ∙ append_assoc h.0.commands h.4 further,
     runs-trans (after_all store h.0.commands) h.0.lists h.2 events h.3 h.4 mid lists_m between others more further now lists_n next h.9 k,
   )
-
-  -- one event
-  pub runs-one :
-      (store : Store) (lists : List CallerList) (state : State) (event : MetEvent) (row : Row) (sent : List PacketValue) (next : State) → event_row caller store lists state event ≡ row
-      → Sends (after_all store row.commands) row.state event.failures 1 sent next
-      → RunsOver caller store lists state (event ∷ []) (row.replies ++ sent) row.commands (after_all store row.commands) row.lists next
-  runs-one store lists state event row sent next is sends =
-      (row, sent, next, [], [], is, sends, ap (λ s. row.replies ++ s) (sym (append-nil sent)), sym (append-nil row.commands), (refl, refl, refl, refl, refl))
 
   -- events, and a stop at one of others, behind them
   pub stops_after :

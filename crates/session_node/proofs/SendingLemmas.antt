@@ -140,13 +140,11 @@ left-after store state is lies test =
 packet-smaller : (store : Store) (state : DownloadState) (fails : Bool) → is_due state ≡ true → IsDueIn store state → left_of store (due.due_packet store state fails).state < left_of store state
 packet-smaller store state fails is lies = by (length (octets_due store state) == 0) (fails && is_read state) refl
   where
-    abbrev data_next : due.DuePacket
-    data_next = record { packet = data_part (take 254 (octets_due store state)); state = state_after 254 state }
-
     by : (none missed : Bool) → (length (octets_due store state) == 0) ≡ none
-        → left_of store
-        (if none then record { packet = data_end; state = state_at_end state } else if missed then record { packet = dl_error_resp 3; state = ready } else data_next).state
-        < left_of store state
+        → (let next : due.DuePacket =
+        if none then record { packet = data_end; state = state_at_end state } else if missed then record { packet = dl_error_resp 3; state = ready }
+        else record { packet = data_part (take 254 (octets_due store state)); state = state_after 254 state } in
+        left_of store next.state < left_of store state)
     by true missed test = omega (arith, left-end store state, left-some store state is)
     by false true test = omega (arith, left-some store state is)
     by false false test = omega (arith, left-after store state is lies test, left-some store state is)

@@ -1,5 +1,5 @@
 -- A packet that is found is answered, and less than one is waited with.
-use Rattle.std.proofs.Common.{ℕ, [], ◌∷◌, refl, subst, arith, Result, Ok, Err}
+use Rattle.std.proofs.Common.{ℕ, [], ◌∷◌, refl, subst, sym, arith, Result, Ok, Err}
 use Rattle.px_base.proofs.Told.{Gains-none}
 use Rattle.ftl0_packets.specs.Reading.{packets_of, read_item, rest_of}
 use Rattle.ftl0_packets.proofs.OctetLemmas.{octets_from}
@@ -13,7 +13,16 @@ use Rattle.session_node.proofs.Serving.{at_exit, waits_after}
 use Rattle.session_node.proofs.server.SessionServer.feed.Goals as goal
 
 pub answer-requires-clause-may : goal.answer-requires-clause-may
-answer-requires-clause-may g c = ?
+answer-requires-clause-may g c =
+    let up = subst (λ (s : ServerState). IsUp g.D.Disk s.store c.args.disk.now) (sym c.self.view_is) c.requires.up in
+    record {
+      healthy = up.healthy;
+      stands_on = up.stands_on;
+      held = c.self.invariant.held;
+      only = c.self.invariant.only;
+      due = c.self.invariant.due;
+      complete = c.self.invariant.complete;
+    }
 
 pub returns-in_err-answer-clause-fed : goal.returns-in_err-answer-clause-fed
 returns-in_err-answer-clause-fed g c =
