@@ -184,9 +184,10 @@ module _ (store : Store) where
 pub record QueuesAlone (progress now : Progress) : Type 0 where
   pub over : now.over ≡ progress.over
   pub done : now.done ≡ progress.done
+  pub cut : now.cut ≡ progress.cut
 
 alone : (progress : Progress) → QueuesAlone progress progress
-alone progress = record { over = refl; done = refl }
+alone progress = record { over = refl; done = refl; cut = refl }
 
 either : (progress one other : Progress) (b : Bool) → QueuesAlone progress one → QueuesAlone progress other → QueuesAlone progress (if b then one else other)
 either progress one other true first second = first
@@ -203,10 +204,10 @@ queuing-alone (suc more) store failures progress =
     either progress (on_due (due_at store progress.state failures progress.part) progress (λ due. queuing more store failures (after_due due progress))) progress
     (nat_le enough_free (free_octets progress.end))
     (due-alone progress (due_at store progress.state failures progress.part) (λ due. queuing more store failures (after_due due progress))
-    (λ due. let rest = queuing-alone more store failures (after_due due progress) in record { over = rest.over; done = rest.done }))
+    (λ due. let rest = queuing-alone more store failures (after_due due progress) in record { over = rest.over; done = rest.done; cut = rest.cut }))
     (alone progress)
 
-queued-alone : (store : Store) (failures : List Failure) (progress : Progress) → QueuesAlone progress (queued store failures progress)
+pub queued-alone : (store : Store) (failures : List Failure) (progress : Progress) → QueuesAlone progress (queued store failures progress)
 queued-alone store failures progress =
     either progress progress (queuing (free_octets progress.end) (after_all store progress.done) failures progress) progress.over (alone progress)
     (queuing-alone (free_octets progress.end) (after_all store progress.done) failures progress)
