@@ -1,7 +1,7 @@
 -- What is due was queued, or it stands as it stood.
 use Rattle.std.proofs.Common.{◌≡◌, ◌⊎◌, inl, ◌<◌, ◌≤◌, List, ℕ, refl, ap, sym, ◌∙◌, subst, arith}
 use Rattle.ax25_link.specs.Calls.{after_push}
-use Rattle.ax25_link.specs.Kept.{StandsFor}
+use Rattle.ax25_link.specs.Kept.{StandsFor, Steps}
 use Rattle.ftl0_packets.specs.Layout.{packet_text}
 use Rattle.file_store.specs.State.{StandsOn, StoreState, store_in}
 use Rattle.file_store.specs.Working.{PutsAmongReads}
@@ -38,7 +38,8 @@ returns-clause-next g c =
     c.if-not-fill.ensures.puts c.requires.healthy c.requires.stands_on in
     let enough : AreFree a.link (λ free. 1280 ≤ free) = λ w end stands. omega (arith, c.free.ensures w end stands, c.if-free-lt-ENOUGH_FREE.false) in
     let text : c.deref.result.now ≡ packet_text sent.next.packet = c.deref.ensures.0 ∙ sent.text_is in
-    let queued = λ w end stands. subst (λ (t : List ℕ). StandsFor w c.push.new.self (after_push end t)) text (c.push.ensures.after w end stands) in
+    let queued : Steps a.link c.push.new.self (λ w end. after_push end (packet_text sent.next.packet)) =
+    λ w end stands. subst (λ (t : List ℕ). StandsFor w c.push.new.self (after_push end t)) text (c.push.ensures.after w end stands) in
     let P : ConnectionState → Type 0 = λ s. QueuesPacket g.D.Disk c.args.store.now c.args.disk.now c.fill.new.disk s now in
     subst P c.self.view_is (record {
       fails = c.if-not-fill.ensures.puts.fails;
