@@ -25,7 +25,8 @@ pub record ServerComesTo (server : Server) (earlier : List NodeEvent) (next : No
 pub record ServesLaw : Type 0 where
   pub store :
       (server : Server) (events : List NodeEvent) (frames : List FrameValue) (commands : List Command)
-      (missed : Bool) (now : Server) → ServesOver server events frames commands missed now → now.store ≡ after_all server.store commands
+      (missed : Bool) (now : Server) → ServesOver server events frames commands missed now
+      → now.store ≡ after_all server.store commands
   pub comes_to :
       (server : Server) (earlier : List NodeEvent) (next : NodeEvent) (later : List NodeEvent)
       (frames : List FrameValue) (commands : List Command) (missed : Bool) (now : Server)

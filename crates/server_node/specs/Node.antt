@@ -1,6 +1,6 @@
 -- How a server's node goes on: what it hears and says, octet by octet and turn by turn.
-use Rattle.std.specs.Prelude.{◌≡◌, ◌≢◌, ℕ, List, [], ◌++◌, Bool, false, Result, Ok, Err, IsErrOf, MatchResult, OnErr, OnOk}
-use Rattle.std.specs.Prelude.{Option, ⊤}
+use Rattle.std.specs.Prelude.{◌≡◌, ◌≢◌, ℕ, List, [], ◌++◌, Bool, false, Result, Ok, Err, IsErrOf, MatchResult}
+use Rattle.std.specs.Prelude.{OnErr, OnOk, Option, ⊤}
 use Rattle.px_base.specs.Octets.{IsFront, IsOctets}
 use Rattle.px_base.specs.Outside.{Gains, Grows}
 use Rattle.px_base.specs.Polling.{Hears, HearsAll, IsOpen, octets_of_turn}
