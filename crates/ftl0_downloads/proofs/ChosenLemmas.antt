@@ -1,6 +1,6 @@
 -- The complete files of which a selection holds, one after another in rising number.
-use Rattle.std.proofs.Common.{◌≡◌, ◌≢◌, ℕ, ◌+◌, ◌==◌, ◌≤◌, ◌<◌, List, [], ◌∷◌, ◌++◌, length, map, Bool, true, false, cond, ◌&&◌, Option, None, Some, refl, sym, ap, ◌∙◌, subst, arith, inl, inr, append_assoc, length-append}
-use Rattle.std.specs.Prelude.{All, find, filter, nat_lt}
+use Rattle.std.proofs.Common.{◌≡◌, ℕ, ◌+◌, ◌≤◌, ◌<◌, List, [], ◌∷◌, ◌++◌, length, map, Bool, true, false, cond, Option, None, Some, refl, sym, ap, ◌∙◌, arith, inl, inr, append_assoc, length-append}
+use Rattle.std.specs.Prelude.{find, filter, nat_lt}
 use Rattle.std.specs.List.{AllByRecursion}
 use Rattle.std.proofs.lemmas.Bool.Decides.{eqb_tells, nat_tests}
 use Rattle.std.proofs.lemmas.Bool.{cases_lt}
@@ -11,7 +11,7 @@ use Rattle.selection.specs.Meaning.{holds}
 use Rattle.file_entries.specs.Headers.{header_items}
 use Rattle.file_entries.specs.Info.{IsCompleteIn, IsNextComplete, is_complete}
 use Rattle.file_entries.specs.IsStore.{AreEntries, IsStore}
-use Rattle.file_entries.specs.Store.{Entry, Store, entry_of, octets_at, octets_of}
+use Rattle.file_entries.specs.Store.{Entry, Store, entry_of, octets_at}
 use Rattle.file_entries.proofs.EntriesLemmas.{found-fits, found-number, has_number}
 use Rattle.ftl0_downloads.specs.Needs.{AreFiles}
 use Rattle.ftl0_downloads.specs.Table.{chosen, is_chosen, octets_in}

@@ -1,10 +1,10 @@
 -- The lists of all callers, whose numbers are those of complete files.
-use Rattle.std.proofs.Common.{◌≡◌, ℕ, ◌==◌, ◌≤◌, List, [], ◌∷◌, ◌++◌, length, map, drop, Bool, true, false, not, cond, Some, refl, arith}
-use Rattle.std.specs.Prelude.{All, find, filter}
+use Rattle.std.proofs.Common.{◌≡◌, ℕ, ◌==◌, ◌≤◌, List, [], ◌∷◌, ◌++◌, length, drop, Bool, true, false, not, cond, Some, arith}
+use Rattle.std.specs.Prelude.{find}
 use Rattle.std.specs.List.{AllByRecursion}
 use Rattle.std.proofs.lemmas.Bool.Decides.{nat_tests}
 use Rattle.std.proofs.lemmas.List.{length-take}
-use Rattle.std.proofs.lemmas.List.Elements.{All-append, All-cons, All-drop, All-filter, All-from_recursion, All-map, All-nil, All-take, All-weaker, recursion_from_All}
+use Rattle.std.proofs.lemmas.List.Elements.{All-append, All-cons, All-drop, All-filter, All-map, All-nil, All-weaker, recursion_from_All}
 use Rattle.px_base.specs.CallSign.{CallSign}
 use Rattle.selection_lists.specs.Lists.{CallerList, after_taking, is_of, left_of, lists_of_others, numbers_or_none, selected, shortened}
 use Rattle.file_entries.specs.Info.{IsCompleteIn}

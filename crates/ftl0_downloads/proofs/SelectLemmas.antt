@@ -1,5 +1,5 @@
 -- The tree of a SELECT_CMD's tokens, or their fault.
-use Rattle.std.proofs.Common.{◌≡◌, ◌≤◌, ◌<◌, ℕ, List, length, Bool, true, false, Some, Result, Ok, Err, refl, sym, ap, ◌∙◌, arith}
+use Rattle.std.proofs.Common.{◌≡◌, ◌≤◌, ◌<◌, ℕ, List, length, true, false, Result, Ok, Err, refl, ap, arith}
 use Rattle.std.specs.Prelude.{IfNone, IfOk, IfSome, nat_lt, ◌↔◌}
 use Rattle.std.specs.Result.{result_ok}
 use Rattle.std.proofs.lemmas.Bool.Decides.{nat_tests}
@@ -7,10 +7,9 @@ use Rattle.px_base.specs.Octets.{IsOctets}
 use Rattle.selection.specs.declared.fault.SelFault.{SelFault}
 use Rattle.selection.specs.Faults.{FirstFault}
 use Rattle.selection.specs.Layout.{Postfix}
-use Rattle.selection.specs.Reading.{tree_in}
 use Rattle.selection.specs.Values.{tree_of}
 use Rattle.selection.proofs.ReadLemmas.{one_fault, one_tree}
-use Rattle.ftl0_downloads.specs.Table.{select_row, tree_row}
+use Rattle.ftl0_downloads.specs.Table.{tree_row}
 use Rattle.ftl0_downloads.specs.Taking.{SelectsBy, SelectsNone}
 
 within : (tokens : List ℕ) → length tokens ≤ 2047 → nat_lt 2047 (length tokens) ≡ false

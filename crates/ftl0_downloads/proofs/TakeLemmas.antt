@@ -1,17 +1,15 @@
 -- What is taken, by its row.
-use Rattle.std.proofs.Common.{◌≡◌, ℕ, List, [], ◌++◌, Bool, true, false, Option, None, Some, refl, sym, ◌∙◌, ap, subst, Bor}
-use Rattle.std.specs.Prelude.{IsTrue, flat_map}
+use Rattle.std.proofs.Common.{◌≡◌, ℕ, List, [], ◌∷◌, Bool, true, false, Option, None, Some, refl, sym, ◌∙◌, ap, subst, Bor}
 use Rattle.std.proofs.lemmas.List.{append-nil}
 use Rattle.px_base.specs.CallSign.{CallSign}
 use Rattle.disk_model.specs.declared.disk.Disk.{Ghosts}
-use Rattle.std.specs.Prelude.{IfNone, IfSome}
+use Rattle.std.specs.Prelude.{IfNone, IfSome, IsSomeAnd}
 use Rattle.std.specs.Option.{option_map}
-use Rattle.ftl0_packets.specs.Layout.{PacketValue, dir_long_cmd, dir_short_cmd, download_cmd, packet_text, select_cmd}
+use Rattle.ftl0_packets.specs.Layout.{PacketValue, dir_long_cmd, dir_short_cmd, dl_error_resp, download_cmd, packet_text, select_cmd}
 use Rattle.ftl0_packets.specs.Values.{value_of}
 use Rattle.ftl0_packets.specs.declared.packet.Packet.{Packet}
 use Rattle.ftl0_packets.specs.declared.packet.Packet.TheVariants as packet
 use Rattle.selection_lists.specs.Lists.{CallerList}
-use Rattle.file_journal.specs.Calls.{Reads}
 use Rattle.file_journal.proofs.CallLemmas.{reads_none}
 use Rattle.file_entries.specs.Store.{Store}
 use Rattle.ftl0_downloads.specs.Table.{DownloadRow, DownloadState, Due, command_row, directory_row, download_cmd_row, download_row, ended_row, listing, long_due, ready, reply_sending, reply_waiting, select_row, sending, short_due, waiting}
@@ -88,6 +86,7 @@ module _ {D : Type 0} (g : Ghosts D) (caller : CallSign) (store : Store) (lists 
   taken_reading disk_now now row is makes = record {
     fails = makes.fails;
     reads = makes.reads;
+    told = λ failed. subst (λ (o : Option DownloadRow). IsSomeAnd o (λ r. r.replies ≡ dl_error_resp 3 ∷ [])) (sym (is makes.fails)) (makes.told failed);
     is_row = subst (λ (o : Option DownloadRow). IsRow o true disk disk_now (made state lists []) now) (sym (is makes.fails)) (refl, makes.is_row);
   }
 
@@ -97,6 +96,7 @@ module _ {D : Type 0} (g : Ghosts D) (caller : CallSign) (store : Store) (lists 
   taken_alone now row is makes = record {
     fails = false;
     reads = reads_none g disk (false ≡ true) (λ e. cc e) same;
+    told = λ failed. absurd (cc failed);
     is_row = subst (λ (o : Option DownloadRow). IsRow o true disk disk (made state lists []) now) (sym is) (refl, makes);
   }
 
@@ -105,6 +105,7 @@ module _ {D : Type 0} (g : Ghosts D) (caller : CallSign) (store : Store) (lists 
   not_taken is = record {
     fails = false;
     reads = reads_none g disk (false ≡ true) (λ e. cc e) same;
+    told = λ failed. absurd (cc failed);
     is_row = subst (λ (o : Option DownloadRow). IsRow o false disk disk (made state lists []) (made state lists [])) (sym is) (refl, refl, refl);
   }
 

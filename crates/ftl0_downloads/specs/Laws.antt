@@ -8,8 +8,8 @@ use Rattle.file_entries.specs.Headers.{IsHeaderOf, header_octets}
 use Rattle.file_entries.specs.Kept.{KeepsComplete}
 use Rattle.file_entries.specs.Store.{Store}
 use Rattle.ftl0_downloads.specs.Needs.{AreComplete, AreFiles, IsDueIn}
-use Rattle.ftl0_downloads.specs.Sending.{DuePacket, is_due, next_due, octets_due, state_at_end}
-use Rattle.ftl0_downloads.specs.Table.{DownloadRow, DownloadState, download_row, file_of, listing, long_due, octets_in}
+use Rattle.ftl0_downloads.specs.Sending.{is_due, next_due, octets_due, state_at_end}
+use Rattle.ftl0_downloads.specs.Table.{DownloadState, download_row, file_of, listing, long_due, octets_in}
 use Rattle.ftl0_downloads.specs.Table.{ready, sending, short_due, short_octets, waiting}
 
 -- While the store keeps its complete files, what is due in a state stays due, octet by octet.

@@ -1,6 +1,6 @@
 -- How the code answers a packet.
-use Rattle.std.specs.Prelude.{◌≡◌, List, ℕ, [], ◌∷◌, flat_map, Bool, true, false, IsTrue, Option, None, Some, IfSome, Result}
-use Rattle.std.specs.Prelude.{Ok, Err}
+use Rattle.std.specs.Prelude.{◌≡◌, List, ℕ, [], ◌∷◌, flat_map, Bool, true, false, IsTrue, Option, None, Some, IsSomeAnd}
+use Rattle.std.specs.Prelude.{Result, Ok, Err}
 use Rattle.px_base.specs.CallSign.{CallSign}
 use Rattle.disk_model.specs.declared.disk.Disk.{Ghosts}
 use Rattle.ftl0_packets.specs.Layout.{PacketValue, dl_error_resp, packet_text}
@@ -44,14 +44,14 @@ IsRow None taken disk disk_now before now = (taken ≡ false) × (disk_now ≡ d
 IsRow (Some row) taken disk disk_now before now = (taken ≡ true) × (now ≡ made_by row)
 
 -- A packet is taken exactly where it has a row. The disk is as reads leave it, of which one failed or none; and what
--- was made is the packet's row for that, which tells of a read that failed by code 3.
+-- was made is the packet's row for that. Where a read failed it has one, which tells of it by code 3.
 pub record TakesPacket {D : Type 0} (g : Ghosts D) (caller : CallSign) (packet : PacketValue) (store : Store)
     (disk disk_now : D) (before now : Made) (taken : Bool) : Type 0 where
   pub fails : Bool
   pub reads : Reads g (IsTrue fails) disk disk_now
   pub told :
       fails ≡ true
-      → IfSome (download_row caller store before.lists before.state packet fails)
+      → IsSomeAnd (download_row caller store before.lists before.state packet fails)
       (λ row. row.replies ≡ dl_error_resp 3 ∷ [])
   pub is_row :
       IsRow (download_row caller store before.lists before.state packet fails) taken disk disk_now before now

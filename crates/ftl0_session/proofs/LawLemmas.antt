@@ -1,10 +1,7 @@
 -- Laws of the whole table, by those of uploading.
-use Rattle.std.proofs.Common.{◌≡◌, ℕ, List, ◌++◌, refl, ap, ◌∙◌, sym, subst, Bool, Option, Some}
+use Rattle.std.proofs.Common.{◌++◌, refl, ap, ◌∙◌, sym, subst}
 use Rattle.std.specs.Prelude.{Ok}
-use Rattle.px_base.specs.CallSign.{CallSign}
 use Rattle.ftl0_packets.specs.Layout.{data_end}
-use Rattle.selection_lists.specs.Lists.{CallerList}
-use Rattle.file_entries.specs.Store.{Entry, Store}
 use Rattle.ftl0_uploads.specs.Session as upload
 use Rattle.ftl0_uploads.proofs.AckLemmas.{acknowledged_stands as upload_stands}
 use Rattle.ftl0_uploads.proofs.UploadRows.{row-granted as upload_granted}

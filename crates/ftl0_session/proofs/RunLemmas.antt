@@ -1,17 +1,13 @@
 -- A session over events.
-use Rattle.std.proofs.Common.{◌≡◌, ℕ, List, [], ◌∷◌, ◌++◌, map, refl, ap, sym, ◌∙◌, subst, Option, None, Some}
-use Rattle.px_base.specs.CallSign.{CallSign}
-use Rattle.ftl0_packets.specs.Layout.{PacketValue}
-use Rattle.selection_lists.specs.Lists.{CallerList}
+use Rattle.std.proofs.Common.{◌≡◌, ℕ, List, [], ◌∷◌, ◌++◌, map, refl, ap, sym, ◌∙◌, subst, Option, None}
 use Rattle.file_entries.specs.Command.{Command, after, after_all}
 use Rattle.file_entries.specs.Store.{Store}
-use Rattle.ftl0_uploads.specs.Events.{Event as UploadEvent}
 use Rattle.ftl0_uploads.specs.Failures.{Failure, read_fails}
 use Rattle.ftl0_uploads.specs.Run.{commands_of, on_row, replies_to, state_after, store_after}
 use Rattle.ftl0_uploads.specs.Session as upload
 use Rattle.ftl0_downloads.specs.Table.{ready}
-use Rattle.ftl0_session.specs.Run.{AreUploads, CommandsLaw, Event, RunsOver, Sends, UploadRunLaw, as_event, event_row}
-use Rattle.ftl0_session.specs.Table.{Row, State, by_upload, due_at, state_by}
+use Rattle.ftl0_session.specs.Run.{CommandsLaw, RunsOver, UploadRunLaw, as_event, event_row}
+use Rattle.ftl0_session.specs.Table.{by_upload, due_at, state_by}
 use Rattle.ftl0_session.proofs.RowLemmas.{row-upload, upload-free, upload-has}
 
 -- commands one after another

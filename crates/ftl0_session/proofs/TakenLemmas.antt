@@ -1,13 +1,13 @@
 -- What a packet does whose row has no command of the store: one of downloading, or error 1.
-use Rattle.std.proofs.Common.{◌≡◌, ℕ, List, [], ◌∷◌, ◌++◌, refl, ap, sym, ◌∙◌, subst, append-nil, Bool, true, false, Option, None, Some}
-use Rattle.std.specs.Prelude.{⊤, Result, Ok, IsErrOf, IsTrue}
+use Rattle.std.proofs.Common.{◌≡◌, ℕ, List, [], ◌∷◌, refl, ap, sym, ◌∙◌, subst, append-nil, Bool, true, false, Option, None, Some}
+use Rattle.std.specs.Prelude.{⊤, Result, Ok, IsErrOf, IsSomeAnd, IsTrue}
 use Rattle.px_base.specs.CallSign.{CallSign}
 use Rattle.disk_model.specs.declared.disk.Disk.{Ghosts}
 use Rattle.ftl0_packets.specs.Items.{kind_of_item, texts}
-use Rattle.ftl0_packets.specs.Layout.{Item, packet_text}
+use Rattle.ftl0_packets.specs.Layout.{Item, dl_error_resp, packet_text}
 use Rattle.selection_lists.specs.Lists.{CallerList}
 use Rattle.file_journal.specs.Calls.{Reads}
-use Rattle.file_journal.proofs.CallLemmas.{puts_none, reads_none}
+use Rattle.file_journal.proofs.CallLemmas.{puts_none}
 use Rattle.file_entries.specs.Command.{Command, DoesAll}
 use Rattle.file_store.specs.OnDisk.{Does}
 use Rattle.file_store.specs.State.{StandsOn, StoreState, store_in}
@@ -23,7 +23,7 @@ use Rattle.ftl0_downloads.specs.Taking.{IsRow, Made, made, made_by}
 use Rattle.ftl0_session.specs.declared.stop.ServerStop.{ServerStop}
 use Rattle.ftl0_session.specs.declared.stop.ServerStop.TheVariants as stop
 use Rattle.ftl0_session.specs.SessionState.{DoesOne, MayTake, SessionState, caller_of, session_of, state_in}
-use Rattle.ftl0_session.specs.Table.{Row, State, by_download, download_row, downloading, error_by, error_row, state_by, upload_row}
+use Rattle.ftl0_session.specs.Table.{Row, by_download, download_row, downloading, error_by, error_row, state_by, upload_row}
 use Rattle.ftl0_session.specs.Taking.{Taken, TakesDownload, row_over, working}
 use Rattle.ftl0_session.proofs.RowLemmas.{download-command, row-download, row-error}
 
@@ -40,6 +40,10 @@ row-taken (Some row) disk disk_now before now is = (row, refl, is.1)
 row-passed : {D : Type 0} (o : Option DownloadRow) (disk disk_now : D) (before now : Made) → IsRow o false disk disk_now before now → (o ≡ None) × (now ≡ before)
 row-passed None disk disk_now before now is = (refl, is.2)
 row-passed (Some row) disk disk_now before now is = absurd (let e : false ≡ true = is.0 in cc)
+
+-- what is said of a row that there is
+is_some_at : {A : Type 0} {o : Option A} (P : A → Type 0) (x : A) → o ≡ Some x → IsSomeAnd o P → P x
+is_some_at P x is holds = subst (λ o. IsSomeAnd o P) is holds
 
 module _ {D : Type 0} (g : Ghosts D) where
   -- what the next packet needs, where the store stayed
@@ -58,14 +62,15 @@ module _ {D : Type 0} (g : Ghosts D) where
   -- a row without commands
   still : (moment : ℕ) (item : Item) (old new : SessionState) (store : StoreState) (lists lists_now : List CallerList) (disk disk_now : D) (replies : List ℕ) (fails : Bool) (row : Row)
       → row_over (caller_of old) moment (working old store lists) item fails ≡ row → row.commands ≡ [] → lists_now ≡ row.lists → state_in store new ≡ row.state → replies ≡ texts row.replies
-      → Reads g (IsTrue fails) disk disk_now → new.uploads ≡ old.uploads → MayTake g store disk_now lists_now new → g.lasts disk_now disk_now
+      → (fails ≡ true → row.replies ≡ dl_error_resp 3 ∷ []) → Reads g (IsTrue fails) disk disk_now → new.uploads ≡ old.uploads → MayTake g store disk_now lists_now new → g.lasts disk_now disk_now
       → Taken g moment item old new store store lists lists_now disk disk_now replies answered
-  still moment item old new store lists lists_now disk disk_now replies fails row is none lists_are state text reads same may lasts =
+  still moment item old new store lists lists_now disk disk_now replies fails row is none lists_are state text told reads same may lasts =
       let fine : ¬ IsErrOf answered stop.Disk = λ e. cc e in
       let commands : (row_over (caller_of old) moment (working old store lists) item fails).commands ≡ [] = ap (λ (r : Row). r.commands) is ∙ none in
       record {
         takes = record {
           fails = fails;
+          told = λ failed. ap (λ (r : Row). r.replies) is ∙ told failed;
           answers = (
             subst (λ (cs : List Command). DoesAll (store_in store) (store_in store) cs) (sym commands) (tt, refl),
             lists_are ∙ sym (ap (λ (r : Row). r.lists) is),
@@ -107,7 +112,8 @@ module _ {D : Type 0} (g : Ghosts D) where
         let here : uploads.phase ≡ phase.Command = download-command uploads.caller store lists uploads.phase part item takes.fails has.0 has.1 in
         let state : state_in store (session_of uploads part_now) ≡ downloading part_now = ap (λ (p : Phase). state_by (state_of store p) part_now) here in
         still moment item (session_of uploads part) (session_of uploads part_now) store lists lists_now disk disk_now replies takes.fails row is refl
-        (ap (λ (m : Made). m.lists) has.2) (state ∙ ap (λ (m : Made). downloading m.state) has.2) (ap (λ (m : Made). m.replies) has.2) takes.reads refl may lasts
+        (ap (λ (m : Made). m.lists) has.2) (state ∙ ap (λ (m : Made). downloading m.state) has.2) (ap (λ (m : Made). m.replies) has.2)
+        (λ failed. is_some_at (λ r. r.replies ≡ dl_error_resp 3 ∷ []) has.0 has.1 (takes.told failed)) takes.reads refl may lasts
 
     -- error 1
     pub taken-error : (given replies : List ℕ) (of_uploading : Bool) → of_uploading ≡ is_upload_kind (kind_of_item item) → replies ≡ packet_text (error_by of_uploading)
@@ -121,7 +127,8 @@ module _ {D : Type 0} (g : Ghosts D) where
         row-error uploads.caller moment (store_in store) lists (state_in store (session_of uploads part)) item takes.fails none none_of.0 in
         still moment item (session_of uploads part) (session_of uploads part_now) store lists lists_now disk disk_now replies takes.fails row is refl
         (ap (λ (m : Made). m.lists) none_of.1) (ap (λ (m : Made). state_in store (session_of uploads m.state)) none_of.1)
-        (text ∙ ap (λ (b : Bool). packet_text (error_by b)) kind ∙ sym (append-nil (packet_text (error_by (is_upload_kind (kind_of_item item)))))) takes.reads refl may lasts
+        (text ∙ ap (λ (b : Bool). packet_text (error_by b)) kind ∙ sym (append-nil (packet_text (error_by (is_upload_kind (kind_of_item item))))))
+        (λ failed. absurd (subst (λ (o : Option DownloadRow). IsSomeAnd o (λ r. r.replies ≡ dl_error_resp 3 ∷ [])) none_of.0 (takes.told failed))) takes.reads refl may lasts
 
 -- while a file is received, or the end of one is waited for, nothing of downloading is done by any packet
 pub one-download : {D : Type 0} (caller : CallSign) (files : StoreState) (lists lists_now : List CallerList) (here : Phase) (part part_now : DownloadState) (item : Item) (fails taken : Bool)

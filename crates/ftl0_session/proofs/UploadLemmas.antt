@@ -137,6 +137,7 @@ module _ {D : Type 0} (g : Ghosts D) (moment : ℕ) (item : Item) (uploads uploa
       record {
         takes = record {
           fails = false;
+          told = λ failed. absurd (true≢false (sym failed));
           answers = answers-by given result answer said;
           disk_then = disk;
           reads = reads_none g disk (IsTrue false) (λ never. true≢false (sym never)) lasts;

@@ -1,5 +1,6 @@
 -- Laws of the whole table: that it has the rows of uploading, and what these promise.
-use Rattle.std.specs.Prelude.{◌≡◌, ◌≢◌, ℕ, ◌+◌, ◌≤◌, List, [], ◌∷◌, ◌++◌, length, Bool, true, None, Some, Ok}
+use Rattle.std.specs.Prelude.{◌≡◌, ◌≢◌, ℕ, ◌+◌, ◌≤◌, List, [], ◌∷◌, ◌++◌, length, Bool, true, false, None, Some, IfSome, Ok}
+use Rattle.std.specs.List.{AllByRecursion}
 use Rattle.px_base.specs.CallSign.{CallSign, IsCall}
 use Rattle.px_base.specs.Octets.{IsOctets}
 use Rattle.ftl0_packets.specs.Layout.{Item, data_end, ul_ack_resp, upload_cmd}
@@ -10,10 +11,11 @@ use Rattle.selection_lists.specs.Lists.{CallerList}
 use Rattle.file_entries.specs.Command.{AreAllowed, Command, after_all, can_begin, stamp_of}
 use Rattle.file_entries.specs.Store.{Entry, Store, entry_of}
 use Rattle.file_store.specs.OnDisk.{MakesBetween}
-use Rattle.ftl0_uploads.specs.Laws.{HasEntry, IsUnderWay, IsWhole, kept}
+use Rattle.ftl0_uploads.specs.Laws.{HasEntry, IsNoFault, IsUnderWay, IsWhole, kept}
 use Rattle.ftl0_uploads.specs.Session as upload
 use Rattle.ftl0_downloads.specs.Table.{ready}
-use Rattle.ftl0_session.specs.Table.{Row, by_upload, command, receiving, session_row, state_by}
+use Rattle.ftl0_session.specs.Table.{Row, State, by_upload, command, next_due, receiving, session_row, state_by}
+use Rattle.ftl0_session.specs.Table.{tell_failed_read, tells_failed_read}
 
 -- Each row of uploading is a row of the whole table, in the state in which nothing is done of downloading, whether a
 -- read fails or none does. It leaves the lists.
@@ -81,3 +83,22 @@ AcknowledgedStandsLaw =
     (moment number : ℕ) (entry : Entry) (held rest : List ℕ) → store ≡ after_all start commands
     → IsWhole store number entry held rest
     → StandsAcknowledged caller start store lists fails commands moment number entry (held ++ rest) rest
+
+-- Where no read fails the row tells of none, and it never replies UL_ERROR_RESP 3 or UL_NAK_RESP 3.
+pub record KeepsFaultCodes (row : Bool → Row) : Type 0 where
+  pub reads : tell_failed_read (row false).replies ≡ false
+  pub writes : (fails : Bool) → AllByRecursion IsNoFault (row fails).replies
+
+-- Code 3 comes by DL_ERROR_RESP only where a read of the disk fails, and by UL_ERROR_RESP or UL_NAK_RESP in no row of
+-- the table: there it comes only where a write or a sync fails.
+abbrev pub FaultCodeLaw : Type 0
+FaultCodeLaw =
+    (caller : CallSign) (moment : ℕ) (store : Store) (lists : List CallerList) (state : State) (item : Item)
+    → KeepsFaultCodes (session_row caller moment store lists state item)
+
+-- So it is of what is sent next.
+abbrev pub DueFaultLaw : Type 0
+DueFaultLaw =
+    (store : Store) (state : State)
+    → IfSome (next_due store state false) (λ due. tells_failed_read due.packet ≡ false)
+    × ((fails : Bool) → IfSome (next_due store state fails) (λ due. IsNoFault due.packet))

@@ -1,5 +1,5 @@
 -- How the code's session answers a packet, and what that does to the disk.
-use Rattle.std.specs.Prelude.{◌≡◌, ℕ, List, [], ◌∷◌, Bool, true, false, IfSome, IsTrue, ⊤, Result, Ok, Err, IsErrOf}
+use Rattle.std.specs.Prelude.{◌≡◌, ℕ, List, [], ◌∷◌, Bool, true, false, IsSomeAnd, IsTrue, ⊤, Result, Ok, Err, IsErrOf}
 use Rattle.px_base.specs.CallSign.{CallSign}
 use Rattle.disk_model.specs.declared.disk.Disk.{Ghosts}
 use Rattle.ftl0_packets.specs.Items.{texts}
@@ -101,7 +101,7 @@ pub record Taken {D : Type 0} (g : Ghosts D) (moment : ℕ) (item : Item) (old n
   pub complete : AreComplete (store_in store_now) lists_now
 
 -- A packet has a row of downloading, and that was made; or it has none, was not taken, and nothing changed. The disk
--- was read, and a read failed or none did.
+-- was read, and a read failed or none did. Where one failed the packet has a row, which tells of it by code 3.
 pub record TakesDownload {D : Type 0} (g : Ghosts D) (item : Item) (uploads : Uploading)
     (downloads downloads_now : DownloadState) (store : StoreState) (lists lists_now : List CallerList)
     (disk disk_now : D) (replies : List ℕ) (taken : Bool) : Type 0 where
@@ -109,7 +109,7 @@ pub record TakesDownload {D : Type 0} (g : Ghosts D) (item : Item) (uploads : Up
   pub reads : Reads g (IsTrue fails) disk disk_now
   pub told :
       fails ≡ true
-      → IfSome
+      → IsSomeAnd
       (download_row uploads.caller (store_in store) lists (state_in store (session_of uploads downloads)) item fails)
       (λ row. row.replies ≡ dl_error_resp 3 ∷ [])
   pub is_row :

@@ -1,6 +1,7 @@
-//! Laws of the session's whole table, as far as it is of uploading, and of a session over events.
+//! Laws of the session's whole table, and of a session over events.
 
-ghost use Rattle.ftl0_session.specs.Laws.{AcknowledgedLaw, AcknowledgedStandsLaw, GrantedLaw, ResumedLaw, UploadsLaw};
+ghost use Rattle.ftl0_session.specs.Laws.{AcknowledgedLaw, AcknowledgedStandsLaw, DueFaultLaw, FaultCodeLaw};
+ghost use Rattle.ftl0_session.specs.Laws.{GrantedLaw, ResumedLaw, UploadsLaw};
 ghost use Rattle.ftl0_session.specs.Run.{CommandsLaw, UploadRunLaw};
 
 /// Each row of uploading is a row of the whole table: what holds of the rows of `ftl0_uploads` holds of it.
@@ -29,6 +30,13 @@ pub fn acknowledged_law()
 /// at least these commands, whatever comes behind them.
 pub fn acknowledged_stands_law()
     ensures { AcknowledgedStandsLaw }
+{}
+
+/// Code 3 says by DL_ERROR_RESP that a read of the disk failed: where none does, neither a row nor what is sent next has
+/// it. By UL_ERROR_RESP or UL_NAK_RESP it says that a write or a sync failed: no row has it at all.
+pub fn fault_code_law()
+    ensures rows { FaultCodeLaw }
+    ensures due { DueFaultLaw }
 {}
 
 /// The store that a session over events comes to is the one after the commands of their rows.

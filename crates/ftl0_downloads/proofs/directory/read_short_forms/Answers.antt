@@ -1,4 +1,4 @@
-use Rattle.std.proofs.Common.{◌≡◌, ◌++◌, ◌*◌, ◌+◌, get_or, length, sym, ◌∙◌, ap, subst, arith, rules, length-append}
+use Rattle.std.proofs.Common.{◌≡◌, ◌++◌, get_or, length, sym, ◌∙◌, ap, subst, arith, rules, length-append}
 use Rattle.file_entries.specs.Info.{IsCompleteIn}
 use Rattle.file_store.specs.State.{StandsOn, StoreState, store_in}
 use Rattle.ftl0_downloads.specs.Table.{octets_in, short_octets}

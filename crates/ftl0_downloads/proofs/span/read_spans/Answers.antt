@@ -1,7 +1,7 @@
 use Rattle.std.proofs.Common.{◌≡◌, ◌++◌, ◌∷◌, [], ◌-◌, ◌+◌, get_or, length, min, take, sym, ◌∙◌, ap, subst, arith, length-append}
 use Rattle.file_store.specs.State.{StandsOn, StoreState, store_in}
 use Rattle.ftl0_downloads.specs.Needs.{IsStored, LiesIn}
-use Rattle.ftl0_downloads.specs.Sending.{after_octets, due_octets, joined}
+use Rattle.ftl0_downloads.specs.Sending.{after_octets, due_octets}
 use Rattle.ftl0_downloads.specs.Spans.{due_of}
 use Rattle.ftl0_downloads.specs.declared.span.Span.{Span}
 use Rattle.ftl0_downloads.proofs.DueLemmas.{at-map, some-at, step-few, step-left, step-octets}

@@ -1,5 +1,5 @@
 -- A packet that isn't of uploading, or comes while something is done of downloading: its row of downloading, or error 1.
-use Rattle.std.proofs.Common.{◌≡◌, Bool, sym, subst}
+use Rattle.std.proofs.Common.{Bool, sym, subst}
 use Rattle.std.specs.Prelude.{Ok}
 use Rattle.ftl0_packets.specs.Values.{item_of}
 use Rattle.file_store.specs.State.{StoreState}

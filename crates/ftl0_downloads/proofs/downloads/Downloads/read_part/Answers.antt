@@ -1,9 +1,9 @@
-use Rattle.std.proofs.Common.{◌≡◌, ◌<◌, ◌-◌, ◌++◌, [], ◌∷◌, ℕ, List, rules, length, map, take, drop, true, refl, sym, ◌∙◌, ap, subst, arith}
+use Rattle.std.proofs.Common.{◌≡◌, ◌<◌, ◌-◌, ◌++◌, [], ◌∷◌, ℕ, List, rules, length, map, take, drop, refl, sym, ◌∙◌, ap, subst}
 use Rattle.std.proofs.lemmas.List.{append-nil}
 use Rattle.file_store.specs.State.{store_in}
 use Rattle.ftl0_downloads.specs.Sending.{is_read, joined, octets_due}
 use Rattle.ftl0_downloads.specs.Spans.{due_of}
-use Rattle.ftl0_downloads.specs.Table.{DownloadState, kept, listing}
+use Rattle.ftl0_downloads.specs.Table.{kept, listing}
 use Rattle.ftl0_downloads.specs.View.{state_of}
 use Rattle.ftl0_downloads.specs.declared.downloads.Phase.{Phase}
 use Rattle.ftl0_downloads.specs.declared.span.Span.{Span}

@@ -1,4 +1,4 @@
-use Rattle.std.proofs.Common.{◌≡◌, [], true, false, Some, ap, ◌∙◌, refl, sym, subst}
+use Rattle.std.proofs.Common.{[], true, false, ap, ◌∙◌, refl, sym, subst}
 use Rattle.ftl0_packets.specs.Values.{value_of}
 use Rattle.file_store.specs.State.{store_in}
 use Rattle.ftl0_downloads.specs.Needs.{IsDueIn}

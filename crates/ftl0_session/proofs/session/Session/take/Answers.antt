@@ -1,5 +1,5 @@
 -- A session takes a packet as its parts do.
-use Rattle.std.proofs.Common.{◌≡◌, sym, subst}
+use Rattle.std.proofs.Common.{sym, subst}
 use Rattle.ftl0_packets.specs.Values.{item_of}
 use Rattle.ftl0_session.specs.SessionState.{MayTake, SessionState, session_of}
 use Rattle.ftl0_session.specs.Taking.{Taken}

@@ -1,0 +1,164 @@
+-- What a packet that is taken, or one that is sent, does to the disk, with the reads that were made for it.
+use Rattle.std.proofs.Common.{◌≡◌, ℕ, List, [], ◌∷◌, ◌++◌, ◌==◌, refl, ap, ap₂, sym, ◌∙◌, subst, Bool, true, false, ◌&&◌, ◌||◌, Option, None, Some, IfSome}
+use Rattle.std.specs.Prelude.{⊤, Result, Ok, Err, if◌then◌else◌}
+use Rattle.std.specs.List.{list_any}
+use Rattle.std.specs.Option.{option_map}
+use Rattle.std.proofs.Math.Bool.{and-false, and-true, or-false}
+use Rattle.std.proofs.lemmas.List.Folds.{list_any-append}
+use Rattle.px_base.specs.CallSign.{CallSign}
+use Rattle.disk_model.specs.declared.disk.Disk.{Ghosts}
+use Rattle.ftl0_packets.specs.Layout.{Item, dl_error_resp, packet_text}
+use Rattle.file_journal.proofs.ToldLemmas.{at_told}
+use Rattle.file_entries.specs.Store.{Store}
+use Rattle.file_store.specs.State.{StandsOn, StoreState, store_in}
+use Rattle.file_store.specs.Working.{CutsOffAmongReads, DoesAmongReads}
+use Rattle.file_store.proofs.WorkingLemmas.{among-same, among-then, cuts-among-cut, does-among, reads-only}
+use Rattle.ftl0_uploads.specs.Failures.{Failure, failed_reads, failed_write, is_read_fault, is_write_fault, read_fails, write_fails}
+use Rattle.ftl0_downloads.specs.Sending as due
+use Rattle.ftl0_session.specs.declared.stop.ServerStop.{ServerStop}
+use Rattle.ftl0_session.specs.declared.stop.ServerStop.TheVariants as stop
+use Rattle.ftl0_session.specs.Filling.{IsDue, PutsDue}
+use Rattle.ftl0_session.specs.Table.{DuePacket, Row, State, download_part, due_at, in_session, next_due, row_at, tell_failed_read, tells_failed_read}
+use Rattle.ftl0_session.specs.Taking.{TakesPacket, Working, row_over}
+use Rattle.ftl0_session.proofs.FaultLemmas.{due_codes, fault_codes}
+
+-- ---- a read that failed is told, and no other
+
+-- a row's replies tell of a read that failed exactly where one did
+pub told-is : (caller : CallSign) (moment : ℕ) (item : Item) (before : Working) (fails : Bool) → (fails ≡ true → (row_over caller moment before item fails).replies ≡ dl_error_resp 3 ∷ [])
+    → tell_failed_read (row_over caller moment before item fails).replies ≡ fails
+told-is caller moment item before true told = ap tell_failed_read (told refl)
+told-is caller moment item before false told = (fault_codes caller moment (store_in before.store) before.lists before.state item).reads
+
+-- so does a packet that is sent
+pub told-due : (store : Store) (state : State) (fails : Bool) (next : DuePacket) → next_due store state fails ≡ Some next → (fails ≡ true → IfSome (next_due store state fails) (λ sent. sent.packet ≡ dl_error_resp 3))
+    → tells_failed_read next.packet ≡ fails
+told-due store state true next is told = ap tells_failed_read (at_told (λ (sent : DuePacket). sent.packet ≡ dl_error_resp 3) next is (told refl))
+told-due store state false next is told = at_told (λ (sent : DuePacket). tells_failed_read sent.packet ≡ false) next is (due_codes store state).0
+
+-- ---- a packet that is taken
+
+module _ {D : Type 0} (g : Ghosts D) (on : (first second third : D) → g.lasts first second → g.lasts second third → g.lasts first third)
+    (caller : CallSign) (moment : ℕ) (item : Item) (before now : Working) (disk disk_now : D) (replies : List ℕ) (healthy : before.store.journal.failed ≡ false) (stands : StandsOn g before.store disk) where
+  -- its reads
+  first : (result : Result ⊤ ServerStop) (takes : TakesPacket g caller moment item before now disk disk_now replies result)
+      → DoesAmongReads g ⊥ (tell_failed_read (row_over caller moment before item takes.fails).replies) before.store before.store disk takes.disk_then []
+  first result takes =
+      among-same g ⊥ ⊥ takes.fails (tell_failed_read (row_over caller moment before item takes.fails).replies) before.store before.store disk takes.disk_then [] (λ p. p) (λ p. p)
+      (sym (told-is caller moment item before takes.fails takes.told)) (reads-only g takes.fails before.store disk takes.disk_then takes.reads healthy stands)
+
+  -- its row's commands are done
+  pub taken-among : (done : ⊤) (takes : TakesPacket g caller moment item before now disk disk_now replies (Ok done))
+      → DoesAmongReads g ⊥ (tell_failed_read (row_over caller moment before item takes.fails).replies) before.store now.store disk disk_now (row_over caller moment before item takes.fails).commands
+  taken-among done takes =
+      let row : Row = row_over caller moment before item takes.fails in
+      let missed : Bool = tell_failed_read row.replies in
+      among-same g ⊥ ⊥ (missed || false) missed before.store now.store disk disk_now row.commands (λ p. p) (λ p. p) (or-false missed)
+      (among-then g on ⊥ ⊥ missed false before.store before.store now.store disk takes.disk_then disk_now [] row.commands (λ never. never) (first (Ok done) takes)
+      (does-among g ⊥ before.store now.store takes.disk_then disk_now row.commands takes.on_disk))
+
+  -- the disk failed in one of them
+  pub taken-cut : (takes : TakesPacket g caller moment item before now disk disk_now replies (Err stop.Disk))
+      → CutsOffAmongReads g ⊤ (tell_failed_read (row_over caller moment before item takes.fails).replies) before.store now.store disk disk_now [] (row_over caller moment before item takes.fails).commands
+  taken-cut takes =
+      let row : Row = row_over caller moment before item takes.fails in
+      cuts-among-cut g ⊤ (tell_failed_read row.replies) before.store before.store now.store disk takes.disk_then disk_now [] row.commands (first (Err stop.Disk) takes) takes.on_disk
+
+  -- there was no memory
+  pub taken-none : (takes : TakesPacket g caller moment item before now disk disk_now replies (Err stop.OutOfMemory))
+      → (now.store ≡ before.store) × DoesAmongReads g ⊥ (tell_failed_read (row_over caller moment before item takes.fails).replies) before.store before.store disk disk_now []
+  taken-none takes = (
+    ap (λ (w : Working). w.store) takes.answers.1,
+    subst (λ (d : D). DoesAmongReads g ⊥ (tell_failed_read (row_over caller moment before item takes.fails).replies) before.store before.store disk d []) (sym takes.on_disk)
+        (first (Err stop.OutOfMemory) takes),
+  )
+
+-- ---- a packet that is sent
+
+-- whether one is due doesn't depend on reads
+pub none-whatever : (store : Store) (state : State) (fails other : Bool) → next_due store state fails ≡ None → next_due store state other ≡ None
+none-whatever store state fails other is = by (due.is_due (download_part state)) is
+  where
+    by : (b : Bool) → option_map in_session (if b then Some (due.due_packet store (download_part state) fails) else None) ≡ None
+        → option_map in_session (if b then Some (due.due_packet store (download_part state) other) else None) ≡ None
+    by true none = absurd (cc none)
+    by false none = refl
+
+due-put : {D : Type 0} (o : Option DuePacket) (disk disk_now : D) (state state_now : State) (out out_now : List ℕ) → IsDue o true disk disk_now state state_now out out_now
+    → (next : DuePacket) × (o ≡ Some next) × (state_now ≡ next.state) × (out_now ≡ packet_text next.packet)
+due-put None disk disk_now state state_now out out_now is = absurd (let e : true ≡ false = is.0 in cc)
+due-put (Some next) disk disk_now state state_now out out_now is = (next, refl, is.1, is.2)
+
+due-not : {D : Type 0} (o : Option DuePacket) (disk disk_now : D) (state state_now : State) (out out_now : List ℕ) → IsDue o false disk disk_now state state_now out out_now
+    → (o ≡ None) × (disk_now ≡ disk) × (state_now ≡ state) × (out_now ≡ out)
+due-not None disk disk_now state state_now out out_now is = (refl, is.1, is.2, is.3)
+due-not (Some next) disk disk_now state state_now out out_now is = absurd (let e : false ≡ true = is.0 in cc)
+
+-- what a packet that was put is, and what was done for it
+pub record Sent {D : Type 0} (g : Ghosts D) (files : StoreState) (disk disk_now : D) (state state_now : State) (out_now : List ℕ) (fails : Bool) : Type 0 where
+  pub next : DuePacket
+  pub is_next : next_due (store_in files) state fails ≡ Some next
+  pub state_is : state_now ≡ next.state
+  pub text_is : out_now ≡ packet_text next.packet
+  pub tells : tells_failed_read next.packet ≡ fails
+  pub does : DoesAmongReads g ⊥ (tells_failed_read next.packet) files files disk disk_now []
+
+module _ {D : Type 0} (g : Ghosts D) (files : StoreState) (disk disk_now : D) (state state_now : State) (out out_now : List ℕ) where
+  pub due-among : (puts : PutsDue g (store_in files) disk disk_now state state_now out out_now true) → files.journal.failed ≡ false → StandsOn g files disk
+      → Sent g files disk disk_now state state_now out_now puts.fails
+  due-among puts healthy stands =
+      let has = due-put (next_due (store_in files) state puts.fails) disk disk_now state state_now out out_now puts.is_due in
+      let tells = told-due (store_in files) state puts.fails has.0 has.1 puts.told in
+      record {
+        next = has.0;
+        is_next = has.1;
+        state_is = has.2;
+        text_is = has.3;
+        tells = tells;
+        does =
+            among-same g ⊥ ⊥ puts.fails (tells_failed_read has.0.packet) files files disk disk_now [] (λ p. p) (λ p. p) (sym tells)
+            (reads-only g puts.fails files disk disk_now puts.reads healthy stands);
+      }
+
+  -- nothing was due, whether a read fails or none does
+  pub due-none : PutsDue g (store_in files) disk disk_now state state_now out out_now false
+      → ((fails : Bool) → next_due (store_in files) state fails ≡ None) × (disk_now ≡ disk) × (state_now ≡ state) × (out_now ≡ out)
+  due-none puts =
+      let none = due-not (next_due (store_in files) state puts.fails) disk disk_now state state_now out out_now puts.is_due in
+      (λ fails. none-whatever (store_in files) state puts.fails fails none.0, none.1, none.2, none.3)
+
+-- ---- parts whose reads failed
+
+-- whether this part is among these
+abbrev pub is_among : ℕ → List ℕ → Bool
+is_among part parts = list_any (λ number. number == part) parts
+
+pub reads-listed : (parts : List ℕ) (part : ℕ) → read_fails (failed_reads parts) part ≡ is_among part parts
+reads-listed [] part = refl
+reads-listed (number ∷ parts) part = ap₂ (λ (a b : Bool). a || b) (and-true (number == part)) (reads-listed parts part)
+
+pub writes-unlisted : (parts : List ℕ) (part : ℕ) → write_fails (failed_reads parts) part ≡ false
+writes-unlisted [] part = refl
+writes-unlisted (number ∷ parts) part = ap₂ (λ (a b : Bool). a || b) (and-false (number == part)) (writes-unlisted parts part)
+
+-- behind others
+pub reads-behind : (before behind : List Failure) (part : ℕ) → read_fails (before ++ behind) part ≡ (read_fails before part || read_fails behind part)
+reads-behind before behind part = list_any-append (λ failure. (failure.part == part) && is_read_fault failure.fault) before behind
+
+pub writes-behind : (before behind : List Failure) (part : ℕ) → write_fails (before ++ behind) part ≡ (write_fails before part || write_fails behind part)
+writes-behind before behind part = list_any-append (λ failure. (failure.part == part) && is_write_fault failure.fault) before behind
+
+-- a write that failed
+pub write-listed : (number part : ℕ) → write_fails (failed_write number) part ≡ (number == part)
+write-listed number part = or-false ((number == part) && true) ∙ and-true (number == part)
+
+pub write-unread : (number part : ℕ) → read_fails (failed_write number) part ≡ false
+write-unread number part = or-false ((number == part) && false) ∙ and-false (number == part)
+
+-- the row of a packet, and what is sent, as the part of an event whose failures list it where a read fails
+pub row-at : (caller : CallSign) (moment : ℕ) (item : Item) (before : Working) (failures : List Failure) (part : ℕ) (fails : Bool) → read_fails failures part ≡ fails
+    → row_over caller moment before item fails ≡ row_at caller moment (store_in before.store) before.lists before.state item failures part
+row-at caller moment item before failures part fails is = ap (λ (b : Bool). row_over caller moment before item b) (sym is)
+
+pub due-at : (store : Store) (state : State) (failures : List Failure) (part : ℕ) (fails : Bool) → read_fails failures part ≡ fails → next_due store state fails ≡ due_at store state failures part
+due-at store state failures part fails is = ap (λ (b : Bool). next_due store state b) (sym is)
