@@ -1,6 +1,7 @@
 -- The recovery is refused, or the session is served over what it gives.
 use Rattle.std.proofs.Common.{inl, inr, refl, Result}
 use Rattle.std.specs.Prelude.{IsErrOf}
+use Rattle.file_store.specs.declared.refusals.StoreFault.TheVariants as fault
 use Rattle.session_node.specs.declared.stop.NodeStop.{NodeStop}
 use Rattle.session_node.specs.declared.stop.NodeStop.TheVariants as stop
 use Rattle.session_node.specs.declared.terms.Served.{Served}
@@ -46,6 +47,22 @@ returns-in_err-store-clause-runs g c =
     let why = c.in_err-store.field-0.0 in
     at_exit (λ (r : Result Served NodeStop). NodeRuns g.D.Disk (IsErrOf r stop.Disk) c.args.disk.now c.recover.new.disk) c.from_residual.result (stop_of_fault why) c.from_residual.ensures.1
     (runs_refused g.D.Disk _ c.args.disk.now c.recover.new.disk (refused_runs g.D.Disk c.args.disk.now c.recover.new.disk why c.in_err-store.ensures.runs))
+
+-- there was no memory for the lists
+pub returns-in_default-clause-ends : goal.returns-in_default-clause-ends
+returns-in_default-clause-ends g c =
+    inl (record {
+      fault = fault.OutOfMemory;
+      answer = refl;
+      air = refl;
+      clock_is = refl;
+      leaves = unlisted_leaves g.D.Disk c.args.terms.now.limits.blocks c.args.disk.now c.recover.new.disk c.in_ok-store.store c.in_ok-store.ensures.since_start c.in_ok-store.ensures.since_sync;
+      runs = unlisted_runs g.D.Disk c.args.terms.now.limits.blocks c.args.disk.now c.recover.new.disk c.in_ok-store.store c.in_ok-store.ensures.runs;
+    })
+
+pub returns-in_default-clause-runs : goal.returns-in_default-clause-runs
+returns-in_default-clause-runs g c =
+    runs_refused g.D.Disk _ c.args.disk.now c.recover.new.disk (unlisted_runs g.D.Disk c.args.terms.now.limits.blocks c.args.disk.now c.recover.new.disk c.in_ok-store.store c.in_ok-store.ensures.runs)
 
 pub returns-clause-refuses : goal.returns-clause-refuses
 returns-clause-refuses g c =

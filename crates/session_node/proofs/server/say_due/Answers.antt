@@ -13,7 +13,7 @@ returns-in-Err-clause-says g c =
     saying-fails g.D.Disk g.A.Air g.met.D.Disk.lasts_same g.met.D.Disk.lasts_on c.args.store.now c.requires.healthy c.args.air.now c.args.disk.now c.args.session.now
     c.loop-packet.store c.loop-packet.air c.loop-packet.disk c.loop-packet.session c.loop-packet.invariant c.fill.new.store c.fill.new.disk c.fill.new.self c.loop-packet.packet.items c.fill.new.out.items
     c.loop-packet-test.ensures.store c.loop-packet-test.ensures.puts c.say.new.air c.in-Err._down
-    (subst (λ (text : List ℕ). SaysText g.A.Air.said g.A.Air.write_faults c.loop-packet.air c.say.new.air text (Err c.in-Err._down)) c.deref.ensures c.in-Err.ensures.said)
+    (subst (λ (text : List ℕ). SaysText g.A.Air.said g.A.Air.write_faults c.loop-packet.air c.say.new.air text (Err c.in-Err._down)) c.deref.ensures.0 c.in-Err.ensures.said)
 
 pub loop-packet-smaller : goal.loop-packet-smaller
 loop-packet-smaller g c =
@@ -26,7 +26,7 @@ loop-packet-preserved g c =
     saying-more g.D.Disk g.A.Air g.met.D.Disk.lasts_same g.met.D.Disk.lasts_on c.args.store.now c.requires.healthy c.args.air.now c.args.disk.now c.args.session.now
     c.loop-packet.store c.loop-packet.air c.loop-packet.disk c.loop-packet.session c.loop-packet.invariant c.fill.new.store c.fill.new.disk c.fill.new.self c.loop-packet.packet.items c.fill.new.out.items
     c.loop-packet-test.ensures.store c.loop-packet-test.ensures.puts c.say.new.air c.in_default.ensures.heard c.in_default.ensures.reads
-    (subst (λ (text : List ℕ). SaysText g.A.Air.said g.A.Air.write_faults c.loop-packet.air c.say.new.air text (Ok tt)) c.deref.ensures c.in_default.ensures.said)
+    (subst (λ (text : List ℕ). SaysText g.A.Air.said g.A.Air.write_faults c.loop-packet.air c.say.new.air text (Ok tt)) c.deref.ensures.0 c.in_default.ensures.said)
     c.loop-packet-test.ensures.uploads c.loop-packet-test.ensures.stands_on c.loop-packet-test.ensures.due
 
 pub returns-clause-says : goal.returns-clause-says
