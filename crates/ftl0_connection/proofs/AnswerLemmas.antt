@@ -1,5 +1,5 @@
 -- How a connection answers one packet.
-use Rattle.std.proofs.Common.{◌≡◌, ℕ, suc, ◌+◌, Bool, true, false, not, List, [], ◌∷◌, ◌++◌, refl, ap, sym, ◌∙◌, subst, arith, append-nil}
+use Rattle.std.proofs.Common.{◌≡◌, ℕ, suc, Bool, true, false, not, List, [], ◌∷◌, ◌++◌, refl, ap, sym, ◌∙◌, subst, arith, append-nil}
 use Rattle.std.specs.Prelude.{Result, Ok, Err, IsErrOf, IsTrue, ⊤, if◌then◌else◌, ◌||◌}
 use Rattle.std.proofs.Math.Bool.{or-false}
 use Rattle.px_base.specs.CallSign.{CallSign}
@@ -12,7 +12,6 @@ use Rattle.ax25_link.specs.Window.{Window}
 use Rattle.ftl0_packets.specs.Items.{texts}
 use Rattle.ftl0_packets.specs.Layout.{Item}
 use Rattle.selection_lists.specs.Lists.{CallerList}
-use Rattle.file_entries.specs.Command.{Command}
 use Rattle.file_store.specs.State.{StandsOn, StoreState, store_in}
 use Rattle.file_store.specs.Working.{CutsOffAmongReads, DoesAmongReads, PutsAmongReads}
 use Rattle.file_store.proofs.WorkingLemmas.{among-at, among-same, puts-among, puts-among-reads, puts-among-then}
@@ -20,7 +19,7 @@ use Rattle.ftl0_uploads.specs.Failures.{Failure, failed_reads, failed_write, rea
 use Rattle.ftl0_session.specs.declared.stop.ServerStop.{ServerStop}
 use Rattle.ftl0_session.specs.declared.stop.ServerStop.TheVariants as stop
 use Rattle.ftl0_session.specs.SessionState.{SessionState, caller_of, state_in}
-use Rattle.ftl0_session.specs.Table.{Row, State, tell_failed_read}
+use Rattle.ftl0_session.specs.Table.{Row, tell_failed_read}
 use Rattle.ftl0_session.specs.Taking.{TakesPacket, Working, row_over, working}
 use Rattle.ftl0_session.proofs.WorkingLemmas.{taken-among, taken-cut, taken-none}
 use Rattle.ftl0_connection.specs.declared.fate.Fate.{Fate}
@@ -28,7 +27,7 @@ use Rattle.ftl0_connection.specs.declared.fate.Fate.TheVariants.{Stays, Ends}
 use Rattle.ftl0_connection.specs.ConnectionState.{IsAfter, StandsForSome, is_over, with_nothing_left}
 use Rattle.ftl0_connection.specs.Feeding.{IsAmong, TakesPackets}
 use Rattle.ftl0_connection.specs.Hearing.{progressed}
-use Rattle.ftl0_connection.specs.Taking.{Progress, after_row, fails, fits, giving_up, goes_on, replied, resting, taking}
+use Rattle.ftl0_connection.specs.Taking.{Progress, fails, fits, goes_on, replied, resting, taking}
 use Rattle.ftl0_connection.proofs.FailureLemmas.{All-at, at_part, none-writes, one-writes, reads-at, writes-at, writes-none}
 use Rattle.ftl0_connection.proofs.TakingLemmas.{by_tests}
 

@@ -1,10 +1,10 @@
 -- How a connection queues what is due, behind the packets of a frame.
-use Rattle.std.proofs.Common.{◌≡◌, ◌⊎◌, inl, inr, ⊎_elim, ℕ, zero, suc, ◌<◌, ◌≤◌, Bool, true, false, List, [], ◌++◌, refl, ap, sym, ◌∙◌, subst, arith, append-nil}
+use Rattle.std.proofs.Common.{◌≡◌, ◌⊎◌, inl, inr, ℕ, zero, suc, ◌<◌, ◌≤◌, Bool, true, false, List, [], ◌++◌, refl, ap, sym, ◌∙◌, subst, arith, append-nil}
 use Rattle.std.specs.Prelude.{All, Option, None, Some, nat_le, ◌||◌, Result, Ok, Err, ⊤}
 use Rattle.std.proofs.Math.Bool.{or-false, or_assoc}
 use Rattle.std.proofs.lemmas.List.Elements.{All-append, All-nil, All-weaker}
 use Rattle.disk_model.specs.declared.disk.Disk.{Ghosts}
-use Rattle.ax25_link.specs.Ends.{LinkEnd, free_octets}
+use Rattle.ax25_link.specs.Ends.{free_octets}
 use Rattle.ax25_link.specs.Kept.{Kept, StandsFor}
 use Rattle.ax25_link.specs.Window.{Window}
 use Rattle.selection_lists.specs.Lists.{CallerList}
@@ -20,12 +20,12 @@ use Rattle.ftl0_uploads.specs.Failures.{Failure, failed_reads, failed_write, rea
 use Rattle.ftl0_downloads.specs.Needs.{IsDueIn}
 use Rattle.ftl0_session.specs.declared.stop.ServerStop.{ServerStop}
 use Rattle.ftl0_session.specs.declared.stop.ServerStop.TheVariants as stop
-use Rattle.ftl0_session.specs.SessionState.{SessionState, state_in}
+use Rattle.ftl0_session.specs.SessionState.{state_in}
 use Rattle.ftl0_session.specs.Table.{DuePacket, State, due_at, next_due, tells_failed_read}
 use Rattle.ftl0_connection.specs.declared.fate.Fate.{Fate}
 use Rattle.ftl0_connection.specs.declared.fate.Fate.TheVariants.{Stays, Ends}
 use Rattle.ftl0_connection.specs.ConnectionState.{ConnectionState, Hears, HearsBy, IsAfter}
-use Rattle.ftl0_connection.specs.Feeding.{AreFree, HearsParts, IsNothingDue, KeepsFit, Queued, QueuesDue, QueuesNext, QueuesPacket}
+use Rattle.ftl0_connection.specs.Feeding.{AreFree, HearsParts, IsNothingDue, KeepsFit, Queued, QueuesDue, QueuesPacket}
 use Rattle.ftl0_connection.specs.Hearing.{progressed}
 use Rattle.ftl0_connection.specs.Taking.{Progress, after_due, enough_free, fails, goes_on, on_due, queued, queuing}
 use Rattle.ftl0_connection.proofs.FailureLemmas.{All-at, among-at as among-one, among-first, among-second, at_part, none-writes, reads-among}

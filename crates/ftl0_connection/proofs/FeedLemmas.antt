@@ -4,10 +4,8 @@ use Rattle.std.specs.Prelude.{false, None, Result, Ok, Err, ⊤}
 use Rattle.std.proofs.lemmas.List.Elements.{All-nil}
 use Rattle.px_base.specs.CallSign.{CallSign}
 use Rattle.disk_model.specs.declared.disk.Disk.{Ghosts}
-use Rattle.ax25_link.specs.Ends.{LinkEnd}
 use Rattle.ax25_link.specs.declared.state.LinkState.TheVariants.{Up}
 use Rattle.ax25_link.specs.Kept.{Kept, SameStations, StandsFor}
-use Rattle.ax25_link.specs.Window.{Window}
 use Rattle.ftl0_packets.specs.Layout.{Item}
 use Rattle.ftl0_packets.specs.Reading.{packets_of, rest_of}
 use Rattle.selection_lists.specs.Lists.{CallerList}
@@ -18,7 +16,6 @@ use Rattle.file_journal.specs.Position.{Position}
 use Rattle.file_journal.specs.Walk.{KeepsState}
 use Rattle.file_journal.proofs.CallLemmas.{puts_none}
 use Rattle.file_store.specs.State.{StandsOn, StoreState, store_in}
-use Rattle.file_store.specs.Working.{DoesAmongReads}
 use Rattle.file_store.proofs.DoesLemmas.{Does-none}
 use Rattle.file_store.proofs.WorkingLemmas.{does-among, puts-among, puts-among-same, puts-among-then}
 use Rattle.ftl0_uploads.specs.Others.{KeepsOtherCallers}
@@ -30,7 +27,7 @@ use Rattle.ftl0_session.specs.SessionState.{MayTake as SessionMayTake, SessionSt
 use Rattle.ftl0_connection.specs.declared.fate.Fate.{Fate}
 use Rattle.ftl0_connection.specs.declared.fate.Fate.TheVariants.{Stays}
 use Rattle.ftl0_connection.specs.ConnectionState.{ConnectionState, StandsForSome}
-use Rattle.ftl0_connection.specs.Feeding.{Feeds, IsAmong, KeepsFit, LeavesFit, MayTake, with_octets}
+use Rattle.ftl0_connection.specs.Feeding.{Feeds, IsAmong, KeepsFit, LeavesFit, MayTake}
 use Rattle.ftl0_connection.proofs.HearsLemmas.{takes-then}
 use Rattle.ftl0_connection.proofs.StationLemmas.{stations-same, stations-then}
 

@@ -29,7 +29,7 @@ use Rattle.ftl0_connection.specs.Connected.{Connected, beginning, greeted}
 use Rattle.ftl0_connection.specs.ConnectionState.{ConnectionState, IsConnection, StandsForSome}
 use Rattle.ftl0_connection.specs.Feeding.{HearsParts, IsSettled}
 use Rattle.ftl0_connection.specs.Hearing.{parts_as, parts_of_frame, rest_as, rest_of_frame, taking_octets, with_end}
-use Rattle.ftl0_connection.specs.Taking.{Progress, fails, resting, taking}
+use Rattle.ftl0_connection.specs.Taking.{Progress, resting, taking}
 
 -- the session's upload was given up, and the store and its journal are as they were
 pub parks-same : (store store_n : StoreState) (of : Phase) → Parks store store_n of → (store_in store_n ≡ store_in store) × (store_n.journal ≡ store.journal)

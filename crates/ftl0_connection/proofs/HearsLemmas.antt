@@ -1,6 +1,6 @@
 -- How what packets make of a connection is put together.
 use Rattle.std.proofs.Common.{◌≡◌, ℕ, ◌+◌, ◌<◌, ◌≤◌, Bool, true, false, not, ◌&&◌, List, [], ◌++◌, length, refl, ap, sym, ◌∙◌, subst, arith, length-append}
-use Rattle.std.specs.Prelude.{All, Result, Ok, Err, ⊤, ◌||◌}
+use Rattle.std.specs.Prelude.{All, Result, Ok, Err, ⊤}
 use Rattle.std.proofs.lemmas.List.Elements.{All-append, All-weaker}
 use Rattle.px_base.specs.CallSign.{CallSign}
 use Rattle.disk_model.specs.declared.disk.Disk.{Ghosts}
@@ -10,7 +10,7 @@ use Rattle.ax25_link.specs.Window.{Window}
 use Rattle.ftl0_packets.specs.Layout.{Item}
 use Rattle.selection_lists.specs.Lists.{CallerList}
 use Rattle.file_journal.specs.Calls.{Leaves}
-use Rattle.file_entries.specs.Command.{Command, after_all}
+use Rattle.file_entries.specs.Command.{after_all}
 use Rattle.file_entries.specs.Store.{Store}
 use Rattle.file_store.specs.OnDisk.{MakesFirst}
 use Rattle.file_store.specs.State.{StoreState, store_in}
@@ -23,8 +23,8 @@ use Rattle.ftl0_session.specs.SessionState.{SessionState, caller_of, state_in}
 use Rattle.ftl0_session.specs.Table.{State}
 use Rattle.ftl0_connection.specs.declared.fate.Fate.{Fate}
 use Rattle.ftl0_connection.specs.declared.fate.Fate.TheVariants.{Stays, Ends}
-use Rattle.ftl0_connection.specs.ConnectionState.{ConnectionState, Hears, HearsBy, IsAfter, with_nothing_left, with_reads}
-use Rattle.ftl0_connection.specs.Feeding.{HearsParts, IsAmong, IsGoing, IsSettled, TakesPackets}
+use Rattle.ftl0_connection.specs.ConnectionState.{ConnectionState, HearsBy, IsAfter, with_nothing_left, with_reads}
+use Rattle.ftl0_connection.specs.Feeding.{HearsParts, IsAmong, IsGoing, TakesPackets}
 use Rattle.ftl0_connection.specs.Hearing.{Happened, progressed}
 use Rattle.ftl0_connection.specs.Taking.{Halt, Progress, fails, goes_on, taking}
 use Rattle.ftl0_connection.proofs.DoingLemmas.{leaves-front}

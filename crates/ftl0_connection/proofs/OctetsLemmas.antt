@@ -10,7 +10,6 @@ use Rattle.ax25_link.specs.Window.{Window}
 use Rattle.ftl0_packets.specs.Layout.{Item}
 use Rattle.ftl0_packets.specs.Reading.{packets_of, rest_of}
 use Rattle.selection_lists.specs.Lists.{CallerList}
-use Rattle.file_entries.specs.Store.{Store}
 use Rattle.file_store.specs.State.{StoreState, store_in}
 use Rattle.ftl0_uploads.specs.Failures.{Failure}
 use Rattle.ftl0_session.specs.declared.stop.ServerStop.{ServerStop}

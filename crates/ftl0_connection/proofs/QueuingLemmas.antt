@@ -5,12 +5,11 @@ use Rattle.std.specs.List.{concat}
 use Rattle.std.proofs.lemmas.Bool.Decides.{leb_tells}
 use Rattle.std.proofs.lemmas.List.{length-take}
 use Rattle.ax25_link.specs.Calls.{after_push}
-use Rattle.ax25_link.specs.Ends.{LinkEnd, free_octets, held}
+use Rattle.ax25_link.specs.Ends.{LinkEnd, free_octets}
 use Rattle.ax25_link.specs.Kept.{Kept, Steps}
 use Rattle.ax25_link.specs.Queue.{room_of}
 use Rattle.ftl0_packets.specs.Layout.{PacketValue, packet_text}
-use Rattle.selection_lists.specs.Lists.{CallerList}
-use Rattle.file_entries.specs.Command.{Command, after_all}
+use Rattle.file_entries.specs.Command.{after_all}
 use Rattle.file_entries.specs.Store.{Store}
 use Rattle.ftl0_uploads.specs.Failures.{Failure, read_fails}
 use Rattle.ftl0_session.specs.Table.{DuePacket, due_at, next_due}
@@ -18,7 +17,7 @@ use Rattle.ftl0_session.proofs.WorkingLemmas.{none-whatever}
 use Rattle.ftl0_connection.specs.ConnectionState.{StandsForSome}
 use Rattle.ftl0_connection.specs.Feeding.{AreFree}
 use Rattle.ftl0_connection.specs.Laws.{IsQueued, QueuedLaw}
-use Rattle.ftl0_connection.specs.Taking.{Halt, Progress, after_due, enough_free, on_due, queued, queuing}
+use Rattle.ftl0_connection.specs.Taking.{Progress, after_due, enough_free, on_due, queued, queuing}
 
 -- ---- room
 

@@ -104,11 +104,11 @@ fn hear<D: Disk>(
     disk: &mut D,
     store: &mut FileStore,
     lists: &mut Lists,
-    stations: (Call, Call),
+    stations: &(Call, Call),
     says: &Says<'_>,
 ) -> Told
-    requires me { connection.old.link.me ≡ stations.0 }
-    requires peer { connection.old.link.peer ≡ stations.1 }
+    requires me { connection.old.link.me ≡ stations.now.0 }
+    requires peer { connection.old.link.peer ≡ stations.now.1 }
     requires quiet { is_pending connection.old.link ≡ false }
     requires up { connection.old.link.state ≡ LinkState.Up }
     requires may { MayTake D.Disk store.old disk.old lists.old connection.old.session }
@@ -117,7 +117,7 @@ fn hear<D: Disk>(
     ensures up { result.0 ≡ Fate.Stays → connection.new.link.state ≡ LinkState.Up }
     ensures stations { SameStations connection.old.link connection.new.link }
 {
-    let (me, caller) = stations;
+    let (me, caller) = *stations;
     let frame = Frame {
         dest: me,
         src: caller,
@@ -153,11 +153,11 @@ fn play_row<D: Disk>(
     disk: &mut D,
     store: &mut FileStore,
     lists: &mut Lists,
-    stations: (Call, Call),
+    stations: &(Call, Call),
     row: &Row<'_>,
 )
-    requires me { connection.old.link.me ≡ stations.0 }
-    requires peer { connection.old.link.peer ≡ stations.1 }
+    requires me { connection.old.link.me ≡ stations.now.0 }
+    requires peer { connection.old.link.peer ≡ stations.now.1 }
     requires quiet { is_pending connection.old.link ≡ false }
     requires up { connection.old.link.state ≡ LinkState.Up }
     requires may { MayTake D.Disk store.old disk.old lists.old connection.old.session }
@@ -186,15 +186,18 @@ fn play<D: Disk>(
     disk: &mut D,
     store: &mut FileStore,
     lists: &mut Lists,
-    stations: (Call, Call),
+    stations: &(Call, Call),
     rows: &[Row<'_>],
 )
-    requires me { connection.old.link.me ≡ stations.0 }
-    requires peer { connection.old.link.peer ≡ stations.1 }
+    requires me { connection.old.link.me ≡ stations.now.0 }
+    requires peer { connection.old.link.peer ≡ stations.now.1 }
     requires quiet { is_pending connection.old.link ≡ false }
     requires up { connection.old.link.state ≡ LinkState.Up }
     requires may { MayTake D.Disk store.old disk.old lists.old connection.old.session }
+    ensures quiet { is_pending connection.new.link ≡ false }
+    ensures up { connection.new.link.state ≡ LinkState.Up }
     ensures may { MayTake D.Disk store.new disk.new lists.new connection.new.session }
+    ensures stations { SameStations connection.old.link connection.new.link }
 {
     for row in rows {
         play_row(rt, connection, disk, store, lists, stations, row);
@@ -254,7 +257,7 @@ fn serve(rt: &impl Abort, alloc: Global, rows: &[Row<'_>]) -> Result<(), Fail> {
         &mut disk,
         &mut store,
         &mut lists,
-        stations,
+        &stations,
         rows,
     );
     let _link = connection.end(&mut store);
@@ -318,7 +321,7 @@ fn packets_and_a_further_call(rt: HostRuntime) -> Result<(), Fail> {
         &mut disk,
         &mut store,
         &mut lists,
-        stations,
+        &stations,
         &rows,
     );
     assert!(rt; store.is_out(2));
@@ -330,7 +333,7 @@ fn packets_and_a_further_call(rt: HostRuntime) -> Result<(), Fail> {
         &mut disk,
         &mut store,
         &mut lists,
-        stations,
+        &stations,
         &again,
     );
     assert!(rt; !store.is_out(2));
@@ -357,7 +360,7 @@ fn flooded(
         &mut disk,
         &mut store,
         &mut lists,
-        stations,
+        &stations,
         &says,
     );
     assert!(rt; told.1.is_ok());

@@ -1,11 +1,10 @@
 -- Behind the packets of a frame what is due is queued, where the connection goes on.
-use Rattle.std.proofs.Common.{◌≡◌, true, false, Ok, sym, subst}
+use Rattle.std.proofs.Common.{◌≡◌, true, false, sym, subst}
 use Rattle.std.specs.Prelude.{Result, ⊤}
 use Rattle.ax25_frames.specs.Values.{value_of}
 use Rattle.file_store.specs.State.{store_in}
 use Rattle.ftl0_session.specs.declared.stop.ServerStop.{ServerStop}
 use Rattle.ftl0_connection.specs.declared.fate.Fate.{Fate}
-use Rattle.ftl0_connection.specs.declared.fate.Fate.TheVariants.{Stays}
 use Rattle.ftl0_connection.specs.ConnectionState.{Hears}
 use Rattle.ftl0_connection.specs.Feeding.{HearsParts, LeavesFit}
 use Rattle.ftl0_connection.specs.Hearing.{hearing, parts_of_frame, rest_of_frame}

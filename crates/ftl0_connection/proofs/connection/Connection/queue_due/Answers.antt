@@ -1,5 +1,5 @@
 -- What is due is queued, packet by packet, up to where nothing is, or fewer octets are free.
-use Rattle.std.proofs.Common.{◌≡◌, refl, ap, ◌∙◌, subst, sym}
+use Rattle.std.proofs.Common.{ap, ◌∙◌, subst, sym}
 use Rattle.file_store.specs.State.{StandsOn, StoreState}
 use Rattle.ftl0_connection.specs.Feeding.{QueuesDue, QueuesPacket}
 use Rattle.ftl0_connection.proofs.DueLemmas.{keeps-then, queues-none, queues-then}

@@ -6,7 +6,7 @@ use Rattle.ftl0_packets.specs.Layout.{packet_text}
 use Rattle.file_store.specs.State.{StandsOn, StoreState, store_in}
 use Rattle.file_store.specs.Working.{PutsAmongReads}
 use Rattle.ftl0_downloads.specs.Needs.{IsDueIn}
-use Rattle.ftl0_session.specs.SessionState.{SessionState, state_in}
+use Rattle.ftl0_session.specs.SessionState.{state_in}
 use Rattle.ftl0_session.proofs.WorkingLemmas.{due-among, due-none}
 use Rattle.ftl0_connection.specs.ConnectionState.{ConnectionState}
 use Rattle.ftl0_connection.specs.Feeding.{AreFree, IsNothingDue, KeepsFit, QueuesPacket}
