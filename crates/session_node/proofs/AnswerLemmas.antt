@@ -299,8 +299,7 @@ module _ {A D : Type 0} (g : Ghosts D) (air : AirGhosts A) (lasts : (disk : D) �
         λ w. StopsOn g caller store store_m lists disk disk_n state (event_of moment item) w (air.write_faults before) (air.write_faults now) (text ++ due.text) in
         let missed : Bool = tell_failed_read ((row takes.fails).replies ++ due.sent) in
         subst P (sym due.ends.0)
-        (stop-at stop.AirWrite takes.fails due.parts store_m disk_n (air.write_faults before) (air.write_faults now) (text ++ due.text) (row takes.fails).commands [] missed due.none_yet
-        (
+        (stop-at stop.AirWrite takes.fails due.parts store_m disk_n (air.write_faults before) (air.write_faults now) (text ++ due.text) (row takes.fails).commands [] missed due.none_yet (
           due.sent,
           met_sends,
           (λ none. due.ends.1 (end-none (texts (row takes.fails).replies) (texts due.sent) (sym (texts-append (row takes.fails).replies due.sent) ∙ none))),
