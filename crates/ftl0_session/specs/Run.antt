@@ -55,6 +55,10 @@ CommandsLaw =
     (said : List PacketValue) (commands : List Command) (now : Store) (lists_now : List CallerList) (next : State)
     → RunsOver caller store lists state events said commands now lists_now next → now ≡ after_all store commands
 
+-- what was heard of an event: its packet and its moment, whatever failed
+abbrev pub heard_of : Event → UploadEvent
+heard_of event = record { moment = event.moment; packet = event.packet }
+
 -- an event of uploading, at which nothing fails
 abbrev pub as_event : UploadEvent → Event
 as_event event = record { moment = event.moment; packet = event.packet; failures = [] }

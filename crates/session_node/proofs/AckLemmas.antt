@@ -6,7 +6,7 @@ use Rattle.file_journal.proofs.ToldLemmas.{told_weaker}
 use Rattle.file_entries.specs.Command.{AreAllowed, Command}
 use Rattle.file_entries.specs.Store.{Store}
 use Rattle.file_store.specs.OnDisk.{MakesBetween, StayDone}
-use Rattle.ftl0_uploads.specs.Laws.{AcknowledgedStandsLaw}
+use Rattle.ftl0_session.specs.Laws.{AcknowledgedStandsLaw}
 use Rattle.session_node.specs.declared.stop.NodeStop.{NodeStop}
 use Rattle.session_node.specs.declared.stop.NodeStop.TheVariants as stop
 use Rattle.session_node.specs.declared.terms.Served.{Served}
@@ -22,7 +22,6 @@ by_disk (Err stop.AirWrite) = inr (λ is. cc is)
 by_disk (Err (stop.NotAStore found)) = inr (λ is. cc is)
 by_disk (Err (stop.Damaged at)) = inr (λ is. cc is)
 by_disk (Err stop.Spent) = inr (λ is. cc is)
-by_disk (Err (stop.NotBuilt kind)) = inr (λ is. cc is)
 by_disk (Err stop.OutOfMemory) = inr (λ is. cc is)
 
 -- the commands done stay, whether the disk failed in one behind them or not
@@ -36,8 +35,8 @@ stay_done g failed start done cut disk disk_n stands (inr fine) =
 
 pub acknowledged_since : {D : Type 0} (g : Ghosts D) → AcknowledgedStandsLaw → AcknowledgedSinceLaw g
 acknowledged_since g law = record {
-  since = λ result start done cut disk disk_n stands caller store before moment number entry held rest is whole.
-      let ack = law caller start store before moment number entry held rest is whole in
+  since = λ result start done cut disk disk_n stands caller store lists fails before moment number entry held rest is whole.
+      let ack = law caller start store lists fails before moment number entry held rest is whole in
       record {
         row = ack.row;
         is_row = ack.is_row;

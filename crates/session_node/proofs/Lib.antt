@@ -1,5 +1,5 @@
 pub mod AckLemmas
-pub mod DiskLemmas
+pub mod AnswerLemmas
 pub mod EventLemmas
 pub mod Invariants
 pub mod Listening
@@ -7,6 +7,8 @@ pub mod Moments
 pub mod NodeLemmas
 pub mod OctetLemmas
 pub mod RunLemmas
+pub mod SayingLemmas
+pub mod SendingLemmas
 pub mod Serving
 pub mod Sessions
 pub mod Standing

@@ -5,24 +5,25 @@ use Rattle.px_base.specs.CallSign.{CallSign}
 use Rattle.disk_model.specs.declared.disk.Disk.{Ghosts}
 use Rattle.ftl0_packets.specs.Layout.{Item}
 use Rattle.ftl0_packets.specs.Reading.{packets_of, rest_of}
+use Rattle.selection_lists.specs.Lists.{CallerList}
 use Rattle.file_store.specs.State.{StandsOn, StoreState, store_in}
+use Rattle.file_store.proofs.DoesLemmas.{Does-none}
+use Rattle.file_store.proofs.WorkingLemmas.{does-among}
 use Rattle.ftl0_uploads.specs.Events.{Event, at_moment}
-use Rattle.ftl0_uploads.specs.Session.{State}
+use Rattle.ftl0_session.specs.Table.{State}
 use Rattle.session_node.specs.declared.stop.NodeStop.{NodeStop}
-use Rattle.session_node.specs.Node.{GoesOn, RowSaid, StopSaid, Stops, events_at}
+use Rattle.session_node.specs.Node.{GoesOn, Stops, event_of, events_at}
 use Rattle.session_node.specs.Running.{RunsOn, StopsOn}
 use Rattle.session_node.specs.ServerState.{ServerState}
-use Rattle.file_store.proofs.DoesLemmas.{Does-none}
-use Rattle.session_node.proofs.DiskLemmas.{does_store}
-use Rattle.session_node.proofs.RunLemmas.{at_moment-append, runs_on-trans, stops_on-after}
+use Rattle.session_node.proofs.RunLemmas.{at_moment-append, runs_on-trans, stops_on-after, stops_on-more}
 
 module _ {D : Type 0} (g : Ghosts D) (moment : ℕ) where
   module _ (on : (first second third : D) → g.lasts first second → g.lasts second third → g.lasts first third) where
     -- a server that goes on from a to b and from b to c goes on from a to c
     pub goes_on-trans : (a b c : ServerState) (d e f : D) (s t : List ℕ) → GoesOn g moment a b d e s → GoesOn g moment b c e f t → GoesOn g moment a c d f (s ++ t)
     goes_on-trans a b c d e f s t h k =
-        let at_caller : CallSign → Type 0 = λ call. RunsOn g call b.store c.store e f b.state c.state (at_moment moment k.done) t in
-        let at_events : List Event → Type 0 = λ events. RunsOn g a.caller a.store c.store d f a.state c.state events (s ++ t) in
+        let at_caller : CallSign → Type 0 = λ call. RunsOn g call b.store c.store b.lists c.lists e f b.state c.state (at_moment moment k.done) t in
+        let at_events : List Event → Type 0 = λ events. RunsOn g a.caller a.store c.store a.lists c.lists d f a.state c.state events (s ++ t) in
         record {
           caller = k.caller ∙ h.caller;
           done = h.done ++ k.done;
@@ -30,81 +31,55 @@ module _ {D : Type 0} (g : Ghosts D) (moment : ℕ) where
           rest = h.rest ∙ k.rest;
           runs =
               subst at_events (sym (at_moment-append moment h.done k.done))
-              (runs_on-trans g on a.caller a.store b.store c.store d e f a.state b.state c.state (at_moment moment h.done) (at_moment moment k.done) s t h.runs (subst at_caller h.caller k.runs));
+              (runs_on-trans g on a.caller a.store b.store a.lists b.lists d e a.state b.state (at_moment moment h.done) s h.runs c.store c.lists f c.state (at_moment moment k.done) t
+              (subst at_caller h.caller k.runs));
         }
 
     -- a server that goes on and then stops, stops so from the beginning on
     pub stops-trans : (a b : ServerState) (c : StoreState) (d e f : D) (writes writes_n : ℕ) (s t : List ℕ) (why : NodeStop) → GoesOn g moment a b d e s
         → Stops g moment b c e f writes writes_n t why → Stops g moment a c d f writes writes_n (s ++ t) why
     stops-trans a b c d e f writes writes_n s t why h k =
-        let at_caller : CallSign → Type 0 = λ call. StopsOn g call b.store c e f b.state (events_at moment b) why writes writes_n t in
-        let at_events : List Event → Type 0 = λ events. StopsOn g a.caller a.store c d f a.state events why writes writes_n (s ++ t) in
+        let at_caller : CallSign → Type 0 = λ call. StopsOn g call b.store c b.lists e f b.state (events_at moment b) why writes writes_n t in
+        let at_events : List Event → Type 0 = λ events. StopsOn g a.caller a.store c a.lists d f a.state events why writes writes_n (s ++ t) in
         subst at_events (sym (ap (at_moment moment) h.packets ∙ at_moment-append moment h.done (packets_of b.octets)))
-        (stops_on-after g on a.caller a.store b.store c d e f a.state b.state (at_moment moment h.done) (events_at moment b) why writes writes_n s t h.runs (subst at_caller h.caller k))
+        (stops_on-after g on a.caller a.store b.store a.lists b.lists d e a.state b.state (at_moment moment h.done) s h.runs c f (events_at moment b) why writes writes_n t (subst at_caller h.caller k))
 
   -- nothing is taken
-  pub runs_none : (caller : CallSign) (store : StoreState) (disk : D) (state : State) → store.journal.failed ≡ false → StandsOn g store disk → g.lasts disk disk
-      → RunsOn g caller store store disk disk state state [] []
-  runs_none caller store disk state healthy stands lasts = record { commands = []; runs = (refl, refl, refl, refl); does = Does-none g ⊥ store disk (λ never. never) stands healthy lasts }
+  pub runs_none : (caller : CallSign) (store : StoreState) (lists : List CallerList) (disk : D) (state : State) → store.journal.failed ≡ false → StandsOn g store disk → g.lasts disk disk
+      → RunsOn g caller store store lists lists disk disk state state [] []
+  runs_none caller store lists disk state healthy stands lasts = record {
+    met = [];
+    heard = refl;
+    said = [];
+    text_is = refl;
+    commands = [];
+    runs = (refl, refl, refl, refl, refl);
+    does = does-among g ⊥ store store disk disk [] (Does-none g ⊥ store disk (λ never. never) stands healthy lasts);
+  }
 
-  module _ (caller : CallSign) (store : StoreState) (disk : D) (state : State) (octets left : List ℕ) where
+  module _ (caller : CallSign) (store : StoreState) (lists : List CallerList) (disk : D) (state : State) (octets left : List ℕ) where
+    abbrev server : ServerState
+    server = record { caller = caller; store = store; lists = lists; state = state; octets = octets }
+
     -- The packets and what is left are those of the octets that are left: nothing is said.
     pub goes_on-waits : store.journal.failed ≡ false → StandsOn g store disk → g.lasts disk disk → packets_of octets ≡ packets_of left → rest_of octets ≡ rest_of left
-        → GoesOn g moment (record { caller = caller; store = store; state = state; octets = octets }) (record { caller = caller; store = store; state = state; octets = left }) disk disk []
+        → GoesOn g moment server (record server { octets = left }) disk disk []
     goes_on-waits healthy stands lasts packets rest =
-        record { caller = refl; done = []; packets = packets; rest = rest; runs = runs_none caller store disk state healthy stands lasts }
+        record { caller = refl; done = []; packets = packets; rest = rest; runs = runs_none caller store lists disk state healthy stands lasts }
 
     -- the answer to a packet, as the server goes on or stops
-    module _ (item : Item) (found : packets_of octets ≡ item ∷ packets_of left) (now : StoreState) (disk_n : D) (next : State) where
+    module _ (item : Item) (found : packets_of octets ≡ item ∷ packets_of left) (now : StoreState) (lists_n : List CallerList) (disk_n : D) (next : State) where
       pub answer_runs : (call : CallSign) → call ≡ caller → (writes writes_n : ℕ) (text : List ℕ) (result : Result ⊤ NodeStop) → rest_of octets ≡ rest_of left
-          → MatchResult result (λ _. RowSaid g caller moment store now disk disk_n state next item text) (StopSaid g caller moment store now disk disk_n state item writes writes_n text)
+          → MatchResult result (λ _. RunsOn g caller store now lists lists_n disk disk_n state next (event_of moment item) text)
+          (λ why. StopsOn g caller store now lists disk disk_n state (event_of moment item) why writes writes_n text)
           → MatchResult result
-          (λ _. GoesOn g moment (record { caller = caller; store = store; state = state; octets = octets }) (record { caller = call; store = now; state = next; octets = left }) disk disk_n text)
-          (Stops g moment (record { caller = caller; store = store; state = state; octets = octets }) now disk disk_n writes writes_n text)
-      answer_runs call same writes writes_n text (Ok done) rest said =
-          record {
-            caller = same;
-            done = item ∷ [];
-            packets = found;
-            rest = rest;
-            runs =
-                record {
-                  commands = said.row.commands;
-                  runs = (
-                    said.row,
-                    [],
-                    [],
-                    said.is_row,
-                    said.text_is ∙ sym (append-nil _),
-                    sym (append-nil said.row.commands),
-                    (refl, refl, does_store g store now disk disk_n said.row.commands said.does, said.state_is),
-                  );
-                  does = said.does;
-                };
-          }
+          (λ _. GoesOn g moment server (record { caller = call; store = now; lists = lists_n; state = next; octets = left }) disk disk_n text)
+          (Stops g moment server now disk disk_n writes writes_n text)
+      answer_runs call same writes writes_n text (Ok done) rest said = record { caller = same; done = item ∷ []; packets = found; rest = rest; runs = said }
       answer_runs call same writes writes_n text (Err why) rest said =
-          record {
-            done = said.done;
-            cut = said.cut;
-            stops =
-                record {
-                  before = [];
-                  next = record { moment = moment; packet = item };
-                  later = at_moment moment (packets_of left);
-                  events_are = ap (at_moment moment) found;
-                  said = [];
-                  commands = [];
-                  store_then = store_in store;
-                  state_then = state;
-                  runs = (refl, refl, refl, refl);
-                  last = text;
-                  more = said.done;
-                  stops = said.stops;
-                  text_is = refl;
-                  done_is = refl;
-                };
-            cuts = said.cuts;
-          }
+          let at_events : List Event → Type 0 = λ events. StopsOn g caller store now lists disk disk_n state events why writes writes_n text in
+          subst at_events (sym (ap (at_moment moment) found))
+          (stops_on-more g caller store now lists disk disk_n state (event_of moment item) (at_moment moment (packets_of left)) why writes writes_n text said)
 
 -- what holds of octets whatever comes later holds where nothing does
 pub with_none : {X : Type 0} (f g : List ℕ → X) (u p v q : List ℕ) → ((later : List ℕ) → f (u ++ (p ++ later)) ≡ g (v ++ (q ++ later))) → f (u ++ p) ≡ g (v ++ q)

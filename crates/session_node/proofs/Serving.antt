@@ -1,176 +1,29 @@
 -- How a server takes packets and octets.
-use Rattle.std.proofs.Common.{◌≡◌, ℕ, suc, true, false, inl, inr, List, [], ◌∷◌, ◌++◌, length, take, drop, refl, ap, sym, subst, ◌∙◌, append-nil, arith}
-use Rattle.std.specs.Prelude.{Option, Some, Result, Ok, Err, ⊤, IsErrAnd, IsTrue, nat_eq}
+use Rattle.std.proofs.Common.{◌≡◌, ℕ, suc, true, List, [], ◌∷◌, ◌++◌, length, take, drop, refl, ap, sym, subst, ◌∙◌, append-nil, arith}
+use Rattle.std.specs.Prelude.{Result, Ok, Err, ⊤, IsErrAnd, nat_eq}
 use Rattle.std.proofs.lemmas.Bool.Decides.{nat_tests}
 use Rattle.std.proofs.lemmas.Result.{err_from_is_err_and}
-use Rattle.px_base.specs.Outside.{Gains}
 use Rattle.px_base.specs.Octets.{IsOctets}
 use Rattle.px_base.specs.Polling.{Hears, octets_of_turn}
 use Rattle.px_base.specs.declared.air.Air.{Ghosts as AirGhosts}
-use Rattle.px_base.specs.declared.air.AirDown.{AirDown}
 use Rattle.px_base.specs.declared.air.Polled.{Polled}
 use Rattle.px_base.specs.declared.air.Turn.{Turn}
-use Rattle.px_base.proofs.Told.{Gains-front, Gains-none, Gains-trans}
+use Rattle.px_base.proofs.Told.{Gains-none, Gains-trans}
 use Rattle.disk_model.specs.declared.disk.Disk.{Ghosts}
-use Rattle.file_journal.proofs.ToldLemmas.{at_told}
 use Rattle.ftl0_packets.specs.Laws.{IsReadAsStream}
 use Rattle.ftl0_packets.specs.Layout.{Item}
-use Rattle.ftl0_packets.specs.Reading.{packets_of, read_item, rest_of, under_way}
+use Rattle.ftl0_packets.specs.Reading.{packets_of, rest_of, under_way}
 use Rattle.ftl0_packets.specs.Stream.{Stream}
-use Rattle.ftl0_packets.specs.Values.{item_of}
-use Rattle.ftl0_packets.specs.declared.packet.Malformed.{Malformed}
-use Rattle.ftl0_packets.specs.declared.packet.Packet.{Packet}
 use Rattle.ftl0_packets.proofs.OctetLemmas.{IsOctets-append, IsOctets-take}
-use Rattle.file_store.specs.OnDisk.{Does}
-use Rattle.file_store.specs.State.{StandsOn, StoreState, store_in}
-use Rattle.ftl0_uploads.specs.declared.stop.ServerStop.{ServerStop}
-use Rattle.ftl0_uploads.specs.declared.stop.ServerStop.TheVariants as session_stop
-use Rattle.ftl0_packets.specs.Items.{kind_of_item}
-use Rattle.ftl0_uploads.specs.Session.{Row, session_row, takes_memory}
-use Rattle.ftl0_uploads.specs.SessionState.{SessionState, state_of}
-use Rattle.ftl0_uploads.specs.Taking.{PutsRow, TakesPacket, row_for}
 use Rattle.session_node.specs.declared.server.SessionServer.TheInside.{Inside}
 use Rattle.session_node.specs.declared.stop.NodeStop.{NodeStop}
-use Rattle.session_node.specs.declared.stop.NodeStop.TheVariants as stop
-use Rattle.session_node.specs.Node.{FeedsPiece, GoesOn, Replied, SaysText, Serves, ServesOctets, TakesTurn, TurnEnds}
+use Rattle.session_node.specs.Node.{FeedsPiece, GoesOn, Serves, ServesOctets, TakesTurn, TurnEnds}
 use Rattle.session_node.specs.Server.{IsServer, IsWaiting, server_state}
 use Rattle.session_node.specs.ServerState.{IsUp, ServerState, with_octets}
-use Rattle.session_node.specs.Stops.{HasAirCause, first_stop}
-use Rattle.file_store.proofs.DoesLemmas.{Does-none, Does-same}
-use Rattle.session_node.proofs.DiskLemmas.{cuts_none}
+use Rattle.session_node.proofs.AnswerLemmas.{gains-same}
 use Rattle.session_node.proofs.Invariants.{IsHearing}
 use Rattle.session_node.proofs.NodeLemmas.{goes_on-trans, runs_none, stops-trans}
 use Rattle.session_node.proofs.OctetLemmas.{octets_under_way}
-
--- what nothing was said of stays
-pub gains-same : (before now : Option (List ℕ)) → now ≡ before → Gains before now []
-gains-same before now same = let P : Option (List ℕ) → Type 0 = λ x. Gains before x [] in subst P (sym same) (Gains-none before)
-
-module _ {A D : Type 0} (g : Ghosts D) (air : AirGhosts A) (lasts : (disk : D) → g.lasts disk disk) (before now : A) (moment : ℕ) (old : SessionState)
-    (store : StoreState) (disk : D) (healthy : store.journal.failed ≡ false) (stands : StandsOn g store disk) (packet : Result Packet Malformed) (octets : List ℕ)
-    (same : item_of packet ≡ read_item octets) (new : SessionState) (store_n : StoreState) (disk_n : D) (replies text : List ℕ) (is : text ≡ replies) where
-  -- the packet's row is that of the octets
-  row_at : (row : Option Row) → session_row old.caller moment (store_in store) (state_of store old.phase) (item_of packet) ≡ row
-      → session_row old.caller moment (store_in store) (state_of store old.phase) (read_item octets) ≡ row
-  row_at row built = ap (session_row old.caller moment (store_in store) (state_of store old.phase)) (sym same) ∙ built
-
-  abbrev Taken : Result ⊤ ServerStop → Type 0
-  Taken taken = TakesPacket moment old store packet new store_n replies taken
-
-  abbrev Put : Result ⊤ ServerStop → Type 0
-  Put taken = PutsRow g store store_n disk disk_n (row_for moment old store packet) taken
-
-  abbrev Said : Result ⊤ AirDown → Type 0
-  Said said = SaysText air.said air.write_faults before now text said
-
-  abbrev Answered : Result ⊤ NodeStop → Type 0
-  Answered result = Replied g air.said air.write_faults before now disk disk_n moment old store octets new store_n result
-
-  -- a packet that has a row was taken, and its replies were said, or a front of them
-  row_said : (said : Result ⊤ AirDown) → Taken (Ok tt) → Put (Ok tt) → Said said → Answered (first_stop (Ok tt) said)
-  row_said (Ok done) takes puts says = (
-    text,
-    says.ok,
-    record {
-      row = takes.0;
-      is_row = row_at (Some takes.0) takes.1;
-      state_is = takes.2.1;
-      text_is = is ∙ takes.2.2;
-      does = at_told (λ (row : Row). Does g ⊥ store store_n disk disk_n row.commands) takes.0 takes.1 puts;
-    },
-  )
-  row_said (Err down) takes puts says =
-      let front = Gains-front (air.said before) (air.said now) text says.err in
-      let does = at_told (λ (row : Row). Does g ⊥ store store_n disk disk_n row.commands) takes.0 takes.1 puts in (
-        front.0,
-        front.1,
-        record {
-          done = takes.0.commands;
-          cut = [];
-          stops = (takes.0, row_at (Some takes.0) takes.1, (λ none. says.some (is ∙ takes.2.2 ∙ none)), (front.2.0, sym (is ∙ takes.2.2) ∙ front.2.1), refl, refl);
-          cuts = cuts_none g _ (λ (e : stop.AirWrite ≡ stop.Disk). cc e) store store_n disk disk_n takes.0.commands (lasts disk_n) does;
-        },
-      )
-
-  -- nothing was replied
-  nothing_said : (said : Result ⊤ AirDown) → replies ≡ [] → Said said → Gains (air.said before) (air.said now) []
-  nothing_said said none says = gains-same (air.said before) (air.said now) (ap air.said (says.none (is ∙ none)))
-
-  -- the disk failed, and the reply was said, or a front of it
-  fault_said : (said : Result ⊤ AirDown) → Taken (Err session_stop.Disk) → Put (Err session_stop.Disk) → Said said → Answered (Err stop.Disk)
-  fault_said (Ok done) takes puts says = (
-    text,
-    says.ok,
-    record {
-      done = [];
-      cut = takes.0.commands;
-      stops = (takes.0, row_at (Some takes.0) takes.1, inl (is ∙ takes.3, says.cause.same), refl, refl);
-      cuts =
-          record {
-            store_then = store;
-            disk_then = disk;
-            first = Does-none g ⊥ store disk (λ never. never) stands healthy (lasts disk);
-            second = Does-same g ⊤ (stop.Disk ≡ stop.Disk) store store_n disk disk_n takes.0.commands (λ _. refl) (λ _. tt) (at_told (λ (row : Row). Does g ⊤ store store_n disk disk_n row.commands) takes.0 takes.1 puts);
-          };
-    },
-  )
-  fault_said (Err down) takes puts says =
-      let front = Gains-front (air.said before) (air.said now) text says.err in (
-        front.0,
-        front.1,
-        record {
-          done = [];
-          cut = takes.0.commands;
-          stops = (takes.0, row_at (Some takes.0) takes.1, inr ((front.2.0, sym (is ∙ takes.3) ∙ front.2.1), says.cause.rose), refl, refl);
-          cuts =
-              record {
-                store_then = store;
-                disk_then = disk;
-                first = Does-none g ⊥ store disk (λ never. never) stands healthy (lasts disk);
-                second = Does-same g ⊤ (stop.Disk ≡ stop.Disk) store store_n disk disk_n takes.0.commands (λ _. refl) (λ _. tt) (at_told (λ (row : Row). Does g ⊤ store store_n disk disk_n row.commands) takes.0 takes.1 puts);
-              };
-        },
-      )
-
-  -- nothing was taken
-  kept_back : store_n ≡ store → disk_n ≡ disk → Does g ⊥ store store_n disk disk_n []
-  kept_back same_store same_disk =
-      let at_store : StoreState → Type 0 = λ s. Does g ⊥ store s disk disk_n [] in
-      let at_disk : D → Type 0 = λ d. Does g ⊥ store store disk d [] in
-      subst at_store (sym same_store) (subst at_disk (sym same_disk) (Does-none g ⊥ store disk (λ never. never) stands healthy (lasts disk)))
-
-  pub answered : (taken : Result ⊤ ServerStop) (said : Result ⊤ AirDown) → Taken taken → Put taken → Said said → Answered (first_stop taken said)
-  answered (Ok done) said takes puts says = row_said said takes puts says
-  answered (Err session_stop.Disk) said takes puts says = fault_said said takes puts says
-  answered (Err (session_stop.NotBuilt kind)) said takes puts says = (
-    [],
-    nothing_said said takes.2.2 says,
-    record {
-      done = [];
-      cut = [];
-      stops = (row_at _ takes.0, takes.1 ∙ ap kind_of_item same, refl, refl, refl);
-      cuts = cuts_none g _ (λ (e : stop.NotBuilt kind ≡ stop.Disk). cc e) store store_n disk disk_n [] (lasts disk_n) (kept_back takes.2.0 puts);
-    },
-  )
-  answered (Err session_stop.OutOfMemory) said takes puts says = (
-    [],
-    nothing_said said takes.3.2 says,
-    record {
-      done = [];
-      cut = [];
-      stops = (takes.0, row_at (Some takes.0) takes.1, subst (λ (item : Item). IsTrue (takes_memory item takes.0.state)) same takes.2, refl, refl, refl);
-      cuts = cuts_none g _ (λ (e : stop.OutOfMemory ≡ stop.Disk). cc e) store store_n disk disk_n [] (lasts disk_n) (kept_back takes.3.0 puts);
-    },
-  )
-
-  -- what the air counts by that
-  pub answer_counts : (taken : Result ⊤ ServerStop) (said : Result ⊤ AirDown) → Taken taken → Said said → air.read_faults now ≡ air.read_faults before
-      → HasAirCause air.read_faults air.write_faults before now (first_stop taken said)
-  answer_counts (Ok done) (Ok whole) takes says reads = (reads, says.cause.same)
-  answer_counts (Ok done) (Err down) takes says reads = (reads, says.cause.rose)
-  answer_counts (Err session_stop.Disk) said takes says reads = (reads, says.cause.no_less)
-  answer_counts (Err (session_stop.NotBuilt kind)) said takes says reads = (reads, ap air.write_faults (says.none (is ∙ takes.2.2)))
-  answer_counts (Err session_stop.OutOfMemory) said takes says reads = (reads, ap air.write_faults (says.none (is ∙ takes.3.2)))
 
 -- no items are none
 pub is_nil : {X : Type 0} (xs : List X) → nat_eq (length xs) 0 ≡ true → xs ≡ []
@@ -215,7 +68,7 @@ module _ {A D : Type 0} (g : Ghosts D) (air : AirGhosts A) (lasts : (disk : D) �
           done = [];
           packets = refl;
           rest = refl;
-          runs = runs_none g moment server.caller server.store disk server.state up.healthy up.stands_on (lasts disk);
+          runs = runs_none g moment server.caller server.store server.lists disk server.state up.healthy up.stands_on (lasts disk);
         };
   }
 
@@ -288,7 +141,7 @@ module _ {A D : Type 0} (g : Ghosts D) (air : AirGhosts A) (lasts : (disk : D) �
         packets = [];
         rest = server.octets;
         stream = (ap (λ o. server.octets ++ o) none ∙ append-nil server.octets, stream.1);
-        ends = (refl, refl, runs_none g moment server.caller server.store disk server.state up.healthy up.stands_on (lasts disk));
+        ends = (refl, refl, runs_none g moment server.caller server.store server.lists disk server.state up.healthy up.stands_on (lasts disk));
       }
 
 -- a turn that brought no octets

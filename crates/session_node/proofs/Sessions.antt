@@ -6,7 +6,7 @@ use Rattle.px_base.specs.Moments.{MomentsOf}
 use Rattle.px_base.specs.declared.air.Air.{Ghosts as AirGhosts}
 use Rattle.px_base.specs.declared.air.Turn.{Turn}
 use Rattle.disk_model.specs.declared.disk.Disk.{Ghosts}
-use Rattle.file_journal.specs.Calls.{Becomes, Leaves, Runs, TakesStep}
+use Rattle.file_journal.specs.Calls.{Becomes, ChangesReads, Leaves, Runs, TakesStep}
 use Rattle.file_journal.specs.Journal.{after_recovery}
 use Rattle.file_journal.specs.Recovery.{IsFailedSync, IsSyncedFirst}
 use Rattle.file_journal.proofs.ToldLemmas.{told_weaker}
@@ -21,13 +21,13 @@ use Rattle.session_node.specs.declared.stop.NodeStop.{NodeStop}
 use Rattle.session_node.specs.declared.stop.NodeStop.TheVariants as stop
 use Rattle.session_node.specs.declared.terms.Served.{Served}
 use Rattle.session_node.specs.declared.terms.SessionTerms.{SessionTerms}
-use Rattle.session_node.specs.OnDisk.{EachImage, LeavesStanding}
+use Rattle.session_node.specs.OnDisk.{EachImage, LeavesStanding, NodeRuns}
 use Rattle.session_node.specs.ServerState.{IsUp, ServerState, new_server}
 use Rattle.session_node.specs.SessionRan.{SessionOn, SessionServed, TurnsBy}
 use Rattle.session_node.specs.Stops.{HasAirCause, RefusesSession, stop_of_fault}
-use Rattle.session_node.proofs.DiskLemmas.{cuts_puts}
+use Rattle.file_store.proofs.WorkingLemmas.{cuts-among-puts}
 use Rattle.session_node.proofs.Moments.{moments-trans}
-use Rattle.session_node.proofs.Standing.{runs_of_puts, runs_same, session_puts, stands_through}
+use Rattle.session_node.proofs.Standing.{node_runs, runs_refused, runs_same, session_puts, session_reads, stands_through}
 
 -- ---- a recovery that is refused
 
@@ -125,7 +125,7 @@ module _ {A C D : Type 0} (g : Ghosts D) (air : AirGhosts A) (given : C → Opti
       (λ (s : IsSyncedFirst g old mid (StandsAlike terms.limits.blocks octets)). s)
       (λ (failed : IsErrOf {T = StoreState} (Ok start) fault.Disk × IsFailedSync g old mid). absurd (not_failed failed.0)) left) since_sync in
       let standing =
-      stands_through g on (IsErrOf result stop.Disk) terms.limits.blocks old mid now start new on_disk.done on_disk.cut ok.told recovered.content since_start synced on_disk.cuts
+      stands_through g on (IsErrOf result stop.Disk) terms.limits.blocks old mid now start new on_disk.done on_disk.cut on_disk.missed ok.told recovered.content since_start synced on_disk.cuts
       (λ fine. at_end (record { healthy = (on_disk.cuts.second.done fine).1; stands_on = on_disk.cuts.second.stands_on })) in
       record {
         start = store_in start;
@@ -138,18 +138,21 @@ module _ {A C D : Type 0} (g : Ghosts D) (air : AirGhosts A) (given : C → Opti
         text = on_disk.text;
         done = on_disk.done;
         cut = on_disk.cut;
+        missed = on_disk.missed;
         turns_heard = on_disk.turns_heard;
         moments_given = moments-trans terms.moment (given clock) (given clock_m) (given clock_n) (first ∷ []) on_disk.later told_first on_disk.moments_given;
         text_said = on_disk.text_said;
         ran = on_disk.ran;
         puts =
-            session_puts g on (IsErrOf result stop.Disk) terms.limits.blocks old mid now start new on_disk.done on_disk.cut ok.told recovered.content since_start synced on_disk.cuts _ not_failed ok
-            (cuts_puts g on (IsErrOf result stop.Disk) start new mid now on_disk.done on_disk.cut on_disk.cuts);
+            session_puts g on (IsErrOf result stop.Disk) terms.limits.blocks old mid now start new on_disk.done on_disk.cut on_disk.missed ok.told recovered.content since_start synced on_disk.cuts _ not_failed ok
+            (cuts-among-puts g on (IsErrOf result stop.Disk) on_disk.missed start new mid now on_disk.done on_disk.cut on_disk.cuts);
+        reads =
+            session_reads g on (IsErrOf result stop.Disk) terms.limits.blocks old mid now start new on_disk.done on_disk.cut on_disk.missed ok.told recovered.content since_start synced on_disk.cuts _ not_failed ok;
         stands = standing.0;
         ready = standing.1;
         none = λ none.
             let both = append-none on_disk.done on_disk.cut none in
-            on_disk.cuts.second.none both.1 ∙ on_disk.cuts.first.none both.0;
+            subst (λ (d : D). ChangesReads g mid d) (sym (on_disk.cuts.second.none both.1)) (on_disk.cuts.first.none both.0);
       }
 
   -- no session is refused that was served
@@ -164,5 +167,28 @@ module _ {A C D : Type 0} (g : Ghosts D) (air : AirGhosts A) (given : C → Opti
 
 -- and its calls of the disk
 pub served_runs : {A C D : Type 0} (g : Ghosts D) (air : AirGhosts A) (given : C → Option (List ℕ)) (old now : D) (before after : A) (clock clock_n : C) (terms : SessionTerms) (result : Result Served NodeStop)
-    → SessionServed g air given old now before after clock clock_n terms result → Runs g (IsErrOf result stop.Disk) old now
-served_runs g air given old now before after clock clock_n terms result served = runs_of_puts g (IsErrOf result stop.Disk) old now served.puts
+    → SessionServed g air given old now before after clock clock_n terms result → NodeRuns g (IsErrOf result stop.Disk) old now
+served_runs g air given old now before after clock clock_n terms result served = node_runs g (IsErrOf result stop.Disk) old now served.puts
+
+-- ---- no memory for the lists
+
+module _ {D : Type 0} (g : Ghosts D) (blocks : ℕ) (old now : D) (start : StoreState) where
+  abbrev Given : Result StoreState StoreFault
+  Given = Ok start
+
+  still : ¬ IsErrOf Given fault.Disk
+  still is = cc is
+
+  pub unlisted_runs : Runs g (IsErrOf Given fault.Disk) old now → Runs g (IsErrOf (Stop stop.OutOfMemory) stop.Disk) old now
+  unlisted_runs runs = runs_same g _ _ (λ is. absurd (still is)) (λ is. absurd (cc is)) old now runs
+
+  pub unlisted_leaves : Leaves g old now (StandsAlike blocks) → LeavesAlikeSinceSync g blocks Given old now → LeavesStanding g blocks stop.OutOfMemory old now
+  unlisted_leaves since_start since_sync = record {
+    since_sync = told_weaker (g.content old) _ _ (λ before told left. ⊎_elim
+        (λ (synced : IsSyncedFirst g old now (StandsAlike blocks before)). inl synced)
+        (λ (failed : IsErrOf Given fault.Disk × IsFailedSync g old now). absurd (still failed.0))
+        left) since_sync;
+    since_start = since_start;
+    not_a_store = λ found is. absurd (cc is);
+    damaged = λ at is. absurd (cc is);
+  }

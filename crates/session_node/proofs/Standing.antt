@@ -1,27 +1,27 @@
 -- What stands on the disk through a session: from the recovery on, and at its end.
-use Rattle.std.proofs.Common.{◌≡◌, inr, ⊎_elim, ℕ, ◌+◌, ◌*◌, ◌≤◌, Bool, true, false, List, [], ◌∷◌, ◌++◌, length, refl, sym, ◌∙◌, ap, subst, arith, Option, None, Some, IfSome, length-append}
+use Rattle.std.proofs.Common.{◌≡◌, inl, inr, ⊎_elim, ℕ, ◌+◌, ◌*◌, ◌≤◌, Bool, true, false, List, [], ◌∷◌, ◌++◌, length, refl, sym, ◌∙◌, ap, subst, arith, Option, None, Some, IfSome, length-append}
 use Rattle.std.specs.Prelude.{if◌then◌else◌}
 use Rattle.std.specs.Option.{option_and_then}
 use Rattle.disk_model.specs.declared.disk.Disk.{Ghosts}
-use Rattle.file_journal.specs.Calls.{CountsFault, Leaves, Puts, Runs, TellsAlike}
+use Rattle.file_journal.specs.Calls.{CountsFault, Leaves, Runs, TellsAlike}
 use Rattle.file_journal.specs.Journal as journal
 use Rattle.file_journal.specs.Journal.{Standing, journal_of}
 use Rattle.file_journal.specs.Records.{Reading, Record, broken, whole}
 use Rattle.file_journal.specs.Recovery.{IsSyncedFirst}
 use Rattle.file_journal.specs.Walk.{Stands, damaged_at, on_from, stands_for, stands_of, state, walk, walk_over}
-use Rattle.file_journal.proofs.CallLemmas.{stops_on}
 use Rattle.file_journal.proofs.MomentLemmas.{joined, weaker}
 use Rattle.file_journal.proofs.ToldLemmas.{alike_on, at_told, if_told, told_before, told_weaker}
 use Rattle.file_entries.specs.Command.{Command, after, begin, drop_entry, grow, is_allowed, seal}
 use Rattle.file_entries.specs.Records.{command_of, store_after, store_magic, store_step}
 use Rattle.file_entries.specs.Store.{Store, empty_store}
-use Rattle.file_store.specs.OnDisk.{CutsOff, Does, MakesFirst}
+use Rattle.file_store.specs.OnDisk.{MakesFirst}
 use Rattle.file_store.specs.Recovery.{StandsAlike}
 use Rattle.file_store.specs.State.{StandsFor, StoreState, standing_of, store_in}
+use Rattle.file_store.specs.Working.{CutsOffAmongReads, DoesAmongReads, PutsAmongReads}
 use Rattle.file_store.proofs.DoesLemmas.{makes-second, stay-on}
-use Rattle.session_node.specs.OnDisk.{EachImage, StandsThrough}
+use Rattle.file_store.proofs.WorkingLemmas.{among-store, cuts-among-all}
+use Rattle.session_node.specs.OnDisk.{EachImage, NodeRuns, StandsThrough}
 use Rattle.session_node.specs.ServerState.{IsUp}
-use Rattle.session_node.proofs.DiskLemmas.{cuts_does, does_store}
 
 -- ---- a store's own block number
 
@@ -87,12 +87,12 @@ makes_none start commands image h = (0, omega arith, omega arith, h)
 -- ---- from the recovery on
 
 module _ {D : Type 0} (g : Ghosts D) (on : (first second third : D) → g.lasts first second → g.lasts second third → g.lasts first third) (failed : Type 0) (blocks : ℕ) (old mid now : D)
-    (start new : StoreState) (done cut : List Command) (alike : TellsAlike (g.content old) (g.content mid))
+    (start new : StoreState) (done cut : List Command) (missed : Bool) (alike : TellsAlike (g.content old) (g.content mid))
     (stood : IfSome (g.content old) (λ before. standing_of blocks before ≡ state (store_in start)))
     (since_start : Leaves g old mid (StandsAlike blocks)) (since_sync : IfSome (g.content old) (λ before. IsSyncedFirst g old mid (StandsAlike blocks before)))
-    (cuts : CutsOff g failed start new mid now done cut) where
-  all_does : Does g failed start new mid now (done ++ cut)
-  all_does = cuts_does g on failed start new mid now done cut cuts
+    (cuts : CutsOffAmongReads g failed missed start new mid now done cut) where
+  all_does : DoesAmongReads g failed missed start new mid now (done ++ cut)
+  all_does = cuts-among-all g on failed missed start new mid now done cut cuts
 
   -- what stands for the same as the content stands for the store before the first command
   none_yet : (before image : List ℕ) → g.content old ≡ Some before → StandsAlike blocks before image → MakesFirst (store_in start) (done ++ cut) image
@@ -138,7 +138,7 @@ module _ {D : Type 0} (g : Ghosts D) (on : (first second third : D) → g.lasts 
           subst (λ (s : Store). StandsFor image s) (all_does.done fine).0 (each image here)) (at_end fine);
       interrupted = λ stopped.
           let end = cuts.second.cut stopped in
-          let is = does_store g start cuts.store_then mid cuts.disk_then done cuts.first in
+          let is = among-store g missed start cuts.store_then mid cuts.disk_then done cuts.first in
           record {
             count = length done + end.count;
             no_less = omega arith;
@@ -168,29 +168,53 @@ module _ {D : Type 0} (g : Ghosts D) (on : (first second third : D) → g.lasts 
   )
 
   -- only a write or a sync that failed ends the session by the disk
-  pub session_puts : (P : Type 0) → ¬ P → Runs g P old mid → Puts g failed mid now → Puts g failed old now
+  pub session_puts : (P : Type 0) → ¬ P → Runs g P old mid → PutsAmongReads g failed mid now → PutsAmongReads g failed old now
   session_puts P never first second =
       let same = first.faults.same never in
       record {
         told = alike_on _ _ _ first.told second.told;
-        reads = second.reads ∙ same.0;
+        reads = omega (arith, same.0, second.reads);
         faults = subst (λ (n : ℕ). CountsFault n (g.write_faults now) failed) same.1 second.faults;
-        stops = stops_on g on old mid now first.lasts same.0 same.1 second.stops;
+        stops = record {
+          last = second.stops.last;
+          lasts = on old mid second.stops.last first.lasts second.stops.lasts;
+          writes = second.stops.writes ∙ same.1;
+          since = second.stops.since;
+        };
         lasts = on old mid now first.lasts second.lasts;
       }
 
--- a run of writes and syncs is a run of calls
-pub runs_of_puts : {D : Type 0} (g : Ghosts D) (failed : Type 0) (old now : D) → Puts g failed old now → Runs g failed old now
-runs_of_puts g failed old now puts = record {
+  -- and only a read that failed is told of
+  pub session_reads : (P : Type 0) → ¬ P → Runs g P old mid → CountsFault (g.read_faults old) (g.read_faults now) (missed ≡ true)
+  session_reads P never first = subst (λ (n : ℕ). CountsFault n (g.read_faults now) (missed ≡ true)) (first.faults.same never).0 all_does.reads
+
+-- what a session does to its disk, by its writes and syncs
+pub node_runs : {D : Type 0} (g : Ghosts D) (failed : Type 0) (old now : D) → PutsAmongReads g failed old now → NodeRuns g failed old now
+node_runs g failed old now puts = record {
   told = puts.told;
-  faults = record {
-    reads = omega (arith, puts.reads);
-    writes = puts.faults.no_less;
-    rose = λ stopped. inr (puts.faults.rose stopped);
-    same = λ fine. (puts.reads, puts.faults.same fine);
-  };
+  reads = puts.reads;
+  writes = puts.faults.no_less;
+  rose = λ stopped. inr (puts.faults.rose stopped);
+  same = puts.faults.same;
   stops = puts.stops;
   lasts = puts.lasts;
+}
+
+-- and by a recovery that is all that it does
+pub runs_refused : {D : Type 0} (g : Ghosts D) (failed : Type 0) (old now : D) → Runs g failed old now → NodeRuns g failed old now
+runs_refused g failed old now runs = record {
+  told = runs.told;
+  reads = runs.faults.reads;
+  writes = runs.faults.writes;
+  rose = runs.faults.rose;
+  same = λ fine. (runs.faults.same fine).1;
+  stops = record {
+    last = runs.stops.last;
+    lasts = runs.stops.lasts;
+    writes = runs.stops.writes;
+    since = ⊎_elim (λ (one : _). inl (one.1, one.2)) (λ only. inr only) runs.stops.since;
+  };
+  lasts = runs.lasts;
 }
 
 -- how the failure is named makes no difference

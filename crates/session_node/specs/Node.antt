@@ -1,6 +1,7 @@
 -- How a session's server goes on: what it takes and says, packet by packet and turn by turn.
-use Rattle.std.specs.Prelude.{◌≡◌, ◌≢◌, ℕ, ◌<◌, ◌≤◌, List, [], ◌++◌, drop, length, Result, Ok, Err, MatchResult, OnErr, OnOk, Option, Some, ⊤}
+use Rattle.std.specs.Prelude.{◌≡◌, ◌≢◌, ℕ, ◌<◌, ◌≤◌, List, [], ◌∷◌, ◌++◌, drop, length, false, Result, Ok, Err, MatchResult, OnErr, OnOk, Option, ⊤}
 use Rattle.px_base.specs.CallSign.{CallSign}
+use Rattle.px_base.specs.Octets.{IsFront}
 use Rattle.px_base.specs.Outside.{Gains, GainsPrefix, HasCause}
 use Rattle.px_base.specs.Polling.{Hears, IsOpen, octets_of_turn}
 use Rattle.px_base.specs.declared.air.AirDown.{AirDown}
@@ -9,19 +10,20 @@ use Rattle.px_base.specs.declared.air.Polled.TheVariants as polled
 use Rattle.px_base.specs.declared.air.Turn.{Turn}
 use Rattle.px_base.specs.declared.air.Turn.TheVariants as turn
 use Rattle.disk_model.specs.declared.disk.Disk.{Ghosts}
-use Rattle.ftl0_packets.specs.Layout.{Item}
+use Rattle.ftl0_packets.specs.Items.{texts}
+use Rattle.ftl0_packets.specs.Layout.{Item, PacketValue}
 use Rattle.ftl0_packets.specs.Reading.{packets_of, read_item, rest_of}
 use Rattle.ftl0_packets.specs.Stream.{Stream}
-use Rattle.file_entries.specs.Command.{Command}
-use Rattle.file_store.specs.OnDisk.{CutsOff, Does}
 use Rattle.file_store.specs.State.{StoreState, store_in}
+use Rattle.file_store.specs.Working.{DoesAmongReads}
 use Rattle.ftl0_uploads.specs.Events.{Event, at_moment}
-use Rattle.ftl0_packets.specs.Items.{texts}
-use Rattle.ftl0_uploads.specs.Session.{Row, State, session_row}
-use Rattle.ftl0_uploads.specs.SessionState.{SessionState, state_of}
+use Rattle.ftl0_uploads.specs.Failures.{failed_reads, read_fails}
+use Rattle.ftl0_session.specs.Run.{Sends}
+use Rattle.ftl0_session.specs.Table.{State, tell_failed_read}
+use Rattle.ftl0_session.specs.Taking.{Working}
 use Rattle.session_node.specs.declared.stop.NodeStop.{NodeStop}
 use Rattle.session_node.specs.declared.stop.NodeStop.TheVariants as stop
-use Rattle.session_node.specs.Running.{RunsOn, StopsAt, StopsOn}
+use Rattle.session_node.specs.Running.{RunsOn, SendsSome, StopsOn}
 use Rattle.session_node.specs.ServerState.{ServerState, with_octets}
 
 -- This text was said, or a front of it where saying failed, and the count of failures rose. Without text nothing is
@@ -34,36 +36,38 @@ pub record SaysText {A : Type 0} (said : A → Option (List ℕ)) (writes : A �
   pub some : OnErr result (text ≢ [])
   pub cause : HasCause (writes before) (writes now) result
 
--- the packet's row is the text said, the state now, and what is done on the disk
-pub record RowSaid {D : Type 0} (g : Ghosts D) (caller : CallSign) (moment : ℕ) (before now : StoreState)
-    (disk disk_now : D) (state next : State) (item : Item) (text : List ℕ) : Type 0 where
-  pub row : Row
-  pub is_row : session_row caller moment (store_in before) state item ≡ Some row
-  pub state_is : next ≡ row.state
-  pub text_is : text ≡ texts row.replies
-  pub does : Does g ⊥ before now disk disk_now row.commands
+-- What is due in a state was said behind the replies to a packet, one packet a put, as the parts of the packet's event
+-- from 1 on, at some of which reads failed, or at none: all of it, up to this state; or saying one failed, and a front
+-- was said of what was to be. The count of failed reads rose exactly where one of these packets tells of it.
+pub record SaysDue {A D : Type 0} (g : Ghosts D) (said : A → Option (List ℕ)) (before now : A) (store : StoreState)
+    (disk disk_now : D) (state next : State) (result : Result ⊤ NodeStop) : Type 0 where
+  pub parts : List ℕ
+  pub none_yet : read_fails (failed_reads parts) 0 ≡ false
+  pub sent : List PacketValue
+  pub text : List ℕ
+  pub text_said : Gains (said before) (said now) text
+  pub ends :
+      MatchResult result
+      (λ _. (text ≡ texts sent) × Sends (store_in store) state (failed_reads parts) 1 sent next)
+      (λ why. (why ≡ stop.AirWrite) × (texts sent ≢ []) × IsFront text (texts sent)
+      × SendsSome (store_in store) state (failed_reads parts) 1 sent)
+  pub reads : DoesAmongReads g ⊥ (tell_failed_read sent) store store disk disk_now []
 
--- the packet stopped the session
-pub record StopSaid {D : Type 0} (g : Ghosts D) (caller : CallSign) (moment : ℕ) (before now : StoreState)
-    (disk disk_now : D) (state : State) (item : Item) (writes writes_now : ℕ) (text : List ℕ) (why : NodeStop) :
-    Type 0 where
-  pub done : List Command
-  pub cut : List Command
-  pub stops :
-      StopsAt why (session_row caller moment (store_in before) state item) state item writes writes_now text done cut
-  pub cuts : CutsOff g (why ≡ stop.Disk) before now disk disk_now done cut
+-- the one event of a packet
+abbrev pub event_of : ℕ → Item → List Event
+event_of moment item = record { moment = moment; packet = item } ∷ []
 
--- the session took the packet that these octets are, and its replies were said
+-- the session took the packet that these octets are, and all that the table gives for it was said; or it stopped at it
 abbrev pub Replied :
-    {A D : Type 0} → Ghosts D → (A → Option (List ℕ)) → (A → ℕ) → A → A → D → D → ℕ → SessionState → StoreState → List ℕ
-    → SessionState → StoreState → Result ⊤ NodeStop → Type 0
-Replied g said writes before now disk disk_now moment old store octets new store_now result =
+    {A D : Type 0} → Ghosts D → (A → Option (List ℕ)) → (A → ℕ) → A → A → D → D → ℕ → Working → Working → CallSign
+    → List ℕ → Result ⊤ NodeStop → Type 0
+Replied g said writes before now disk disk_now moment old new caller octets result =
     (text : List ℕ) × Gains (said before) (said now) text
     × MatchResult result
-    (λ _. RowSaid g old.caller moment store store_now disk disk_now (state_of store old.phase)
-    (state_of store_now new.phase) (read_item octets) text)
-    (StopSaid g old.caller moment store store_now disk disk_now (state_of store old.phase) (read_item octets)
-    (writes before) (writes now) text)
+    (λ _. RunsOn g caller old.store new.store old.lists new.lists disk disk_now old.state new.state
+    (event_of moment (read_item octets)) text)
+    (λ why. StopsOn g caller old.store new.store old.lists disk disk_now old.state
+    (event_of moment (read_item octets)) why (writes before) (writes now) text)
 
 -- From one state to another the server takes the first packets of the octets heard, all at this moment, and says this
 -- text.
@@ -74,7 +78,8 @@ pub record GoesOn {D : Type 0} (g : Ghosts D) (moment : ℕ) (old new : ServerSt
   pub packets : packets_of old.octets ≡ done ++ packets_of new.octets
   pub rest : rest_of old.octets ≡ rest_of new.octets
   pub runs :
-      RunsOn g old.caller old.store new.store disk disk_now old.state new.state (at_moment moment done) text
+      RunsOn g old.caller old.store new.store old.lists new.lists disk disk_now old.state new.state
+      (at_moment moment done) text
 
 -- the packets of the octets heard, all at this moment
 abbrev pub events_at : ℕ → ServerState → List Event
@@ -84,7 +89,8 @@ events_at moment server = at_moment moment (packets_of server.octets)
 abbrev pub Stops :
     {D : Type 0} → Ghosts D → ℕ → ServerState → StoreState → D → D → ℕ → ℕ → List ℕ → NodeStop → Type 0
 Stops g moment old store_now disk disk_now writes writes_now text why =
-    StopsOn g old.caller old.store store_now disk disk_now old.state (events_at moment old) why writes writes_now text
+    StopsOn g old.caller old.store store_now old.lists disk disk_now old.state (events_at moment old) why writes
+    writes_now text
 
 -- The server took octets from the front of a piece that was heard, at least one; or it stopped.
 abbrev pub FeedsPiece :
@@ -107,9 +113,10 @@ pub record Serves {D : Type 0} (g : Ghosts D) (moment : ℕ) (old new : ServerSt
   pub ends :
       MatchResult result
       (λ _. (new.caller ≡ old.caller) × (new.octets ≡ rest)
-      × RunsOn g old.caller old.store new.store disk disk_now old.state new.state (at_moment moment packets) text)
-      (λ why. StopsOn g old.caller old.store new.store disk disk_now old.state (at_moment moment packets) why writes
-      writes_now text)
+      × RunsOn g old.caller old.store new.store old.lists new.lists disk disk_now old.state new.state
+      (at_moment moment packets) text)
+      (λ why. StopsOn g old.caller old.store new.store old.lists disk disk_now old.state (at_moment moment packets) why
+      writes writes_now text)
 
 -- octets were heard, and this said
 abbrev pub ServesOctets :
@@ -128,7 +135,6 @@ TurnEnds next (Ok polled.End) Served = (next ≡ turn.End) × Served (Ok tt)
 TurnEnds next (Err stop.AirRead) Served = (next ≡ turn.Fail) × Served (Ok tt)
 TurnEnds next (Err stop.AirWrite) Served = IsOpen next × Served (Err stop.AirWrite)
 TurnEnds next (Err stop.Disk) Served = IsOpen next × Served (Err stop.Disk)
-TurnEnds next (Err (stop.NotBuilt kind)) Served = IsOpen next × Served (Err (stop.NotBuilt kind))
 TurnEnds next (Err stop.OutOfMemory) Served = IsOpen next × Served (Err stop.OutOfMemory)
 TurnEnds next (Err stop.Spent) Served = ⊥
 TurnEnds next (Err (stop.NotAStore found)) Served = ⊥

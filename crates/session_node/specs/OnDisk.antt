@@ -1,13 +1,15 @@
 -- What a session does to its disk, at every moment of it and at its end.
 use Rattle.std.specs.Prelude.{◌≡◌, ◌⊎◌, ℕ, ◌+◌, ◌*◌, ◌<◌, ◌≤◌, List, ◌++◌, length, IfSome}
+use Rattle.px_base.specs.Outside.{Rose}
 use Rattle.disk_model.specs.declared.disk.Disk.{Ghosts}
-use Rattle.file_journal.specs.Calls.{Leaves, images_now}
+use Rattle.file_journal.specs.Calls.{Leaves, TellsAlike, images_now}
 use Rattle.file_journal.specs.Recovery.{IsFailedSync, IsSyncedFirst}
 use Rattle.file_entries.specs.Command.{AreAllowed, Command, after_all}
 use Rattle.file_entries.specs.Store.{Store}
 use Rattle.file_store.specs.OnDisk.{MakesBetween, MakesFirst, StayDone}
 use Rattle.file_store.specs.Recovery.{StandsAlike}
 use Rattle.file_store.specs.State.{StandsFor}
+use Rattle.file_store.specs.Working.{StopsAtFailedWrite}
 use Rattle.session_node.specs.declared.stop.NodeStop.{NodeStop}
 use Rattle.session_node.specs.declared.stop.NodeStop.TheVariants as stop
 
@@ -59,3 +61,16 @@ pub record LeavesStanding {D : Type 0} (g : Ghosts D) (blocks : ℕ) (why : Node
   pub since_start : Leaves g disk disk_now (StandsAlike blocks)
   pub not_a_store : (found : List ℕ) → why ≡ stop.NotAStore found → g.content disk_now ≡ g.content disk
   pub damaged : (at : ℕ) → why ≡ stop.Damaged at → g.content disk_now ≡ g.content disk
+
+-- What a session or a server does to its disk from the start on, and whether it ended by the disk. Neither count of
+-- faults falls, and that of failed writes and syncs stays where it didn't end so; where it did, one of them rose. A read
+-- that failed stops nothing, and no write and no sync comes after one that failed.
+pub record NodeRuns {D : Type 0} (g : Ghosts D) (failed : Type 0) (disk disk_now : D) : Type 0 where
+  pub told : TellsAlike (g.content disk) (g.content disk_now)
+  pub reads : g.read_faults disk ≤ g.read_faults disk_now
+  pub writes : g.write_faults disk ≤ g.write_faults disk_now
+  pub rose :
+      failed → Rose (g.read_faults disk) (g.read_faults disk_now) ⊎ Rose (g.write_faults disk) (g.write_faults disk_now)
+  pub same : ¬ failed → g.write_faults disk_now ≡ g.write_faults disk
+  pub stops : StopsAtFailedWrite g disk disk_now
+  pub lasts : g.lasts disk disk_now

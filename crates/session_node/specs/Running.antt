@@ -1,31 +1,22 @@
 -- How a session goes over events: what it says, and which commands of the store it does, up to a stop.
-use Rattle.std.specs.Prelude.{◌≡◌, ◌≢◌, ◌⊎◌, ℕ, List, [], ◌∷◌, ◌++◌, Option, None, Some, IsTrue}
+use Rattle.std.specs.Prelude.{◌≡◌, ◌≢◌, ◌⊎◌, ℕ, suc, List, [], ◌∷◌, ◌++◌, map, Bool, ◌||◌, Some, IsTrue, ⊤}
 use Rattle.px_base.specs.CallSign.{CallSign}
 use Rattle.px_base.specs.Octets.{IsFront}
 use Rattle.px_base.specs.Outside.{Rose}
 use Rattle.disk_model.specs.declared.disk.Disk.{Ghosts}
-use Rattle.ftl0_packets.specs.Layout.{Item}
+use Rattle.ftl0_packets.specs.Items.{texts}
+use Rattle.ftl0_packets.specs.Layout.{PacketValue}
+use Rattle.selection_lists.specs.Lists.{CallerList}
 use Rattle.file_entries.specs.Command.{Command, after_all}
 use Rattle.file_entries.specs.Store.{Store}
-use Rattle.file_store.specs.OnDisk.{CutsOff, Does}
 use Rattle.file_store.specs.State.{StoreState, store_in}
+use Rattle.file_store.specs.Working.{CutsOffAmongReads, DoesAmongReads}
 use Rattle.ftl0_uploads.specs.Events.{Event}
-use Rattle.ftl0_packets.specs.Items.{kind_of_item, texts}
-use Rattle.ftl0_uploads.specs.Session.{Row, State, fault_reply, session_row, takes_memory}
+use Rattle.ftl0_uploads.specs.Failures.{Failure}
+use Rattle.ftl0_session.specs.Run.{Event as MetEvent, RunsOver, event_row, heard_of}
+use Rattle.ftl0_session.specs.Table.{Row, State, due_at, fault_reply, takes_memory, tell_failed_read}
 use Rattle.session_node.specs.declared.stop.NodeStop.{NodeStop}
 use Rattle.session_node.specs.declared.stop.NodeStop.TheVariants as stop
-
--- Over these events, each of whose rows is built, the session comes from one store and state to another, says this, and
--- does these commands.
-abbrev pub RunsOver :
-    CallSign → Store → State → List Event → List ℕ → List Command → Store → State → Type 0
-RunsOver caller store state [] text commands now next =
-    (text ≡ []) × (commands ≡ []) × (now ≡ store) × (next ≡ state)
-RunsOver caller store state (event ∷ events) text commands now next =
-    (row : Row) × (more : List ℕ) × (others : List Command)
-    × (session_row caller event.moment store state event.packet ≡ Some row)
-    × (text ≡ texts row.replies ++ more) × (commands ≡ row.commands ++ others)
-    × RunsOver caller (after_all store row.commands) row.state events more others now next
 
 -- The reply was said whole, and the air's count of failed writes is as it was; or a front of it was, and the count
 -- rose.
@@ -33,66 +24,89 @@ abbrev pub IsSaid : ℕ → ℕ → List ℕ → List ℕ → Type 0
 IsSaid writes writes_now reply text =
     ((text ≡ reply) × (writes_now ≡ writes)) ⊎ (IsFront text reply × Rose writes writes_now)
 
--- A stop at a packet that has this row in this state: the text said to it, the commands done, and the commands in one
--- of which the disk failed. Where the row isn't built or there is no memory, the packet gave nothing. Where saying
--- failed, the commands are done, and a front of the replies, of which there are some, was said. Where the disk failed,
--- the one reply with code 3 was said.
-abbrev pub StopsAt :
-    NodeStop → Option Row → State → Item → ℕ → ℕ → List ℕ → List Command → List Command → Type 0
-StopsAt (stop.NotBuilt kind) row state item writes writes_now text done cut =
-    (row ≡ None) × (kind ≡ kind_of_item item) × (text ≡ []) × (done ≡ []) × (cut ≡ [])
-StopsAt stop.OutOfMemory row state item writes writes_now text done cut =
-    (is : Row) × (row ≡ Some is) × IsTrue (takes_memory item is.state) × (text ≡ []) × (done ≡ []) × (cut ≡ [])
-StopsAt stop.AirWrite row state item writes writes_now text done cut =
-    (is : Row) × (row ≡ Some is) × (texts is.replies ≢ []) × IsFront text (texts is.replies)
-    × (done ≡ is.commands) × (cut ≡ [])
-StopsAt stop.Disk row state item writes writes_now text done cut =
-    (is : Row) × (row ≡ Some is) × IsSaid writes writes_now (texts (fault_reply state ∷ [])) text
-    × (done ≡ []) × (cut ≡ is.commands)
-StopsAt stop.AirRead row state item writes writes_now text done cut = ⊥
-StopsAt stop.Spent row state item writes writes_now text done cut = ⊥
-StopsAt (stop.NotAStore found) row state item writes writes_now text done cut = ⊥
-StopsAt (stop.Damaged at) row state item writes writes_now text done cut = ⊥
+-- These packets are sent from the state on, one after another, the first as the event's part of this number; others may
+-- be due behind them.
+abbrev pub SendsSome : Store → State → List Failure → ℕ → List PacketValue → Type 0
+SendsSome store state failures part [] = ⊤
+SendsSome store state failures part (packet ∷ packets) =
+    (next : State) × (due_at store state failures part ≡ Some (record { packet = packet; state = next }))
+    × SendsSome store next failures (suc part) packets
 
--- The session stopped at one of these events, from one store and state on. The rows of those before it are built, and
--- all replies to them were said and all their commands done; of those after it nothing was taken.
-pub record StopsOver (caller : CallSign) (store : Store) (state : State) (events : List Event) (why : NodeStop)
-    (writes writes_now : ℕ) (text : List ℕ) (done cut : List Command) : Type 0 where
-  pub before : List Event
-  pub next : Event
+-- A stop at an event, over a store and in a state, with this row of its packet: the text said at it, the commands done,
+-- the commands in one of which the disk failed, and whether a read failed. Where there is no memory, the packet gave
+-- nothing. Where saying failed, the commands are done, and a front of the replies and of what is due behind them was
+-- said, of which there is some. Where the disk failed at a write or a sync, the one reply with code 3 was said, and
+-- nothing is due behind it.
+abbrev pub StopsAt :
+    NodeStop → Store → State → MetEvent → Row → ℕ → ℕ → List ℕ → List Command → List Command → Bool → Type 0
+StopsAt stop.OutOfMemory store state event row writes writes_now text done cut missed =
+    IsTrue (takes_memory event.packet row.state) × (text ≡ []) × (done ≡ []) × (cut ≡ [])
+    × (missed ≡ tell_failed_read row.replies)
+StopsAt stop.AirWrite store state event row writes writes_now text done cut missed =
+    (sent : List PacketValue) × SendsSome (after_all store row.commands) row.state event.failures 1 sent
+    × (texts (row.replies ++ sent) ≢ []) × IsFront text (texts (row.replies ++ sent)) × (done ≡ row.commands)
+    × (cut ≡ []) × (missed ≡ tell_failed_read (row.replies ++ sent))
+StopsAt stop.Disk store state event row writes writes_now text done cut missed =
+    IsSaid writes writes_now (texts (fault_reply state ∷ [])) text × (done ≡ []) × (cut ≡ row.commands)
+    × (missed ≡ tell_failed_read row.replies)
+StopsAt stop.AirRead store state event row writes writes_now text done cut missed = ⊥
+StopsAt stop.Spent store state event row writes writes_now text done cut missed = ⊥
+StopsAt (stop.NotAStore found) store state event row writes writes_now text done cut missed = ⊥
+StopsAt (stop.Damaged at) store state event row writes writes_now text done cut missed = ⊥
+
+-- The session stopped at one of the events that were heard, from one store, lists and state on. Of those before it all
+-- that the table gives was said, and all their commands are done; of those after it nothing was taken. Reads may have
+-- failed at any of them.
+pub record StopsOver (caller : CallSign) (store : Store) (lists : List CallerList) (state : State)
+    (events : List Event) (why : NodeStop) (writes writes_now : ℕ) (text : List ℕ) (done cut : List Command)
+    (missed : Bool) : Type 0 where
+  pub before : List MetEvent
+  pub next : MetEvent
   pub later : List Event
-  pub events_are : events ≡ before ++ next ∷ later
-  pub said : List ℕ
+  pub events_are : events ≡ map heard_of before ++ heard_of next ∷ later
+  pub said : List PacketValue
   pub commands : List Command
   pub store_then : Store
+  pub lists_then : List CallerList
   pub state_then : State
-  pub runs : RunsOver caller store state before said commands store_then state_then
+  pub runs : RunsOver caller store lists state before said commands store_then lists_then state_then
   pub last : List ℕ
   pub more : List Command
+  pub last_missed : Bool
   pub stops :
-      StopsAt why (session_row caller next.moment store_then state_then next.packet) state_then next.packet writes
-      writes_now last more cut
-  pub text_is : text ≡ said ++ last
+      StopsAt why store_then state_then next (event_row caller store_then lists_then state_then next) writes writes_now
+      last more cut last_missed
+  pub text_is : text ≡ texts said ++ last
   pub done_is : done ≡ commands ++ more
+  pub missed_is : missed ≡ (tell_failed_read said || last_missed)
 
 -- The same, where all of these events were taken before the stop.
-pub record StopsBehind (least : List Event) (caller : CallSign) (store : Store) (state : State) (events : List Event)
-    (why : NodeStop) (writes writes_now : ℕ) (text : List ℕ) (done cut : List Command) : Type 0 where
-  pub stops : StopsOver caller store state events why writes writes_now text done cut
+pub record StopsBehind (least : List Event) (caller : CallSign) (store : Store) (lists : List CallerList)
+    (state : State) (events : List Event) (why : NodeStop) (writes writes_now : ℕ) (text : List ℕ)
+    (done cut : List Command) (missed : Bool) : Type 0 where
+  pub stops : StopsOver caller store lists state events why writes writes_now text done cut missed
   pub between : List Event
-  pub in_order : stops.before ≡ least ++ between
+  pub in_order : map heard_of stops.before ≡ least ++ between
 
--- The session ran over these events, each of whose rows is built, and the commands are done on the disk.
-pub record RunsOn {D : Type 0} (g : Ghosts D) (caller : CallSign) (old new : StoreState) (disk disk_now : D)
-    (state next : State) (events : List Event) (text : List ℕ) : Type 0 where
+-- The session ran over these events, at some of which reads failed, or at none: all that the table gives was said, and
+-- the commands are done on the disk. The disk's count of failed reads rose exactly where what was said tells of one.
+pub record RunsOn {D : Type 0} (g : Ghosts D) (caller : CallSign) (old new : StoreState)
+    (lists lists_now : List CallerList) (disk disk_now : D) (state next : State) (events : List Event) (text : List ℕ)
+    : Type 0 where
+  pub met : List MetEvent
+  pub heard : map heard_of met ≡ events
+  pub said : List PacketValue
+  pub text_is : text ≡ texts said
   pub commands : List Command
-  pub runs : RunsOver caller (store_in old) state events text commands (store_in new) next
-  pub does : Does g ⊥ old new disk disk_now commands
+  pub runs : RunsOver caller (store_in old) lists state met said commands (store_in new) lists_now next
+  pub does : DoesAmongReads g ⊥ (tell_failed_read said) old new disk disk_now commands
 
 -- The session stopped at one of these events, and its commands up to there are done on the disk.
-pub record StopsOn {D : Type 0} (g : Ghosts D) (caller : CallSign) (old new : StoreState) (disk disk_now : D)
-    (state : State) (events : List Event) (why : NodeStop) (writes writes_now : ℕ) (text : List ℕ) : Type 0 where
+pub record StopsOn {D : Type 0} (g : Ghosts D) (caller : CallSign) (old new : StoreState) (lists : List CallerList)
+    (disk disk_now : D) (state : State) (events : List Event) (why : NodeStop) (writes writes_now : ℕ) (text : List ℕ)
+    : Type 0 where
   pub done : List Command
   pub cut : List Command
-  pub stops : StopsOver caller (store_in old) state events why writes writes_now text done cut
-  pub cuts : CutsOff g (why ≡ stop.Disk) old new disk disk_now done cut
+  pub missed : Bool
+  pub stops : StopsOver caller (store_in old) lists state events why writes writes_now text done cut missed
+  pub cuts : CutsOffAmongReads g (why ≡ stop.Disk) missed old new disk disk_now done cut

@@ -2,16 +2,20 @@
 use Rattle.std.specs.Prelude.{◌≡◌, ℕ, List, []}
 use Rattle.px_base.specs.Octets.{IsOctets}
 use Rattle.ftl0_packets.specs.Reading.{packets_of, rest_of, under_way}
-use Rattle.ftl0_uploads.specs.SessionState.{IsHeld, IsOnlyOut, state_of}
+use Rattle.file_store.specs.State.{store_in}
+use Rattle.ftl0_uploads.specs.SessionState.{IsHeld, IsOnlyOut}
+use Rattle.ftl0_downloads.specs.Needs.{AreComplete, IsDueIn}
+use Rattle.ftl0_session.specs.SessionState.{caller_of, state_in}
 use Rattle.session_node.specs.declared.server.SessionServer.TheInside.{Inside}
 use Rattle.session_node.specs.ServerState.{ServerState}
 
 abbrev pub server_state : Inside → ServerState
 server_state a =
     record {
-      caller = a.session.caller;
+      caller = caller_of a.session;
       store = a.store;
-      state = state_of a.store a.session.phase;
+      lists = a.lists;
+      state = state_in a.store a.session;
       octets = under_way a.reader;
     }
 
@@ -21,9 +25,11 @@ pub record IsWaiting (octets : List ℕ) : Type 0 where
   pub left : rest_of octets ≡ octets
   pub are_octets : IsOctets octets
 
--- The store holds the session's upload, and no other of the session's caller is out. The octets that were heard and not
--- taken wait.
+-- The store holds the session's upload, and no other of the session's caller is out; what is due lies within complete
+-- files, and so do the lists. The octets that were heard and not taken wait.
 pub record IsServer (a : Inside) : Type 0 where
-  pub held : IsHeld a.store a.session
-  pub only : IsOnlyOut a.store a.session
+  pub held : IsHeld a.store a.session.uploads
+  pub only : IsOnlyOut a.store a.session.uploads
+  pub due : IsDueIn (store_in a.store) a.session.downloads
+  pub complete : AreComplete (store_in a.store) a.lists
   pub waiting : IsWaiting (under_way a.reader)

@@ -2,20 +2,22 @@
 use Rattle.std.specs.Prelude.{◌≡◌, ℕ, List, [], ◌++◌, false}
 use Rattle.px_base.specs.CallSign.{CallSign}
 use Rattle.disk_model.specs.declared.disk.Disk.{Ghosts}
+use Rattle.selection_lists.specs.Lists.{CallerList}
 use Rattle.file_store.specs.State.{StandsOn, StoreState}
-use Rattle.ftl0_uploads.specs.Session.{State, command}
+use Rattle.ftl0_session.specs.Table.{State, command}
 
--- whose session it is, the store, the session's state, and the octets that were heard and of which no packet was taken
--- yet
+-- whose session it is, the store, the lists of all callers, the session's state, and the octets that were heard and of
+-- which no packet was taken yet
 pub record ServerState : Type 0 where
   pub caller : CallSign
   pub store : StoreState
+  pub lists : List CallerList
   pub state : State
   pub octets : List ℕ
 
--- before the first packet, over this store
+-- before the first packet, over this store, without lists
 abbrev pub new_server : CallSign → StoreState → ServerState
-new_server caller store = record { caller = caller; store = store; state = command; octets = [] }
+new_server caller store = record { caller = caller; store = store; lists = []; state = command; octets = [] }
 
 -- with these octets heard too
 abbrev pub with_octets : ServerState → List ℕ → ServerState

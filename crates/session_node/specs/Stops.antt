@@ -6,14 +6,13 @@ use Rattle.file_journal.specs.Walk.{damaged_at, no_store}
 use Rattle.file_store.specs.State.{standing_of}
 use Rattle.file_store.specs.declared.refusals.StoreFault.{StoreFault}
 use Rattle.file_store.specs.declared.refusals.StoreFault.TheVariants as fault
-use Rattle.ftl0_uploads.specs.declared.stop.ServerStop.{ServerStop}
-use Rattle.ftl0_uploads.specs.declared.stop.ServerStop.TheVariants as session_stop
+use Rattle.ftl0_session.specs.declared.stop.ServerStop.{ServerStop}
+use Rattle.ftl0_session.specs.declared.stop.ServerStop.TheVariants as session_stop
 use Rattle.session_node.specs.declared.stop.NodeStop.{NodeStop}
 use Rattle.session_node.specs.declared.stop.NodeStop.TheVariants as stop
 
 -- how a session's stop stops its node
 abbrev pub stop_of_session : ServerStop → NodeStop
-stop_of_session (session_stop.NotBuilt kind) = stop.NotBuilt kind
 stop_of_session session_stop.Disk = stop.Disk
 stop_of_session session_stop.OutOfMemory = stop.OutOfMemory
 
@@ -24,7 +23,7 @@ stop_of_fault (fault.Damaged at) = stop.Damaged at
 stop_of_fault fault.Disk = stop.Disk
 stop_of_fault fault.OutOfMemory = stop.OutOfMemory
 
--- how saying the replies ends a packet that has a row
+-- how saying the replies ends a packet that was taken
 abbrev pub said_end : Result ⊤ AirDown → Result ⊤ NodeStop
 said_end (Ok done) = Ok tt
 said_end (Err down) = Err stop.AirWrite
@@ -44,7 +43,6 @@ CountsBy (Err stop.Disk) reads reads_now writes writes_now = (reads_now ≡ read
 CountsBy (Err (stop.NotAStore found)) reads reads_now writes writes_now = (reads_now ≡ reads) × (writes_now ≡ writes)
 CountsBy (Err (stop.Damaged at)) reads reads_now writes writes_now = (reads_now ≡ reads) × (writes_now ≡ writes)
 CountsBy (Err stop.Spent) reads reads_now writes writes_now = (reads_now ≡ reads) × (writes_now ≡ writes)
-CountsBy (Err (stop.NotBuilt kind)) reads reads_now writes writes_now = (reads_now ≡ reads) × (writes_now ≡ writes)
 CountsBy (Err stop.OutOfMemory) reads reads_now writes writes_now = (reads_now ≡ reads) × (writes_now ≡ writes)
 
 -- the same of an air, before the call and now, by what it counts

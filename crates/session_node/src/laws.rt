@@ -3,7 +3,7 @@
 ghost use Rattle.session_node.specs.Laws.{AcknowledgedSinceLaw, RunsLaw};
 
 use disk_model::Disk;
-use ftl0_uploads::laws::acknowledged_stands_law;
+use ftl0_session::laws::acknowledged_stands_law;
 
 /// What a session went over: the store that it came to is the one after its commands, and so it was at each event.
 pub fn runs_law()

@@ -1,7 +1,7 @@
 //! The session of one caller, from the recovery of its store to its end.
 
 ghost use Rattle.std.specs.Prelude.{◌≡◌, ◌≤◌, IsErrOf, IsSome};
-ghost use Rattle.file_journal.specs.Calls.{Runs};
+ghost use Rattle.session_node.specs.OnDisk.{NodeRuns};
 ghost use Rattle.session_node.specs.SessionRan.{SessionEnds};
 ghost use Rattle.session_node.specs.Stops.{HasAirCause, RefusesSession};
 
@@ -10,16 +10,18 @@ use crate::{NodeStop, Served, SessionTerms};
 use disk_model::Disk;
 use file_store::FileStore;
 use file_store::laws::state_law;
-use ftl0_uploads::Replies;
+use ftl0_session::Replies;
 use px_base::{Air, Clock};
+use selection_lists::Lists;
 use std::alloc::Global;
 
-/// Serves one session over FTL0 octets without a link. The store is recovered from the disk first; where that is
-/// refused nothing is heard or said, and the clock isn't asked. Then LOGIN_RESP is said, and the replies to each
-/// packet, up to the end of the air or as many polls as may be made. Each turn has the moment that is given, or takes
-/// one of the clock before its poll; the first turn's is taken before LOGIN_RESP, which has it. What a packet's row
-/// does to the store is on the disk before the replies are said. After a fault of the disk in a packet the reply with
-/// code 3 is said, and the session is over. However it ends, its upload is parked. Takes memory.
+/// Serves one session over FTL0 octets without a link. The store is recovered from the disk first, and the lists are made;
+/// where either is refused nothing is heard or said, and the clock isn't asked. Then LOGIN_RESP is said, and for each
+/// packet the replies to it and all that is due right behind them, up to the end of the air or as many polls as may be
+/// made. Each turn has the moment that is given, or takes one of the clock before its poll; the first turn's is taken
+/// before LOGIN_RESP, which has it. What a packet's row does to the store is on the disk before the replies are said. A
+/// read of the disk that fails is told by code 3, and the session goes on. After a fault of the disk at a write or a sync
+/// the reply with code 3 is said, and the session is over. However it ends, its upload is parked. Takes memory.
 pub fn session<D: Disk, A: Air, C: Clock>(
     alloc: Global,
     disk: &mut D,
@@ -42,13 +44,16 @@ pub fn session<D: Disk, A: Air, C: Clock>(
 
     // Each cause rose in a count.
     ensures counts { HasAirCause A.read_faults A.write_faults air.old air.new result }
-    ensures runs { Runs D.Disk (IsErrOf result NodeStop.Disk) disk.old disk.new }
+    ensures runs { NodeRuns D.Disk (IsErrOf result NodeStop.Disk) disk.old disk.new }
 {
     let store = FileStore::recover(alloc, disk, terms.limits)?;
+    let Ok(lists) = Lists::new(alloc) else {
+        return Err(NodeStop::OutOfMemory);
+    };
     state_law(&store);
     let first = moment_of(terms.moment, clock);
     let mut login = Replies::new();
-    let mut server = SessionServer::new(terms.caller, first, store, &mut login);
+    let mut server = SessionServer::new(terms.caller, first, store, lists, &mut login);
     let ended = server.serve(disk, air, clock, first, login.as_slice(), terms);
     server.end(disk);
     ended

@@ -2,27 +2,29 @@
 
 ghost use Rattle.std.specs.Prelude.{◌≡◌, ◌≤◌, ◌<◌, [], ◌∷◌, length, false, IsErrOf, IsSome, IsTrue};
 ghost use Rattle.px_base.specs.Moments.{MomentsOf};
-ghost use Rattle.ftl0_packets.specs.Layout.{packet_text};
 ghost use Rattle.ftl0_packets.specs.Reading.{is_whole};
 ghost use Rattle.file_entries.specs.Files.{NothingOut};
 ghost use Rattle.file_entries.specs.IsStore.{IsStore};
 ghost use Rattle.file_store.specs.State.{StandsFor, StandsOn, store_in};
-ghost use Rattle.ftl0_uploads.specs.Session.{greeting};
-ghost use Rattle.ftl0_uploads.specs.SessionState.{IsHeld, IsOnlyOut};
-ghost use Rattle.session_node.specs.Node.{FeedsPiece, Replied, SaysText, ServesOctets, TakesTurn};
+ghost use Rattle.ftl0_downloads.specs.Needs.{IsDueIn};
+ghost use Rattle.ftl0_session.specs.SessionState.{IsFit, MayTake, caller_of, state_in};
+ghost use Rattle.ftl0_session.specs.Taking.{working};
+ghost use Rattle.session_node.specs.Node.{FeedsPiece, Replied, SaysDue, SaysText, ServesOctets, TakesTurn};
 ghost use Rattle.session_node.specs.OnDisk.{EachImage};
 ghost use Rattle.session_node.specs.ServerState.{IsUp, new_server};
-ghost use Rattle.session_node.specs.SessionRan.{SessionOn};
+ghost use Rattle.session_node.specs.SessionRan.{SessionOn, login_text};
 ghost use Rattle.session_node.specs.Stops.{HasAirCause, first_stop};
 
 use crate::{NodeStop, Served, SessionTerms};
+use arrayvec::ArrayVec;
 use disk_model::Disk;
 use file_store::FileStore;
 use file_store::laws::state_law;
 use ftl0_packets::laws::stream_law;
 use ftl0_packets::{PacketFed, PacketReader};
-use ftl0_uploads::{Replies, ServerStop, Session};
+use ftl0_session::{Replies, ServerStop, Session};
 use px_base::{Air, AirDown, Call, Clock, Polled, ROOM};
+use selection_lists::Lists;
 use std::marker::Model;
 
 /// The moment of a turn: the one that is given, or the clock's.
@@ -48,32 +50,60 @@ fn moment_of_turn<C: Clock>(turn: u64, first: u32, given: Option<u32>, clock: &m
     moment_of(given, clock)
 }
 
-/// Takes a whole packet, and says the replies to it. After a fault of the disk that is the reply with code 3, whatever
-/// becomes of saying it: what stopped first is the answer.
+/// Takes a whole packet, and says the replies to it and all that is due behind them. After a fault of the disk that is the
+/// reply with code 3 alone, whatever becomes of saying it: what stopped first is the answer.
 fn answer<D: Disk, A: Air>(
     reader: &PacketReader,
     session: &mut Session,
     store: &mut FileStore,
+    lists: &mut Lists,
     disk: &mut D,
     air: &mut A,
     moment: u32,
 ) -> Result<(), NodeStop>
-    requires held { IsHeld store.old session.old }
-    requires only { IsOnlyOut store.old session.old }
     requires whole { IsTrue (is_whole reader.now) }
-    requires up { IsUp D.Disk store.old disk.old }
-    ensures held { IsHeld store.new session.new }
-    ensures only { IsOnlyOut store.new session.new }
-    ensures caller { session.new.caller ≡ session.old.caller }
-    ensures replied { Replied D.Disk A.said A.write_faults air.old air.new disk.old disk.new moment session.old
-        store.old reader.now session.new store.new result }
+    requires may { MayTake D.Disk store.old disk.old lists.old session.old }
+    ensures fit { IsFit D.Disk store.new disk.new lists.new session.new }
+    ensures caller { caller_of session.new ≡ caller_of session.old }
+    ensures replied { Replied D.Disk A.said A.write_faults air.old air.new disk.old disk.new moment
+        (working session.old store.old lists.old) (working session.new store.new lists.new) (caller_of session.old)
+        reader.now result }
     ensures heard { A.heard air.new ≡ A.heard air.old }
     ensures counts { HasAirCause A.read_faults A.write_faults air.old air.new result }
 {
     let mut replies = Replies::new();
-    let taken = session.take(disk, reader.packet(), moment, store, &mut replies);
+    let taken = session.take(disk, reader.packet(), moment, store, lists, &mut replies);
     let said = say(replies.as_slice(), air);
-    answer_of(taken, said)
+    answer_of(taken, said)?;
+    say_due(session, store, disk, air)
+}
+
+/// Says all that is due, one packet a put.
+fn say_due<D: Disk, A: Air>(
+    session: &mut Session,
+    store: &mut FileStore,
+    disk: &mut D,
+    air: &mut A,
+) -> Result<(), NodeStop>
+    requires healthy { store.old.journal.failed ≡ false }
+    requires stands_on { StandsOn D.Disk store.old disk.old }
+    requires due { IsDueIn (store_in store.old) session.old.downloads }
+    ensures says { SaysDue D.Disk A.said air.old air.new store.old disk.old disk.new (state_in store.old session.old)
+        (state_in store.new session.new) result }
+    ensures store { store.new ≡ store.old }
+    ensures uploads { session.new.uploads ≡ session.old.uploads }
+    ensures stands_on { StandsOn D.Disk store.new disk.new }
+    ensures due { IsDueIn (store_in store.new) session.new.downloads }
+    ensures heard { A.heard air.new ≡ A.heard air.old }
+    ensures counts { HasAirCause A.read_faults A.write_faults air.old air.new result }
+{
+    let mut packet = ArrayVec::new();
+    while session.fill(disk, store, &mut packet) {
+        if let Err(_down) = say(&packet, air) {
+            return Err(NodeStop::AirWrite);
+        }
+    }
+    Ok(())
 }
 
 /// What stopped first: taking a packet, or saying the replies to it.
@@ -101,12 +131,13 @@ fn say<A: Air>(text: &[u8], air: &mut A) -> Result<(), AirDown>
     air.put(text)
 }
 
-/// What serves one session: the reader of its packets, its state, and the store. It must be ended, which parks the
-/// session's upload. Contracts see it as a `ServerState`.
+/// What serves one session: the reader of its packets, its state, the store, and the lists of all callers. It must be
+/// ended, which parks the session's upload. Contracts see it as a `ServerState`.
 pub(crate) struct SessionServer {
     reader: PacketReader,
     session: Session,
     store: FileStore,
+    lists: Lists,
 }
 
 impl Model for SessionServer {
@@ -122,23 +153,27 @@ impl Model for SessionServer {
 }
 
 impl SessionServer {
-    /// Before the first packet, over this store, of which no upload is out. LOGIN_RESP at this moment is among the
-    /// replies, and is to be said. Takes no memory yet.
+    /// Before the first packet, over this store, of which no upload is out, and without lists. LOGIN_RESP at this moment
+    /// is among the replies, and is to be said. Takes no memory yet.
     pub(crate) fn new(
         caller: Call,
         first: u32,
         store: FileStore,
+        lists: Lists,
         replies: &mut Replies,
     ) -> SessionServer
         requires nothing_out { NothingOut store.files }
+        requires no_lists { lists ≡ [] }
         requires empty { replies.old.items ≡ [] }
         ensures server { result ≡ new_server caller store }
-        ensures text { replies.new.items ≡ packet_text (greeting first) }
+        ensures text { replies.new.items ≡ login_text first }
     {
+        let session = Session::new(caller, first, &lists, replies);
         SessionServer {
             reader: PacketReader::new(),
-            session: Session::new(caller, first, replies),
+            session,
             store,
+            lists,
         }
     }
 
@@ -152,6 +187,7 @@ impl SessionServer {
             reader: _,
             session,
             mut store,
+            lists: _,
         } = self;
         state_law(&store);
         session.end(&mut store);
@@ -170,7 +206,7 @@ impl SessionServer {
     ) -> Result<Served, NodeStop>
         requires fresh { self.old ≡ new_server terms.now.caller self.old.store }
         requires up { IsUp D.Disk self.old.store disk.old }
-        requires login { login.now ≡ packet_text (greeting first) }
+        requires login { login.now ≡ login_text first }
         ensures served { SessionOn D.Disk A.Air C.given self.old.store self.new.store disk.old disk.new air.old air.new
             clock.old clock.new first [] terms.now result }
         ensures clock { IsSome terms.now.moment → clock.new ≡ clock.old }
@@ -196,7 +232,7 @@ impl SessionServer {
         requires fresh { self.old ≡ new_server terms.now.caller self.old.store }
         requires up { IsUp D.Disk self.old.store disk.old }
         ensures ran { SessionOn D.Disk A.Air C.given self.old.store self.new.store disk.old disk.new air.old air.new
-            clock.old clock.new first (packet_text (greeting first)) terms.now result }
+            clock.old clock.new first (login_text first) terms.now result }
         ensures clock { IsSome terms.now.moment → clock.new ≡ clock.old }
         ensures counts { HasAirCause A.read_faults A.write_faults air.old air.new result }
     {
@@ -286,6 +322,7 @@ impl SessionServer {
                 &self.reader,
                 &mut self.session,
                 &mut self.store,
+                &mut self.lists,
                 disk,
                 air,
                 moment,

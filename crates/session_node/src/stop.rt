@@ -4,7 +4,7 @@ ghost use Rattle.std.specs.Prelude.{◌≡◌};
 ghost use Rattle.session_node.specs.Stops.{stop_of_fault, stop_of_session};
 
 use file_store::StoreFault;
-use ftl0_uploads::ServerStop;
+use ftl0_session::ServerStop;
 use thiserror::Error;
 
 /// Why a session stopped before the end of the air.
@@ -16,8 +16,9 @@ pub enum NodeStop {
     /// A reply could not be said whole.
     #[error("saying failed")]
     AirWrite,
-    /// The disk failed, and its count of faults rose: at the recovery of the store, and nothing was said; or in a
-    /// packet's commands, and the reply with code 3 was said, as far as the air took it.
+    /// The disk failed: at the recovery of the store, where a count of its faults rose and nothing was said; or at a
+    /// write or a sync of a packet's commands, where the count of those rose and the reply with code 3 was said, as far
+    /// as the air took it.
     #[error("the disk failed")]
     Disk,
     /// The disk has more than 16 octets, and they don't begin as a store's. Nothing was said.
@@ -35,13 +36,8 @@ pub enum NodeStop {
     /// As many polls were made as may be.
     #[error("as many polls were made as may be")]
     Spent,
-    /// A packet came whose row of the session's table isn't built yet.
-    #[error("a packet asks for what is not built yet")]
-    NotBuilt {
-        /// The packet's type.
-        kind: u8,
-    },
-    /// There was no memory: at the recovery, and nothing was said; or for what a packet begins or brings.
+    /// There was no memory: at the recovery or for the lists, and nothing was said; or for what a packet begins or
+    /// brings.
     #[error("out of memory")]
     OutOfMemory,
 }
@@ -51,7 +47,6 @@ impl From<ServerStop> for NodeStop {
 
     fn from(stop: ServerStop) -> NodeStop {
         match stop {
-            ServerStop::NotBuilt { kind } => NodeStop::NotBuilt { kind },
             ServerStop::Disk => NodeStop::Disk,
             ServerStop::OutOfMemory => NodeStop::OutOfMemory,
         }

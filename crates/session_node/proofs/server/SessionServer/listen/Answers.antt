@@ -2,9 +2,7 @@
 use Rattle.std.proofs.Common.{◌≡◌, arith, Result}
 use Rattle.session_node.specs.declared.stop.NodeStop.{NodeStop}
 use Rattle.session_node.specs.declared.terms.Served.{Served}
-use Rattle.ftl0_packets.specs.Layout.{packet_text}
-use Rattle.ftl0_uploads.specs.Session.{greeting}
-use Rattle.session_node.specs.SessionRan.{SessionOn}
+use Rattle.session_node.specs.SessionRan.{SessionOn, login_text}
 use Rattle.session_node.proofs.Listening.{listening-done, listening-more, listening-spent, listening-start, listening-stops}
 use Rattle.session_node.proofs.Serving.{at_exit}
 use Rattle.session_node.proofs.server.SessionServer.listen.Goals as goal
@@ -19,7 +17,7 @@ returns-in_err-take_turn-clause-ran g c =
     let moment = c.moment_of_turn-moment.ensures in
     at_exit
     (λ (r : Result Served NodeStop). SessionOn g.D.Disk g.A.Air g.C.Clock.given c.args.self.now.store c.take_turn.new.self.store c.args.disk.now c.take_turn.new.disk c.args.air.now c.take_turn.new.air
-    c.args.clock.now c.moment_of_turn-moment.new.clock c.args.first (packet_text (greeting c.args.first)) c.args.terms.now r)
+    c.args.clock.now c.moment_of_turn-moment.new.clock c.args.first (login_text c.args.first) c.args.terms.now r)
     c.from_residual.result c.in_err-take_turn.field-0.0 c.from_residual.ensures.1
     (listening-stops g.D.Disk g.A.Air g.C.Clock.given g.met.D.Disk.lasts_same g.met.D.Disk.lasts_on c.args.first c.args.terms.now c.args.self.now.store c.args.air.now c.args.clock.now c.args.disk.now
     c.stream_law.ensures.read c.loop-turn.air c.loop-turn.clock c.loop-turn.disk c.loop-turn.self c.loop-turn.turn c.loop-turn.invariant
