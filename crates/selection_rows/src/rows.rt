@@ -1,0 +1,80 @@
+//! The headers of the rows so far, and the selections that are played over them.
+
+use anyhow::{Result, bail, ensure};
+use arrayvec::ArrayVec;
+use pfh_items::Header;
+use selection::Selection;
+use std::alloc::Global;
+
+/// How many octets tokens have at most.
+const MOST_OCTETS: usize = 2_047;
+
+/// What the rows so far made.
+#[derive(Drop)]
+pub struct SelectionRows {
+    alloc: Global,
+    /// The octets of each header.
+    headers: Vec<Vec<u8>>,
+    /// The tokens that the last selection wrote.
+    written: ArrayVec<u8, MOST_OCTETS>,
+}
+
+impl SelectionRows {
+    /// Before the first row.
+    pub fn new(alloc: Global) -> SelectionRows {
+        SelectionRows {
+            alloc,
+            headers: Vec::new(alloc),
+            written: ArrayVec::new(),
+        }
+    }
+
+    /// Plays a row, and gives what is printed for it. Takes memory.
+    pub fn play(&mut self, row: &str) -> Result<String> {
+        let (kind, octets) = row.split_once(' ').unwrap_or((row, ""));
+        let octets = hex::decode(self.alloc, octets)?;
+        match kind {
+            "header" => self.add_header(octets),
+            "select" => self.select(octets.as_slice()),
+            _ => bail!("no row"),
+        }
+    }
+
+    /// Keeps the octets of a header, and shows its place, or that they are none.
+    fn add_header(&mut self, octets: Vec<u8>) -> Result<String> {
+        if Header::of(octets.as_slice()).is_none() {
+            return Ok(String::from_str(self.alloc, "no header")?);
+        }
+        let place = self.headers.len();
+        self.headers.push(octets)?;
+        Ok(format!(in self.alloc; "header {place}")?)
+    }
+
+    /// Shows of which headers a selection holds, and the tokens that it writes; or the tokens' first fault.
+    fn select(&mut self, tokens: &[u8]) -> Result<String> {
+        ensure!(tokens.len() <= MOST_OCTETS, "too many octets");
+        match Selection::read(tokens) {
+            Ok(selection) => self.shown(&selection),
+            Err(fault) => Ok(format!(in self.alloc; "{fault:?}")?),
+        }
+    }
+
+    /// A digit for each header, and the tokens that the selection writes, in hexadecimal.
+    fn shown(&mut self, selection: &Selection) -> Result<String> {
+        let mut text = String::new(self.alloc);
+        for octets in self.headers.iter() {
+            text.push_str(digit(selection, octets.as_slice())?)?;
+        }
+        selection.write(&mut self.written);
+        let written = hex::encode(self.alloc, self.written.as_slice())?;
+        Ok(format!(in self.alloc; "{text} {written}")?)
+    }
+}
+
+/// `1` where the selection holds of the header with these octets, and else `0`.
+fn digit(selection: &Selection, octets: &[u8]) -> Result<&'static str> {
+    let Some(header) = Header::of(octets) else {
+        bail!("no header");
+    };
+    Ok(if selection.holds(&header) { "1" } else { "0" })
+}
