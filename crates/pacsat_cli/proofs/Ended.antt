@@ -1,18 +1,12 @@
 -- How a session or a service ended, as its status says.
 use Rattle.std.proofs.Common.{◌≡◌, ℕ, List, ◌++◌, refl, ap, sym, subst, ◌∙◌, inl, inr, Bool, true, false, arith}
 use Rattle.std.proofs.lemmas.List.{append_cancel_left}
-use Rattle.std.specs.Prelude.{◌⊎◌, slice_index, Option, Some, Result, Ok, Err, IsErrOf, if◌then◌else◌}
-use Rattle.px_base.specs.CallSign.{CallSign}
+use Rattle.std.specs.Prelude.{Option, Some, Result, Ok, Err, if◌then◌else◌}
 use Rattle.px_base.specs.Outside.{Grows}
 use Rattle.px_base.specs.Polling.{EndsWith, HasEnd}
 use Rattle.px_base.specs.declared.air.Turn.{Turn}
 use Rattle.px_base.specs.declared.air.Turn.TheVariants as turn
-use Rattle.file_entries.specs.Command.{Command}
-use Rattle.file_entries.specs.Store.{Store}
-use Rattle.ftl0_uploads.specs.Events.{Event, packets_in}
-use Rattle.ftl0_uploads.specs.Session.{command}
-use Rattle.session_node.specs.Running.{StopsOver}
-use Rattle.session_node.specs.SessionRan.{EndsOver, IsGreeted, IsUngreeted, TurnsBy}
+use Rattle.session_node.specs.SessionRan.{TurnsBy}
 use Rattle.session_node.specs.Stops.{CountsBy}
 use Rattle.session_node.specs.declared.stop.NodeStop.{NodeStop}
 use Rattle.session_node.specs.declared.stop.NodeStop.TheVariants as stop
@@ -22,9 +16,9 @@ use Rattle.pacsat_cli.specs.declared.status.BadStore.TheVariants as bad
 use Rattle.pacsat_cli.specs.declared.status.Status.{Status}
 use Rattle.pacsat_cli.specs.declared.status.Status.TheVariants as status
 use Rattle.pacsat_cli.specs.Run.{HasStatusCause}
-use Rattle.pacsat_cli.specs.Sessions.{HasWriteCause, AsksFresh, IsNotBuiltBy, IsSpentBy, has_unbuilt}
+use Rattle.pacsat_cli.specs.Sessions.{HasWriteCause, AsksFresh, IsSpentBy}
 use Rattle.pacsat_cli.specs.Stops.{status_in_memory, status_of}
-use Rattle.pacsat_cli.proofs.Built.{ends_with-not_open, failed-no_end, open-no_end, run-built, stop-unbuilt}
+use Rattle.pacsat_cli.proofs.OpenTurns.{ends_with-not_open, failed-no_end, open-no_end}
 
 -- the status over a disk, or over one in memory
 abbrev pub mended : Bool → Status → Status
@@ -39,7 +33,6 @@ mended-memory (Err stop.Disk) = refl
 mended-memory (Err (stop.NotAStore found)) = refl
 mended-memory (Err (stop.Damaged at)) = refl
 mended-memory (Err stop.Spent) = refl
-mended-memory (Err (stop.NotBuilt kind)) = refl
 mended-memory (Err stop.OutOfMemory) = refl
 
 pub mended-disk : (ended : Result Served NodeStop) → mended false (status_of ended) ≡ status_of ended
@@ -50,7 +43,6 @@ mended-disk (Err stop.Disk) = refl
 mended-disk (Err (stop.NotAStore found)) = refl
 mended-disk (Err (stop.Damaged at)) = refl
 mended-disk (Err stop.Spent) = refl
-mended-disk (Err (stop.NotBuilt kind)) = refl
 mended-disk (Err stop.OutOfMemory) = refl
 
 -- where the end was heard, it is done
@@ -62,7 +54,6 @@ done_by memory (Err stop.Disk) polls turns h end = absurd (open-no_end turns h e
 done_by memory (Err (stop.NotAStore found)) polls turns h end = absurd h
 done_by memory (Err (stop.Damaged at)) polls turns h end = absurd h
 done_by memory (Err stop.Spent) polls turns h end = absurd (open-no_end turns h.1 end)
-done_by memory (Err (stop.NotBuilt kind)) polls turns h end = absurd (open-no_end turns h end)
 done_by memory (Err stop.OutOfMemory) polls turns h end = absurd (open-no_end turns h end)
 
 -- what is done read the end of the air
@@ -75,63 +66,19 @@ reads_end false (Err stop.Disk) polls turns h done = absurd (cc)
 reads_end memory (Err (stop.NotAStore found)) polls turns h done = absurd h
 reads_end memory (Err (stop.Damaged at)) polls turns h done = absurd h
 reads_end memory (Err stop.Spent) polls turns h done = absurd (cc)
-reads_end memory (Err (stop.NotBuilt kind)) polls turns h done = absurd (cc)
 reads_end memory (Err stop.OutOfMemory) polls turns h done = absurd (cc)
 
--- what was said and done over the events, after LOGIN_RESP or before it was said whole
-abbrev pub Saying : CallSign → List ℕ → Store → List Event → ℕ → ℕ → List Turn → List ℕ → List Command → List Command → Result Served NodeStop → Type 0
-Saying caller moments start events writes writes_now turns text done cut ended =
-    IsUngreeted (slice_index moments 0) turns text done cut ended ⊎ IsGreeted caller moments start turns events writes writes_now text done cut ended
-
-ok-not : (served : Served) (other : NodeStop) → IsErrOf (Ok served) other → ⊥
-ok-not served other e = absurd (cc)
-
--- the events of a session that took all of them have rows
-all-built : (caller : CallSign) (moments : List ℕ) (start : Store) (events : List Event) (writes writes_now : ℕ) (turns : List Turn) (text : List ℕ) (done cut : List Command) (ended : Result Served NodeStop)
-    → (IsErrOf ended stop.AirWrite → ⊥) → Saying caller moments start events writes writes_now turns text done cut ended
-    → (replies : List ℕ) × (least : List Event) × EndsOver ended least caller start events writes writes_now replies done cut
-all-built caller moments start events writes writes_now turns text done cut ended isnt said =
-    elim said [ inl none ↦ absurd (isnt none.why) | inr greeted ↦ (greeted.replies, greeted.least, greeted.ends_over) ]
-
--- where a packet of a type that isn't built was heard, the run is not built, but for a fault or want of memory
-pub not_built_by : (memory : Bool) (caller : CallSign) (moments : List ℕ) (start : Store) (events : List Event) (writes writes_now : ℕ) (turns : List Turn) (text : List ℕ) (done cut : List Command) (ended : Result Served NodeStop) (polls asked : ℕ)
-    → TurnsBy ended polls turns → Saying caller moments start events writes writes_now turns text done cut ended
-    → IsNotBuiltBy (mended memory (status_of ended)) asked turns (packets_in events)
-not_built_by memory caller moments start events writes writes_now turns text done cut (Ok served) polls asked h said some =
-    let all = all-built caller moments start events writes writes_now turns text done cut (Ok served) (ok-not served stop.AirWrite) said in
-    let none = run-built caller start command events all.0 done all.2.0 all.2.1 all.2.2 in absurd (let e = sym some ∙ none in cc)
-not_built_by memory caller moments start events writes writes_now turns text done cut (Err stop.AirRead) polls asked h said some =
-    let all = all-built caller moments start events writes writes_now turns text done cut (Err stop.AirRead) (λ e. cc) said in
-    let none = run-built caller start command events all.0 done all.2.0 all.2.1 all.2.2 in absurd (let e = sym some ∙ none in cc)
-not_built_by memory caller moments start events writes writes_now turns text done cut (Err stop.AirWrite) polls asked h said some = inr (0, omega arith, refl)
-not_built_by true caller moments start events writes writes_now turns text done cut (Err stop.Disk) polls asked h said some = inr (2, omega arith, refl)
-not_built_by false caller moments start events writes writes_now turns text done cut (Err stop.Disk) polls asked h said some = inr (1, omega arith, refl)
-not_built_by memory caller moments start events writes writes_now turns text done cut (Err (stop.NotAStore found)) polls asked h said some = absurd h
-not_built_by memory caller moments start events writes writes_now turns text done cut (Err (stop.Damaged at)) polls asked h said some = absurd h
-not_built_by memory caller moments start events writes writes_now turns text done cut (Err stop.Spent) polls asked h said some =
-    let all = all-built caller moments start events writes writes_now turns text done cut (Err stop.Spent) (λ e. cc) said in
-    let none = run-built caller start command events all.0 done all.2.0 all.2.1 all.2.2 in absurd (let e = sym some ∙ none in cc)
-not_built_by memory caller moments start events writes writes_now turns text done cut (Err (stop.NotBuilt kind)) polls asked h said some = inl refl
-not_built_by memory caller moments start events writes writes_now turns text done cut (Err stop.OutOfMemory) polls asked h said some = inr (2, omega arith, refl)
-
--- where all turns are open ones and each packet's type is built, the run is spent, but for a fault or want of memory
-pub spent_by : (memory : Bool) (caller : CallSign) (moments : List ℕ) (start : Store) (events : List Event) (writes writes_now : ℕ) (turns : List Turn) (text : List ℕ) (done cut : List Command) (ended : Result Served NodeStop) (polls asked : ℕ)
-    → TurnsBy ended polls turns → Saying caller moments start events writes writes_now turns text done cut ended
-    → IsSpentBy (mended memory (status_of ended)) asked turns (packets_in events)
-spent_by memory caller moments start events writes writes_now turns text done cut (Ok served) polls asked h said count all_open built = absurd (ends_with-not_open turns turn.End h.0 all_open)
-spent_by memory caller moments start events writes writes_now turns text done cut (Err stop.AirRead) polls asked h said count all_open built = absurd (ends_with-not_open turns turn.Fail h all_open)
-spent_by memory caller moments start events writes writes_now turns text done cut (Err stop.AirWrite) polls asked h said count all_open built = inr (0, omega arith, refl)
-spent_by true caller moments start events writes writes_now turns text done cut (Err stop.Disk) polls asked h said count all_open built = inr (2, omega arith, refl)
-spent_by false caller moments start events writes writes_now turns text done cut (Err stop.Disk) polls asked h said count all_open built = inr (1, omega arith, refl)
-spent_by memory caller moments start events writes writes_now turns text done cut (Err (stop.NotAStore found)) polls asked h said count all_open built = absurd h
-spent_by memory caller moments start events writes writes_now turns text done cut (Err (stop.Damaged at)) polls asked h said count all_open built = absurd h
-spent_by memory caller moments start events writes writes_now turns text done cut (Err stop.Spent) polls asked h said count all_open built = inl refl
-spent_by memory caller moments start events writes writes_now turns text done cut (Err (stop.NotBuilt kind)) polls asked h said count all_open built =
-    let all = all-built caller moments start events writes writes_now turns text done cut (Err (stop.NotBuilt kind)) (λ e. cc) said in
-    let stopped : StopsOver caller start command events (stop.NotBuilt kind) writes writes_now all.0 done cut = all.2.stops in
-    let some = stop-unbuilt caller stopped.store_then stopped.state_then stopped.before stopped.next stopped.later stopped.stops.0 in
-    absurd (let e = sym some ∙ sym (ap (λ (es : List Event). has_unbuilt (packets_in es)) stopped.events_are) ∙ built in cc)
-spent_by memory caller moments start events writes writes_now turns text done cut (Err stop.OutOfMemory) polls asked h said count all_open built = inr (2, omega arith, refl)
+-- where all turns are open ones the run is spent, but for a fault or want of memory
+pub spent_by : (memory : Bool) (ended : Result Served NodeStop) (polls asked : ℕ) (turns : List Turn) → TurnsBy ended polls turns → IsSpentBy (mended memory (status_of ended)) asked turns
+spent_by memory (Ok served) polls asked turns h count all_open = absurd (ends_with-not_open turns turn.End h.0 all_open)
+spent_by memory (Err stop.AirRead) polls asked turns h count all_open = absurd (ends_with-not_open turns turn.Fail h all_open)
+spent_by memory (Err stop.AirWrite) polls asked turns h count all_open = inr (0, omega arith, refl)
+spent_by true (Err stop.Disk) polls asked turns h count all_open = inr (2, omega arith, refl)
+spent_by false (Err stop.Disk) polls asked turns h count all_open = inr (1, omega arith, refl)
+spent_by memory (Err (stop.NotAStore found)) polls asked turns h count all_open = absurd h
+spent_by memory (Err (stop.Damaged at)) polls asked turns h count all_open = absurd h
+spent_by memory (Err stop.Spent) polls asked turns h count all_open = inl refl
+spent_by memory (Err stop.OutOfMemory) polls asked turns h count all_open = inr (2, omega arith, refl)
 
 -- hearing failed where the count rose, and only there
 pub read_cause : (memory : Bool) (ended : Result Served NodeStop) (reads reads_now writes writes_now : ℕ) → CountsBy ended reads reads_now writes writes_now → HasStatusCause status.AirRead reads reads_now (mended memory (status_of ended))
@@ -143,7 +90,6 @@ read_cause false (Err stop.Disk) reads reads_now writes writes_now h = record { 
 read_cause memory (Err (stop.NotAStore found)) reads reads_now writes writes_now h = record { rose = λ e. absurd (cc); same = λ _. h.0 }
 read_cause memory (Err (stop.Damaged at)) reads reads_now writes writes_now h = record { rose = λ e. absurd (cc); same = λ _. h.0 }
 read_cause memory (Err stop.Spent) reads reads_now writes writes_now h = record { rose = λ e. absurd (cc); same = λ _. h.0 }
-read_cause memory (Err (stop.NotBuilt kind)) reads reads_now writes writes_now h = record { rose = λ e. absurd (cc); same = λ _. h.0 }
 read_cause memory (Err stop.OutOfMemory) reads reads_now writes writes_now h = record { rose = λ e. absurd (cc); same = λ _. h.0 }
 
 -- and so with saying, but for the reply after a fault of the disk
@@ -156,7 +102,6 @@ write_cause false words (Err stop.Disk) reads reads_now writes writes_now fresh 
 write_cause memory words (Err (stop.NotAStore found)) reads reads_now writes writes_now fresh h = record { rose = λ e. absurd (cc); same = λ _ _ _. h.1 }
 write_cause memory words (Err (stop.Damaged at)) reads reads_now writes writes_now fresh h = record { rose = λ e. absurd (cc); same = λ _ _ _. h.1 }
 write_cause memory words (Err stop.Spent) reads reads_now writes writes_now fresh h = record { rose = λ e. absurd (cc); same = λ _ _ _. h.1 }
-write_cause memory words (Err (stop.NotBuilt kind)) reads reads_now writes writes_now fresh h = record { rose = λ e. absurd (cc); same = λ _ _ _. h.1 }
 write_cause memory words (Err stop.OutOfMemory) reads reads_now writes writes_now fresh h = record { rose = λ e. absurd (cc); same = λ _ _ _. h.1 }
 
 -- which end has the status Disk, and which that of content that is no store
@@ -168,7 +113,6 @@ disk-end (Err stop.Disk) e = refl
 disk-end (Err (stop.NotAStore found)) e = absurd (cc)
 disk-end (Err (stop.Damaged at)) e = absurd (cc)
 disk-end (Err stop.Spent) e = absurd (cc)
-disk-end (Err (stop.NotBuilt kind)) e = absurd (cc)
 disk-end (Err stop.OutOfMemory) e = absurd (cc)
 
 pub not_a_store-end : (ended : Result Served NodeStop) (found : List ℕ) → status_of ended ≡ status.BadStore (bad.NotAStore found) → ended ≡ Err (stop.NotAStore found)
@@ -179,7 +123,6 @@ not_a_store-end (Err stop.Disk) found e = absurd (cc)
 not_a_store-end (Err (stop.NotAStore other)) found e = (let same : other ≡ found = cc in ap (λ (f : List ℕ). Err (stop.NotAStore f)) same)
 not_a_store-end (Err (stop.Damaged at)) found e = absurd (cc)
 not_a_store-end (Err stop.Spent) found e = absurd (cc)
-not_a_store-end (Err (stop.NotBuilt kind)) found e = absurd (cc)
 not_a_store-end (Err stop.OutOfMemory) found e = absurd (cc)
 
 pub damaged-end : (ended : Result Served NodeStop) (at : ℕ) → status_of ended ≡ status.BadStore (bad.Damaged at) → ended ≡ Err (stop.Damaged at)
@@ -190,7 +133,6 @@ damaged-end (Err stop.Disk) at e = absurd (cc)
 damaged-end (Err (stop.NotAStore found)) at e = absurd (cc)
 damaged-end (Err (stop.Damaged other)) at e = (let same : other ≡ at = cc in ap (λ (p : ℕ). Err (stop.Damaged p)) same)
 damaged-end (Err stop.Spent) at e = absurd (cc)
-damaged-end (Err (stop.NotBuilt kind)) at e = absurd (cc)
 damaged-end (Err stop.OutOfMemory) at e = absurd (cc)
 
 -- over a disk in memory neither comes
@@ -219,7 +161,6 @@ heard-not_bad false (Err stop.Disk) polls turns why h e = absurd (cc)
 heard-not_bad memory (Err (stop.NotAStore found)) polls turns why h e = h
 heard-not_bad memory (Err (stop.Damaged at)) polls turns why h e = h
 heard-not_bad memory (Err stop.Spent) polls turns why h e = absurd (cc)
-heard-not_bad memory (Err (stop.NotBuilt kind)) polls turns why h e = absurd (cc)
 heard-not_bad memory (Err stop.OutOfMemory) polls turns why h e = absurd (cc)
 
 -- what is told to have come since is what came

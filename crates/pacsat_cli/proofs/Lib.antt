@@ -1,4 +1,3 @@
-pub mod Built
 pub mod Ended
 pub mod FileEnds
 pub mod FilesShown
@@ -7,6 +6,7 @@ pub mod MakeEnds
 pub mod MemorySession
 pub mod NodeEnds
 pub mod OneTask
+pub mod OpenTurns
 pub mod RunFile
 pub mod RunMake
 pub mod RunRefused

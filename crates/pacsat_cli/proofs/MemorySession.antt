@@ -1,8 +1,12 @@
 -- A session over a fresh disk in memory.
-use Rattle.std.proofs.Common.{◌≡◌, ℕ, List, [], refl, ap, sym, subst, ◌∙◌, inl, inr}
+use Rattle.std.proofs.Common.{◌≡◌, ℕ, List, [], true, refl, ap, sym, subst, ◌∙◌, inl, inr}
 use Rattle.std.specs.Prelude.{Option, Some, IfSome, Result, Err}
 use Rattle.px_base.specs.declared.air.Air.{Ghosts as AirGhosts}
+use Rattle.disk_model.specs.Calls.{new_state}
+use Rattle.disk_model.specs.Memory.{read_faults, state as disk_state}
 use Rattle.disk_model.specs.declared.disk.Disk.{Ghosts}
+use Rattle.disk_model.specs.declared.memory_disk.MemoryDisk.{MemoryDisk}
+use Rattle.file_journal.specs.Calls.{CountsFault}
 use Rattle.file_journal.specs.Journal.{journal_of}
 use Rattle.file_journal.specs.Walk.{state}
 use Rattle.file_entries.specs.Store.{Store, empty_store}
@@ -33,7 +37,7 @@ no-refusal blocks ended exact found is = let told = sym (fresh-stands blocks) �
 no-damage : (blocks : ℕ) (ended : Result Served NodeStop) → EndsExactly blocks [] ended → (at : ℕ) → ended ≡ Err (stop.Damaged at) → ⊥
 no-damage blocks ended exact at is = let told = sym (fresh-stands blocks) ∙ (exact.damaged at).0 is in absurd (cc)
 
-module _ {A C D : Type 0} (g : Ghosts D) (air : AirGhosts A) (given : C → Option (List ℕ)) (disk disk_now : D) (before now : A) (clock clock_n : C) (terms : SessionTerms) (ended : Result Served NodeStop)
+module _ {A C : Type 0} (g : Ghosts MemoryDisk) (air : AirGhosts A) (given : C → Option (List ℕ)) (disk disk_now : MemoryDisk) (before now : A) (clock clock_n : C) (terms : SessionTerms) (ended : Result Served NodeStop)
     (fresh : g.content disk ≡ Some []) (refuses : RefusesSession terms.limits.blocks (g.content disk) ended) (counts : HasAirCause air.read_faults air.write_faults before now ended) where
   exact : (why : NodeStop) → ended ≡ Err why → (why ≡ stop.Disk → ⊥) → (why ≡ stop.OutOfMemory → ⊥) → EndsExactly terms.limits.blocks [] ended
   exact why is disk_not memory_not =
@@ -48,12 +52,13 @@ module _ {A C D : Type 0} (g : Ghosts D) (air : AirGhosts A) (given : C → Opti
   refused fault.Disk is same clock_same = inl (ap (λ (r : Result Served NodeStop). status_in_memory (status_of r)) is, same, clock_same)
   refused fault.OutOfMemory is same clock_same = inl (ap (λ (r : Result Served NodeStop). status_in_memory (status_of r)) is, same, clock_same)
 
-  pub over-memory : SessionEnds g air given disk disk_now before now clock clock_n terms ended → OverMemory air given before now clock clock_n terms (status_in_memory (status_of ended))
-  over-memory (inl h) = refused h.fault h.answer h.air h.clock_is
-  over-memory (inr h) =
+  pub over-memory : disk_state disk ≡ new_state [] [] → ((d : MemoryDisk) → g.read_faults d ≡ read_faults d) → SessionEnds g air given disk disk_now before now clock clock_n terms ended
+      → OverMemory air given before now clock clock_n terms (status_in_memory (status_of ended))
+  over-memory is_new counts_so (inl h) = refused h.fault h.answer h.air h.clock_is
+  over-memory is_new counts_so (inr h) =
       let P : Option (List ℕ) → Type 0 = λ o. IfSome o (λ octets. standing_of terms.limits.blocks octets ≡ state h.start) in
       let start_is = state-same h.start (empty_store terms.limits.blocks) (sym (subst P fresh h.stood) ∙ fresh-stands terms.limits.blocks) in
-      let Q : Store → Type 0 = λ s. SessionRan terms.caller h.moments s terms.polls h.turns (air.write_faults before) (air.write_faults now) h.text h.done h.cut ended in
+      let Q : Store → Type 0 = λ s. SessionRan terms.caller h.moments s terms.polls h.turns (air.write_faults before) (air.write_faults now) h.text h.done h.cut h.missed ended in
       inr
       (record {
         ended = ended;
@@ -62,10 +67,18 @@ module _ {A C D : Type 0} (g : Ghosts D) (air : AirGhosts A) (given : C → Opti
         text = h.text;
         done = h.done;
         cut = h.cut;
+        missed = h.missed;
         turns_heard = h.turns_heard;
         moments_given = h.moments_given;
         text_said = h.text_said;
         ran = subst Q start_is h.ran;
+        fresh = disk;
+        is_fresh = is_new;
+        used = disk_now;
+        reads =
+            let at_first : ℕ → Type 0 = λ n. CountsFault n (read_faults disk_now) (h.missed ≡ true) in
+            let at_last : ℕ → Type 0 = λ n. CountsFault (g.read_faults disk) n (h.missed ≡ true) in
+            subst at_first (counts_so disk) (subst at_last (counts_so disk_now) h.reads);
         counts = counts;
         status_is = refl;
       })

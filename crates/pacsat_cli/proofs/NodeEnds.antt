@@ -1,14 +1,15 @@
 -- What a session and a service have in common: how they end, what they count, and what their disk has to do with it.
-use Rattle.std.proofs.Common.{◌≡◌, ℕ, List, [], ◌++◌, refl, ap, sym, subst, ◌∙◌, inl, inr, Bool, true, false, append-nil}
+use Rattle.std.proofs.Common.{◌≡◌, ℕ, ◌≤◌, List, [], ◌++◌, length, arith, refl, ap, sym, subst, ◌∙◌, inl, inr, Bool, true, false, append-nil}
 use Rattle.std.proofs.lemmas.List.{append_cancel_left}
 use Rattle.std.specs.Prelude.{◌⊎◌, Option, Some, None, IfSome, Result, Ok, Err, IsErrOf}
 use Rattle.px_base.specs.Polling.{HasEnd, HearsAll}
 use Rattle.px_base.specs.declared.air.Air.{Ghosts as AirGhosts}
 use Rattle.px_base.specs.declared.air.Turn.{Turn}
 use Rattle.disk_model.specs.declared.disk.Disk.{Ghosts}
-use Rattle.file_journal.specs.Calls.{Puts, Runs}
+use Rattle.file_store.specs.Working.{PutsAmongReads}
 use Rattle.file_store.specs.declared.refusals.StoreFault.{StoreFault}
 use Rattle.file_store.specs.declared.refusals.StoreFault.TheVariants as fault
+use Rattle.session_node.specs.OnDisk.{NodeRuns}
 use Rattle.session_node.specs.SessionRan.{TurnsBy}
 use Rattle.session_node.specs.Stops.{CountsBy, EndsExactly, RefusesSession, stop_of_fault}
 use Rattle.session_node.specs.declared.stop.NodeStop.{NodeStop}
@@ -17,9 +18,9 @@ use Rattle.session_node.specs.declared.terms.Served.{Served}
 use Rattle.pacsat_cli.specs.declared.status.Status.{Status}
 use Rattle.pacsat_cli.specs.declared.status.Status.TheVariants as status
 use Rattle.pacsat_cli.specs.Run.{HasStatusCause}
-use Rattle.pacsat_cli.specs.Sessions.{AsksDisk, AsksFresh, HasDiskCause, HasWriteCause, IsDoneAtEnd, RefusesExactly}
+use Rattle.pacsat_cli.specs.Sessions.{AsksDisk, AsksFresh, HasDiskCause, HasWriteCause, IsDoneAtEnd, IsSpentBy, RefusesExactly}
 use Rattle.pacsat_cli.specs.Stops.{status_of}
-use Rattle.pacsat_cli.proofs.Ended.{damaged-end, disk-end, done_by, mended, not_a_store-end, read_cause, reads_end, told-same, write_cause}
+use Rattle.pacsat_cli.proofs.Ended.{damaged-end, disk-end, done_by, mended, not_a_store-end, read_cause, reads_end, spent_by, told-same, write_cause}
 
 -- whether a session or a service can end with this status
 abbrev pub is_node_status : Status → Bool
@@ -30,7 +31,6 @@ is_node_status status.Disk = true
 is_node_status (status.BadStore why) = true
 is_node_status status.OutOfMemory = true
 is_node_status status.Spent = true
-is_node_status status.NotBuilt = true
 is_node_status s = false
 
 mended-node : (memory : Bool) (ended : Result Served NodeStop) → is_node_status (mended memory (status_of ended)) ≡ true
@@ -42,7 +42,6 @@ mended-node false (Err stop.Disk) = refl
 mended-node memory (Err (stop.NotAStore found)) = refl
 mended-node memory (Err (stop.Damaged at)) = refl
 mended-node memory (Err stop.Spent) = refl
-mended-node memory (Err (stop.NotBuilt kind)) = refl
 mended-node memory (Err stop.OutOfMemory) = refl
 
 -- whether it can end so before anything is heard or said
@@ -66,7 +65,7 @@ early-node status.Done e = refl
 early-node status.AirRead e = refl
 early-node status.AirWrite e = refl
 early-node status.Spent e = refl
-early-node status.NotBuilt e = refl
+early-node status.NotBuilt e = absurd (cc)
 early-node status.Refused e = absurd (cc)
 early-node status.Usage e = absurd (cc)
 early-node status.NoSuch e = absurd (cc)
@@ -137,7 +136,18 @@ module _ {A : Type 0} (air : AirGhosts A) (before now : A) (s : Status) where
         let P : List Turn → Type 0 = λ x. HasEnd x in
         went.status_is ∙ done_by memory went.ended polls went.turns went.ends (subst P (sym (turns_told went earlier turns told_before told_now)) end)
 
-    -- where it is done, the end of the air was read, and no count rose
+    -- where all polls were made and left the air open, it is spent, but for a fault or want of memory
+    pub node-spent : Goes air polls memory before now s → (asked : ℕ) → 1 ≤ asked → (earlier turns : List Turn) → air.heard before ≡ Some earlier → air.heard now ≡ Some (earlier ++ turns)
+        → IsSpentBy s asked turns
+    node-spent (inl early) asked some earlier turns told_before told_now count all_open =
+        let none = ap length (no-turns early.same earlier turns told_before told_now) in
+        absurd (omega (arith, some, none, count))
+    node-spent (inr went) asked some earlier turns told_before told_now =
+        let at_status : Status → Type 0 = λ t. IsSpentBy t asked turns in
+        let at_turns : List Turn → Type 0 = λ x. IsSpentBy (mended memory (status_of went.ended)) asked x in
+        subst at_status (sym went.status_is) (subst at_turns (turns_told went earlier turns told_before told_now) (spent_by memory went.ended polls asked went.turns went.ends))
+
+    -- where it is done, the end of the air was read, and no count rose but that of failed reads of the disk
     pub node-done :
         {D : Type 0} (words : List (List ℕ)) (reads writes : D → ℕ) (disk disk_now : D) → (memory ≡ true → AsksFresh words)
         → Goes air polls memory before now s → HasDiskCause words reads writes disk disk_now before now s → s ≡ status.Done
@@ -152,19 +162,19 @@ module _ {A : Type 0} (air : AirGhosts A) (before now : A) (s : Status) where
               ];
           air_reads = (node-read goes).same (λ e. let other = sym done ∙ e in cc);
           air_writes = (node-write words fresh goes).same (λ e. let other = sym done ∙ e in cc) (λ e. let other = sym done ∙ e in cc) (λ e. let other = sym done ∙ e in absurd (cc));
-          disk_reads = disks.0;
-          disk_writes = disks.1;
+          disk_reads = cause.no_less.0;
+          disk_writes = disks;
         }
 
 -- It was over the disk that DISK names: the recovery of its store was refused, or it took turns.
 pub record OnDisk {A D : Type 0} (g : Ghosts D) (air : AirGhosts A) (blocks polls : ℕ) (disk disk_now : D) (before now : A) (s : Status) : Type 0 where
   pub ended : Result Served NodeStop
   pub refuses : RefusesSession blocks (g.content disk) ended
-  pub runs : Runs g (IsErrOf ended stop.Disk) disk disk_now
+  pub runs : NodeRuns g (IsErrOf ended stop.Disk) disk disk_now
   pub status_is : s ≡ status_of ended
   pub goes :
       ((why : StoreFault) × (ended ≡ Err (stop_of_fault why)) × (now ≡ before))
-      ⊎ (Puts g (IsErrOf ended stop.Disk) disk disk_now × Went air polls false before now s)
+      ⊎ (PutsAmongReads g (IsErrOf ended stop.Disk) disk disk_now × Went air polls false before now s)
 
 -- the recovery was refused before anything was heard
 pub early-of : {A : Type 0} (before now : A) (s : Status) (ended : Result Served NodeStop) (why : StoreFault) → s ≡ status_of ended → ended ≡ Err (stop_of_fault why) → now ≡ before → Early before now s
@@ -185,10 +195,12 @@ module _ {A D : Type 0} (g : Ghosts D) (air : AirGhosts A) (blocks polls : ℕ) 
     rose = λ e.
         let failed = disk-end over.ended (sym over.status_is ∙ e) in
         elim over.goes [
-          | inl refused ↦ elim (over.runs.faults.rose failed) [ inl reads ↦ inr (reads, refused.2) | inr writes ↦ inl writes ]
+          | inl refused ↦ elim (over.runs.rose failed) [ inl reads ↦ inr (reads, refused.2) | inr writes ↦ inl writes ]
           | inr went ↦ inl (went.0.faults.rose failed)
         ];
-    same = λ isnt. over.runs.faults.same (λ failed. isnt (over.status_is ∙ ap status_of failed));
+    same = λ isnt. over.runs.same (λ failed. isnt (over.status_is ∙ ap status_of failed));
+    same_reads = λ none. absurd (none asks);
+    no_less = (over.runs.reads, over.runs.writes);
   }
 
   -- each refusal, by what the content stands for

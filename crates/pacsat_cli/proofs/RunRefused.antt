@@ -18,8 +18,8 @@ use Rattle.pacsat_cli.specs.declared.files.FileCommand.{FileCommand}
 use Rattle.pacsat_cli.specs.Files.{FileEnd, FileShown, IsNoSuchBy, IsShownBy, IsTooLongBy}
 use Rattle.pacsat_cli.specs.Making.{IsMakeStatus, MakeRan}
 use Rattle.pacsat_cli.specs.Run.{IsUnless, Shows}
-use Rattle.pacsat_cli.specs.Servers.{IsServeDoneBy, IsServeSpentBy, RunsServe, WhereServed}
-use Rattle.pacsat_cli.specs.Sessions.{HasDiskCause, HasStoreCause, IsDoneBy, IsNotBuiltBy, IsSpentBy, RunsSession, WhereHeard}
+use Rattle.pacsat_cli.specs.Servers.{RunsServe, WhereServed}
+use Rattle.pacsat_cli.specs.Sessions.{HasDiskCause, HasStoreCause, IsDoneBy, IsSpentBy, RunsSession, WhereHeard}
 use Rattle.pacsat_cli.specs.Status.{line_of}
 use Rattle.pacsat_cli.specs.Stops.{status_of_refusal}
 use Rattle.pacsat_cli.specs.Tasks.{AsksText, RunsFile, RunsMake, WhereHeld}
@@ -65,6 +65,11 @@ module _ (words : List (List ℕ)) (only : OnlyOne words) where
   refused-unbuilt refusal.NotBuilt h unbuilt = inl refl
   refused-unbuilt refusal.OutOfMemory h unbuilt = inr (0, omega arith, refl)
 
+  pub refused-unbuilt_told : (why : Refusal) → MeansOf words why → status_of_refusal why ≡ status.NotBuilt → IsUnbuilt words
+  refused-unbuilt_told refusal.Usage h is = absurd (cc)
+  refused-unbuilt_told refusal.NotBuilt h is = h
+  refused-unbuilt_told refusal.OutOfMemory h is = absurd (cc)
+
   pub refused-unread : (why : Refusal) → MeansOf words why → status_of_refusal why ≡ status.OutOfMemory → NamesBuilt words
   refused-unread refusal.Usage h is = absurd (cc)
   refused-unread refusal.NotBuilt h is = absurd (cc)
@@ -106,24 +111,23 @@ module _ (words : List (List ℕ)) (only : OnlyOne words) where
       pub refused-complete : WhereHeard words air.heard before before (IsDoneBy (status_of_refusal why))
       refused-complete = λ told. node-complete air before before (status_of_refusal why) told.asked.polls false (early told.asked.polls (session-memory why h told.asked told.asks)) told.earlier told.turns told.told_before told.told_now
 
-      pub refused-serve_complete : WhereServed words air.heard before before (IsServeDoneBy (status_of_refusal why))
+      pub refused-serve_complete : WhereServed words air.heard before before (IsDoneBy (status_of_refusal why))
       refused-serve_complete = λ told. node-complete air before before (status_of_refusal why) told.asked.polls false (early told.asked.polls (serve-memory why h told.asked told.asks)) told.earlier told.turns told.told_before told.told_now
 
-      pub refused-serve_spent : WhereServed words air.heard before before (IsServeSpentBy (status_of_refusal why))
-      refused-serve_spent = λ told counted all_open. inr (3, omega arith, sym (serve-memory why h told.asked told.asks))
-
-      pub refused-not_built : WhereHeard words air.heard before before (IsNotBuiltBy (status_of_refusal why))
-      refused-not_built = λ told some. inr (2, omega arith, sym (session-memory why h told.asked told.asks))
+      pub refused-serve_spent : WhereServed words air.heard before before (IsSpentBy (status_of_refusal why))
+      refused-serve_spent = λ told counted all_open. inr (2, omega arith, sym (serve-memory why h told.asked told.asks))
 
       pub refused-spent : WhereHeard words air.heard before before (IsSpentBy (status_of_refusal why))
-      refused-spent = λ told counted all_open built. inr (2, omega arith, sym (session-memory why h told.asked told.asks))
+      refused-spent = λ told counted all_open. inr (2, omega arith, sym (session-memory why h told.asked told.asks))
 
     -- a disk that stayed has no cause
     pub refused-disk : {A D : Type 0} (reads writes : D → ℕ) (disk : D) (before : A) → HasDiskCause words reads writes disk disk before before (status_of_refusal why)
     refused-disk reads writes disk before = record {
       asked = λ e. absurd (refused-not why status.Disk refl e);
       rose = λ e. absurd (refused-not why status.Disk refl e);
-      same = λ _. (refl, refl);
+      same = λ _. refl;
+      same_reads = λ _. refl;
+      no_less = (omega arith, omega arith);
     }
 
     pub refused-bad_store : (content : Option (List ℕ)) → HasStoreCause words content (status_of_refusal why)

@@ -1,52 +1,18 @@
 -- What a run did, where the words ask for a service.
-use Rattle.std.proofs.Common.{◌≡◌, ℕ, List, [], ◌∷◌, refl, ap, sym, subst, ◌∙◌, inl, inr, true, false, arith, length}
-use Rattle.std.specs.List.{AllByRecursion}
-use Rattle.std.specs.Prelude.{Option, IfSome, Result, Ok, Err}
-use Rattle.px_base.specs.Polling.{IsOpen}
+use Rattle.std.proofs.Common.{◌≡◌, ℕ, List, ap, sym, subst, ◌∙◌, inl, inr, true, false}
+use Rattle.std.specs.Prelude.{Option, IfSome}
 use Rattle.px_base.specs.declared.air.Air.{Ghosts as AirGhosts}
-use Rattle.px_base.specs.declared.air.Turn.{Turn}
-use Rattle.px_base.specs.declared.air.Turn.TheVariants as turn
 use Rattle.disk_model.specs.declared.disk.Disk.{Ghosts}
-use Rattle.session_node.specs.SessionRan.{TurnsBy}
-use Rattle.session_node.specs.declared.stop.NodeStop.{NodeStop}
-use Rattle.session_node.specs.declared.stop.NodeStop.TheVariants as stop
-use Rattle.session_node.specs.declared.terms.Served.{Served}
 use Rattle.command_words.specs.declared.serve.ServeRequest.{ServeRequest}
 use Rattle.command_words.specs.Laws.{Determined, OnlyOne}
 use Rattle.command_words.specs.Words.{IsServe}
 use Rattle.pacsat_cli.specs.declared.status.Status.{Status}
 use Rattle.pacsat_cli.specs.declared.status.Status.TheVariants as status
-use Rattle.pacsat_cli.specs.Run.{HasStatusCause, IsUnless}
-use Rattle.pacsat_cli.specs.Servers.{IsServeDoneBy, IsServeSpentBy, IsServedOver, RunsServe, WhereServed, serve_terms}
-use Rattle.pacsat_cli.specs.Sessions.{AsksFresh, HasDiskCause, HasStoreCause, HasWriteCause, IsDoneAtEnd, RefusesExactly}
-use Rattle.pacsat_cli.specs.Stops.{status_of}
-use Rattle.pacsat_cli.proofs.Built.{ends_with-not_open}
+use Rattle.pacsat_cli.specs.Run.{HasStatusCause}
+use Rattle.pacsat_cli.specs.Servers.{IsServedOver, RunsServe, WhereServed, serve_terms}
+use Rattle.pacsat_cli.specs.Sessions.{AsksFresh, HasDiskCause, HasStoreCause, HasWriteCause, IsDoneAtEnd, IsDoneBy, IsSpentBy, RefusesExactly}
 use Rattle.pacsat_cli.proofs.Ended.{mended-disk}
-use Rattle.pacsat_cli.proofs.NodeEnds.{Goes, OnDisk, is_node_status, no-turns, node-complete, node-done, node-not, node-read, node-write, on_disk-cause, on_disk-exact, on_disk-goes, turns_told}
-
--- where all turns are open ones the service is spent, but for a fault, a row that isn't built, or want of memory
-open-spent : (ended : Result Served NodeStop) (polls : ℕ) (turns : List Turn) → TurnsBy ended polls turns → AllByRecursion IsOpen turns → IsUnless (status_of ended) status.Spent (status.AirWrite ∷ status.Disk ∷ status.NotBuilt ∷ status.OutOfMemory ∷ [])
-open-spent (Ok served) polls turns h all_open = absurd (ends_with-not_open turns turn.End h.0 all_open)
-open-spent (Err stop.AirRead) polls turns h all_open = absurd (ends_with-not_open turns turn.Fail h all_open)
-open-spent (Err stop.AirWrite) polls turns h all_open = inr (0, omega arith, refl)
-open-spent (Err stop.Disk) polls turns h all_open = inr (1, omega arith, refl)
-open-spent (Err (stop.NotAStore found)) polls turns h all_open = absurd h
-open-spent (Err (stop.Damaged at)) polls turns h all_open = absurd h
-open-spent (Err stop.Spent) polls turns h all_open = inl refl
-open-spent (Err (stop.NotBuilt kind)) polls turns h all_open = inr (2, omega arith, refl)
-open-spent (Err stop.OutOfMemory) polls turns h all_open = inr (3, omega arith, refl)
-
-module _ {A : Type 0} (air : AirGhosts A) (before now : A) (s : Status) (words : List (List ℕ)) (polls : ℕ) where
-  goes-spent : Goes air polls false before now s → WhereServed words air.heard before now (IsServeSpentBy s)
-  goes-spent (inl early) = λ told count all_open.
-      let some = told.asks.text.ranges.some_polls in
-      let none = ap length (no-turns air before now s early.same told.earlier told.turns told.told_before told.told_now) in
-      absurd (omega (arith, some, none, count))
-  goes-spent (inr went) = λ told count all_open.
-      let at_status : Status → Type 0 = λ t. IsUnless t status.Spent (status.AirWrite ∷ status.Disk ∷ status.NotBuilt ∷ status.OutOfMemory ∷ []) in
-      let at_turns : List Turn → Type 0 = λ x. AllByRecursion IsOpen x in
-      let same = turns_told air before now s polls false went told.earlier told.turns told.told_before told.told_now in
-      subst at_status (sym (went.status_is ∙ mended-disk went.ended)) (open-spent went.ended polls went.turns went.ends (subst at_turns (sym same) all_open))
+use Rattle.pacsat_cli.proofs.NodeEnds.{Goes, OnDisk, is_node_status, node-complete, node-done, node-not, node-read, node-spent, node-write, on_disk-cause, on_disk-exact, on_disk-goes}
 
 module _ {A C D : Type 0} (g : Ghosts D) (air : AirGhosts A) (given : C → Option (List ℕ)) (disk disk_now : D) (before now : A) (clock clock_n : C) (asked : ServeRequest) (s : Status) where
   serve-on_disk : IsServedOver g air given disk disk_now before now clock clock_n (serve_terms asked) s → OnDisk g air asked.blocks asked.polls disk disk_now before now s
@@ -98,11 +64,11 @@ module _ {A C D : Type 0} (g : Ghosts D) (air : AirGhosts A) (given : C → Opti
           let P : ServeRequest → Type 0 = λ r. IsServedOver g air given disk disk_now before now clock clock_n (serve_terms r) s in
           inr (subst P (one other is) over)
 
-      pub serve-complete : WhereServed words air.heard before now (IsServeDoneBy s)
+      pub serve-complete : WhereServed words air.heard before now (IsDoneBy s)
       serve-complete = λ told. node-complete air before now s asked.polls false goes told.earlier told.turns told.told_before told.told_now
 
-      pub serve-spent : WhereServed words air.heard before now (IsServeSpentBy s)
-      serve-spent = goes-spent air before now s words asked.polls goes
+      pub serve-spent : WhereServed words air.heard before now (IsSpentBy s)
+      serve-spent = λ told. node-spent air before now s asked.polls false goes told.asked.polls told.asks.text.ranges.some_polls told.earlier told.turns told.told_before told.told_now
 
       pub serve-read : HasStatusCause status.AirRead (air.read_faults before) (air.read_faults now) s
       serve-read = node-read air before now s asked.polls false goes

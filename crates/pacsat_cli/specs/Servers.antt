@@ -1,11 +1,9 @@
 -- What a run of the program did as a server, by its words, by what was heard, and by its disk.
-use Rattle.std.specs.Prelude.{◌≡◌, ◌⊎◌, ℕ, List, [], ◌∷◌, ◌++◌, length, Option, Some, Result, IsErrOf}
-use Rattle.std.specs.List.{AllByRecursion}
-use Rattle.px_base.specs.Polling.{HasEnd, IsOpen}
+use Rattle.std.specs.Prelude.{◌≡◌, ◌⊎◌, ℕ, List, ◌++◌, Option, Some, Result, IsErrOf}
 use Rattle.px_base.specs.declared.air.Air.{Ghosts as AirGhosts}
 use Rattle.px_base.specs.declared.air.Turn.{Turn}
 use Rattle.disk_model.specs.declared.disk.Disk.{Ghosts}
-use Rattle.file_journal.specs.Calls.{Runs}
+use Rattle.session_node.specs.OnDisk.{NodeRuns}
 use Rattle.session_node.specs.Stops.{HasAirCause, RefusesSession}
 use Rattle.session_node.specs.declared.stop.NodeStop.{NodeStop}
 use Rattle.session_node.specs.declared.stop.NodeStop.TheVariants as stop
@@ -15,8 +13,6 @@ use Rattle.server_node.specs.declared.terms.ServerTerms.{ServerTerms}
 use Rattle.command_words.specs.declared.serve.ServeRequest.{ServeRequest}
 use Rattle.command_words.specs.Words.{IsServe}
 use Rattle.pacsat_cli.specs.declared.status.Status.{Status}
-use Rattle.pacsat_cli.specs.declared.status.Status.TheVariants.{AirWrite, Disk, Done, NotBuilt, OutOfMemory, Spent}
-use Rattle.pacsat_cli.specs.Run.{IsUnless}
 use Rattle.pacsat_cli.specs.Sessions.{IsUntouched}
 use Rattle.pacsat_cli.specs.Stops.{status_of}
 
@@ -33,7 +29,7 @@ pub record IsServedOver {A C D : Type 0} (g : Ghosts D) (air : AirGhosts A) (giv
   pub refuses : RefusesSession terms.limits.blocks (g.content disk) ended
   pub ends : ServerEnds g air given disk disk_now before now clock clock_now terms ended
   pub counts : HasAirCause air.read_faults air.write_faults before now ended
-  pub runs : Runs g (IsErrOf ended stop.Disk) disk disk_now
+  pub runs : NodeRuns g (IsErrOf ended stop.Disk) disk disk_now
   pub status_is : status ≡ status_of ended
 
 -- Where the words ask for a service, it is served so; or there was no memory to read the words, and nothing was touched.
@@ -58,13 +54,3 @@ pub record ServeHeard {A : Type 0} (words : List (List ℕ)) (heard : A → Opti
 abbrev pub WhereServed :
     {A : Type 0} → List (List ℕ) → (A → Option (List Turn)) → A → A → (ℕ → List Turn → Type 0) → Type 0
 WhereServed words heard before now P = (told : ServeHeard words heard before now) → P told.asked.polls told.turns
-
--- where the end of the air was heard, the run is done
-abbrev pub IsServeDoneBy : Status → ℕ → List Turn → Type 0
-IsServeDoneBy status polls turns = HasEnd turns → status ≡ Done
-
--- where all polls were made, and none was the end or failed, the run is spent
-abbrev pub IsServeSpentBy : Status → ℕ → List Turn → Type 0
-IsServeSpentBy status polls turns =
-    length turns ≡ polls → AllByRecursion IsOpen turns
-    → IsUnless status Spent (AirWrite ∷ Disk ∷ NotBuilt ∷ OutOfMemory ∷ [])

@@ -1,22 +1,22 @@
 -- What a run of the program did for a session, by its words, by what was heard, and by its disk.
-use Rattle.std.specs.Prelude.{◌≡◌, ◌⊎◌, ◌↔◌, ◌||◌, ℕ, ◌++◌, List, [], ◌∷◌, length, Bool, true, false, not, Option, Some, IfSome, Result, IsErrOf}
+use Rattle.std.specs.Prelude.{◌≡◌, ◌⊎◌, ◌↔◌, ℕ, ◌≤◌, ◌++◌, List, [], ◌∷◌, length, Bool, true, Option, Some, IfSome, Result, IsErrOf}
 use Rattle.std.specs.List.{AllByRecursion}
 use Rattle.px_base.specs.Moments.{MomentsOf}
 use Rattle.px_base.specs.Outside.{Gains, Rose}
-use Rattle.px_base.specs.Polling.{EndsWith, HasEnd, HearsAll, IsOpen, octets_heard}
+use Rattle.px_base.specs.Polling.{EndsWith, HasEnd, HearsAll, IsOpen}
 use Rattle.px_base.specs.declared.air.Air.{Ghosts as AirGhosts}
 use Rattle.px_base.specs.declared.air.Turn.{Turn}
 use Rattle.px_base.specs.declared.air.Turn.TheVariants as turn
+use Rattle.disk_model.specs.Calls.{new_state}
+use Rattle.disk_model.specs.Memory.{read_faults, state}
 use Rattle.disk_model.specs.declared.disk.Disk.{Ghosts}
-use Rattle.ftl0_packets.specs.Layout.{Item}
-use Rattle.ftl0_packets.specs.Stream.{Stream}
-use Rattle.file_journal.specs.Calls.{Runs}
+use Rattle.disk_model.specs.declared.memory_disk.MemoryDisk.{MemoryDisk}
+use Rattle.file_journal.specs.Calls.{CountsFault}
 use Rattle.file_journal.specs.Walk.{damaged_at, no_store}
 use Rattle.file_entries.specs.Command.{Command}
 use Rattle.file_entries.specs.Store.{empty_store}
 use Rattle.file_store.specs.State.{standing_of}
-use Rattle.ftl0_packets.specs.Items.{kind_of_item}
-use Rattle.ftl0_uploads.specs.Session.{is_upload_kind}
+use Rattle.session_node.specs.OnDisk.{NodeRuns}
 use Rattle.session_node.specs.SessionRan.{SessionEnds, SessionRan}
 use Rattle.session_node.specs.Stops.{HasAirCause, RefusesSession}
 use Rattle.session_node.specs.declared.stop.NodeStop.{NodeStop}
@@ -32,7 +32,7 @@ use Rattle.command_words.specs.Words.{IsServe, IsSession}
 use Rattle.pacsat_cli.specs.declared.status.BadStore.{BadStore as BadStoreWhy}
 use Rattle.pacsat_cli.specs.declared.status.BadStore.TheVariants.{NotAStore, Damaged}
 use Rattle.pacsat_cli.specs.declared.status.Status.{Status}
-use Rattle.pacsat_cli.specs.declared.status.Status.TheVariants.{AirWrite, BadStore, Disk, Done, NotBuilt, OutOfMemory, Spent}
+use Rattle.pacsat_cli.specs.declared.status.Status.TheVariants.{AirWrite, BadStore, Disk, Done, OutOfMemory, Spent}
 use Rattle.pacsat_cli.specs.Run.{IsUnless}
 use Rattle.pacsat_cli.specs.Stops.{status_in_memory, status_of}
 
@@ -65,11 +65,12 @@ pub record OverDisk {A C D : Type 0} (g : Ghosts D) (air : AirGhosts A) (given :
   pub refuses : RefusesSession terms.limits.blocks (g.content disk) ended
   pub ends : SessionEnds g air given disk disk_now before now clock clock_now terms ended
   pub counts : HasAirCause air.read_faults air.write_faults before now ended
-  pub runs : Runs g (IsErrOf ended stop.Disk) disk disk_now
+  pub runs : NodeRuns g (IsErrOf ended stop.Disk) disk disk_now
   pub status_is : status ≡ status_of ended
 
--- A session of these terms was served over a fresh disk in memory, and so from the empty store on. A fault of such a disk is
--- want of memory.
+-- A session of these terms was served over a fresh disk in memory, none of whose calls is listed to fail, and so from the
+-- empty store on. A write or a sync of such a disk that fails is want of memory, and a read that failed is told only where
+-- the count of failed reads rose.
 pub record InMemory {A C : Type 0} (air : AirGhosts A) (given : C → Option (List ℕ)) (before now : A) (clock clock_now : C)
     (terms : SessionTerms) (status : Status) : Type 0 where
   pub ended : Result Served NodeStop
@@ -78,12 +79,17 @@ pub record InMemory {A C : Type 0} (air : AirGhosts A) (given : C → Option (Li
   pub text : List ℕ
   pub done : List Command
   pub cut : List Command
+  pub missed : Bool
   pub turns_heard : HearsAll (air.heard before) (air.heard now) turns
   pub moments_given : MomentsOf terms.moment (given clock) (given clock_now) moments
   pub text_said : Gains (air.said before) (air.said now) text
   pub ran :
       SessionRan terms.caller moments (empty_store terms.limits.blocks) terms.polls turns (air.write_faults before)
-      (air.write_faults now) text done cut ended
+      (air.write_faults now) text done cut missed ended
+  pub fresh : MemoryDisk
+  pub is_fresh : state fresh ≡ new_state [] []
+  pub used : MemoryDisk
+  pub reads : CountsFault (read_faults fresh) (read_faults used) (missed ≡ true)
   pub counts : HasAirCause air.read_faults air.write_faults before now ended
   pub status_is : status ≡ status_in_memory (status_of ended)
 
@@ -122,14 +128,17 @@ RunsSession words g air given disk disk_now before now clock clock_now status =
     → (IsUntouched before now clock clock_now status × (disk_now ≡ disk))
     ⊎ IsOver asked g air given disk disk_now before now clock clock_now status
 
--- The disk's counts of faults by the status. Disk comes only in a session or a service over the disk that DISK names, and
--- where the count of failed writes and syncs rose; or, in the recovery, before anything was heard or said, where that of
--- failed reads did. Where it doesn't come, both are as they were.
+-- The disk's counts of faults by the status; neither falls. Disk comes only in a session or a service over the disk that
+-- DISK names, and where the count of failed writes and syncs rose; or, in the recovery, before anything was heard or said,
+-- where that of failed reads did. Where it doesn't come, the count of failed writes and syncs is as it was. That of failed
+-- reads is, but in a session or a service over that disk, where a read that failed is told by code 3.
 pub record HasDiskCause {A D : Type 0} (words : List (List ℕ)) (reads writes : D → ℕ) (disk disk_now : D) (before now : A)
     (status : Status) : Type 0 where
   pub asked : status ≡ Disk → AsksDisk words
   pub rose : status ≡ Disk → Rose (writes disk) (writes disk_now) ⊎ (Rose (reads disk) (reads disk_now) × (now ≡ before))
-  pub same : (status ≡ Disk → ⊥) → (reads disk_now ≡ reads disk) × (writes disk_now ≡ writes disk)
+  pub same : (status ≡ Disk → ⊥) → writes disk_now ≡ writes disk
+  pub same_reads : (AsksDisk words → ⊥) → reads disk_now ≡ reads disk
+  pub no_less : (reads disk ≤ reads disk_now) × (writes disk ≤ writes disk_now)
 
 -- The air's count of failed puts by the status. After a fault of the disk one reply more was to be said, and that may have
 -- failed too; over a disk in memory such a fault is want of memory.
@@ -158,26 +167,17 @@ pub record HasStoreCause (words : List (List ℕ)) (content : Option (List ℕ))
 abbrev pub ReadsEnd : Option (List Turn) → Option (List Turn) → Type 0
 ReadsEnd before now = (turns : List Turn) × HearsAll before now turns × EndsWith turns turn.End
 
--- A session or a service that is done read the end of the air, and no count of the air or of the disk rose.
+-- A session or a service that is done read the end of the air, and no count of the air rose, nor that of the disk's failed
+-- writes and syncs. That of failed reads may have: each was told by code 3.
 pub record IsDoneAtEnd {A D : Type 0} (air : AirGhosts A) (reads writes : D → ℕ) (before now : A) (disk disk_now : D) :
     Type 0 where
   pub end : ReadsEnd (air.heard before) (air.heard now)
   pub air_reads : air.read_faults now ≡ air.read_faults before
   pub air_writes : air.write_faults now ≡ air.write_faults before
-  pub disk_reads : reads disk_now ≡ reads disk
+  pub disk_reads : reads disk ≤ reads disk_now
   pub disk_writes : writes disk_now ≡ writes disk
 
--- whether the rows of a packet, malformed or not, aren't built yet: those of types 2 and 4 to 31 aren't
-abbrev pub is_unbuilt : Item → Bool
-is_unbuilt item = not (is_upload_kind (kind_of_item item))
-
--- whether one of these packets has a type whose rows aren't built yet
-abbrev pub has_unbuilt : List Item → Bool
-has_unbuilt [] = false
-has_unbuilt (item ∷ packets) = is_unbuilt item || has_unbuilt packets
-
--- The words ask for a session, and what is told of the air, before and now, gives the turns of the run, and the packets in
--- what they brought.
+-- The words ask for a session, and what is told of the air, before and now, gives the turns of the run.
 pub record SessionHeard {A : Type 0} (words : List (List ℕ)) (heard : A → Option (List Turn)) (before now : A) : Type 0 where
   pub asked : SessionRequest
   pub asks : IsSession words asked
@@ -185,27 +185,18 @@ pub record SessionHeard {A : Type 0} (words : List (List ℕ)) (heard : A → Op
   pub turns : List Turn
   pub told_before : heard before ≡ Some earlier
   pub told_now : heard now ≡ Some (earlier ++ turns)
-  pub packets : List Item
-  pub rest : List ℕ
-  pub stream : Stream (octets_heard turns) packets rest
 
--- Where the turns of a session are told, this holds of how many polls it may make, of the turns, and of the packets heard.
+-- Where the turns of a session are told, this holds of how many polls it may make, and of the turns.
 abbrev pub WhereHeard :
-    {A : Type 0} → List (List ℕ) → (A → Option (List Turn)) → A → A → (ℕ → List Turn → List Item → Type 0) → Type 0
-WhereHeard words heard before now P =
-    (told : SessionHeard words heard before now) → P told.asked.polls told.turns told.packets
+    {A : Type 0} → List (List ℕ) → (A → Option (List Turn)) → A → A → (ℕ → List Turn → Type 0) → Type 0
+WhereHeard words heard before now P = (told : SessionHeard words heard before now) → P told.asked.polls told.turns
 
 -- where the end of the air was heard, the run is done
-abbrev pub IsDoneBy : Status → ℕ → List Turn → List Item → Type 0
-IsDoneBy status polls turns packets = HasEnd turns → status ≡ Done
+abbrev pub IsDoneBy : Status → ℕ → List Turn → Type 0
+IsDoneBy status polls turns = HasEnd turns → status ≡ Done
 
--- where a packet of a type that isn't built was heard, the run is not built
-abbrev pub IsNotBuiltBy : Status → ℕ → List Turn → List Item → Type 0
-IsNotBuiltBy status polls turns packets =
-    has_unbuilt packets ≡ true → IsUnless status NotBuilt (AirWrite ∷ Disk ∷ OutOfMemory ∷ [])
-
--- where all polls were made, none was the end or failed, and each packet's type is built, the run is spent
-abbrev pub IsSpentBy : Status → ℕ → List Turn → List Item → Type 0
-IsSpentBy status polls turns packets =
-    length turns ≡ polls → AllByRecursion IsOpen turns → has_unbuilt packets ≡ false
+-- where all polls were made, and none was the end or failed, the run is spent
+abbrev pub IsSpentBy : Status → ℕ → List Turn → Type 0
+IsSpentBy status polls turns =
+    length turns ≡ polls → AllByRecursion IsOpen turns
     → IsUnless status Spent (AirWrite ∷ Disk ∷ OutOfMemory ∷ [])

@@ -20,7 +20,6 @@ status_of (Err node.Disk) = Disk
 status_of (Err (node.NotAStore found)) = BadStore (NotAStore found)
 status_of (Err (node.Damaged at)) = BadStore (Damaged at)
 status_of (Err node.Spent) = Spent
-status_of (Err (node.NotBuilt kind)) = NotBuilt
 status_of (Err node.OutOfMemory) = OutOfMemory
 
 -- the same over a disk in memory, whose fault is want of memory

@@ -59,7 +59,7 @@ pub(crate) fn run_serve<D: Disk, A: Air, C: Clock>(
     status_of_ended(serve(alloc, disk, air, clock, &terms))
 }
 
-/// Serves a session over a fresh disk in memory. A fault of such a disk is want of memory.
+/// Serves a session over a fresh disk in memory. A write or a sync of such a disk that fails is want of memory.
 fn run_in_memory<A: Air, C: Clock>(
     alloc: Global,
     terms: &SessionTerms,
@@ -113,7 +113,6 @@ fn status_of_ended(ended: Result<Served, NodeStop>) -> Status
         Err(NodeStop::NotAStore { found }) => Status::BadStore(BadStore::NotAStore { found }),
         Err(NodeStop::Damaged { at }) => Status::BadStore(BadStore::Damaged { at }),
         Err(NodeStop::Spent) => Status::Spent,
-        Err(NodeStop::NotBuilt { .. }) => Status::NotBuilt,
         Err(NodeStop::OutOfMemory) => Status::OutOfMemory,
     }
 }

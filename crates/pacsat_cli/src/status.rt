@@ -44,7 +44,7 @@ pub enum Status {
     AirRead,
     /// Saying failed: the air's count of write faults rose.
     AirWrite,
-    /// The disk failed, and a count of its faults rose: once a packet was heard, that of failed writes and syncs.
+    /// The disk failed, and a count of its faults rose: once anything was heard, that of failed writes and syncs.
     Disk,
     /// The shelf has no content of the name.
     NoSuch,
@@ -60,7 +60,7 @@ pub enum Status {
     Shelf,
     /// The content of the name is longer than may be.
     TooLong,
-    /// A word or a packet came that isn't built yet.
+    /// A word asks for what isn't built yet.
     NotBuilt,
 }
 

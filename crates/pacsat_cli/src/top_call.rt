@@ -3,14 +3,14 @@
 ghost use Rattle.std.specs.Prelude.{◌≡◌, ◌≤◌, [], ◌∷◌};
 ghost use Rattle.command_words.specs.Laws.{AsksServe, AsksSession};
 ghost use Rattle.command_words.specs.Words.{IsUnbuilt, IsUsage, NamesBuilt};
-ghost use Rattle.ftl0_uploads.specs.Laws.{AcknowledgedStandsLaw};
+ghost use Rattle.ftl0_session.specs.Laws.{AcknowledgedStandsLaw};
 ghost use Rattle.px_base.specs.Outside.{Rose};
 ghost use Rattle.session_node.specs.Laws.{AcknowledgedSinceLaw};
 ghost use Rattle.pacsat_cli.specs.Files.{IsNoSuchBy, IsShownBy, IsTooLongBy};
 ghost use Rattle.pacsat_cli.specs.Run.{AreRefused, HasShelfCause, HasStatusCause, IsUnless, Shows, Stays};
-ghost use Rattle.pacsat_cli.specs.Servers.{IsServeDoneBy, IsServeSpentBy, RunsServe, WhereServed};
+ghost use Rattle.pacsat_cli.specs.Servers.{RunsServe, WhereServed};
 ghost use Rattle.pacsat_cli.specs.Sessions.{AsksDisk, AsksMoment, AsksNode, HasDiskCause, HasStoreCause, HasWriteCause};
-ghost use Rattle.pacsat_cli.specs.Sessions.{IsDoneAtEnd, IsDoneBy, IsNotBuiltBy, IsSpentBy, RunsSession, WhereHeard};
+ghost use Rattle.pacsat_cli.specs.Sessions.{IsDoneAtEnd, IsDoneBy, IsSpentBy, RunsSession, WhereHeard};
 ghost use Rattle.pacsat_cli.specs.Status.{line_of};
 ghost use Rattle.pacsat_cli.specs.Stops.{status_of_refusal};
 ghost use Rattle.pacsat_cli.specs.Tasks.{AsksFile, AsksMake, RunsFile, RunsMake, WhereHeld};
@@ -23,8 +23,7 @@ use crate::{Status, Words};
 use command_words::Refusal;
 use command_words::laws::one_meaning;
 use disk_model::Disk;
-use ftl0_packets::laws::stream_law;
-use ftl0_uploads::laws::acknowledged_stands_law;
+use ftl0_session::laws::acknowledged_stands_law;
 use px_base::{Air, Clock, Out, Shelf};
 use session_node::laws::acknowledged_since_law;
 use std::alloc::Global;
@@ -50,15 +49,17 @@ pub fn run<D: Disk, A: Air, S: Shelf, O: Out, C: Clock>(
     // a file that is made.
     ensures usage { result ≡ Status.Usage → IsUsage words.now }
     ensures usage_told { IsUsage words.now → IsUnless result Status.Usage (Status.OutOfMemory ∷ []) }
+    ensures unbuilt { result ≡ Status.NotBuilt → IsUnbuilt words.now }
     ensures unbuilt_words { IsUnbuilt words.now → IsUnless result Status.NotBuilt (Status.OutOfMemory ∷ []) }
     ensures unread { AreRefused words.now → result ≡ Status.OutOfMemory → NamesBuilt words.now }
     ensures untouched { AreRefused words.now → (air.new ≡ air.old) × (shelf.new ≡ shelf.old) × (clock.new ≡ clock.old) }
     ensures held { (AsksMake words.now → ⊥) → Stays S.held shelf.old shelf.new }
 
-    // A session says the replies of its table for the packets of the octets heard, LOGIN_RESP first, from the store for
-    // which its disk's content stands, and ends with a status that has its cause. At every moment since the first sync of
-    // the recovery each image stands for that store after the first of the session's commands, none skipped. Or there was no
-    // memory to read the words. With a moment given the clock isn't asked.
+    // A session says LOGIN_RESP, and for each packet of the octets heard the replies of its table and all that is due right
+    // behind them, from the store for which its disk's content stands, and ends with a status that has its cause. A read of
+    // the disk that failed is told by code 3. At every moment since the first sync of the recovery each image stands for
+    // that store after the first of the session's commands, none skipped. Or there was no memory to read the words. With a
+    // moment given the clock isn't asked.
     ensures session { RunsSession words.now D.Disk A.Air C.given disk.old disk.new air.old air.new clock.old clock.new
         result }
     ensures session_alone { AsksSession words.now → shelf.new ≡ shelf.old }
@@ -80,14 +81,12 @@ pub fn run<D: Disk, A: Air, S: Shelf, O: Out, C: Clock>(
     // No other command touches the disk, nor does a session with `none` for DISK.
     ensures disk_alone { (AsksDisk words.now → ⊥) → disk.new ≡ disk.old }
 
-    // Where the end of the air was heard, the run is done. Where a packet of a type that isn't built was heard, or all
-    // polls were made and none was the end or failed, only want of memory, a fault of saying or one of the disk comes
-    // before.
+    // Where the end of the air was heard, the run is done. Where all polls were made, and none was the end or failed, only
+    // want of memory, a fault of saying or one of the disk comes before.
     ensures complete { WhereHeard words.now A.heard air.old air.new (IsDoneBy result) }
-    ensures not_built { WhereHeard words.now A.heard air.old air.new (IsNotBuiltBy result) }
     ensures spent { WhereHeard words.now A.heard air.old air.new (IsSpentBy result) }
-    ensures serve_complete { WhereServed words.now A.heard air.old air.new (IsServeDoneBy result) }
-    ensures serve_spent { WhereServed words.now A.heard air.old air.new (IsServeSpentBy result) }
+    ensures serve_complete { WhereServed words.now A.heard air.old air.new (IsDoneBy result) }
+    ensures serve_spent { WhereServed words.now A.heard air.old air.new (IsSpentBy result) }
 
     // `frames`, `pfh-show` and `pfh-check` show the command's text of what the shelf has under the name, then the
     // status's line, and end with a status that has its cause; neither air nor clock is touched.
@@ -106,7 +105,8 @@ pub fn run<D: Disk, A: Air, S: Shelf, O: Out, C: Clock>(
     ensures made_alone { AsksMake words.now → (air.new ≡ air.old) × (clock.new ≡ clock.old) }
 
     // A fault is answered only where its count rose; and where it isn't answered, its count stayed, but for the
-    // status's line, for a shelf that finds no memory, and for a reply that was to be said after a fault of the disk.
+    // status's line, for a shelf that finds no memory, for a reply that was to be said after a fault of the disk, and for
+    // a read of the disk that was told by code 3.
     ensures air_read { HasStatusCause Status.AirRead (A.read_faults air.old) (A.read_faults air.new) result }
     ensures air_write { HasWriteCause words.now (A.write_faults air.old) (A.write_faults air.new) result }
     ensures disk { HasDiskCause words.now D.read_faults D.write_faults disk.old disk.new air.old air.new result }
@@ -116,7 +116,8 @@ pub fn run<D: Disk, A: Air, S: Shelf, O: Out, C: Clock>(
     // The content of a session's or a server's disk is refused exactly where it stands for no store.
     ensures bad_store { HasStoreCause words.now (D.content disk.old) result }
 
-    // Done says that no count rose, and of a session or a server on an air that tells, that its end was read.
+    // Done says that no count rose, but that of failed reads of the disk in a session or a server; and of these on an air
+    // that tells, that its end was read.
     ensures node_done { AsksNode words.now → result ≡ Status.Done
         → IsDoneAtEnd A.Air D.read_faults D.write_faults air.old air.new disk.old disk.new }
     ensures done { result ≡ Status.Done → Stays S.faults shelf.old shelf.new × Stays O.faults out.old out.new }
@@ -125,8 +126,7 @@ pub fn run<D: Disk, A: Air, S: Shelf, O: Out, C: Clock>(
     ensures unshown { result ≡ Status.Done → (AsksFile words.now → ⊥) → out.new ≡ out.old }
     ensures shown { (AsksFile words.now → ⊥) → Shows O.shown O.faults out.old out.new (line_of result) }
 {
-    // Whatever is heard is one stream of packets, the words ask for one thing, and what was acknowledged stands.
-    stream_law();
+    // The words ask for one thing, and what was acknowledged stands.
     one_meaning();
     acknowledged_stands_law();
     acknowledged_since_law::<D>();

@@ -1,5 +1,5 @@
 -- The session ran over the fresh disk.
-use Rattle.std.proofs.Common.{ap, sym, ◌∙◌, subst}
+use Rattle.std.proofs.Common.{refl, ap, sym, ◌∙◌, subst}
 use Rattle.std.specs.Prelude.{Some}
 use Rattle.disk_model.specs.Calls.{DiskState, content_of}
 use Rattle.pacsat_cli.specs.declared.status.Status.{Status}
@@ -13,4 +13,4 @@ returns-clause-over g c =
     let ran = c.session in
     let P : Status → Type 0 = λ s. OverMemory g.A.Air g.C.Clock.given c.args.air.now ran.new.air c.args.clock.now ran.new.clock c.args.terms.now s in
     subst P (sym (c.in_memory.ensures ∙ ap status_in_memory c.status_of_ended.ensures))
-    (over-memory _ g.A.Air g.C.Clock.given c.in-Ok.disk ran.new.disk c.args.air.now ran.new.air c.args.clock.now ran.new.clock c.args.terms.now ran.result (ap (λ (s : DiskState). Some (content_of s)) c.in-Ok.ensures.fresh) ran.ensures.refuses ran.ensures.counts ran.ensures.ends)
+    (over-memory _ g.A.Air g.C.Clock.given c.in-Ok.disk ran.new.disk c.args.air.now ran.new.air c.args.clock.now ran.new.clock c.args.terms.now ran.result (ap (λ (s : DiskState). Some (content_of s)) c.in-Ok.ensures.fresh) ran.ensures.refuses ran.ensures.counts c.in-Ok.ensures.fresh (λ d. refl) ran.ensures.ends)

@@ -1,5 +1,5 @@
 -- Each task by what it did, and refused words by why they were.
-use Rattle.std.proofs.Common.{◌≡◌, ℕ, List, refl, ap, sym, inl, inr, Err}
+use Rattle.std.proofs.Common.{◌≡◌, ℕ, List, refl, ap, sym, arith, inl, inr, Err}
 use Rattle.command_words.specs.Laws.{AsksServe, AsksSession}
 use Rattle.header_tool.specs.Made.{make_value}
 use Rattle.pacsat_cli.specs.declared.files.FileCommand.{FileCommand}
@@ -9,9 +9,9 @@ use Rattle.pacsat_cli.specs.Tasks.{AsksFile, AsksMake, AsksText}
 use Rattle.pacsat_cli.proofs.OneTask.{file-make, node-file, node-make, one-text, serve-file, serve-make, session-file, session-make, unbuilt-file, unbuilt-make, usage-file, usage-make}
 use Rattle.pacsat_cli.proofs.RunFile.{file-done, file-no_such, file-not, file-rose, file-runs, file-shown, file-too_long}
 use Rattle.pacsat_cli.proofs.RunMake.{make-not, make-runs}
-use Rattle.pacsat_cli.proofs.RunRefused.{means, refused-bad_store, refused-complete, refused-disk, refused-files, refused-made, refused-no_such, refused-not, refused-not_built, refused-serve, refused-serve_complete, refused-serve_spent, refused-session, refused-shown, refused-spent, refused-too_long, refused-unbuilt, refused-unread, refused-usage, refused-usage_told}
+use Rattle.pacsat_cli.proofs.RunRefused.{means, refused-bad_store, refused-complete, refused-disk, refused-files, refused-made, refused-no_such, refused-not, refused-serve, refused-serve_complete, refused-serve_spent, refused-session, refused-shown, refused-spent, refused-too_long, refused-unbuilt, refused-unbuilt_told, refused-unread, refused-usage, refused-usage_told}
 use Rattle.pacsat_cli.proofs.RunServe.{serve-bad_store, serve-complete, serve-disk, serve-done, serve-not, serve-read, serve-runs, serve-spent, serve-write}
-use Rattle.pacsat_cli.proofs.RunSession.{asked_moment, most_blocks, session-alone, session-bad_store, session-complete, session-disk, session-done, session-not, session-not_built, session-read, session-runs, session-spent, session-write, some_blocks}
+use Rattle.pacsat_cli.proofs.RunSession.{asked_moment, most_blocks, session-alone, session-bad_store, session-complete, session-disk, session-done, session-not, session-read, session-runs, session-spent, session-write, some_blocks}
 use Rattle.pacsat_cli.proofs.top_call.run.Goals as goal
 
 pub returns-in-Err : goal.returns-in-Err
@@ -27,6 +27,7 @@ returns-in-Err g c =
     (record {
       usage = refused-usage words only why h;
       usage_told = refused-usage_told words only why h;
+      unbuilt = refused-unbuilt_told words only why h;
       unbuilt_words = refused-unbuilt words only why h;
       unread = λ _. refused-unread words only why h;
       untouched = λ _. (refl, refl, refl);
@@ -40,7 +41,6 @@ returns-in-Err g c =
       acknowledged_since = c.acknowledged_since_law.ensures;
       disk_alone = λ _. refl;
       complete = refused-complete words only why h g.A.Air c.args.air.now;
-      not_built = refused-not_built words only why h g.A.Air c.args.air.now;
       spent = refused-spent words only why h g.A.Air c.args.air.now;
       serve_complete = refused-serve_complete words only why h g.A.Air c.args.air.now;
       serve_spent = refused-serve_spent words only why h g.A.Air c.args.air.now;
@@ -80,27 +80,25 @@ returns-in-Session g c =
     let ran = c.run_session-status in
     let line = c.show_line-in-Session.ensures in
     let over = ran.ensures.over in
-    let read = c.stream_law.ensures.read in
-    let law = c.stream_law.ensures.only in
-    let isnt = session-not g.D.Disk g.A.Air g.C.Clock.given c.args.disk.now ran.new.disk c.args.air.now ran.new.air c.args.clock.now ran.new.clock asked ran.result words asks only determined over read law in
+    let isnt = session-not g.D.Disk g.A.Air g.C.Clock.given c.args.disk.now ran.new.disk c.args.air.now ran.new.air c.args.clock.now ran.new.clock asked ran.result words asks only determined over in
     record {
       usage = λ e. absurd (isnt status.Usage refl e);
       usage_told = λ usage. absurd (only.usage_session usage session);
+      unbuilt = λ e. absurd (isnt status.NotBuilt refl e);
       unbuilt_words = λ unbuilt. absurd (only.unbuilt_session unbuilt session);
       unread = λ refused. absurd (elim refused [ inl usage ↦ only.usage_session usage session | inr unbuilt ↦ only.unbuilt_session unbuilt session ]);
       untouched = λ refused. absurd (elim refused [ inl usage ↦ only.usage_session usage session | inr unbuilt ↦ only.unbuilt_session unbuilt session ]);
       held = λ _. refl;
-      session = session-runs g.D.Disk g.A.Air g.C.Clock.given c.args.disk.now ran.new.disk c.args.air.now ran.new.air c.args.clock.now ran.new.clock asked ran.result words asks only determined over read law;
+      session = session-runs g.D.Disk g.A.Air g.C.Clock.given c.args.disk.now ran.new.disk c.args.air.now ran.new.air c.args.clock.now ran.new.clock asked ran.result words asks only determined over;
       session_alone = λ _. refl;
       serve = λ other is. absurd (only.session_serve session (other, is));
       serve_alone = λ serve. absurd (only.session_serve session serve);
       clock_unasked = λ given. ran.ensures.clock (asked_moment words asked asks determined given);
       acknowledged = c.acknowledged_stands_law.ensures;
       acknowledged_since = c.acknowledged_since_law.ensures;
-      disk_alone = session-alone g.D.Disk g.A.Air g.C.Clock.given c.args.disk.now ran.new.disk c.args.air.now ran.new.air c.args.clock.now ran.new.clock asked ran.result words asks only determined over read law;
-      complete = session-complete g.D.Disk g.A.Air g.C.Clock.given c.args.disk.now ran.new.disk c.args.air.now ran.new.air c.args.clock.now ran.new.clock asked ran.result words asks only determined over read law;
-      not_built = session-not_built g.D.Disk g.A.Air g.C.Clock.given c.args.disk.now ran.new.disk c.args.air.now ran.new.air c.args.clock.now ran.new.clock asked ran.result words asks only determined over read law;
-      spent = session-spent g.D.Disk g.A.Air g.C.Clock.given c.args.disk.now ran.new.disk c.args.air.now ran.new.air c.args.clock.now ran.new.clock asked ran.result words asks only determined over read law;
+      disk_alone = session-alone g.D.Disk g.A.Air g.C.Clock.given c.args.disk.now ran.new.disk c.args.air.now ran.new.air c.args.clock.now ran.new.clock asked ran.result words asks only determined over;
+      complete = session-complete g.D.Disk g.A.Air g.C.Clock.given c.args.disk.now ran.new.disk c.args.air.now ran.new.air c.args.clock.now ran.new.clock asked ran.result words asks only determined over;
+      spent = session-spent g.D.Disk g.A.Air g.C.Clock.given c.args.disk.now ran.new.disk c.args.air.now ran.new.air c.args.clock.now ran.new.clock asked ran.result words asks only determined over;
       serve_complete = λ told. absurd (only.session_serve session (told.asked, told.asks));
       serve_spent = λ told. absurd (only.session_serve session (told.asked, told.asks));
       files = λ command name is. absurd (session-file words only session (command, name, is));
@@ -110,13 +108,13 @@ returns-in-Session g c =
       files_done = λ command name shelf is. absurd (session-file words only session (command, name, is));
       made = λ body name spec is. absurd (session-make words only session (body, name, spec, is));
       made_alone = λ make. absurd (session-make words only session make);
-      air_read = session-read g.D.Disk g.A.Air g.C.Clock.given c.args.disk.now ran.new.disk c.args.air.now ran.new.air c.args.clock.now ran.new.clock asked ran.result words asks only determined over read law;
-      air_write = session-write g.D.Disk g.A.Air g.C.Clock.given c.args.disk.now ran.new.disk c.args.air.now ran.new.air c.args.clock.now ran.new.clock asked ran.result words asks only determined over read law;
-      disk = session-disk g.D.Disk g.A.Air g.C.Clock.given c.args.disk.now ran.new.disk c.args.air.now ran.new.air c.args.clock.now ran.new.clock asked ran.result words asks only determined over read law;
+      air_read = session-read g.D.Disk g.A.Air g.C.Clock.given c.args.disk.now ran.new.disk c.args.air.now ran.new.air c.args.clock.now ran.new.clock asked ran.result words asks only determined over;
+      air_write = session-write g.D.Disk g.A.Air g.C.Clock.given c.args.disk.now ran.new.disk c.args.air.now ran.new.air c.args.clock.now ran.new.clock asked ran.result words asks only determined over;
+      disk = session-disk g.D.Disk g.A.Air g.C.Clock.given c.args.disk.now ran.new.disk c.args.air.now ran.new.air c.args.clock.now ran.new.clock asked ran.result words asks only determined over;
       shelf = record { rose = λ e. absurd (isnt status.Shelf refl e); same = λ _ _. refl };
       out = λ e. absurd (isnt status.Out refl e);
-      bad_store = session-bad_store g.D.Disk g.A.Air g.C.Clock.given c.args.disk.now ran.new.disk c.args.air.now ran.new.air c.args.clock.now ran.new.clock asked ran.result words asks only determined over read law;
-      node_done = λ _. session-done g.D.Disk g.A.Air g.C.Clock.given c.args.disk.now ran.new.disk c.args.air.now ran.new.air c.args.clock.now ran.new.clock asked ran.result words asks only determined over read law;
+      bad_store = session-bad_store g.D.Disk g.A.Air g.C.Clock.given c.args.disk.now ran.new.disk c.args.air.now ran.new.air c.args.clock.now ran.new.clock asked ran.result words asks only determined over;
+      node_done = λ _. session-done g.D.Disk g.A.Air g.C.Clock.given c.args.disk.now ran.new.disk c.args.air.now ran.new.air c.args.clock.now ran.new.clock asked ran.result words asks only determined over;
       done = λ e. (refl, ap g.O.Out.faults (line.no_line (ap line_of e)));
       unshown = λ e _. line.no_line (ap line_of e);
       shown = λ _. line.shown;
@@ -142,6 +140,7 @@ returns-in-Serve g c =
     record {
       usage = λ e. absurd (isnt status.Usage refl e);
       usage_told = λ usage. absurd (only.usage_serve usage serve);
+      unbuilt = λ e. absurd (isnt status.NotBuilt refl e);
       unbuilt_words = λ unbuilt. absurd (only.unbuilt_serve unbuilt serve);
       unread = λ refused. absurd (elim refused [ inl usage ↦ only.usage_serve usage serve | inr unbuilt ↦ only.unbuilt_serve unbuilt serve ]);
       untouched = λ refused. absurd (elim refused [ inl usage ↦ only.usage_serve usage serve | inr unbuilt ↦ only.unbuilt_serve unbuilt serve ]);
@@ -155,7 +154,6 @@ returns-in-Serve g c =
       acknowledged_since = c.acknowledged_since_law.ensures;
       disk_alone = λ none. absurd (none (inr serve));
       complete = λ told. absurd (only.session_serve (told.asked, told.asks) serve);
-      not_built = λ told. absurd (only.session_serve (told.asked, told.asks) serve);
       spent = λ told. absurd (only.session_serve (told.asked, told.asks) serve);
       serve_complete = serve-complete g.D.Disk g.A.Air g.C.Clock.given c.args.disk.now ran.new.disk c.args.air.now ran.new.air c.args.clock.now ran.new.clock asked ran.result words asks only determined over;
       serve_spent = serve-spent g.D.Disk g.A.Air g.C.Clock.given c.args.disk.now ran.new.disk c.args.air.now ran.new.air c.args.clock.now ran.new.clock asked ran.result words asks only determined over;
@@ -194,6 +192,7 @@ returns-in-File g c =
     record {
       usage = λ e. absurd (isnt status.Usage refl e);
       usage_told = λ usage. absurd (usage-file words only usage file);
+      unbuilt = λ e. absurd (isnt status.NotBuilt refl e);
       unbuilt_words = λ unbuilt. absurd (unbuilt-file words only unbuilt file);
       unread = λ refused. absurd (elim refused [ inl usage ↦ usage-file words only usage file | inr unbuilt ↦ unbuilt-file words only unbuilt file ]);
       untouched = λ refused. absurd (elim refused [ inl usage ↦ usage-file words only usage file | inr unbuilt ↦ unbuilt-file words only unbuilt file ]);
@@ -207,7 +206,6 @@ returns-in-File g c =
       acknowledged_since = c.acknowledged_since_law.ensures;
       disk_alone = λ _. refl;
       complete = λ told. absurd (session-file words only (told.asked, told.asks) file);
-      not_built = λ told. absurd (session-file words only (told.asked, told.asks) file);
       spent = λ told. absurd (session-file words only (told.asked, told.asks) file);
       serve_complete = λ told. absurd (serve-file words only (told.asked, told.asks) file);
       serve_spent = λ told. absurd (serve-file words only (told.asked, told.asks) file);
@@ -222,7 +220,7 @@ returns-in-File g c =
       made_alone = λ make. absurd (file-make words only file make);
       air_read = record { rose = λ e. absurd (isnt status.AirRead refl e); same = λ _. refl };
       air_write = record { rose = λ e. absurd (isnt status.AirWrite refl e); same = λ _ _ _. refl };
-      disk = record { asked = λ e. absurd (isnt status.Disk refl e); rose = λ e. absurd (isnt status.Disk refl e); same = λ _. (refl, refl) };
+      disk = record { asked = λ e. absurd (isnt status.Disk refl e); rose = λ e. absurd (isnt status.Disk refl e); same = λ _. refl; same_reads = λ _. refl; no_less = (omega arith, omega arith) };
       shelf = ran.ensures.shelf;
       out = file-rose g.O.Out.shown g.O.Out.faults command held name c.args.out.now ran.new.out ran.result ran.ensures.shown c.show_line-in-File.new.out line.no_fewer_faults;
       bad_store = record {
@@ -262,6 +260,7 @@ returns-in-Make g c =
     record {
       usage = λ e. absurd (isnt status.Usage refl e);
       usage_told = λ usage. absurd (usage-make words only usage make);
+      unbuilt = λ e. absurd (isnt status.NotBuilt refl e);
       unbuilt_words = λ unbuilt. absurd (unbuilt-make words only unbuilt make);
       unread = λ refused. absurd (elim refused [ inl usage ↦ usage-make words only usage make | inr unbuilt ↦ unbuilt-make words only unbuilt make ]);
       untouched = λ refused. absurd (elim refused [ inl usage ↦ usage-make words only usage make | inr unbuilt ↦ unbuilt-make words only unbuilt make ]);
@@ -275,7 +274,6 @@ returns-in-Make g c =
       acknowledged_since = c.acknowledged_since_law.ensures;
       disk_alone = λ _. refl;
       complete = λ told. absurd (session-make words only (told.asked, told.asks) make);
-      not_built = λ told. absurd (session-make words only (told.asked, told.asks) make);
       spent = λ told. absurd (session-make words only (told.asked, told.asks) make);
       serve_complete = λ told. absurd (serve-make words only (told.asked, told.asks) make);
       serve_spent = λ told. absurd (serve-make words only (told.asked, told.asks) make);
@@ -288,7 +286,7 @@ returns-in-Make g c =
       made_alone = λ _. (refl, refl);
       air_read = record { rose = λ e. absurd (isnt status.AirRead refl e); same = λ _. refl };
       air_write = record { rose = λ e. absurd (isnt status.AirWrite refl e); same = λ _ _ _. refl };
-      disk = record { asked = λ e. absurd (isnt status.Disk refl e); rose = λ e. absurd (isnt status.Disk refl e); same = λ _. (refl, refl) };
+      disk = record { asked = λ e. absurd (isnt status.Disk refl e); rose = λ e. absurd (isnt status.Disk refl e); same = λ _. refl; same_reads = λ _. refl; no_less = (omega arith, omega arith) };
       shelf = ran.ensures.shelf;
       out = λ e. absurd (isnt status.Out refl e);
       bad_store = record {
