@@ -54,11 +54,11 @@ abbrev pub IsAfter : Window → StoreState → List CallerList → ConnectionSta
 IsAfter w store lists connection happened fate =
     (lists ≡ happened.lists) × StandsAfter w store connection happened.over happened.after fate
 
--- What a frame that is heard does, where `event` gives what it makes of the connection by the writes and syncs that fail
--- in it. Where all was taken none failed, and its commands are done. Where the disk failed, at a write or a sync of some
--- packet and nowhere else, the commands before it are done, and it failed in one of that packet's; the replies before it
--- and code 3 are left to be sent. Where there was no memory for some packet, the commands of the packets before it are
--- done, and its own aren't begun. The count of failed reads rose exactly where a part told of one.
+-- What a frame that is heard does, where `event` gives what it makes of the connection by the writes and syncs that
+-- fail in it. Where all was taken none failed, and its commands are done. Where the disk failed, at a write or a sync
+-- of some packet and nowhere else, the commands before it are done, and it failed in one of that packet's; the replies
+-- before it and code 3 are left to be sent. Where there was no memory for some packet, the commands of the packets
+-- before it are done, and its own aren't begun. The count of failed reads rose exactly where a part told of one.
 abbrev pub HearsBy :
     {D : Type 0} → Ghosts D → Window → (List Failure → Happened) → StoreState → StoreState → List CallerList → D → D
     → ConnectionState → Fate → Result ⊤ ServerStop → Type 0
@@ -79,9 +79,9 @@ HearsBy g w event store store_now lists_now disk disk_now connection fate (Err s
 abbrev pub with_reads : {X : Type 0} → (List Failure → X) → List ℕ → List Failure → X
 with_reads event parts writes = event (writes ++ failed_reads parts)
 
--- A frame was heard, of which this is what it makes of the connection by the failures of the disk; reads failed at these
--- parts of it. Since it came each image stands for the store after the first of the commands that it has where no write
--- and no sync fails, for some number of them.
+-- A frame was heard, of which this is what it makes of the connection by the failures of the disk; reads failed at
+-- these parts of it. Since it came each image stands for the store after the first of the commands that it has where no
+-- write and no sync fails, for some number of them.
 pub record Hears {D : Type 0} (g : Ghosts D) (w : Window) (event : List Failure → Happened)
     (store store_now : StoreState) (lists_now : List CallerList) (disk disk_now : D) (connection : ConnectionState)
     (heard : Fate × Result ⊤ ServerStop) : Type 0 where

@@ -1,6 +1,7 @@
--- How a connection takes packets, and then queues what is due, part by part; and what each part leaves for the next one.
-use Rattle.std.specs.Prelude.{◌≡◌, ◌⊎◌, ℕ, ◌+◌, ◌<◌, ◌≤◌, List, [], ◌++◌, length, All, Bool, true, false, ◌||◌, None, Some}
-use Rattle.std.specs.Prelude.{Result, Ok, IsErrOf, ⊤}
+-- How a connection takes packets, and then queues what is due, part by part; and what each part leaves for the next
+-- one.
+use Rattle.std.specs.Prelude.{◌≡◌, ◌⊎◌, ℕ, ◌+◌, ◌<◌, ◌≤◌, List, [], ◌++◌, length, All, Bool, true, false, ◌||◌}
+use Rattle.std.specs.Prelude.{None, Some, Result, Ok, IsErrOf, ⊤}
 use Rattle.disk_model.specs.declared.disk.Disk.{Ghosts}
 use Rattle.ax25_link.specs.declared.state.LinkState.TheVariants.{Up}
 use Rattle.ax25_link.specs.Calls.{after_push}
@@ -80,8 +81,8 @@ pub record TakesPackets {D : Type 0} (g : Ghosts D) (w : Window) (moment : ℕ) 
       (with_reads (taking_some moment session (state_in store session) (store_in store) lists end items first) parts)
       store store_now lists_now disk disk_now (with_nothing_left link_now session_now) told.0 told.1
 
--- Packets at the front of the octets were taken, up to one that stops the connection, if one does: the rest are those of
--- the octets that are left now.
+-- Packets at the front of the octets were taken, up to one that stops the connection, if one does: the rest are those
+-- of the octets that are left now.
 pub record Feeds {D : Type 0} (g : Ghosts D) (moment : ℕ) (before now : ConnectionState) (store store_now : StoreState)
     (lists lists_now : List CallerList) (disk disk_now : D) (told : Fate × Result ⊤ ServerStop) : Type 0 where
   pub items : List Item
@@ -137,8 +138,8 @@ QueuesNext g store disk disk_now old new false =
     (new.link ≡ old.link) × (state_in store new.session ≡ state_in store old.session) × (disk_now ≡ disk)
     × (IsNothingDue store old.session ⊎ AreFree old.link (λ free. free < enough_free))
 
--- Behind these parts of an event, at which the session goes on, what is due was queued: reads failed at these later parts,
--- and the count of failed reads rose exactly where one of the packets tells of it.
+-- Behind these parts of an event, at which the session goes on, what is due was queued: reads failed at these later
+-- parts, and the count of failed reads rose exactly where one of the packets tells of it.
 pub record Queued {D : Type 0} (g : Ghosts D) (w : Window) (store : StoreState) (disk disk_now : D)
     (new : ConnectionState) (progress : Progress) : Type 0 where
   pub parts : List ℕ

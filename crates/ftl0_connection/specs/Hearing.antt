@@ -17,9 +17,9 @@ use Rattle.ftl0_session.specs.Table.{command}
 use Rattle.ftl0_connection.specs.Connected.{Connected, caller_of, greeted}
 use Rattle.ftl0_connection.specs.Taking.{Halt, Progress, queued, resting, taking}
 
--- What an event makes of a connection: what it is now, and the lists of all callers; whether its session is over, so that
--- only its link's last frames are left; whether any part of the event told that a read failed; the store's commands that
--- are done, and those in one of which the disk failed; and why no more of the event was taken.
+-- What an event makes of a connection: what it is now, and the lists of all callers; whether its session is over, so
+-- that only its link's last frames are left; whether any part of the event told that a read failed; the store's
+-- commands that are done, and those in one of which the disk failed; and why no more of the event was taken.
 pub record Happened : Type 0 where
   pub after : Connected
   pub lists : List CallerList
@@ -80,8 +80,8 @@ parts_of_frame w moment store lists c frame failures =
 abbrev pub rest_of_frame : Window → Connected → FrameValue → List ℕ
 rest_of_frame w c frame = rest_as (heard_of w c.end frame) c frame.kind.information
 
--- What a frame from the caller makes of the connection, at this moment, over this store and the lists of all callers. At
--- its end what is due is queued.
+-- What a frame from the caller makes of the connection, at this moment, over this store and the lists of all callers.
+-- At its end what is due is queued.
 abbrev pub hearing : Window → ℕ → Store → List CallerList → Connected → FrameValue → List Failure → Happened
 hearing w moment store lists c frame failures =
     progressed (rest_of_frame w c frame)

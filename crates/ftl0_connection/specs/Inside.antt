@@ -8,8 +8,8 @@ use Rattle.ftl0_connection.specs.ConnectionState.{ConnectionState, IsWaiting, St
 abbrev pub connection_state : Inside → ConnectionState
 connection_state a = record { link = a.link; octets = under_way a.reader; session = a.session }
 
--- The link is the server's end of one to the session's caller, who called, and stands for some end. The octets that were
--- accepted and of which no packet was taken wait.
+-- The link is the server's end of one to the session's caller, who called, and stands for some end. The octets that
+-- were accepted and of which no packet was taken wait.
 pub record IsInside (a : Inside) : Type 0 where
   pub called : a.link.called ≡ false
   pub peer : a.link.peer ≡ caller_of a.session

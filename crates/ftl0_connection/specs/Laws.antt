@@ -26,9 +26,9 @@ row_behind caller moment store lists state end items failures item =
     let progress : Progress = taking caller moment store lists state end items failures 0 in
     row_at caller moment (after_all store progress.done) progress.lists progress.state item failures (length items)
 
--- Where packets before one were all taken, the session goes on after them, and no write or sync fails at that packet, it
--- is taken over the store after their commands, with the lists and in the state after them, and its row's commands are
--- done behind theirs.
+-- Where packets before one were all taken, the session goes on after them, and no write or sync fails at that packet,
+-- it is taken over the store after their commands, with the lists and in the state after them, and its row's commands
+-- are done behind theirs.
 abbrev pub TakingLaw : Type 0
 TakingLaw =
     (caller : CallSign) (moment : ℕ) (store : Store) (lists : List CallerList) (state : State) (end : LinkEnd)

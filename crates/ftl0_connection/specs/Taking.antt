@@ -21,8 +21,8 @@ fits end text = nat_le (length text) (free_octets end)
 abbrev pub replied : LinkEnd → List ℕ → LinkEnd
 replied end text = if fits end text then after_push end text else after_abandon end
 
--- Why no more is taken: all was, or the session is over; or a write or a sync of the disk failed in a packet's commands,
--- and the server stops.
+-- Why no more is taken: all was, or the session is over; or a write or a sync of the disk failed in a packet's
+-- commands, and the server stops.
 pub data Halt : Type 0 where
   goes_on : Halt
   fails : Halt
@@ -95,8 +95,8 @@ giving_up end row part =
       halt = goes_on;
     }
 
--- What a packet with this row makes: a write or a sync fails or none does, and its replies fit or don't. Behind it comes
--- what is given.
+-- What a packet with this row makes: a write or a sync fails or none does, and its replies fit or don't. Behind it
+-- comes what is given.
 abbrev pub taking_row : LinkEnd → State → List CallerList → ℕ → Bool → Progress → Row → Progress
 taking_row end state lists part failed later row =
     if failed then failing_at end state lists row part
@@ -105,7 +105,8 @@ taking_row end state lists part failed later row =
 
 -- The packets are taken one after another, each by its row of the session's table, all at this moment, up to one at
 -- whose replies the link is given up, or one for which these failures list a write or a sync. The first of them is the
--- event's part of this number, and each other one the next part. A part for which they list a read has the row for that.
+-- event's part of this number, and each other one the next part. A part for which they list a read has the row for
+-- that.
 abbrev pub taking :
     CallSign → ℕ → Store → List CallerList → State → LinkEnd → List Item → List Failure → ℕ → Progress
 taking caller moment store lists state end [] failures part = resting end state lists part
@@ -135,8 +136,8 @@ abbrev pub on_due : Option DuePacket → Progress → (DuePacket → Progress) �
 on_due None progress later = progress
 on_due (Some due) progress later = later due
 
--- Packets that are due are queued, one after another, each a part of the event, while enough octets are free: so many of
--- them at most.
+-- Packets that are due are queued, one after another, each a part of the event, while enough octets are free: so many
+-- of them at most.
 abbrev pub queuing : ℕ → Store → List Failure → Progress → Progress
 queuing zero store failures progress = progress
 queuing (suc more) store failures progress =
@@ -145,8 +146,8 @@ queuing (suc more) store failures progress =
     (λ due. queuing more store failures (after_due due progress))
     else progress
 
--- At the end of an event DATA and DATA_END that are due are queued while enough octets are free, but not where the session
--- is over. Each takes some of the octets that are free, so there are no more of them than that.
+-- At the end of an event DATA and DATA_END that are due are queued while enough octets are free, but not where the
+-- session is over. Each takes some of the octets that are free, so there are no more of them than that.
 abbrev pub queued : Store → List Failure → Progress → Progress
 queued store failures progress =
     if progress.over then progress

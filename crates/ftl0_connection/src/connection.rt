@@ -1,10 +1,12 @@
 //! One caller's connection.
 
-ghost use Rattle.std.specs.Prelude.{◌≡◌, ◌<◌, ◌≤◌, ◌↔◌, ℕ, [], ◌∷◌, ◌++◌, drop, length, false, true, not, IfOk, IsTrue, None};
+ghost use Rattle.std.specs.Prelude.{◌≡◌, ◌<◌, ◌≤◌, ◌↔◌, ℕ, [], ◌∷◌, ◌++◌, drop, length, false, true, not};
+ghost use Rattle.std.specs.Prelude.{IfOk, IsTrue, None};
 ghost use Rattle.ax25_frames.specs.Values.{value_of};
 ghost use Rattle.ax25_link.specs.Air.{is_information};
 ghost use Rattle.ax25_link.specs.Ends.{LinkEnd};
-ghost use Rattle.ax25_link.specs.Kept.{Fits, GivesNext, HasStations, IsFromPeer, SameStations, StandsFor, Steps, Tells, is_pending, most_pending};
+ghost use Rattle.ax25_link.specs.Kept.{Fits, GivesNext, HasStations, IsFromPeer, SameStations, StandsFor, Steps};
+ghost use Rattle.ax25_link.specs.Kept.{Tells, is_pending, most_pending};
 ghost use Rattle.ax25_link.specs.declared.state.LinkState.{LinkState};
 ghost use Rattle.ax25_link.specs.Window.{IsGoodK, Window, window_of};
 ghost use Rattle.ftl0_packets.specs.Reading.{is_whole, read_item, rest_of};
@@ -93,13 +95,13 @@ impl Connection {
         })
     }
 
-    /// Hears a frame of the caller at this moment, while nothing is pending (AX.25 2.0, 2.4; FTL0 1990): the frame's row
-    /// of the link's table, and for information that is next in the stream the packets' rows of the session's table. Their
-    /// commands are on the disk before any frame of the event is given out. A reply for which the link has no room ends
-    /// the session by DM. Then DATA and DATA_END that are due are queued while at least 1,280 octets are free. A read of
-    /// the disk that fails is told by code 3, and the session goes on. After a stop nothing more is queued, and the server
-    /// goes on no further: after `Disk` the frames that are pending are given out first, code 3 among them; after want of
-    /// memory none is. Takes memory, before a packet touches the disk.
+    /// Hears a frame of the caller at this moment, while nothing is pending (AX.25 2.0, 2.4; FTL0 1990): the frame's
+    /// row of the link's table, and for information that is next in the stream the packets' rows of the session's
+    /// table. Their commands are on the disk before any frame of the event is given out. A reply for which the link has
+    /// no room ends the session by DM. Then DATA and DATA_END that are due are queued while at least 1,280 octets are
+    /// free. A read of the disk that fails is told by code 3, and the session goes on. After a stop nothing more is
+    /// queued, and the server goes on no further: after `Disk` the frames that are pending are given out first, code 3
+    /// among them; after want of memory none is. Takes memory, before a packet touches the disk.
     pub fn hear<D: Disk>(
         &mut self,
         disk: &mut D,
@@ -129,8 +131,8 @@ impl Connection {
         told
     }
 
-    /// Counts a tick, while nothing is pending (AX.25 2.0, 2.4.7): the session is over where the caller doesn't answer any
-    /// more. Takes no memory.
+    /// Counts a tick, while nothing is pending (AX.25 2.0, 2.4.7): the session is over where the caller doesn't answer
+    /// any more. Takes no memory.
     pub fn tick(&mut self) -> Fate
         requires quiet { is_pending self.old.link ≡ false }
         requires up { self.old.link.state ≡ LinkState.Up }
@@ -147,8 +149,8 @@ impl Connection {
         }
     }
 
-    /// Replaces `out` by the octets of the next pending frame, which is then sent. It is false, and changes nothing, exactly
-    /// where nothing is pending. Takes no memory.
+    /// Replaces `out` by the octets of the next pending frame, which is then sent. It is false, and changes nothing,
+    /// exactly where nothing is pending. Takes no memory.
     pub fn next_out(&mut self, out: &mut ArrayVec<u8, 400>) -> bool
         ensures pending { result ≡ is_pending self.old.link }
         ensures none { result ≡ false → (self.new ≡ self.old) × (out.new.items ≡ out.old.items) }
@@ -245,8 +247,8 @@ impl Connection {
         while self.queue_next(disk, store) {}
     }
 
-    /// Queues what is due next, where enough octets are free. It answers false, and nothing changed, where nothing is due,
-    /// or fewer are free.
+    /// Queues what is due next, where enough octets are free. It answers false, and nothing changed, where nothing is
+    /// due, or fewer are free.
     fn queue_next<D: Disk>(&mut self, disk: &mut D, store: &mut FileStore) -> bool
         requires up { self.old.link.state ≡ LinkState.Up }
         requires healthy { store.old.journal.failed ≡ false }
@@ -318,7 +320,8 @@ impl Connection {
         (Fate::Stays, Ok(()))
     }
 
-    /// Takes octets up to the end of the packet under way, and the packet where it is whole, and tells how many they are.
+    /// Takes octets up to the end of the packet under way, and the packet where it is whole, and tells how many they
+    /// are.
     fn feed<D: Disk>(
         &mut self,
         disk: &mut D,
@@ -331,8 +334,9 @@ impl Connection {
         requires may { MayTake D.Disk store.old disk.old lists.old self.old.link self.old.session }
         ensures some { 0 < result.0 }
         ensures taken { result.0 ≤ length piece.now }
-        ensures feeds { Feeds D.Disk moment (with_octets self.old piece.now) (with_octets self.new (drop result.0 piece.now))
-            store.old store.new lists.old lists.new disk.old disk.new result.1 }
+        ensures feeds { Feeds D.Disk moment (with_octets self.old piece.now)
+            (with_octets self.new (drop result.0 piece.now)) store.old store.new lists.old lists.new disk.old disk.new
+            result.1 }
         ensures fit { LeavesFit D.Disk store.old store.new lists.new disk.old disk.new self.old.link self.new.link
             self.old.session self.new.session result.1 }
     {
@@ -355,8 +359,8 @@ impl Connection {
     }
 }
 
-/// Takes the packet that is whole, and queues the replies to it. After a fault of the disk that is the reply with code 3,
-/// and the session is over.
+/// Takes the packet that is whole, and queues the replies to it. After a fault of the disk that is the reply with code
+/// 3, and the session is over.
 fn answer<D: Disk>(
     reader: &PacketReader,
     link: &mut Link,

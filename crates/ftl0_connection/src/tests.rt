@@ -29,8 +29,8 @@ const GREETING: [u8; 9] = [0x00, 0xF0, 0x05, 0x02, 0x01, 0x00, 0x00, 0x00, 0x04]
 /// The same of a caller in whose list numbers are left: bit 3 of the flags (FTL0 1990, LOGIN_RESP).
 const GREETING_WITH_LIST: [u8; 9] = [0x00, 0xF0, 0x05, 0x02, 0x01, 0x00, 0x00, 0x00, 0x0C];
 
-/// An upload of a file of 73 octets, the eleven mandatory items of a file header with no body (PFH 1990): UPLOAD_CMD for a
-/// new file, DATA with all its octets, and DATA_END.
+/// An upload of a file of 73 octets, the eleven mandatory items of a file header with no body (PFH 1990): UPLOAD_CMD
+/// for a new file, DATA with all its octets, and DATA_END.
 const UPLOAD: [u8; 87] = [
     0x08, 0x03, 0x00, 0x00, 0x00, 0x00, 0x49, 0x00, 0x00, 0x00, 0x49, 0x00, 0xAA, 0x55, 0x01, 0x00,
     0x04, 0x00, 0x00, 0x00, 0x00, 0x02, 0x00, 0x08, 0x20, 0x20, 0x20, 0x20, 0x20, 0x20, 0x20, 0x20,
@@ -74,8 +74,8 @@ enum Says<'a> {
     Calls,
 }
 
-/// What a caller says; and of the frames that are said then the control octet of the first one, how many octets they have
-/// together, and those with which they end.
+/// What a caller says; and of the frames that are said then the control octet of the first one, how many octets they
+/// have together, and those with which they end.
 type Row<'a> = (Says<'a>, u8, usize, &'a [u8]);
 
 fn call(rt: &impl Abort, text: &str) -> Call {
