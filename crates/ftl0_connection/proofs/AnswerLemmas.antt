@@ -1,118 +1,128 @@
 -- How a connection answers one packet.
-use Rattle.std.proofs.Common.{◌≡◌, ℕ, Bool, true, false, not, List, [], ◌∷◌, refl, ap, sym, ◌∙◌, subst, append-nil}
-use Rattle.std.specs.Prelude.{Option, Result, Ok, Err, ⊤, if◌then◌else◌}
+use Rattle.std.proofs.Common.{◌≡◌, ℕ, suc, Bool, true, false, not, List, [], ◌∷◌, ◌++◌, refl, ap, sym, ◌∙◌, subst, arith, append-nil}
+use Rattle.std.specs.Prelude.{Result, Ok, Err, IsErrOf, IsTrue, ⊤, if◌then◌else◌, ◌||◌}
+use Rattle.std.proofs.Math.Bool.{or-false}
+use Rattle.px_base.specs.CallSign.{CallSign}
 use Rattle.disk_model.specs.declared.disk.Disk.{Ghosts}
 use Rattle.ax25_link.specs.Calls.{after_abandon, after_push}
 use Rattle.ax25_link.specs.Ends.{LinkEnd}
 use Rattle.ax25_link.specs.declared.state.LinkState.TheVariants.{Up}
 use Rattle.ax25_link.specs.Kept.{Kept, StandsFor, Steps, Tells}
 use Rattle.ax25_link.specs.Window.{Window}
-use Rattle.ftl0_packets.specs.Layout.{Item}
-use Rattle.file_journal.proofs.ToldLemmas.{at_told}
-use Rattle.file_entries.specs.Command.{Command}
-use Rattle.file_store.specs.OnDisk.{CutsOff, Does}
-use Rattle.file_store.specs.State.{StandsOn, StoreState, store_in}
-use Rattle.file_store.proofs.DoesLemmas.{Does-none}
-use Rattle.ftl0_uploads.specs.declared.stop.ServerStop.{ServerStop}
-use Rattle.ftl0_uploads.specs.declared.stop.ServerStop.TheVariants as stop
 use Rattle.ftl0_packets.specs.Items.{texts}
-use Rattle.ftl0_uploads.specs.Session.{Row, session_row}
-use Rattle.ftl0_uploads.specs.SessionState.{SessionState, state_of}
-use Rattle.ftl0_uploads.specs.Taking.{Answers, PutsRow}
+use Rattle.ftl0_packets.specs.Layout.{Item}
+use Rattle.selection_lists.specs.Lists.{CallerList}
+use Rattle.file_store.specs.State.{StandsOn, StoreState, store_in}
+use Rattle.file_store.specs.Working.{CutsOffAmongReads, DoesAmongReads, PutsAmongReads}
+use Rattle.file_store.proofs.WorkingLemmas.{among-at, among-same, puts-among, puts-among-reads, puts-among-then}
+use Rattle.ftl0_uploads.specs.Failures.{Failure, failed_reads, failed_write, read_fails, write_fails}
+use Rattle.ftl0_session.specs.declared.stop.ServerStop.{ServerStop}
+use Rattle.ftl0_session.specs.declared.stop.ServerStop.TheVariants as stop
+use Rattle.ftl0_session.specs.SessionState.{SessionState, caller_of, state_in}
+use Rattle.ftl0_session.specs.Table.{Row, tell_failed_read}
+use Rattle.ftl0_session.specs.Taking.{TakesPacket, Working, row_over, working}
+use Rattle.ftl0_session.proofs.WorkingLemmas.{taken-among, taken-cut, taken-none}
 use Rattle.ftl0_connection.specs.declared.fate.Fate.{Fate}
 use Rattle.ftl0_connection.specs.declared.fate.Fate.TheVariants.{Stays, Ends}
-use Rattle.ftl0_connection.specs.ConnectionState.{Hears, HearsBy, StandsAfter, StandsForSome, is_over, taking_some, with_nothing_left}
+use Rattle.ftl0_connection.specs.ConnectionState.{IsAfter, StandsForSome, is_over, with_nothing_left}
+use Rattle.ftl0_connection.specs.Feeding.{IsAmong, TakesPackets}
 use Rattle.ftl0_connection.specs.Hearing.{progressed}
-use Rattle.ftl0_connection.specs.Taking.{Progress, after_doing, fails, fits, giving_up, goes_on, replied, resting, unbuilt}
-use Rattle.ftl0_connection.proofs.HearsLemmas.{hears-taking}
-use Rattle.ftl0_connection.proofs.TakingLemmas.{step}
+use Rattle.ftl0_connection.specs.Taking.{Progress, fails, fits, goes_on, replied, resting, taking}
+use Rattle.ftl0_connection.proofs.FailureLemmas.{All-at, at_part, none-writes, one-writes, reads-at, writes-at, writes-none}
+use Rattle.ftl0_connection.proofs.TakingLemmas.{by_tests}
 
-module _ {D : Type 0} (g : Ghosts D) (lasts : (disk : D) → g.lasts disk disk) (on : (first second third : D) → g.lasts first second → g.lasts second third → g.lasts first third)
-    (w : Window) (end : LinkEnd) (moment : ℕ) (session session_n : SessionState) (store store_n : StoreState) (disk disk_n : D) (link_n : Kept) (item : Item)
+module _ {D : Type 0} (g : Ghosts D) (on : (first second third : D) → g.lasts first second → g.lasts second third → g.lasts first third)
+    (w : Window) (end : LinkEnd) (moment : ℕ) (session session_n : SessionState) (store store_n : StoreState) (lists lists_n : List CallerList) (disk disk_n : D) (link_n : Kept) (item : Item) (first : ℕ)
     (healthy : store.journal.failed ≡ false) (stands_on : StandsOn g store disk) where
-  -- the packet's row, if it is built
-  abbrev row_here : Option Row
-  row_here = session_row session.caller moment (store_in store) (state_of store session.phase) item
+  -- the packet's row, where a read fails or none does
+  abbrev row_here : Bool → Row
+  row_here reads = row_over (caller_of session) moment (working session store lists) item reads
 
-  -- what one packet makes, with this row
-  abbrev one : Bool → Option Row → Progress
-  one failed row = step end (state_of store session.phase) item failed (λ r. resting (after_push end (texts r.replies)) r.state) row
+  -- what one packet makes with this row, where a write fails or none does
+  abbrev one : Bool → Row → Progress
+  one failed row = by_tests end (state_in store session) lists first row failed (fits end (texts row.replies)) (resting (after_push end (texts row.replies)) row.state row.lists (suc first))
 
-  abbrev Said : Fate → Result ⊤ ServerStop → Type 0
-  Said fate result = HearsBy g w (taking_some moment session (state_of store session.phase) (store_in store) end (item ∷ [])) store store_n disk disk_n (with_nothing_left link_n session_n) fate result
+  abbrev taking_one : List Failure → Progress
+  taking_one failures = taking (caller_of session) moment (store_in store) lists (state_in store session) end (item ∷ []) failures first
+
+  -- the failures of the event decide
+  one-is : (failures : List Failure) (reads writes : Bool) → read_fails failures first ≡ reads → write_fails failures first ≡ writes → taking_one failures ≡ one writes (row_here reads)
+  one-is failures reads writes is_read is_written =
+      ap (λ (b : Bool). one (write_fails failures first) (row_here b)) is_read ∙ ap (λ (b : Bool). one b (row_here reads)) is_written
+
+  abbrev Takes : Result ⊤ ServerStop → List ℕ → Type 0
+  Takes result replies = TakesPacket g (caller_of session) moment item (working session store lists) (working session_n store_n lists_n) disk disk_n replies result
+
+  abbrev Made : Fate × Result ⊤ ServerStop → Type 0
+  Made told = TakesPackets g w moment session store store_n lists lists_n end (item ∷ []) first disk disk_n link_n session_n told
 
   abbrev Done : Fate → Progress → Type 0
-  Done fate p = (p.halt ≡ goes_on) × StandsAfter w store_n (with_nothing_left link_n session_n) (progressed [] p) fate × Does g ⊥ store store_n disk disk_n p.done
+  Done fate p = (p.halt ≡ goes_on) × IsAfter w store_n lists_n (with_nothing_left link_n session_n) (progressed [] p) fate × DoesAmongReads g ⊥ p.missed store store_n disk disk_n p.done
 
   -- the packet's row was taken, and its replies queued or the link given up
-  row_done : (row : Row) (enough : Bool) (fate : Fate) → is_over fate ≡ not enough
-      → StandsFor w link_n (if enough then after_push end (texts row.replies) else after_abandon end) → state_of store_n session_n.phase ≡ row.state → Does g ⊥ store store_n disk disk_n row.commands
-      → Done fate (if enough then after_doing row.commands (resting (after_push end (texts row.replies)) row.state) else giving_up end row)
-  row_done row true Stays over stands state does = (
+  row-done : (row : Row) (enough : Bool) (fate : Fate) → is_over fate ≡ not enough → StandsFor w link_n (if enough then after_push end (texts row.replies) else after_abandon end)
+      → lists_n ≡ row.lists → state_in store_n session_n ≡ row.state → DoesAmongReads g ⊥ (tell_failed_read row.replies) store store_n disk disk_n row.commands
+      → Done fate (by_tests end (state_in store session) lists first row false enough (resting (after_push end (texts row.replies)) row.state row.lists (suc first)))
+  row-done row true Stays over stands same state does = (
     refl,
-    (refl, record { link = stands; rest = refl; state = state }),
-    subst (λ (commands : List Command). Does g ⊥ store store_n disk disk_n commands) (sym (append-nil row.commands)) does,
+    (same, (refl, record { link = stands; rest = refl; state = state })),
+    among-at g ⊥ (tell_failed_read row.replies || false) store store_n disk disk_n row.commands (row.commands ++ []) (sym (append-nil row.commands))
+        (among-same g ⊥ ⊥ (tell_failed_read row.replies) (tell_failed_read row.replies || false) store store_n disk disk_n row.commands (λ never. never) (λ never. never)
+        (sym (or-false (tell_failed_read row.replies))) does),
   )
-  row_done row true Ends over stands state does = absurd cc
-  row_done row false Stays over stands state does = absurd cc
-  row_done row false Ends over stands state does = (refl, (refl, stands), does)
+  row-done row true Ends over stands same state does = absurd cc
+  row-done row false Stays over stands same state does = absurd cc
+  row-done row false Ends over stands same state does = (refl, (same, (refl, stands)), does)
 
-  pub said-done : (fate : Fate) (text replies : List ℕ) → text ≡ replies → is_over fate ≡ not (fits end text) → StandsFor w link_n (replied end text)
-      → Answers session.caller moment store (state_of store session.phase) item store_n (state_of store_n session_n.phase) replies (Ok tt)
-      → PutsRow g store store_n disk disk_n row_here (Ok tt) → Said fate (Ok tt)
-  said-done fate text replies same over stands answers puts =
-      let is : text ≡ texts answers.0.replies = same ∙ answers.2.2 in
-      subst (λ (row : Option Row). Done fate (one false row)) (sym answers.1)
-      (row_done answers.0 (fits end (texts answers.0.replies)) fate (subst (λ (t : List ℕ). is_over fate ≡ not (fits end t)) is over) (subst (λ (t : List ℕ). StandsFor w link_n (replied end t)) is stands)
-      answers.2.1 (at_told (λ (row : Row). Does g ⊥ store store_n disk disk_n row.commands) answers.0 answers.1 puts))
+  pub said-done : (fate : Fate) (text replies : List ℕ) → text ≡ replies → is_over fate ≡ not (fits end text) → StandsFor w link_n (replied end text) → Takes (Ok tt) replies → Made (fate, Ok tt)
+  said-done fate text replies same over stands takes =
+      let row : Row = row_here takes.fails in
+      let is : text ≡ texts row.replies = same ∙ takes.answers.3 in
+      record {
+        parts = at_part takes.fails first;
+        among = All-at (IsAmong first 1) takes.fails first (omega arith, omega arith);
+        by =
+            subst (Done fate) (sym (one-is ([] ++ failed_reads (at_part takes.fails first)) takes.fails false (reads-at [] takes.fails first none-writes) (writes-none (at_part takes.fails first) first)))
+            (row-done row (fits end (texts row.replies)) fate (subst (λ (t : List ℕ). is_over fate ≡ not (fits end t)) is over) (subst (λ (t : List ℕ). StandsFor w link_n (replied end t)) is stands)
+            takes.answers.1 takes.answers.2
+            (taken-among g on (caller_of session) moment item (working session store lists) (working session_n store_n lists_n) disk disk_n replies healthy stands_on tt takes));
+      }
 
   -- the disk failed, and code 3 is queued, or the link given up
-  pub said-fault : (text replies : List ℕ) → text ≡ replies → StandsFor w link_n (replied end text)
-      → Answers session.caller moment store (state_of store session.phase) item store_n (state_of store_n session_n.phase) replies (Err stop.Disk)
-      → PutsRow g store store_n disk disk_n row_here (Err stop.Disk) → Said Ends (Err stop.Disk)
-  said-fault text replies same stands answers puts =
-      let P : Option Row → Type 0 =
-      λ row. ((one true row).halt ≡ fails) × StandsAfter w store_n (with_nothing_left link_n session_n) (progressed [] (one true row)) Ends × CutsOff g ⊤ store store_n disk disk_n (one true row).done (one true row).cut in
-      let at : P row_here =
-      subst P (sym answers.1) (
+  pub said-fault : (text replies : List ℕ) → text ≡ replies → StandsFor w link_n (replied end text) → Takes (Err stop.Disk) replies → Made (Ends, Err stop.Disk)
+  said-fault text replies same stands takes =
+      let parts : List ℕ = at_part takes.fails first in
+      let P : Progress → Type 0 =
+      λ p. (p.halt ≡ fails) × IsAfter w store_n lists_n (with_nothing_left link_n session_n) (progressed [] p) Ends × CutsOffAmongReads g ⊤ p.missed store store_n disk disk_n p.done p.cut in
+      let at : P (taking_one (failed_write first ++ failed_reads parts)) =
+      subst P (sym (one-is (failed_write first ++ failed_reads parts) takes.fails true (reads-at (failed_write first) takes.fails first (one-writes first)) (writes-at first parts))) (
         refl,
-        (refl, subst (λ (t : List ℕ). StandsFor w link_n (replied end t)) (same ∙ answers.3) stands),
-        record {
-          store_then = store;
-          disk_then = disk;
-          first = Does-none g ⊥ store disk (λ never. never) stands_on healthy (lasts disk);
-          second = at_told (λ (row : Row). Does g ⊤ store store_n disk disk_n row.commands) answers.0 answers.1 puts;
-        },
+        (takes.answers.1, (refl, subst (λ (t : List ℕ). StandsFor w link_n (replied end t)) (same ∙ takes.answers.2) stands)),
+        taken-cut g on (caller_of session) moment item (working session store lists) (working session_n store_n lists_n) disk disk_n replies healthy stands_on takes,
       ) in
-      (0, at.0, at.1, at.2)
+      record { parts = parts; among = All-at (IsAmong first 1) takes.fails first (omega arith, omega arith); by = (first, at.0, at.1, at.2) }
 
-  -- nothing was taken
-  kept-back : store_n ≡ store → disk_n ≡ disk → Does g ⊥ store store_n disk disk_n []
-  kept-back same_store same_disk =
-      let at_store : StoreState → Type 0 = λ s. Does g ⊥ store s disk disk_n [] in
-      let at_disk : D → Type 0 = λ d. Does g ⊥ store store disk d [] in
-      subst at_store (sym same_store) (subst at_disk (sym same_disk) (Does-none g ⊥ store disk (λ never. never) stands_on healthy (lasts disk)))
+  -- there was no memory for it
+  pub said-none : (replies : List ℕ) → Takes (Err stop.OutOfMemory) replies → Made (Stays, Err stop.OutOfMemory)
+  said-none replies takes =
+      let parts : List ℕ = at_part takes.fails first in
+      let none = taken-none g on (caller_of session) moment item (working session store lists) (working session_n store_n lists_n) disk disk_n replies healthy stands_on takes in
+      let missed : Bool = tell_failed_read (row_here takes.fails).replies in
+      let P : Progress → Type 0 = λ p. (p.halt ≡ fails) × (Stays ≡ Stays) × DoesAmongReads g ⊥ p.missed store store_n disk disk_n p.done in
+      let at : P (taking_one (failed_write first ++ failed_reads parts)) =
+      subst P (sym (one-is (failed_write first ++ failed_reads parts) takes.fails true (reads-at (failed_write first) takes.fails first (one-writes first)) (writes-at first parts))) (
+        refl,
+        refl,
+        subst (λ (s : StoreState). DoesAmongReads g ⊥ missed store s disk disk_n []) (sym none.0) none.1,
+      ) in
+      record { parts = parts; among = All-at (IsAmong first 1) takes.fails first (omega arith, omega arith); by = (first, at.0, at.1, at.2) }
 
-  pub said-stop : (replies : List ℕ) (why : ServerStop) → (why ≡ stop.Disk → ⊥)
-      → Answers session.caller moment store (state_of store session.phase) item store_n (state_of store_n session_n.phase) replies (Err why)
-      → PutsRow g store store_n disk disk_n row_here (Err why) → Said Stays (Err why)
-  said-stop replies stop.Disk other answers puts = absurd (other refl)
-  said-stop replies (stop.NotBuilt kind) other answers puts =
-      let P : Option Row → Type 0 = λ row. ((one false row).halt ≡ unbuilt kind) × (Stays ≡ Stays) × Does g ⊥ store store_n disk disk_n (one false row).done in
-      subst P (sym answers.0) (ap unbuilt (sym answers.1), refl, kept-back answers.2.0 puts)
-  said-stop replies stop.OutOfMemory other answers puts =
-      let P : Option Row → Type 0 = λ row. ((one true row).halt ≡ fails) × (Stays ≡ Stays) × Does g ⊥ store store_n disk disk_n (one true row).done in
-      let at : P row_here = subst P (sym answers.1) (refl, refl, kept-back answers.3.0 puts) in
-      (0, at.0, at.1, at.2)
-
-  -- what is made of the packet, as it is read
-  pub hears-one : (fate : Fate) (result : Result ⊤ ServerStop) (read : Item) → item ≡ read → Said fate result
-      → Hears g w (taking_some moment session (state_of store session.phase) (store_in store) end (read ∷ [])) store store_n disk disk_n (with_nothing_left link_n session_n) (fate, result)
-  hears-one fate result read same said =
-      let P : Item → Type 0 =
-      λ i. Hears g w (taking_some moment session (state_of store session.phase) (store_in store) end (i ∷ [])) store store_n disk disk_n (with_nothing_left link_n session_n) (fate, result) in
-      subst P same
-      (hears-taking g on w [] session.caller moment (state_of store session.phase) end (item ∷ []) store store_n disk disk_n (with_nothing_left link_n session_n) (fate, result) said)
+-- the same of the packet as it is read
+pub takes-read : {D : Type 0} (g : Ghosts D) (w : Window) (end : LinkEnd) (moment : ℕ) (session session_n : SessionState) (store store_n : StoreState) (lists lists_n : List CallerList) (disk disk_n : D)
+    (link_n : Kept) (first : ℕ) (told : Fate × Result ⊤ ServerStop) (item read : Item) → item ≡ read → TakesPackets g w moment session store store_n lists lists_n end (item ∷ []) first disk disk_n link_n session_n told
+    → TakesPackets g w moment session store store_n lists lists_n end (read ∷ []) first disk disk_n link_n session_n told
+takes-read g w end moment session session_n store store_n lists lists_n disk disk_n link_n first told item read same takes =
+    subst (λ (i : Item). TakesPackets g w moment session store store_n lists lists_n end (i ∷ []) first disk disk_n link_n session_n told) same takes
 
 -- ---- the link after a reply
 
@@ -130,3 +140,13 @@ module _ (link link_n : Kept) (text : List ℕ) (some : StandsForSome link) (que
   up-replied fate up over stays =
       ap (λ (k : Kept). k.state) (queued some.w some.end some.stands).kept
       ∙ reply-up some.end text (fits some.end text) fate (sym (ap (λ (k : Kept). k.state) some.stands.kept) ∙ up) (over some.w some.end some.stands) stays
+
+-- ---- the disk
+
+-- what a packet does to the disk, with its reads
+pub taken-puts : {D : Type 0} (g : Ghosts D) (on : (first second third : D) → g.lasts first second → g.lasts second third → g.lasts first third) (caller : CallSign) (moment : ℕ) (item : Item)
+    (before now : Working) (disk disk_n : D) (replies : List ℕ) (result : Result ⊤ ServerStop) → TakesPacket g caller moment item before now disk disk_n replies result
+    → PutsAmongReads g (IsErrOf result stop.Disk) disk disk_n
+taken-puts g on caller moment item before now disk disk_n replies result takes =
+    puts-among-then g on ⊥ (IsErrOf result stop.Disk) disk takes.disk_then disk_n (λ never. never) (puts-among-reads g (IsTrue takes.fails) ⊥ disk takes.disk_then (λ never. never) takes.reads)
+    (puts-among g (IsErrOf result stop.Disk) takes.disk_then disk_n takes.puts)

@@ -1,30 +1,35 @@
 -- How what packets make of a connection is put together.
-use Rattle.std.proofs.Common.{◌≡◌, ℕ, Bool, true, false, not, ◌&&◌, List, [], ◌++◌, refl, ap, sym, ◌∙◌, subst}
-use Rattle.std.specs.Prelude.{Result, Ok, Err, ⊤}
+use Rattle.std.proofs.Common.{◌≡◌, ℕ, ◌+◌, ◌<◌, ◌≤◌, Bool, true, false, not, ◌&&◌, List, [], ◌++◌, length, refl, ap, sym, ◌∙◌, subst, arith, length-append}
+use Rattle.std.specs.Prelude.{All, Result, Ok, Err, ⊤}
+use Rattle.std.proofs.lemmas.List.Elements.{All-append, All-weaker}
 use Rattle.px_base.specs.CallSign.{CallSign}
 use Rattle.disk_model.specs.declared.disk.Disk.{Ghosts}
 use Rattle.ax25_link.specs.Ends.{LinkEnd}
 use Rattle.ax25_link.specs.Kept.{Kept, StandsFor}
 use Rattle.ax25_link.specs.Window.{Window}
 use Rattle.ftl0_packets.specs.Layout.{Item}
+use Rattle.selection_lists.specs.Lists.{CallerList}
 use Rattle.file_journal.specs.Calls.{Leaves}
-use Rattle.file_entries.specs.Command.{Command, after_all}
+use Rattle.file_entries.specs.Command.{after_all}
 use Rattle.file_entries.specs.Store.{Store}
-use Rattle.file_store.specs.OnDisk.{CutsOff, Does, MakesFirst}
+use Rattle.file_store.specs.OnDisk.{MakesFirst}
 use Rattle.file_store.specs.State.{StoreState, store_in}
-use Rattle.file_store.proofs.DoesLemmas.{Does-then}
-use Rattle.ftl0_uploads.specs.declared.stop.ServerStop.{ServerStop}
-use Rattle.ftl0_uploads.specs.declared.stop.ServerStop.TheVariants as stop
-use Rattle.ftl0_uploads.specs.Failures.{Failure, failed_write}
-use Rattle.ftl0_uploads.specs.Session.{State}
-use Rattle.ftl0_uploads.specs.SessionState.{SessionState, state_of}
+use Rattle.file_store.specs.Working.{CutsOffAmongReads, DoesAmongReads}
+use Rattle.file_store.proofs.WorkingLemmas.{among-then, cuts-among-all, cuts-among-then}
+use Rattle.ftl0_uploads.specs.Failures.{Failure, failed_reads, failed_write, write_fails}
+use Rattle.ftl0_session.specs.declared.stop.ServerStop.{ServerStop}
+use Rattle.ftl0_session.specs.declared.stop.ServerStop.TheVariants as stop
+use Rattle.ftl0_session.specs.SessionState.{SessionState, caller_of, state_in}
+use Rattle.ftl0_session.specs.Table.{State}
 use Rattle.ftl0_connection.specs.declared.fate.Fate.{Fate}
 use Rattle.ftl0_connection.specs.declared.fate.Fate.TheVariants.{Stays, Ends}
-use Rattle.ftl0_connection.specs.ConnectionState.{ConnectionState, Hears, HearsBy, IsConnection, StandsAfter, taking_some, with_nothing_left}
+use Rattle.ftl0_connection.specs.ConnectionState.{ConnectionState, HearsBy, IsAfter, with_nothing_left, with_reads}
+use Rattle.ftl0_connection.specs.Feeding.{HearsParts, IsAmong, IsGoing, TakesPackets}
 use Rattle.ftl0_connection.specs.Hearing.{Happened, progressed}
-use Rattle.ftl0_connection.specs.Taking.{Halt, Progress, after_doing, fails, goes_on, taking, unbuilt}
-use Rattle.ftl0_connection.proofs.DoingLemmas.{cuts-after, cuts-does, leaves-front}
-use Rattle.ftl0_connection.proofs.TakingLemmas.{IsFront, behind, front-part, going, is_going, moved, taking-begins, taking-ended, taking-failed, taking-on}
+use Rattle.ftl0_connection.specs.Taking.{Halt, Progress, fails, goes_on, taking}
+use Rattle.ftl0_connection.proofs.DoingLemmas.{leaves-front}
+use Rattle.ftl0_connection.proofs.FailureLemmas.{AreWrites, alike-first, alike-second, none-writes, one-writes, other-part, reads-among, same-part, writes-none}
+use Rattle.ftl0_connection.proofs.TakingLemmas.{IsFront, behind, front-part, goes_from, going, is_going, taking-alike, taking-begins, taking-ended, taking-failed, taking-fails, taking-on, taking-part}
 
 -- whether more is taken, by its parts
 pub going-on : (progress : Progress) → progress.over ≡ false → progress.halt ≡ goes_on → going progress ≡ true
@@ -40,154 +45,220 @@ not-both false = refl
 going-halted : (progress : Progress) (halt : Halt) → is_going halt ≡ false → progress.halt ≡ halt → going progress ≡ false
 going-halted progress halt never is = ap (λ (h : Halt). not progress.over && is_going h) is ∙ ap (λ (b : Bool). not progress.over && b) never ∙ not-both (not progress.over)
 
--- a frame did not stop the connection
+-- a frame stopped the connection
 abbrev pub IsStop : Fate × Result ⊤ ServerStop → Type 0
-IsStop told = told ≡ (Stays, Ok tt) → ⊥
+IsStop told = IsGoing told → ⊥
 
 module _ {D : Type 0} (g : Ghosts D) (on : (first second third : D) → g.lasts first second → g.lasts second third → g.lasts first third) (w : Window) where
   -- ---- what stands since a frame came
 
-  pub by-since : (event : List Failure → Happened) (store store_n : StoreState) (disk disk_n : D) (connection : ConnectionState) (fate : Fate) (result : Result ⊤ ServerStop)
-      → ((part : ℕ) → IsFront ((event (failed_write part)).done ++ (event (failed_write part)).cut) (event []).done)
-      → HearsBy g w event store store_n disk disk_n connection fate result → Leaves g disk disk_n (λ _. MakesFirst (store_in store) (event []).done)
-  by-since event store store_n disk disk_n connection fate (Ok done) begins h = h.2.since
-  by-since event store store_n disk disk_n connection fate (Err stop.Disk) begins h =
-      leaves-front g (store_in store) disk disk_n _ _ (begins h.0) (cuts-does g on ⊤ store store_n disk disk_n (event (failed_write h.0)).done (event (failed_write h.0)).cut h.3).since
-  by-since event store store_n disk disk_n connection fate (Err (stop.NotBuilt kind)) begins h = h.2.since
-  by-since event store store_n disk disk_n connection fate (Err stop.OutOfMemory) begins h =
+  -- whichever write fails, what is begun is a front of what is done where none does
+  abbrev pub BeginsWhole : (List Failure → Happened) → Type 0
+  BeginsWhole event = (part : ℕ) → IsFront ((event (failed_write part)).done ++ (event (failed_write part)).cut) (event []).done
+
+  pub by-since : (event : List Failure → Happened) (store store_n : StoreState) (lists_n : List CallerList) (disk disk_n : D) (connection : ConnectionState) (fate : Fate) (result : Result ⊤ ServerStop)
+      → BeginsWhole event → HearsBy g w event store store_n lists_n disk disk_n connection fate result → Leaves g disk disk_n (λ _. MakesFirst (store_in store) (event []).done)
+  by-since event store store_n lists_n disk disk_n connection fate (Ok done) begins h = h.2.since
+  by-since event store store_n lists_n disk disk_n connection fate (Err stop.Disk) begins h =
+      leaves-front g (store_in store) disk disk_n _ _ (begins h.0)
+      (cuts-among-all g on ⊤ (event (failed_write h.0)).missed store store_n disk disk_n (event (failed_write h.0)).done (event (failed_write h.0)).cut h.3).since
+  by-since event store store_n lists_n disk disk_n connection fate (Err stop.OutOfMemory) begins h =
       leaves-front g (store_in store) disk disk_n _ _ (front-part (event (failed_write h.0)).done (event (failed_write h.0)).cut (event []).done (begins h.0)) h.3.since
 
-  -- the same of packets
-  pub hears-taking : (left : List ℕ) (caller : CallSign) (moment : ℕ) (state : State) (end : LinkEnd) (items : List Item) (store store_n : StoreState) (disk disk_n : D)
-      (connection : ConnectionState) (told : Fate × Result ⊤ ServerStop)
-      → HearsBy g w (λ failures. progressed left (taking caller moment (store_in store) state end items failures 0)) store store_n disk disk_n connection told.0 told.1
-      → Hears g w (λ failures. progressed left (taking caller moment (store_in store) state end items failures 0)) store store_n disk disk_n connection told
-  hears-taking left caller moment state end items store store_n disk disk_n connection told h =
-      record {
-        by = h;
-        since =
-            by-since (λ failures. progressed left (taking caller moment (store_in store) state end items failures 0)) store store_n disk disk_n connection told.0 told.1
-            (λ part. taking-begins caller moment (store_in store) state end items (failed_write part) 0) h;
-      }
+  -- so it is of packets
+  pub taking-whole : (left : List ℕ) (caller : CallSign) (moment : ℕ) (store : Store) (lists : List CallerList) (state : State) (end : LinkEnd) (items : List Item) (parts : List ℕ) (first : ℕ)
+      → BeginsWhole (with_reads (λ failures. progressed left (taking caller moment store lists state end items failures first)) parts)
+  taking-whole left caller moment store lists state end items parts first part =
+      taking-begins caller moment store lists state end items (failed_write part ++ failed_reads parts) ([] ++ failed_reads parts) first
+      (λ n. (reads-among (failed_write part) parts n (one-writes part) ∙ sym (reads-among [] parts n none-writes), writes-none parts n))
 
   -- ---- packets, and then others
 
-  stands_after-doing : (commands : List Command) (progress : Progress) (store : StoreState) (connection : ConnectionState) (fate : Fate)
-      → StandsAfter w store connection (progressed [] progress) fate → StandsAfter w store connection (progressed [] (after_doing commands progress)) fate
-  stands_after-doing commands progress store connection Stays h = (h.0, record { link = h.1.link; rest = h.1.rest; state = h.1.state })
-  stands_after-doing commands progress store connection Ends h = h
+  module _ (moment : ℕ) (session session_m session_n : SessionState) (store store_m store_n : StoreState) (lists lists_m lists_n : List CallerList) (disk disk_m disk_n : D) (link_m link_n : Kept)
+      (end : LinkEnd) (items others : List Item) (first : ℕ) (callers : caller_of session_m ≡ caller_of session)
+      (one : TakesPackets g w moment session store store_m lists lists_m end items first disk disk_m link_m session_m (Stays, Ok tt)) where
+    -- the parts behind them begin here
+    abbrev next : ℕ
+    next = first + length items
 
-  module _ (store store_m store_n : StoreState) (disk disk_m disk_n : D) (connection : ConnectionState) (items : List Item) (before : List Command) (first : Does g ⊥ store store_m disk disk_m before)
-      (part whole : List Failure → Progress) (same : (failures : List Failure) → whole (moved items failures) ≡ after_doing before (part failures)) (fate : Fate) where
-    by-then : (result : Result ⊤ ServerStop) → HearsBy g w (λ failures. progressed [] (part failures)) store_m store_n disk_m disk_n connection fate result
-        → HearsBy g w (λ failures. progressed [] (whole failures)) store store_n disk disk_n connection fate result
-    by-then (Ok done) h =
-        let P : Progress → Type 0 = λ p. (p.halt ≡ goes_on) × StandsAfter w store_n connection (progressed [] p) fate × Does g ⊥ store store_n disk disk_n p.done in
-        subst P (sym (same [])) (
+    -- what they made
+    abbrev made : Progress
+    made = taking (caller_of session) moment (store_in store) lists (state_in store session) end items ([] ++ failed_reads one.parts) first
+
+    goes : going made ≡ true
+    goes = going-on made one.by.1.1.0 one.by.0
+
+    number : made.part ≡ next
+    number = taking-part (caller_of session) moment (store_in store) lists (state_in store session) end items ([] ++ failed_reads one.parts) first goes
+
+    before : All (λ part. part < next) one.parts
+    before = All-weaker (IsAmong first (length items)) (λ part. part < next) (λ part among. among.1) one.parts one.among
+
+    abbrev whole : List Failure → Progress
+    whole failures = taking (caller_of session) moment (store_in store) lists (state_in store session) end (items ++ others) failures first
+
+    abbrev part_of : List Failure → Progress
+    part_of failures = taking (caller_of session_m) moment (store_in store_m) lists_m (state_in store_m session_m) made.end others failures next
+
+    -- the whole is what they made, and what the others make from there
+    same : (writes : List Failure) (parts : List ℕ) → AreWrites writes → ((part : ℕ) → part < next → write_fails writes part ≡ false) → All (λ part. next ≤ part) parts
+        → whole (writes ++ failed_reads (one.parts ++ parts)) ≡ behind made.missed made.done (part_of (writes ++ failed_reads parts))
+    same writes parts are none later =
+        let all : List Failure = writes ++ failed_reads (one.parts ++ parts) in
+        let these : taking (caller_of session) moment (store_in store) lists (state_in store session) end items all first ≡ made =
+        taking-alike (caller_of session) moment (store_in store) lists (state_in store session) end items all ([] ++ failed_reads one.parts) first
+        (alike-first writes one.parts parts first next are none later) in
+        let from : CallSign → Store → List CallerList → State → ℕ → List Failure → Progress = λ caller s l state part failures. taking caller moment s l state made.end others failures part in
+        let stores : after_all (store_in store) made.done ≡ store_in store_m = sym (one.by.2.done (λ never. never)).0 in
+        taking-on (caller_of session) moment (store_in store) lists (state_in store session) end items others all first (subst (λ (p : Progress). going p ≡ true) (sym these) goes)
+        ∙ ap (λ (p : Progress). goes_from (caller_of session) moment all (store_in store) p others) these
+        ∙ ap (behind made.missed made.done) (
+        ap (λ (n : ℕ). from (caller_of session) (after_all (store_in store) made.done) made.lists made.state n all) number
+        ∙ ap (λ (s : Store). from (caller_of session) s made.lists made.state next all) stores
+        ∙ ap (λ (l : List CallerList). from (caller_of session) (store_in store_m) l made.state next all) (sym one.by.1.0)
+        ∙ ap (λ (s : State). from (caller_of session) (store_in store_m) lists_m s next all) (sym one.by.1.1.1.state)
+        ∙ ap (λ (c : CallSign). from c (store_in store_m) lists_m (state_in store_m session_m) next all) (sym callers)
+        ∙ taking-alike (caller_of session_m) moment (store_in store_m) lists_m (state_in store_m session_m) made.end others all (writes ++ failed_reads parts) next
+        (alike-second writes one.parts parts next (next + length others) are before))
+
+    by-then : (parts : List ℕ) → All (λ part. next ≤ part) parts → (fate : Fate) (result : Result ⊤ ServerStop)
+        → HearsBy g w (λ writes. progressed [] (part_of (writes ++ failed_reads parts))) store_m store_n lists_n disk_m disk_n (with_nothing_left link_n session_n) fate result
+        → HearsBy g w (λ writes. progressed [] (whole (writes ++ failed_reads (one.parts ++ parts)))) store store_n lists_n disk disk_n (with_nothing_left link_n session_n) fate result
+    by-then parts later fate (Ok done) h =
+        let part : Progress = part_of ([] ++ failed_reads parts) in
+        let P : Progress → Type 0 =
+        λ p. (p.halt ≡ goes_on) × IsAfter w store_n lists_n (with_nothing_left link_n session_n) (progressed [] p) fate × DoesAmongReads g ⊥ p.missed store store_n disk disk_n p.done in
+        subst P (sym (same [] parts none-writes (λ n low. refl) later)) (
           h.0,
-          stands_after-doing before (part []) store_n connection fate h.1,
-          Does-then g on ⊥ ⊥ store store_m store_n disk disk_m disk_n before (part []).done (λ never. never) first h.2,
-        )
-    by-then (Err stop.Disk) h =
-        let P : Progress → Type 0 = λ p. (p.halt ≡ fails) × StandsAfter w store_n connection (progressed [] p) fate × CutsOff g ⊤ store store_n disk disk_n p.done p.cut in
-        let at : P (whole (failed_write (behind items h.0))) =
-        subst P (sym (same (failed_write h.0))) (
           h.1,
-          stands_after-doing before (part (failed_write h.0)) store_n connection fate h.2,
-          cuts-after g on ⊤ store store_m store_n disk disk_m disk_n before (part (failed_write h.0)).done (part (failed_write h.0)).cut first h.3,
+          among-then g on ⊥ ⊥ made.missed part.missed store store_m store_n disk disk_m disk_n made.done part.done (λ never. never) one.by.2 h.2,
+        )
+    by-then parts later fate (Err stop.Disk) h =
+        let failures : List Failure = failed_write h.0 ++ failed_reads parts in
+        let part : Progress = part_of failures in
+        let there = taking-fails (caller_of session_m) moment (store_in store_m) lists_m (state_in store_m session_m) made.end others failures next h.1 in
+        let is : h.0 ≡ there.0 = same-part h.0 there.0 parts there.2 in
+        let none : (n : ℕ) → n < next → write_fails (failed_write h.0) n ≡ false = λ n low. other-part h.0 n (λ here. (let at : next ≤ there.0 = there.1 in omega (arith, is, here))) in
+        let P : Progress → Type 0 =
+        λ p. (p.halt ≡ fails) × IsAfter w store_n lists_n (with_nothing_left link_n session_n) (progressed [] p) fate × CutsOffAmongReads g ⊤ p.missed store store_n disk disk_n p.done p.cut in
+        let at : P (whole (failed_write h.0 ++ failed_reads (one.parts ++ parts))) =
+        subst P (sym (same (failed_write h.0) parts (one-writes h.0) none later)) (
+          h.1,
+          h.2,
+          cuts-among-then g on ⊤ made.missed part.missed store store_m store_n disk disk_m disk_n made.done part.done part.cut one.by.2 h.3,
         ) in
-        (behind items h.0, at.0, at.1, at.2)
-    by-then (Err (stop.NotBuilt kind)) h =
-        let P : Progress → Type 0 = λ p. (p.halt ≡ unbuilt kind) × (fate ≡ Stays) × Does g ⊥ store store_n disk disk_n p.done in
-        subst P (sym (same [])) (h.0, h.1, Does-then g on ⊥ ⊥ store store_m store_n disk disk_m disk_n before (part []).done (λ never. never) first h.2)
-    by-then (Err stop.OutOfMemory) h =
-        let P : Progress → Type 0 = λ p. (p.halt ≡ fails) × (fate ≡ Stays) × Does g ⊥ store store_n disk disk_n p.done in
-        let at : P (whole (failed_write (behind items h.0))) =
-        subst P (sym (same (failed_write h.0))) (h.1, h.2, Does-then g on ⊥ ⊥ store store_m store_n disk disk_m disk_n before (part (failed_write h.0)).done (λ never. never) first h.3) in
-        (behind items h.0, at.0, at.1, at.2)
+        (h.0, at.0, at.1, at.2)
+    by-then parts later fate (Err stop.OutOfMemory) h =
+        let failures : List Failure = failed_write h.0 ++ failed_reads parts in
+        let part : Progress = part_of failures in
+        let there = taking-fails (caller_of session_m) moment (store_in store_m) lists_m (state_in store_m session_m) made.end others failures next h.1 in
+        let is : h.0 ≡ there.0 = same-part h.0 there.0 parts there.2 in
+        let none : (n : ℕ) → n < next → write_fails (failed_write h.0) n ≡ false = λ n low. other-part h.0 n (λ here. (let at : next ≤ there.0 = there.1 in omega (arith, is, here))) in
+        let P : Progress → Type 0 = λ p. (p.halt ≡ fails) × (fate ≡ Stays) × DoesAmongReads g ⊥ p.missed store store_n disk disk_n p.done in
+        let at : P (whole (failed_write h.0 ++ failed_reads (one.parts ++ parts))) =
+        subst P (sym (same (failed_write h.0) parts (one-writes h.0) none later)) (
+          h.1,
+          h.2,
+          among-then g on ⊥ ⊥ made.missed part.missed store store_m store_n disk disk_m disk_n made.done part.done (λ never. never) one.by.2 h.3,
+        ) in
+        (h.0, at.0, at.1, at.2)
 
-  pub by-joined : (moment : ℕ) (session session_m : SessionState) (store store_m store_n : StoreState) (disk disk_m disk_n : D) (link_m : Kept) (connection : ConnectionState) (state : State) (end : LinkEnd)
-      (items others : List Item) (fate : Fate) (result : Result ⊤ ServerStop) → session_m.caller ≡ session.caller
-      → HearsBy g w (taking_some moment session state (store_in store) end items) store store_m disk disk_m (with_nothing_left link_m session_m) Stays (Ok tt)
-      → ((next : LinkEnd) → StandsFor w link_m next
-      → HearsBy g w (taking_some moment session_m (state_of store_m session_m.phase) (store_in store_m) next others) store_m store_n disk_m disk_n connection fate result)
-      → HearsBy g w (taking_some moment session state (store_in store) end (items ++ others)) store store_n disk disk_n connection fate result
-  by-joined moment session session_m store store_m store_n disk disk_m disk_n link_m connection state end items others fate result callers first second =
-      let p : Progress = taking session.caller moment (store_in store) state end items [] 0 in
-      let is : IsConnection w store_m (with_nothing_left link_m session_m) (progressed [] p).after = first.1.1 in
-      let at_caller : CallSign → Type 0 =
-      λ c. HearsBy g w (λ failures. progressed [] (taking c moment (store_in store_m) (state_of store_m session_m.phase) p.end others failures 0)) store_m store_n disk_m disk_n connection fate result in
-      let at_state : State → Type 0 =
-      λ s. HearsBy g w (λ failures. progressed [] (taking session.caller moment (store_in store_m) s p.end others failures 0)) store_m store_n disk_m disk_n connection fate result in
-      let at_store : Store → Type 0 =
-      λ s. HearsBy g w (λ failures. progressed [] (taking session.caller moment s p.state p.end others failures 0)) store_m store_n disk_m disk_n connection fate result in
-      by-then store store_m store_n disk disk_m disk_n connection items p.done first.2
-      (λ failures. taking session.caller moment (after_all (store_in store) p.done) p.state p.end others failures 0)
-      (λ failures. taking session.caller moment (store_in store) state end (items ++ others) failures 0)
-      (λ failures. taking-on session.caller moment (store_in store) state end items others failures (going-on p first.1.0 first.0))
-      fate result
-      (subst at_store (first.2.done (λ never. never)).0 (subst at_state is.state (subst at_caller callers (second p.end is.link))))
+    -- packets were taken, and then the others
+    pub takes-then : (told : Fate × Result ⊤ ServerStop)
+        → ((at : LinkEnd) → StandsFor w link_m at → TakesPackets g w moment session_m store_m store_n lists_m lists_n at others next disk_m disk_n link_n session_n told)
+        → TakesPackets g w moment session store store_n lists lists_n end (items ++ others) first disk disk_n link_n session_n told
+    takes-then told more =
+        let two = more made.end one.by.1.1.1.link in
+        let sum : length (items ++ others) ≡ length items + length others = length-append items others in
+        let later : All (λ part. next ≤ part) two.parts = All-weaker (IsAmong next (length others)) (λ part. next ≤ part) (λ part among. among.0) two.parts two.among in
+        record {
+          parts = one.parts ++ two.parts;
+          among =
+              All-append (IsAmong first (length (items ++ others))) one.parts two.parts
+              (All-weaker (IsAmong first (length items)) (IsAmong first (length (items ++ others))) (λ part among. (among.0, omega (arith, among.1, sum))) one.parts one.among)
+              (All-weaker (IsAmong next (length others)) (IsAmong first (length (items ++ others))) (λ part among. (omega (arith, among.0), omega (arith, among.1, sum))) two.parts two.among);
+          by = by-then two.parts later told.0 told.1 two.by;
+        }
 
   -- ---- a stop
 
-  module _ (store store_n : StoreState) (disk disk_n : D) (connection now : ConnectionState) (link : now.link ≡ connection.link) (left : List ℕ) (part whole : List Failure → Progress)
-      (ended : (failures : List Failure) → going (part failures) ≡ false → whole failures ≡ part failures)
-      (failed : (failures : List Failure) → (part failures).halt ≡ fails → (part failures).over ≡ true) where
-    stands_after-ended : (some all : Progress) → all ≡ some → StandsAfter w store_n connection (progressed [] some) Ends → StandsAfter w store_n now (progressed left all) Ends
-    stands_after-ended some all same h =
-        let P : Progress → Type 0 = λ p. StandsAfter w store_n now (progressed left p) Ends in
-        subst P (sym same) (h.0, subst (λ (k : Kept). StandsFor w k some.end) (sym link) h.1)
+  module _ (moment : ℕ) (session : SessionState) (store store_n : StoreState) (lists lists_n : List CallerList) (disk disk_n : D) (now : ConnectionState) (end : LinkEnd) (items : List Item)
+      (left : List ℕ) where
+    abbrev of_items : List Failure → Progress
+    of_items failures = taking (caller_of session) moment (store_in store) lists (state_in store session) end items failures 0
 
-    by-ended : (fate : Fate) (result : Result ⊤ ServerStop) → IsStop (fate, result) → HearsBy g w (λ failures. progressed [] (part failures)) store store_n disk disk_n connection fate result
-        → HearsBy g w (λ failures. progressed left (whole failures)) store store_n disk disk_n now fate result
-    by-ended Stays (Ok tt) stops h = absurd (stops refl)
-    by-ended Ends (Ok tt) stops h =
-        let same : whole [] ≡ part [] = ended [] (going-over (part []) h.1.0) in (
-          ap (λ (p : Progress). p.halt) same ∙ h.0,
-          stands_after-ended (part []) (whole []) same h.1,
-          subst (λ (p : Progress). Does g ⊥ store store_n disk disk_n p.done) (sym same) h.2,
-        )
-    by-ended Stays (Err stop.Disk) stops h = absurd (let over : (part (failed_write h.0)).over ≡ true = failed (failed_write h.0) h.1 in let not_over : (part (failed_write h.0)).over ≡ false = h.2.0 in cc)
-    by-ended Ends (Err stop.Disk) stops h =
-        let same : whole (failed_write h.0) ≡ part (failed_write h.0) = ended (failed_write h.0) (going-halted (part (failed_write h.0)) fails refl h.1) in (
-          h.0,
-          ap (λ (p : Progress). p.halt) same ∙ h.1,
-          stands_after-ended (part (failed_write h.0)) (whole (failed_write h.0)) same h.2,
-          subst (λ (p : Progress). CutsOff g ⊤ store store_n disk disk_n p.done p.cut) (sym same) h.3,
-        )
-    by-ended fate (Err (stop.NotBuilt kind)) stops h =
-        let same : whole [] ≡ part [] = ended [] (going-halted (part []) (unbuilt kind) refl h.0) in
-        (ap (λ (p : Progress). p.halt) same ∙ h.0, h.1, subst (λ (p : Progress). Does g ⊥ store store_n disk disk_n p.done) (sym same) h.2)
-    by-ended fate (Err stop.OutOfMemory) stops h =
-        let same : whole (failed_write h.0) ≡ part (failed_write h.0) = ended (failed_write h.0) (going-halted (part (failed_write h.0)) fails refl h.1) in
-        (h.0, ap (λ (p : Progress). p.halt) same ∙ h.1, h.2, subst (λ (p : Progress). Does g ⊥ store store_n disk disk_n p.done) (sym same) h.3)
+    module _ (others : List Item) where
+      abbrev of_all : List Failure → Progress
+      of_all failures = taking (caller_of session) moment (store_in store) lists (state_in store session) end (items ++ others) failures 0
 
-  -- what comes behind packets that stopped the connection
-  pub by-stopped : (caller : CallSign) (moment : ℕ) (state : State) (end : LinkEnd) (items others : List Item) (left : List ℕ) (store store_n : StoreState) (disk disk_n : D)
-      (connection now : ConnectionState) (told : Fate × Result ⊤ ServerStop) → now.link ≡ connection.link → IsStop told
-      → HearsBy g w (λ failures. progressed [] (taking caller moment (store_in store) state end items failures 0)) store store_n disk disk_n connection told.0 told.1
-      → HearsBy g w (λ failures. progressed left (taking caller moment (store_in store) state end (items ++ others) failures 0)) store store_n disk disk_n now told.0 told.1
-  by-stopped caller moment state end items others left store store_n disk disk_n connection now told link stops h =
-      by-ended store store_n disk disk_n connection now link left
-      (λ failures. taking caller moment (store_in store) state end items failures 0) (λ failures. taking caller moment (store_in store) state end (items ++ others) failures 0)
-      (λ failures. taking-ended caller moment (store_in store) state end items others failures 0)
-      (λ failures. taking-failed caller moment (store_in store) state end items failures 0) told.0 told.1 stops h
+      ended : (failures : List Failure) → going (of_items failures) ≡ false → of_all failures ≡ of_items failures
+      ended failures stops = taking-ended (caller_of session) moment (store_in store) lists (state_in store session) end items others failures 0 stops
 
-  -- all packets were taken
-  pub by-all : (caller : CallSign) (moment : ℕ) (state : State) (end : LinkEnd) (items : List Item) (left : List ℕ) (store store_n : StoreState) (disk disk_n : D) (connection now : ConnectionState)
-      → now.link ≡ connection.link → now.session ≡ connection.session → now.octets ≡ left
-      → HearsBy g w (λ failures. progressed [] (taking caller moment (store_in store) state end items failures 0)) store store_n disk disk_n connection Stays (Ok tt)
-      → HearsBy g w (λ failures. progressed left (taking caller moment (store_in store) state end items failures 0)) store store_n disk disk_n now Stays (Ok tt)
-  by-all caller moment state end items left store store_n disk disk_n connection now link session octets h =
-      let p : Progress = taking caller moment (store_in store) state end items [] 0 in (
-        h.0,
-        (
-          h.1.0,
+      by-ended : (parts : List ℕ) (fate : Fate) (result : Result ⊤ ServerStop) → IsStop (fate, result)
+          → HearsBy g w (λ writes. progressed [] (of_items (writes ++ failed_reads parts))) store store_n lists_n disk disk_n (with_nothing_left now.link now.session) fate result
+          → HearsBy g w (λ writes. progressed left (of_all (writes ++ failed_reads parts))) store store_n lists_n disk disk_n now fate result
+      by-ended parts Stays (Ok tt) stops h = absurd (stops refl)
+      by-ended parts Ends (Ok tt) stops h =
+          let failures : List Failure = [] ++ failed_reads parts in
+          let P : Progress → Type 0 = λ p. (p.halt ≡ goes_on) × IsAfter w store_n lists_n now (progressed left p) Ends × DoesAmongReads g ⊥ p.missed store store_n disk disk_n p.done in
+          subst P (sym (ended failures (going-over (of_items failures) h.1.1.0))) (h.0, h.1, h.2)
+      by-ended parts Stays (Err stop.Disk) stops h =
+          let failures : List Failure = failed_write h.0 ++ failed_reads parts in
+          absurd (
+          let over : (of_items failures).over ≡ true = taking-failed (caller_of session) moment (store_in store) lists (state_in store session) end items failures 0 h.1 in
+          let not_over : (of_items failures).over ≡ false = h.2.1.0 in cc)
+      by-ended parts Ends (Err stop.Disk) stops h =
+          let failures : List Failure = failed_write h.0 ++ failed_reads parts in
+          let P : Progress → Type 0 = λ p. (p.halt ≡ fails) × IsAfter w store_n lists_n now (progressed left p) Ends × CutsOffAmongReads g ⊤ p.missed store store_n disk disk_n p.done p.cut in
+          let at : P (of_all failures) = subst P (sym (ended failures (going-halted (of_items failures) fails refl h.1))) (h.1, h.2, h.3) in
+          (h.0, at.0, at.1, at.2)
+      by-ended parts fate (Err stop.OutOfMemory) stops h =
+          let failures : List Failure = failed_write h.0 ++ failed_reads parts in
+          let P : Progress → Type 0 = λ p. (p.halt ≡ fails) × (fate ≡ Stays) × DoesAmongReads g ⊥ p.missed store store_n disk disk_n p.done in
+          let at : P (of_all failures) = subst P (sym (ended failures (going-halted (of_items failures) fails refl h.1))) (h.1, h.2, h.3) in
+          (h.0, at.0, at.1, at.2)
+
+      -- whatever comes behind packets that stopped the connection isn't taken
+      pub parts-stopped : (told : Fate × Result ⊤ ServerStop) → IsStop told
+          → TakesPackets g w moment session store store_n lists lists_n end items 0 disk disk_n now.link now.session told
+          → HearsParts g w left of_all store store_n lists_n disk disk_n now told
+      parts-stopped told stops takes =
+          let by = by-ended takes.parts told.0 told.1 stops takes.by in
           record {
-            link = subst (λ (k : Kept). StandsFor w k p.end) (sym link) h.1.1.link;
-            rest = octets;
-            state = ap (λ (s : SessionState). state_of store_n s.phase) session ∙ h.1.1.state;
-          },
-        ),
-        h.2,
-      )
+            hears =
+                record {
+                  parts = takes.parts;
+                  by = by;
+                  since =
+                      by-since (with_reads (λ failures. progressed left (of_all failures)) takes.parts) store store_n lists_n disk disk_n now told.0 told.1
+                      (taking-whole left (caller_of session) moment (store_in store) lists (state_in store session) end (items ++ others) takes.parts 0) by;
+                };
+            over = λ failures. taking-failed (caller_of session) moment (store_in store) lists (state_in store session) end (items ++ others) failures 0;
+            settled = λ goes. absurd (stops goes);
+          }
+
+    -- all packets were taken, and these octets are left
+    pub parts-whole : now.octets ≡ left → TakesPackets g w moment session store store_n lists lists_n end items 0 disk disk_n now.link now.session (Stays, Ok tt)
+        → HearsParts g w left of_items store store_n lists_n disk disk_n now (Stays, Ok tt)
+    parts-whole octets takes =
+        let h = takes.by in
+        let failures : List Failure = [] ++ failed_reads takes.parts in
+        let number : (of_items failures).part ≡ length items =
+        (let there = taking-part (caller_of session) moment (store_in store) lists (state_in store session) end items failures 0 (going-on (of_items failures) h.1.1.0 h.0) in omega arith) in
+        record {
+          hears =
+              record {
+                parts = takes.parts;
+                by = (h.0, (h.1.0, (h.1.1.0, record { link = h.1.1.1.link; rest = octets; state = h.1.1.1.state })), h.2);
+                since = h.2.since;
+              };
+          over = λ writes. taking-failed (caller_of session) moment (store_in store) lists (state_in store session) end items writes 0;
+          settled = λ goes. record {
+            before =
+                All-weaker (IsAmong 0 (length items)) (λ part. part < (of_items failures).part) (λ part among. omega (arith, among.1, number)) takes.parts takes.among;
+            later = λ more later.
+                taking-alike (caller_of session) moment (store_in store) lists (state_in store session) end items ([] ++ failed_reads (takes.parts ++ more)) failures 0
+                (λ n low high. alike-first [] takes.parts more 0 (length items) none-writes (λ m before. refl)
+                (All-weaker (λ part. (of_items failures).part ≤ part) (λ part. length items ≤ part) (λ part behind. omega (arith, behind, number)) more later) n low (omega (arith, high)));
+          };
+        }

@@ -1,10 +1,15 @@
 pub mod AnswerLemmas
 pub mod DoingLemmas
+pub mod DueLemmas
+pub mod FailureLemmas
 pub mod FeedLemmas
 pub mod HearLemmas
 pub mod HearsLemmas
 pub mod Invariants
 pub mod LinkLemmas
 pub mod OctetsLemmas
+pub mod QueuingLemmas
+pub mod StartLemmas
+pub mod StationLemmas
 pub mod TakingLemmas
 pub mod WaitingLemmas

@@ -13,6 +13,7 @@ use Rattle.ax25_link.specs.declared.state.Why.{Why}
 use Rattle.ax25_link.specs.declared.state.Why.TheVariants as why
 use Rattle.ax25_link.specs.Acknowledging.{Meaning, good, stale, bad, applying, is_bad, is_good, meaning_of}
 use Rattle.ax25_link.specs.Air.{is_information}
+use Rattle.ax25_link.specs.Calls.{after_push}
 use Rattle.ax25_link.specs.Ends.{Farewell, LinkEnd, Reply, ready}
 use Rattle.ax25_link.specs.Frames.{receive_number}
 use Rattle.ax25_link.specs.Kept.{GivesNext, HandsOut, Kept, StandsFor, Steps, Tells}
@@ -115,6 +116,10 @@ module _ (link link_n : Kept) (some : StandsForSome link) (frame : FrameValue) (
 -- a link that stood for some end stands for one after each step
 pub some-after : (link link_n : Kept) (next : Window → LinkEnd → LinkEnd) → StandsForSome link → Steps link link_n next → StandsForSome link_n
 some-after link link_n next some steps = record { w = some.w; end = next some.w some.end; stands = steps some.w some.end some.stands }
+
+-- octets that are pushed leave it up
+pub push-up : (link link_n : Kept) (text : List ℕ) → StandsForSome link → link.state ≡ Up → Steps link link_n (λ w end. after_push end text) → link_n.state ≡ Up
+push-up link link_n text some up steps = ap (λ (k : Kept). k.state) (steps some.w some.end some.stands).kept ∙ sym (ap (λ (k : Kept). k.state) some.stands.kept) ∙ up
 
 -- ---- a tick
 

@@ -1,202 +1,189 @@
 -- How taking packets goes on, and how it stops.
-use Rattle.std.proofs.Common.{◌≡◌, ℕ, suc, Bool, true, false, not, ◌&&◌, List, [], ◌∷◌, ◌++◌, refl, ap, sym, ◌∙◌, subst, append_assoc, append-nil}
-use Rattle.std.specs.Prelude.{Option, None, Some, ◌==◌, ◌||◌, map, if◌then◌else◌}
-use Rattle.std.proofs.Math.Dec.{eqb-suc-suc, eqb-suc-zero}
+use Rattle.std.proofs.Common.{◌≡◌, ℕ, suc, ◌+◌, ◌≤◌, Bool, true, false, not, ◌&&◌, List, [], ◌∷◌, ◌++◌, length, refl, ap, sym, ◌∙◌, subst, append_assoc, append-nil, arith}
+use Rattle.std.specs.Prelude.{◌||◌, if◌then◌else◌}
+use Rattle.std.proofs.Math.Bool.{or_assoc}
 use Rattle.px_base.specs.CallSign.{CallSign}
 use Rattle.ax25_link.specs.Calls.{after_push}
 use Rattle.ax25_link.specs.Ends.{LinkEnd}
 use Rattle.ftl0_packets.specs.Layout.{Item}
+use Rattle.ftl0_packets.specs.Items.{texts}
+use Rattle.selection_lists.specs.Lists.{CallerList}
 use Rattle.file_entries.specs.Command.{Command, after_all}
 use Rattle.file_entries.specs.Store.{Store}
 use Rattle.file_entries.proofs.GrowLemmas.{after_all-append}
-use Rattle.ftl0_uploads.specs.Failures.{Failure, is_write_fault, write_fails}
-use Rattle.ftl0_uploads.specs.Run.{on_row}
-use Rattle.ftl0_packets.specs.Items.{kind_of_item, texts}
-use Rattle.ftl0_uploads.specs.Session.{Row, State, session_row}
+use Rattle.ftl0_uploads.specs.Failures.{Failure, read_fails, write_fails}
+use Rattle.ftl0_session.specs.Table.{Row, State, row_at, session_row, tell_failed_read}
 use Rattle.ftl0_connection.specs.Laws.{TakingLaw}
-use Rattle.ftl0_connection.specs.Taking.{Halt, Progress, after_doing, failing_at, fails, fits, giving_up, goes_on, taking, unbuilt, unbuilt_at}
+use Rattle.ftl0_connection.specs.Taking.{Halt, Progress, after_row, failing_at, fails, fits, giving_up, goes_on, taking, taking_row}
+use Rattle.ftl0_connection.proofs.FailureLemmas.{AreAlike}
 
 -- whether nothing stopped the taking
 abbrev pub is_going : Halt → Bool
 is_going goes_on = true
 is_going fails = false
-is_going (unbuilt kind) = false
 
 -- whether more packets are taken then
 abbrev pub going : Progress → Bool
 going progress = not progress.over && is_going progress.halt
 
--- the place of a packet behind these
-abbrev pub behind : List Item → ℕ → ℕ
-behind [] n = n
-behind (item ∷ items) n = suc (behind items n)
+-- these commands were done before, and reads failed or none did
+abbrev pub behind : Bool → List Command → Progress → Progress
+behind missed done progress = record progress { missed = missed || progress.missed; done = done ++ progress.done }
 
--- the same failures, where these packets go before
-abbrev pub moved_one : List Item → Failure → Failure
-moved_one items failure = record failure { part = behind items failure.part }
+pub behind-then : (first second : Bool) (some others : List Command) (progress : Progress)
+    → behind first some (behind second others progress) ≡ behind (first || second) (some ++ others) progress
+behind-then first second some others progress =
+    ap (λ (missed : Bool). record progress { missed = missed; done = some ++ (others ++ progress.done) }) (sym (or_assoc first second progress.missed))
+    ∙ ap (λ (done : List Command). record progress { missed = (first || second) || progress.missed; done = done }) (sym (append_assoc some others progress.done))
 
-abbrev pub moved : List Item → List Failure → List Failure
-moved items failures = map (moved_one items) failures
+-- what a packet's row makes, by whether a write fails and whether its replies fit, where this comes behind it
+abbrev pub by_tests : LinkEnd → State → List CallerList → ℕ → Row → Bool → Bool → Progress → Progress
+by_tests end state lists part row failed enough later =
+    if failed then failing_at end state lists row part
+    else if enough then after_row row later
+    else giving_up end row part
 
-moved-none : (failures : List Failure) → moved [] failures ≡ failures
-moved-none [] = refl
-moved-none (failure ∷ failures) = ap (λ (fs : List Failure). failure ∷ fs) (moved-none failures)
+module _ (caller : CallSign) (moment : ℕ) where
+  -- what comes behind a row
+  abbrev pub later_of : Store → LinkEnd → List Item → List Failure → ℕ → Row → Progress
+  later_of store end items failures part row = taking caller moment (after_all store row.commands) row.lists row.state (after_push end (texts row.replies)) items failures (suc part)
 
--- they are at no packet that goes before
-moved-first : (item : Item) (items : List Item) (failures : List Failure) → write_fails (moved (item ∷ items) failures) 0 ≡ false
-moved-first item items [] = refl
-moved-first item items (failure ∷ failures) =
-    ap (λ (b : Bool). (b && is_write_fault failure.fault) || write_fails (moved (item ∷ items) failures) 0) (eqb-suc-zero (behind items failure.part))
-    ∙ moved-first item items failures
+  -- ---- failures that are alike
 
--- one packet more is the part after
-moved-later : (item : Item) (items : List Item) (failures : List Failure) (part : ℕ) → write_fails (moved (item ∷ items) failures) (suc part) ≡ write_fails (moved items failures) part
-moved-later item items [] part = refl
-moved-later item items (failure ∷ failures) part =
-    ap (λ (b : Bool). (b && is_write_fault failure.fault) || write_fails (moved (item ∷ items) failures) (suc part)) (eqb-suc-suc (behind items failure.part) part)
-    ∙ ap (λ (b : Bool). ((behind items failure.part == part) && is_write_fault failure.fault) || b) (moved-later item items failures part)
-
--- what packets make, where the first one has this row, and the others make this of it
-abbrev pub given : LinkEnd → State → Bool → (Row → Progress) → Row → Progress
-given end state failed later row =
-    if failed then failing_at end state row
-    else if fits end (texts row.replies) then after_doing row.commands (later row)
-    else giving_up end row
-
-abbrev pub step : LinkEnd → State → Item → Bool → (Row → Progress) → Option Row → Progress
-step end state item failed later row = on_row row (unbuilt_at end state (kind_of_item item)) (given end state failed later)
-
--- the others make the same of each row
-module _ (end : LinkEnd) (state : State) (item : Item) (later more : Row → Progress) (each : (row : Row) → more row ≡ later row) where
-  given-alike : (row : Row) (failed enough : Bool)
-      → (if failed then failing_at end state row else if enough then after_doing row.commands (more row) else giving_up end row)
-      ≡ (if failed then failing_at end state row else if enough then after_doing row.commands (later row) else giving_up end row)
-  given-alike row true enough = refl
-  given-alike row false true = ap (after_doing row.commands) (each row)
-  given-alike row false false = refl
-
-  step-alike : (failed : Bool) (row : Option Row) → step end state item failed more row ≡ step end state item failed later row
-  step-alike failed None = refl
-  step-alike failed (Some row) = given-alike row failed (fits end (texts row.replies))
+  pub taking-alike : (store : Store) (lists : List CallerList) (state : State) (end : LinkEnd) (items : List Item) (some others : List Failure) (part : ℕ)
+      → AreAlike part (part + length items) some others
+      → taking caller moment store lists state end items some part ≡ taking caller moment store lists state end items others part
+  taking-alike store lists state end [] some others part alike = refl
+  taking-alike store lists state end (item ∷ items) some others part alike =
+      let here = alike part (omega arith) (omega arith) in
+      let row : Bool → Row = λ reads. session_row caller moment store lists state item reads in
+      let whole : Bool → Bool → List Failure → Progress =
+      λ reads writes failures. taking_row end state lists part writes (later_of store end items failures part (row reads)) (row reads) in
+      ap (λ (b : Bool). whole b (write_fails some part) some) here.0 ∙ ap (λ (b : Bool). whole (read_fails others part) b some) here.1
+      ∙ ap (λ (later : Progress). taking_row end state lists part (write_fails others part) later (row (read_fails others part)))
+      (taking-alike (after_all store (row (read_fails others part)).commands) (row (read_fails others part)).lists (row (read_fails others part)).state
+      (after_push end (texts (row (read_fails others part)).replies)) items some others (suc part) (λ n low high. alike n (omega arith) (omega arith)))
 
 -- ---- packets at which the taking stops
 
-module _ (end : LinkEnd) (state : State) (item : Item) (later more : Row → Progress) (each : (row : Row) → going (later row) ≡ false → more row ≡ later row) where
-  given-ended : (row : Row) (failed enough : Bool)
-      → going (if failed then failing_at end state row else if enough then after_doing row.commands (later row) else giving_up end row) ≡ false
-      → (if failed then failing_at end state row else if enough then after_doing row.commands (more row) else giving_up end row)
-      ≡ (if failed then failing_at end state row else if enough then after_doing row.commands (later row) else giving_up end row)
-  given-ended row true enough stops = refl
-  given-ended row false true stops = ap (after_doing row.commands) (each row stops)
-  given-ended row false false stops = refl
-
-  step-ended : (failed : Bool) (row : Option Row) → going (step end state item failed later row) ≡ false → step end state item failed more row ≡ step end state item failed later row
-  step-ended failed None stops = refl
-  step-ended failed (Some row) stops = given-ended row failed (fits end (texts row.replies)) stops
+module _ (end : LinkEnd) (state : State) (lists : List CallerList) (part : ℕ) (row : Row) (later more : Progress) (each : going later ≡ false → more ≡ later) where
+  ended-by : (failed enough : Bool) → going (by_tests end state lists part row failed enough later) ≡ false
+      → by_tests end state lists part row failed enough more ≡ by_tests end state lists part row failed enough later
+  ended-by true enough stops = refl
+  ended-by false true stops = ap (after_row row) (each stops)
+  ended-by false false stops = refl
 
 module _ (caller : CallSign) (moment : ℕ) where
   -- whatever comes behind packets at which the taking stops isn't taken
-  pub taking-ended : (store : Store) (state : State) (end : LinkEnd) (items others : List Item) (failures : List Failure) (part : ℕ) → going (taking caller moment store state end items failures part) ≡ false
-      → taking caller moment store state end (items ++ others) failures part ≡ taking caller moment store state end items failures part
-  taking-ended store state end [] others failures part stops = absurd cc
-  taking-ended store state end (item ∷ items) others failures part stops =
-      step-ended end state item
-      (λ row. taking caller moment (after_all store row.commands) row.state (after_push end (texts row.replies)) items failures (suc part))
-      (λ row. taking caller moment (after_all store row.commands) row.state (after_push end (texts row.replies)) (items ++ others) failures (suc part))
-      (λ row. taking-ended (after_all store row.commands) row.state (after_push end (texts row.replies)) items others failures (suc part))
-      (write_fails failures part) (session_row caller moment store state item) stops
+  pub taking-ended : (store : Store) (lists : List CallerList) (state : State) (end : LinkEnd) (items others : List Item) (failures : List Failure) (part : ℕ)
+      → going (taking caller moment store lists state end items failures part) ≡ false
+      → taking caller moment store lists state end (items ++ others) failures part ≡ taking caller moment store lists state end items failures part
+  taking-ended store lists state end [] others failures part stops = absurd cc
+  taking-ended store lists state end (item ∷ items) others failures part stops =
+      let row : Row = row_at caller moment store lists state item failures part in
+      ended-by end state lists part row (later_of caller moment store end items failures part row) (later_of caller moment store end (items ++ others) failures part row)
+      (taking-ended (after_all store row.commands) row.lists row.state (after_push end (texts row.replies)) items others failures (suc part))
+      (write_fails failures part) (fits end (texts row.replies)) stops
 
 -- where the disk failed the session is over
 abbrev pub IsOverAtFault : Progress → Type 0
 IsOverAtFault progress = progress.halt ≡ fails → progress.over ≡ true
 
-module _ (end : LinkEnd) (state : State) (item : Item) (later : Row → Progress) (each : (row : Row) → IsOverAtFault (later row)) where
-  given-failed_over : (row : Row) (failed enough : Bool)
-      → IsOverAtFault (if failed then failing_at end state row else if enough then after_doing row.commands (later row) else giving_up end row)
-  given-failed_over row true enough halts = refl
-  given-failed_over row false true halts = each row halts
-  given-failed_over row false false halts = refl
+module _ (end : LinkEnd) (state : State) (lists : List CallerList) (part : ℕ) (row : Row) (later : Progress) (each : IsOverAtFault later) where
+  over-by : (failed enough : Bool) → IsOverAtFault (by_tests end state lists part row failed enough later)
+  over-by true enough halts = refl
+  over-by false true halts = each halts
+  over-by false false halts = refl
 
-  step-failed : (failed : Bool) (row : Option Row) → IsOverAtFault (step end state item failed later row)
-  step-failed failed None halts = absurd cc
-  step-failed failed (Some row) halts = given-failed_over row failed (fits end (texts row.replies)) halts
+-- a write or a sync fails at a part from this one on
+abbrev pub FailsFrom : ℕ → List Failure → Type 0
+FailsFrom part failures = (n : ℕ) × (part ≤ n) × (write_fails failures n ≡ true)
+
+fails-later : (part : ℕ) (failures : List Failure) → FailsFrom (suc part) failures → FailsFrom part failures
+fails-later part failures h = (h.0, omega (arith, h.1), h.2)
+
+module _ (end : LinkEnd) (state : State) (lists : List CallerList) (part : ℕ) (failures : List Failure) (row : Row) (later : Progress) (each : later.halt ≡ fails → FailsFrom (suc part) failures) where
+  fails-by : (failed enough : Bool) → write_fails failures part ≡ failed → (by_tests end state lists part row failed enough later).halt ≡ fails → FailsFrom part failures
+  fails-by true enough is halts = (part, omega arith, is)
+  fails-by false true is halts = fails-later part failures (each halts)
+  fails-by false false is halts = absurd cc
 
 module _ (caller : CallSign) (moment : ℕ) where
-  pub taking-failed : (store : Store) (state : State) (end : LinkEnd) (items : List Item) (failures : List Failure) (part : ℕ) → IsOverAtFault (taking caller moment store state end items failures part)
-  taking-failed store state end [] failures part halts = absurd cc
-  taking-failed store state end (item ∷ items) failures part halts =
-      step-failed end state item
-      (λ row. taking caller moment (after_all store row.commands) row.state (after_push end (texts row.replies)) items failures (suc part))
-      (λ row. taking-failed (after_all store row.commands) row.state (after_push end (texts row.replies)) items failures (suc part))
-      (write_fails failures part) (session_row caller moment store state item) halts
+  pub taking-failed : (store : Store) (lists : List CallerList) (state : State) (end : LinkEnd) (items : List Item) (failures : List Failure) (part : ℕ)
+      → IsOverAtFault (taking caller moment store lists state end items failures part)
+  taking-failed store lists state end [] failures part halts = absurd cc
+  taking-failed store lists state end (item ∷ items) failures part halts =
+      let row : Row = row_at caller moment store lists state item failures part in
+      over-by end state lists part row (later_of caller moment store end items failures part row)
+      (taking-failed (after_all store row.commands) row.lists row.state (after_push end (texts row.replies)) items failures (suc part))
+      (write_fails failures part) (fits end (texts row.replies)) halts
+
+  pub taking-fails : (store : Store) (lists : List CallerList) (state : State) (end : LinkEnd) (items : List Item) (failures : List Failure) (part : ℕ)
+      → (taking caller moment store lists state end items failures part).halt ≡ fails → FailsFrom part failures
+  taking-fails store lists state end [] failures part halts = absurd cc
+  taking-fails store lists state end (item ∷ items) failures part halts =
+      let row : Row = row_at caller moment store lists state item failures part in
+      fails-by end state lists part failures row (later_of caller moment store end items failures part row)
+      (taking-fails (after_all store row.commands) row.lists row.state (after_push end (texts row.replies)) items failures (suc part))
+      (write_fails failures part) (fits end (texts row.replies)) refl halts
 
 -- ---- packets after which it goes on
 
 -- what packets make behind others after which it goes on
-abbrev pub goes_from : CallSign → ℕ → Store → Progress → List Item → List Failure → Progress
-goes_from caller moment store from others failures =
-    after_doing from.done (taking caller moment (after_all store from.done) from.state from.end others failures 0)
+abbrev pub goes_from : CallSign → ℕ → List Failure → Store → Progress → List Item → Progress
+goes_from caller moment failures store from others =
+    behind from.missed from.done (taking caller moment (after_all store from.done) from.lists from.state from.end others failures from.part)
 
--- commands done before others
-after_doing-then : (first second : List Command) (progress : Progress) → after_doing first (after_doing second progress) ≡ after_doing (first ++ second) progress
-after_doing-then first second progress = ap (λ (done : List Command). record progress { done = done }) (sym (append_assoc first second progress.done))
+module _ (caller : CallSign) (moment : ℕ) (failures : List Failure) (store : Store) (end : LinkEnd) (state : State) (lists : List CallerList) (part : ℕ) (row : Row) (others : List Item)
+    (later more : Progress) where
+  on-by : (going later ≡ true → more ≡ goes_from caller moment failures (after_all store row.commands) later others)
+      → (failed enough : Bool) → going (by_tests end state lists part row failed enough later) ≡ true
+      → by_tests end state lists part row failed enough more ≡ goes_from caller moment failures store (by_tests end state lists part row failed enough later) others
+  on-by each true enough goes = absurd cc
+  on-by each false true goes =
+      let at : after_all (after_all store row.commands) later.done ≡ after_all store (row.commands ++ later.done) = sym (after_all-append row.commands later.done store) in
+      ap (after_row row) (each goes)
+      ∙ behind-then (tell_failed_read row.replies) later.missed row.commands later.done
+      (taking caller moment (after_all (after_all store row.commands) later.done) later.lists later.state later.end others failures later.part)
+      ∙ ap (λ (s : Store). behind (tell_failed_read row.replies || later.missed) (row.commands ++ later.done) (taking caller moment s later.lists later.state later.end others failures later.part)) at
+  on-by each false false goes = absurd cc
 
-module _ (caller : CallSign) (moment : ℕ) (store : Store) (end : LinkEnd) (state : State) (item : Item) (others : List Item) (failures : List Failure) (later more : Row → Progress)
-    (each : (row : Row) → going (later row) ≡ true → more row ≡ goes_from caller moment (after_all store row.commands) (later row) others failures) where
-  given-on : (row : Row) (enough : Bool)
-      → going (if enough then after_doing row.commands (later row) else giving_up end row) ≡ true
-      → (if enough then after_doing row.commands (more row) else giving_up end row)
-      ≡ goes_from caller moment store (if enough then after_doing row.commands (later row) else giving_up end row) others failures
-  given-on row true goes =
-      let at : after_all (after_all store row.commands) (later row).done ≡ after_all store (row.commands ++ (later row).done) = sym (after_all-append row.commands (later row).done store) in
-      ap (after_doing row.commands) (each row goes)
-      ∙ after_doing-then row.commands (later row).done (taking caller moment (after_all (after_all store row.commands) (later row).done) (later row).state (later row).end others failures 0)
-      ∙ ap (λ (s : Store). after_doing (row.commands ++ (later row).done) (taking caller moment s (later row).state (later row).end others failures 0)) at
-  given-on row false goes = absurd cc
-
-  step-on : (row : Option Row) → going (step end state item false later row) ≡ true
-      → step end state item false more row ≡ goes_from caller moment store (step end state item false later row) others failures
-  step-on None goes = absurd cc
-  step-on (Some row) goes = given-on row (fits end (texts row.replies)) goes
+  part-by : (count : ℕ) → (going later ≡ true → later.part ≡ suc part + count) → (failed enough : Bool) → going (by_tests end state lists part row failed enough later) ≡ true
+      → (by_tests end state lists part row failed enough later).part ≡ part + suc count
+  part-by count each true enough goes = absurd cc
+  part-by count each false true goes = let there = each goes in omega arith
+  part-by count each false false goes = absurd cc
 
 module _ (caller : CallSign) (moment : ℕ) where
-  -- the same failures, each one part later
-  abbrev AreLater : List Failure → List Failure → Type 0
-  AreLater later failures = (part : ℕ) → write_fails later (suc part) ≡ write_fails failures part
-
-  taking-later : (store : Store) (state : State) (end : LinkEnd) (items : List Item) (later failures : List Failure) (part : ℕ) → AreLater later failures
-      → taking caller moment store state end items later (suc part) ≡ taking caller moment store state end items failures part
-  taking-later store state end [] later failures part are = refl
-  taking-later store state end (item ∷ items) later failures part are =
-      let one : Option Row = session_row caller moment store state item in
-      let next : List Failure → ℕ → Row → Progress = λ fs n row. taking caller moment (after_all store row.commands) row.state (after_push end (texts row.replies)) items fs n in
-      ap (λ (b : Bool). step end state item b (next later (suc (suc part))) one) (are part)
-      ∙ step-alike end state item (next failures (suc part)) (next later (suc (suc part)))
-      (λ row. taking-later (after_all store row.commands) row.state (after_push end (texts row.replies)) items later failures (suc part) are) (write_fails failures part) one
-
   -- what comes behind packets after which it goes on is taken from there
-  pub taking-on : (store : Store) (state : State) (end : LinkEnd) (items others : List Item) (failures : List Failure) → going (taking caller moment store state end items [] 0) ≡ true
-      → taking caller moment store state end (items ++ others) (moved items failures) 0 ≡ goes_from caller moment store (taking caller moment store state end items [] 0) others failures
-  taking-on store state end [] others failures goes = ap (λ (fs : List Failure). taking caller moment store state end others fs 0) (moved-none failures)
-  taking-on store state end (item ∷ items) others failures goes =
-      let later : ℕ → Row → Progress = λ part row. taking caller moment (after_all store row.commands) row.state (after_push end (texts row.replies)) items [] part in
-      let more : List Failure → ℕ → Row → Progress = λ fs part row. taking caller moment (after_all store row.commands) row.state (after_push end (texts row.replies)) (items ++ others) fs part in
-      let one : Option Row = session_row caller moment store state item in
-      let none : (row : Row) → later 1 row ≡ later 0 row = λ row. taking-later (after_all store row.commands) row.state (after_push end (texts row.replies)) items [] [] 0 (λ part. refl) in
-      ap (λ (b : Bool). step end state item b (more (moved (item ∷ items) failures) 1) one) (moved-first item items failures)
-      ∙ step-on caller moment store end state item others failures (later 1) (more (moved (item ∷ items) failures) 1)
-      (λ row goes_later.
-      taking-later (after_all store row.commands) row.state (after_push end (texts row.replies)) (items ++ others) (moved (item ∷ items) failures) (moved items failures) 0 (moved-later item items failures)
-      ∙ taking-on (after_all store row.commands) row.state (after_push end (texts row.replies)) items others failures (subst (λ (p : Progress). going p ≡ true) (none row) goes_later)
-      ∙ ap (λ (p : Progress). goes_from caller moment (after_all store row.commands) p others failures) (sym (none row))) one goes
+  pub taking-on : (store : Store) (lists : List CallerList) (state : State) (end : LinkEnd) (items others : List Item) (failures : List Failure) (part : ℕ)
+      → going (taking caller moment store lists state end items failures part) ≡ true
+      → taking caller moment store lists state end (items ++ others) failures part
+      ≡ goes_from caller moment failures store (taking caller moment store lists state end items failures part) others
+  taking-on store lists state end [] others failures part goes = refl
+  taking-on store lists state end (item ∷ items) others failures part goes =
+      let row : Row = row_at caller moment store lists state item failures part in
+      on-by caller moment failures store end state lists part row others (later_of caller moment store end items failures part row) (later_of caller moment store end (items ++ others) failures part row)
+      (taking-on (after_all store row.commands) row.lists row.state (after_push end (texts row.replies)) items others failures (suc part))
+      (write_fails failures part) (fits end (texts row.replies)) goes
 
--- ---- what is done is a front of what is done where nothing fails
+  -- each of the packets is a part
+  pub taking-part : (store : Store) (lists : List CallerList) (state : State) (end : LinkEnd) (items : List Item) (failures : List Failure) (part : ℕ)
+      → going (taking caller moment store lists state end items failures part) ≡ true → (taking caller moment store lists state end items failures part).part ≡ part + length items
+  taking-part store lists state end [] failures part goes = omega arith
+  taking-part store lists state end (item ∷ items) failures part goes =
+      let row : Row = row_at caller moment store lists state item failures part in
+      part-by caller moment failures store end state lists part row items (later_of caller moment store end items failures part row) (later_of caller moment store end items failures part row)
+      (length items) (taking-part (after_all store row.commands) row.lists row.state (after_push end (texts row.replies)) items failures (suc part))
+      (write_fails failures part) (fits end (texts row.replies)) goes
+
+-- ---- what is done is a front of what is done where no write fails
 
 -- these commands are the first of those
 abbrev pub IsFront : List Command → List Command → Type 0
 IsFront front all = (more : List Command) × (all ≡ front ++ more)
 
-front-same : (commands : List Command) → IsFront commands commands
+pub front-same : (commands : List Command) → IsFront commands commands
 front-same commands = ([], sym (append-nil commands))
 
 front-then : (first front all : List Command) → IsFront front all → IsFront (first ++ front) (first ++ all)
@@ -214,54 +201,54 @@ begun progress = progress.done ++ progress.cut
 abbrev pub Begins : Progress → Progress → Type 0
 Begins some all = IsFront (begun some) all.done
 
-begins-after : (commands : List Command) (some all : Progress) → Begins some all → Begins (after_doing commands some) (after_doing commands all)
-begins-after commands some all h =
-    subst (λ (front : List Command). IsFront front (commands ++ all.done)) (sym (append_assoc commands some.done some.cut)) (front-then commands (begun some) all.done h)
+module _ (end : LinkEnd) (state : State) (lists : List CallerList) (part : ℕ) (row : Row) (some all : Progress) (each : Begins some all) where
+  begins-by : (failed enough : Bool) → Begins (by_tests end state lists part row failed enough some) (by_tests end state lists part row false enough all)
+  begins-by true true = (all.done, refl)
+  begins-by true false = front-same row.commands
+  begins-by false true =
+      subst (λ (front : List Command). IsFront front (row.commands ++ all.done)) (sym (append_assoc row.commands some.done some.cut)) (front-then row.commands (begun some) all.done each)
+  begins-by false false = ([], sym (append-nil row.commands) ∙ sym (append-nil (row.commands ++ [])))
 
-module _ (end : LinkEnd) (state : State) (item : Item) (some all : Row → Progress) (each : (row : Row) → Begins (some row) (all row)) where
-  -- where the disk fails at the first
-  given-failed : (row : Row) (enough : Bool) → Begins (failing_at end state row) (if enough then after_doing row.commands (all row) else giving_up end row)
-  given-failed row true = ((all row).done, refl)
-  given-failed row false = front-same row.commands
-
-  given-begins : (row : Row) (failed enough : Bool)
-      → Begins (if failed then failing_at end state row else if enough then after_doing row.commands (some row) else giving_up end row)
-      (if enough then after_doing row.commands (all row) else giving_up end row)
-  given-begins row true enough = given-failed row enough
-  given-begins row false true = begins-after row.commands (some row) (all row) (each row)
-  given-begins row false false = ([], ap (λ (commands : List Command). commands) (sym (append-nil row.commands) ∙ sym (append-nil (row.commands ++ []))))
-
-  step-begins : (failed : Bool) (row : Option Row) → Begins (step end state item failed some row) (step end state item false all row)
-  step-begins failed None = ([], refl)
-  step-begins failed (Some row) = given-begins row failed (fits end (texts row.replies))
+-- the same reads fail at each part, and of the second no write
+abbrev pub AreUnwritten : List Failure → List Failure → Type 0
+AreUnwritten some all = (part : ℕ) → (read_fails some part ≡ read_fails all part) × (write_fails all part ≡ false)
 
 module _ (caller : CallSign) (moment : ℕ) where
-  pub taking-begins : (store : Store) (state : State) (end : LinkEnd) (items : List Item) (failures : List Failure) (part : ℕ)
-      → Begins (taking caller moment store state end items failures part) (taking caller moment store state end items [] part)
-  taking-begins store state end [] failures part = ([], refl)
-  taking-begins store state end (item ∷ items) failures part =
-      step-begins end state item
-      (λ row. taking caller moment (after_all store row.commands) row.state (after_push end (texts row.replies)) items failures (suc part))
-      (λ row. taking caller moment (after_all store row.commands) row.state (after_push end (texts row.replies)) items [] (suc part))
-      (λ row. taking-begins (after_all store row.commands) row.state (after_push end (texts row.replies)) items failures (suc part))
-      (write_fails failures part) (session_row caller moment store state item)
+  pub taking-begins : (store : Store) (lists : List CallerList) (state : State) (end : LinkEnd) (items : List Item) (some all : List Failure) (part : ℕ) → AreUnwritten some all
+      → Begins (taking caller moment store lists state end items some part) (taking caller moment store lists state end items all part)
+  taking-begins store lists state end [] some all part are = ([], refl)
+  taking-begins store lists state end (item ∷ items) some all part are =
+      let row : Bool → Row = λ reads. session_row caller moment store lists state item reads in
+      let of_all : Row = row (read_fails all part) in
+      let whole : Bool → Bool → Type 0 =
+      λ reads writes. Begins (taking_row end state lists part (write_fails some part) (later_of caller moment store end items some part (row reads)) (row reads))
+      (taking_row end state lists part writes (later_of caller moment store end items all part of_all) of_all) in
+      subst (λ (b : Bool). whole b (write_fails all part)) (sym (are part).0)
+      (subst (λ (b : Bool). whole (read_fails all part) b) (sym (are part).1)
+      (begins-by end state lists part of_all (later_of caller moment store end items some part of_all) (later_of caller moment store end items all part of_all)
+      (taking-begins (after_all store of_all.commands) of_all.lists of_all.state (after_push end (texts of_all.replies)) items some all (suc part) are)
+      (write_fails some part) (fits end (texts of_all.replies))))
 
 -- ---- the row of one packet among others
 
-module _ (end : LinkEnd) (state : State) (item : Item) (later : Row → Progress) where
-  given-row : (row : Row) (enough : Bool) → IsFront row.commands (if enough then after_doing row.commands (later row) else giving_up end row).done
-  given-row row true = ((later row).done, refl)
-  given-row row false = front-same row.commands
-
-  step-row : (of : Option Row) (row : Row) → of ≡ Some row → IsFront row.commands (step end state item false later of).done
-  step-row of row is = subst (λ (o : Option Row). IsFront row.commands (step end state item false later o).done) (sym is) (given-row row (fits end (texts row.replies)))
+module _ (end : LinkEnd) (state : State) (lists : List CallerList) (part : ℕ) (row : Row) (later : Progress) where
+  row-by : (failed enough : Bool) → failed ≡ false → IsFront row.commands (by_tests end state lists part row failed enough later).done
+  row-by true enough none = absurd cc
+  row-by false true none = (later.done, refl)
+  row-by false false none = front-same row.commands
 
 pub taking-law : TakingLaw
-taking-law caller moment store state end items item more goes not_over row is =
-    let before : Progress = taking caller moment store state end items [] 0 in
+taking-law caller moment store lists state end items item more failures goes not_over none =
+    let before : Progress = taking caller moment store lists state end items failures 0 in
     let from : Store = after_all store before.done in
-    let all : taking caller moment store state end (items ++ item ∷ more) [] 0 ≡ goes_from caller moment store before (item ∷ more) [] =
-    taking-on caller moment store state end items (item ∷ more) [] (rw (not_over, goes) refl) in
-    let one = step-row before.end before.state item
-    (λ row. taking caller moment (after_all from row.commands) row.state (after_push before.end (texts row.replies)) more [] 1) (session_row caller moment from before.state item) row is in
+    let on : going before ≡ true = rw (not_over, goes) refl in
+    let all : taking caller moment store lists state end (items ++ item ∷ more) failures 0 ≡ goes_from caller moment failures store before (item ∷ more) =
+    taking-on caller moment store lists state end items (item ∷ more) failures 0 on in
+    let at : before.part ≡ length items = (let there = taking-part caller moment store lists state end items failures 0 on in omega arith) in
+    let row : Row = row_at caller moment from before.lists before.state item failures (length items) in
+    let P : ℕ → Type 0 = λ n. IsFront row.commands (taking caller moment from before.lists before.state before.end (item ∷ more) failures n).done in
+    let one : P before.part =
+    subst P (sym at)
+    (row-by before.end before.state before.lists (length items) row (later_of caller moment from before.end more failures (length items) row)
+    (write_fails failures (length items)) (fits before.end (texts row.replies)) none) in
     record { others = one.0; done_is = ap (λ (p : Progress). p.done) all ∙ ap (λ (commands : List Command). before.done ++ commands) one.1 }

@@ -1,28 +1,25 @@
 -- A connection as contracts see it, which of the definitions' it stands for, and what its calls do.
-use Rattle.std.specs.Prelude.{◌≡◌, ℕ, List, [], ◌∷◌, ◌++◌, map, Bool, true, false, Result, Ok, Err, ⊤}
+use Rattle.std.specs.Prelude.{◌≡◌, ℕ, List, [], ◌++◌, Bool, true, false, Result, Ok, Err, ⊤}
 use Rattle.px_base.specs.Octets.{IsOctets}
 use Rattle.disk_model.specs.declared.disk.Disk.{Ghosts}
 use Rattle.ax25_link.specs.Ends.{LinkEnd}
 use Rattle.ax25_link.specs.Kept.{Kept, StandsFor}
 use Rattle.ax25_link.specs.Window.{Window}
-use Rattle.ftl0_packets.specs.Layout.{Item}
 use Rattle.ftl0_packets.specs.Reading.{packets_of, rest_of}
 use Rattle.selection_lists.specs.Lists.{CallerList}
 use Rattle.file_journal.specs.Calls.{Leaves}
-use Rattle.file_entries.specs.Store.{Store}
 use Rattle.file_store.specs.OnDisk.{MakesFirst}
 use Rattle.file_store.specs.State.{StoreState, store_in}
 use Rattle.file_store.specs.Working.{CutsOffAmongReads, DoesAmongReads}
 use Rattle.ftl0_uploads.specs.Failures.{Failure, failed_reads, failed_write}
 use Rattle.ftl0_session.specs.declared.stop.ServerStop.{ServerStop}
 use Rattle.ftl0_session.specs.declared.stop.ServerStop.TheVariants as stop
-use Rattle.ftl0_session.specs.SessionState.{SessionState, caller_of, state_in}
-use Rattle.ftl0_session.specs.Table.{State}
+use Rattle.ftl0_session.specs.SessionState.{SessionState, state_in}
 use Rattle.ftl0_connection.specs.declared.fate.Fate.{Fate}
 use Rattle.ftl0_connection.specs.declared.fate.Fate.TheVariants.{Stays, Ends}
 use Rattle.ftl0_connection.specs.Connected.{Connected}
-use Rattle.ftl0_connection.specs.Hearing.{Happened, progressed}
-use Rattle.ftl0_connection.specs.Taking.{fails, goes_on, taking}
+use Rattle.ftl0_connection.specs.Hearing.{Happened}
+use Rattle.ftl0_connection.specs.Taking.{fails, goes_on}
 
 -- the link, the octets that were accepted and of which no packet was taken yet, and the session
 pub record ConnectionState : Type 0 where
@@ -92,12 +89,6 @@ pub record Hears {D : Type 0} (g : Ghosts D) (w : Window) (event : List Failure 
   pub by :
       HearsBy g w (with_reads event parts) store store_now lists_now disk disk_now connection heard.0 heard.1
   pub since : Leaves g disk disk_now (λ _. MakesFirst (store_in store) (with_reads event parts []).done)
-
--- what these packets, the parts of an event from 0 on, make of a connection with this session, by the event's failures
-abbrev pub taking_some :
-    ℕ → SessionState → State → Store → List CallerList → LinkEnd → List Item → List Failure → Happened
-taking_some moment session state store lists end items failures =
-    progressed [] (taking (caller_of session) moment store lists state end items failures 0)
 
 -- the connection of this link and session, with no octets left
 abbrev pub with_nothing_left : Kept → SessionState → ConnectionState

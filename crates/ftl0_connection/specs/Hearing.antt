@@ -1,5 +1,5 @@
 -- What a frame or a tick makes of a connection (AX.25 2.0, 2.4; FTL0 1990).
-use Rattle.std.specs.Prelude.{ℕ, ◌++◌, List, [], Bool, true, false}
+use Rattle.std.specs.Prelude.{ℕ, ◌++◌, List, [], Bool, true}
 use Rattle.ax25_frames.specs.FrameText.{FrameValue}
 use Rattle.ax25_link.specs.declared.state.Heard.{Heard}
 use Rattle.ax25_link.specs.declared.state.Heard.TheVariants.{Nothing, Opened, Reopened, Bytes, Closed}
@@ -15,7 +15,7 @@ use Rattle.file_entries.specs.Store.{Store}
 use Rattle.ftl0_uploads.specs.Failures.{Failure}
 use Rattle.ftl0_session.specs.Table.{command}
 use Rattle.ftl0_connection.specs.Connected.{Connected, caller_of, greeted}
-use Rattle.ftl0_connection.specs.Taking.{Halt, Progress, goes_on, queued, resting, taking}
+use Rattle.ftl0_connection.specs.Taking.{Halt, Progress, queued, resting, taking}
 
 -- What an event makes of a connection: what it is now, and the lists of all callers; whether its session is over, so that
 -- only its link's last frames are left; whether any part of the event told that a read failed; the store's commands that

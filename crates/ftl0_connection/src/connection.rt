@@ -1,28 +1,24 @@
 //! One caller's connection.
 
-ghost use Rattle.std.specs.Prelude.{◌≡◌, ◌<◌, ◌≤◌, ◌↔◌, [], ◌∷◌, drop, length, false, true, not, IfOk, IsErrOf, IsTrue, None};
+ghost use Rattle.std.specs.Prelude.{◌≡◌, ◌<◌, ◌≤◌, ◌↔◌, ℕ, [], ◌∷◌, ◌++◌, drop, length, false, true, not, IfOk, IsTrue, None};
 ghost use Rattle.ax25_frames.specs.Values.{value_of};
 ghost use Rattle.ax25_link.specs.Air.{is_information};
-ghost use Rattle.ax25_link.specs.Calls.{after_push};
 ghost use Rattle.ax25_link.specs.Ends.{LinkEnd};
 ghost use Rattle.ax25_link.specs.Kept.{Fits, GivesNext, HasStations, IsFromPeer, SameStations, StandsFor, Steps, Tells, is_pending, most_pending};
 ghost use Rattle.ax25_link.specs.declared.state.LinkState.{LinkState};
 ghost use Rattle.ax25_link.specs.Window.{IsGoodK, Window, window_of};
-ghost use Rattle.ftl0_packets.specs.Layout.{packet_text};
-ghost use Rattle.ftl0_packets.specs.Reading.{is_whole, read_item};
-ghost use Rattle.file_entries.specs.Kept.{KeepsComplete};
-ghost use Rattle.selection_lists.specs.Lists.{CallerList, has_left};
+ghost use Rattle.ftl0_packets.specs.Reading.{is_whole, read_item, rest_of};
+ghost use Rattle.selection_lists.specs.Lists.{has_left};
 ghost use Rattle.file_store.specs.State.{StandsOn, StoreState, store_in};
-ghost use Rattle.file_store.specs.Working.{DoesAmongReads};
 ghost use Rattle.ftl0_uploads.specs.Others.{KeepsOtherCallers};
 ghost use Rattle.ftl0_uploads.specs.SessionState.{IsHeld, IsOnlyOut, NoOtherOut, Parks};
-ghost use Rattle.ftl0_downloads.specs.Needs.{AreComplete, IsDueIn};
+ghost use Rattle.ftl0_downloads.specs.Needs.{IsDueIn};
 ghost use Rattle.ftl0_session.specs.SessionState.{MayTake as SessionMayTake, caller_of, new_session, state_in};
-ghost use Rattle.ftl0_session.specs.Table.{greeting};
 ghost use Rattle.ftl0_connection.specs.Connected.{Connected, answering, beginning, greeted};
-ghost use Rattle.ftl0_connection.specs.ConnectionState.{Hears, IsConnection, StandsAfter, is_over, taking_some, with_nothing_left};
-ghost use Rattle.ftl0_connection.specs.Feeding.{Feeds, IsGoing, LeavesFit, MayTake, QueuesDue, packets_as, unqueued, with_octets};
-ghost use Rattle.ftl0_connection.specs.Hearing.{hearing, ticking};
+ghost use Rattle.ftl0_connection.specs.ConnectionState.{Hears, IsConnection, StandsAfter, StandsForSome, is_over};
+ghost use Rattle.ftl0_connection.specs.Feeding.{Feeds, HearsParts, IsGoing, KeepsFit, LeavesFit, MayTake, QueuesDue};
+ghost use Rattle.ftl0_connection.specs.Feeding.{QueuesNext, TakesPackets, with_octets};
+ghost use Rattle.ftl0_connection.specs.Hearing.{hearing, parts_of_frame, rest_of_frame, taking_octets, ticking};
 ghost use Rattle.ftl0_connection.specs.Taking.{fits, replied};
 
 use crate::Fate;
@@ -219,7 +215,8 @@ impl Connection {
         requires up { self.old.link.state ≡ LinkState.Up }
         requires may { SessionMayTake D.Disk store.old disk.old lists.old self.old.session }
         ensures hears { (w : Window) (c : Connected) → IsConnection w store.old self.old c →
-            Hears D.Disk w (unqueued w moment (store_in store.old) lists.old c (value_of frame.now))
+            HearsParts D.Disk w (rest_of_frame w c (value_of frame.now))
+            (parts_of_frame w moment (store_in store.old) lists.old c (value_of frame.now))
             store.old store.new lists.new disk.old disk.new self.new result }
         ensures fit { LeavesFit D.Disk store.old store.new lists.new disk.old disk.new self.old.link self.new.link
             self.old.session self.new.session result }
@@ -237,23 +234,36 @@ impl Connection {
 
     /// Queues DATA and DATA_END that are due, one after another, while enough octets are free.
     fn queue_due<D: Disk>(&mut self, disk: &mut D, store: &mut FileStore)
+        requires some { StandsForSome self.old.link }
         requires up { self.old.link.state ≡ LinkState.Up }
         requires healthy { store.old.journal.failed ≡ false }
         requires stands_on { StandsOn D.Disk store.old disk.old }
         requires due { IsDueIn (store_in store.old) self.old.session.downloads }
         ensures queues { QueuesDue D.Disk store.old disk.old disk.new self.old self.new }
-        ensures uploads { self.new.session.uploads ≡ self.old.session.uploads }
-        ensures octets { self.new.octets ≡ self.old.octets }
-        ensures store { store.new ≡ store.old }
-        ensures stands_on { StandsOn D.Disk store.new disk.new }
-        ensures due { IsDueIn (store_in store.new) self.new.session.downloads }
-        ensures up { self.new.link.state ≡ LinkState.Up }
-        ensures stations { SameStations self.old.link self.new.link }
+        ensures keeps { KeepsFit D.Disk store.old store.new disk.old disk.new self.old self.new }
     {
-        let mut packet = ArrayVec::new();
-        while self.link.free() >= ENOUGH_FREE && self.session.fill(disk, store, &mut packet) {
-            self.link.push(&packet);
+        while self.queue_next(disk, store) {}
+    }
+
+    /// Queues what is due next, where enough octets are free. It answers false, and nothing changed, where nothing is due,
+    /// or fewer are free.
+    fn queue_next<D: Disk>(&mut self, disk: &mut D, store: &mut FileStore) -> bool
+        requires up { self.old.link.state ≡ LinkState.Up }
+        requires healthy { store.old.journal.failed ≡ false }
+        requires stands_on { StandsOn D.Disk store.old disk.old }
+        requires due { IsDueIn (store_in store.old) self.old.session.downloads }
+        ensures next { QueuesNext D.Disk store.old disk.old disk.new self.old self.new result }
+        ensures keeps { KeepsFit D.Disk store.old store.new disk.old disk.new self.old self.new }
+    {
+        if self.link.free() < ENOUGH_FREE {
+            return false;
         }
+        let mut packet = ArrayVec::new();
+        if !self.session.fill(disk, store, &mut packet) {
+            return false;
+        }
+        self.link.push(&packet);
+        true
     }
 
     /// Ends the session, which parks its upload, and begins a new one over the link, which begins anew.
@@ -287,7 +297,8 @@ impl Connection {
     ) -> Told
         requires { MayTake D.Disk store.old disk.old lists.old self.old.link self.old.session }
         ensures hears { (w : Window) (c : Connected) → IsConnection w store.old self.old c →
-            Hears D.Disk w (packets_as moment (store_in store.old) lists.old c c.end octets.now)
+            HearsParts D.Disk w (rest_of (c.rest ++ octets.now))
+            (taking_octets moment (store_in store.old) lists.old c c.end octets.now)
             store.old store.new lists.new disk.old disk.new self.new result }
         ensures fit { LeavesFit D.Disk store.old store.new lists.new disk.old disk.new self.old.link self.new.link
             self.old.session self.new.session result }
@@ -357,10 +368,9 @@ fn answer<D: Disk>(
 ) -> Told
     requires whole { IsTrue (is_whole reader.now) }
     requires may { MayTake D.Disk store.old disk.old lists.old link.old session.old }
-    ensures hears { (w : Window) (end : LinkEnd) → StandsFor w link.old end →
-        Hears D.Disk w (taking_some moment session.old (state_in store.old session.old) (store_in store.old) lists.old end
-        (read_item reader.now ∷ [])) store.old store.new lists.new disk.old disk.new
-        (with_nothing_left link.new session.new) result }
+    ensures takes { (w : Window) (end : LinkEnd) (first : ℕ) → StandsFor w link.old end →
+        TakesPackets D.Disk w moment session.old store.old store.new lists.old lists.new end
+        (read_item reader.now ∷ []) first disk.old disk.new link.new session.new result }
     ensures fit { LeavesFit D.Disk store.old store.new lists.new disk.old disk.new link.old link.new session.old
         session.new result }
 {

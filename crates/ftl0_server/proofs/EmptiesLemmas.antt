@@ -34,11 +34,12 @@ one_way server (f ∷ frames) (e ∷ others) last another h g =
     ((let both : f ∷ frames ≡ e ∷ others = ap (λ (x : FrameValue). x ∷ frames) first ∙ ap (λ (l : List FrameValue). e ∷ l) rest.0 in both), rest.1)
 
 pub one_step : OneStepLaw
-one_step old event failures done those_done cut those_cut halt that_halt frames those new that step other =
+one_step old event failures done those_done cut those_cut missed that_missed halt that_halt frames those new that step other =
     let same = one_way _ frames those step.last other.last step.sent other.sent in
     record {
       commands = step.done_is ∙ sym other.done_is;
       cuts = step.cut_is ∙ sym other.cut_is;
+      misses = step.missed_is ∙ sym other.missed_is;
       halts = step.halt_is ∙ sym other.halt_is;
       sent = same.0;
       server = step.new_is ∙ ap (λ (s : Server). settled s) same.1 ∙ sym other.new_is;

@@ -2,6 +2,7 @@
 use Rattle.std.proofs.Common.{◌≡◌, ◌≢◌, ℕ, zero, suc, ◌<◌, List, [], ◌∷◌, length, get_or, drop, refl, sym, subst, arith}
 use Rattle.file_store.specs.State.{StoreState}
 use Rattle.ftl0_uploads.specs.SessionState.{IsHeld}
+use Rattle.ftl0_session.specs.SessionState.{caller_of}
 use Rattle.ftl0_connection.specs.ConnectionState.{ConnectionState}
 use Rattle.ftl0_server.specs.AtPlace.{HasEnded, MayAllEnd, MayEnd}
 use Rattle.ftl0_server.specs.declared.place.Place.{Place}
@@ -25,7 +26,7 @@ end-later store now (p ∷ ps) (suc i) place lt may is ended = end-later store n
 
 -- each connection is held, and no caller has two
 abbrev pub AreHeld : StoreState → List Place → Type 0
-AreHeld store places = ((i : ℕ) (c : ConnectionState) → IsAt places i c → IsHeld store c.session) × AreDistinct places
+AreHeld store places = ((i : ℕ) (c : ConnectionState) → IsAt places i c → IsHeld store c.session.uploads) × AreDistinct places
 
 suc_zero : (i : ℕ) → suc i ≡ 0 → ⊥
 suc_zero i same = cc
@@ -43,8 +44,8 @@ held-ended store now Free ps are ended = subst (λ (s : StoreState). AreHeld s p
 held-ended store now (Talking d) ps are ended =
     let behind = held-behind store (Talking d) ps are in (
       λ i c at.
-          let other : c.session.caller ≢ d.session.caller = λ same. suc_zero i (are.1 (suc i) 0 c d at refl same) in
-          held-kept store now d.session.caller ended.others c.session.caller other c.session.phase (behind.0 i c at),
+          let other : caller_of c.session ≢ caller_of d.session = λ same. suc_zero i (are.1 (suc i) 0 c d at refl same) in
+          held-kept store now (caller_of d.session) ended.others (caller_of c.session) other c.session.uploads.phase (behind.0 i c at),
       behind.1,
     )
 held-ended store now (Leaving link) ps are ended = subst (λ (s : StoreState). AreHeld s ps) (sym ended) (held-behind store (Leaving link) ps are)

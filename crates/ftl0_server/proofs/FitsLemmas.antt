@@ -1,12 +1,12 @@
 -- Each event of a server has a step: the ends of its links stay such as frames and ticks bring about.
-use Rattle.std.proofs.Common.{◌≡◌, ℕ, zero, suc, List, [], ◌∷◌, ◌++◌, set, map, Bool, true, false, Option, None, Some, refl, sym, ap, ap₂, subst, arith}
-use Rattle.std.specs.Prelude.{if◌then◌else◌, ◌&&◌, slice_get}
+use Rattle.std.proofs.Common.{◌≡◌, ℕ, zero, suc, List, [], ◌∷◌, ◌++◌, set, map, Bool, true, false, Option, None, Some, refl, sym, ap, ap₂, subst, inl, arith}
+use Rattle.std.specs.Prelude.{if◌then◌else◌, ◌&&◌, nat_le, slice_get}
 use Rattle.std.specs.Option.{option_map}
 use Rattle.std.proofs.lemmas.Option.{same_Some}
 use Rattle.px_base.specs.CallSign.{CallSign}
 use Rattle.ax25_frames.specs.FrameText.{FrameValue}
 use Rattle.ax25_link.specs.Calls.{after_abandon, after_push}
-use Rattle.ax25_link.specs.Ends.{IsEnd, LinkEnd, answering_end}
+use Rattle.ax25_link.specs.Ends.{IsEnd, LinkEnd, answering_end, free_octets}
 use Rattle.ax25_link.specs.Rows.{after_frame, heard_of, is_call}
 use Rattle.ax25_link.specs.Sending.{Sending, next_sending}
 use Rattle.ax25_link.specs.Window.{Window}
@@ -15,24 +15,26 @@ use Rattle.ax25_link.specs.declared.state.Heard.TheVariants.{Nothing, Opened, Re
 use Rattle.ax25_link.proofs.EndKept.{after_abandon-IsEnd, after_frame-IsEnd, after_push-IsEnd, after_tick-IsEnd, answering_end-IsEnd}
 use Rattle.ftl0_packets.specs.Layout.{Item, packet_text}
 use Rattle.ftl0_packets.specs.Reading.{packets_of}
+use Rattle.selection_lists.specs.Lists.{CallerList, has_left}
 use Rattle.file_entries.specs.Command.{after_all}
 use Rattle.file_entries.specs.Store.{Store}
 use Rattle.node_events.specs.Events.{NodeEvent, hears, ticks}
 use Rattle.ftl0_uploads.specs.Failures.{Failure, write_fails}
-use Rattle.ftl0_uploads.specs.Run.{on_row}
-use Rattle.ftl0_packets.specs.Items.{kind_of_item, texts}
-use Rattle.ftl0_uploads.specs.Session.{Row, State, fault_reply, greeting, session_row}
+use Rattle.ftl0_packets.specs.Items.{texts}
+use Rattle.ftl0_session.specs.Table.{DuePacket, Row, State, due_at, fault_reply, greeting, row_at}
 use Rattle.ftl0_connection.specs.Connected.{Connected, answering, caller_of}
-use Rattle.ftl0_connection.specs.Hearing.{hearing, hearing_as, ticking, with_end}
-use Rattle.ftl0_connection.specs.Taking.{Progress, after_doing, failing_at, fits, giving_up, taking, unbuilt_at}
-use Rattle.ftl0_server.specs.Laws.{SlotFits, SlotsFit, SomeStepLaw}
-use Rattle.ftl0_server.specs.Server.{IsSilent, Refused, Server, ServerHappened, called_by, hearing_at, hearing_by, hearing_stranger, refusing, sends_by}
+use Rattle.ftl0_connection.specs.Hearing.{Happened, hearing, parts_as, parts_of_frame, ticking, with_end}
+use Rattle.ftl0_connection.specs.Laws.{QueuedLaw}
+use Rattle.ftl0_connection.specs.Taking.{Progress, after_due, after_row, enough_free, failing_at, fits, giving_up, on_due, queued, queuing, taking}
+use Rattle.ftl0_server.specs.Laws.{AreQueued, SlotFits, SlotsFit, SomeStepLaw}
+use Rattle.ftl0_server.specs.Server.{IsSilent, Refused, Server, ServerHappened, ServerSends, called_by, hearing_at, hearing_by, hearing_stranger, refusing, sends_by}
 use Rattle.ftl0_server.specs.Server.{sends_of_places, settled}
 use Rattle.ftl0_server.specs.ServerStep.{Empties, happening}
 use Rattle.ftl0_server.specs.Slots.{PlacesSend, Slot, SlotSends, all_freed, connected, first_empty, first_of, free, freed, leaving, left_by, place_of}
 use Rattle.ftl0_server.specs.Slots.{places_next, slot_after, slot_next, slot_sends, slot_ticking}
 use Rattle.ftl0_server.proofs.AllPlaces.{never}
 use Rattle.ftl0_server.proofs.EmptiesLemmas.{by_stray, emptied, server_left}
+use Rattle.ftl0_server.proofs.QueuedLemmas.{all-stay, freed-queued, heard-queued, left-queued, places-sent, queued-set, ticked-queued}
 
 -- ---- what has nothing to send has nothing to send once its places are settled
 
@@ -71,43 +73,60 @@ module _ (w : Window) where
   replied-fits end text true is = after_push-IsEnd w end text is
   replied-fits end text false is = after_abandon-IsEnd w end is
 
-  given-fits : (end : LinkEnd) (state : State) (row : Row) (failed enough : Bool) (later : Progress) → IsEnd w end → IsEnd w later.end
-      → IsEnd w (if failed then failing_at end state row else if enough then after_doing row.commands later else giving_up end row).end
-  given-fits end state row true enough later is last =
+  given-fits : (end : LinkEnd) (state : State) (lists : List CallerList) (part : ℕ) (row : Row) (failed enough : Bool) (later : Progress) → IsEnd w end
+      → IsEnd w later.end
+      → IsEnd w (if failed then failing_at end state lists row part else if enough then after_row row later else giving_up end row part).end
+  given-fits end state lists part row true enough later is last =
       replied-fits end (texts (fault_reply state ∷ [])) (fits end (texts (fault_reply state ∷ []))) is
-  given-fits end state row false true later is last = last
-  given-fits end state row false false later is last = after_abandon-IsEnd w end is
-
-  row-fits : (o : Option Row) (none : Progress) (given : Row → Progress) → IsEnd w none.end → ((row : Row) → IsEnd w (given row).end)
-      → IsEnd w (on_row o none given).end
-  row-fits None none given is each = is
-  row-fits (Some row) none given is each = each row
+  given-fits end state lists part row false true later is last = last
+  given-fits end state lists part row false false later is last = after_abandon-IsEnd w end is
 
   -- after packets
-  taking-fits : (caller : CallSign) (moment : ℕ) (store : Store) (state : State) (end : LinkEnd) (items : List Item) (failures : List Failure) (part : ℕ)
-      → IsEnd w end → IsEnd w (taking caller moment store state end items failures part).end
-  taking-fits caller moment store state end [] failures part is = is
-  taking-fits caller moment store state end (item ∷ items) failures part is =
-      let later : Row → Progress =
-      λ row. taking caller moment (after_all store row.commands) row.state (after_push end (texts row.replies)) items failures (suc part) in
-      row-fits (session_row caller moment store state item) (unbuilt_at end state (kind_of_item item))
-      (λ row. if write_fails failures part then failing_at end state row
-      else if fits end (texts row.replies) then after_doing row.commands (later row)
-      else giving_up end row)
+  taking-fits : (caller : CallSign) (moment : ℕ) (store : Store) (lists : List CallerList) (state : State) (end : LinkEnd) (items : List Item)
+      (failures : List Failure) (part : ℕ) → IsEnd w end → IsEnd w (taking caller moment store lists state end items failures part).end
+  taking-fits caller moment store lists state end [] failures part is = is
+  taking-fits caller moment store lists state end (item ∷ items) failures part is =
+      let row : Row = row_at caller moment store lists state item failures part in
+      given-fits end state lists part row (write_fails failures part) (fits end (texts row.replies))
+      (taking caller moment (after_all store row.commands) row.lists row.state (after_push end (texts row.replies)) items failures (suc part)) is
+      (taking-fits caller moment (after_all store row.commands) row.lists row.state (after_push end (texts row.replies)) items failures (suc part)
+      (after_push-IsEnd w end (texts row.replies) is))
+
+  -- after what is due was queued
+  either-fits : (b : Bool) (one other : Progress) → IsEnd w one.end → IsEnd w other.end → IsEnd w (if b then one else other).end
+  either-fits true one other first second = first
+  either-fits false one other first second = second
+
+  due-fits : (o : Option DuePacket) (progress : Progress) (later : DuePacket → Progress) → IsEnd w progress.end
+      → ((due : DuePacket) → IsEnd w (later due).end) → IsEnd w (on_due o progress later).end
+  due-fits None progress later is each = is
+  due-fits (Some due) progress later is each = each due
+
+  queuing-fits : (more : ℕ) (store : Store) (failures : List Failure) (progress : Progress) → IsEnd w progress.end
+      → IsEnd w (queuing more store failures progress).end
+  queuing-fits zero store failures progress is = is
+  queuing-fits (suc more) store failures progress is =
+      let later : DuePacket → Progress = λ due. queuing more store failures (after_due due progress) in
+      either-fits (nat_le enough_free (free_octets progress.end)) (on_due (due_at store progress.state failures progress.part) progress later) progress
+      (due-fits (due_at store progress.state failures progress.part) progress later is
+      (λ due. queuing-fits more store failures (after_due due progress) (after_push-IsEnd w progress.end (packet_text due.packet) is)))
       is
-      (λ row. given-fits end state row (write_fails failures part) (fits end (texts row.replies)) (later row) is
-      (taking-fits caller moment (after_all store row.commands) row.state (after_push end (texts row.replies)) items failures (suc part)
-      (after_push-IsEnd w end (texts row.replies) is)))
+
+  queued-fits : (store : Store) (failures : List Failure) (progress : Progress) → IsEnd w progress.end → IsEnd w (queued store failures progress).end
+  queued-fits store failures progress is =
+      either-fits progress.over progress (queuing (free_octets progress.end) (after_all store progress.done) failures progress) is
+      (queuing-fits (free_octets progress.end) (after_all store progress.done) failures progress is)
 
   -- after a frame
-  heard-fits : (heard : Heard) (moment : ℕ) (store : Store) (c : Connected) (end : LinkEnd) (octets : List ℕ) (failures : List Failure)
-      → IsEnd w end → IsEnd w (hearing_as heard moment store c end octets failures).after.end
-  heard-fits Nothing moment store c end octets failures is = is
-  heard-fits Opened moment store c end octets failures is = is
-  heard-fits Reopened moment store c end octets failures is = after_push-IsEnd w end (packet_text (greeting moment)) is
-  heard-fits Bytes moment store c end octets failures is =
-      taking-fits (caller_of c) moment store c.state end (packets_of (c.rest ++ octets)) failures 0 is
-  heard-fits (Closed why) moment store c end octets failures is = is
+  heard-fits : (heard : Heard) (moment : ℕ) (store : Store) (lists : List CallerList) (c : Connected) (end : LinkEnd) (octets : List ℕ)
+      (failures : List Failure) → IsEnd w end → IsEnd w (parts_as heard moment store lists c end octets failures).end
+  heard-fits Nothing moment store lists c end octets failures is = is
+  heard-fits Opened moment store lists c end octets failures is = is
+  heard-fits Reopened moment store lists c end octets failures is =
+      after_push-IsEnd w end (packet_text (greeting moment (has_left lists (caller_of c)))) is
+  heard-fits Bytes moment store lists c end octets failures is =
+      taking-fits (caller_of c) moment store lists c.state end (packets_of (c.rest ++ octets)) failures 0 is
+  heard-fits (Closed why) moment store lists c end octets failures is = is
 
   -- ---- places
 
@@ -161,8 +180,9 @@ called-fits : (server : Server) (caller : CallSign) (poll : Bool) (moment : ℕ)
 called-fits server caller poll moment None all = all
 called-fits server caller poll moment (Some place) all =
     let end = answering_end server.me caller poll in
-    let one = after_push-IsEnd server.window end (packet_text (greeting moment)) (answering_end-IsEnd server.window server.me caller poll) in
-    fits-set server.window server.slots place (connected (answering server.me caller poll moment)) all one
+    let left = has_left server.lists caller in
+    let one = after_push-IsEnd server.window end (packet_text (greeting moment left)) (answering_end-IsEnd server.window server.me caller poll) in
+    fits-set server.window server.slots place (connected (answering server.me caller poll moment left)) all one
 
 by_cases : (b : Bool) (one other : Server) → IsFit one → IsFit other → IsFit (if b then one else other)
 by_cases true one other first second = first
@@ -184,9 +204,10 @@ at-fits server frame moment failures place (Some (connected c)) at quiet all =
     let w = server.window in
     let fit = fits-at w server.slots place (connected c) all at in
     let still = quiet-sending w c (next_sending w c.end) (quiet-at w server.slots place (connected c) quiet at) in
-    let happened = hearing w moment server.store c frame failures in
-    let heard = heard-fits w (heard_of w c.end frame) moment server.store c (after_frame w c.end frame) frame.kind.information failures
-    (after_frame-IsEnd w c.end frame fit still) in
+    let happened = hearing w moment server.store server.lists c frame failures in
+    let heard = queued-fits w server.store failures (parts_of_frame w moment server.store server.lists c frame failures)
+    (heard-fits w (heard_of w c.end frame) moment server.store server.lists c (after_frame w c.end frame) frame.kind.information failures
+    (after_frame-IsEnd w c.end frame fit still)) in
     fits-set w server.slots place (slot_after happened) all (left-fits w happened.over happened.after heard)
 
 by-fits : (server : Server) (frame : FrameValue) (moment : ℕ) (failures : List Failure) (place : Option ℕ) → places_next server.window server.slots ≡ None
@@ -211,14 +232,78 @@ pub empties-silent : (server : Server) (frames : List FrameValue) (last : Server
 empties-silent server [] last h = subst (λ (s : Server). IsSilent s) (sym h.1) h.0
 empties-silent server (frame ∷ frames) last h = empties-silent h.0.after frames last h.3
 
-pub some_step : SomeStepLaw
-some_step old event failures may =
+-- ---- what is due was queued
+
+abbrev IsAllQueued : Server → Type 0
+IsAllQueued server = AreQueued server.store server.slots
+
+queued-cases : (b : Bool) (one other : Server) → IsAllQueued one → IsAllQueued other → IsAllQueued (if b then one else other)
+queued-cases true one other first second = first
+queued-cases false one other first second = second
+
+called-queued : (server : Server) (caller : CallSign) (poll : Bool) (moment : ℕ) (place : Option ℕ) → IsAllQueued server
+    → IsAllQueued (called_by server caller poll moment place)
+called-queued server caller poll moment None all = all
+called-queued server caller poll moment (Some place) all =
+    queued-set server.store server.slots place (connected (answering server.me caller poll moment (has_left server.lists caller))) all
+    (inl (λ failures part. refl))
+
+stranger-queued : (server : Server) (frame : FrameValue) (moment : ℕ) → IsAllQueued server → IsAllQueued (hearing_stranger server frame moment)
+stranger-queued server frame moment all =
+    queued-cases (is_call frame.kind.control) (called_by server frame.src frame.poll moment (first_empty server.slots))
+    (if frame.command && frame.poll then refusing server frame.src true else server)
+    (called-queued server frame.src frame.poll moment (first_empty server.slots) all)
+    (queued-cases (frame.command && frame.poll) (refusing server frame.src true) server all all)
+
+at-queued : QueuedLaw → (server : Server) (frame : FrameValue) (moment : ℕ) (failures : List Failure) (place : ℕ) (slot : Option Slot) → IsAllQueued server
+    → IsAllQueued (hearing_at server frame moment failures place slot).after
+at-queued law server frame moment failures place None all = all
+at-queued law server frame moment failures place (Some free) all = all
+at-queued law server frame moment failures place (Some (leaving end)) all = all
+at-queued law server frame moment failures place (Some (connected c)) all =
+    let happened : Happened = hearing server.window moment server.store server.lists c frame failures in
+    let now : Store = after_all server.store happened.done in
+    queued-set now server.slots place (slot_after happened) (all-stay server.store now server.slots all)
+    (left-queued now happened.over happened.after
+    (heard-queued law server.store failures (parts_of_frame server.window moment server.store server.lists c frame failures)))
+
+by-queued : QueuedLaw → (server : Server) (frame : FrameValue) (moment : ℕ) (failures : List Failure) (place : Option ℕ) → IsAllQueued server
+    → IsAllQueued (hearing_by server frame moment failures place).after
+by-queued law server frame moment failures None all = stranger-queued server frame moment all
+by-queued law server frame moment failures (Some place) all = at-queued law server frame moment failures place (slice_get server.slots place) all
+
+happening-queued : QueuedLaw → (server : Server) (event : NodeEvent) (failures : List Failure) → IsAllQueued server
+    → IsAllQueued (happening server event failures).after
+happening-queued law server (hears frame moment) failures all = by-queued law server frame moment failures (place_of frame.src server.slots) all
+happening-queued law server (ticks moment) failures all = ticked-queued server.store server.slots all
+
+sent-places : (server : Server) (o : Option PlacesSend) → places_next server.window server.slots ≡ o → IsFit server → IsAllQueued server
+    → (sends : ServerSends) → sends_of_places server o ≡ Some sends → IsAllQueued sends.after
+sent-places server None is fit all sends gives = absurd (never sends gives)
+sent-places server (Some z) is fit all sends gives =
+    subst (λ (v : ServerSends). IsAllQueued v.after) (same_Some _ sends gives) (places-sent server.store server.window server.slots fit all z is)
+
+sent-queued : (server : Server) (o : Option Refused) → IsFit server → IsAllQueued server → (sends : ServerSends) → sends_by server o ≡ Some sends
+    → IsAllQueued sends.after
+sent-queued server None fit all sends gives = sent-places server (places_next server.window server.slots) refl fit all sends gives
+sent-queued server (Some refused) fit all sends gives = subst (λ (v : ServerSends). IsAllQueued v.after) (same_Some _ sends gives) all
+
+empties-queued : (server : Server) (frames : List FrameValue) (last : Server) → Empties server frames last → IsFit server → IsAllQueued server
+    → IsAllQueued last
+empties-queued server [] last h fit all = subst (λ (s : Server). IsAllQueued s) (sym h.1) all
+empties-queued server (frame ∷ frames) last h fit all =
+    empties-queued h.0.after frames last h.3 (by_stray server server.stray refl fit h.0 h.1).0 (sent-queued server server.stray fit all h.0 h.1)
+
+pub some_step : QueuedLaw → SomeStepLaw
+some_step law old event failures may =
     let happened : ServerHappened = happening old event failures in
     let fit : IsFit happened.after = happening-fits old event failures may.silent may.fits in
+    let due : IsAllQueued happened.after = happening-queued law old event failures may.queued in
     let all = emptied (server_left happened.after) happened.after fit (omega arith) in
     record {
       done = happened.done;
       cut = happened.cut;
+      missed = happened.missed;
       halt = happened.halt;
       frames = all.0;
       new = settled all.1;
@@ -227,6 +312,7 @@ some_step old event failures may =
             silent = may.silent;
             done_is = refl;
             cut_is = refl;
+            missed_is = refl;
             halt_is = refl;
             last = all.1;
             sent = all.2;
@@ -236,5 +322,6 @@ some_step old event failures may =
           record {
             silent = silent-settled all.1 (empties-silent happened.after all.0 all.1 all.2);
             fits = freed-fits all.1.window all.1.slots (empties-fits happened.after all.0 all.1 all.2 fit);
+            queued = freed-queued all.1.store all.1.slots (empties-queued happened.after all.0 all.1 all.2 fit due);
           };
     }

@@ -10,22 +10,24 @@ use Rattle.ax25_frames.specs.FrameText.{FrameValue}
 use Rattle.ax25_frames.specs.Kinds.{FitsControl}
 use Rattle.ax25_link.specs.Kept.{Kept, is_pending}
 use Rattle.ax25_link.specs.Window.{Window, window_of}
+use Rattle.selection_lists.specs.Lists.{CallerList}
 use Rattle.file_entries.specs.Command.{after_all}
 use Rattle.file_entries.specs.Store.{Store}
-use Rattle.file_journal.specs.Calls.{Leaves}
-use Rattle.file_store.specs.OnDisk.{Does, MakesFirst}
 use Rattle.file_store.specs.State.{StandsOn, StoreState, store_in}
+use Rattle.file_store.specs.Working.{DoesAmongReads}
 use Rattle.file_store.proofs.DoesLemmas.{Does-none}
+use Rattle.file_store.proofs.WorkingLemmas.{does-among}
 use Rattle.ftl0_uploads.specs.Failures.{Failure, failed_write}
 use Rattle.ftl0_uploads.specs.Session.{is_same_call}
-use Rattle.ftl0_uploads.specs.declared.stop.ServerStop.{ServerStop}
-use Rattle.ftl0_uploads.specs.declared.stop.ServerStop.TheVariants as stop
 use Rattle.ftl0_uploads.proofs.UploadRows.{same_call-decides}
+use Rattle.ftl0_session.specs.SessionState.{caller_of}
+use Rattle.ftl0_session.specs.declared.stop.ServerStop.{ServerStop}
+use Rattle.ftl0_session.specs.declared.stop.ServerStop.TheVariants as stop
 use Rattle.ftl0_connection.specs.Connected.{Connected}
-use Rattle.ftl0_connection.specs.ConnectionState.{ConnectionState}
+use Rattle.ftl0_connection.specs.ConnectionState.{ConnectionState, with_reads}
 use Rattle.ftl0_connection.specs.Hearing.{Happened, hearing}
 use Rattle.node_events.specs.Events.{IsFor}
-use Rattle.ftl0_server.specs.AtPlace.{IsPlace, MayHear, PlaceHears, Works}
+use Rattle.ftl0_server.specs.AtPlace.{IsPlace, MayHear, PlaceHears, PlaceHearsBy, Works}
 use Rattle.ftl0_server.specs.Calls.{Hears, HearsBy, HearsStranger}
 use Rattle.ftl0_server.specs.declared.place.Place.{Place}
 use Rattle.ftl0_server.specs.declared.place.Place.TheVariants.{Free, Talking, Leaving}
@@ -42,9 +44,9 @@ false_no same = absurd (let x : ⊥ = cc in x)
 
 -- ---- whose connection it is
 
-talks : (caller : CallSign) (p : Place) → has_caller caller p ≡ true → (c : ConnectionState) × (p ≡ Talking c) × (c.session.caller ≡ caller)
+talks : (caller : CallSign) (p : Place) → has_caller caller p ≡ true → (c : ConnectionState) × (p ≡ Talking c) × (caller_of c.session ≡ caller)
 talks caller Free is = false_no is
-talks caller (Talking c) is = (c, refl, (same_call-decides c.session.caller caller).0 is)
+talks caller (Talking c) is = (c, refl, (same_call-decides (caller_of c.session) caller).0 is)
 talks caller (Leaving link) is = false_no is
 
 -- the place that was found
@@ -56,7 +58,7 @@ found-passes p places i d found = (position-Some p places i d found).1
 
 -- the connection of this caller
 pub found-talks : (caller : CallSign) (places : List Place) (i : ℕ) (d : Place) → position (has_caller caller) places ≡ Some i
-    → (c : ConnectionState) × (get_or places i d ≡ Talking c) × (c.session.caller ≡ caller)
+    → (c : ConnectionState) × (get_or places i d ≡ Talking c) × (caller_of c.session ≡ caller)
 found-talks caller places i d found = talks caller (get_or places i d) (found-passes (has_caller caller) places i d found)
 
 pub found-at : (caller : CallSign) (places : List Place) (i : ℕ) (d : Place) (c : ConnectionState) → position (has_caller caller) places ≡ Some i
@@ -84,6 +86,7 @@ may-hear me k store places i d frame found settled none is_for numbers =
         up = seated.up;
         held = seated.held;
         only = own-only me k store places i c.0 at settled;
+        due = seated.due;
       },
       record {
         dest = is_for.dest ∙ sym seated.me_is;
@@ -100,7 +103,7 @@ module _ (self : ServerState) (server : Server) (is : IsServer self server) wher
   pub all-are : AllPlaces (IsPlace server.window self.store) self.places server.slots
   all-are = all-both (SendsAs server.window) (SaysAs self.store) self.places server.slots is.sends.links is.says
 
-  same-caller : (caller : CallSign) (p : Place) (s : Slot) → ((c : ConnectionState) → p ≡ Talking c → c.link.peer ≡ c.session.caller)
+  same-caller : (caller : CallSign) (p : Place) (s : Slot) → ((c : ConnectionState) → p ≡ Talking c → c.link.peer ≡ caller_of c.session)
       → SendsAs server.window p s → has_caller caller p ≡ is_callers caller s
   same-caller caller Free free peer sends = refl
   same-caller caller Free (connected d) peer sends = absurd sends
@@ -154,8 +157,9 @@ module _ {D : Type 0} (g : Ghosts D) (old new : ServerState) (server : Server) (
     (works : Works old.store new.store (Talking c) p) (me : new.me ≡ old.me) (k : new.k ≡ old.k) (stray : new.stray ≡ old.stray)
     (places : new.places ≡ set old.places place p) where
   -- the server that stands now, where the place is this one
-  now-sends : (s : Slot) (store : Store) → SendsAs server.window p s → SendsFor new (record server { slots = set server.slots place s; store = store })
-  now-sends s store here = record {
+  now-sends : (s : Slot) (store : Store) (lists : List CallerList) → SendsAs server.window p s
+      → SendsFor new (record server { slots = set server.slots place s; store = store; lists = lists })
+  now-sends s store lists here = record {
     me = me ∙ is.sends.me;
     window = is.sends.window ∙ ap (λ (n : ℕ). window_of n) (sym k);
     stray = stray ∙ is.sends.stray;
@@ -164,34 +168,34 @@ module _ {D : Type 0} (g : Ghosts D) (old new : ServerState) (server : Server) (
         (all-set (SendsAs server.window) old.places server.slots place p s is.sends.links here);
   }
 
-  now-is : (s : Slot) (store : Store) → IsPlace server.window new.store p s → store_in new.store ≡ store
-      → IsServer new (record server { slots = set server.slots place s; store = store })
-  now-is s store here same =
+  now-is : (s : Slot) (store : Store) (lists : List CallerList) → IsPlace server.window new.store p s → store_in new.store ≡ store → new.lists ≡ lists
+      → IsServer new (record server { slots = set server.slots place s; store = store; lists = lists })
+  now-is s store lists here same same_lists =
       let all = all-works server.window old.me old.k old.store new.store old.places server.slots place (Talking c) p s at settled works (all-are old server is) here in
       record {
-        sends = now-sends s store here.0;
+        sends = now-sends s store lists here.0;
         says =
             subst (λ (ps : List Place). AllPlaces (SaysAs new.store) ps (set server.slots place s)) (sym places)
             (all-to (IsPlace server.window new.store) (SaysAs new.store) (set old.places place p) (set server.slots place s) (λ i q t there it both. both.1) all);
         store = same;
+        lists = same_lists;
       }
 
   module _ (event : List Failure → Happened) where
-    heard-by : (result : Result ⊤ ServerStop) → PlaceHears g server.window event old.store new.store disk disk_now p result
+    heard-by : (result : Result ⊤ ServerStop) → PlaceHearsBy g server.window event old.store new.store new.lists disk disk_now p result
         → HearsBy g (λ failures. heard_at server place (event failures)) old new disk disk_now result
     heard-by (Ok done) by = (
       by.0,
-      now-is (slot_after (event [])) (after_all server.store (event []).done) by.1
-          ((by.2.done (λ never. never)).0 ∙ ap (λ (s : Store). after_all s (event []).done) is.store),
-      by.2,
+      now-is (slot_after (event [])) (after_all server.store (event []).done) (event []).lists by.2
+          ((by.3.done (λ never. never)).0 ∙ ap (λ (s : Store). after_all s (event []).done) is.store) by.1,
+      by.3,
     )
     heard-by (Err stop.Disk) by = (
       by.0,
       by.1,
-      now-sends (slot_after (event (failed_write by.0))) (after_all server.store (event (failed_write by.0)).done) by.2,
+      now-sends (slot_after (event (failed_write by.0))) (after_all server.store (event (failed_write by.0)).done) (event (failed_write by.0)).lists by.2,
       by.3,
     )
-    heard-by (Err (stop.NotBuilt kind)) by = by
     heard-by (Err stop.OutOfMemory) by = inr by
 
   -- the slot of the place
@@ -203,19 +207,20 @@ module _ {D : Type 0} (g : Ghosts D) (old new : ServerState) (server : Server) (
 
   pub server-hears : (result : Result ⊤ ServerStop)
       → ((w : Window) (d : Connected) → IsPlace w old.store (Talking c) (connected d)
-      → PlaceHears g w (hearing w moment (store_in old.store) d frame) old.store new.store disk disk_now p result)
-      → ((w : Window) (d : Connected) → IsPlace w old.store (Talking c) (connected d)
-      → Leaves g disk disk_now (λ _. MakesFirst (store_in old.store) (hearing w moment (store_in old.store) d frame []).done))
+      → PlaceHears g w (hearing w moment (store_in old.store) old.lists d frame) old.store new.store new.lists disk disk_now p result)
       → Hears g (server_hearing server frame moment) old new disk disk_now result
-  server-hears result hears since =
+  server-hears result hears =
       let slot = slot_is in
-      let by : Hears g (λ failures. heard_at server place (hearing server.window moment (store_in old.store) slot.0 frame failures)) old new disk disk_now result =
+      let heard = hears server.window slot.0 slot.2 in
+      let by : Hears g (λ failures. heard_at server place (hearing server.window moment (store_in old.store) old.lists slot.0 frame failures)) old new disk disk_now result =
       record {
-        by = heard-by (hearing server.window moment (store_in old.store) slot.0 frame) result (hears server.window slot.0 slot.2);
-        since = since server.window slot.0 slot.2;
+        parts = heard.parts;
+        by = heard-by (with_reads (hearing server.window moment (store_in old.store) old.lists slot.0 frame) heard.parts) result heard.by;
+        since = heard.since;
       } in
-      let over = subst (λ (s : Store). Hears g (λ failures. heard_at server place (hearing server.window moment s slot.0 frame failures)) old new disk disk_now result) is.store by in
-      let at_slot = subst (λ (o : Option Slot). Hears g (λ failures. hearing_at server frame moment failures place o) old new disk disk_now result) (sym slot.1) over in
+      let over = subst (λ (s : Store). Hears g (λ failures. heard_at server place (hearing server.window moment s old.lists slot.0 frame failures)) old new disk disk_now result) is.store by in
+      let among = subst (λ (l : List CallerList). Hears g (λ failures. heard_at server place (hearing server.window moment server.store l slot.0 frame failures)) old new disk disk_now result) is.lists over in
+      let at_slot = subst (λ (o : Option Slot). Hears g (λ failures. hearing_at server frame moment failures place o) old new disk disk_now result) (sym slot.1) among in
       subst (λ (o : Option ℕ). Hears g (λ failures. hearing_by server frame moment failures o) old new disk disk_now result)
       (sym found ∙ same-place_of old server is old.me old.k settled frame.src) at_slot
 
@@ -225,22 +230,22 @@ module _ {D : Type 0} (g : Ghosts D) (old new : ServerState) (server : Server) (
     (settled : IsSettled old.me old.k old.store old.places) (frame : FrameValue) (moment : ℕ) (disk : D)
     (found : position (has_caller frame.src) old.places ≡ None) (healthy : old.store.journal.failed ≡ false)
     (stands : StandsOn g old.store disk) (lasts : g.lasts disk disk) (same : new.store ≡ old.store) where
-  nothing-done : Does g ⊥ old.store new.store disk disk []
+  nothing-done : DoesAmongReads g ⊥ false old.store new.store disk disk []
   nothing-done =
-      subst (λ (s : StoreState). Does g ⊥ old.store s disk disk []) (sym same) (Does-none g ⊥ old.store disk (λ never. never) stands healthy lasts)
+      subst (λ (s : StoreState). DoesAmongReads g ⊥ false old.store s disk disk []) (sym same)
+      (does-among g ⊥ old.store old.store disk disk [] (Does-none g ⊥ old.store disk (λ never. never) stands healthy lasts))
 
   stranger-by : (result : Result ⊤ ServerStop) → HearsStranger (λ s. hearing_stranger s frame moment) old new result
       → HearsBy g (λ failures. becoming (hearing_stranger server frame moment)) old new disk disk result
   stranger-by (Ok done) heard = (refl, heard server is, nothing-done)
   stranger-by (Err stop.Disk) heard = absurd heard
-  stranger-by (Err (stop.NotBuilt kind)) heard = absurd heard
   stranger-by (Err stop.OutOfMemory) heard = inl nothing-done
 
   pub stranger-hears : (result : Result ⊤ ServerStop) → HearsStranger (λ s. hearing_stranger s frame moment) old new result
       → Hears g (server_hearing server frame moment) old new disk disk result
   stranger-hears result heard =
       let by : Hears g (λ failures. becoming (hearing_stranger server frame moment)) old new disk disk result =
-      record { by = stranger-by result heard; since = nothing-done.since } in
+      record { parts = []; by = stranger-by result heard; since = nothing-done.since } in
       subst (λ (o : Option ℕ). Hears g (λ failures. hearing_by server frame moment failures o) old new disk disk result)
       (sym found ∙ same-place_of old server is old.me old.k settled frame.src) by
 
@@ -249,5 +254,4 @@ pub stranger-at : (step other : Server → Server) (old new : ServerState) (resu
     → HearsStranger step old new result → HearsStranger other old new result
 stranger-at step other old new (Ok done) same heard = λ server is. subst (λ (s : Server). IsServer new s) (same server) (heard server is)
 stranger-at step other old new (Err stop.Disk) same heard = heard
-stranger-at step other old new (Err (stop.NotBuilt kind)) same heard = heard
 stranger-at step other old new (Err stop.OutOfMemory) same heard = heard

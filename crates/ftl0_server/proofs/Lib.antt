@@ -6,6 +6,7 @@ pub mod HearLemmas
 pub mod NextLemmas
 pub mod OutLemmas
 pub mod PlaceLemmas
+pub mod QueuedLemmas
 pub mod SeatLemmas
 pub mod SettledLemmas
 pub mod StartLemmas

@@ -8,7 +8,9 @@ use Rattle.ax25_frames.specs.FrameText.{FrameText, canonical}
 use Rattle.ax25_link.specs.Sending.{Sending, next_sending}
 use Rattle.ax25_link.specs.Window.{Window, window_of}
 use Rattle.file_store.specs.State.{StoreState, store_in}
-use Rattle.ftl0_uploads.specs.SessionState.{IsHeld, SessionState, number_of, state_of}
+use Rattle.ftl0_uploads.specs.SessionState.{IsHeld, number_of}
+use Rattle.ftl0_downloads.specs.Needs.{IsDueIn}
+use Rattle.ftl0_session.specs.SessionState.{SessionState, caller_of, state_in}
 use Rattle.ftl0_connection.specs.Connected.{Connected}
 use Rattle.ftl0_connection.specs.ConnectionState.{ConnectionState}
 use Rattle.ftl0_connection.specs.Hearing.{with_end}
@@ -87,7 +89,7 @@ module _ (store : StoreState) where
   same-says (Talking c) (Talking d) free same says = tt
   same-says (Talking c) (Talking d) (connected e) same says = record {
     rest = same.octets ∙ says.rest;
-    state = ap (λ (x : SessionState). state_of store x.phase) same.session ∙ says.state;
+    state = ap (λ (x : SessionState). state_in store x) same.session ∙ says.state;
   }
   same-says (Talking c) (Talking d) (leaving end) same says = tt
   same-says (Talking c) (Leaving link) s same says = absurd same
@@ -105,7 +107,7 @@ module _ (store : StoreState) where
 -- ---- the places give out a frame
 
 module _ (old new : ServerState) (server : Server) (before now : List ℕ) (answer : Bool) (me : new.me ≡ old.me) (k : new.k ≡ old.k)
-    (stray_new : new.stray ≡ old.stray) (store : new.store ≡ old.store) (same : SamePlaces old.places new.places)
+    (stray_new : new.stray ≡ old.stray) (store : new.store ≡ old.store) (lists : new.lists ≡ old.lists) (same : SamePlaces old.places new.places)
     (none : answer ≡ false → (new ≡ old) × (now ≡ before)) (no_stray : old.stray ≡ None) where
   sends-after : (slots : List Slot) → SendsFor old server → AllPlaces (SendsAs server.window) new.places slots → SendsFor new (record server { slots = slots })
   sends-after slots is links = record {
@@ -130,6 +132,7 @@ module _ (old new : ServerState) (server : Server) (before now : List ℕ) (answ
       says =
           subst (λ (s : StoreState). AllPlaces (SaysAs s) new.places sends.after) (sym store) (all-same-say old.store old.places new.places sends.after same say);
       store = ap (λ (s : StoreState). store_in s) store ∙ is.store;
+      lists = lists ∙ is.lists;
     },
     gives.2,
     gives.3,
@@ -192,6 +195,7 @@ settles self server none is = record {
   };
   says = all-freed-says self.store self.places server.slots is.says;
   store = is.store;
+  lists = is.lists;
 }
 
 -- ---- what holds of a server holds after frames are given out
@@ -228,23 +232,24 @@ settled-same me k store ps qs same was = record {
       let seat = was.seated i c.0 c.1 in
       record {
         me_is = c.2.stations.me ∙ seat.me_is;
-        peer_is = c.2.stations.peer ∙ seat.peer_is ∙ ap (λ (s : SessionState). s.caller) (sym c.2.session);
+        peer_is = c.2.stations.peer ∙ seat.peer_is ∙ ap (λ (s : SessionState). caller_of s) (sym c.2.session);
         answers = c.2.stations.called ∙ seat.answers;
         k_is = c.2.stations.k ∙ seat.k_is;
         up = c.2.state ∙ seat.up;
-        held = subst (λ (s : SessionState). IsHeld store s) (sym c.2.session) seat.held;
+        held = subst (λ (s : SessionState). IsHeld store s.uploads) (sym c.2.session) seat.held;
+        due = subst (λ (s : SessionState). IsDueIn (store_in store) s.downloads) (sym c.2.session) seat.due;
       };
   distinct = λ one other first second a b callers.
       let c = same-get ps qs one first same a in
       let e = same-get ps qs other second same b in
-      was.distinct one other c.0 e.0 c.1 e.1 (ap (λ (s : SessionState). s.caller) (sym c.2.session) ∙ callers ∙ ap (λ (s : SessionState). s.caller) e.2.session);
+      was.distinct one other c.0 e.0 c.1 e.1 (ap (λ (s : SessionState). caller_of s) (sym c.2.session) ∙ callers ∙ ap (λ (s : SessionState). caller_of s) e.2.session);
   only = λ caller number is.
       was.only caller number (
         λ i c at theirs.
             let d = same-back ps qs i c same at in
-            is.0 i d.0 d.1 (ap (λ (s : SessionState). s.caller) d.2.session ∙ theirs) ∙ ap (λ (s : SessionState). number_of s.phase) d.2.session,
+            is.0 i d.0 d.1 (ap (λ (s : SessionState). caller_of s) d.2.session ∙ theirs) ∙ ap (λ (s : SessionState). number_of s.uploads.phase) d.2.session,
         λ nobody_has. is.1 (λ i d at theirs.
             let c = same-get ps qs i d same at in
-            nobody_has i c.0 c.1 (ap (λ (s : SessionState). s.caller) (sym c.2.session) ∙ theirs)),
+            nobody_has i c.0 c.1 (ap (λ (s : SessionState). caller_of s) (sym c.2.session) ∙ theirs)),
       );
 }

@@ -6,9 +6,11 @@ use Rattle.std.proofs.lemmas.Bool.{lt-ltb}
 use Rattle.std.proofs.lemmas.Option.{same_Some}
 use Rattle.px_base.specs.CallSign.{CallSign}
 use Rattle.ax25_link.proofs.Places.{slice_get-set_other, slice_get-set_same}
-use Rattle.file_store.specs.State.{StoreState}
-use Rattle.ftl0_uploads.specs.SessionState.{IsHeld, NoOtherOut, SessionState, number_of}
+use Rattle.file_store.specs.State.{StoreState, store_in}
+use Rattle.ftl0_uploads.specs.SessionState.{IsHeld, NoOtherOut, number_of}
 use Rattle.ftl0_uploads.proofs.UploadRows.{same_call-decides}
+use Rattle.ftl0_downloads.specs.Needs.{IsDueIn}
+use Rattle.ftl0_session.specs.SessionState.{SessionState, caller_of}
 use Rattle.ftl0_connection.specs.Connected.{Connected}
 use Rattle.ftl0_connection.specs.ConnectionState.{ConnectionState, IsConnection}
 use Rattle.ftl0_server.specs.declared.place.Place.{Place}
@@ -45,16 +47,16 @@ none-passes p places none j x at is =
     found-some (prefix_len (λ (y : Place). not (p y)) places) (length places) (lt-ltb _ _ (passes-front p places j x at is)) none
 
 pub nobody : (caller : CallSign) (places : List Place) → position (has_caller caller) places ≡ None → (j : ℕ) (e : ConnectionState) → IsAt places j e
-    → e.session.caller ≢ caller
+    → caller_of e.session ≢ caller
 nobody caller places none j e at same =
-    none-passes (has_caller caller) places none j (Talking e) at ((same_call-decides e.session.caller caller).1 same)
+    none-passes (has_caller caller) places none j (Talking e) at ((same_call-decides (caller_of e.session) caller).1 same)
 
 -- ---- what holds of a server still
 
 module _ (me : CallSign) (k : ℕ) (store : StoreState) (places : List Place) (i : ℕ) (c : ConnectionState) (within : i < length places)
     (free_there : (e : ConnectionState) → IsAt places i e → ⊥) (settled : IsSettled me k store places)
-    (none : (j : ℕ) (e : ConnectionState) → IsAt places j e → e.session.caller ≢ c.session.caller) (seat : IsSeated me k store c)
-    (no_upload : number_of c.session.phase ≡ None) where
+    (none : (j : ℕ) (e : ConnectionState) → IsAt places j e → caller_of e.session ≢ caller_of c.session) (seat : IsSeated me k store c)
+    (no_upload : number_of c.session.uploads.phase ≡ None) where
   there : IsAt (set places i (Talking c)) i c
   there = slice_get-set_same places i (Talking c) within
 
@@ -76,24 +78,24 @@ module _ (me : CallSign) (k : ℕ) (store : StoreState) (places : List Place) (i
       ]
 
   seats-distinct : (one other : ℕ) (first second : ConnectionState) → IsAt (set places i (Talking c)) one first → IsAt (set places i (Talking c)) other second
-      → first.session.caller ≡ second.session.caller → one ≡ other
+      → caller_of first.session ≡ caller_of second.session → one ≡ other
   seats-distinct one other first second a b callers =
       elim (at-set places i one (Talking c) first within a) [
         | inl w ↦
             elim (at-set places i other (Talking c) second within b) [
               | inl v ↦ w.0 ∙ sym v.0
-              | inr v ↦ absurd (none other second v.1 (sym callers ∙ ap (λ (x : ConnectionState). x.session.caller) (sym (same_talk first w.1))))
+              | inr v ↦ absurd (none other second v.1 (sym callers ∙ ap (λ (x : ConnectionState). caller_of x.session) (sym (same_talk first w.1))))
             ]
         | inr w ↦
             elim (at-set places i other (Talking c) second within b) [
-              | inl v ↦ absurd (none one first w.1 (callers ∙ ap (λ (x : ConnectionState). x.session.caller) (sym (same_talk second v.1))))
+              | inl v ↦ absurd (none one first w.1 (callers ∙ ap (λ (x : ConnectionState). caller_of x.session) (sym (same_talk second v.1))))
               | inr v ↦ settled.distinct one other first second w.1 v.1 callers
             ]
       ]
 
   seats-only : (caller : CallSign) (number : Option ℕ) → IsUploadOf (set places i (Talking c)) caller number → NoOtherOut store caller number
   seats-only caller number is =
-      elim (same-call caller c.session.caller) [
+      elim (same-call caller (caller_of c.session)) [
         | inl same ↦
             let one : number ≡ None = is.0 i c there (sym same) ∙ no_upload in
             subst (λ (x : Option ℕ). NoOtherOut store caller x) (sym one)
@@ -106,7 +108,7 @@ module _ (me : CallSign) (k : ℕ) (store : StoreState) (places : List Place) (i
               λ j e at theirs. is.0 j e (before j e (not-there j e at) at) theirs,
               λ nobody_has. is.1 (λ j e at theirs.
                   elim (at-set places i j (Talking c) e within at) [
-                    | inl w ↦ ne (sym theirs ∙ ap (λ (x : ConnectionState). x.session.caller) (sym (same_talk e w.1)))
+                    | inl w ↦ ne (sym theirs ∙ ap (λ (x : ConnectionState). caller_of x.session) (sym (same_talk e w.1)))
                     | inr w ↦ nobody_has j e w.1 theirs
                   ]),
             )
@@ -123,7 +125,8 @@ new-seated self c new = record {
   answers = new.stations.called;
   k_is = new.stations.k;
   up = new.up;
-  held = subst (λ (s : SessionState). IsHeld self.store s) (sym new.session) tt;
+  held = subst (λ (s : SessionState). IsHeld self.store s.uploads) (sym new.session) tt;
+  due = subst (λ (s : SessionState). IsDueIn (store_in self.store) s.downloads) (sym new.session) tt;
 }
 
 -- an empty place has no connection
@@ -145,4 +148,5 @@ server-seated old server place c d is talks = record {
   };
   says = all-set (SaysAs old.store) old.places server.slots place (Talking c) (connected d) is.says (record { rest = talks.rest; state = talks.state });
   store = is.store;
+  lists = is.lists;
 }

@@ -7,15 +7,19 @@ use Rattle.px_base.specs.CallSign.{CallSign}
 use Rattle.ax25_link.specs.Kept.{Kept}
 use Rattle.ax25_link.proofs.Places.{slice_get-set_other, slice_get-set_same}
 use Rattle.file_entries.specs.Files.{octets_or_none}
+use Rattle.file_entries.specs.Kept.{KeepsComplete}
 use Rattle.file_entries.specs.Store.{partial}
-use Rattle.file_store.specs.State.{StoreState}
+use Rattle.file_store.specs.State.{StoreState, store_in}
 use Rattle.file_store.specs.Upload.{entry_for}
 use Rattle.ftl0_uploads.specs.Others.{KeepsOtherCallers}
-use Rattle.ftl0_uploads.specs.Session.{is_same_call, receiving}
+use Rattle.ftl0_uploads.specs.Session.{State as Uploading, is_same_call, receiving}
 use Rattle.ftl0_uploads.specs.SessionState.{NoOtherOut, PhaseIsHeld, number_of, state_of}
 use Rattle.ftl0_uploads.specs.declared.phase.Phase.{Phase}
 use Rattle.ftl0_uploads.specs.declared.phase.Phase.TheVariants as phase
 use Rattle.ftl0_uploads.proofs.UploadRows.{same_call-decides}
+use Rattle.ftl0_downloads.proofs.DueLemmas.{due-kept}
+use Rattle.ftl0_session.specs.SessionState.{caller_of}
+use Rattle.ftl0_session.specs.Table.{state_by}
 use Rattle.ftl0_connection.specs.ConnectionState.{ConnectionState}
 use Rattle.ftl0_server.specs.AtPlace.{GoesOn, Works}
 use Rattle.ftl0_server.specs.declared.place.Place.{Place}
@@ -78,85 +82,87 @@ leaving-no link c same = cc
 -- ---- an event at the place of a connection
 
 module _ (me : CallSign) (k : ℕ) (before now : StoreState) (places : List Place) (i : ℕ) (old : ConnectionState) (at : IsAt places i old)
-    (settled : IsSettled me k before places) (others : KeepsOtherCallers before now old.session.caller) where
+    (settled : IsSettled me k before places) (others : KeepsOtherCallers before now (caller_of old.session)) where
   abbrev within : i < length places
   within = slice_get_within places i (Talking old) at
 
   -- a connection at another place has another caller
-  pub other-caller : (j : ℕ) (c : ConnectionState) → j ≢ i → IsAt places j c → c.session.caller ≢ old.session.caller
+  pub other-caller : (j : ℕ) (c : ConnectionState) → j ≢ i → IsAt places j c → caller_of c.session ≢ caller_of old.session
   other-caller j c ne there same = ne (settled.distinct j i c old there at same)
 
-  -- it is seated still
-  pub seated-kept : (j : ℕ) (c : ConnectionState) → j ≢ i → IsAt places j c → IsSeated me k now c
-  seated-kept j c ne there =
-      let was = settled.seated j c there in
-      record {
-        me_is = was.me_is;
-        peer_is = was.peer_is;
-        answers = was.answers;
-        k_is = was.k_is;
-        up = was.up;
-        held = held-kept before now old.session.caller others c.session.caller (other-caller j c ne there) c.session.phase was.held;
-      }
+  module _ (complete : KeepsComplete (store_in before) (store_in now)) where
+    -- it is seated still
+    pub seated-kept : (j : ℕ) (c : ConnectionState) → j ≢ i → IsAt places j c → IsSeated me k now c
+    seated-kept j c ne there =
+        let was = settled.seated j c there in
+        record {
+          me_is = was.me_is;
+          peer_is = was.peer_is;
+          answers = was.answers;
+          k_is = was.k_is;
+          up = was.up;
+          held = held-kept before now (caller_of old.session) others (caller_of c.session) (other-caller j c ne there) c.session.uploads.phase was.held;
+          due = (due-kept (store_in before) (store_in now) c.session.downloads complete was.due).0;
+        }
 
-  -- the place is this one now
-  module _ (p : Place) (same : (c : ConnectionState) → p ≡ Talking c → c.session.caller ≡ old.session.caller)
-      (seat : (c : ConnectionState) → p ≡ Talking c → IsSeated me k now c)
-      (own : (number : Option ℕ) → IsUploadOf (set places i p) old.session.caller number → NoOtherOut now old.session.caller number) where
-    set-seated : (j : ℕ) (c : ConnectionState) → IsAt (set places i p) j c → IsSeated me k now c
-    set-seated j c there =
-        elim (at-set places i j p c within there) [
-          | inl w ↦ seat c w.1
-          | inr w ↦ seated-kept j c w.0 w.1
-        ]
-
-    set-distinct : (one another : ℕ) (first second : ConnectionState) → IsAt (set places i p) one first → IsAt (set places i p) another second
-        → first.session.caller ≡ second.session.caller → one ≡ another
-    set-distinct one another first second a b callers =
-        elim (at-set places i one p first within a) [
-          | inl w ↦
-              elim (at-set places i another p second within b) [
-                | inl v ↦ w.0 ∙ sym v.0
-                | inr v ↦ absurd (other-caller another second v.0 v.1 (sym callers ∙ same first w.1))
-              ]
-          | inr w ↦
-              elim (at-set places i another p second within b) [
-                | inl v ↦ absurd (other-caller one first w.0 w.1 (callers ∙ same second v.1))
-                | inr v ↦ settled.distinct one another first second w.1 v.1 callers
-              ]
-        ]
-
-    set-upload : (caller : CallSign) (number : Option ℕ) → caller ≢ old.session.caller → IsUploadOf (set places i p) caller number
-        → IsUploadOf places caller number
-    set-upload caller number ne is = (
-      λ j c there theirs. elim (eqb_tells j i) [
-        | inl w ↦
-            let here : IsAt places i c = subst (λ (n : ℕ). IsAt places n c) w.1 there in
-            let one : c ≡ old = same-at places i c old here at in
-            absurd (ne (sym theirs ∙ ap (λ (x : ConnectionState). x.session.caller) one))
-        | inr w ↦ is.0 j c (slice_get-set_other places i j p w.1 ∙ there) theirs
-      ],
-      λ nobody. is.1 (λ j c there theirs.
+    -- the place is this one now
+    module _ (p : Place) (same : (c : ConnectionState) → p ≡ Talking c → caller_of c.session ≡ caller_of old.session)
+        (seat : (c : ConnectionState) → p ≡ Talking c → IsSeated me k now c)
+        (own : (number : Option ℕ) → IsUploadOf (set places i p) (caller_of old.session) number → NoOtherOut now (caller_of old.session) number) where
+      set-seated : (j : ℕ) (c : ConnectionState) → IsAt (set places i p) j c → IsSeated me k now c
+      set-seated j c there =
           elim (at-set places i j p c within there) [
-            | inl w ↦ ne (sym theirs ∙ same c w.1)
-            | inr w ↦ nobody j c w.1 theirs
-          ]),
-    )
+            | inl w ↦ seat c w.1
+            | inr w ↦ seated-kept j c w.0 w.1
+          ]
 
-    pub settled-set : IsSettled me k now (set places i p)
-    settled-set = record {
-      good = settled.good;
-      seated = set-seated;
-      distinct = set-distinct;
-      only = λ caller number is.
-          elim (same-call caller old.session.caller) [
-            | inl same_one ↦
-                subst (λ (x : CallSign). NoOtherOut now x number) (sym same_one)
-                (own number (subst (λ (x : CallSign). IsUploadOf (set places i p) x number) same_one is))
-            | inr ne ↦
-                out-kept before now old.session.caller others caller number ne (settled.only caller number (set-upload caller number ne is))
-          ];
-    }
+      set-distinct : (one another : ℕ) (first second : ConnectionState) → IsAt (set places i p) one first → IsAt (set places i p) another second
+          → caller_of first.session ≡ caller_of second.session → one ≡ another
+      set-distinct one another first second a b callers =
+          elim (at-set places i one p first within a) [
+            | inl w ↦
+                elim (at-set places i another p second within b) [
+                  | inl v ↦ w.0 ∙ sym v.0
+                  | inr v ↦ absurd (other-caller another second v.0 v.1 (sym callers ∙ same first w.1))
+                ]
+            | inr w ↦
+                elim (at-set places i another p second within b) [
+                  | inl v ↦ absurd (other-caller one first w.0 w.1 (callers ∙ same second v.1))
+                  | inr v ↦ settled.distinct one another first second w.1 v.1 callers
+                ]
+          ]
+
+      set-upload : (caller : CallSign) (number : Option ℕ) → caller ≢ caller_of old.session → IsUploadOf (set places i p) caller number
+          → IsUploadOf places caller number
+      set-upload caller number ne is = (
+        λ j c there theirs. elim (eqb_tells j i) [
+          | inl w ↦
+              let here : IsAt places i c = subst (λ (n : ℕ). IsAt places n c) w.1 there in
+              let one : c ≡ old = same-at places i c old here at in
+              absurd (ne (sym theirs ∙ ap (λ (x : ConnectionState). caller_of x.session) one))
+          | inr w ↦ is.0 j c (slice_get-set_other places i j p w.1 ∙ there) theirs
+        ],
+        λ nobody. is.1 (λ j c there theirs.
+            elim (at-set places i j p c within there) [
+              | inl w ↦ ne (sym theirs ∙ same c w.1)
+              | inr w ↦ nobody j c w.1 theirs
+            ]),
+      )
+
+      pub settled-set : IsSettled me k now (set places i p)
+      settled-set = record {
+        good = settled.good;
+        seated = set-seated;
+        distinct = set-distinct;
+        only = λ caller number is.
+            elim (same-call caller (caller_of old.session)) [
+              | inl same_one ↦
+                  subst (λ (x : CallSign). NoOtherOut now x number) (sym same_one)
+                  (own number (subst (λ (x : CallSign). IsUploadOf (set places i p) x number) same_one is))
+              | inr ne ↦
+                  out-kept before now (caller_of old.session) others caller number ne (settled.only caller number (set-upload caller number ne is))
+            ];
+      }
 
 -- a place that is what it was
 pub set-get : {X : Type 0} (xs : List X) (i : ℕ) (x : X) → slice_get xs i ≡ Some x → set xs i x ≡ xs
@@ -166,7 +172,8 @@ set-get (y ∷ ys) (suc i) x at = ap (λ zs. y ∷ zs) (set-get ys i x at)
 
 -- the connection goes on
 module _ (me : CallSign) (k : ℕ) (before now : StoreState) (places : List Place) (i : ℕ) (c : ConnectionState) (at : IsAt places i c)
-    (settled : IsSettled me k before places) (others : KeepsOtherCallers before now c.session.caller) where
+    (settled : IsSettled me k before places) (others : KeepsOtherCallers before now (caller_of c.session))
+    (complete : KeepsComplete (store_in before) (store_in now)) where
   goes_on-seat : (d : ConnectionState) → GoesOn now c d → (e : ConnectionState) → Talking d ≡ Talking e → IsSeated me k now e
   goes_on-seat d on e is =
       let one : d ≡ e = cc in
@@ -178,38 +185,39 @@ module _ (me : CallSign) (k : ℕ) (before now : StoreState) (places : List Plac
         k_is = on.stations.k ∙ was.k_is;
         up = on.up;
         held = on.held;
+        due = on.due;
       } in
       subst (λ (x : ConnectionState). IsSeated me k now x) one seat
 
-  goes_on-same : (d : ConnectionState) → GoesOn now c d → (e : ConnectionState) → Talking d ≡ Talking e → e.session.caller ≡ c.session.caller
-  goes_on-same d on e is = let one : d ≡ e = cc in ap (λ (x : ConnectionState). x.session.caller) (sym one) ∙ on.caller
+  goes_on-same : (d : ConnectionState) → GoesOn now c d → (e : ConnectionState) → Talking d ≡ Talking e → caller_of e.session ≡ caller_of c.session
+  goes_on-same d on e is = let one : d ≡ e = cc in ap (λ (x : ConnectionState). caller_of x.session) (sym one) ∙ on.caller
 
-  goes_on-own : (d : ConnectionState) → GoesOn now c d → (number : Option ℕ) → IsUploadOf (set places i (Talking d)) c.session.caller number
-      → NoOtherOut now c.session.caller number
+  goes_on-own : (d : ConnectionState) → GoesOn now c d → (number : Option ℕ) → IsUploadOf (set places i (Talking d)) (caller_of c.session) number
+      → NoOtherOut now (caller_of c.session) number
   goes_on-own d on number is =
       let here = slice_get-set_same places i (Talking d) (slice_get_within places i (Talking c) at) in
       let the_number = is.0 i d here on.caller in
-      subst (λ (x : Option ℕ). NoOtherOut now c.session.caller x) (sym the_number)
-      (subst (λ (x : CallSign). NoOtherOut now x (number_of d.session.phase)) on.caller on.only)
+      subst (λ (x : Option ℕ). NoOtherOut now (caller_of c.session) x) (sym the_number)
+      (subst (λ (x : CallSign). NoOtherOut now x (number_of d.session.uploads.phase)) on.caller on.only)
 
   pub settled-goes_on : (d : ConnectionState) → GoesOn now c d → IsSettled me k now (set places i (Talking d))
   settled-goes_on d on =
-      settled-set me k before now places i c at settled others (Talking d) (goes_on-same d on) (goes_on-seat d on) (goes_on-own d on)
+      settled-set me k before now places i c at settled others complete (Talking d) (goes_on-same d on) (goes_on-seat d on) (goes_on-own d on)
 
   -- its session is over
-  over-own : (link : Kept) → NoOtherOut now c.session.caller None → (number : Option ℕ) → IsUploadOf (set places i (Leaving link)) c.session.caller number
-      → NoOtherOut now c.session.caller number
+  over-own : (link : Kept) → NoOtherOut now (caller_of c.session) None → (number : Option ℕ) → IsUploadOf (set places i (Leaving link)) (caller_of c.session) number
+      → NoOtherOut now (caller_of c.session) number
   over-own link only number is =
       let none : number ≡ None = is.1 (λ j e there theirs.
       elim (at-set places i j (Leaving link) e (slice_get_within places i (Talking c) at) there) [
         | inl w ↦ leaving-no link e w.1
         | inr w ↦ other-caller me k before now places i c at settled others j e w.0 w.1 theirs
       ]) in
-      subst (λ (x : Option ℕ). NoOtherOut now c.session.caller x) (sym none) only
+      subst (λ (x : Option ℕ). NoOtherOut now (caller_of c.session) x) (sym none) only
 
-  pub settled-over : (link : Kept) → NoOtherOut now c.session.caller None → IsSettled me k now (set places i (Leaving link))
+  pub settled-over : (link : Kept) → NoOtherOut now (caller_of c.session) None → IsSettled me k now (set places i (Leaving link))
   settled-over link only =
-      settled-set me k before now places i c at settled others (Leaving link) (λ e is. absurd (leaving-no link e is)) (λ e is. absurd (leaving-no link e is)) (over-own link only)
+      settled-set me k before now places i c at settled others complete (Leaving link) (λ e is. absurd (leaving-no link e is)) (λ e is. absurd (leaving-no link e is)) (over-own link only)
 
 -- nothing changes
 unchanged : (me : CallSign) (k : ℕ) (before now : StoreState) (places : List Place) (i : ℕ) (old new : Place) → slice_get places i ≡ Some old
@@ -221,12 +229,12 @@ unchanged me k before now places i old new at settled store same =
 
 -- whatever the place becomes
 pub settled-works : (me : CallSign) (k : ℕ) (before now : StoreState) (places : List Place) (i : ℕ) (old new : Place) → slice_get places i ≡ Some old
-    → IsSettled me k before places → Works before now old new → IsSettled me k now (set places i new)
-settled-works me k before now places i Free new at settled works = unchanged me k before now places i Free new at settled works.0 works.1
-settled-works me k before now places i (Talking c) Free at settled works = absurd works.1
-settled-works me k before now places i (Talking c) (Talking d) at settled works = settled-goes_on me k before now places i c at settled works.0 d works.1
-settled-works me k before now places i (Talking c) (Leaving link) at settled works = settled-over me k before now places i c at settled works.0 link works.1
-settled-works me k before now places i (Leaving link) new at settled works = unchanged me k before now places i (Leaving link) new at settled works.0 works.1
+    → IsSettled me k before places → Works before now old new → KeepsComplete (store_in before) (store_in now) → IsSettled me k now (set places i new)
+settled-works me k before now places i Free new at settled works complete = unchanged me k before now places i Free new at settled works.0 works.1
+settled-works me k before now places i (Talking c) Free at settled works complete = absurd works.1
+settled-works me k before now places i (Talking c) (Talking d) at settled works complete = settled-goes_on me k before now places i c at settled works.0 complete d works.1
+settled-works me k before now places i (Talking c) (Leaving link) at settled works complete = settled-over me k before now places i c at settled works.0 complete link works.1
+settled-works me k before now places i (Leaving link) new at settled works complete = unchanged me k before now places i (Leaving link) new at settled works.0 works.1
 
 -- what another place is doesn't change
 pub says-kept : (me : CallSign) (k : ℕ) (before now : StoreState) (places : List Place) (i : ℕ) (old new : Place) → slice_get places i ≡ Some old
@@ -243,4 +251,5 @@ says-kept me k before now places i (Talking c) new at settled works j (Talking d
 says-kept me k before now places i (Talking c) new at settled works j (Talking d) (connected e) ne there says =
     let other = other-caller me k before now places i c at settled works.0 j d ne there in
     let held = (settled.seated j d there).held in
-    record { rest = says.rest; state = state-kept before now c.session.caller works.0 d.session.caller other d.session.phase held ∙ says.state }
+    let same = state-kept before now (caller_of c.session) works.0 (caller_of d.session) other d.session.uploads.phase held in
+    record { rest = says.rest; state = ap (λ (x : Uploading). state_by x d.session.downloads) same ∙ says.state }

@@ -23,6 +23,7 @@ server-ticked old server places store is all same = record {
   };
   says = all-to (IsPlace server.window store) (SaysAs store) places (map slot_ticking server.slots) (λ i p s at there both. both.1) all;
   store = same ∙ is.store;
+  lists = is.lists;
 }
 
 -- the frame is SABM, or is refused, or passed over

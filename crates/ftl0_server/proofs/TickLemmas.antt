@@ -6,6 +6,7 @@ use Rattle.px_base.specs.CallSign.{CallSign}
 use Rattle.ax25_link.specs.Window.{Window}
 use Rattle.file_store.specs.State.{StoreState}
 use Rattle.ftl0_uploads.specs.SessionState.{IsOnlyOut, number_of}
+use Rattle.ftl0_session.specs.SessionState.{caller_of}
 use Rattle.ftl0_connection.specs.ConnectionState.{ConnectionState}
 use Rattle.ftl0_server.specs.AtPlace.{IsPlace, MayTick, Works}
 use Rattle.ftl0_server.specs.declared.place.Place.{Place}
@@ -47,13 +48,13 @@ all-works w me k before now places slots i old new s at settled works all here =
 
 -- of its caller no upload is out but its own
 pub own-only : (me : CallSign) (k : ℕ) (store : StoreState) (places : List Place) (i : ℕ) (c : ConnectionState) → IsAt places i c
-    → IsSettled me k store places → IsOnlyOut store c.session
+    → IsSettled me k store places → IsOnlyOut store c.session.uploads
 own-only me k store places i c at settled =
-    settled.only c.session.caller (number_of c.session.phase) (
+    settled.only (caller_of c.session) (number_of c.session.uploads.phase) (
       λ j d there same.
           let here : j ≡ i = settled.distinct j i d c there at same in
           let one : d ≡ c = same-at places i d c (subst (λ (n : ℕ). IsAt places n d) here there) at in
-          ap (λ (x : ConnectionState). number_of x.session.phase) (sym one),
+          ap (λ (x : ConnectionState). number_of x.session.uploads.phase) (sym one),
       λ nobody. absurd (nobody i c at refl),
     )
 
@@ -74,6 +75,7 @@ may-tick me k store places i (Talking c) at settled none =
       up = seated.up;
       held = seated.held;
       only = own-only me k store places i c at settled;
+      due = seated.due;
     }
 may-tick me k store places i (Leaving link) at settled none = tt
 

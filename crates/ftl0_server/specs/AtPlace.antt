@@ -5,16 +5,21 @@ use Rattle.ax25_frames.specs.FrameText.{FrameValue}
 use Rattle.ax25_link.specs.Kept.{Fits, IsFromPeer, SameStations, is_pending}
 use Rattle.ax25_link.specs.Window.{Window}
 use Rattle.ax25_link.specs.declared.state.LinkState.TheVariants.{Up}
-use Rattle.file_store.specs.OnDisk.{CutsOff, Does}
-use Rattle.file_store.specs.State.{StoreState}
+use Rattle.selection_lists.specs.Lists.{CallerList}
+use Rattle.file_journal.specs.Calls.{Leaves}
+use Rattle.file_store.specs.OnDisk.{MakesFirst}
+use Rattle.file_store.specs.State.{StoreState, store_in}
+use Rattle.file_store.specs.Working.{CutsOffAmongReads, DoesAmongReads}
 use Rattle.ftl0_uploads.specs.Failures.{Failure, failed_write}
 use Rattle.ftl0_uploads.specs.Others.{KeepsOtherCallers}
 use Rattle.ftl0_uploads.specs.SessionState.{IsHeld, IsOnlyOut, NoOtherOut, Parks}
-use Rattle.ftl0_uploads.specs.declared.stop.ServerStop.{ServerStop}
-use Rattle.ftl0_uploads.specs.declared.stop.ServerStop.TheVariants as stop
-use Rattle.ftl0_connection.specs.ConnectionState.{ConnectionState}
+use Rattle.ftl0_downloads.specs.Needs.{IsDueIn}
+use Rattle.ftl0_session.specs.SessionState.{caller_of}
+use Rattle.ftl0_session.specs.declared.stop.ServerStop.{ServerStop}
+use Rattle.ftl0_session.specs.declared.stop.ServerStop.TheVariants as stop
+use Rattle.ftl0_connection.specs.ConnectionState.{ConnectionState, with_reads}
 use Rattle.ftl0_connection.specs.Hearing.{Happened}
-use Rattle.ftl0_connection.specs.Taking.{fails, goes_on, unbuilt}
+use Rattle.ftl0_connection.specs.Taking.{fails, goes_on}
 use Rattle.ftl0_server.specs.declared.place.Place.{Place}
 use Rattle.ftl0_server.specs.declared.place.Place.TheVariants.{Free, Talking, Leaving}
 use Rattle.ftl0_server.specs.ServerState.{SaysAs, SendsAs}
@@ -25,12 +30,13 @@ abbrev pub IsPlace : Window → StoreState → Place → Slot → Type 0
 IsPlace w store place slot = SendsAs w place slot × SaysAs store place slot
 
 -- The connection may take an event: nothing is pending, its link is up, and the store holds its session's upload, the
--- only one of its caller's that is out.
+-- only one of its caller's that is out, and the complete files of which it sends.
 pub record IsAwaiting (store : StoreState) (connection : ConnectionState) : Type 0 where
   pub quiet : is_pending connection.link ≡ false
   pub up : connection.link.state ≡ Up
-  pub held : IsHeld store connection.session
-  pub only : IsOnlyOut store connection.session
+  pub held : IsHeld store connection.session.uploads
+  pub only : IsOnlyOut store connection.session.uploads
+  pub due : IsDueIn (store_in store) connection.session.downloads
 
 -- the place may take a tick
 abbrev pub MayTick : StoreState → Place → Type 0
@@ -47,48 +53,59 @@ MayHear store frame (Leaving link) = ⊥
 -- the place has a connection, and the store holds its session's upload
 abbrev pub MayLeave : StoreState → Place → Type 0
 MayLeave store Free = ⊥
-MayLeave store (Talking connection) = IsHeld store connection.session
+MayLeave store (Talking connection) = IsHeld store connection.session.uploads
 MayLeave store (Leaving link) = ⊥
 
--- the connection is of the same stations and the same caller, its link is up, and the store holds its session's upload,
--- the only one of its caller's that is out
+-- The connection is of the same stations and the same caller, its link is up, and the store holds its session's upload,
+-- the only one of its caller's that is out, and the complete files of which it sends.
 pub record GoesOn (store : StoreState) (old new : ConnectionState) : Type 0 where
   pub stations : SameStations old.link new.link
-  pub caller : new.session.caller ≡ old.session.caller
+  pub caller : caller_of new.session ≡ caller_of old.session
   pub up : new.link.state ≡ Up
-  pub held : IsHeld store new.session
-  pub only : IsOnlyOut store new.session
+  pub held : IsHeld store new.session.uploads
+  pub only : IsOnlyOut store new.session.uploads
+  pub due : IsDueIn (store_in store) new.session.downloads
 
 -- what is left at the place of this connection: the connection, or its link, where no upload of its caller is out
 abbrev pub IsLeft : StoreState → ConnectionState → Place → Type 0
 IsLeft store old Free = ⊥
 IsLeft store old (Talking connection) = GoesOn store old connection
-IsLeft store old (Leaving link) = NoOtherOut store old.session.caller None
+IsLeft store old (Leaving link) = NoOtherOut store (caller_of old.session) None
 
 -- An event came at a place: the store keeps the uploads of other callers than the connection's. Where there is no
 -- connection nothing changes.
 abbrev pub Works : StoreState → StoreState → Place → Place → Type 0
 Works before now Free new = (now ≡ before) × (new ≡ Free)
 Works before now (Talking connection) new =
-    KeepsOtherCallers before now connection.session.caller × IsLeft now connection new
+    KeepsOtherCallers before now (caller_of connection.session) × IsLeft now connection new
 Works before now (Leaving link) new = (now ≡ before) × (new ≡ Leaving link)
 
--- What a frame that is heard at a place does, where `event` gives what it makes of the connection there by the event's
--- failures: as the connection's call says it, but that the place is the one that is left.
-abbrev pub PlaceHears :
-    {D : Type 0} → Ghosts D → Window → (List Failure → Happened) → StoreState → StoreState → D → D → Place
-    → Result ⊤ ServerStop → Type 0
-PlaceHears g w event store store_now disk disk_now place (Ok done) =
-    ((event []).halt ≡ goes_on) × IsPlace w store_now place (slot_after (event []))
-    × Does g ⊥ store store_now disk disk_now (event []).done
-PlaceHears g w event store store_now disk disk_now place (Err stop.Disk) =
+-- What a frame that is heard at a place does, where `event` gives what it makes of the connection there by the writes
+-- and syncs that fail in it: as the connection's call says it, but that the place is the one that is left.
+abbrev pub PlaceHearsBy :
+    {D : Type 0} → Ghosts D → Window → (List Failure → Happened) → StoreState → StoreState → List CallerList → D → D
+    → Place → Result ⊤ ServerStop → Type 0
+PlaceHearsBy g w event store store_now lists_now disk disk_now place (Ok done) =
+    ((event []).halt ≡ goes_on) × (lists_now ≡ (event []).lists) × IsPlace w store_now place (slot_after (event []))
+    × DoesAmongReads g ⊥ (event []).missed store store_now disk disk_now (event []).done
+PlaceHearsBy g w event store store_now lists_now disk disk_now place (Err stop.Disk) =
     (part : ℕ) × ((event (failed_write part)).halt ≡ fails) × SendsAs w place (slot_after (event (failed_write part)))
-    × CutsOff g ⊤ store store_now disk disk_now (event (failed_write part)).done (event (failed_write part)).cut
-PlaceHears g w event store store_now disk disk_now place (Err (stop.NotBuilt kind)) =
-    ((event []).halt ≡ unbuilt kind) × Does g ⊥ store store_now disk disk_now (event []).done
-PlaceHears g w event store store_now disk disk_now place (Err stop.OutOfMemory) =
+    × CutsOffAmongReads g ⊤ (event (failed_write part)).missed store store_now disk disk_now
+    (event (failed_write part)).done (event (failed_write part)).cut
+PlaceHearsBy g w event store store_now lists_now disk disk_now place (Err stop.OutOfMemory) =
     (part : ℕ) × ((event (failed_write part)).halt ≡ fails)
-    × Does g ⊥ store store_now disk disk_now (event (failed_write part)).done
+    × DoesAmongReads g ⊥ (event (failed_write part)).missed store store_now disk disk_now
+    (event (failed_write part)).done
+
+-- A frame was heard at a place, of which this is what it makes of the connection there by the failures of the disk;
+-- reads failed at these parts of it. Since it came each image stands for the store after the first of the commands that
+-- it has where no write and no sync fails, for some number of them.
+pub record PlaceHears {D : Type 0} (g : Ghosts D) (w : Window) (event : List Failure → Happened)
+    (store store_now : StoreState) (lists_now : List CallerList) (disk disk_now : D) (place : Place)
+    (result : Result ⊤ ServerStop) : Type 0 where
+  pub parts : List ℕ
+  pub by : PlaceHearsBy g w (with_reads event parts) store store_now lists_now disk disk_now place result
+  pub since : Leaves g disk disk_now (λ _. MakesFirst (store_in store) (with_reads event parts []).done)
 
 -- whatever end the place's link stands for, it is one that frames can bring about
 abbrev pub PlaceFits : Place → Type 0
@@ -102,9 +119,9 @@ AllFit places = (place : ℕ) (here : Place) → slice_get places place ≡ Some
 
 -- the session of this connection is over: its upload is parked
 pub record IsOver (before now : StoreState) (connection : ConnectionState) : Type 0 where
-  pub parks : Parks before now connection.session.phase
-  pub only : IsOnlyOut before connection.session → NoOtherOut now connection.session.caller None
-  pub others : KeepsOtherCallers before now connection.session.caller
+  pub parks : Parks before now connection.session.uploads.phase
+  pub only : IsOnlyOut before connection.session.uploads → NoOtherOut now (caller_of connection.session) None
+  pub others : KeepsOtherCallers before now (caller_of connection.session)
 
 -- the session at the place is over, and its link is left
 abbrev pub HasLeft : StoreState → StoreState → Place → Place → Type 0
@@ -115,7 +132,7 @@ HasLeft before now (Leaving link) new = ⊥
 -- the place may be ended: the store holds its session's upload
 abbrev pub MayEnd : StoreState → Place → Type 0
 MayEnd store Free = ⊤
-MayEnd store (Talking connection) = IsHeld store connection.session
+MayEnd store (Talking connection) = IsHeld store connection.session.uploads
 MayEnd store (Leaving link) = ⊤
 
 -- the session of the place is over, if there was one

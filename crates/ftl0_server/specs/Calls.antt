@@ -1,51 +1,55 @@
 -- What a server's calls do.
-use Rattle.std.specs.Prelude.{◌≡◌, ◌⊎◌, ℕ, List, [], ◌∷◌, slice_set, true, false, Bool, Option, None, Some, Result, Ok, Err, ⊤}
+use Rattle.std.specs.Prelude.{◌≡◌, ◌⊎◌, ℕ, List, [], ◌∷◌, slice_set, true, false, Bool, Option, None, Some}
+use Rattle.std.specs.Prelude.{Result, Ok, Err, ⊤}
 use Rattle.disk_model.specs.declared.disk.Disk.{Ghosts}
 use Rattle.ax25_frames.specs.FrameText.{FrameText, canonical}
 use Rattle.ax25_link.specs.Kept.{HasStations}
 use Rattle.ax25_link.specs.declared.state.LinkState.TheVariants.{Up}
 use Rattle.file_journal.specs.Calls.{Leaves}
-use Rattle.file_store.specs.OnDisk.{CutsOff, Does, MakesFirst}
+use Rattle.file_store.specs.OnDisk.{MakesFirst}
 use Rattle.file_store.specs.State.{store_in}
-use Rattle.ftl0_uploads.specs.declared.stop.ServerStop.{ServerStop}
-use Rattle.ftl0_uploads.specs.declared.stop.ServerStop.TheVariants as stop
+use Rattle.file_store.specs.Working.{CutsOffAmongReads, DoesAmongReads}
 use Rattle.ftl0_uploads.specs.Failures.{Failure, failed_write}
-use Rattle.ftl0_uploads.specs.SessionState.{new_session}
-use Rattle.ftl0_connection.specs.ConnectionState.{ConnectionState}
-use Rattle.ftl0_connection.specs.Taking.{fails, goes_on, unbuilt}
+use Rattle.ftl0_session.specs.SessionState.{caller_of, new_session}
+use Rattle.ftl0_session.specs.declared.stop.ServerStop.{ServerStop}
+use Rattle.ftl0_session.specs.declared.stop.ServerStop.TheVariants as stop
+use Rattle.ftl0_connection.specs.ConnectionState.{ConnectionState, with_reads}
+use Rattle.ftl0_connection.specs.Taking.{fails, goes_on}
 use Rattle.ftl0_server.specs.declared.place.Place.{Place}
 use Rattle.ftl0_server.specs.declared.place.Place.TheVariants.{Talking}
 use Rattle.ftl0_server.specs.Places.{SamePlace}
 use Rattle.ftl0_server.specs.Server.{Server, ServerHappened, ServerSends, server_next}
 use Rattle.ftl0_server.specs.ServerState.{IsServer, SendsFor, ServerState}
 
--- What an event does, where `event` gives what it makes of the server by the event's failures. Where all was taken
--- nothing failed, and its commands are done. Where the disk failed, at a write or a sync of some packet and nowhere
--- else, the commands before it are done, and it failed in one of that packet's; the frames that are pending then are
--- those of that step. Where a row isn't built the commands before are done. Where there was no memory none is done, as
--- for a new session, or, at some packet, those before it.
+-- What an event does, where `event` gives what it makes of the server by the writes and syncs that fail in it. Where
+-- all was taken none failed, and its commands are done. Where the disk failed, at a write or a sync of some packet and
+-- nowhere else, the commands before it are done, and it failed in one of that packet's; the frames that are pending
+-- then are those of that step. Where there was no memory none is done, as for a new session, or, at some packet, those
+-- before it. The count of failed reads rose exactly where a part told of one.
 abbrev pub HearsBy :
     {D : Type 0} → Ghosts D → (List Failure → ServerHappened) → ServerState → ServerState → D → D → Result ⊤ ServerStop
     → Type 0
 HearsBy g event old new disk disk_now (Ok done) =
     ((event []).halt ≡ goes_on) × IsServer new (event []).after
-    × Does g ⊥ old.store new.store disk disk_now (event []).done
+    × DoesAmongReads g ⊥ (event []).missed old.store new.store disk disk_now (event []).done
 HearsBy g event old new disk disk_now (Err stop.Disk) =
     (part : ℕ) × ((event (failed_write part)).halt ≡ fails) × SendsFor new (event (failed_write part)).after
-    × CutsOff g ⊤ old.store new.store disk disk_now (event (failed_write part)).done (event (failed_write part)).cut
-HearsBy g event old new disk disk_now (Err (stop.NotBuilt kind)) =
-    ((event []).halt ≡ unbuilt kind) × Does g ⊥ old.store new.store disk disk_now (event []).done
+    × CutsOffAmongReads g ⊤ (event (failed_write part)).missed old.store new.store disk disk_now
+    (event (failed_write part)).done (event (failed_write part)).cut
 HearsBy g event old new disk disk_now (Err stop.OutOfMemory) =
-    Does g ⊥ old.store new.store disk disk_now []
+    DoesAmongReads g ⊥ false old.store new.store disk disk_now []
     ⊎ ((part : ℕ) × ((event (failed_write part)).halt ≡ fails)
-    × Does g ⊥ old.store new.store disk disk_now (event (failed_write part)).done)
+    × DoesAmongReads g ⊥ (event (failed_write part)).missed old.store new.store disk disk_now
+    (event (failed_write part)).done)
 
--- An event came. Since it came each image stands for the store after the first of the commands that it has where
--- nothing fails, for some number of them: that is what a power cut inside it leaves.
+-- An event came, of which this is what it makes of the server by the failures of the disk; reads failed at these parts
+-- of it. Since it came each image stands for the store after the first of the commands that it has where no write and
+-- no sync fails, for some number of them: that is what a power cut inside it leaves.
 pub record Hears {D : Type 0} (g : Ghosts D) (event : List Failure → ServerHappened) (old new : ServerState)
     (disk disk_now : D) (result : Result ⊤ ServerStop) : Type 0 where
-  pub by : HearsBy g event old new disk disk_now result
-  pub since : Leaves g disk disk_now (λ _. MakesFirst (store_in old.store) (event []).done)
+  pub parts : List ℕ
+  pub by : HearsBy g (with_reads event parts) old new disk disk_now result
+  pub since : Leaves g disk disk_now (λ _. MakesFirst (store_in old.store) (with_reads event parts []).done)
 
 -- What is handed out where this is sent next: nothing, and nothing changes; or the octets of its frame in place of
 -- those that the buffer held. The server is then, in this sense, the one that has sent it.
@@ -74,19 +78,19 @@ pub record SameButLinks (old new : ServerState) : Type 0 where
   pub k : new.k ≡ old.k
   pub places : SamePlaces old.places new.places
   pub store : new.store ≡ old.store
+  pub lists : new.lists ≡ old.lists
 
 -- A frame of a station without a connection makes this of whichever server it was, or there is no memory, and nothing
 -- changes.
 abbrev pub HearsStranger : (Server → Server) → ServerState → ServerState → Result ⊤ ServerStop → Type 0
 HearsStranger step old new (Ok done) = (server : Server) → IsServer old server → IsServer new (step server)
 HearsStranger step old new (Err stop.Disk) = ⊥
-HearsStranger step old new (Err (stop.NotBuilt kind)) = ⊥
 HearsStranger step old new (Err stop.OutOfMemory) = new ≡ old
 
 -- A connection of this server's was just answered.
 pub record IsNew (self : ServerState) (connection : ConnectionState) : Type 0 where
-  pub stations : HasStations connection.link false self.me connection.session.caller self.k
-  pub session : connection.session ≡ new_session connection.session.caller
+  pub stations : HasStations connection.link false self.me (caller_of connection.session) self.k
+  pub session : connection.session ≡ new_session (caller_of connection.session)
   pub up : connection.link.state ≡ Up
 
 -- The connection is at this place now.

@@ -4,9 +4,11 @@ use Rattle.std.specs.Option.{option_map}
 use Rattle.px_base.specs.CallSign.{CallSign}
 use Rattle.ax25_link.specs.Window.{IsGoodK}
 use Rattle.ax25_link.specs.declared.state.LinkState.TheVariants.{Up}
-use Rattle.file_store.specs.State.{StoreState}
+use Rattle.file_store.specs.State.{StoreState, store_in}
 use Rattle.ftl0_connection.specs.ConnectionState.{ConnectionState}
 use Rattle.ftl0_uploads.specs.SessionState.{IsHeld, NoOtherOut, number_of}
+use Rattle.ftl0_downloads.specs.Needs.{AreComplete, IsDueIn}
+use Rattle.ftl0_session.specs.SessionState.{caller_of}
 use Rattle.ftl0_server.specs.declared.place.Place.{Place}
 use Rattle.ftl0_server.specs.declared.place.Place.TheVariants.{Talking}
 use Rattle.ftl0_server.specs.declared.server.Server.TheInside.{Inside}
@@ -18,33 +20,36 @@ use Rattle.ftl0_server.specs.ServerState.{ServerState}
 abbrev pub IsAt : List Place → ℕ → ConnectionState → Type 0
 IsAt places place connection = slice_get places place ≡ Some (Talking connection)
 
--- The connection is this station's, with this window, its link is up, and the store holds its session's upload.
+-- The connection is this station's, with this window, its link is up, and the store holds its session's upload and the
+-- complete files of which it sends.
 pub record IsSeated (me : CallSign) (k : ℕ) (store : StoreState) (connection : ConnectionState) : Type 0 where
   pub me_is : connection.link.me ≡ me
-  pub peer_is : connection.link.peer ≡ connection.session.caller
+  pub peer_is : connection.link.peer ≡ caller_of connection.session
   pub answers : connection.link.called ≡ false
   pub k_is : connection.link.k ≡ k
   pub up : connection.link.state ≡ Up
-  pub held : IsHeld store connection.session
+  pub held : IsHeld store connection.session.uploads
+  pub due : IsDueIn (store_in store) connection.session.downloads
 
 -- no caller has two connections
 abbrev pub AreDistinct : List Place → Type 0
 AreDistinct places =
     (one other : ℕ) (first second : ConnectionState) → IsAt places one first → IsAt places other second
-    → first.session.caller ≡ second.session.caller → one ≡ other
+    → caller_of first.session ≡ caller_of second.session → one ≡ other
 
 -- this is the number of the upload of this caller's session; none, where it has none or isn't connected
 abbrev pub IsUploadOf : List Place → CallSign → Option ℕ → Type 0
 IsUploadOf places caller number =
     ((place : ℕ) (connection : ConnectionState) → IsAt places place connection
-    → connection.session.caller ≡ caller → number ≡ number_of connection.session.phase)
+    → caller_of connection.session ≡ caller → number ≡ number_of connection.session.uploads.phase)
     × (((place : ℕ) (connection : ConnectionState) → IsAt places place connection
-    → connection.session.caller ≢ caller) → number ≡ None)
+    → caller_of connection.session ≢ caller) → number ≡ None)
 
 -- Each connection is seated, no caller has two, and of no caller is an upload out but that of its session.
 pub record IsSettled (me : CallSign) (k : ℕ) (store : StoreState) (places : List Place) : Type 0 where
   pub good : IsGoodK k
-  pub seated : (place : ℕ) (connection : ConnectionState) → IsAt places place connection → IsSeated me k store connection
+  pub seated :
+      (place : ℕ) (connection : ConnectionState) → IsAt places place connection → IsSeated me k store connection
   pub distinct : AreDistinct places
   pub only : (caller : CallSign) (number : Option ℕ) → IsUploadOf places caller number → NoOtherOut store caller number
 
@@ -52,8 +57,10 @@ pub record IsSettled (me : CallSign) (k : ℕ) (store : StoreState) (places : Li
 abbrev pub IsWorking : StoreState → List Place → Type 0
 IsWorking store places = (me : CallSign) × (k : ℕ) × IsSettled me k store places
 
-abbrev pub IsKept : Inside → Type 0
-IsKept a = IsSettled a.me a.k a.store a.places
+-- The places are settled, and the lists' numbers are those of complete files.
+pub record IsKept (a : Inside) : Type 0 where
+  pub settled : IsSettled a.me a.k a.store a.places
+  pub complete : AreComplete (store_in a.store) a.lists
 
 -- the DM to a station without a connection
 abbrev pub refused_of : Stray → Refused
@@ -62,4 +69,11 @@ refused_of stray = record { to = stray.to; final = stray.poll }
 -- a server's fields as contracts see them
 abbrev pub server_state : Inside → ServerState
 server_state a =
-    record { me = a.me; k = a.k; places = a.places; stray = option_map refused_of a.stray; store = a.store }
+    record {
+      me = a.me;
+      k = a.k;
+      places = a.places;
+      stray = option_map refused_of a.stray;
+      store = a.store;
+      lists = a.lists;
+    }

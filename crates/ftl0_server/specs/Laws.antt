@@ -1,10 +1,12 @@
 -- Laws of a server's steps.
-use Rattle.std.specs.Prelude.{◌≡◌, List, [], ◌∷◌, ⊤}
+use Rattle.std.specs.Prelude.{◌≡◌, List, [], ◌∷◌, Bool, ⊤}
 use Rattle.ax25_frames.specs.FrameText.{FrameValue}
 use Rattle.ax25_link.specs.Ends.{IsEnd}
 use Rattle.ax25_link.specs.Window.{Window}
 use Rattle.file_entries.specs.Command.{Command}
+use Rattle.file_entries.specs.Store.{Store}
 use Rattle.ftl0_uploads.specs.Failures.{Failure}
+use Rattle.ftl0_connection.specs.Laws.{IsQueued}
 use Rattle.ftl0_connection.specs.Taking.{Halt}
 use Rattle.node_events.specs.Events.{NodeEvent}
 use Rattle.ftl0_server.specs.Server.{IsSilent, Server}
@@ -12,22 +14,23 @@ use Rattle.ftl0_server.specs.ServerStep.{ServerStep}
 use Rattle.ftl0_server.specs.Slots.{Slot, connected, free, leaving}
 
 -- what a step gives
-pub record SameStep (done those_done cut those_cut : List Command) (halt that_halt : Halt)
+pub record SameStep (done those_done cut those_cut : List Command) (missed that_missed : Bool) (halt that_halt : Halt)
     (frames those : List FrameValue) (new that : Server) : Type 0 where
   pub commands : done ≡ those_done
   pub cuts : cut ≡ those_cut
+  pub misses : missed ≡ that_missed
   pub halts : halt ≡ that_halt
   pub sent : frames ≡ those
   pub server : new ≡ that
 
--- With these failures an event has at most one step.
+-- With these failures an event has at most one step, whether they list reads or not.
 abbrev pub OneStepLaw : Type 0
 OneStepLaw =
     (old : Server) (event : NodeEvent) (failures : List Failure) (done those_done cut those_cut : List Command)
-    (halt that_halt : Halt) (frames those : List FrameValue) (new that : Server)
-    → ServerStep old event failures done cut halt frames new
-    → ServerStep old event failures those_done those_cut that_halt those that
-    → SameStep done those_done cut those_cut halt that_halt frames those new that
+    (missed that_missed : Bool) (halt that_halt : Halt) (frames those : List FrameValue) (new that : Server)
+    → ServerStep old event failures done cut missed halt frames new
+    → ServerStep old event failures those_done those_cut that_missed that_halt those that
+    → SameStep done those_done cut those_cut missed that_missed halt that_halt frames those new that
 
 -- the end at this place, if there is one, is such as frames and ticks bring about
 abbrev pub SlotFits : Window → Slot → Type 0
@@ -39,19 +42,32 @@ abbrev pub SlotsFit : Window → List Slot → Type 0
 SlotsFit w [] = ⊤
 SlotsFit w (slot ∷ slots) = SlotFits w slot × SlotsFit w slots
 
--- The server has nothing to send, and the ends of its links are such as frames and ticks bring about.
+-- all that is due at this place was queued, as far as there was room
+abbrev pub SlotIsQueued : Store → Slot → Type 0
+SlotIsQueued store free = ⊤
+SlotIsQueued store (connected c) = IsQueued store c.state c.end
+SlotIsQueued store (leaving end) = ⊤
+
+abbrev pub AreQueued : Store → List Slot → Type 0
+AreQueued store [] = ⊤
+AreQueued store (slot ∷ slots) = SlotIsQueued store slot × AreQueued store slots
+
+-- The server has nothing to send, the ends of its links are such as frames and ticks bring about, and all that is due
+-- was queued at them, as far as there was room: a tick has nothing to queue.
 pub record MayStep (server : Server) : Type 0 where
   pub silent : IsSilent server
   pub fits : SlotsFit server.window server.slots
+  pub queued : AreQueued server.store server.slots
 
 -- A step of the server for this event with these failures, after which it may step again.
 pub record HasStep (old : Server) (event : NodeEvent) (failures : List Failure) : Type 0 where
   pub done : List Command
   pub cut : List Command
+  pub missed : Bool
   pub halt : Halt
   pub frames : List FrameValue
   pub new : Server
-  pub step : ServerStep old event failures done cut halt frames new
+  pub step : ServerStep old event failures done cut missed halt frames new
   pub may_step : MayStep new
 
 -- With any failures an event has a step.

@@ -45,4 +45,5 @@ PlaceGives old new before after answer =
 abbrev pub PlacesGive : Option PlacesSend → Window → List Place → List ℕ → Bool → Type 0
 PlacesGive None w now after answer = answer ≡ false
 PlacesGive (Some sends) w now after answer =
-    (answer ≡ true) × AllPlaces (SendsAs w) now sends.after × (after ≡ canonical sends.frame) × FrameText sends.frame after
+    (answer ≡ true) × AllPlaces (SendsAs w) now sends.after × (after ≡ canonical sends.frame)
+    × FrameText sends.frame after

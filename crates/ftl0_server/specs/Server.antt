@@ -1,18 +1,22 @@
--- A server as the definitions have it: eight places, and a store (AX.25 2.0, 2.4; FTL0 1990).
-use Rattle.std.specs.Prelude.{◌≡◌, ℕ, List, [], ◌∷◌, ◌&&◌, Bool, true, false, map, slice_get, slice_set, if◌then◌else◌, Option, None, Some}
+-- A server as the definitions have it: eight places, a store, and the lists that its callers selected (AX.25 2.0, 2.4;
+-- FTL0 1990).
+use Rattle.std.specs.Prelude.{◌≡◌, ℕ, List, [], ◌∷◌, ◌&&◌, Bool, true, false, map, slice_get, slice_set}
+use Rattle.std.specs.Prelude.{if◌then◌else◌, Option, None, Some}
 use Rattle.px_base.specs.CallSign.{CallSign}
 use Rattle.ax25_frames.specs.FrameText.{FrameValue}
 use Rattle.ax25_frames.specs.declared.control.Control.TheVariants as control
 use Rattle.ax25_frames.specs.Values.{bare_value}
 use Rattle.ax25_link.specs.Rows.{is_call}
 use Rattle.ax25_link.specs.Window.{Window}
+use Rattle.selection_lists.specs.Lists.{CallerList, has_left}
 use Rattle.file_entries.specs.Command.{Command, after_all}
 use Rattle.file_entries.specs.Store.{Store}
 use Rattle.ftl0_uploads.specs.Failures.{Failure}
 use Rattle.ftl0_connection.specs.Connected.{answering}
 use Rattle.ftl0_connection.specs.Hearing.{Happened, hearing}
 use Rattle.ftl0_connection.specs.Taking.{Halt, goes_on}
-use Rattle.ftl0_server.specs.Slots.{PlacesSend, Slot, all_freed, connected, first_empty, free, leaving, place_of, places_next, slot_after, slot_ticking}
+use Rattle.ftl0_server.specs.Slots.{PlacesSend, Slot, all_freed, connected, first_empty, free, leaving, place_of}
+use Rattle.ftl0_server.specs.Slots.{places_next, slot_after, slot_ticking}
 
 -- eight free places
 abbrev pub all_free : List Slot
@@ -23,30 +27,33 @@ pub record Refused : Type 0 where
   pub to : CallSign
   pub final : Bool
 
--- its call, the window of its links, its places, the DM that is to be sent, and its store
+-- its call, the window of its links, its places, the DM that is to be sent, its store, and the lists of all callers,
+-- whether they are connected or not
 pub record Server : Type 0 where
   pub me : CallSign
   pub window : Window
   pub slots : List Slot
   pub stray : Option Refused
   pub store : Store
+  pub lists : List CallerList
 
--- a server without sessions
+-- a server without sessions and without lists
 abbrev pub new_server : CallSign → Window → Store → Server
 new_server me window store =
-    record { me = me; window = window; slots = all_free; stray = None; store = store }
+    record { me = me; window = window; slots = all_free; stray = None; store = store; lists = [] }
 
--- What a frame makes of a server: what it is then; the store's commands that are done, and those in one of which the
--- disk failed; and why no more of the frame was taken.
+-- What a frame makes of a server: what it is then; whether any part of the event told that a read failed; the store's
+-- commands that are done, and those in one of which the disk failed; and why no more of the frame was taken.
 pub record ServerHappened : Type 0 where
   pub after : Server
+  pub missed : Bool
   pub done : List Command
   pub cut : List Command
   pub halt : Halt
 
 -- the server is this one, and nothing is done to the store
 abbrev pub becoming : Server → ServerHappened
-becoming server = record { after = server; done = []; cut = []; halt = goes_on }
+becoming server = record { after = server; missed = false; done = []; cut = []; halt = goes_on }
 
 -- the place is this one
 abbrev pub with_slot : Server → ℕ → Slot → Server
@@ -60,18 +67,23 @@ refusing server to final = record server { stray = Some (record { to = to; final
 abbrev pub heard_at : Server → ℕ → Happened → ServerHappened
 heard_at server place happened =
     record {
-      after = record (with_slot server place (slot_after happened)) { store = after_all server.store happened.done };
+      after =
+          record (with_slot server place (slot_after happened)) {
+            store = after_all server.store happened.done;
+            lists = happened.lists;
+          };
+      missed = happened.missed;
       done = happened.done;
       cut = happened.cut;
       halt = happened.halt;
     }
 
 -- A station without a connection says SABM with this P bit: it gets the lowest free place, or DM with F = P where none
--- is free (AX.25 2.0, 2.4.3.1).
+-- is free (AX.25 2.0, 2.4.3.1). LOGIN_RESP says whether numbers are left in its list (FTL0 1990, LOGIN_RESP).
 abbrev pub called_by : Server → CallSign → Bool → ℕ → Option ℕ → Server
 called_by server caller poll moment None = refusing server caller poll
 called_by server caller poll moment (Some place) =
-    with_slot server place (connected (answering server.me caller poll moment))
+    with_slot server place (connected (answering server.me caller poll moment (has_left server.lists caller)))
 
 -- A frame of a station without a connection: SABM calls; any other command with P = 1 gets DM with F = 1, and the rest
 -- is passed over (AX.25 2.0, 2.4.3.4).
@@ -87,7 +99,7 @@ hearing_at server frame moment failures place None = becoming server
 hearing_at server frame moment failures place (Some free) = becoming server
 hearing_at server frame moment failures place (Some (leaving end)) = becoming server
 hearing_at server frame moment failures place (Some (connected c)) =
-    heard_at server place (hearing server.window moment server.store c frame failures)
+    heard_at server place (hearing server.window moment server.store server.lists c frame failures)
 
 -- by the place of the sender's connection, if it has one
 abbrev pub hearing_by : Server → FrameValue → ℕ → List Failure → Option ℕ → ServerHappened

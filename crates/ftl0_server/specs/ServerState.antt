@@ -5,8 +5,9 @@ use Rattle.px_base.specs.CallSign.{CallSign}
 use Rattle.ax25_link.specs.Kept.{StandsFor, count_of, is_pending, is_there, most_pending}
 use Rattle.ax25_link.specs.Window.{Window, window_of}
 use Rattle.ftl0_uploads.specs.Session.{is_same_call}
-use Rattle.ftl0_uploads.specs.SessionState.{state_of}
+use Rattle.selection_lists.specs.Lists.{CallerList}
 use Rattle.file_store.specs.State.{StoreState, store_in}
+use Rattle.ftl0_session.specs.SessionState.{caller_of, state_in}
 use Rattle.ftl0_connection.specs.Connected.{Connected}
 use Rattle.ftl0_connection.specs.ConnectionState.{ConnectionState}
 use Rattle.ftl0_server.specs.declared.place.Place.{Place}
@@ -14,13 +15,14 @@ use Rattle.ftl0_server.specs.declared.place.Place.TheVariants.{Free, Talking, Le
 use Rattle.ftl0_server.specs.Server.{Refused, Server}
 use Rattle.ftl0_server.specs.Slots.{Slot, connected, free, leaving}
 
--- its call, the window k of its links, its places, the DM that is to be sent, and its store
+-- its call, the window k of its links, its places, the DM that is to be sent, its store, and the lists of all callers
 pub record ServerState : Type 0 where
   pub me : CallSign
   pub k : ℕ
   pub places : List Place
   pub stray : Option Refused
   pub store : StoreState
+  pub lists : List CallerList
 
 -- the place's link is the one of that place, as far as frames go
 abbrev pub SendsAs : Window → Place → Slot → Type 0
@@ -37,7 +39,7 @@ SendsAs w (Leaving link) (leaving end) = StandsFor w link end
 -- what the session of a connection has come to, over this store
 pub record TalksAs (store : StoreState) (connection : ConnectionState) (c : Connected) : Type 0 where
   pub rest : connection.octets ≡ c.rest
-  pub state : state_of store connection.session.phase ≡ c.state
+  pub state : state_in store connection.session ≡ c.state
 
 -- the same of a place, where it has a session
 abbrev pub SaysAs : StoreState → Place → Slot → Type 0
@@ -66,6 +68,7 @@ pub record IsServer (self : ServerState) (server : Server) : Type 0 where
   pub sends : SendsFor self server
   pub says : AllPlaces (SaysAs self.store) self.places server.slots
   pub store : store_in self.store ≡ server.store
+  pub lists : self.lists ≡ server.lists
 
 -- a frame is to be sent
 abbrev pub place_pending : Place → Bool
@@ -101,7 +104,7 @@ is_empty_place (Leaving link) = true
 -- the place has a session of this caller
 abbrev pub has_caller : CallSign → Place → Bool
 has_caller caller Free = false
-has_caller caller (Talking connection) = is_same_call connection.session.caller caller
+has_caller caller (Talking connection) = is_same_call (caller_of connection.session) caller
 has_caller caller (Leaving link) = false
 
 -- how many sessions are up

@@ -49,7 +49,7 @@ slot_after happened = left_by happened.over happened.after
 -- the place after a tick
 abbrev pub slot_ticking : Slot → Slot
 slot_ticking free = free
-slot_ticking (connected c) = slot_after (ticking c)
+slot_ticking (connected c) = left_by (ticking c).over (ticking c).after
 slot_ticking (leaving end) = leaving end
 
 -- a frame that a place sends, and the place then

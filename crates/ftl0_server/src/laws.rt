@@ -8,6 +8,7 @@ ghost use Rattle.ftl0_server.specs.ServerState.{SendsFor};
 ghost use Rattle.ftl0_server.specs.ServerStep.{Empties};
 
 use crate::Server;
+use ftl0_connection::laws::queued_law;
 
 /// A server comes to send nothing, after some list of frames, whatever was pushed and heard. Takes no memory.
 pub fn empties_law(server: &Server)
@@ -23,8 +24,11 @@ pub fn one_step_law()
     ensures { OneStepLaw }
 {}
 
-/// With any failures of the disk an event has a step, for a server that has nothing to send and whose links' ends are
-/// such as frames and ticks bring about; and it is such a server after it.
+/// With any failures of the disk an event has a step, for a server that has nothing to send, whose links' ends are such
+/// as frames and ticks bring about, and that queued all that is due as far as there was room; and it is such a server
+/// after it.
 pub fn some_step_law()
     ensures { SomeStepLaw }
-{}
+{
+    queued_law();
+}

@@ -1,5 +1,6 @@
-//! The server of FTL0 sessions on the air: up to eight callers' connections, over one store of files on a disk (AX.25
-//! 2.0, 2.4; FTL0 1990). Frames and ticks go in, frames come out. It knows no modem and no clock.
+//! The server of FTL0 sessions on the air: up to eight callers' connections, over one store of files on a disk and the
+//! selections of all callers (AX.25 2.0, 2.4; FTL0 1990). Frames and ticks go in, frames come out. It knows no modem
+//! and no clock.
 #![tactic(auto)]
 
 pub mod laws;
@@ -10,5 +11,5 @@ mod stray;
 #[cfg(test)]
 mod tests;
 
-pub use ftl0_uploads::{Replies, ServerStop, Session};
+pub use ftl0_session::ServerStop;
 pub use server::{PLACES, Server};

@@ -4,12 +4,13 @@ ghost use Rattle.std.specs.Prelude.{◌≡◌, ◌<◌, [], false, true, IsErrOf
 ghost use Rattle.ax25_frames.specs.Values.{value_of};
 ghost use Rattle.ax25_link.specs.Window.{Window};
 ghost use Rattle.file_entries.specs.Kept.{KeepsComplete};
-ghost use Rattle.file_journal.specs.Calls.{Leaves, Puts};
-ghost use Rattle.file_store.specs.OnDisk.{MakesFirst};
 ghost use Rattle.file_store.specs.State.{StandsOn, store_in};
+ghost use Rattle.file_store.specs.Working.{PutsAmongReads};
+ghost use Rattle.ftl0_downloads.specs.Needs.{AreComplete};
 ghost use Rattle.ftl0_connection.specs.Connected.{Connected};
 ghost use Rattle.ftl0_connection.specs.Hearing.{hearing};
-ghost use Rattle.ftl0_server.specs.AtPlace.{HasEnded, HasLeft, IsPlace, MayEnd, MayHear, MayLeave, MayTick, PlaceFits, PlaceHears, Works};
+ghost use Rattle.ftl0_server.specs.AtPlace.{HasEnded, HasLeft, IsPlace, MayEnd, MayHear, MayLeave, MayTick, PlaceFits};
+ghost use Rattle.ftl0_server.specs.AtPlace.{PlaceHears, Works};
 ghost use Rattle.ftl0_server.specs.Slots.{Slot, connected, slot_ticking};
 ghost use Rattle.ftl0_server.specs.Places.{PlaceGives, SamePlace};
 ghost use Rattle.ftl0_server.specs.ServerState.{has_caller, is_empty_place, place_most, place_pending};
@@ -20,8 +21,9 @@ use ax25_link::Link;
 use disk_model::Disk;
 use file_store::FileStore;
 use ftl0_connection::{Connection, Fate};
-use ftl0_uploads::ServerStop;
+use ftl0_session::ServerStop;
 use px_base::Call;
+use selection_lists::Lists;
 use std::mem;
 
 /// A place of a server.
@@ -102,27 +104,27 @@ impl Place {
         &mut self,
         disk: &mut D,
         store: &mut FileStore,
+        lists: &mut Lists,
         frame: &Frame<'_>,
         moment: u32,
     ) -> Result<(), ServerStop>
         requires may { MayHear store.old (value_of frame.now) self.old }
         requires healthy { store.old.journal.failed ≡ false }
         requires stands_on { StandsOn D.Disk store.old disk.old }
+        requires complete { AreComplete (store_in store.old) lists.old }
         ensures hears { (w : Window) (c : Connected) → IsPlace w store.old self.old (connected c) →
-            PlaceHears D.Disk w (hearing w moment (store_in store.old) c (value_of frame.now))
-            store.old store.new disk.old disk.new self.new result }
-        ensures since { (w : Window) (c : Connected) → IsPlace w store.old self.old (connected c) →
-            Leaves D.Disk disk.old disk.new (λ _. MakesFirst (store_in store.old)
-            (hearing w moment (store_in store.old) c (value_of frame.now) []).done) }
-        ensures puts { Puts D.Disk (IsErrOf result ServerStop.Disk) disk.old disk.new }
+            PlaceHears D.Disk w (hearing w moment (store_in store.old) lists.old c (value_of frame.now))
+            store.old store.new lists.new disk.old disk.new self.new result }
+        ensures puts { PutsAmongReads D.Disk (IsErrOf result ServerStop.Disk) disk.old disk.new }
         ensures kept { KeepsComplete (store_in store.old) (store_in store.new) }
         ensures works { Works store.old store.new self.old self.new }
         ensures healthy { ¬ IsErrOf result ServerStop.Disk → store.new.journal.failed ≡ false }
         ensures stands_on { StandsOn D.Disk store.new disk.new }
+        ensures complete { AreComplete (store_in store.new) lists.new }
     {
         match self {
             Place::Talking(connection) => {
-                let (fate, heard) = connection.hear(disk, store, frame, moment);
+                let (fate, heard) = connection.hear(disk, store, lists, frame, moment);
                 if let Fate::Ends = fate {
                     self.leave(store);
                 }

@@ -9,7 +9,8 @@ ghost use Rattle.ftl0_server.specs.AtPlace.{AllFit, IsPlace, MayAllEnd};
 ghost use Rattle.ftl0_server.specs.Calls.{SamePlaces};
 ghost use Rattle.ftl0_server.specs.Kept.{IsSettled, IsWorking};
 ghost use Rattle.ftl0_server.specs.Places.{PlacesGive};
-ghost use Rattle.ftl0_server.specs.ServerState.{AllPlaces, any_pending, has_caller, is_empty_place, SendsAs, places_most, sessions_in};
+ghost use Rattle.ftl0_server.specs.ServerState.{AllPlaces, SendsAs, any_pending, has_caller, is_empty_place};
+ghost use Rattle.ftl0_server.specs.ServerState.{places_most, sessions_in};
 ghost use Rattle.ftl0_server.specs.Slots.{Slot, places_next, slot_ticking};
 
 use crate::PLACES;

@@ -1,6 +1,6 @@
 //! The server.
 
-ghost use Rattle.std.specs.Prelude.{◌≡◌, ◌<◌, ◌≤◌, ℕ, false, true, IfOk, IsErrOf, None, Ok, OnOk, Some};
+ghost use Rattle.std.specs.Prelude.{◌≡◌, ◌<◌, ◌≤◌, ℕ, [], false, true, IfErr, IfOk, IsErrOf, None, Ok, OnOk, Some};
 ghost use Rattle.std.specs.List.{position};
 ghost use Rattle.ax25_frames.specs.Kinds.{FitsControl};
 ghost use Rattle.ax25_frames.specs.Values.{kind_value, value_of};
@@ -9,10 +9,12 @@ ghost use Rattle.ax25_link.specs.Window.{IsGoodK, window_of};
 ghost use Rattle.file_entries.specs.Kept.{KeepsComplete};
 ghost use Rattle.file_entries.specs.IsStore.{IsStore};
 ghost use Rattle.file_entries.specs.Records.{store_magic};
-ghost use Rattle.file_journal.specs.Calls.{Becomes, Leaves, Puts, Runs, TakesStep};
+ghost use Rattle.file_journal.specs.Calls.{Becomes, Leaves, Runs, TakesStep};
 ghost use Rattle.file_journal.specs.Journal.{after_recovery};
 ghost use Rattle.file_store.specs.Recovery.{IsRecovered, LeavesAlikeSinceSync, RefusesRecovery, StandsAlike};
 ghost use Rattle.file_store.specs.State.{StandsOn, store_in};
+ghost use Rattle.file_store.specs.Working.{PutsAmongReads};
+ghost use Rattle.ftl0_session.specs.SessionState.{caller_of};
 ghost use Rattle.node_events.specs.Events.{IsFor, ticks};
 ghost use Rattle.ftl0_server.specs.ServerStep.{happening};
 ghost use Rattle.ftl0_server.specs.AtPlace.{AllFit};
@@ -34,8 +36,9 @@ use disk_model::Disk;
 use file_store::laws::state_law;
 use file_store::{FileStore, Limits, StoreFault};
 use ftl0_connection::Connection;
-use ftl0_uploads::ServerStop;
+use ftl0_session::ServerStop;
 use px_base::{Call, OutOfMemory};
+use selection_lists::Lists;
 use std::alloc::Global;
 use std::marker::Model;
 
@@ -43,9 +46,9 @@ use std::marker::Model;
 pub const PLACES: usize = 8;
 
 /// A server of FTL0 sessions. After each frame and each tick the frames that are pending are handed out by `next_out`,
-/// and only then it takes the next frame or tick. It must be closed, which parks all uploads. Contracts see it as a
-/// `ServerState`; they speak of the servers of the definitions that it stands for, whose links have all that was
-/// pushed, sent and taken.
+/// and only then it takes the next frame or tick. What a caller selects is kept whether it is connected or not. The
+/// server must be closed, which parks all uploads. Contracts see it as a `ServerState`; they speak of the servers of
+/// the definitions that it stands for, whose links have all that was pushed, sent and taken.
 pub struct Server {
     alloc: Global,
     me: Call,
@@ -53,6 +56,7 @@ pub struct Server {
     places: [Place; PLACES],
     stray: Option<Stray>,
     store: FileStore,
+    lists: Lists,
 }
 
 impl Model for Server {
@@ -67,8 +71,9 @@ impl Model for Server {
 }
 
 impl Server {
-    /// Recovers the store from the disk, as [`FileStore::recover`] does, and starts a server of it, without sessions:
-    /// the station `me`, with at most k I frames outstanding on each link; `good_k(k)` holds. Takes memory.
+    /// Recovers the store from the disk, as [`FileStore::recover`] does, and starts a server of it, without sessions
+    /// and without selections: the station `me`, with at most k I frames outstanding on each link; `good_k(k)` holds.
+    /// Takes memory, for the selections about 260 KiB behind the recovery.
     ///
     /// `NotAStore` and `Damaged` leave the disk's content as it was. After `Disk` and `OutOfMemory` the disk is to be
     /// recovered again.
@@ -103,6 +108,7 @@ impl Server {
     {
         let store = FileStore::recover(alloc, disk, limits)?;
         state_law(&store);
+        let lists = new_lists(alloc)?;
         Ok(Server {
             alloc,
             me,
@@ -119,6 +125,7 @@ impl Server {
             ],
             stray: None,
             store,
+            lists,
         })
     }
 
@@ -126,8 +133,9 @@ impl Server {
     /// is pending. A frame of a connected caller is its connection's ([`Connection::hear`]). SABM of another station
     /// begins a session at the lowest free place, or is refused by DM where there is none; any other command with P = 1
     /// of such a station gets DM, and the rest is passed over (AX.25 2.0, 2.4.3). The commands of the frame's packets
-    /// are on the disk before any frame is given out. It costs the frame's octets, finding its sender among eight, and
-    /// what its packets cost the store. Takes memory for a new session and for what packets bring.
+    /// are on the disk before any frame is given out. A read of the disk that fails is told by code 3, and the server
+    /// goes on. It costs the frame's octets, finding its sender among eight, what its packets cost the store, and the
+    /// octets of the files that it sends. Takes memory for a new session and for what packets bring.
     ///
     /// After `Disk` the frames that are pending are given out first, code 3 among them; after any other stop none is.
     /// Then the server is closed.
@@ -145,8 +153,9 @@ impl Server {
 
         // Of whichever server it stands for, it is what the frame makes of that, or it stops.
         ensures hears { (server : ServerValue) → IsServer self.old server →
-            Hears D.Disk (server_hearing server (value_of frame.now) moment) self.old self.new disk.old disk.new result }
-        ensures puts { Puts D.Disk (IsErrOf result ServerStop.Disk) disk.old disk.new }
+            Hears D.Disk (server_hearing server (value_of frame.now) moment)
+            self.old self.new disk.old disk.new result }
+        ensures puts { PutsAmongReads D.Disk (IsErrOf result ServerStop.Disk) disk.old disk.new }
         ensures kept { KeepsComplete (store_in self.old.store) (store_in self.new.store) }
 
         // What the next event needs.
@@ -161,8 +170,8 @@ impl Server {
     }
 
     /// Counts a tick on each link, while nothing is pending (AX.25 2.0, 2.4.7): a session is over whose caller doesn't
-    /// answer any more. So far a tick has nothing to do on the disk, and its moment makes no difference. It costs the
-    /// eight places. Takes no memory.
+    /// answer any more. It frees no octets of a link, so nothing more of what is due is queued. So far a tick has
+    /// nothing to do on the disk, and its moment makes no difference. It costs the eight places. Takes no memory.
     pub fn tick<D: Disk>(&mut self, _disk: &mut D, _moment: u32) -> Result<(), ServerStop>
         requires silent { server_pending self.old ≡ false }
         requires healthy { self.old.store.journal.failed ≡ false }
@@ -172,13 +181,14 @@ impl Server {
         // What a power cut inside it leaves, said as of a frame.
         ensures happens { (server : ServerValue) → IsServer self.old server →
             Hears D.Disk (happening server (ticks _moment)) self.old self.new _disk.old _disk.new result }
-        ensures puts { Puts D.Disk (IsErrOf result ServerStop.Disk) _disk.old _disk.new }
+        ensures puts { PutsAmongReads D.Disk (IsErrOf result ServerStop.Disk) _disk.old _disk.new }
         ensures kept { KeepsComplete (store_in self.old.store) (store_in self.new.store) }
         ensures ticks { (server : ServerValue) → IsServer self.old server → IsServer self.new (server_ticking server) }
         ensures untouched { _disk.new ≡ _disk.old }
         ensures healthy { self.new.store.journal.failed ≡ false }
         ensures stands_on { StandsOn D.Disk self.new.store _disk.new }
         ensures store { store_in self.new.store ≡ store_in self.old.store }
+        ensures lists { self.new.lists ≡ self.old.lists }
         ensures me { self.new.me ≡ self.old.me }
     {
         tick_all(&mut self.places, &mut self.store);
@@ -231,8 +241,8 @@ impl Server {
         all_fit_law(&self.places);
     }
 
-    /// Ends all sessions, and parks their uploads: what is held stays on the disk, which isn't touched. Takes no
-    /// memory.
+    /// Ends all sessions, and parks their uploads: what is held stays on the disk, which isn't touched. All selections
+    /// are gone. Takes no memory.
     pub fn close(self) {
         let Server {
             alloc: _,
@@ -241,6 +251,7 @@ impl Server {
             places,
             stray: _,
             store,
+            lists: _,
         } = self;
         let mut store = store;
         end_all(places, &mut store);
@@ -261,8 +272,9 @@ impl Server {
         requires healthy { self.old.store.journal.failed ≡ false }
         requires stands_on { StandsOn D.Disk self.old.store disk.old }
         ensures hears { (server : ServerValue) → IsServer self.old server →
-            Hears D.Disk (server_hearing server (value_of frame.now) moment) self.old self.new disk.old disk.new result }
-        ensures puts { Puts D.Disk (IsErrOf result ServerStop.Disk) disk.old disk.new }
+            Hears D.Disk (server_hearing server (value_of frame.now) moment)
+            self.old self.new disk.old disk.new result }
+        ensures puts { PutsAmongReads D.Disk (IsErrOf result ServerStop.Disk) disk.old disk.new }
         ensures kept { KeepsComplete (store_in self.old.store) (store_in self.new.store) }
         ensures healthy { ¬ IsErrOf result ServerStop.Disk → self.new.store.journal.failed ≡ false }
         ensures stands_on { StandsOn D.Disk self.new.store disk.new }
@@ -270,7 +282,7 @@ impl Server {
     {
         let places: &mut [Place] = &mut self.places;
         let at = &mut places[place];
-        at.hear(disk, &mut self.store, frame, moment)
+        at.hear(disk, &mut self.store, &mut self.lists, frame, moment)
     }
 
     /// Hears a frame of a station without a connection (AX.25 2.0, 2.4.3).
@@ -290,8 +302,9 @@ impl Server {
         Ok(())
     }
 
-    /// Answers a SABM with this P bit of a station without a connection: by a session at the lowest free place, or by
-    /// DM where none is free (AX.25 2.0, 2.4.3.1).
+    /// Answers a SABM with this P bit of a station without a connection: by a session at the lowest free place, whose
+    /// LOGIN_RESP says whether numbers are left in the station's list, or by DM where none is free (AX.25 2.0, 2.4.3.1;
+    /// FTL0 1990, LOGIN_RESP).
     fn answer(&mut self, caller: Call, poll: bool, moment: u32) -> Result<(), ServerStop>
         requires { position (has_caller caller) self.old.places ≡ None }
         ensures heard { HearsStranger (λ server. called_by server caller poll moment (first_empty server.slots))
@@ -303,7 +316,16 @@ impl Server {
             self.refuse(caller, poll);
             return Ok(());
         };
-        match Connection::answer(self.alloc, self.me, caller, self.k, poll, moment) {
+        let answered = Connection::answer(
+            self.alloc,
+            self.me,
+            caller,
+            self.k,
+            poll,
+            moment,
+            &self.lists,
+        );
+        match answered {
             Ok(connection) => {
                 self.seat(place, connection);
                 Ok(())
@@ -325,7 +347,7 @@ impl Server {
     /// Seats a connection at this place, which has no session, of a caller that has none.
     fn seat(&mut self, place: usize, connection: Connection)
         requires empty { position is_empty_place self.old.places ≡ Some place }
-        requires stranger { position (has_caller connection.session.caller) self.old.places ≡ None }
+        requires stranger { position (has_caller (caller_of connection.session)) self.old.places ≡ None }
         requires new { IsNew self.old connection }
         ensures seats { Seats place connection self.old self.new }
         ensures store { self.new.store ≡ self.old.store }
@@ -342,4 +364,12 @@ fn is_sabm(kind: &Kind<'_>) -> bool
     ensures { result ≡ is_call (kind_value kind.now).control }
 {
     matches!(kind, Kind::Sabm)
+}
+
+/// No selections. Takes memory.
+fn new_lists(alloc: Global) -> Result<Lists, StoreFault>
+    ensures lists { IfOk result (λ lists. lists ≡ []) }
+    ensures memory { IfErr result (λ fault. fault ≡ StoreFault.OutOfMemory) }
+{
+    Lists::new(alloc).map_err(|_| StoreFault::OutOfMemory)
 }

@@ -1,82 +1,92 @@
 -- How a server goes on over events, and how it stops.
-use Rattle.std.proofs.Common.{ℕ, List, [], ◌∷◌, ◌++◌, refl, ap, sym, ◌∙◌, append_assoc, append-nil}
+use Rattle.std.proofs.Common.{ℕ, List, [], ◌∷◌, ◌++◌, Bool, false, ◌||◌, refl, ap, sym, ◌∙◌, append_assoc, append-nil}
+use Rattle.std.proofs.Math.Bool.{or-false, or_assoc}
 use Rattle.ax25_frames.specs.FrameText.{FrameValue}
 use Rattle.file_entries.specs.Command.{Command}
 use Rattle.node_events.specs.Events.{NodeEvent}
-use Rattle.ftl0_connection.specs.Taking.{goes_on}
 use Rattle.ftl0_server.specs.Server.{Server}
-use Rattle.ftl0_server.specs.ServerStep.{ServerStep}
 use Rattle.session_node.specs.declared.stop.NodeStop.{NodeStop}
-use Rattle.server_node.specs.Serving.{ServesOver, StopsAt, StopsBehind, StopsOver, text_of}
+use Rattle.server_node.specs.Serving.{ServesOver, StopsAt, StopsBehind, StopsOver, TakesEvent, text_of}
 use Rattle.server_node.proofs.SendingLemmas.{text-append}
 
 -- one event
-pub serves-one : (server : Server) (event : NodeEvent) (done : List Command) (sent : List FrameValue) (next : Server) → ServerStep server event [] done [] goes_on sent next
-    → ServesOver server (event ∷ []) sent done next
-serves-one server event done sent next step = (done, sent, next, [], [], step, sym (append-nil sent), sym (append-nil done), (refl, refl, refl))
+pub serves-one : (server : Server) (event : NodeEvent) (done : List Command) (sent : List FrameValue) (told : Bool) (next : Server)
+    → TakesEvent server event sent done told next → ServesOver server (event ∷ []) sent done told next
+serves-one server event done sent told next taken =
+    (done, sent, told, next, [], [], false, taken, sym (append-nil sent), sym (append-nil done), sym (or-false told), (refl, refl, refl, refl))
 
 -- events and then others
 pub serves-append :
-    (server : Server) (events : List NodeEvent) (frames : List FrameValue) (commands : List Command) (mid : Server) (others : List NodeEvent) (more : List FrameValue) (further : List Command) (now : Server)
-    → ServesOver server events frames commands mid → ServesOver mid others more further now → ServesOver server (events ++ others) (frames ++ more) (commands ++ further) now
-serves-append server [] frames commands mid others more further now h k = rw (h.0, h.1, sym h.2) k
-serves-append server (e ∷ events) frames commands mid others more further now h k = (
+    (server : Server) (events : List NodeEvent) (frames : List FrameValue) (commands : List Command) (missed : Bool) (mid : Server) (others : List NodeEvent) (more : List FrameValue) (further : List Command)
+    (other : Bool) (now : Server) → ServesOver server events frames commands missed mid → ServesOver mid others more further other now
+    → ServesOver server (events ++ others) (frames ++ more) (commands ++ further) (missed || other) now
+serves-append server [] frames commands missed mid others more further other now h k = rw (h.0, h.1, h.2, sym h.3) k
+serves-append server (e ∷ events) frames commands missed mid others more further other now h k = (
   h.0,
   h.1,
   h.2,
-  h.3 ++ further,
-  h.4 ++ more,
-  h.5,
-  ap (λ (fs : List FrameValue). fs ++ more) h.6 ∙ append_assoc h.1 h.4 more,
-  ap (λ (cs : List Command). cs ++ further) h.7 ∙ append_assoc h.0 h.3 further,
-  serves-append h.2 events h.4 h.3 mid others more further now h.8 k,
+  h.3,
+  h.4 ++ further,
+  h.5 ++ more,
+  h.6 || other,
+  h.7,
+  ap (λ (fs : List FrameValue). fs ++ more) h.8 ∙ append_assoc h.1 h.5 more,
+  ap (λ (cs : List Command). cs ++ further) h.9 ∙ append_assoc h.0 h.4 further,
+  ap (λ (b : Bool). b || other) h.10 ∙ or_assoc h.2 h.6 other,
+  serves-append h.3 events h.5 h.4 h.6 mid others more further other now h.11 k,
 )
 
 module _ (why : NodeStop) (writes writes_n : ℕ) (cut : List Command) where
   -- a stop at the first event
-  pub stops-at : (server : Server) (event : NodeEvent) (text : List ℕ) (done : List Command) → StopsAt why server event writes writes_n text done cut
-      → StopsOver server (event ∷ []) why writes writes_n text done cut
-  stops-at server event text done h = record {
+  pub stops-at : (server : Server) (event : NodeEvent) (text : List ℕ) (done : List Command) (missed : Bool) → StopsAt why server event writes writes_n text done cut missed
+      → StopsOver server (event ∷ []) why writes writes_n text done cut missed
+  stops-at server event text done missed h = record {
     before = [];
     next = event;
     later = [];
     events_are = refl;
     frames = [];
     commands = [];
+    first_missed = false;
     server_then = server;
-    serves = (refl, refl, refl);
+    serves = (refl, refl, refl, refl);
     last = text;
     more = done;
+    last_missed = missed;
     stops = h;
     text_is = refl;
     done_is = refl;
+    missed_is = refl;
   }
 
   -- a stop with further events behind it
-  pub stops-longer : (server : Server) (events others : List NodeEvent) (text : List ℕ) (done : List Command) → StopsOver server events why writes writes_n text done cut
-      → StopsOver server (events ++ others) why writes writes_n text done cut
-  stops-longer server events others text done h = record {
+  pub stops-longer : (server : Server) (events others : List NodeEvent) (text : List ℕ) (done : List Command) (missed : Bool) → StopsOver server events why writes writes_n text done cut missed
+      → StopsOver server (events ++ others) why writes writes_n text done cut missed
+  stops-longer server events others text done missed h = record {
     before = h.before;
     next = h.next;
     later = h.later ++ others;
     events_are = ap (λ (es : List NodeEvent). es ++ others) h.events_are ∙ append_assoc h.before (h.next ∷ h.later) others;
     frames = h.frames;
     commands = h.commands;
+    first_missed = h.first_missed;
     server_then = h.server_then;
     serves = h.serves;
     last = h.last;
     more = h.more;
+    last_missed = h.last_missed;
     stops = h.stops;
     text_is = h.text_is;
     done_is = h.done_is;
+    missed_is = h.missed_is;
   }
 
   -- events, and a stop at one of others, behind them
   pub stops-behind :
-      (server : Server) (events : List NodeEvent) (frames : List FrameValue) (commands : List Command) (mid : Server) (others : List NodeEvent) (text : List ℕ) (done : List Command)
-      → ServesOver server events frames commands mid → StopsOver mid others why writes writes_n text done cut
-      → StopsBehind events server (events ++ others) why writes writes_n (text_of frames ++ text) (commands ++ done) cut
-  stops-behind server events frames commands mid others text done h k = record {
+      (server : Server) (events : List NodeEvent) (frames : List FrameValue) (commands : List Command) (missed : Bool) (mid : Server) (others : List NodeEvent) (text : List ℕ) (done : List Command)
+      (other : Bool) → ServesOver server events frames commands missed mid → StopsOver mid others why writes writes_n text done cut other
+      → StopsBehind events server (events ++ others) why writes writes_n (text_of frames ++ text) (commands ++ done) cut (missed || other)
+  stops-behind server events frames commands missed mid others text done other h k = record {
     stops =
         record {
           before = events ++ k.before;
@@ -85,15 +95,18 @@ module _ (why : NodeStop) (writes writes_n : ℕ) (cut : List Command) where
           events_are = ap (λ (es : List NodeEvent). events ++ es) k.events_are ∙ sym (append_assoc events k.before (k.next ∷ k.later));
           frames = frames ++ k.frames;
           commands = commands ++ k.commands;
+          first_missed = missed || k.first_missed;
           server_then = k.server_then;
-          serves = serves-append server events frames commands mid k.before k.frames k.commands k.server_then h k.serves;
+          serves = serves-append server events frames commands missed mid k.before k.frames k.commands k.first_missed k.server_then h k.serves;
           last = k.last;
           more = k.more;
+          last_missed = k.last_missed;
           stops = k.stops;
           text_is =
               ap (λ (t : List ℕ). text_of frames ++ t) k.text_is ∙ sym (append_assoc (text_of frames) (text_of k.frames) k.last)
               ∙ ap (λ (t : List ℕ). t ++ k.last) (sym (text-append frames k.frames));
           done_is = ap (λ (cs : List Command). commands ++ cs) k.done_is ∙ sym (append_assoc commands k.commands k.more);
+          missed_is = ap (λ (b : Bool). missed || b) k.missed_is ∙ sym (or_assoc missed k.first_missed k.last_missed);
         };
     between = k.before;
     in_order = refl;

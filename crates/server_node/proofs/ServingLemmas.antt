@@ -1,37 +1,38 @@
 -- A server from the recovery of its store to its end.
 use Rattle.std.proofs.Common.{◌≡◌, inl, inr, ⊎_elim, ℕ, ◌+◌, ◌*◌, ◌≤◌, List, [], ◌∷◌, ◌++◌, length, refl, sym, ◌∙◌, ap, subst, arith, Option, IfSome, false}
-use Rattle.std.specs.Prelude.{Result, Ok, Err, IsErrOf}
+use Rattle.std.specs.Prelude.{Bool, Result, Ok, Err, IsErrOf}
 use Rattle.px_base.specs.declared.air.Air.{Ghosts as AirGhosts}
 use Rattle.px_base.specs.declared.air.Turn.{Turn}
 use Rattle.disk_model.specs.declared.disk.Disk.{Ghosts}
-use Rattle.file_journal.specs.Calls.{Becomes, CountsFault, Leaves, Puts, Runs, TakesStep, TellsAlike, images_now}
+use Rattle.file_journal.specs.Calls.{Becomes, ChangesReads, Leaves, Runs, TakesStep, TellsAlike, images_now}
 use Rattle.file_journal.specs.Journal.{after_recovery}
 use Rattle.file_journal.specs.Recovery.{IsFailedSync, IsSyncedFirst}
 use Rattle.file_journal.specs.Walk.{state}
-use Rattle.file_journal.proofs.CallLemmas.{stops_on}
-use Rattle.file_journal.proofs.ToldLemmas.{alike_on, at_told, if_told, told_before, told_weaker}
+use Rattle.file_journal.proofs.CallLemmas.{reads_now}
+use Rattle.file_journal.proofs.ToldLemmas.{at_told, if_told, told_before, told_weaker}
 use Rattle.file_entries.specs.Command.{Command}
 use Rattle.file_entries.specs.IsStore.{IsStore}
 use Rattle.file_entries.specs.Records.{store_magic}
 use Rattle.file_entries.specs.Store.{Store}
-use Rattle.file_store.specs.OnDisk.{CutsOff, Does, StayDone, after_first}
+use Rattle.file_store.specs.OnDisk.{StayDone, after_first}
 use Rattle.file_store.specs.Recovery.{IsRecovered, LeavesAlikeSinceSync, RefusesRecovery, StandsAlike}
 use Rattle.file_store.specs.State.{StandsFor, StoreState, standing_of, store_in}
+use Rattle.file_store.specs.Working.{CutsOffAmongReads, DoesAmongReads}
 use Rattle.file_store.specs.declared.refusals.StoreFault.{StoreFault}
 use Rattle.file_store.specs.declared.refusals.StoreFault.TheVariants as fault
 use Rattle.file_store.proofs.DoesLemmas.{after_first-all}
+use Rattle.file_store.proofs.WorkingLemmas.{cuts-among-all, cuts-among-puts}
 use Rattle.ax25_link.specs.Window.{window_of}
 use Rattle.ftl0_server.specs.Server.{new_server}
 use Rattle.ftl0_server.specs.ServerState.{IsServer, ServerState, server_pending}
 use Rattle.session_node.specs.declared.stop.NodeStop.{NodeStop}
 use Rattle.session_node.specs.declared.stop.NodeStop.TheVariants as stop
 use Rattle.session_node.specs.declared.terms.Served.{Served}
-use Rattle.session_node.specs.OnDisk.{EachImage, LeavesStanding}
+use Rattle.session_node.specs.OnDisk.{EachImage, LeavesStanding, NodeRuns}
 use Rattle.session_node.specs.SessionRan.{TurnsBy}
 use Rattle.session_node.specs.Stops.{RefusesSession, stop_of_fault}
-use Rattle.session_node.proofs.DiskLemmas.{cuts_does, cuts_puts}
 use Rattle.session_node.proofs.Sessions.{append-none, refused_exactly, refused_leaves, refused_runs}
-use Rattle.session_node.proofs.Standing.{own_blocks, runs_of_puts, runs_same, stands_through}
+use Rattle.session_node.proofs.Standing.{node_runs, own_blocks, runs_same, session_puts, session_reads, stands_through}
 use Rattle.server_node.specs.declared.terms.ServerTerms.{ServerTerms}
 use Rattle.server_node.specs.Node.{IsServing, IsUp, NodeState, TakesTurns}
 use Rattle.server_node.specs.Served.{ServerServed, server_from}
@@ -93,20 +94,20 @@ started_up g terms old mid self started = record {
 module _ {D : Type 0} (g : Ghosts D) (on : (first second third : D) → g.lasts first second → g.lasts second third → g.lasts first third)
     (earlier : (disk : D) (t u : ℕ) (image : List ℕ) → t ≤ u → g.images_since disk u image → g.images_since disk t image) (failed : Type 0) (fine : ¬ failed) (blocks : ℕ) (old mid now : D) (start new : StoreState)
     (alike : TellsAlike (g.content old) (g.content mid)) (stood : IfSome (g.content old) (λ before. standing_of blocks before ≡ state (store_in start)))
-    (since_sync : IfSome (g.content old) (λ before. IsSyncedFirst g old mid (StandsAlike blocks before))) where
+    (since_sync : IfSome (g.content old) (λ before. IsSyncedFirst g old mid (StandsAlike blocks before))) (missed : Bool) where
   -- without commands each image is one that the recovery left
-  left_none : Does g failed start new mid now [] → EachImage g now (λ image. StandsFor image (store_in new))
+  left_none : DoesAmongReads g failed missed start new mid now [] → EachImage g now (λ image. StandsFor image (store_in new))
   left_none does = if_told (g.content now) _ (λ octets told image here.
       let middle = told_before (g.content mid) (g.content now) octets does.puts.told told in
       let first = told_before (g.content old) (g.content mid) middle.0 alike middle.1 in
       let synced = at_told (λ (before : List ℕ). IsSyncedFirst g old mid (StandsAlike blocks before)) first.0 first.1 since_sync in
-      let there : images_now g mid image = subst (λ (disk : D). images_now g disk image) (does.none refl) here in
+      let there : images_now g mid image = reads_now g mid now (does.none refl) image here in
       let same = (synced.each image (earlier mid (g.moment old + 1) (g.moment mid) image synced.later there)).same in
       subst (λ (s : Store). StandsFor image s) (sym (does.done fine).0)
       (own_blocks blocks image (store_in start) (same ∙ at_told (λ (before : List ℕ). standing_of blocks before ≡ state (store_in start)) first.0 first.1 stood)))
 
   -- and else one with all of them
-  left_some : (command : Command) (commands : List Command) → Does g failed start new mid now (command ∷ commands) → EachImage g now (λ image. StandsFor image (store_in new))
+  left_some : (command : Command) (commands : List Command) → DoesAmongReads g failed missed start new mid now (command ∷ commands) → EachImage g now (λ image. StandsFor image (store_in new))
   left_some command commands does = if_told (g.content now) _ (λ octets told image here.
       let all : List Command = command ∷ commands in
       let middle = told_before (g.content mid) (g.content now) octets does.puts.told told in
@@ -118,26 +119,13 @@ module _ {D : Type 0} (g : Ghosts D) (on : (first second third : D) → g.lasts 
       subst (λ (s : Store). StandsFor image s)
       (ap (λ (n : ℕ). after_first n (store_in start) all) count ∙ after_first-all all (store_in start) ∙ sym (does.done fine).0) made.3)
 
-  left_by : (commands : List Command) → Does g failed start new mid now commands → EachImage g now (λ image. StandsFor image (store_in new))
+  left_by : (commands : List Command) → DoesAmongReads g failed missed start new mid now commands → EachImage g now (λ image. StandsFor image (store_in new))
   left_by [] does = left_none does
   left_by (command ∷ commands) does = left_some command commands does
 
   -- each image stands for the store that was come to, where the disk didn't fail
-  pub left_at_end : (done cut : List Command) → CutsOff g failed start new mid now done cut → EachImage g now (λ image. StandsFor image (store_in new))
-  left_at_end done cut cuts = left_by (done ++ cut) (cuts_does g on failed start new mid now done cut cuts)
-
--- writes and syncs after calls that didn't fail
-puts_after : {D : Type 0} (g : Ghosts D) (on : (first second third : D) → g.lasts first second → g.lasts second third → g.lasts first third) (old mid now : D) (P : Type 0) → ¬ P → (failed : Type 0)
-    → Runs g P old mid → Puts g failed mid now → Puts g failed old now
-puts_after g on old mid now P never failed first second =
-    let same = first.faults.same never in
-    record {
-      told = alike_on _ _ _ first.told second.told;
-      reads = second.reads ∙ same.0;
-      faults = subst (λ (n : ℕ). CountsFault n (g.write_faults now) failed) same.1 second.faults;
-      stops = stops_on g on old mid now first.lasts same.0 same.1 second.stops;
-      lasts = on old mid now first.lasts second.lasts;
-    }
+  pub left_at_end : (done cut : List Command) → CutsOffAmongReads g failed missed start new mid now done cut → EachImage g now (λ image. StandsFor image (store_in new))
+  left_at_end done cut cuts = left_by (done ++ cut) (cuts-among-all g on failed missed start new mid now done cut cuts)
 
 module _ {A C D : Type 0} (g : Ghosts D) (air : AirGhosts A) (given : C → Option (List ℕ)) (on : (first second third : D) → g.lasts first second → g.lasts second third → g.lasts first third)
     (earlier : (disk : D) (t u : ℕ) (image : List ℕ) → t ≤ u → g.images_since disk u image → g.images_since disk t image) (old mid now : D) (before after : A) (clock clock_n : C) (terms : ServerTerms)
@@ -147,9 +135,10 @@ module _ {A C D : Type 0} (g : Ghosts D) (air : AirGhosts A) (given : C → Opti
       → IfSome (g.content old) (λ octets. IsSyncedFirst g old mid (StandsAlike terms.limits.blocks octets)) → ServerServed g air given old now before after clock clock_n terms result
   server_served octets since_start synced =
       let standing =
-      stands_through g on (IsErrOf result stop.Disk) terms.limits.blocks old mid now node.server.store node_n.server.store served.done served.cut ok.told started.recovered.content since_start synced served.cuts
-      (λ still. left_at_end g on earlier (IsErrOf result stop.Disk) still terms.limits.blocks old mid now node.server.store node_n.server.store ok.told started.recovered.content synced served.done served.cut
-      served.cuts) in
+      stands_through g on (IsErrOf result stop.Disk) terms.limits.blocks old mid now node.server.store node_n.server.store served.done served.cut served.missed ok.told started.recovered.content since_start synced
+      served.cuts
+      (λ still. left_at_end g on earlier (IsErrOf result stop.Disk) still terms.limits.blocks old mid now node.server.store node_n.server.store ok.told started.recovered.content synced served.missed served.done
+      served.cut served.cuts) in
       record {
         start = store_in node.server.store;
         rules = started.rules;
@@ -161,24 +150,24 @@ module _ {A C D : Type 0} (g : Ghosts D) (air : AirGhosts A) (given : C → Opti
         text = served.text;
         done = served.done;
         cut = served.cut;
+        missed = served.missed;
         turns_heard = served.turns_heard;
         moments_given = served.moments_given;
         text_said = served.text_said;
         ran = served.ran;
         puts =
-            puts_after g on old mid now failed fine (IsErrOf result stop.Disk) ok (cuts_puts g on (IsErrOf result stop.Disk) node.server.store node_n.server.store mid now served.done served.cut served.cuts);
+            session_puts g on (IsErrOf result stop.Disk) terms.limits.blocks old mid now node.server.store node_n.server.store served.done served.cut served.missed ok.told started.recovered.content since_start synced
+            served.cuts failed fine ok
+            (cuts-among-puts g on (IsErrOf result stop.Disk) served.missed node.server.store node_n.server.store mid now served.done served.cut served.cuts);
+        reads =
+            session_reads g on (IsErrOf result stop.Disk) terms.limits.blocks old mid now node.server.store node_n.server.store served.done served.cut served.missed ok.told started.recovered.content since_start synced
+            served.cuts failed fine ok;
         stands = standing.0;
         ready = standing.1;
         none = λ none.
             let both = append-none served.done served.cut none in
-            served.cuts.second.none both.1 ∙ served.cuts.first.none both.0;
+            subst (λ (d : D). ChangesReads g mid d) (sym (served.cuts.second.none both.1)) (served.cuts.first.none both.0);
       }
-
-  -- its calls of the disk
-  pub server_runs : Runs g (IsErrOf result stop.Disk) old now
-  server_runs =
-      runs_of_puts g (IsErrOf result stop.Disk) old now
-      (puts_after g on old mid now failed fine (IsErrOf result stop.Disk) ok (cuts_puts g on (IsErrOf result stop.Disk) node.server.store node_n.server.store mid now served.done served.cut served.cuts))
 
   -- no server is refused that served
   never_refused : (why : NodeStop) → ((turns : List Turn) → TurnsBy (Err why) terms.polls turns → ⊥) → IsErrOf result why → ⊥
@@ -189,6 +178,11 @@ module _ {A C D : Type 0} (g : Ghosts D) (air : AirGhosts A) (given : C → Opti
     not_a_store = λ found. (λ is. absurd (never_refused (stop.NotAStore found) (λ turns h. h) is), λ none. absurd (cc (sym stood ∙ none)));
     damaged = λ at. (λ is. absurd (never_refused (stop.Damaged at) (λ turns h. h) is), λ none. absurd (cc (sym stood ∙ none)));
   }) started.recovered.content
+
+-- its calls of the disk
+pub server_runs : {A C D : Type 0} (g : Ghosts D) (air : AirGhosts A) (given : C → Option (List ℕ)) (old now : D) (before after : A) (clock clock_n : C) (terms : ServerTerms) (result : Result Served NodeStop)
+    → ServerServed g air given old now before after clock clock_n terms result → NodeRuns g (IsErrOf result stop.Disk) old now
+server_runs g air given old now before after clock clock_n terms result served = node_runs g (IsErrOf result stop.Disk) old now served.puts
 
 -- the first sync passed, where the recovery did
 pub start_synced : {D T : Type 0} (g : Ghosts D) (blocks : ℕ) (value : T) (old mid : D) → LeavesAlikeSinceSync {T = T} g blocks (Ok value) old mid

@@ -1,13 +1,13 @@
 -- The store of a server is the one after its commands.
 use Rattle.std.proofs.Common.{◌≡◌, ℕ, List, [], ◌∷◌, ◌++◌, Bool, true, false, Option, None, Some, refl, ap, sym, ◌∙◌, append_assoc}
-use Rattle.std.specs.Prelude.{◌&&◌, if◌then◌else◌, slice_get}
+use Rattle.std.specs.Prelude.{◌&&◌, ◌||◌, if◌then◌else◌, slice_get}
 use Rattle.ax25_frames.specs.FrameText.{FrameValue}
 use Rattle.ax25_link.specs.Rows.{is_call}
 use Rattle.file_entries.specs.Command.{Command, after_all}
 use Rattle.file_entries.specs.Store.{Store}
 use Rattle.file_entries.proofs.GrowLemmas.{after_all-append}
 use Rattle.node_events.specs.Events.{NodeEvent, hears, ticks}
-use Rattle.ftl0_uploads.specs.Failures.{Failure}
+use Rattle.ftl0_uploads.specs.Failures.{Failure, failed_reads}
 use Rattle.ftl0_server.specs.Server.{Refused, Server, ServerSends, called_by, hearing_at, hearing_by, hearing_stranger, refusing, sends_by, sends_of_places}
 use Rattle.ftl0_server.specs.ServerStep.{Empties, happening}
 use Rattle.ftl0_server.specs.Slots.{PlacesSend, Slot, connected, first_empty, free, leaving, place_of, places_next}
@@ -71,36 +71,40 @@ happening_store server (ticks moment) failures = refl
 
 -- ---- events
 
-serves_store : (server : Server) (events : List NodeEvent) (frames : List FrameValue) (commands : List Command) (now : Server) → ServesOver server events frames commands now
+serves_store : (server : Server) (events : List NodeEvent) (frames : List FrameValue) (commands : List Command) (missed : Bool) (now : Server) → ServesOver server events frames commands missed now
     → now.store ≡ after_all server.store commands
-serves_store server [] frames commands now h = rw (h.1, h.2) refl
-serves_store server (e ∷ events) frames commands now h =
-    let step = h.5 in
-    let next : h.2.store ≡ after_all server.store h.0 =
-    ap (λ (s : Server). s.store) step.new_is ∙ empties_store _ h.1 step.last step.sent ∙ happening_store server e [] ∙ ap (after_all server.store) (sym step.done_is) in
-    serves_store h.2 events h.4 h.3 now h.8 ∙ ap (λ (s : Store). after_all s h.3) next ∙ sym (after_all-append h.0 h.3 server.store) ∙ ap (after_all server.store) (sym h.7)
+serves_store server [] frames commands missed now h = rw (h.1, h.3) refl
+serves_store server (e ∷ events) frames commands missed now h =
+    let step = h.7.step in
+    let next : h.3.store ≡ after_all server.store h.0 =
+    ap (λ (s : Server). s.store) step.new_is ∙ empties_store _ h.1 step.last step.sent ∙ happening_store server e (failed_reads h.7.parts) ∙ ap (after_all server.store) (sym step.done_is) in
+    serves_store h.3 events h.5 h.4 h.6 now h.11 ∙ ap (λ (s : Store). after_all s h.4) next ∙ sym (after_all-append h.0 h.4 server.store) ∙ ap (after_all server.store) (sym h.9)
 
-comes_to : (server : Server) (earlier : List NodeEvent) (next : NodeEvent) (later : List NodeEvent) (frames : List FrameValue) (commands : List Command) (now : Server)
-    → ServesOver server (earlier ++ next ∷ later) frames commands now → ServerComesTo server earlier next commands
-comes_to server [] next later frames commands now h = record {
+comes_to : (server : Server) (earlier : List NodeEvent) (next : NodeEvent) (later : List NodeEvent) (frames : List FrameValue) (commands : List Command) (missed : Bool) (now : Server)
+    → ServesOver server (earlier ++ next ∷ later) frames commands missed now → ServerComesTo server earlier next commands
+comes_to server [] next later frames commands missed now h = record {
   frames = [];
   before = [];
+  missed = false;
   server_then = server;
-  serves = (refl, refl, refl);
-  others = h.3;
-  commands_are = h.7 ∙ ap (λ (cs : List Command). cs ++ h.3) h.5.done_is;
+  serves = (refl, refl, refl, refl);
+  parts = h.7.parts;
+  others = h.4;
+  commands_are = h.9 ∙ ap (λ (cs : List Command). cs ++ h.4) h.7.step.done_is;
 }
-comes_to server (e ∷ earlier) next later frames commands now h =
-    let on = comes_to h.2 earlier next later h.4 h.3 now h.8 in
+comes_to server (e ∷ earlier) next later frames commands missed now h =
+    let on = comes_to h.3 earlier next later h.5 h.4 h.6 now h.11 in
     record {
       frames = h.1 ++ on.frames;
       before = h.0 ++ on.before;
+      missed = h.2 || on.missed;
       server_then = on.server_then;
-      serves = (h.0, h.1, h.2, on.before, on.frames, h.5, refl, refl, on.serves);
+      serves = (h.0, h.1, h.2, h.3, on.before, on.frames, on.missed, h.7, refl, refl, refl, on.serves);
+      parts = on.parts;
       others = on.others;
       commands_are =
-          h.7 ∙ ap (λ (cs : List Command). h.0 ++ cs) on.commands_are
-          ∙ sym (append_assoc h.0 on.before ((happening on.server_then next []).done ++ on.others));
+          h.9 ∙ ap (λ (cs : List Command). h.0 ++ cs) on.commands_are
+          ∙ sym (append_assoc h.0 on.before ((happening on.server_then next (failed_reads on.parts)).done ++ on.others));
     }
 
 pub serves : ServesLaw

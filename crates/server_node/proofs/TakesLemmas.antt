@@ -1,7 +1,7 @@
 -- How a node takes events.
 use Rattle.std.proofs.Common.{◌≡◌, ℕ, List, [], ◌∷◌, ◌++◌, Option, refl, ap, sym, subst, inl, inr}
 use Rattle.std.proofs.lemmas.Bool.{eq-eqb, ne_eqb}
-use Rattle.std.specs.Prelude.{◌≢◌, Bool, if◌then◌else◌, Result, Ok, Err, ⊤, OnErr, OnOk}
+use Rattle.std.specs.Prelude.{◌≢◌, Bool, false, ◌||◌, if◌then◌else◌, Result, Ok, Err, ⊤, OnErr, OnOk}
 use Rattle.px_base.specs.Octets.{IsFront}
 use Rattle.px_base.specs.Outside.{Gains, HasCause}
 use Rattle.px_base.specs.declared.air.Air.{Ghosts as AirGhosts}
@@ -9,26 +9,27 @@ use Rattle.px_base.specs.declared.air.AirDown.{AirDown}
 use Rattle.px_base.proofs.Told.{Gains-none, Gains-trans}
 use Rattle.disk_model.specs.declared.disk.Disk.{Ghosts}
 use Rattle.ax25_frames.specs.FrameText.{FrameValue}
-use Rattle.file_store.specs.OnDisk.{CutsOff, Does}
 use Rattle.file_store.specs.State.{StoreState}
-use Rattle.file_store.proofs.DoesLemmas.{Does-none, Does-then}
+use Rattle.file_store.specs.Working.{CutsOffAmongReads, DoesAmongReads}
+use Rattle.file_store.proofs.DoesLemmas.{Does-none}
+use Rattle.file_store.proofs.WorkingLemmas.{among-healthy, among-then, cuts-among-none, cuts-among-same, cuts-among-then, does-among}
 use Rattle.node_events.specs.Events.{NodeEvent, tick_since, ticks}
-use Rattle.ftl0_uploads.specs.declared.stop.ServerStop.{ServerStop}
-use Rattle.ftl0_uploads.specs.declared.stop.ServerStop.TheVariants as server_stop
-use Rattle.ftl0_uploads.specs.Failures.{failed_write}
+use Rattle.ftl0_uploads.specs.Failures.{failed_reads, failed_write}
+use Rattle.ftl0_session.specs.declared.stop.ServerStop.{ServerStop}
+use Rattle.ftl0_session.specs.declared.stop.ServerStop.TheVariants as server_stop
+use Rattle.ftl0_connection.specs.ConnectionState.{with_reads}
 use Rattle.ftl0_server.specs.Calls.{HearsBy}
-use Rattle.ftl0_server.specs.Server.{Server, settled}
+use Rattle.ftl0_server.specs.Server.{Server, ServerHappened, settled}
 use Rattle.ftl0_server.specs.ServerState.{ServerState}
-use Rattle.ftl0_server.specs.ServerStep.{happening}
+use Rattle.ftl0_server.specs.ServerStep.{Empties, happening}
 use Rattle.ftl0_server.proofs.FitsLemmas.{empties-silent, silent-settled}
 use Rattle.session_node.specs.declared.stop.NodeStop.{NodeStop}
 use Rattle.session_node.specs.declared.stop.NodeStop.TheVariants as stop
 use Rattle.session_node.specs.Running.{IsSaid}
 use Rattle.session_node.specs.Stops.{CountsBy}
-use Rattle.session_node.proofs.DiskLemmas.{cuts_after, cuts_none, cuts_same, does_healthy}
-use Rattle.session_node.proofs.Serving.{gains-same}
+use Rattle.session_node.proofs.AnswerLemmas.{gains-same}
 use Rattle.server_node.specs.Node.{IsServing, IsUp, RunsOn, SaysFrames, Settles, StopsOn, Takes}
-use Rattle.server_node.specs.Serving.{StopsOver, text_of}
+use Rattle.server_node.specs.Serving.{StopsOver, TakesEvent, failing, text_of}
 use Rattle.server_node.proofs.SendingLemmas.{text-append}
 use Rattle.server_node.proofs.ServesLemmas.{serves-append, serves-one, stops-at, stops-behind, stops-longer}
 use Rattle.server_node.proofs.StepLemmas.{uncut}
@@ -52,12 +53,13 @@ module _ {A D : Type 0} (g : Ghosts D) (air : AirGhosts A) (lasts : (disk : D) �
   takes-none before now self disk up same server serving = record {
     frames = [];
     commands = [];
+    missed = false;
     next = server;
-    serves = (refl, refl, refl);
+    serves = (refl, refl, refl, refl);
     text_said = gains-same (air.said before) (air.said now) same;
     serving = serving;
     silent = up.silent;
-    does = Does-none g ⊥ self.store disk (λ never. never) up.stands_on up.healthy (lasts disk);
+    does = does-among g ⊥ self.store self.store disk disk [] (Does-none g ⊥ self.store disk (λ never. never) up.stands_on up.healthy (lasts disk));
   }
 
   -- the server is up after events that were all taken
@@ -65,7 +67,7 @@ module _ {A D : Type 0} (g : Ghosts D) (air : AirGhosts A) (lasts : (disk : D) �
   up-after before now old new disk disk_n events up takes =
       let runs = takes up.server up.serving in
       record {
-        healthy = does_healthy g old.store new.store disk disk_n runs.commands runs.does;
+        healthy = among-healthy g runs.missed old.store new.store disk disk_n runs.commands runs.does;
         stands_on = runs.does.stands_on;
         silent = runs.silent;
         server = runs.next;
@@ -82,14 +84,16 @@ module _ {A D : Type 0} (g : Ghosts D) (air : AirGhosts A) (lasts : (disk : D) �
         record {
           frames = first.frames ++ second.frames;
           commands = first.commands ++ second.commands;
+          missed = first.missed || second.missed;
           next = second.next;
-          serves = serves-append server events first.frames first.commands first.next others second.frames second.commands second.next first.serves second.serves;
+          serves =
+              serves-append server events first.frames first.commands first.missed first.next others second.frames second.commands second.missed second.next first.serves second.serves;
           text_said =
               subst (λ (t : List ℕ). Gains (air.said before) (air.said now) t) (sym (text-append first.frames second.frames))
               (Gains-trans (air.said before) (air.said mid) (air.said now) (text_of first.frames) (text_of second.frames) first.text_said second.text_said);
           serving = second.serving;
           silent = second.silent;
-          does = Does-then g on ⊥ ⊥ a.store b.store c.store d e f first.commands second.commands (λ never. never) first.does second.does;
+          does = among-then g on ⊥ ⊥ first.missed second.missed a.store b.store c.store d e f first.commands second.commands (λ never. never) first.does second.does;
         }
     takes-then (Err why) h k same server serving =
         let first = h server serving in
@@ -99,10 +103,11 @@ module _ {A D : Type 0} (g : Ghosts D) (air : AirGhosts A) (lasts : (disk : D) �
           text_said = Gains-trans (air.said before) (air.said mid) (air.said now) (text_of first.frames) second.text first.text_said second.text_said;
           done = first.commands ++ second.done;
           cut = second.cut;
+          missed = first.missed || second.missed;
           stops =
-              (stops-behind why (air.write_faults before) (air.write_faults now) second.cut server events first.frames first.commands first.next others second.text second.done first.serves
-              (subst (λ (n : ℕ). StopsOver first.next others why n (air.write_faults now) second.text second.done second.cut) same second.stops)).stops;
-          cuts = cuts_after g on _ a.store b.store c.store d e f first.commands second.done second.cut first.does second.cuts;
+              (stops-behind why (air.write_faults before) (air.write_faults now) second.cut server events first.frames first.commands first.missed first.next others second.text second.done second.missed first.serves
+              (subst (λ (n : ℕ). StopsOver first.next others why n (air.write_faults now) second.text second.done second.cut second.missed) same second.stops)).stops;
+          cuts = cuts-among-then g on _ first.missed second.missed a.store b.store c.store d e f first.commands second.done second.cut first.does second.cuts;
         }
 
   -- a stop with further events behind it
@@ -115,7 +120,8 @@ module _ {A D : Type 0} (g : Ghosts D) (air : AirGhosts A) (lasts : (disk : D) �
         text_said = stops.text_said;
         done = stops.done;
         cut = stops.cut;
-        stops = stops-longer why (air.write_faults before) (air.write_faults now) stops.cut server events others stops.text stops.done stops.stops;
+        missed = stops.missed;
+        stops = stops-longer why (air.write_faults before) (air.write_faults now) stops.cut server events others stops.text stops.done stops.missed stops.stops;
         cuts = stops.cuts;
       }
 
@@ -127,6 +133,7 @@ module _ {A D : Type 0} (g : Ghosts D) (air : AirGhosts A) (lasts : (disk : D) �
       record {
         frames = runs.frames;
         commands = runs.commands;
+        missed = runs.missed;
         next = runs.next;
         serves = runs.serves;
         text_said = subst (λ (o : Option (List ℕ)). Gains o (air.said now) (text_of runs.frames)) said runs.text_said;
@@ -141,85 +148,99 @@ module _ {A D : Type 0} (g : Ghosts D) (air : AirGhosts A) (lasts : (disk : D) �
         text_said = subst (λ (o : Option (List ℕ)). Gains o (air.said now) stops.text) said stops.text_said;
         done = stops.done;
         cut = stops.cut;
-        stops = subst (λ (n : ℕ). StopsOver server events why n (air.write_faults now) stops.text stops.done stops.cut) writes stops.stops;
+        missed = stops.missed;
+        stops = subst (λ (n : ℕ). StopsOver server events why n (air.write_faults now) stops.text stops.done stops.cut stops.missed) writes stops.stops;
         cuts = stops.cuts;
       }
 
   -- ---- one event
 
-  module _ (before now : A) (old mid new : ServerState) (disk disk_n : D) (event : NodeEvent) (server : Server) (serving : IsServing old server) where
+  module _ (before now : A) (old mid new : ServerState) (disk disk_n : D) (event : NodeEvent) (server : Server) (serving : IsServing old server) (parts : List ℕ) where
     abbrev Heard : Result ⊤ ServerStop → Type 0
-    Heard result = HearsBy g (happening server event) old mid disk disk_n result
+    Heard result = HearsBy g (with_reads (happening server event) parts) old mid disk disk_n result
+
+    -- what it makes of the server where no write and no sync fails
+    abbrev taken : ServerHappened
+    taken = happening server event (failed_reads parts)
+
+    -- All of it was taken, and these frames are sent.
+    takes-event : Heard (Ok tt) → (frames : List FrameValue) (last : Server) → Empties taken.after frames last → TakesEvent server event frames taken.done taken.missed (settled last)
+    takes-event by frames last sent = record {
+      parts = parts;
+      step =
+          record {
+            silent = serving.silent;
+            done_is = refl;
+            cut_is = sym (uncut parts server event);
+            missed_is = refl;
+            halt_is = sym by.0;
+            last = last;
+            sent = sent;
+            new_is = refl;
+          };
+    }
 
     -- All of it was taken, and its frames were put.
-    pub event-taken : Heard (Ok tt) → new.store ≡ mid.store → Settles air.said before now new (happening server event []).after
-        → RunsOn g air.said before now old new disk disk_n server (event ∷ [])
+    pub event-taken : Heard (Ok tt) → new.store ≡ mid.store → Settles air.said before now new taken.after → RunsOn g air.said before now old new disk disk_n server (event ∷ [])
     event-taken by same s = record {
       frames = s.frames;
-      commands = (happening server event []).done;
+      commands = taken.done;
+      missed = taken.missed;
       next = settled s.last;
-      serves =
-          serves-one server event (happening server event []).done s.frames (settled s.last)
-          (record { silent = serving.silent; done_is = refl; cut_is = sym (uncut server event); halt_is = sym by.0; last = s.last; sent = s.empties; new_is = refl });
+      serves = serves-one server event taken.done s.frames taken.missed (settled s.last) (takes-event by s.frames s.last s.empties);
       text_said = s.text_said;
-      serving = record { is = s.settled_is; silent = silent-settled s.last (empties-silent (happening server event []).after s.frames s.last s.empties) };
+      serving = record { is = s.settled_is; silent = silent-settled s.last (empties-silent taken.after s.frames s.last s.empties) };
       silent = s.silent;
-      does = subst (λ (store : StoreState). Does g ⊥ old.store store disk disk_n (happening server event []).done) (sym same) by.2;
+      does = subst (λ (store : StoreState). DoesAmongReads g ⊥ taken.missed old.store store disk disk_n taken.done) (sym same) by.2;
     }
 
     -- All of it was taken, and saying its frames failed.
-    pub event-unsaid : (down : AirDown) → Heard (Ok tt) → new.store ≡ mid.store → SaysFrames air.said before now (happening server event []).after (Err down)
+    pub event-unsaid : (down : AirDown) → Heard (Ok tt) → new.store ≡ mid.store → SaysFrames air.said before now taken.after (Err down)
         → Stopped before now old new disk disk_n server (event ∷ []) stop.AirWrite
     event-unsaid down by same s = record {
       text = s.text;
       text_said = s.text_said;
-      done = (happening server event []).done;
+      done = taken.done;
       cut = [];
+      missed = taken.missed;
       stops =
-          stops-at stop.AirWrite (air.write_faults before) (air.write_faults now) [] server event s.text (happening server event []).done (
+          stops-at stop.AirWrite (air.write_faults before) (air.write_faults now) [] server event s.text taken.done taken.missed (
             s.frames,
             settled s.last,
-            record { silent = serving.silent; done_is = refl; cut_is = sym (uncut server event); halt_is = sym by.0; last = s.last; sent = s.empties; new_is = refl },
+            takes-event by s.frames s.last s.empties,
             s.err.1,
             s.err.0,
             refl,
           );
       cuts =
-          cuts_none g _ (λ (e : stop.AirWrite ≡ stop.Disk). cc e) old.store new.store disk disk_n (happening server event []).done (lasts disk_n)
-          (subst (λ (store : StoreState). Does g ⊥ old.store store disk disk_n (happening server event []).done) (sym same) by.2);
+          cuts-among-none g _ taken.missed old.store new.store disk disk_n taken.done (λ (e : stop.AirWrite ≡ stop.Disk). cc e) (lasts disk_n)
+          (subst (λ (store : StoreState). DoesAmongReads g ⊥ taken.missed old.store store disk disk_n taken.done) (sym same) by.2);
     }
 
     -- The disk failed in it, and the frames of that step were put, or a front of them.
-    pub event-failed : (said : Result ⊤ AirDown) → (by : Heard (Err server_stop.Disk)) → new.store ≡ mid.store → SaysFrames air.said before now (happening server event (failed_write by.0)).after said
+    pub event-failed : (said : Result ⊤ AirDown) → (by : Heard (Err server_stop.Disk)) → new.store ≡ mid.store → SaysFrames air.said before now (failing server event by.0 parts).after said
         → HasCause (air.write_faults before) (air.write_faults now) said → Stopped before now old new disk disk_n server (event ∷ []) stop.Disk
-    event-failed said by same s cause = record {
-      text = s.text;
-      text_said = s.text_said;
-      done = (happening server event (failed_write by.0)).done;
-      cut = (happening server event (failed_write by.0)).cut;
-      stops =
-          stops-at stop.Disk (air.write_faults before) (air.write_faults now) (happening server event (failed_write by.0)).cut server event s.text (happening server event (failed_write by.0)).done (
-            by.0,
-            s.frames,
-            settled s.last,
-            record { silent = serving.silent; done_is = refl; cut_is = refl; halt_is = sym by.1; last = s.last; sent = s.empties; new_is = refl },
-            is_said (air.write_faults before) (air.write_faults now) s.frames s.text said s.ok s.err cause,
-          );
-      cuts =
-          cuts_same g ⊤ (stop.Disk ≡ stop.Disk) (λ _. refl) (λ _. tt) old.store new.store disk disk_n _ _
-          (subst (λ (store : StoreState). CutsOff g ⊤ old.store store disk disk_n (happening server event (failed_write by.0)).done (happening server event (failed_write by.0)).cut) (sym same) by.3);
-    }
-
-    -- Its row isn't built.
-    pub event-unbuilt : (kind : ℕ) → Heard (Err (server_stop.NotBuilt kind)) → Stopped before before old mid disk disk_n server (event ∷ []) (stop.NotBuilt kind)
-    event-unbuilt kind by = record {
-      text = [];
-      text_said = Gains-none (air.said before);
-      done = (happening server event []).done;
-      cut = [];
-      stops = stops-at (stop.NotBuilt kind) (air.write_faults before) (air.write_faults before) [] server event [] (happening server event []).done (by.0, refl, refl, refl);
-      cuts = cuts_none g _ (λ (e : stop.NotBuilt kind ≡ stop.Disk). cc e) old.store mid.store disk disk_n (happening server event []).done (lasts disk_n) by.1;
-    }
+    event-failed said by same s cause =
+        let failed : ServerHappened = failing server event by.0 parts in
+        record {
+          text = s.text;
+          text_said = s.text_said;
+          done = failed.done;
+          cut = failed.cut;
+          missed = failed.missed;
+          stops =
+              stops-at stop.Disk (air.write_faults before) (air.write_faults now) failed.cut server event s.text failed.done failed.missed (
+                by.0,
+                parts,
+                s.frames,
+                settled s.last,
+                record { silent = serving.silent; done_is = refl; cut_is = refl; missed_is = refl; halt_is = sym by.1; last = s.last; sent = s.empties; new_is = refl },
+                is_said (air.write_faults before) (air.write_faults now) s.frames s.text said s.ok s.err cause,
+              );
+          cuts =
+              cuts-among-same g ⊤ (stop.Disk ≡ stop.Disk) failed.missed failed.missed old.store new.store disk disk_n failed.done failed.cut (λ _. refl) (λ _. tt) refl
+              (subst (λ (store : StoreState). CutsOffAmongReads g ⊤ failed.missed old.store store disk disk_n failed.done failed.cut) (sym same) by.3);
+        }
 
     -- There was no memory for it.
     pub event-unmade : Heard (Err server_stop.OutOfMemory) → Stopped before before old mid disk disk_n server (event ∷ []) stop.OutOfMemory
@@ -228,18 +249,22 @@ module _ {A D : Type 0} (g : Ghosts D) (air : AirGhosts A) (lasts : (disk : D) �
       text_said = Gains-none (air.said before);
       done = [];
       cut = [];
-      stops = stops-at stop.OutOfMemory (air.write_faults before) (air.write_faults before) [] server event [] [] (inl refl, refl, refl);
-      cuts = cuts_none g _ (λ (e : stop.OutOfMemory ≡ stop.Disk). cc e) old.store mid.store disk disk_n [] (lasts disk_n) does;
+      missed = false;
+      stops = stops-at stop.OutOfMemory (air.write_faults before) (air.write_faults before) [] server event [] [] false (inl (refl, refl), refl, refl);
+      cuts = cuts-among-none g _ false old.store mid.store disk disk_n [] (λ (e : stop.OutOfMemory ≡ stop.Disk). cc e) (lasts disk_n) does;
     }
-    event-unmade (inr by) = record {
-      text = [];
-      text_said = Gains-none (air.said before);
-      done = (happening server event (failed_write by.0)).done;
-      cut = [];
-      stops =
-          stops-at stop.OutOfMemory (air.write_faults before) (air.write_faults before) [] server event [] (happening server event (failed_write by.0)).done (inr (by.0, by.1, refl), refl, refl);
-      cuts = cuts_none g _ (λ (e : stop.OutOfMemory ≡ stop.Disk). cc e) old.store mid.store disk disk_n (happening server event (failed_write by.0)).done (lasts disk_n) by.2;
-    }
+    event-unmade (inr by) =
+        let failed : ServerHappened = failing server event by.0 parts in
+        record {
+          text = [];
+          text_said = Gains-none (air.said before);
+          done = failed.done;
+          cut = [];
+          missed = failed.missed;
+          stops =
+              stops-at stop.OutOfMemory (air.write_faults before) (air.write_faults before) [] server event [] failed.done failed.missed (inr (by.0, parts, by.1, refl, refl), refl, refl);
+          cuts = cuts-among-none g _ failed.missed old.store mid.store disk disk_n failed.done (λ (e : stop.OutOfMemory ≡ stop.Disk). cc e) (lasts disk_n) by.2;
+        }
 
 -- the cause of a call behind others after which the counts were as they were
 pub counts-after : {T : Type 0} (reads reads_m reads_n writes writes_m writes_n : ℕ) (result : Result T NodeStop) → reads_m ≡ reads → writes_m ≡ writes

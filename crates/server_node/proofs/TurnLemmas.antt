@@ -26,7 +26,6 @@ module _ {A D : Type 0} (g : Ghosts D) (air : AirGhosts A) (lasts : (disk : D) â
       â†’ TurnEnds next (Err why) (Takes g air.said air.write_faults before now a.server c.server d f events)
   stopped before now a c d f events up next is_open stop.AirWrite h = (is_open, h)
   stopped before now a c d f events up next is_open stop.Disk h = (is_open, h)
-  stopped before now a c d f events up next is_open (stop.NotBuilt kind) h = (is_open, h)
   stopped before now a c d f events up next is_open stop.OutOfMemory h = (is_open, h)
   stopped before now a c d f events up next is_open stop.AirRead h = absurd (h up.server up.serving).stops.stops
   stopped before now a c d f events up next is_open stop.Spent h = absurd (h up.server up.serving).stops.stops

@@ -1,7 +1,7 @@
 -- How the loop over turns goes on, and how it ends.
 use Rattle.std.proofs.Common.{◌≡◌, ℕ, ◌+◌, ◌<◌, List, [], ◌∷◌, ◌++◌, length, Option, None, Some, refl, ap, sym, subst, ◌∙◌, inl, inr, length-append, unwrap_or, arith}
 use Rattle.std.specs.List.{AllByRecursion}
-use Rattle.std.specs.Prelude.{Result, Ok, Err, IsErrOf, ⊤}
+use Rattle.std.specs.Prelude.{Bool, ◌||◌, Result, Ok, Err, IsErrOf, ⊤}
 use Rattle.px_base.specs.CallSign.{CallSign}
 use Rattle.px_base.specs.Moments.{Gives}
 use Rattle.px_base.specs.Octets.{IsOctets}
@@ -14,7 +14,8 @@ use Rattle.px_base.specs.declared.air.Turn.{Turn}
 use Rattle.px_base.proofs.Told.{Gains-trans, Grows-none, Grows-trans}
 use Rattle.disk_model.specs.declared.disk.Disk.{Ghosts}
 use Rattle.file_entries.specs.Command.{Command}
-use Rattle.file_store.specs.OnDisk.{CutsOff}
+use Rattle.file_store.specs.Working.{CutsOffAmongReads}
+use Rattle.file_store.proofs.WorkingLemmas.{cuts-among-none, cuts-among-same, cuts-among-then}
 use Rattle.ftl0_packets.proofs.OctetLemmas.{IsOctets-append}
 use Rattle.node_events.specs.Events.{Finishes, NodeEvent, NodeEvents}
 use Rattle.node_events.specs.Reading.{HasHeard}
@@ -23,7 +24,6 @@ use Rattle.session_node.specs.declared.stop.NodeStop.{NodeStop}
 use Rattle.session_node.specs.declared.stop.NodeStop.TheVariants as stop
 use Rattle.session_node.specs.declared.terms.Served.{Served}
 use Rattle.session_node.specs.SessionRan.{TurnsBy}
-use Rattle.session_node.proofs.DiskLemmas.{cuts_after, cuts_none, cuts_same}
 use Rattle.session_node.proofs.Listening.{of_error, open_append}
 use Rattle.server_node.specs.Node.{IsServing, IsUp, NodeState, Takes, TakesTurn, TakesTurns, TurnEnds, turn_events}
 use Rattle.server_node.specs.Served.{EndsOver}
@@ -103,6 +103,7 @@ module _ {A C D : Type 0} (g : Ghosts D) (air : AirGhosts A) (given : C → Opti
         text = text_of runs.frames;
         done = runs.commands;
         cut = [];
+        missed = runs.missed;
         turns_heard = h.turns_heard;
         moments_given = h.moments_given;
         text_said = runs.text_said;
@@ -122,7 +123,7 @@ module _ {A C D : Type 0} (g : Ghosts D) (air : AirGhosts A) (given : C → Opti
               brought = own server serving h.earlier h.earlier_moments h.least h.brought;
               ends_over = (runs.frames, runs.next, runs.serves, refl, refl);
             };
-        cuts = cuts_none g _ (λ (e : IsErrOf {T = Served} (Err stop.Spent) stop.Disk). cc e) node.server.store node_n.server.store disk disk_n runs.commands (lasts disk_n) runs.does;
+        cuts = cuts-among-none g _ runs.missed node.server.store node_n.server.store disk disk_n runs.commands (λ (e : IsErrOf {T = Served} (Err stop.Spent) stop.Disk). cc e) (lasts disk_n) runs.does;
       }
 
   module _ (mid : A) (clock_m : C) (disk_m : D) (node_m : NodeState) (last : Option ℕ) (count : ℕ) (h : Taking mid clock_m disk_m node_m last count) (clock_n : C) (moment : ℕ)
@@ -151,17 +152,18 @@ module _ {A C D : Type 0} (g : Ghosts D) (air : AirGhosts A) (given : C → Opti
           (subst (λ (me : CallSign). Finishes me (octets_heard h.turns) (octets_of_turn taken.next) taken.frames) h.me taken.finishes)
 
       -- how the serving ended in this turn
-      turn-ended : (ended : Result Served NodeStop) (server : Server) → IsServing node.server server → (text : List ℕ) (done cut : List Command) → count < polls → TurnsBy ended polls turns_n
+      turn-ended : (ended : Result Served NodeStop) (server : Server) → IsServing node.server server → (text : List ℕ) (done cut : List Command) (missed : Bool) → count < polls → TurnsBy ended polls turns_n
           → Gains (air.said old) (air.said now) text
-          → EndsOver ended h.events server (h.events ++ more) (air.write_faults old) (air.write_faults now) text done cut
-          → CutsOff g (IsErrOf ended stop.Disk) node.server.store node_n.server.store disk disk_n done cut
+          → EndsOver ended h.events server (h.events ++ more) (air.write_faults old) (air.write_faults now) text done cut missed
+          → CutsOffAmongReads g (IsErrOf ended stop.Disk) missed node.server.store node_n.server.store disk disk_n done cut
           → TakesTurns g air given old now clock clock_n node node_n disk disk_n polls server ended
-      turn-ended ended server serving text done cut below ends said over cuts = record {
+      turn-ended ended server serving text done cut missed below ends said over cuts = record {
         turns = turns_n;
         moments = moments_n;
         text = text;
         done = done;
         cut = cut;
+        missed = missed;
         turns_heard = Grows-trans (air.heard old) (air.heard mid) (air.heard now) h.turns (taken.next ∷ []) h.turns_heard taken.turn_heard;
         moments_given = Grows-trans (given clock) (given clock_m) (given clock_n) h.moments (moment ∷ []) h.moments_given gives;
         text_said = said;
@@ -221,31 +223,33 @@ module _ {A C D : Type 0} (g : Ghosts D) (air : AirGhosts A) (given : C → Opti
 
         -- the serving ended with all events taken
         taking-all : (ended : Result Served NodeStop) → count < polls → TurnsBy ended polls turns_n → ¬ IsErrOf ended stop.Disk
-            → ((server : Server) (text : List ℕ) (done cut : List Command) → TakesAll server (h.events ++ more) text done cut
-            → EndsOver ended h.events server (h.events ++ more) (air.write_faults old) (air.write_faults now) text done cut)
+            → ((server : Server) (text : List ℕ) (done cut : List Command) (missed : Bool) → TakesAll server (h.events ++ more) text done cut missed
+            → EndsOver ended h.events server (h.events ++ more) (air.write_faults old) (air.write_faults now) text done cut missed)
             → Ended now clock_n disk_n node_n ended
         taking-all ended below ends no_disk over server serving =
             let runs = takes_n server serving in
-            turn-ended ended server serving (text_of runs.frames) runs.commands [] below ends runs.text_said
-            (over server (text_of runs.frames) runs.commands [] (runs.frames, runs.next, runs.serves, refl, refl))
-            (cuts_none g _ no_disk node.server.store node_n.server.store disk disk_n runs.commands (lasts disk_n) runs.does)
+            turn-ended ended server serving (text_of runs.frames) runs.commands [] runs.missed below ends runs.text_said
+            (over server (text_of runs.frames) runs.commands [] runs.missed (runs.frames, runs.next, runs.serves, refl, refl))
+            (cuts-among-none g _ runs.missed node.server.store node_n.server.store disk disk_n runs.commands no_disk (lasts disk_n) runs.does)
 
       -- the node stopped in an open turn
       taking-stopped :
           (why : NodeStop) → count < polls → IsOpen taken.next → (AllByRecursion IsOpen turns_n → TurnsBy (Err why) polls turns_n)
-          → ((server : Server) (text : List ℕ) (done cut : List Command) → StopsBehind h.events server (h.events ++ more) why (air.write_faults old) (air.write_faults now) text done cut
-          → EndsOver (Err why) h.events server (h.events ++ more) (air.write_faults old) (air.write_faults now) text done cut)
+          → ((server : Server) (text : List ℕ) (done cut : List Command) (missed : Bool) → StopsBehind h.events server (h.events ++ more) why (air.write_faults old) (air.write_faults now) text done cut missed
+          → EndsOver (Err why) h.events server (h.events ++ more) (air.write_faults old) (air.write_faults now) text done cut missed)
           → Turned (Err why) → Ended now clock_n disk_n node_n (Err why)
       taking-stopped why below is_open turns over stops server serving =
           let runs = h.takes server serving in
           let stop_is = stops runs.next runs.serving in
-          let stops_old = subst (λ (n : ℕ). StopsOver runs.next more why n (air.write_faults now) stop_is.text stop_is.done stop_is.cut) h.same_writes stop_is.stops in
-          turn-ended (Err why) server serving (text_of runs.frames ++ stop_is.text) (runs.commands ++ stop_is.done) stop_is.cut below (turns (open_append h.turns taken.next h.all_open is_open))
+          let stops_old = subst (λ (n : ℕ). StopsOver runs.next more why n (air.write_faults now) stop_is.text stop_is.done stop_is.cut stop_is.missed) h.same_writes stop_is.stops in
+          turn-ended (Err why) server serving (text_of runs.frames ++ stop_is.text) (runs.commands ++ stop_is.done) stop_is.cut (runs.missed || stop_is.missed) below
+          (turns (open_append h.turns taken.next h.all_open is_open))
           (Gains-trans (air.said old) (air.said mid) (air.said now) (text_of runs.frames) stop_is.text runs.text_said stop_is.text_said)
-          (over server (text_of runs.frames ++ stop_is.text) (runs.commands ++ stop_is.done) stop_is.cut
-          (stops-behind why (air.write_faults old) (air.write_faults now) stop_is.cut server h.events runs.frames runs.commands runs.next more stop_is.text stop_is.done runs.serves stops_old))
-          (cuts_same g (why ≡ stop.Disk) (IsErrOf (Err why) stop.Disk) (λ is. ap Err is) (λ is. of_error why stop.Disk (Err why) refl is) node.server.store node_n.server.store disk disk_n (runs.commands ++ stop_is.done) stop_is.cut
-          (cuts_after g on (why ≡ stop.Disk) node.server.store node_m.server.store node_n.server.store disk disk_m disk_n runs.commands stop_is.done stop_is.cut runs.does stop_is.cuts))
+          (over server (text_of runs.frames ++ stop_is.text) (runs.commands ++ stop_is.done) stop_is.cut (runs.missed || stop_is.missed)
+          (stops-behind why (air.write_faults old) (air.write_faults now) stop_is.cut server h.events runs.frames runs.commands runs.missed runs.next more stop_is.text stop_is.done stop_is.missed runs.serves stops_old))
+          (cuts-among-same g (why ≡ stop.Disk) (IsErrOf (Err why) stop.Disk) (runs.missed || stop_is.missed) (runs.missed || stop_is.missed) node.server.store node_n.server.store disk disk_n
+          (runs.commands ++ stop_is.done) stop_is.cut (λ is. ap Err is) (λ is. of_error why stop.Disk (Err why) refl is) refl
+          (cuts-among-then g on (why ≡ stop.Disk) runs.missed stop_is.missed node.server.store node_m.server.store node_n.server.store disk disk_m disk_n runs.commands stop_is.done stop_is.cut runs.does stop_is.cuts))
 
     abbrev OneTurn : Result Polled NodeStop → Type 0
     OneTurn result = OneTurnAt g air mid now node_m node_n disk_m disk_n moment (unwrap_or last moment) result
@@ -259,11 +263,10 @@ module _ {A C D : Type 0} (g : Ghosts D) (air : AirGhosts A) (given : C → Opti
     stops-by : (why : NodeStop) → count < polls
         → TakesTurn g air.heard air.said air.write_faults mid now node_m node_n disk_m disk_n (unwrap_or last moment) moment (octets_heard h.turns) (Err why) → Ended now clock_n disk_n node_n (Err why)
     stops-by stop.AirRead below taken =
-        taking-all (Err stop.AirRead) taken taken.ends.1 (Err stop.AirRead) below (h.turns, ap (λ t. h.turns ++ t ∷ []) taken.ends.0, h.all_open) (λ e. cc e) (λ s t d c all. all)
-    stops-by stop.AirWrite below taken = taking-stopped (Err stop.AirWrite) taken stop.AirWrite below taken.ends.0 (λ t. t) (λ s t d c all. all) taken.ends.1
-    stops-by stop.Disk below taken = taking-stopped (Err stop.Disk) taken stop.Disk below taken.ends.0 (λ t. t) (λ s t d c all. all) taken.ends.1
-    stops-by (stop.NotBuilt kind) below taken = taking-stopped (Err (stop.NotBuilt kind)) taken (stop.NotBuilt kind) below taken.ends.0 (λ t. t) (λ s t d c all. all) taken.ends.1
-    stops-by stop.OutOfMemory below taken = taking-stopped (Err stop.OutOfMemory) taken stop.OutOfMemory below taken.ends.0 (λ t. t) (λ s t d c all. all) taken.ends.1
+        taking-all (Err stop.AirRead) taken taken.ends.1 (Err stop.AirRead) below (h.turns, ap (λ t. h.turns ++ t ∷ []) taken.ends.0, h.all_open) (λ e. cc e) (λ s t d c m all. all)
+    stops-by stop.AirWrite below taken = taking-stopped (Err stop.AirWrite) taken stop.AirWrite below taken.ends.0 (λ t. t) (λ s t d c m all. all) taken.ends.1
+    stops-by stop.Disk below taken = taking-stopped (Err stop.Disk) taken stop.Disk below taken.ends.0 (λ t. t) (λ s t d c m all. all) taken.ends.1
+    stops-by stop.OutOfMemory below taken = taking-stopped (Err stop.OutOfMemory) taken stop.OutOfMemory below taken.ends.0 (λ t. t) (λ s t d c m all. all) taken.ends.1
     stops-by stop.Spent below taken = absurd taken.ends
     stops-by (stop.NotAStore found) below taken = absurd taken.ends
     stops-by (stop.Damaged at) below taken = absurd taken.ends
@@ -278,7 +281,7 @@ module _ {A C D : Type 0} (g : Ghosts D) (air : AirGhosts A) (given : C → Opti
         let P : Polled → Type 0 = λ p. TurnEnds taken.next (Ok p) (Turned (Ok answer) taken) in
         let ends = subst P is_end taken.ends in
         taking-all (Ok answer) taken ends.1 (Ok (record { turns = count + 1 })) below
-        ((h.turns, ap (λ t. h.turns ++ t ∷ []) ends.0, h.all_open), sym (counted_n (Ok answer) taken)) (λ e. cc e) (λ s t d c all. all)
+        ((h.turns, ap (λ t. h.turns ++ t ∷ []) ends.0, h.all_open), sym (counted_n (Ok answer) taken)) (λ e. cc e) (λ s t d c m all. all)
 
     -- and how they go on
     pub taking-more : (answer : Polled) → (answer ≡ polled.End → ⊥) → node_n.server.me ≡ node_m.server.me

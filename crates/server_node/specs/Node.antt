@@ -1,6 +1,6 @@
 -- How a server's node goes on: what it hears and says, octet by octet and turn by turn.
-use Rattle.std.specs.Prelude.{◌≡◌, ◌≢◌, ℕ, List, [], ◌++◌, false, Result, Ok, Err, IsErrOf, MatchResult, OnErr, OnOk}
-use Rattle.std.specs.Prelude.{Option, ⊤}
+use Rattle.std.specs.Prelude.{◌≡◌, ◌≢◌, ℕ, List, [], ◌++◌, Bool, false, Result, Ok, Err, IsErrOf, MatchResult}
+use Rattle.std.specs.Prelude.{OnErr, OnOk, Option, ⊤}
 use Rattle.px_base.specs.Octets.{IsFront, IsOctets}
 use Rattle.px_base.specs.Outside.{Gains, Grows}
 use Rattle.px_base.specs.Polling.{Hears, HearsAll, IsOpen, octets_of_turn}
@@ -13,8 +13,8 @@ use Rattle.px_base.specs.declared.air.Turn.TheVariants as turn
 use Rattle.disk_model.specs.declared.disk.Disk.{Ghosts}
 use Rattle.ax25_frames.specs.FrameText.{FrameValue}
 use Rattle.file_entries.specs.Command.{Command}
-use Rattle.file_store.specs.OnDisk.{CutsOff, Does}
 use Rattle.file_store.specs.State.{StandsOn}
+use Rattle.file_store.specs.Working.{CutsOffAmongReads, DoesAmongReads}
 use Rattle.node_events.specs.Events.{Finishes, NodeEvent, heard_at, tick_of}
 use Rattle.node_events.specs.Reading.{HasHeard}
 use Rattle.node_events.specs.Station.{StationValue}
@@ -67,16 +67,18 @@ pub record Settles {A : Type 0} (said : A → Option (List ℕ)) (before now : A
   pub silent : server_pending new ≡ false
 
 -- From one server to another the node takes these events: their frames are said, and the commands are done on the disk.
+-- The disk's count of failed reads rose exactly where a part told of one.
 pub record RunsOn {A D : Type 0} (g : Ghosts D) (said : A → Option (List ℕ)) (before now : A) (old new : ServerState)
     (disk disk_now : D) (server : Server) (events : List NodeEvent) : Type 0 where
   pub frames : List FrameValue
   pub commands : List Command
+  pub missed : Bool
   pub next : Server
-  pub serves : ServesOver server events frames commands next
+  pub serves : ServesOver server events frames commands missed next
   pub text_said : Gains (said before) (said now) (text_of frames)
   pub serving : IsServing new next
   pub silent : server_pending new ≡ false
-  pub does : Does g ⊥ old.store new.store disk disk_now commands
+  pub does : DoesAmongReads g ⊥ missed old.store new.store disk disk_now commands
 
 -- The node stopped at one of these events: this was said, and the commands up to there are done on the disk.
 pub record StopsOn {A D : Type 0} (g : Ghosts D) (said : A → Option (List ℕ)) (writes : A → ℕ) (before now : A)
@@ -86,8 +88,9 @@ pub record StopsOn {A D : Type 0} (g : Ghosts D) (said : A → Option (List ℕ)
   pub text_said : Gains (said before) (said now) text
   pub done : List Command
   pub cut : List Command
-  pub stops : StopsOver server events why (writes before) (writes now) text done cut
-  pub cuts : CutsOff g (why ≡ stop.Disk) old.store new.store disk disk_now done cut
+  pub missed : Bool
+  pub stops : StopsOver server events why (writes before) (writes now) text done cut missed
+  pub cuts : CutsOffAmongReads g (why ≡ stop.Disk) missed old.store new.store disk disk_now done cut
 
 -- These events were taken, or the node stopped at one of them, whichever server it stood for.
 abbrev pub Takes :
@@ -130,7 +133,6 @@ TurnEnds next (Ok polled.End) Taken = (next ≡ turn.End) × Taken (Ok tt)
 TurnEnds next (Err stop.AirRead) Taken = (next ≡ turn.Fail) × Taken (Ok tt)
 TurnEnds next (Err stop.AirWrite) Taken = IsOpen next × Taken (Err stop.AirWrite)
 TurnEnds next (Err stop.Disk) Taken = IsOpen next × Taken (Err stop.Disk)
-TurnEnds next (Err (stop.NotBuilt kind)) Taken = IsOpen next × Taken (Err (stop.NotBuilt kind))
 TurnEnds next (Err stop.OutOfMemory) Taken = IsOpen next × Taken (Err stop.OutOfMemory)
 TurnEnds next (Err stop.Spent) Taken = ⊥
 TurnEnds next (Err (stop.NotAStore found)) Taken = ⊥
@@ -159,9 +161,11 @@ pub record TakesTurns {A C D : Type 0} (g : Ghosts D) (air : AirGhosts A) (given
   pub text : List ℕ
   pub done : List Command
   pub cut : List Command
+  pub missed : Bool
   pub turns_heard : HearsAll (air.heard before) (air.heard now) turns
   pub moments_given : Grows (given clock) (given clock_now) moments
   pub text_said : Gains (air.said before) (air.said now) text
   pub ran :
-      ServerRan server polls moments turns (air.write_faults before) (air.write_faults now) text done cut result
-  pub cuts : CutsOff g (IsErrOf result stop.Disk) old.server.store new.server.store disk disk_now done cut
+      ServerRan server polls moments turns (air.write_faults before) (air.write_faults now) text done cut missed result
+  pub cuts :
+      CutsOffAmongReads g (IsErrOf result stop.Disk) missed old.server.store new.server.store disk disk_now done cut

@@ -205,8 +205,8 @@ impl ServerNode {
     }
 }
 
-/// Hears a frame, and puts the frames that it gives. After a fault of the disk these are put too, whatever becomes of
-/// that: what stopped first is the answer.
+/// Hears a frame, and puts the frames that it gives. After a write or a sync of the disk that failed these are put too,
+/// whatever becomes of that: what stopped first is the answer.
 fn hear<D: Disk, A: Air>(
     server: &mut Server,
     frame: &Frame<'_>,
@@ -233,7 +233,6 @@ fn hear<D: Disk, A: Air>(
             let _ = put_frames(server, air);
             Err(NodeStop::Disk)
         }
-        Err(ServerStop::NotBuilt { kind }) => Err(NodeStop::NotBuilt { kind }),
         Err(ServerStop::OutOfMemory) => Err(NodeStop::OutOfMemory),
     }
 }

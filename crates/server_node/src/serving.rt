@@ -2,8 +2,8 @@
 
 ghost use Rattle.std.specs.Prelude.{◌≤◌, IsErrOf};
 ghost use Rattle.ax25_link.specs.Window.{IsGoodK};
-ghost use Rattle.file_journal.specs.Calls.{Runs};
 ghost use Rattle.server_node.specs.Served.{ServerEnds};
+ghost use Rattle.session_node.specs.OnDisk.{NodeRuns};
 ghost use Rattle.session_node.specs.Stops.{HasAirCause, RefusesSession};
 
 use crate::ServerTerms;
@@ -14,14 +14,15 @@ use px_base::{Air, Clock};
 use session_node::{NodeStop, Served};
 use std::alloc::Global;
 
-/// Serves up to eight sessions on the air. The store is recovered from the disk first; where that is refused nothing is
-/// heard or said, and the clock isn't asked. Then come turns, up to the end of the air or as many polls as may be made.
-/// A turn takes the clock's moment, then one poll. Each frame that its octets finish, that reads, in which no repeater
-/// is named and that is for this station, is heard, and the frames that it gives are put, each by one put, before the
-/// next octet is looked at; every other part is passed over. Then, where the moment isn't the one of the turn before,
-/// there is one tick, and its frames are put. The commands of a frame's packets are on the disk before any of its
-/// frames is put. After a fault of the disk the frames of that event are put, code 3 among them, and the server is
-/// over; after want of memory none of them is. However it ends, all uploads are parked. Takes memory.
+/// Serves up to eight sessions on the air. The store is recovered from the disk first, and the lists are made; where
+/// either is refused nothing is heard or said, and the clock isn't asked. Then come turns, up to the end of the air or
+/// as many polls as may be made. A turn takes the clock's moment, then one poll. Each frame that its octets finish,
+/// that reads, in which no repeater is named and that is for this station, is heard, and the frames that it gives are
+/// put, each by one put, before the next octet is looked at; every other part is passed over. Then, where the moment
+/// isn't the one of the turn before, there is one tick, and its frames are put. The commands of a frame's packets are
+/// on the disk before any of its frames is put. A read of the disk that fails is told by code 3, and the server goes
+/// on. After a fault of the disk at a write or a sync the frames of that event are put, code 3 among them, and the
+/// server is over; after want of memory none of them is. However it ends, all uploads are parked. Takes memory.
 pub fn serve<D: Disk, A: Air, C: Clock>(
     alloc: Global,
     disk: &mut D,
@@ -44,7 +45,7 @@ pub fn serve<D: Disk, A: Air, C: Clock>(
 
     // Each cause rose in a count.
     ensures counts { HasAirCause A.read_faults A.write_faults air.old air.new result }
-    ensures runs { Runs D.Disk (IsErrOf result NodeStop.Disk) disk.old disk.new }
+    ensures runs { NodeRuns D.Disk (IsErrOf result NodeStop.Disk) disk.old disk.new }
 {
     let server = Server::start(alloc, disk, terms.limits, terms.me, terms.k)?;
     let mut node = ServerNode::new(terms.me, server);

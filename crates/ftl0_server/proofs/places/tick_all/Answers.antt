@@ -2,6 +2,9 @@
 use Rattle.std.proofs.Common.{◌≡◌, ℕ, suc, ◌+◌, ◌<◌, List, length, set, drop, get_or, Some, false, sym, ◌∙◌, ap, subst, arith, add-one}
 use Rattle.std.specs.Prelude.{slice_get}
 use Rattle.std.proofs.lemmas.Option.{slice_get-get_or}
+use Rattle.file_entries.specs.Kept.{KeepsComplete}
+use Rattle.file_entries.specs.Store.{Store}
+use Rattle.file_store.specs.State.{store_in}
 use Rattle.ftl0_server.specs.AtPlace.{IsPlace}
 use Rattle.ftl0_server.specs.ServerState.{AllPlaces, any_pending}
 use Rattle.ftl0_server.specs.Slots.{Slot, slot_ticking}
@@ -24,6 +27,7 @@ loop-i-preserved c =
     let at = slice_get-get_or c.loop-i.places c.loop-i.i c.index-places-i.result lt in
     let working = c.loop-i.invariant.working in
     let works = c.tick.ensures.works in
+    let kept = subst (λ (s : Store). KeepsComplete (store_in c.loop-i.store) s) (sym c.tick.ensures.store) (λ number entry found whole. found) in
     let step : c.loop-i.i + 1 ≡ suc c.loop-i.i = add-one c.loop-i.i in
     record {
       silent =
@@ -32,10 +36,10 @@ loop-i-preserved c =
       working = (
         working.0,
         working.1,
-        settled-works working.0 working.1 c.loop-i.store c.tick.new.store c.loop-i.places c.loop-i.i old c.tick.new.self at working.2 works,
+        settled-works working.0 working.1 c.loop-i.store c.tick.new.store c.loop-i.places c.loop-i.i old c.tick.new.self at working.2 works kept,
       );
       settled = λ me k h.
-          settled-works me k c.loop-i.store c.tick.new.store c.loop-i.places c.loop-i.i old c.tick.new.self at (c.loop-i.invariant.settled me k h) works;
+          settled-works me k c.loop-i.store c.tick.new.store c.loop-i.places c.loop-i.i old c.tick.new.self at (c.loop-i.invariant.settled me k h) works kept;
       ticks = λ w slots all.
           let was = c.loop-i.invariant.ticks w slots all in
           let got = all-get (IsPlace w c.loop-i.store) c.loop-i.places (ticked c.loop-i.i slots) c.loop-i.i old was at in

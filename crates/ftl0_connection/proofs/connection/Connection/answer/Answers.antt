@@ -4,7 +4,8 @@ use Rattle.ax25_link.specs.Ends.{answering_end}
 use Rattle.ax25_link.specs.Kept.{Kept}
 use Rattle.ax25_link.specs.Window.{window_of}
 use Rattle.ftl0_packets.specs.Reading.{under_way}
-use Rattle.ftl0_uploads.specs.SessionState.{SessionState, state_of}
+use Rattle.selection_lists.specs.Lists.{has_left}
+use Rattle.ftl0_session.specs.SessionState.{SessionState, caller_of, state_in}
 use Rattle.ftl0_connection.specs.Connected.{answering}
 use Rattle.ftl0_connection.proofs.WaitingLemmas.{waits-none}
 use Rattle.ftl0_connection.proofs.connection.Connection.answer.Goals as goal
@@ -13,11 +14,11 @@ pub invariant_of-result : goal.invariant_of-result
 invariant_of-result c =
     record {
       called = c.greet-session.ensures.stations.called ∙ c.in_ok-link.ensures.stations.called;
-      peer = c.greet-session.ensures.stations.peer ∙ c.in_ok-link.ensures.stations.peer ∙ sym (ap (λ (s : SessionState). s.caller) c.greet-session.ensures.session);
+      peer = c.greet-session.ensures.stations.peer ∙ c.in_ok-link.ensures.stations.peer ∙ sym (ap (λ (s : SessionState). caller_of s) c.greet-session.ensures.session);
       some =
           record {
             w = window_of c.args.k;
-            end = (answering c.args.me c.args.caller c.args.poll c.args.moment).end;
+            end = (answering c.args.me c.args.caller c.args.poll c.args.moment (has_left c.args.lists.now c.args.caller)).end;
             stands = c.greet-session.ensures.queued (window_of c.args.k) (answering_end c.args.me c.args.caller c.args.poll) c.in_ok-link.ensures.end;
           };
       waiting = waits-none c.new.result c.new.ensures.octets c.new.ensures.none c.new.ensures.left;
@@ -28,7 +29,7 @@ returns-clause-connection c store =
     record {
       link = c.greet-session.ensures.queued (window_of c.args.k) (answering_end c.args.me c.args.caller c.args.poll) c.in_ok-link.ensures.end;
       rest = ap under_way c.new.ensures.octets;
-      state = ap (λ (s : SessionState). state_of store s.phase) c.greet-session.ensures.session;
+      state = ap (state_in store) c.greet-session.ensures.session;
     }
 
 pub returns-clause-up : goal.returns-clause-up

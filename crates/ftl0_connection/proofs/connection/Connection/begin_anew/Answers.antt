@@ -1,9 +1,8 @@
 -- A session that begins anew has the same caller, and nothing waits.
 use Rattle.std.proofs.Common.{ap, sym, ◌∙◌}
-use Rattle.ax25_link.specs.Calls.{after_push}
-use Rattle.ftl0_packets.specs.Layout.{packet_text}
-use Rattle.ftl0_uploads.specs.Session.{greeting}
-use Rattle.ftl0_uploads.specs.SessionState.{SessionState}
+use Rattle.selection_lists.specs.Lists.{has_left}
+use Rattle.ftl0_session.specs.SessionState.{SessionState, caller_of}
+use Rattle.ftl0_connection.specs.Connected.{greeted}
 use Rattle.ftl0_connection.proofs.LinkLemmas.{some-after}
 use Rattle.ftl0_connection.proofs.WaitingLemmas.{waits-none}
 use Rattle.ftl0_connection.proofs.connection.Connection.begin_anew.Goals as goal
@@ -14,8 +13,8 @@ invariant_of-self c =
       called = c.greet-session.ensures.stations.called ∙ c.self.invariant.called;
       peer =
           c.greet-session.ensures.stations.peer ∙ c.self.invariant.peer ∙ sym c.caller.ensures
-          ∙ sym (ap (λ (s : SessionState). s.caller) (c.replace.ensures.after ∙ c.greet-session.ensures.session));
+          ∙ sym (ap (λ (s : SessionState). caller_of s) (c.replace.ensures.after ∙ c.greet-session.ensures.session));
       some =
-          some-after c.self.inside.link c.greet-session.new.link (λ w end. after_push end (packet_text (greeting c.args.moment))) c.self.invariant.some c.greet-session.ensures.queued;
+          some-after c.self.inside.link c.greet-session.new.link (λ w end. greeted end c.args.moment (has_left c.args.lists.now c.caller.result)) c.self.invariant.some c.greet-session.ensures.queued;
       waiting = waits-none c.new-self-inside.result c.new-self-inside.ensures.octets c.new-self-inside.ensures.none c.new-self-inside.ensures.left;
     }

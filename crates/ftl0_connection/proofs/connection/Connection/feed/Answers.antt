@@ -38,10 +38,11 @@ returns-in-More-clause-feeds g c =
     let a = c.self.inside in
     let now = connection_state (record { link = a.link; reader = c.feed-taken.new.self; session = a.session }) in
     let at_old : ConnectionState → Type 0 =
-    λ s. Feeds g.D.Disk c.args.moment (with_octets s c.args.piece.now) (with_octets now (drop c.feed-taken.result.0 c.args.piece.now)) c.args.store.now c.args.store.now c.args.disk.now c.args.disk.now (Stays, Ok tt) in
+    λ s. Feeds g.D.Disk c.args.moment (with_octets s c.args.piece.now) (with_octets now (drop c.feed-taken.result.0 c.args.piece.now)) c.args.store.now c.args.store.now c.args.lists.now c.args.lists.now
+    c.args.disk.now c.args.disk.now (Stays, Ok tt) in
     subst at_old c.self.view_is
-    (feeds-none g.D.Disk g.met.D.Disk.lasts_on c.args.moment (with_octets (connection_state a) c.args.piece.now) (with_octets now (drop c.feed-taken.result.0 c.args.piece.now)) c.args.store.now c.args.disk.now
-    (g.met.D.Disk.lasts_same c.args.disk.now) c.requires.may.healthy c.requires.may.stands_on
+    (feeds-none g.D.Disk g.met.D.Disk.lasts_on c.args.moment (with_octets (connection_state a) c.args.piece.now) (with_octets now (drop c.feed-taken.result.0 c.args.piece.now)) c.args.store.now
+    c.args.lists.now c.args.disk.now (g.met.D.Disk.lasts_same c.args.disk.now) c.requires.may.may.healthy c.requires.may.may.stands_on
     (with-none packets_of packets_of _ _ _ _ (c.feed-taken.ensures.waits c.in-More.is)) (with-none rest_of rest_of _ _ _ _ c.feed-taken.ensures.rest) refl refl)
 
 pub returns-in-Whole-clause-feeds : goal.returns-in-Whole-clause-feeds
@@ -49,20 +50,21 @@ returns-in-Whole-clause-feeds g c =
     let a = c.self.inside in
     let now = connection_state (record { link = c.answer-told.new.link; reader = c.feed-taken.new.self; session = c.answer-told.new.session }) in
     let at_old : ConnectionState → Type 0 =
-    λ s. Feeds g.D.Disk c.args.moment (with_octets s c.args.piece.now) (with_octets now (drop c.feed-taken.result.0 c.args.piece.now)) c.args.store.now c.answer-told.new.store c.args.disk.now c.answer-told.new.disk c.answer-told.result in
+    λ s. Feeds g.D.Disk c.args.moment (with_octets s c.args.piece.now) (with_octets now (drop c.feed-taken.result.0 c.args.piece.now)) c.args.store.now c.answer-told.new.store c.args.lists.now
+    c.answer-told.new.lists c.args.disk.now c.answer-told.new.disk c.answer-told.result in
     subst at_old c.self.view_is
     (record {
       items = read_item c.feed-taken.new.self ∷ [];
       packets = with-none packets_of (λ octets. read_item c.feed-taken.new.self ∷ packets_of octets) _ _ _ _ (c.feed-taken.ensures.found c.in-Whole.is);
       rest = with-none rest_of rest_of _ _ _ _ c.feed-taken.ensures.rest;
-      hears = c.answer-told.ensures.hears;
+      takes = c.answer-told.ensures.takes;
     })
 
 pub returns-in-More-clause-fit : goal.returns-in-More-clause-fit
 returns-in-More-clause-fit g c =
     let a = c.self.inside in
     let at_old : ConnectionState → Type 0 =
-    λ s. LeavesFit g.D.Disk c.args.store.now c.args.store.now c.args.disk.now c.args.disk.now s.link a.link s.session a.session (Stays, Ok tt) in
-    let may_old : ConnectionState → Type 0 = λ s. MayTake g.D.Disk c.args.store.now c.args.disk.now s.link s.session in
+    λ s. LeavesFit g.D.Disk c.args.store.now c.args.store.now c.args.lists.now c.args.disk.now c.args.disk.now s.link a.link s.session a.session (Stays, Ok tt) in
+    let may_old : ConnectionState → Type 0 = λ s. MayTake g.D.Disk c.args.store.now c.args.disk.now c.args.lists.now s.link s.session in
     subst at_old c.self.view_is
-    (fit-none g.D.Disk c.args.store.now c.args.disk.now a.link a.session (g.met.D.Disk.lasts_same c.args.disk.now) (subst may_old (sym c.self.view_is) c.requires.may))
+    (fit-none g.D.Disk c.args.store.now c.args.disk.now c.args.lists.now a.link a.session (g.met.D.Disk.lasts_same c.args.disk.now) (subst may_old (sym c.self.view_is) c.requires.may))

@@ -1,70 +1,51 @@
--- What the link told decides what becomes of the connection.
-use Rattle.std.proofs.Common.{◌≡◌, Ok, ap, subst, sym, ◌∙◌, refl, inl, inr}
+-- Behind the packets of a frame what is due is queued, where the connection goes on.
+use Rattle.std.proofs.Common.{◌≡◌, true, false, sym, subst}
+use Rattle.std.specs.Prelude.{Result, ⊤}
 use Rattle.ax25_frames.specs.Values.{value_of}
-use Rattle.ax25_link.specs.declared.state.Heard.TheVariants.{Nothing, Opened, Reopened, Bytes, Closed}
-use Rattle.ax25_link.specs.Rows.{after_frame}
-use Rattle.ax25_link.specs.Window.{Window}
 use Rattle.file_store.specs.State.{store_in}
-use Rattle.ftl0_connection.specs.declared.fate.Fate.TheVariants.{Stays, Ends}
-use Rattle.ftl0_connection.specs.Connected.{Connected, beginning}
-use Rattle.ftl0_connection.specs.ConnectionState.{ConnectionState, Hears, IsConnection}
-use Rattle.ftl0_connection.specs.Hearing.{hearing, hearing_as, with_end}
-use Rattle.ftl0_connection.specs.Inside.{connection_state}
-use Rattle.ftl0_connection.proofs.HearLemmas.{hears-bytes, hears-on, hears-over, hears-told, parks-same, same-peer}
-use Rattle.ftl0_connection.proofs.LinkLemmas.{link-bytes, link-up}
+use Rattle.ftl0_session.specs.declared.stop.ServerStop.{ServerStop}
+use Rattle.ftl0_connection.specs.declared.fate.Fate.{Fate}
+use Rattle.ftl0_connection.specs.ConnectionState.{Hears}
+use Rattle.ftl0_connection.specs.Feeding.{HearsParts, LeavesFit}
+use Rattle.ftl0_connection.specs.Hearing.{hearing, parts_of_frame, rest_of_frame}
+use Rattle.ftl0_connection.proofs.DueLemmas.{hears-going, hears-stop}
+use Rattle.ftl0_connection.proofs.FeedLemmas.{fit-queued}
 use Rattle.ftl0_connection.proofs.connection.Connection.hear.Goals as goal
 
-pub returns-in-Nothing-clause-up : goal.returns-in-Nothing-clause-up
-returns-in-Nothing-clause-up g c stays =
-    link-up c.self.inside.link c.take.new.self c.self.invariant.some (value_of c.args.frame.now) c.take.result (ap (λ (s : ConnectionState). s.link.state) c.self.view_is ∙ c.requires.up)
-    c.take.ensures.heard c.take.ensures.after
-    (λ reason closed. elim c.in-Nothing.is [
-      | inl is ↦ absurd (let same : Nothing ≡ Closed reason = sym is ∙ closed in cc)
-      | inr is ↦ absurd (let same : Opened ≡ Closed reason = sym is ∙ closed in cc)
-    ])
-
-pub returns-in-Reopened-clause-hears : goal.returns-in-Reopened-clause-hears
-returns-in-Reopened-clause-hears g c =
-    let a = c.self.inside in
+pub returns-then-goes_on-clause-hears : goal.returns-then-goes_on-clause-hears
+returns-then-goes_on-clause-hears g c w d is =
     let frame = value_of c.args.frame.now in
-    let parked = parks-same c.args.store.now c.begin_anew.new.store a.session.phase c.begin_anew.ensures.parks in
-    let P : ConnectionState → Type 0 =
-    λ s. (w : Window) (d : Connected) → IsConnection w c.args.store.now s d
-    → Hears g.D.Disk w (hearing w c.args.moment (store_in c.args.store.now) d frame) c.args.store.now c.begin_anew.new.store c.args.disk.now c.args.disk.now c.begin_anew.new.self (Stays, Ok tt) in
-    subst P c.self.view_is (λ w d is.
-    hears-told g.D.Disk w c.args.moment frame c.args.store.now c.begin_anew.new.store c.args.disk.now c.args.disk.now (connection_state a) c.begin_anew.new.self Reopened c.in-Reopened.ensures.heard (Stays, Ok tt)
-    d is
-    (hears-on g.D.Disk g.met.D.Disk.lasts_same w c.args.moment c.args.store.now c.begin_anew.new.store c.args.disk.now c.begin_anew.new.self c.requires.healthy c.requires.stands_on parked.0 parked.1
-    (hearing_as Reopened c.args.moment (store_in c.args.store.now) d (after_frame w d.end frame) frame.kind.information) (beginning (after_frame w d.end frame) c.args.moment) refl
-    (c.begin_anew.ensures.begins w (after_frame w d.end frame) (c.in-Reopened.ensures.after w d.end is.link))))
+    let going = c.goes_on.ensures.0 c.if-goes_on.true in
+    let keeps = c.queue_due.ensures.keeps in
+    let P : Fate × Result ⊤ ServerStop → Type 0 =
+    λ t. HearsParts g.D.Disk w (rest_of_frame w d frame) (parts_of_frame w c.args.moment (store_in c.args.store.now) c.args.lists.now d frame) c.args.store.now c.take_frame-told.new.store
+    c.take_frame-told.new.lists c.args.disk.now c.take_frame-told.new.disk c.take_frame-told.new.self t in
+    let Q : Fate × Result ⊤ ServerStop → Type 0 =
+    λ t. Hears g.D.Disk w (hearing w c.args.moment (store_in c.args.store.now) c.args.lists.now d frame) c.args.store.now c.queue_due.new.store c.take_frame-told.new.lists c.args.disk.now
+    c.queue_due.new.disk c.queue_due.new.self t in
+    subst Q (sym going)
+    (hears-going g.D.Disk g.met.D.Disk.lasts_same g.met.D.Disk.lasts_on w (rest_of_frame w d frame) (parts_of_frame w c.args.moment (store_in c.args.store.now) c.args.lists.now d frame) c.args.store.now
+    c.take_frame-told.new.store c.queue_due.new.store c.take_frame-told.new.lists c.args.disk.now c.take_frame-told.new.disk c.queue_due.new.disk c.take_frame-told.new.self c.queue_due.new.self
+    (subst P going (c.take_frame-told.ensures.hears w d is)) keeps.same keeps.octets c.queue_due.ensures.queues)
 
-pub returns-in-Bytes-clause-hears : goal.returns-in-Bytes-clause-hears
-returns-in-Bytes-clause-hears g c =
-    let a = c.self.inside in
-    let frame = value_of c.args.frame.now in
-    let up = ap (λ (s : ConnectionState). s.link.state) c.self.view_is ∙ c.requires.up in
-    let P : ConnectionState → Type 0 =
-    λ s. (w : Window) (d : Connected) → IsConnection w c.args.store.now s d
-    → Hears g.D.Disk w (hearing w c.args.moment (store_in c.args.store.now) d frame) c.args.store.now c.take_octets.new.store c.args.disk.now c.take_octets.new.disk c.take_octets.new.self c.take_octets.result in
-    subst P c.self.view_is (λ w d is.
-    let stands = c.in-Bytes.ensures.after w d.end is.link in
-    hears-told g.D.Disk w c.args.moment frame c.args.store.now c.take_octets.new.store c.args.disk.now c.take_octets.new.disk (connection_state a) c.take_octets.new.self Bytes c.in-Bytes.ensures.heard
-    c.take_octets.result d is
-    (hears-bytes g.D.Disk w c.args.moment frame c.args.store.now c.take_octets.new.store c.args.disk.now c.take_octets.new.disk (connection_state a) c.take_octets.new.self Bytes c.in-Bytes.ensures.heard
-    c.take_octets.result d (after_frame w d.end frame) c.information.result.now frame.kind.information (same-peer w a.link c.take.new.self d.end (after_frame w d.end frame) is.link stands c.take.ensures.stations.peer)
-    (c.information.ensures (link-bytes a.link c.take.new.self c.self.invariant.some frame Bytes up c.in-Bytes.ensures.heard refl))
-    (c.take_octets.ensures.hears w (with_end d (after_frame w d.end frame)) (record { link = stands; rest = is.rest; state = is.state }))))
+pub returns-then-goes_on-clause-fit : goal.returns-then-goes_on-clause-fit
+returns-then-goes_on-clause-fit g c =
+    let going = c.goes_on.ensures.0 c.if-goes_on.true in
+    let P : Fate × Result ⊤ ServerStop → Type 0 =
+    λ t. LeavesFit g.D.Disk c.args.store.now c.take_frame-told.new.store c.take_frame-told.new.lists c.args.disk.now c.take_frame-told.new.disk c.args.self.now.link c.take_frame-told.new.self.link
+    c.args.self.now.session c.take_frame-told.new.self.session t in
+    let Q : Fate × Result ⊤ ServerStop → Type 0 =
+    λ t. LeavesFit g.D.Disk c.args.store.now c.queue_due.new.store c.take_frame-told.new.lists c.args.disk.now c.queue_due.new.disk c.args.self.now.link c.queue_due.new.self.link c.args.self.now.session
+    c.queue_due.new.self.session t in
+    subst Q (sym going)
+    (fit-queued g.D.Disk g.met.D.Disk.lasts_on c.args.store.now c.take_frame-told.new.store c.queue_due.new.store c.args.disk.now c.take_frame-told.new.disk c.queue_due.new.disk
+    c.take_frame-told.new.lists c.args.self.now.link c.args.self.now.session c.take_frame-told.new.self c.queue_due.new.self (subst P going c.take_frame-told.ensures.fit) c.queue_due.ensures.keeps)
 
-pub returns-in-Closed-clause-hears : goal.returns-in-Closed-clause-hears
-returns-in-Closed-clause-hears g c =
-    let a = c.self.inside in
+pub returns-else-goes_on-clause-hears : goal.returns-else-goes_on-clause-hears
+returns-else-goes_on-clause-hears g c w d is =
     let frame = value_of c.args.frame.now in
-    let now = connection_state (record { link = c.take.new.self; reader = a.reader; session = a.session }) in
-    let P : ConnectionState → Type 0 =
-    λ s. (w : Window) (d : Connected) → IsConnection w c.args.store.now s d
-    → Hears g.D.Disk w (hearing w c.args.moment (store_in c.args.store.now) d frame) c.args.store.now c.args.store.now c.args.disk.now c.args.disk.now now (Ends, Ok tt) in
-    subst P c.self.view_is (λ w d is.
-    hears-told g.D.Disk w c.args.moment frame c.args.store.now c.args.store.now c.args.disk.now c.args.disk.now (connection_state a) now (Closed c.in-Closed._why) c.in-Closed.ensures.heard (Ends, Ok tt) d is
-    (hears-over g.D.Disk g.met.D.Disk.lasts_same w c.args.moment c.args.store.now c.args.store.now c.args.disk.now now c.requires.healthy c.requires.stands_on refl refl
-    (hearing_as (Closed c.in-Closed._why) c.args.moment (store_in c.args.store.now) d (after_frame w d.end frame) frame.kind.information) (with_end d (after_frame w d.end frame)) refl
-    (c.in-Closed.ensures.after w d.end is.link)))
+    hears-stop g.D.Disk g.met.D.Disk.lasts_same g.met.D.Disk.lasts_on w (rest_of_frame w d frame) (parts_of_frame w c.args.moment (store_in c.args.store.now) c.args.lists.now d frame) c.args.store.now
+    c.take_frame-told.new.store c.take_frame-told.new.store c.take_frame-told.new.lists c.args.disk.now c.take_frame-told.new.disk c.take_frame-told.new.disk c.take_frame-told.new.self
+    c.take_frame-told.result
+    (λ going. (let no : ⊥ = absurd (let told : c.goes_on.result ≡ true = c.goes_on.ensures.1 going in let not_told : c.goes_on.result ≡ false = c.if-goes_on.false in cc) in no))
+    (c.take_frame-told.ensures.hears w d is)

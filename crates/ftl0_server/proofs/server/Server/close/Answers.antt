@@ -4,4 +4,4 @@ use Rattle.ftl0_server.proofs.server.Server.close.Goals as goal
 
 pub end_all-requires : goal.end_all-requires
 end_all-requires c =
-    may-all c.self.inside.store c.self.inside.places (λ i d at. (c.self.invariant.seated i d at).held, c.self.invariant.distinct)
+    may-all c.self.inside.store c.self.inside.places (λ i d at. (c.self.invariant.settled.seated i d at).held, c.self.invariant.settled.distinct)

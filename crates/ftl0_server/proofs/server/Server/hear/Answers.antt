@@ -10,7 +10,7 @@ use Rattle.ftl0_server.proofs.server.Server.hear.Goals as goal
 pub returns-in-None-clause-hears : goal.returns-in-None-clause-hears
 returns-in-None-clause-hears g c = λ server is.
     let settled : IsSettled c.args.self.now.me c.args.self.now.k c.args.self.now.store c.args.self.now.places =
-    subst (λ (s : ServerState). IsSettled s.me s.k s.store s.places) c.self.view_is c.self.invariant in
+    subst (λ (s : ServerState). IsSettled s.me s.k s.store s.places) c.self.view_is c.self.invariant.settled in
     let found : position (has_caller (value_of c.args.frame.now).src) c.args.self.now.places ≡ None =
     subst (λ (s : ServerState). position (has_caller (value_of c.args.frame.now).src) s.places ≡ None) c.self.view_is (sym c.in-None.ensures) in
     stranger-hears g.D.Disk c.args.self.now c.hear_stranger.new.self server is settled (value_of c.args.frame.now) c.args.moment c.args.disk.now found

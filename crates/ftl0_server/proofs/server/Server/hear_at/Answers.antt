@@ -23,7 +23,7 @@ hear-requires-clause-may g c =
     subst (λ (s : ServerState). position (has_caller (value_of c.args.frame.now).src) s.places ≡ Some c.args.place) (sym c.self.view_is) c.requires.place in
     let silent = subst (λ (s : ServerState). server_pending s ≡ false) (sym c.self.view_is) c.requires.silent in
     let none = (none_first (is_there (option_map refused_of c.self.inside.stray)) (any_pending c.self.inside.places) silent).1 in
-    may-hear c.self.inside.me c.self.inside.k c.self.inside.store c.self.inside.places c.args.place c.index-places-place.result (value_of c.args.frame.now) found c.self.invariant none
+    may-hear c.self.inside.me c.self.inside.k c.self.inside.store c.self.inside.places c.args.place c.index-places-place.result (value_of c.args.frame.now) found c.self.invariant.settled none
     (record { dest = c.requires.frame.dest ∙ subst (λ (s : ServerState). s.me ≡ c.self.inside.me) c.self.view_is refl; via = c.requires.frame.via }) c.requires.numbers
 
 pub invariant_of-self : goal.invariant_of-self
@@ -31,14 +31,18 @@ invariant_of-self g c =
     let found : position (has_caller (value_of c.args.frame.now).src) c.self.inside.places ≡ Some c.args.place =
     subst (λ (s : ServerState). position (has_caller (value_of c.args.frame.now).src) s.places ≡ Some c.args.place) (sym c.self.view_is) c.requires.place in
     let within = found-within (has_caller (value_of c.args.frame.now).src) c.self.inside.places c.args.place found in
-    settled-works c.self.inside.me c.self.inside.k c.self.inside.store c.hear.new.store c.self.inside.places c.args.place
-    (get_or c.self.inside.places c.args.place c.index-places-place.result) c.hear.new.self
-    (slice_get-get_or c.self.inside.places c.args.place c.index-places-place.result within) c.self.invariant c.hear.ensures.works
+    record {
+      settled =
+          settled-works c.self.inside.me c.self.inside.k c.self.inside.store c.hear.new.store c.self.inside.places c.args.place
+          (get_or c.self.inside.places c.args.place c.index-places-place.result) c.hear.new.self
+          (slice_get-get_or c.self.inside.places c.args.place c.index-places-place.result within) c.self.invariant.settled c.hear.ensures.works c.hear.ensures.kept;
+      complete = c.hear.ensures.complete;
+    }
 
 pub returns-clause-hears : goal.returns-clause-hears
 returns-clause-hears g c = λ server is.
     let old : ServerState = server_state c.self.inside in
-    let new : ServerState = record old { places = set c.self.inside.places c.args.place c.hear.new.self; store = c.hear.new.store } in
+    let new : ServerState = record old { places = set c.self.inside.places c.args.place c.hear.new.self; store = c.hear.new.store; lists = c.hear.new.lists } in
     let was = subst (λ (s : ServerState). IsServer s server) (sym c.self.view_is) is in
     let frame = value_of c.args.frame.now in
     let found : position (has_caller (value_of c.args.frame.now).src) c.self.inside.places ≡ Some c.args.place =
@@ -46,8 +50,7 @@ returns-clause-hears g c = λ server is.
     let talks = found-talks frame.src c.self.inside.places c.args.place c.index-places-place.result found in
     let at = found-at frame.src c.self.inside.places c.args.place c.index-places-place.result talks.0 found talks.1 in
     let heard : Hears g.D.Disk (server_hearing server (value_of c.args.frame.now) c.args.moment) (server_state c.self.inside) new c.args.disk.now c.hear.new.disk c.hear.result =
-    server-hears g.D.Disk (server_state c.self.inside) new server was c.self.invariant (value_of c.args.frame.now) c.args.moment c.args.disk.now c.hear.new.disk c.args.place found talks.0 at
+    server-hears g.D.Disk (server_state c.self.inside) new server was c.self.invariant.settled (value_of c.args.frame.now) c.args.moment c.args.disk.now c.hear.new.disk c.args.place found talks.0 at
     c.hear.new.self (subst (λ (p : Place). Works c.self.inside.store c.hear.new.store p c.hear.new.self) talks.1 c.hear.ensures.works) refl refl refl refl c.hear.result
-    (λ w d at_d. c.hear.ensures.hears w d (subst (λ (p : Place). IsPlace w c.self.inside.store p (connected d)) (sym talks.1) at_d))
-    (λ w d at_d. c.hear.ensures.since w d (subst (λ (p : Place). IsPlace w c.self.inside.store p (connected d)) (sym talks.1) at_d)) in
+    (λ w d at_d. c.hear.ensures.hears w d (subst (λ (p : Place). IsPlace w c.self.inside.store p (connected d)) (sym talks.1) at_d)) in
     subst (λ (s : ServerState). Hears g.D.Disk (server_hearing server (value_of c.args.frame.now) c.args.moment) s new c.args.disk.now c.hear.new.disk c.hear.result) c.self.view_is heard

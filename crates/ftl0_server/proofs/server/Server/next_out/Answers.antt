@@ -24,6 +24,7 @@ returns-in-Some-clause-next c = λ server is.
       sends = record { me = was.sends.me; window = was.sends.window; stray = refl; links = was.sends.links };
       says = was.says;
       store = was.store;
+      lists = was.lists;
     } in
     subst (λ (s : ServerState). HandsOut IsServer (server_next server) s new c.args.out.now.items c.write.new.out.items true) c.self.view_is
     (stray-out IsServer (server_state c.self.inside) new server (refused_of c.in-Some.stray) c.args.out.now.items c.write.new.out.items was.sends.me was.sends.stray
@@ -33,18 +34,21 @@ pub returns-in-Some-clause-same : goal.returns-in-Some-clause-same
 returns-in-Some-clause-same c =
     let new : ServerState = record (server_state c.self.inside) { stray = None } in
     subst (λ (s : ServerState). SameButLinks s new) c.self.view_is
-    (record { me = refl; k = refl; places = same_places c.self.inside.places; store = refl })
+    (record { me = refl; k = refl; places = same_places c.self.inside.places; store = refl; lists = refl })
 
 pub invariant_of-self-in-None : goal.invariant_of-self-in-None
-invariant_of-self-in-None c =
-    settled-same c.self.inside.me c.self.inside.k c.self.inside.store c.self.inside.places c.next_of.new.places c.next_of.ensures.same c.self.invariant
+invariant_of-self-in-None c = record {
+  settled =
+      settled-same c.self.inside.me c.self.inside.k c.self.inside.store c.self.inside.places c.next_of.new.places c.next_of.ensures.same c.self.invariant.settled;
+  complete = c.self.invariant.complete;
+}
 
 pub returns-in-None-clause-sends : goal.returns-in-None-clause-sends
 returns-in-None-clause-sends c = λ server is.
     let was = subst (λ (s : ServerState). SendsFor s server) (sym c.self.view_is) is in
     let new : ServerState = record (server_state c.self.inside) { places = c.next_of.new.places } in
     subst (λ (s : ServerState). HandsOut SendsFor (server_next server) s new c.args.out.now.items c.next_of.new.out.items c.next_of.result) c.self.view_is
-    (places-out-sends (server_state c.self.inside) new server c.args.out.now.items c.next_of.new.out.items c.next_of.result refl refl refl refl c.next_of.ensures.same
+    (places-out-sends (server_state c.self.inside) new server c.args.out.now.items c.next_of.new.out.items c.next_of.result refl refl refl refl refl c.next_of.ensures.same
     (λ no. (ap (λ (ps : List Place). as_state c.self.inside ps) (c.next_of.ensures.none no).0, (c.next_of.ensures.none no).1))
     (ap (λ (o : Option Stray). option_map refused_of o) c.in-None.is) was (c.next_of.ensures.gives server.window server.slots was.links))
 
@@ -53,7 +57,7 @@ returns-in-None-clause-next c = λ server is.
     let was = subst (λ (s : ServerState). IsServer s server) (sym c.self.view_is) is in
     let new : ServerState = record (server_state c.self.inside) { places = c.next_of.new.places } in
     subst (λ (s : ServerState). HandsOut IsServer (server_next server) s new c.args.out.now.items c.next_of.new.out.items c.next_of.result) c.self.view_is
-    (places-out-next (server_state c.self.inside) new server c.args.out.now.items c.next_of.new.out.items c.next_of.result refl refl refl refl c.next_of.ensures.same
+    (places-out-next (server_state c.self.inside) new server c.args.out.now.items c.next_of.new.out.items c.next_of.result refl refl refl refl refl c.next_of.ensures.same
     (λ no. (ap (λ (ps : List Place). as_state c.self.inside ps) (c.next_of.ensures.none no).0, (c.next_of.ensures.none no).1))
     (ap (λ (o : Option Stray). option_map refused_of o) c.in-None.is) was (c.next_of.ensures.gives server.window server.slots was.sends.links))
 

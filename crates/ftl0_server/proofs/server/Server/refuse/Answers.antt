@@ -10,4 +10,5 @@ returns-clause-refuses c = λ server is.
       sends = record { me = was.sends.me; window = was.sends.window; stray = refl; links = was.sends.links };
       says = was.says;
       store = was.store;
+      lists = was.lists;
     }

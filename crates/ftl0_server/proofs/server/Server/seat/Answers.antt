@@ -2,7 +2,8 @@
 use Rattle.std.proofs.Common.{◌≡◌, get_or, None, Some, subst, sym, ◌∙◌, ap}
 use Rattle.std.specs.List.{position}
 use Rattle.std.proofs.lemmas.Option.{same_Some, slice_get-get_or}
-use Rattle.ftl0_uploads.specs.SessionState.{SessionState, number_of}
+use Rattle.ftl0_uploads.specs.SessionState.{number_of}
+use Rattle.ftl0_session.specs.SessionState.{SessionState, caller_of}
 use Rattle.ftl0_server.specs.Calls.{IsNew}
 use Rattle.ftl0_server.specs.declared.place.Place.TheVariants.{Talking}
 use Rattle.ftl0_server.specs.Kept.{server_state}
@@ -23,11 +24,11 @@ invariant_of-self c =
     let within = found-within is_empty_place c.self.inside.places c.args.place found in
     let at = slice_get-get_or c.self.inside.places c.args.place c.index-places-place.result within in
     let empty = found-passes is_empty_place c.self.inside.places c.args.place c.index-places-place.result found in
-    let stranger : position (has_caller c.args.connection.session.caller) c.self.inside.places ≡ None =
-    subst (λ (s : ServerState). position (has_caller c.args.connection.session.caller) s.places ≡ None) (sym c.self.view_is) c.requires.stranger in
+    let stranger : position (has_caller (caller_of c.args.connection.session)) c.self.inside.places ≡ None =
+    subst (λ (s : ServerState). position (has_caller (caller_of c.args.connection.session)) s.places ≡ None) (sym c.self.view_is) c.requires.stranger in
     let new = subst (λ (s : ServerState). IsNew s c.args.connection) (sym c.self.view_is) c.requires.new in
     let seated = settled-seat c.self.inside.me c.self.inside.k c.self.inside.store c.self.inside.places c.args.place c.args.connection within
     (λ e there. empty-none (get_or c.self.inside.places c.args.place c.index-places-place.result) empty e (same_Some (get_or c.self.inside.places c.args.place c.index-places-place.result) (Talking e) (sym at ∙ there)))
-    c.self.invariant (nobody c.args.connection.session.caller c.self.inside.places stranger) (new-seated (server_state c.self.inside) c.args.connection new)
-    (ap (λ (s : SessionState). number_of s.phase) c.requires.new.session) in
-    rw c.put.ensures seated
+    c.self.invariant.settled (nobody (caller_of c.args.connection.session) c.self.inside.places stranger) (new-seated (server_state c.self.inside) c.args.connection new)
+    (ap (λ (s : SessionState). number_of s.uploads.phase) c.requires.new.session) in
+    record { settled = rw c.put.ensures seated; complete = c.self.invariant.complete }

@@ -1,9 +1,14 @@
 -- A tick came at each place, and the disk stays.
 use Rattle.std.proofs.Common.{◌≡◌, false, refl, subst, sym, []}
 use Rattle.std.specs.Prelude.{Ok}
+use Rattle.file_entries.specs.Store.{Store}
 use Rattle.file_store.specs.OnDisk.{Does}
 use Rattle.file_store.specs.State.{StandsOn}
+use Rattle.file_store.specs.Working.{DoesAmongReads}
+use Rattle.file_journal.proofs.CallLemmas.{puts_none}
+use Rattle.file_store.proofs.WorkingLemmas.{does-among, puts-among}
 use Rattle.ftl0_uploads.proofs.DoesLemmas.{does-none}
+use Rattle.ftl0_downloads.specs.Needs.{AreComplete}
 use Rattle.ftl0_server.specs.Calls.{Hears}
 use Rattle.ftl0_server.specs.Kept.{server_state}
 use Rattle.ftl0_server.specs.Server.{becoming, server_ticking}
@@ -13,7 +18,10 @@ use Rattle.ftl0_server.proofs.StepLemmas.{server-ticked}
 use Rattle.ftl0_server.proofs.server.Server.tick.Goals as goal
 
 pub invariant_of-self : goal.invariant_of-self
-invariant_of-self g c = c.tick_all.ensures.settled c.self.inside.me c.self.inside.k c.self.invariant
+invariant_of-self g c = record {
+  settled = c.tick_all.ensures.settled c.self.inside.me c.self.inside.k c.self.invariant.settled;
+  complete = subst (λ (s : Store). AreComplete s c.self.inside.lists) (sym c.tick_all.ensures.store) c.self.invariant.complete;
+}
 
 pub returns-clause-ticks : goal.returns-clause-ticks
 returns-clause-ticks g c = λ server is.
@@ -29,8 +37,14 @@ returns-clause-happens g c = λ server is.
     (c.tick_all.ensures.ticks server.window server.slots (all-are (server_state c.self.inside) server was)) c.tick_all.ensures.store in
     let healthy = subst (λ (s : ServerState). s.store.journal.failed ≡ false) (sym c.self.view_is) c.requires.healthy in
     let stands = subst (λ (s : ServerState). StandsOn g.D.Disk s.store c.args._disk.now) (sym c.self.view_is) c.requires.stands_on in
-    let does : Does g.D.Disk ⊥ c.self.inside.store c.tick_all.new.store c.args._disk.now c.args._disk.now [] =
+    let nothing : Does g.D.Disk ⊥ c.self.inside.store c.tick_all.new.store c.args._disk.now c.args._disk.now [] =
     does-none g.D.Disk c.self.inside.store c.tick_all.new.store c.args._disk.now healthy stands c.tick_all.ensures.store c.tick_all.ensures.journal
     (g.met.D.Disk.lasts_same c.args._disk.now) in
+    let does : DoesAmongReads g.D.Disk ⊥ false c.self.inside.store c.tick_all.new.store c.args._disk.now c.args._disk.now [] =
+    does-among g.D.Disk ⊥ c.self.inside.store c.tick_all.new.store c.args._disk.now c.args._disk.now [] nothing in
     subst (λ (s : ServerState). Hears g.D.Disk (λ failures. becoming (server_ticking server)) s new c.args._disk.now c.args._disk.now (Ok tt)) c.self.view_is
-    (record { by = (refl, ticked, does); since = does.since })
+    (record { parts = []; by = (refl, ticked, does); since = does.since })
+
+pub returns-clause-puts : goal.returns-clause-puts
+returns-clause-puts g c =
+    puts-among g.D.Disk _ c.args._disk.now c.args._disk.now (puts_none g.D.Disk c.args._disk.now _ (λ failed. cc failed) (g.met.D.Disk.lasts_same c.args._disk.now))

@@ -27,13 +27,13 @@ returns-clause-ticks g c =
     (subst at_old c.self.view_is
     (elim c.match-put_frames.branch [
       | in-Ok-put_frames w ↦ subst at_result (sym w.result-is) (λ server serving.
-          let by = (c.in-Ok.ensures.happens server serving.is).by in
+          let heard = c.in-Ok.ensures.happens server serving.is in
           event-taken g.D.Disk g.A.Air g.met.D.Disk.lasts_same g.met.D.Disk.lasts_on c.args.air.now c.put_frames.new.air c.self.inside.server c.tick.new.self c.put_frames.new.server c.args.disk.now c.tick.new._disk
-          (ticks c.args.moment) server serving by w.in-Ok-put_frames.ensures.store (w.in-Ok-put_frames.ensures.settles _ by.1))
+          (ticks c.args.moment) server serving heard.parts heard.by w.in-Ok-put_frames.ensures.store (w.in-Ok-put_frames.ensures.settles _ heard.by.1))
       | in-Err-put_frames w ↦ subst at_result (sym w.result-is) (λ server serving.
-          let by = (c.in-Ok.ensures.happens server serving.is).by in
+          let heard = c.in-Ok.ensures.happens server serving.is in
           event-unsaid g.D.Disk g.A.Air g.met.D.Disk.lasts_same g.met.D.Disk.lasts_on c.args.air.now c.put_frames.new.air c.self.inside.server c.tick.new.self c.put_frames.new.server c.args.disk.now c.tick.new._disk
-          (ticks c.args.moment) server serving w.in-Err-put_frames._down by w.in-Err-put_frames.ensures.store (w.in-Err-put_frames.ensures.says _ by.1.sends))
+          (ticks c.args.moment) server serving heard.parts w.in-Err-put_frames._down heard.by w.in-Err-put_frames.ensures.store (w.in-Err-put_frames.ensures.says _ heard.by.1.sends))
     ]))
 
 pub returns-clause-up : goal.returns-clause-up

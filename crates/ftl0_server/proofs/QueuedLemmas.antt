@@ -1,0 +1,220 @@
+-- Between the events of a server all that is due was queued, as far as there was room.
+use Rattle.std.proofs.Common.{◌≡◌, ℕ, zero, suc, ◌+◌, ◌-◌, ◌<◌, List, [], ◌∷◌, ◌++◌, length, set, take, drop, map, Bool, true, false, Option, None, Some, refl, sym, ◌∙◌, ap, subst, inl, inr, append_assoc, take-append-drop}
+use Rattle.std.specs.Prelude.{if◌then◌else◌, ◌&&◌, ◌==◌, nat_le, slice_get}
+use Rattle.std.specs.List.{concat}
+use Rattle.std.specs.Option.{option_map}
+use Rattle.std.proofs.lemmas.List.{drop-append-le}
+use Rattle.std.proofs.lemmas.Option.{same_Some}
+use Rattle.ax25_frames.specs.FrameText.{FrameValue}
+use Rattle.ax25_link.specs.Ends.{Farewell, IsEnd, LinkEnd, Reply, free_octets, held, most_held}
+use Rattle.ax25_link.specs.Kept.{is_there}
+use Rattle.ax25_link.specs.Rows.{entering}
+use Rattle.ax25_link.specs.Sending.{Sending, after_new, has_new, last_sending, later_sending, most_information, next_piece, next_sending, sending_after, sends_again, sends_new, sends_reply}
+use Rattle.ax25_link.specs.Timer.{after_tick, is_down, is_spent, runs_out, told_of_tick, trying}
+use Rattle.ax25_link.specs.Window.{Window}
+use Rattle.ax25_link.specs.declared.state.LinkState.TheVariants.{Down}
+use Rattle.ax25_link.specs.declared.state.Why.TheVariants.{NoAnswer}
+use Rattle.ax25_link.proofs.SendLemmas.{after_new-HasPiece, concat-append_one}
+use Rattle.file_entries.specs.Command.{Command, after_all}
+use Rattle.file_entries.specs.Store.{Store}
+use Rattle.ftl0_uploads.specs.Failures.{Failure, read_fails}
+use Rattle.ftl0_downloads.specs.Sending.{DuePacket as Download, due_packet, is_due}
+use Rattle.ftl0_session.specs.Table.{DuePacket, State, download_part, due_at, in_session}
+use Rattle.ftl0_connection.specs.Connected.{Connected}
+use Rattle.ftl0_connection.specs.Hearing.{hearing, parts_of_frame, ticking, with_end}
+use Rattle.ftl0_connection.specs.Laws.{IsQueued, QueuedLaw}
+use Rattle.ftl0_connection.specs.Taking.{Progress, after_due, enough_free, on_due, queued, queuing}
+use Rattle.ftl0_server.specs.Laws.{AreQueued, SlotFits, SlotIsQueued, SlotsFit}
+use Rattle.ftl0_server.specs.Slots.{PlacesSend, Slot, SlotSends, all_freed, connected, first_of, free, leaving, left_by, places_next, slot_after, slot_next, slot_sends, slot_ticking}
+use Rattle.ftl0_server.proofs.AllPlaces.{never}
+
+-- ---- whether anything is due is the state's to tell
+
+no_due : (due : Bool) (one other : Download) → option_map in_session (if due then Some one else None) ≡ None
+    → option_map in_session (if due then Some other else None) ≡ None
+no_due true one other none = absurd (never (in_session one) (sym none))
+no_due false one other none = refl
+
+due-none : (store now : Store) (state : State) (failures others : List Failure) (part other : ℕ) → due_at store state failures part ≡ None
+    → due_at now state others other ≡ None
+due-none store now state failures others part other none =
+    no_due (is_due (download_part state)) (due_packet store (download_part state) (read_fails failures part))
+    (due_packet now (download_part state) (read_fails others other)) none
+
+-- what was queued stays so, over whatever store, while no octets are freed
+pub queued-stays : (store now : Store) (state : State) (end other : LinkEnd) → free_octets other ≡ free_octets end → IsQueued store state end
+    → IsQueued now state other
+queued-stays store now state end other same (inl none) = inl (λ failures part. due-none store now state failures failures part part (none failures part))
+queued-stays store now state end other same (inr few) = inr (subst (λ (n : ℕ). n < enough_free) (sym same) few)
+
+-- ---- sending frees no octets
+
+freed-none : (end other : LinkEnd) → held other ≡ held end → free_octets other ≡ free_octets end
+freed-none end other same = ap (λ (octets : List ℕ). most_held - length octets) same
+
+-- a piece that is sent is held still
+piece-held : (w : Window) (end : LinkEnd) → IsEnd w end → held (after_new end) ≡ held end
+piece-held w end fits =
+    let piece = after_new-HasPiece end in
+    let out : drop end.acked (end.sent ++ next_piece end ∷ []) ≡ drop end.acked end.sent ++ next_piece end ∷ [] =
+    drop-append-le end.acked end.sent (next_piece end ∷ []) fits.acked in
+    ap (λ (n : ℕ). concat (drop n (after_new end).sent) ++ (after_new end).queued) piece.acked
+    ∙ ap (λ (pieces : List (List ℕ)). concat (drop end.acked pieces) ++ (after_new end).queued) piece.sent
+    ∙ ap (λ (octets : List ℕ). concat (drop end.acked (end.sent ++ next_piece end ∷ [])) ++ octets) piece.queued
+    ∙ ap (λ (pieces : List (List ℕ)). concat pieces ++ drop most_information end.queued) out
+    ∙ ap (λ (octets : List ℕ). octets ++ drop most_information end.queued) (concat-append_one (drop end.acked end.sent) (next_piece end))
+    ∙ append_assoc (concat (drop end.acked end.sent)) (next_piece end) (drop most_information end.queued)
+    ∙ ap (λ (octets : List ℕ). concat (drop end.acked end.sent) ++ octets) (take-append-drop most_information end.queued)
+
+module _ (w : Window) (end : LinkEnd) (fits : IsEnd w end) where
+  -- what is sent leaves the end with as many free octets
+  abbrev LeavesFree : Option Sending → Type 0
+  LeavesFree o = (sending : Sending) → o ≡ Some sending → free_octets sending.after ≡ free_octets end
+
+  leaves : (one : Sending) → free_octets one.after ≡ free_octets end → LeavesFree (Some one)
+  leaves one same sending is = subst (λ (s : Sending). free_octets s.after ≡ free_octets end) (same_Some one sending is) same
+
+  last-leaves : (farewell : Option Farewell) → LeavesFree (last_sending end farewell)
+  last-leaves None sending is = absurd (never sending is)
+  last-leaves (Some farewell) sending is = leaves _ refl sending is
+
+  later-leaves : (again new : Bool) (farewell : Option Farewell)
+      → LeavesFree (if again then Some (sends_again w end) else if new then Some (sends_new w end) else last_sending end farewell)
+  later-leaves true new farewell sending is = leaves (sends_again w end) refl sending is
+  later-leaves false true farewell sending is = leaves (sends_new w end) (freed-none end (after_new end) (piece-held w end fits)) sending is
+  later-leaves false false farewell sending is = last-leaves farewell sending is
+
+  after-leaves : (reply : Option Reply) → LeavesFree (later_sending w end) → LeavesFree (sending_after w end reply)
+  after-leaves None later sending is = later sending is
+  after-leaves (Some reply) later sending is = leaves (sends_reply w end reply) refl sending is
+
+  pub sending-leaves : LeavesFree (next_sending w end)
+  sending-leaves = after-leaves end.reply (later-leaves _ _ end.farewell)
+
+-- ---- a tick frees no octets
+
+tick-by : (end : LinkEnd) (down out spent : Bool)
+    → is_there (if down then None else if out && spent then Some NoAnswer else None) ≡ false
+    → free_octets (if down then end else if out then (if spent then entering end Down else trying end) else record end { count = end.count + 1 }) ≡ free_octets end
+tick-by end true out spent stays = refl
+tick-by end false false spent stays = refl
+tick-by end false true false stays = refl
+tick-by end false true true stays = absurd (cc stays)
+
+ticking-queued : (store : Store) (c : Connected) → IsQueued store c.state c.end → (ticking c).over ≡ false
+    → IsQueued store (ticking c).after.state (ticking c).after.end
+ticking-queued store c queued_there stays =
+    queued-stays store store c.state c.end (after_tick c.end) (tick-by c.end (is_down c.end.state) (runs_out c.end) (is_spent c.end) stays) queued_there
+
+-- ---- places
+
+-- what is left of a connection whose session goes on
+pub left-queued : (store : Store) (over : Bool) (c : Connected) → (over ≡ false → IsQueued store c.state c.end) → SlotIsQueued store (left_by over c)
+left-queued store false c is = is refl
+left-queued store true c is = tt
+
+slot-stays : (store now : Store) (slot : Slot) → SlotIsQueued store slot → SlotIsQueued now slot
+slot-stays store now free is = tt
+slot-stays store now (connected c) is = queued-stays store now c.state c.end c.end refl is
+slot-stays store now (leaving end) is = tt
+
+-- over whatever store
+pub all-stay : (store now : Store) (slots : List Slot) → AreQueued store slots → AreQueued now slots
+all-stay store now [] all = tt
+all-stay store now (slot ∷ slots) all = (slot-stays store now slot all.0, all-stay store now slots all.1)
+
+module _ (store : Store) where
+  pub queued-set : (slots : List Slot) (place : ℕ) (slot : Slot) → AreQueued store slots → SlotIsQueued store slot → AreQueued store (set slots place slot)
+  queued-set [] place slot all one = tt
+  queued-set (s ∷ slots) zero slot all one = (one, all.1)
+  queued-set (s ∷ slots) (suc place) slot all one = (all.0, queued-set slots place slot all.1 one)
+
+  -- a tick came at each
+  pub ticked-queued : (slots : List Slot) → AreQueued store slots → AreQueued store (map slot_ticking slots)
+  ticked-queued [] all = tt
+  ticked-queued (free ∷ slots) all = (tt, ticked-queued slots all.1)
+  ticked-queued (connected c ∷ slots) all =
+      (left-queued store (ticking c).over (ticking c).after (ticking-queued store c all.0), ticked-queued slots all.1)
+  ticked-queued (leaving end ∷ slots) all = (tt, ticked-queued slots all.1)
+
+  -- those whose sessions are over are free
+  pub freed-queued : (slots : List Slot) → AreQueued store slots → AreQueued store (all_freed slots)
+  freed-queued [] all = tt
+  freed-queued (free ∷ slots) all = (tt, freed-queued slots all.1)
+  freed-queued (connected c ∷ slots) all = (all.0, freed-queued slots all.1)
+  freed-queued (leaving end ∷ slots) all = (tt, freed-queued slots all.1)
+
+  -- ---- frames are sent
+
+  connected-sends : (w : Window) (c : Connected) (o : Option Sending) → next_sending w c.end ≡ o → IsEnd w c.end → IsQueued store c.state c.end
+      → (x : SlotSends) → option_map (slot_sends (λ end. connected (with_end c end))) o ≡ Some x → SlotIsQueued store x.after
+  connected-sends w c None is fits there x sends = absurd (never x sends)
+  connected-sends w c (Some sending) is fits there x sends =
+      let same = sending-leaves w c.end fits sending is in
+      subst (λ (y : SlotSends). SlotIsQueued store y.after) (same_Some (slot_sends (λ end. connected (with_end c end)) sending) x sends)
+      (queued-stays store store c.state c.end sending.after same there)
+
+  leaving-sends : (o : Option Sending) (x : SlotSends) → option_map (slot_sends leaving) o ≡ Some x → SlotIsQueued store x.after
+  leaving-sends None x sends = absurd (never x sends)
+  leaving-sends (Some sending) x sends = subst (λ (y : SlotSends). SlotIsQueued store y.after) (same_Some (slot_sends leaving sending) x sends) tt
+
+  slot-sent : (w : Window) (slot : Slot) → SlotFits w slot → SlotIsQueued store slot → (x : SlotSends) → slot_next w slot ≡ Some x → SlotIsQueued store x.after
+  slot-sent w free fits is x sends = absurd (never x sends)
+  slot-sent w (connected c) fits is x sends = connected-sends w c (next_sending w c.end) refl fits is x sends
+  slot-sent w (leaving end) fits is x sends = leaving-sends (next_sending w end) x sends
+
+  first-sent : (slot : Slot) (slots : List Slot) (o : Option SlotSends) (later : Option PlacesSend)
+      → ((x : SlotSends) → o ≡ Some x → SlotIsQueued store x.after) → ((y : PlacesSend) → later ≡ Some y → AreQueued store y.after)
+      → AreQueued store (slot ∷ slots) → (z : PlacesSend) → first_of slot slots o later ≡ Some z → AreQueued store z.after
+  first-sent slot slots None None first others all z sends = absurd (never z sends)
+  first-sent slot slots None (Some y) first others all z sends =
+      subst (λ (v : PlacesSend). AreQueued store v.after) (same_Some _ z sends) (all.0, others y refl)
+  first-sent slot slots (Some x) later first others all z sends =
+      subst (λ (v : PlacesSend). AreQueued store v.after) (same_Some _ z sends) (first x refl, all.1)
+
+  pub places-sent : (w : Window) (slots : List Slot) → SlotsFit w slots → AreQueued store slots → (z : PlacesSend) → places_next w slots ≡ Some z
+      → AreQueued store z.after
+  places-sent w [] fits all z sends = absurd (never z sends)
+  places-sent w (slot ∷ slots) fits all z sends =
+      first-sent slot slots (slot_next w slot) (places_next w slots) (slot-sent w slot fits.0 all.0) (places-sent w slots fits.1 all.1) all z sends
+
+-- ---- a frame is heard
+
+-- What is queued changes nothing but what a link has, what is due, and what was told.
+pub record QueuesAlone (progress now : Progress) : Type 0 where
+  pub over : now.over ≡ progress.over
+  pub done : now.done ≡ progress.done
+  pub cut : now.cut ≡ progress.cut
+
+alone : (progress : Progress) → QueuesAlone progress progress
+alone progress = record { over = refl; done = refl; cut = refl }
+
+either : (progress one other : Progress) (b : Bool) → QueuesAlone progress one → QueuesAlone progress other → QueuesAlone progress (if b then one else other)
+either progress one other true first second = first
+either progress one other false first second = second
+
+due-alone : (progress : Progress) (o : Option DuePacket) (later : DuePacket → Progress) → ((due : DuePacket) → QueuesAlone progress (later due))
+    → QueuesAlone progress (on_due o progress later)
+due-alone progress None later each = alone progress
+due-alone progress (Some due) later each = each due
+
+queuing-alone : (more : ℕ) (store : Store) (failures : List Failure) (progress : Progress) → QueuesAlone progress (queuing more store failures progress)
+queuing-alone zero store failures progress = alone progress
+queuing-alone (suc more) store failures progress =
+    either progress (on_due (due_at store progress.state failures progress.part) progress (λ due. queuing more store failures (after_due due progress))) progress
+    (nat_le enough_free (free_octets progress.end))
+    (due-alone progress (due_at store progress.state failures progress.part) (λ due. queuing more store failures (after_due due progress))
+    (λ due. let rest = queuing-alone more store failures (after_due due progress) in record { over = rest.over; done = rest.done; cut = rest.cut }))
+    (alone progress)
+
+pub queued-alone : (store : Store) (failures : List Failure) (progress : Progress) → QueuesAlone progress (queued store failures progress)
+queued-alone store failures progress =
+    either progress progress (queuing (free_octets progress.end) (after_all store progress.done) failures progress) progress.over (alone progress)
+    (queuing-alone (free_octets progress.end) (after_all store progress.done) failures progress)
+
+pub heard-queued : QueuedLaw → (store : Store) (failures : List Failure) (progress : Progress) → (queued store failures progress).over ≡ false
+    → IsQueued (after_all store (queued store failures progress).done) (queued store failures progress).state (queued store failures progress).end
+heard-queued law store failures progress stays =
+    let same = queued-alone store failures progress in
+    subst (λ (commands : List Command). IsQueued (after_all store commands) (queued store failures progress).state (queued store failures progress).end) (sym same.done)
+    (law store failures progress (sym same.over ∙ stays))
