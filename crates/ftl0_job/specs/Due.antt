@@ -44,17 +44,21 @@ due_in (phase.Ack number) at = None
 abbrev pub upload_due : Upload → Option (DuePacket Upload)
 upload_due at = due_in at.phase at
 
--- what an upload sends, as the job does
-abbrev pub in_job : DuePacket Upload → DuePacket JobState
-in_job next = record { packet = next.packet; state = new_job (work.Upload next.state) }
+-- what an upload sends, as one kind of work
+abbrev pub in_work : DuePacket Upload → DuePacket Work
+in_work next = record { packet = next.packet; state = work.Upload next.state }
 
-abbrev pub work_due : Work → Option (DuePacket JobState)
-work_due (work.Upload at) = option_map in_job (upload_due at)
+abbrev pub work_due : Work → Option (DuePacket Work)
+work_due (work.Upload at) = option_map in_work (upload_due at)
 work_due (work.Directory at) = None
 work_due (work.Download at) = None
 
+-- what a job sends
+abbrev pub in_job : DuePacket Work → DuePacket JobState
+in_job next = record { packet = next.packet; state = new_job next.state }
+
 abbrev pub due_by : Option Ending → Work → Option (DuePacket JobState)
-due_by None doing = work_due doing
+due_by None doing = option_map in_job (work_due doing)
 due_by (Some ending) done = None
 
 -- What is due next: nothing but while a file is sent, and nothing after the outcome.

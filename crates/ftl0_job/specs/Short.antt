@@ -23,7 +23,7 @@ abbrev pub begins_item : MandatoryItem → List ℕ → Bool
 begins_item rule octets = nat_le (item_len rule) (length octets) && bytes_eq (take 3 octets) (item_start rule)
 
 -- whether the octets are an item of each of these rules, in order, and the end item
-abbrev pub are_items : List MandatoryItem → List ℕ → Bool
+unfoldable pub are_items : List MandatoryItem → List ℕ → Bool
 are_items [] octets = bytes_eq octets end_item
 are_items (rule ∷ rules) octets = begins_item rule octets && are_items rules (drop (item_len rule) octets)
 
@@ -33,7 +33,7 @@ abbrev pub is_short_header : List ℕ → Bool
 is_short_header octets = bytes_eq (take 2 octets) header_start && are_items mandatory_items (drop 2 octets)
 
 -- whether the octets are so many short headers, one after another
-abbrev pub are_headers : ℕ → List ℕ → Bool
+unfoldable pub are_headers : ℕ → List ℕ → Bool
 are_headers zero octets = length octets == 0
 are_headers (suc n) octets = is_short_header (take short_len octets) && are_headers n (drop short_len octets)
 

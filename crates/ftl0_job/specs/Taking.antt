@@ -27,7 +27,7 @@ Answers row before now replies (Err why) = (now ≡ before) × (replies ≡ [])
 pub record TakesRow {D S : Type 0} (g : Ghosts D) (row : Row S) (before now : S) (notes notes_now : NotesState)
     (disk disk_now : D) (replies : List ℕ) (result : Result (Option Ending) JobStop) : Type 0 where
   pub answers : Answers row before now replies result
-  pub notes : HasNoted g notes notes_now disk disk_now row.commands result
+  pub noted : HasNoted g notes notes_now disk disk_now row.commands result
 
 -- the same of what makes no commands and may find no memory
 abbrev pub AnswersAlone : {S : Type 0} → Row S → S → S → List ℕ → Result (Option Ending) OutOfMemory → Type 0
@@ -49,5 +49,5 @@ StopsAt doing (Err stop.OutOfMemory) = IsTrue (takes_memory doing)
 pub record TakesPacket {D : Type 0} (g : Ghosts D) (item : Item) (before now : JobState) (notes notes_now : NotesState)
     (disk disk_now : D) (replies : List ℕ) (result : Result ⊤ JobStop) : Type 0 where
   pub answers : JobAnswers (job_row notes.lists before item) before now replies result
-  pub notes : HasNoted g notes notes_now disk disk_now (job_row notes.lists before item).commands result
+  pub noted : HasNoted g notes notes_now disk disk_now (job_row notes.lists before item).commands result
   pub stops : StopsAt before.work result

@@ -1,6 +1,6 @@
 //! Short headers one after another (PFH 1990, mandatory header; FTL0 1990, short directory).
 
-ghost use Rattle.std.specs.Prelude.{◌≡◌, ◌+◌, ◌*◌, ◌≤◌, length, take, IfSome, OnNone, drop, true, false};
+ghost use Rattle.std.specs.Prelude.{◌≡◌, ◌≤◌, length};
 ghost use Rattle.pfh_items.specs.Table.{mandatory_items};
 ghost use Rattle.ftl0_job.specs.Short.{are_items as are_items_of, are_short_headers as are_headers_whole, begins_item as begins_with_item, is_short_header as is_header};
 

@@ -1,6 +1,6 @@
 //! The upload of a file: what each packet gives to it, and what it sends (FTL0 1990, uploading).
 
-ghost use Rattle.std.specs.Prelude.{◌≡◌, ◌≤◌, [], true, false, length, IsErrOf, Ok};
+ghost use Rattle.std.specs.Prelude.{◌≡◌, ◌≤◌, [], drop, false, length, take, true, IsErrOf, Ok};
 ghost use Rattle.ftl0_packets.specs.Values.{value_of};
 ghost use Rattle.client_notes.specs.State.{StandsOn};
 ghost use Rattle.client_notes.specs.declared.limits.TheConstants.{LONGEST_FILE};
@@ -282,19 +282,30 @@ impl Upload {
         let UploadPhase::Sending { number, place } = self.phase else {
             return false;
         };
-        let left = &self.file.as_slice()[place as usize..];
-        if left.is_empty() {
+        let part = self.part_at(place);
+        if part.is_empty() {
             write_packet(&Packet::DataEnd, out);
             self.phase = UploadPhase::Ack { number };
-            return true;
+        } else {
+            write_packet(&Packet::DataPart(&part), out);
+            self.phase = UploadPhase::Sending {
+                number,
+                place: place + part.len() as u32,
+            };
         }
-        let count = left.len().min(MOST_DATA);
-        write_packet(&Packet::DataPart(&left[..count]), out);
-        self.phase = UploadPhase::Sending {
-            number,
-            place: place + count as u32,
-        };
         true
+    }
+
+    /// The octets of the next DATA from this place on, which lies within the file.
+    fn part_at(&self, place: u32) -> ArrayVec<u8, MOST_DATA>
+        requires { place ≤ length self.now.file }
+        ensures { result.items ≡ take MOST_DATA (drop place self.now.file) }
+    {
+        let left = &self.file.as_slice()[place as usize..];
+        let mut part = ArrayVec::new();
+        part.try_extend_from_slice(&left[..left.len().min(MOST_DATA)])
+            .unwrap();
+        part
     }
 }
 
