@@ -1,5 +1,6 @@
 pub mod BlockLemmas
 pub mod DueLemmas
+pub mod EndLemmas
 pub mod NotingLemmas
 pub mod RowLemmas
 pub mod ShortLemmas
