@@ -115,10 +115,7 @@ impl Job {
         if self.ending.is_some() {
             return Ok(());
         }
-        self.ending = match packet {
-            Ok(packet) => self.work.take(disk, &packet, notes, replies)?,
-            Err(malformed) => Some(strange(malformed.kind)),
-        };
+        self.ending = self.work.take_item(disk, packet, notes, replies)?;
         Ok(())
     }
 

@@ -1,21 +1,22 @@
 //! What a job does.
 
 ghost use Rattle.std.specs.Prelude.{◌≡◌, [], false};
-ghost use Rattle.ftl0_packets.specs.Values.{value_of};
+ghost use Rattle.ftl0_packets.specs.Values.{item_of, value_of};
 ghost use Rattle.client_notes.specs.State.{StandsOn};
 ghost use Rattle.ftl0_job.specs.Due.{PutsDue, work_due};
 ghost use Rattle.ftl0_job.specs.JobState.{GoWith};
-ghost use Rattle.ftl0_job.specs.Table.{listing_of, packet_row};
+ghost use Rattle.ftl0_job.specs.Table.{item_row, listing_of, packet_row};
 ghost use Rattle.ftl0_job.specs.Taking.{StopsAt, TakesRow};
 
 use crate::directory::Directory;
 use crate::download::Download;
+use crate::ending::strange;
 use crate::upload::Upload;
 use crate::{Ending, JobStop, Replies};
 use arrayvec::ArrayVec;
 use client_notes::Notes;
 use disk_model::Disk;
-use ftl0_packets::Packet;
+use ftl0_packets::{Malformed, Packet};
 
 /// What a job does.
 #[derive(Drop)]
@@ -29,8 +30,30 @@ pub(crate) enum Work {
 }
 
 impl Work {
-    /// Takes a packet: its row, or a stop. Takes memory, but for an upload.
-    pub(crate) fn take<D: Disk>(
+    /// Takes a packet, malformed or not: its row, or a stop. A malformed one is strange. Takes memory, but for an upload.
+    pub(crate) fn take_item<D: Disk>(
+        &mut self,
+        disk: &mut D,
+        packet: Result<Packet<'_>, Malformed>,
+        notes: &mut Notes,
+        replies: &mut Replies,
+    ) -> Result<Option<Ending>, JobStop>
+        requires empty { replies.old.items ≡ [] }
+        requires healthy { notes.old.journal.failed ≡ false }
+        requires stands_on { StandsOn D.Disk notes.old disk.old }
+        requires notes_are { GoWith notes.old.lists self.old }
+        ensures takes { TakesRow D.Disk (item_row notes.old.lists self.old (item_of packet.entry)) self.old self.new
+            notes.old notes.new disk.old disk.new replies.new.items result }
+        ensures stops { StopsAt self.old result }
+    {
+        match packet {
+            Ok(packet) => self.take(disk, &packet, notes, replies),
+            Err(malformed) => Ok(Some(strange(malformed.kind))),
+        }
+    }
+
+    /// Takes a packet: its row, or a stop.
+    fn take<D: Disk>(
         &mut self,
         disk: &mut D,
         packet: &Packet<'_>,
