@@ -2,6 +2,7 @@ pub mod Directory
 pub mod Download
 pub mod Due
 pub mod JobState
+pub mod Laws
 pub mod Noting
 pub mod Row
 pub mod Short

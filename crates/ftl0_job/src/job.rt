@@ -3,6 +3,7 @@
 ghost use Rattle.std.specs.Prelude.{◌≡◌, ◌≤◌, [], false, length, OnOk, Some};
 ghost use Rattle.std.specs.Option.{option_map};
 ghost use Rattle.ftl0_packets.specs.Values.{item_of};
+ghost use Rattle.client_notes.specs.Notes.{Lists};
 ghost use Rattle.client_notes.specs.State.{StandsOn};
 ghost use Rattle.client_notes.specs.declared.limits.TheConstants.{LONGEST_FILE};
 ghost use Rattle.ftl0_job.specs.declared.work.Work.TheVariants as work;
@@ -131,9 +132,13 @@ impl Job {
     /// or DATA_END where none is left. It answers false, and nothing changed, exactly where nothing is due. Takes no
     /// memory.
     pub fn fill(&mut self, out: &mut ArrayVec<u8, 256>) -> bool
-        ensures { PutsDue (next_due self.old) result self.old self.new out.old.items out.new.items }
+        ensures puts { PutsDue (next_due self.old) result self.old self.new out.old.items out.new.items }
+        ensures notes_are { (lists : Lists) → NotesGoWith lists self.old → NotesGoWith lists self.new }
     {
-        self.ending.is_none() && self.work.fill(out)
+        if self.ending.is_some() {
+            return false;
+        }
+        self.work.fill(out)
     }
 
     /// How the job ended, and when its link is hung up; `None` as long as it goes on. Takes no memory.

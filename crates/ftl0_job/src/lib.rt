@@ -9,6 +9,7 @@ mod directory;
 mod download;
 mod ending;
 mod job;
+pub mod laws;
 mod limits;
 mod noting;
 mod phases;
