@@ -1,6 +1,6 @@
 -- What the outcomes of a job promise, and how it goes on.
-use Rattle.std.proofs.Common.{◌≡◌, ℕ, zero, suc, ◌+◌, ◌-◌, ◌*◌, ◌/◌, ◌≤◌, ◌<◌, List, [], ◌∷◌, ◌++◌, Bool, true, false, length, take, drop, get_or, refl, sym, ◌∙◌, ap, subst, arith, length-append, length-drop, append_assoc}
-use Rattle.std.specs.Prelude.{⊤, IsTrue, ◌&&◌, ◌==◌, nat_le, nat_lt, slice_get, if◌then◌else◌, Option, None, Some, Ok, Err, Result}
+use Rattle.std.proofs.Common.{◌≡◌, ℕ, zero, suc, ◌+◌, ◌-◌, ◌*◌, ◌/◌, ◌≤◌, ◌<◌, List, [], ◌∷◌, ◌++◌, Bool, true, false, length, take, drop, get_or, refl, sym, ◌∙◌, ap, subst, arith, length-append, length-drop, append_assoc, inl, inr}
+use Rattle.std.specs.Prelude.{⊤, IsTrue, ◌&&◌, ◌==◌, nat_le, nat_lt, slice_get, if◌then◌else◌, Option, None, Some, Ok, Err, Result, IsErr, ◌⊎◌}
 use Rattle.std.specs.Option.{option_map}
 use Rattle.std.proofs.Math.Seq.{get_or-append_seam}
 use Rattle.std.proofs.lemmas.Bool.Decides.{nat_tests}
@@ -17,12 +17,14 @@ use Rattle.client_notes.specs.declared.limits.TheConstants.{LONGEST_FILE}
 use Rattle.client_notes.specs.declared.progress.Progress.{Progress}
 use Rattle.client_notes.specs.declared.progress.Progress.TheVariants as progress
 use Rattle.client_notes.specs.declared.refusals.NotesRefusal.{NotesRefusal}
-use Rattle.client_notes.specs.Answers.{answer_at, answer_by, answer_last, answer_of, fresh_task, noted_as, noted_at}
+use Rattle.client_notes.specs.Answers.{StartsBy, start_reaches, answer_at, answer_by, answer_last, answer_of, fresh_task, noted_as, noted_at}
 use Rattle.client_notes.specs.Command.{NotesCommand, acked, after, new_task}
 use Rattle.client_notes.specs.Laws.{AreAllowed, after_all}
 use Rattle.client_notes.specs.Notes.{Lists, Task, got_of, is_of_file, last_task, task_count, task_of}
 use Rattle.client_notes.specs.Several.{MakesBetween}
-use Rattle.client_notes.specs.State.{StandsFor}
+use Rattle.client_notes.specs.OnDisk.{Does, Untouched}
+use Rattle.client_notes.specs.State.{NotesState, StandsFor}
+use Rattle.disk_model.specs.declared.disk.Disk.{Ghosts}
 use Rattle.client_notes.proofs.TaskLemmas.{acked-stays, both-left, task-after}
 use Rattle.ftl0_job.specs.declared.ending.Ending.{Ending}
 use Rattle.ftl0_job.specs.declared.ending.Outcome.{Outcome}
@@ -35,7 +37,7 @@ use Rattle.ftl0_job.specs.Download as download
 use Rattle.ftl0_job.specs.Download.{Download, download_row, unnoted, whole_gots, whole_row, with_rest}
 use Rattle.ftl0_job.specs.Due.{DuePacket, PutsDue, due_by, due_from, due_in, in_job, in_work, most_data, next_due, place_after, upload_due}
 use Rattle.ftl0_job.specs.JobState.{GoBy, HasGot, HasTask, IsCheckedIn, NotesGoWith, number_in}
-use Rattle.ftl0_job.specs.Laws.{Acknowledges, IsAckedIn, reached}
+use Rattle.ftl0_job.specs.Laws.{Acknowledges, IsAckedIn, IsStarted, reached, started}
 use Rattle.ftl0_job.specs.Row.{Row, ends, goes_on, strange}
 use Rattle.ftl0_job.specs.declared.work.Work.{Work}
 use Rattle.ftl0_job.specs.declared.work.Work.TheVariants as work
@@ -63,7 +65,7 @@ last-there tasks entry =
     let sum : length (tasks ++ entry ∷ []) ≡ length tasks + length (entry ∷ []) = length-append tasks (entry ∷ []) in
     slice_get-get_or (tasks ++ entry ∷ []) (length tasks) entry (omega (arith, sum)) ∙ ap Some (get_or-append_seam tasks entry [] entry)
 
-pub fresh : (lists : Lists) (server caller : CallSign) (name file digest : List ℕ)
+fresh : (lists : Lists) (server caller : CallSign) (name file digest : List ℕ)
     → HasTask (after lists (fresh_task lists server caller name (length file) digest)) (new_upload (task_count lists + 1) 0 file)
 fresh lists server caller name file digest =
     let entry : Task = new_task server caller name (length file) digest in
@@ -77,7 +79,7 @@ fresh lists server caller name file digest =
       file_length = refl;
     }
 
-pub going : (lists : Lists) (server caller : CallSign) (name file digest : List ℕ) (task number : ℕ)
+going : (lists : Lists) (server caller : CallSign) (name file digest : List ℕ) (task number : ℕ)
     → answer_of lists server caller name (length file) digest ≡ Ok (Some (begun.Going task number)) → HasTask lists (new_upload task number file)
 going lists server caller name file digest task number is = by_last (last_task lists server caller name) is
   where
@@ -107,6 +109,56 @@ going lists server caller name file digest task number is = by_last (last_task l
     by_last : (o : Option ℕ) → answer_last lists (length file) digest o ≡ Ok (Some (begun.Going task number)) → HasTask lists (new_upload task number file)
     by_last None same = absurd (cc same)
     by_last (Some t) same = by_task t (task_of lists t) refl same
+
+-- no answer of an earlier task is that a fresh one was noted
+not-fresh : (lists : Lists) (server caller : CallSign) (name digest : List ℕ) (len task : ℕ) → answer_of lists server caller name len digest ≡ Ok (Some (begun.Fresh task)) → ⊥
+not-fresh lists server caller name digest len task is = by_last (last_task lists server caller name) is
+  where
+    by_progress : (t : ℕ) (entry : Task) (b : Bool) (p : Progress) → answer_by t entry b p ≡ Ok (Some (begun.Fresh task)) → ⊥
+    by_progress t entry true progress.Acked same = cc same
+    by_progress t entry false progress.Acked same = cc same
+    by_progress t entry true progress.Going same = cc same
+    by_progress t entry false progress.Going same = cc same
+    by_progress t entry true (progress.Refused code) same = cc same
+    by_progress t entry false (progress.Refused code) same = cc same
+
+    by_task : (t : ℕ) (o : Option Task) → answer_at t len digest o ≡ Ok (Some (begun.Fresh task)) → ⊥
+    by_task t None same = cc same
+    by_task t (Some entry) same = by_progress t entry (is_of_file len digest entry) entry.progress same
+
+    by_last : (o : Option ℕ) → answer_last lists len digest o ≡ Ok (Some (begun.Fresh task)) → ⊥
+    by_last None same = cc same
+    by_last (Some t) same = by_task t (task_of lists t) same
+
+-- the number of a fresh task
+fresh-number : (old : NotesState) (r : Result (Option Begun) NotesRefusal) (task : ℕ) → (r ≡ Ok (Some (begun.Fresh task)) → ⊥) → StartsBy old r (Ok (begun.Fresh task)) → task ≡ task_count old.lists + 1
+fresh-number old (Ok None) task none starts = let is = starts.1 in cc is
+fresh-number old (Ok (Some kept)) task none starts = absurd (none (let kept_is : kept ≡ begun.Fresh task = cc starts in ap (λ (b : Begun). Ok (Some b)) kept_is))
+fresh-number old (Err refusal) task none starts = absurd (cc starts)
+
+-- the answer of an earlier task that is under way
+going-answer : (old : NotesState) (r : Result (Option Begun) NotesRefusal) (task number : ℕ) → StartsBy old r (Ok (begun.Going task number)) → r ≡ Ok (Some (begun.Going task number))
+going-answer old (Ok None) task number starts = absurd (let is = starts.1 in cc is)
+going-answer old (Ok (Some kept)) task number starts = let kept_is : kept ≡ begun.Going task number = cc starts in ap (λ (b : Begun). Ok (Some b)) kept_is
+going-answer old (Err refusal) task number starts = absurd (cc starts)
+
+pub is-started : {D : Type 0} (g : Ghosts D) (old new : NotesState) (disk disk_now : D) (server caller : CallSign) (name file digest : List ℕ) (given : Begun)
+    → StartsBy old (answer_of old.lists server caller name (length file) digest) (started given) → IsTrue (start_reaches (started given)) ⊎ Untouched old new disk disk_now
+    → (IsTrue (start_reaches (started given)) → Does g (IsErr (started given)) old new disk disk_now (fresh_task old.lists server caller name (length file) digest)) → IsStarted new.lists file given
+is-started g old new disk disk_now server caller name file digest (begun.Fresh task) starts untouched does =
+    let number : task ≡ task_count old.lists + 1 =
+    fresh-number old (answer_of old.lists server caller name (length file) digest) task (not-fresh old.lists server caller name digest (length file) task) starts in
+    let made = ((does refl).done (λ e. cc e)).lists in
+    subst (λ (l : Lists). HasTask l (new_upload task 0 file)) (sym made)
+    (subst (λ (k : ℕ). HasTask (after old.lists (fresh_task old.lists server caller name (length file) digest)) (new_upload k 0 file)) (sym number) (fresh old.lists server caller name file digest))
+is-started g old new disk disk_now server caller name file digest (begun.Going task number) starts untouched does =
+    let is = going-answer old (answer_of old.lists server caller name (length file) digest) task number starts in
+    subst (λ (n : NotesState). HasTask n.lists (new_upload task number file)) (sym (same-of old new disk disk_now untouched)) (going old.lists server caller name file digest task number is)
+  where
+    same-of : {D : Type 0} (old new : NotesState) (disk disk_now : D) → IsTrue false ⊎ Untouched old new disk disk_now → new ≡ old
+    same-of old new disk disk_now (inl never) = absurd (cc never)
+    same-of old new disk disk_now (inr same) = same.same
+is-started g old new disk disk_now server caller name file digest (begun.Already number) starts untouched does = tt
 
 -- ---- what is acknowledged
 

@@ -1,17 +1,21 @@
 -- Laws of a job's table: what the notes need to go with it, and what its outcomes promise.
-use Rattle.std.specs.Prelude.{◌≡◌, ℕ, ◌+◌, ◌<◌, ◌≤◌, List, [], ◌∷◌, ◌++◌, length, take, drop, false, Bool, Option, None, Some, Ok}
+use Rattle.std.specs.Prelude.{◌≡◌, ◌⊎◌, ℕ, ◌<◌, ◌≤◌, List, [], ◌∷◌, ◌++◌, length, take, drop, Option, None, Some, Result, Ok, IsErr, IsTrue, ⊤}
+use Rattle.disk_model.specs.declared.disk.Disk.{Ghosts}
 use Rattle.std.specs.Option.{option_map}
 use Rattle.px_base.specs.CallSign.{CallSign}
 use Rattle.ftl0_packets.specs.Layout.{Item, PacketValue, data_part, download_cmd, login_resp, ul_go_resp}
 use Rattle.pfh_items.specs.Faults.{fault_code}
-use Rattle.client_notes.specs.Answers.{answer_of, fresh_task, noted_at}
-use Rattle.client_notes.specs.Command.{NotesCommand, acked, after}
+use Rattle.client_notes.specs.Answers.{StartsBy, answer_of, fresh_task, noted_at, start_reaches}
+use Rattle.client_notes.specs.Command.{NotesCommand, acked}
+use Rattle.client_notes.specs.declared.answers.Begun.{Begun}
 use Rattle.client_notes.specs.declared.answers.Begun.TheVariants as begun
 use Rattle.client_notes.specs.declared.answers.Noted.TheVariants as noted
+use Rattle.client_notes.specs.declared.refusals.NotesRefusal.{NotesRefusal}
 use Rattle.client_notes.specs.Laws.{AreAllowed, after_all}
-use Rattle.client_notes.specs.Notes.{Lists, got_of, task_count}
+use Rattle.client_notes.specs.Notes.{Lists, got_of}
+use Rattle.client_notes.specs.OnDisk.{Does, Untouched}
 use Rattle.client_notes.specs.Several.{MakesBetween}
-use Rattle.client_notes.specs.State.{StandsFor}
+use Rattle.client_notes.specs.State.{NotesState, StandsFor}
 use Rattle.ftl0_job.specs.declared.ending.Ending.{Ending}
 use Rattle.ftl0_job.specs.declared.ending.Outcome.{Outcome}
 use Rattle.ftl0_job.specs.declared.ending.Outcome.TheVariants as outcome
@@ -31,19 +35,26 @@ StaysLaw =
     → NotesGoWith (after_all lists (job_row lists job item).commands)
     (record { work = (job_row lists job item).state; ending = (job_row lists job item).ending })
 
--- A fresh task that a start of the notes gave is one that a new upload of its file needs;
-abbrev pub FreshLaw : Type 0
-FreshLaw =
-    (lists : Lists) (server caller : CallSign) (name file digest : List ℕ)
-    → HasTask (after lists (fresh_task lists server caller name (length file) digest))
-    (new_upload (task_count lists + 1) 0 file)
+-- the notes have the task that a start of them gave for this file, as the file's upload needs it
+abbrev pub IsStarted : Lists → List ℕ → Begun → Type 0
+IsStarted lists file (begun.Fresh task) = HasTask lists (new_upload task 0 file)
+IsStarted lists file (begun.Going task number) = HasTask lists (new_upload task number file)
+IsStarted lists file (begun.Already number) = ⊤
 
--- and a task that it found under way is one that the upload of its file needs that is continued.
-abbrev pub GoingLaw : Type 0
-GoingLaw =
-    (lists : Lists) (server caller : CallSign) (name file digest : List ℕ) (task number : ℕ)
-    → answer_of lists server caller name (length file) digest ≡ Ok (Some (begun.Going task number))
-    → HasTask lists (new_upload task number file)
+-- the answer of a start that gave this
+abbrev pub started : Begun → Result Begun NotesRefusal
+started given = Ok given
+
+-- A fresh task that a start of the notes gave is one that a new upload of its file needs; and a task that it found under
+-- way is one that the upload needs by which the file is continued.
+abbrev pub StartedLaw : {D : Type 0} → Ghosts D → Type 0
+StartedLaw {D} g =
+    (old new : NotesState) (disk disk_now : D) (server caller : CallSign) (name file digest : List ℕ) (given : Begun)
+    → StartsBy old (answer_of old.lists server caller name (length file) digest) (started given)
+    → IsTrue (start_reaches (started given)) ⊎ Untouched old new disk disk_now
+    → (IsTrue (start_reaches (started given)) → Does g (IsErr (started given)) old new disk disk_now
+    (fresh_task old.lists server caller name (length file) digest))
+    → IsStarted new.lists file given
 
 -- what a row comes to, where it ends the job
 abbrev pub reached : {S : Type 0} → Row S → Option Outcome

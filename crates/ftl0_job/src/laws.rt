@@ -1,17 +1,18 @@
 //! Laws of a job's table.
 
-ghost use Rattle.ftl0_job.specs.Laws.{AcknowledgedLaw, ContinuedLaw, FetchedLaw, FetchingLaw, FreshLaw, GoingLaw};
-ghost use Rattle.ftl0_job.specs.Laws.{ResumedLaw, StaysLaw};
+ghost use Rattle.ftl0_job.specs.Laws.{AcknowledgedLaw, ContinuedLaw, FetchedLaw, FetchingLaw};
+ghost use Rattle.ftl0_job.specs.Laws.{ResumedLaw, StartedLaw, StaysLaw};
+
+use disk_model::Disk;
 
 /// Notes that go with a job before a packet go with it after the packet's row.
 pub fn stays_law()
     ensures { StaysLaw }
 {}
 
-/// The tasks that a start of the notes gives are those that an upload needs.
-pub fn started_law()
-    ensures fresh { FreshLaw }
-    ensures going { GoingLaw }
+/// The task that a start of the notes gives is the one that the file's upload needs.
+pub fn started_law<D: Disk>()
+    ensures { StartedLaw D.Disk }
 {}
 
 /// An upload whose outcome is that its file was acknowledged noted that, and so it stands from then on.

@@ -1,15 +1,17 @@
 //! What a client hears and says, octet by octet, what it notes, and the stops as they are shown.
 
-ghost use Rattle.std.specs.Prelude.{◌≡◌, [], false};
-ghost use Rattle.client_notes.specs.State.{NotesState};
-ghost use Rattle.ftl0_job.specs.JobState.{MayTake};
+ghost use Rattle.std.specs.Prelude.{◌≡◌, ◌≤◌, [], false, length};
+ghost use Rattle.client_notes.specs.State.{StandsOn};
+ghost use Rattle.ftl0_job.specs.JobState.{MayTake, NotesGoWith};
 
 use super::*;
 use arrayvec::ArrayVec;
-use client_notes::{Noted, Notes};
+use crate::laws::started_law;
+use client_notes::{Begun, Noted, Notes};
 use disk_model::{Disk, MemoryDisk};
 use ftl0_packets::{PacketFed, PacketReader};
 use px_base::{Call, FileBytes};
+use std::alloc::Global;
 use std::process::Abort;
 use std::test::Fail;
 
@@ -86,18 +88,47 @@ fn call(rt: &impl Abort, text: &str) -> Call {
     Call::read(text).expect(rt, "no call")
 }
 
+/// The upload of the file of [`FILE`], for which a task is started or goes on.
+fn upload<D: Disk>(rt: &impl Abort, alloc: Global, disk: &mut D, notes: &mut Notes) -> Job
+    requires { StandsOn D.Disk notes.old disk.old }
+    ensures stands_on { StandsOn D.Disk notes.new disk.new }
+    ensures notes_are { NotesGoWith notes.new.lists result }
+{
+    started_law::<D>();
+    let Ok(file) = FileBytes::copy_of(alloc, &FILE[2..]) else {
+        panic!(rt; "no memory");
+    };
+    let (server, me) = (call(rt, "PACSAT"), call(rt, "KA9XYZ"));
+    let Ok(begun) = notes.start(disk, server, me, "A", file.len() as u32, [7; 32]) else {
+        panic!(rt; "not started");
+    };
+    match begun {
+        Begun::Fresh { task } => Job::upload(task, 0, file),
+        Begun::Going { task, number } => Job::upload(task, number, file),
+        Begun::Already { .. } => panic!(rt; "acknowledged"),
+    }
+}
+
+/// The download of file 5.
+fn download(notes: &Notes, server: Call) -> Job
+    ensures { NotesGoWith notes.now.lists result }
+{
+    let _held = notes.got_len(server, 5);
+    Job::download(server, 5)
+}
+
 #[test]
 fn an_upload_to_its_acknowledgement(rt: HostRuntime) -> Result<(), Fail> {
-    let (server, me) = (call(&rt, "PACSAT"), call(&rt, "KA9XYZ"));
     let mut disk = MemoryDisk::new(rt.alloc(), &[], &[])?;
     let mut notes = Notes::recover(rt.alloc(), &mut disk)?;
-    notes.start(&mut disk, server, me, "A", 73, [7; 32])?;
-    let mut job = Job::upload(1, 0, FileBytes::copy_of(rt.alloc(), &FILE[2..])?);
+    let mut job = upload(&rt, rt.alloc(), &mut disk, &mut notes);
+    assert!(rt; !notes.failed());
     let rows: [Row<'_>; 2] = [
         (&LOGIN, &[0x08, 0x03, 0, 0, 0, 0, 0x49, 0, 0, 0], None),
         (&GO, &[], None),
     ];
     play(&rt, &mut job, &mut disk, &mut notes, &rows);
+    let (server, me) = (call(&rt, "PACSAT"), call(&rt, "KA9XYZ"));
     let going = Noted::Going { task: 1, number: 5 };
     assert_eq!(rt; notes.noted(server, me, "A"), Some(going));
     let mut out = ArrayVec::new();
@@ -116,12 +147,17 @@ fn an_upload_to_its_acknowledgement(rt: HostRuntime) -> Result<(), Fail> {
 
 #[test]
 fn an_upload_that_is_continued(rt: HostRuntime) -> Result<(), Fail> {
-    let (server, me) = (call(&rt, "PACSAT"), call(&rt, "KA9XYZ"));
     let mut disk = MemoryDisk::new(rt.alloc(), &[], &[])?;
     let mut notes = Notes::recover(rt.alloc(), &mut disk)?;
-    notes.start(&mut disk, server, me, "A", 73, [7; 32])?;
-    notes.numbered(&mut disk, 1, 5)?;
-    let mut job = Job::upload(1, 5, FileBytes::copy_of(rt.alloc(), &FILE[2..])?);
+    let mut job = upload(&rt, rt.alloc(), &mut disk, &mut notes);
+    assert!(rt; !notes.failed());
+    let rows: [Row<'_>; 2] = [
+        (&LOGIN, &[0x08, 0x03, 0, 0, 0, 0, 0x49, 0, 0, 0], None),
+        (&GO, &[], None),
+    ];
+    play(&rt, &mut job, &mut disk, &mut notes, &rows);
+    let mut job = upload(&rt, rt.alloc(), &mut disk, &mut notes);
+    assert!(rt; !notes.failed());
     let rows: [Row<'_>; 2] = [
         (&LOGIN, &[0x08, 0x03, 0x05, 0, 0, 0, 0x49, 0, 0, 0], None),
         (&[0x08, 0x04, 0x05, 0, 0, 0, 0x46, 0, 0, 0], &[], None),
@@ -134,15 +170,32 @@ fn an_upload_that_is_continued(rt: HostRuntime) -> Result<(), Fail> {
     let rows: [Row<'_>; 1] = [(&[0x01, 0x07, 0x03], &[0x00, 0x01], nak)];
     play(&rt, &mut job, &mut disk, &mut notes, &rows);
     assert!(rt; !job.fill(&mut out));
+    let (server, me) = (call(&rt, "PACSAT"), call(&rt, "KA9XYZ"));
     let going = Noted::Going { task: 1, number: 5 };
     assert_eq!(rt; notes.noted(server, me, "A"), Some(going));
-    let mut job = Job::upload(1, 5, FileBytes::copy_of(rt.alloc(), &FILE[2..])?);
+    Ok(())
+}
+
+#[test]
+fn an_upload_that_is_complete_already(rt: HostRuntime) -> Result<(), Fail> {
+    let mut disk = MemoryDisk::new(rt.alloc(), &[], &[])?;
+    let mut notes = Notes::recover(rt.alloc(), &mut disk)?;
+    let mut job = upload(&rt, rt.alloc(), &mut disk, &mut notes);
+    assert!(rt; !notes.failed());
+    let rows: [Row<'_>; 2] = [
+        (&LOGIN, &[0x08, 0x03, 0, 0, 0, 0, 0x49, 0, 0, 0], None),
+        (&GO, &[], None),
+    ];
+    play(&rt, &mut job, &mut disk, &mut notes, &rows);
+    let mut job = upload(&rt, rt.alloc(), &mut disk, &mut notes);
+    assert!(rt; !notes.failed());
     let acked = ended(Outcome::Acked { number: 5 }, false);
     let rows: [Row<'_>; 2] = [
         (&LOGIN, &[0x08, 0x03, 0x05, 0, 0, 0, 0x49, 0, 0, 0], None),
         (&[0x01, 0x05, 0x0C], &[], acked),
     ];
     play(&rt, &mut job, &mut disk, &mut notes, &rows);
+    let (server, me) = (call(&rt, "PACSAT"), call(&rt, "KA9XYZ"));
     let acked = Noted::Acked { task: 1, number: 5 };
     assert_eq!(rt; notes.noted(server, me, "A"), Some(acked));
     Ok(())
@@ -150,17 +203,17 @@ fn an_upload_that_is_continued(rt: HostRuntime) -> Result<(), Fail> {
 
 #[test]
 fn an_upload_that_is_refused(rt: HostRuntime) -> Result<(), Fail> {
-    let (server, me) = (call(&rt, "PACSAT"), call(&rt, "KA9XYZ"));
     let mut disk = MemoryDisk::new(rt.alloc(), &[], &[])?;
     let mut notes = Notes::recover(rt.alloc(), &mut disk)?;
-    notes.start(&mut disk, server, me, "A", 73, [7; 32])?;
-    let mut job = Job::upload(1, 0, FileBytes::copy_of(rt.alloc(), &FILE[2..])?);
+    let mut job = upload(&rt, rt.alloc(), &mut disk, &mut notes);
+    assert!(rt; !notes.failed());
     let refused = ended(Outcome::Refused { code: 13 }, false);
     let rows: [Row<'_>; 2] = [
         (&LOGIN, &[0x08, 0x03, 0, 0, 0, 0, 0x49, 0, 0, 0], None),
         (&[0x01, 0x05, 0x0D], &[], refused),
     ];
     play(&rt, &mut job, &mut disk, &mut notes, &rows);
+    let (server, me) = (call(&rt, "PACSAT"), call(&rt, "KA9XYZ"));
     let refused = Noted::Refused { task: 1, code: 13 };
     assert_eq!(rt; notes.noted(server, me, "A"), Some(refused));
     Ok(())
@@ -198,7 +251,7 @@ fn a_download(rt: HostRuntime) -> Result<(), Fail> {
     let server = call(&rt, "PACSAT");
     let mut disk = MemoryDisk::new(rt.alloc(), &[], &[])?;
     let mut notes = Notes::recover(rt.alloc(), &mut disk)?;
-    let mut job = Job::download(server, 5);
+    let mut job = download(&notes, server);
     let fetched = ended(Outcome::Fetched { number: 5 }, false);
     let rows: [Row<'_>; 4] = [
         (&LOGIN, &[0x09, 0x08, 0x05, 0, 0, 0, 0, 0, 0, 0, 0], None),
@@ -208,7 +261,7 @@ fn a_download(rt: HostRuntime) -> Result<(), Fail> {
     ];
     play(&rt, &mut job, &mut disk, &mut notes, &rows);
     assert_eq!(rt; notes.got_octets(server, 5), &FILE[2..]);
-    let mut job = Job::download(server, 5);
+    let mut job = download(&notes, server);
     let bad = ended(Outcome::BadFile { code: 14 }, true);
     let rows: [Row<'_>; 3] = [
         (&LOGIN, &[0x09, 0x08, 0x05, 0, 0, 0, 0x49, 0, 0, 0, 0], None),
@@ -228,7 +281,7 @@ fn octets_are_noted_by_whole_blocks(rt: HostRuntime) -> Result<(), Fail> {
     let mut data = [0x41; 602];
     data[0] = 0x58;
     data[1] = 0x40;
-    let mut job = Job::download(server, 5);
+    let mut job = download(&notes, server);
     let rows: [Row<'_>; 2] = [
         (&LOGIN, &[0x09, 0x08, 0x05, 0, 0, 0, 0, 0, 0, 0, 0], None),
         (&data, &[], None),
@@ -238,7 +291,7 @@ fn octets_are_noted_by_whole_blocks(rt: HostRuntime) -> Result<(), Fail> {
     let rows: [Row<'_>; 1] = [(&data, &[], None)];
     play(&rt, &mut job, &mut disk, &mut notes, &rows);
     assert_eq!(rt; notes.got_len(server, 5), 1024);
-    let mut job = Job::download(server, 5);
+    let mut job = download(&notes, server);
     let refused = ended(Outcome::Refused { code: 2 }, false);
     let rows: [Row<'_>; 2] = [
         (&LOGIN, &[0x09, 0x08, 0x05, 0, 0, 0, 0, 0x04, 0, 0, 0], None),
@@ -261,7 +314,7 @@ fn what_is_strange(rt: HostRuntime) -> Result<(), Fail> {
         (&[0x00, 0x02], &[], ended(Outcome::Strange { kind: 2 }, false)),
     ];
     for row in rows {
-        let mut job = Job::download(server, 5);
+        let mut job = download(&notes, server);
         play(&rt, &mut job, &mut disk, &mut notes, &[row]);
     }
     let mut job = Job::download(server, 5);
