@@ -274,7 +274,7 @@ ack-ack lists at given (login_resp moment flags) number waits has is = absurd (c
 ack-ack lists at given (upload_cmd of file_length) number waits has is = absurd (cc is)
 ack-ack lists at given (ul_go_resp of offset) number waits has is = absurd (cc is)
 ack-ack lists at given (ul_error_resp code) number waits has is = absurd (cc is)
-ack-ack lists at given ul_ack_resp number waits has is = 
+ack-ack lists at given ul_ack_resp number waits has is =
     let same : given ≡ number = cc is in
     acked-in lists at number (ends at (acked at.task ∷ []) (outcome.Acked given)) has (ap (λ (p : UploadPhase). number_in p at.known) waits ∙ same) refl
 ack-ack lists at given (ul_nak_resp code) number waits has is = absurd (cc is)

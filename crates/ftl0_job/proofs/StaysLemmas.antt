@@ -79,7 +79,7 @@ stays-error lists at code = by (is_complete at code)
 stays-login : (lists : Lists) (at : Upload) (packet : PacketValue) → at.phase ≡ upload_phase.Login → HasTask lists at → StaysUpload lists (upload.login_row at packet)
 stays-login lists at (data_part octets) is has = tt
 stays-login lists at data_end is has = tt
-stays-login lists at (login_resp moment flags) is has = 
+stays-login lists at (login_resp moment flags) is has =
     record {
       entry = has.entry;
       is_entry = has.is_entry;

@@ -19,11 +19,14 @@ use std::marker::Model;
 
 /// The code by which the selection is empty, and another that is read as the same.
 const SELECTION_EMPTY: u8 = 11;
+
 const ALSO_EMPTY: u8 = 5;
 
 /// The types of DATA, DATA_END and DL_ERROR_RESP.
 const DATA: u8 = 0;
+
 const DATA_END: u8 = 1;
+
 const DL_ERROR_RESP: u8 = 9;
 
 /// The list of the files of a selection. Contracts see it as the `Directory` of `specs/Directory.antt`.

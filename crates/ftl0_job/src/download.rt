@@ -158,14 +158,7 @@ impl Download {
         if held + self.rest.len() + octets.len() > LONGEST_FILE as usize {
             return Ok(Some(strange(DATA)));
         }
-        self.rest = note_blocks(
-            disk,
-            notes,
-            self.server,
-            self.number,
-            &self.rest,
-            octets,
-        )?;
+        self.rest = note_blocks(disk, notes, self.server, self.number, &self.rest, octets)?;
         Ok(None)
     }
 

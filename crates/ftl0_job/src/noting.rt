@@ -32,11 +32,7 @@ pub(crate) fn note_number<D: Disk>(
 }
 
 /// Notes that a task's file was acknowledged. Takes no memory.
-pub(crate) fn note_acked<D: Disk>(
-    disk: &mut D,
-    notes: &mut Notes,
-    task: u32,
-) -> Result<(), JobStop>
+pub(crate) fn note_acked<D: Disk>(disk: &mut D, notes: &mut Notes, task: u32) -> Result<(), JobStop>
     requires healthy { notes.old.journal.failed ≡ false }
     requires stands_on { StandsOn D.Disk notes.old disk.old }
     requires allowed { IsTrue (is_allowed notes.old.lists (acked task)) }

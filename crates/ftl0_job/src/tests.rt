@@ -5,8 +5,8 @@ ghost use Rattle.client_notes.specs.State.{StandsOn};
 ghost use Rattle.ftl0_job.specs.JobState.{MayTake, NotesGoWith};
 
 use super::*;
-use arrayvec::ArrayVec;
 use crate::laws::started_law;
+use arrayvec::ArrayVec;
 use client_notes::{Begun, Noted, Notes};
 use disk_model::{Disk, MemoryDisk};
 use ftl0_packets::{PacketFed, PacketReader};
@@ -65,13 +65,7 @@ fn hear<D: Disk>(
 }
 
 /// Plays rows one after another.
-fn play<D: Disk>(
-    rt: &impl Abort,
-    job: &mut Job,
-    disk: &mut D,
-    notes: &mut Notes,
-    rows: &[Row<'_>],
-)
+fn play<D: Disk>(rt: &impl Abort, job: &mut Job, disk: &mut D, notes: &mut Notes, rows: &[Row<'_>])
     requires { MayTake D.Disk notes.old disk.old job.old }
     ensures { MayTake D.Disk notes.new disk.new job.new }
 {
@@ -240,7 +234,11 @@ fn a_list(rt: HostRuntime) -> Result<(), Fail> {
         (&LOGIN, &[0x00, 0x10], None),
         (&[0x02, 0x11, 0x01, 0x00], &NEXT, None),
         (&[0x02, 0x00, 0xAA, 0x55], &[], None),
-        (&[0x00, 0x01], &[], ended(Outcome::Strange { kind: 1 }, false)),
+        (
+            &[0x00, 0x01],
+            &[],
+            ended(Outcome::Strange { kind: 1 }, false),
+        ),
     ];
     play(&rt, &mut job, &mut disk, &mut notes, &rows);
     Ok(())
@@ -302,6 +300,23 @@ fn octets_are_noted_by_whole_blocks(rt: HostRuntime) -> Result<(), Fail> {
     Ok(())
 }
 
+/// Plays each row by a download of its own.
+fn play_each<D: Disk>(
+    rt: &impl Abort,
+    server: Call,
+    disk: &mut D,
+    notes: &mut Notes,
+    rows: &[Row<'_>],
+)
+    requires healthy { notes.old.journal.failed ≡ false }
+    requires stands_on { StandsOn D.Disk notes.old disk.old }
+{
+    for row in rows {
+        let mut job = download(notes, server);
+        play(rt, &mut job, disk, notes, &[*row]);
+    }
+}
+
 #[test]
 fn what_is_strange(rt: HostRuntime) -> Result<(), Fail> {
     let server = call(&rt, "PACSAT");
@@ -309,14 +324,23 @@ fn what_is_strange(rt: HostRuntime) -> Result<(), Fail> {
     let mut notes = Notes::recover(rt.alloc(), &mut disk)?;
     let rows: [Row<'_>; 4] = [
         (&FILE, &[], ended(Outcome::Strange { kind: 0 }, false)),
-        (&[0x00, 0x06], &[], ended(Outcome::Strange { kind: 6 }, false)),
-        (&[0x00, 0x1F], &[], ended(Outcome::Strange { kind: 31 }, false)),
-        (&[0x00, 0x02], &[], ended(Outcome::Strange { kind: 2 }, false)),
+        (
+            &[0x00, 0x06],
+            &[],
+            ended(Outcome::Strange { kind: 6 }, false),
+        ),
+        (
+            &[0x00, 0x1F],
+            &[],
+            ended(Outcome::Strange { kind: 31 }, false),
+        ),
+        (
+            &[0x00, 0x02],
+            &[],
+            ended(Outcome::Strange { kind: 2 }, false),
+        ),
     ];
-    for row in rows {
-        let mut job = download(&notes, server);
-        play(&rt, &mut job, &mut disk, &mut notes, &[row]);
-    }
+    play_each(&rt, server, &mut disk, &mut notes, &rows);
     let mut job = Job::download(server, 5);
     job.lose_reply(2);
     let strange = ended(Outcome::Strange { kind: 2 }, false);
