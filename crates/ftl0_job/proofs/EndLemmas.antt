@@ -1,14 +1,14 @@
 -- The end of a file that is fetched: its rest is noted, and the whole checked.
-use Rattle.std.proofs.Common.{◌≡◌, ℕ, zero, suc, ◌+◌, ◌-◌, ◌<◌, ◌≤◌, List, [], ◌∷◌, ◌++◌, length, take, refl, sym, ap, ◌∙◌, subst, arith, length-append}
-use Rattle.std.specs.Prelude.{⊤, Option, None, Some, Result, Ok, Err}
+use Rattle.std.proofs.Common.{◌≡◌, ℕ, ◌+◌, ◌<◌, ◌≤◌, List, [], ◌∷◌, ◌++◌, length, take, refl, sym, ap, ◌∙◌, subst, arith, length-append}
+use Rattle.std.specs.Prelude.{⊤, Option, None, Some, Ok, Err}
 use Rattle.std.proofs.Math.Seq.{take-append-add}
-use Rattle.std.proofs.lemmas.List.{append-nil, take-append-le, take_all}
+use Rattle.std.proofs.lemmas.List.{append-nil, take-append-le}
 use Rattle.disk_model.specs.declared.disk.Disk.{Ghosts}
 use Rattle.px_base.specs.CallSign.{CallSign}
 use Rattle.ftl0_packets.specs.Layout.{dl_ack_cmd, dl_nak_cmd, packet_text}
 use Rattle.pfh_items.specs.Faults.{fault_code}
 use Rattle.client_notes.specs.declared.limits.TheConstants.{LONGEST_FILE}
-use Rattle.client_notes.specs.Command.{NotesCommand, after, forgot, got}
+use Rattle.client_notes.specs.Command.{NotesCommand, forgot}
 use Rattle.client_notes.specs.Laws.{AreAllowed, after_all}
 use Rattle.client_notes.specs.Notes.{Lists, got_of}
 use Rattle.client_notes.specs.Several.{DoesSeveral}
@@ -22,7 +22,7 @@ use Rattle.ftl0_job.specs.declared.stop.JobStop.{JobStop}
 use Rattle.ftl0_job.specs.declared.stop.JobStop.TheVariants as stop
 use Rattle.ftl0_job.specs.Download.{Download, data_end_row, in_phase, last_got, whole_row, with_rest}
 use Rattle.ftl0_job.specs.JobState.{HasGot}
-use Rattle.ftl0_job.specs.Noting.{HasNoted, IsBefore}
+use Rattle.ftl0_job.specs.Noting.{HasNoted}
 use Rattle.ftl0_job.specs.Row.{Row, later}
 use Rattle.ftl0_job.specs.Taking.{TakesRow}
 use Rattle.ftl0_job.proofs.BlockLemmas.{is-before}

@@ -1,10 +1,8 @@
 -- A job takes a packet as what it does takes it.
-use Rattle.std.proofs.Common.{◌≡◌, ℕ, List, [], refl, sym, ◌∙◌, ap, subst}
-use Rattle.std.specs.Prelude.{⊤, true, false, is_some, Option, None, Some, Result, Ok, Err}
+use Rattle.std.proofs.Common.{◌≡◌, ℕ, List, [], refl, sym, ap, subst}
+use Rattle.std.specs.Prelude.{⊤, true, false, is_some, Option, None, Some, Ok, Err}
 use Rattle.disk_model.specs.declared.disk.Disk.{Ghosts}
-use Rattle.ftl0_packets.specs.Items.{texts}
 use Rattle.ftl0_packets.specs.Layout.{Item, PacketValue}
-use Rattle.client_notes.specs.Command.{NotesCommand}
 use Rattle.client_notes.specs.Laws.{after_all}
 use Rattle.client_notes.specs.Notes.{Lists}
 use Rattle.client_notes.specs.Several.{DoesSeveral}
@@ -15,10 +13,10 @@ use Rattle.ftl0_job.specs.declared.stop.JobStop.TheVariants as stop
 use Rattle.ftl0_job.specs.declared.work.Work.{Work}
 use Rattle.ftl0_job.specs.declared.work.Work.TheVariants as work
 use Rattle.ftl0_job.specs.Directory.{Directory, directory_row}
-use Rattle.ftl0_job.specs.JobState.{GoBy, GoWith, NotesGoWith}
+use Rattle.ftl0_job.specs.JobState.{GoBy, GoWith}
 use Rattle.ftl0_job.specs.Noting.{HasNoted}
 use Rattle.ftl0_job.specs.Row.{Row}
-use Rattle.ftl0_job.specs.Table.{JobState, ended_row, item_row, job_row, row_of}
+use Rattle.ftl0_job.specs.Table.{JobState, item_row, job_row, row_of}
 use Rattle.ftl0_job.specs.Taking.{Gives, StopsAt, TakesPacket, TakesRow}
 use Rattle.ftl0_job.proofs.NotingLemmas.{none-by, noted-err}
 use Rattle.ftl0_job.proofs.RowLemmas.{directory-silent, job-ended, job-in}

@@ -1,6 +1,6 @@
 -- What the outcomes of a job promise, and how it goes on.
-use Rattle.std.proofs.Common.{◌≡◌, ℕ, zero, suc, ◌+◌, ◌-◌, ◌*◌, ◌/◌, ◌≤◌, ◌<◌, List, [], ◌∷◌, ◌++◌, Bool, true, false, length, take, drop, get_or, refl, sym, ◌∙◌, ap, subst, arith, length-append, length-drop, append_assoc, inl, inr}
-use Rattle.std.specs.Prelude.{⊤, IsTrue, ◌&&◌, ◌==◌, nat_le, nat_lt, slice_get, if◌then◌else◌, Option, None, Some, Ok, Err, Result, IsErr, ◌⊎◌}
+use Rattle.std.proofs.Common.{◌≡◌, ℕ, zero, suc, ◌+◌, ◌-◌, ◌*◌, ◌/◌, ◌≤◌, ◌<◌, List, [], ◌∷◌, ◌++◌, Bool, true, false, length, take, drop, refl, sym, ◌∙◌, ap, subst, arith, length-append, length-drop, append_assoc, inl, inr}
+use Rattle.std.specs.Prelude.{IsTrue, ◌==◌, nat_le, nat_lt, slice_get, if◌then◌else◌, Option, None, Some, Ok, Err, Result, IsErr, ◌⊎◌}
 use Rattle.std.specs.Option.{option_map}
 use Rattle.std.proofs.Math.Seq.{get_or-append_seam}
 use Rattle.std.proofs.lemmas.Bool.Decides.{nat_tests}
@@ -21,13 +21,11 @@ use Rattle.client_notes.specs.Answers.{StartsBy, start_reaches, answer_at, answe
 use Rattle.client_notes.specs.Command.{NotesCommand, acked, after, new_task}
 use Rattle.client_notes.specs.Laws.{AreAllowed, after_all}
 use Rattle.client_notes.specs.Notes.{Lists, Task, got_of, is_of_file, last_task, task_count, task_of}
-use Rattle.client_notes.specs.Several.{MakesBetween}
 use Rattle.client_notes.specs.OnDisk.{Does, Untouched}
 use Rattle.client_notes.specs.State.{NotesState, StandsFor}
 use Rattle.disk_model.specs.declared.disk.Disk.{Ghosts}
 use Rattle.client_notes.proofs.TaskLemmas.{acked-stays, both-left, task-after}
 use Rattle.ftl0_job.specs.declared.ending.Ending.{Ending}
-use Rattle.ftl0_job.specs.declared.ending.Outcome.{Outcome}
 use Rattle.ftl0_job.specs.declared.ending.Outcome.TheVariants as outcome
 use Rattle.ftl0_job.specs.declared.phases.DownloadPhase.{DownloadPhase}
 use Rattle.ftl0_job.specs.declared.phases.DownloadPhase.TheVariants as fetch
@@ -41,11 +39,11 @@ use Rattle.ftl0_job.specs.Laws.{Acknowledges, IsAckedIn, IsStarted, reached, sta
 use Rattle.ftl0_job.specs.Row.{Row, ends, goes_on, strange}
 use Rattle.ftl0_job.specs.declared.work.Work.{Work}
 use Rattle.ftl0_job.specs.declared.work.Work.TheVariants as work
-use Rattle.ftl0_job.specs.Table.{JobState, ended_row, item_row, job_row, new_job, row_by}
+use Rattle.ftl0_job.specs.Table.{JobState, job_row, new_job, row_by}
 use Rattle.ftl0_job.specs.Upload as upload
 use Rattle.ftl0_job.specs.Upload.{Upload, in_phase, is_complete, may_go, new_upload, number_commands, refusal_of, upload_row}
 use Rattle.ftl0_job.proofs.BlockLemmas.{gots-after}
-use Rattle.ftl0_job.proofs.StaysLemmas.{Stays, stays-item}
+use Rattle.ftl0_job.proofs.StaysLemmas.{stays-item}
 
 -- ---- the notes go with the job
 

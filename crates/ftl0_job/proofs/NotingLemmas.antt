@@ -1,5 +1,5 @@
 -- What a call of the notes does, as a job says it.
-use Rattle.std.proofs.Common.{◌≡◌, ℕ, ◌<◌, ◌≤◌, Bool, true, false, List, [], ◌∷◌, ◌++◌, length, take, Some, refl, sym, ◌∙◌, ap, subst, inl, inr, ⊎_elim, arith}
+use Rattle.std.proofs.Common.{◌≡◌, ℕ, ◌≤◌, true, false, List, [], ◌∷◌, refl, sym, ◌∙◌, ap, subst, inl, inr, arith}
 use Rattle.std.specs.Prelude.{⊤, Option, Result, Ok, Err, IsErr, IsErrOf, IsTrue, ◌⊎◌, nat_lt}
 use Rattle.std.proofs.lemmas.Bool.Decides.{nat_tests}
 use Rattle.disk_model.specs.declared.disk.Disk.{Ghosts}
@@ -7,7 +7,7 @@ use Rattle.file_journal.specs.declared.faults.JournalFault.{JournalFault}
 use Rattle.file_journal.specs.declared.faults.JournalFault.TheVariants as fault
 use Rattle.client_notes.specs.declared.refusals.NotesRefusal.{NotesRefusal}
 use Rattle.client_notes.specs.declared.refusals.NotesRefusal.TheVariants as refusal
-use Rattle.client_notes.specs.Answers.{Noting, noting_reaches}
+use Rattle.client_notes.specs.Answers.{Noting}
 use Rattle.client_notes.specs.Command.{NotesCommand, acked, is_allowed, is_going, is_numbered, is_unnumbered, numbered, passes, refused}
 use Rattle.client_notes.specs.Notes.{Lists, Task, task_of}
 use Rattle.client_notes.specs.OnDisk.{Answers, Does, Untouched}
@@ -18,9 +18,9 @@ use Rattle.ftl0_job.specs.declared.ending.Ending.{Ending}
 use Rattle.ftl0_job.specs.declared.stop.JobStop.{JobStop}
 use Rattle.ftl0_job.specs.declared.stop.JobStop.TheVariants as stop
 use Rattle.ftl0_job.specs.JobState.{HasTask, number_in}
-use Rattle.ftl0_job.specs.Noting.{HasNoted, IsAnswer, IsAnswerOf, IsBefore, IsOfNoting}
+use Rattle.ftl0_job.specs.Noting.{HasNoted, IsAnswer, IsAnswerOf, IsOfNoting}
 use Rattle.ftl0_job.specs.Row.{Row}
-use Rattle.ftl0_job.specs.Taking.{Answers as RowAnswers, Gives, TakesRow}
+use Rattle.ftl0_job.specs.Taking.{Gives, TakesRow}
 use Rattle.ftl0_job.specs.Upload.{Upload}
 
 -- the answers by name

@@ -1,6 +1,6 @@
 -- The notes go with a job after each row.
-use Rattle.std.proofs.Common.{◌≡◌, ℕ, ◌+◌, ◌-◌, ◌*◌, ◌/◌, ◌≤◌, ◌<◌, List, [], ◌∷◌, ◌++◌, Bool, true, false, length, take, drop, refl, sym, ◌∙◌, ap, subst, arith, length-append, length-drop}
-use Rattle.std.specs.Prelude.{⊤, IsTrue, ◌&&◌, ◌==◌, nat_le, nat_lt, if◌then◌else◌, Option, None, Some, Ok, Err}
+use Rattle.std.proofs.Common.{◌≡◌, ℕ, ◌+◌, ◌-◌, ◌*◌, ◌/◌, ◌≤◌, List, [], ◌∷◌, ◌++◌, Bool, true, false, length, take, refl, sym, ◌∙◌, ap, subst, arith, length-append, length-drop}
+use Rattle.std.specs.Prelude.{IsTrue, ◌&&◌, ◌==◌, nat_le, nat_lt, if◌then◌else◌, Option, None, Some, Ok, Err}
 use Rattle.std.proofs.lemmas.Bool.Decides.{nat_tests}
 use Rattle.std.proofs.lemmas.List.{length-take-le}
 use Rattle.ftl0_packets.specs.Layout.{Item, PacketValue, data_part, data_end, login_resp, upload_cmd, ul_go_resp, ul_error_resp, ul_ack_resp, ul_nak_resp, download_cmd}
@@ -9,7 +9,7 @@ use Rattle.pfh_items.specs.Faults.{fault_code}
 use Rattle.client_notes.specs.declared.limits.TheConstants.{LONGEST_FILE}
 use Rattle.client_notes.specs.Command.{acked, numbered}
 use Rattle.client_notes.specs.Laws.{after_all}
-use Rattle.client_notes.specs.Notes.{Lists, Task, got_of}
+use Rattle.client_notes.specs.Notes.{Lists, got_of}
 use Rattle.client_notes.proofs.TaskLemmas.{both-left, task-after}
 use Rattle.ftl0_job.specs.declared.ending.Ending.{Ending}
 use Rattle.ftl0_job.specs.declared.ending.Outcome.TheVariants as outcome
@@ -24,7 +24,7 @@ use Rattle.ftl0_job.specs.Download as download
 use Rattle.ftl0_job.specs.Download.{Download, download_row, last_got, unnoted, whole_gots, whole_row, with_rest}
 use Rattle.ftl0_job.specs.JobState.{GoBy, GoWith, HasGot, HasTask, IsCheckedIn, number_in}
 use Rattle.ftl0_job.specs.Row.{Row, ends, goes_on, strange}
-use Rattle.ftl0_job.specs.Table.{JobState, item_row, packet_row, row_of}
+use Rattle.ftl0_job.specs.Table.{item_row, packet_row}
 use Rattle.ftl0_job.specs.Upload as upload
 use Rattle.ftl0_job.specs.Upload.{Upload, is_complete, is_new, may_go, number_commands, refusal_of, upload_row}
 use Rattle.ftl0_job.proofs.BlockLemmas.{gots-after}

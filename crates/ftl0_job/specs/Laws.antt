@@ -16,13 +16,12 @@ use Rattle.client_notes.specs.Notes.{Lists, got_of}
 use Rattle.client_notes.specs.OnDisk.{Does, Untouched}
 use Rattle.client_notes.specs.Several.{MakesBetween}
 use Rattle.client_notes.specs.State.{NotesState, StandsFor}
-use Rattle.ftl0_job.specs.declared.ending.Ending.{Ending}
 use Rattle.ftl0_job.specs.declared.ending.Outcome.{Outcome}
 use Rattle.ftl0_job.specs.declared.ending.Outcome.TheVariants as outcome
 use Rattle.ftl0_job.specs.declared.phases.DownloadPhase.TheVariants as fetch
 use Rattle.ftl0_job.specs.declared.phases.UploadPhase.TheVariants as phase
 use Rattle.ftl0_job.specs.Download.{Download, download_row}
-use Rattle.ftl0_job.specs.Due.{DuePacket, most_data, place_after, upload_due}
+use Rattle.ftl0_job.specs.Due.{most_data, place_after, upload_due}
 use Rattle.ftl0_job.specs.JobState.{HasGot, HasTask, NotesGoWith}
 use Rattle.ftl0_job.specs.Row.{Row, goes_on}
 use Rattle.ftl0_job.specs.Table.{JobState, job_row}

@@ -1,5 +1,5 @@
 -- Short headers one after another (PFH 1990, mandatory header; FTL0 1990, short directory).
-use Rattle.std.specs.Prelude.{ℕ, zero, suc, ◌+◌, ◌*◌, ◌/◌, ◌==◌, List, [], ◌∷◌, ◌++◌, length, take, drop, nat_le, Bool, ◌&&◌}
+use Rattle.std.specs.Prelude.{ℕ, zero, suc, ◌+◌, ◌/◌, ◌==◌, List, [], ◌∷◌, ◌++◌, length, take, drop, nat_le, Bool, ◌&&◌}
 use Rattle.std.specs.Str.{bytes_eq}
 use Rattle.px_base.specs.Numbers.{le16_octets}
 use Rattle.pfh_items.specs.declared.table.MandatoryItem.{MandatoryItem}

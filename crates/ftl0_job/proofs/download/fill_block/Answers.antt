@@ -1,4 +1,4 @@
-use Rattle.std.proofs.Common.{◌≡◌, ◌-◌, ◌++◌, ℕ, List, length, rules, take, drop, ap, ◌∙◌, arith}
+use Rattle.std.proofs.Common.{◌≡◌, ◌-◌, ◌++◌, ℕ, length, rules, take, drop, ap, ◌∙◌, arith}
 use Rattle.ftl0_job.proofs.BlockLemmas.{block-full, block-left}
 use Rattle.ftl0_job.proofs.download.fill_block.Goals as goal
 

@@ -1,4 +1,4 @@
-use Rattle.std.proofs.Common.{◌≡◌, ℕ, ◌+◌, ◌-◌, ◌*◌, ◌/◌, ◌<◌, ◌≤◌, [], ◌++◌, List, drop, length, take, rules, sym, ap, ◌∙◌, subst, arith, length-append, length-drop, drop-drop}
+use Rattle.std.proofs.Common.{◌≡◌, ℕ, ◌+◌, ◌-◌, ◌*◌, ◌/◌, ◌<◌, ◌++◌, List, drop, length, take, rules, sym, ap, ◌∙◌, subst, arith, length-append, length-drop, drop-drop}
 use Rattle.std.specs.Prelude.{⊤, Result, Err}
 use Rattle.arrayvec.specs.declared.array_vec.ArrayVec.{ArrayVec}
 use Rattle.client_notes.specs.Several.{DoesSeveral}

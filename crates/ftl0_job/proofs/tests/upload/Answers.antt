@@ -1,4 +1,4 @@
-use Rattle.std.proofs.Common.{◌≡◌, ℕ, List, ◌∷◌, [], length, replicate, rules, sym, subst}
+use Rattle.std.proofs.Common.{ℕ, List, ◌∷◌, [], replicate, sym, subst}
 use Rattle.std.specs.Prelude.{IsErr, IsTrue}
 use Rattle.client_notes.specs.Answers.{StartsBy, answer_of, fresh_task, start_reaches}
 use Rattle.client_notes.specs.declared.answers.Begun.{Begun}

@@ -1,5 +1,5 @@
 -- The row by how far the list has come.
-use Rattle.std.proofs.Common.{◌≡◌, Ok, sym, ◌∙◌, ap, subst}
+use Rattle.std.proofs.Common.{sym, ◌∙◌, ap, subst}
 use Rattle.ftl0_packets.specs.Values.{value_of}
 use Rattle.ftl0_job.specs.declared.phases.DirectoryPhase.TheVariants as phase
 use Rattle.ftl0_job.specs.Directory.{Directory}

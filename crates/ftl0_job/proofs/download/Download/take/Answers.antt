@@ -1,5 +1,5 @@
 -- The row by how far the download has come.
-use Rattle.std.proofs.Common.{◌≡◌, ℕ, List, [], Ok, sym, ◌∙◌, ap, subst}
+use Rattle.std.proofs.Common.{ℕ, List, Ok, sym, ◌∙◌, ap, subst}
 use Rattle.ftl0_packets.specs.Values.{value_of}
 use Rattle.client_notes.specs.Notes.{got_of}
 use Rattle.ftl0_job.specs.declared.phases.DownloadPhase.TheVariants as phase

@@ -7,7 +7,7 @@ use Rattle.ftl0_job.specs.declared.ending.Ending.{Ending}
 use Rattle.ftl0_job.specs.declared.ending.Outcome.TheVariants as outcome
 use Rattle.ftl0_job.specs.declared.phases.DownloadPhase.TheVariants as phase
 use Rattle.ftl0_job.specs.declared.stop.JobStop.{JobStop}
-use Rattle.ftl0_job.specs.Download.{Download, data_end_row, in_phase, with_rest}
+use Rattle.ftl0_job.specs.Download.{Download, data_end_row}
 use Rattle.ftl0_job.specs.JobState.{HasGot}
 use Rattle.ftl0_job.specs.Row.{later}
 use Rattle.ftl0_job.specs.Taking.{TakesRow}

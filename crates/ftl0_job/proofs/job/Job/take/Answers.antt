@@ -1,6 +1,6 @@
 -- A job takes a packet as what it does takes it.
-use Rattle.std.proofs.Common.{◌≡◌, ℕ, List, [], Ok, rules, sym, ◌∙◌, ap, subst, true, false}
-use Rattle.std.specs.Prelude.{⊤, is_some, Option, None, Result, Err}
+use Rattle.std.proofs.Common.{◌≡◌, Ok, rules, sym, ◌∙◌, ap, subst, true, false}
+use Rattle.std.specs.Prelude.{⊤, is_some, Option, Result, Err}
 use Rattle.ftl0_packets.specs.Values.{item_of}
 use Rattle.ftl0_job.specs.declared.ending.Ending.{Ending}
 use Rattle.ftl0_job.specs.declared.stop.JobStop.{JobStop}

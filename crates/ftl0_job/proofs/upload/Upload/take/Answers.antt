@@ -1,5 +1,5 @@
 -- The row by how far the upload has come.
-use Rattle.std.proofs.Common.{◌≡◌, ℕ, List, [], Ok, sym, ◌∙◌, ap, subst}
+use Rattle.std.proofs.Common.{ℕ, List, [], Ok, sym, ◌∙◌, ap, subst}
 use Rattle.ftl0_packets.specs.Values.{value_of}
 use Rattle.ftl0_job.specs.declared.phases.UploadPhase.TheVariants as phase
 use Rattle.ftl0_job.specs.Row.{Row}

@@ -1,4 +1,4 @@
-use Rattle.std.proofs.Common.{◌≡◌, Ok, sym, subst}
+use Rattle.std.proofs.Common.{Ok, sym, subst}
 use Rattle.ftl0_packets.specs.Values.{value_of}
 use Rattle.ftl0_job.specs.declared.work.Work.{Work}
 use Rattle.ftl0_job.specs.declared.work.Work.TheVariants as work
