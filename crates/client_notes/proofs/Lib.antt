@@ -1,6 +1,9 @@
+pub mod GotLemmas
 pub mod ListLemmas
 pub mod NotesLemmas
 pub mod PutLemmas
 pub mod RecordLemmas
 pub mod RecoveryLemmas
+pub mod SeveralLemmas
 pub mod StandingLemmas
+pub mod TaskLemmas

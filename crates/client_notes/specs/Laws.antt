@@ -1,13 +1,16 @@
 -- Laws of a client's notes.
-use Rattle.std.specs.Prelude.{◌≡◌, ◌↔◌, ℕ, List, [], ◌∷◌, map, Option, Some, IsTrue, ⊤}
+use Rattle.std.specs.Prelude.{◌≡◌, ◌↔◌, ℕ, List, [], ◌∷◌, ◌++◌, map, Option, Some, IsTrue, ⊤}
 use Rattle.std.specs.List.{AllByRecursion}
+use Rattle.px_base.specs.CallSign.{CallSign}
 use Rattle.px_base.specs.Octets.{IsOctets}
 use Rattle.file_journal.specs.Journal.{journal_of, store}
 use Rattle.file_journal.specs.Records.{IsRecord, Record, whole}
-use Rattle.client_notes.specs.Command.{NotesCommand, after, is_allowed}
-use Rattle.client_notes.specs.Notes.{Lists, no_notes}
+use Rattle.client_notes.specs.Answers.{noted_at}
+use Rattle.client_notes.specs.Command.{NotesCommand, after, forgot, got, is_allowed}
+use Rattle.client_notes.specs.Notes.{Lists, got_of, no_notes}
 use Rattle.client_notes.specs.Records.{IsWritable, Writes, command_of, notes_magic, record_of_command}
 use Rattle.client_notes.specs.State.{StandsFor}
+use Rattle.client_notes.specs.declared.answers.Noted.TheVariants as noted
 
 -- A record of at most 600 octets is read as a command exactly where it is that command's record; and each command that
 -- can be written has such a record.
@@ -41,3 +44,23 @@ abbrev pub StandingLaw : Type 0
 StandingLaw =
     (octets : List ℕ) (lists : Lists) → IsOctets octets
     → StandsFor octets lists ↔ ((commands : List NotesCommand) × IsNotesAfter octets lists commands)
+
+-- What was acknowledged stays so, with its number, whatever commands come behind that, each of which is allowed in its
+-- turn.
+abbrev pub AckedLaw : Type 0
+AckedLaw =
+    (lists : Lists) (commands : List NotesCommand) (task number : ℕ) → AreAllowed lists commands
+    → noted_at lists task ≡ Some (noted.Acked task number)
+    → noted_at (after_all lists commands) task ≡ Some (noted.Acked task number)
+
+-- the octets got of a file are those got before, and these behind them
+abbrev pub GotLaw : Type 0
+GotLaw =
+    (lists : Lists) (server : CallSign) (number : ℕ) (octets : List ℕ)
+    → got_of (after lists (got server number octets)) server number ≡ got_of lists server number ++ octets
+
+-- and none are once it was given up
+abbrev pub ForgotLaw : Type 0
+ForgotLaw =
+    (lists : Lists) (server : CallSign) (number : ℕ)
+    → got_of (after lists (forgot server number)) server number ≡ []

@@ -8,4 +8,5 @@ pub mod OnDisk
 pub mod Records
 pub mod Recovery
 pub mod Refusals
+pub mod Several
 pub mod State

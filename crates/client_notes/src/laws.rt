@@ -1,8 +1,9 @@
 //! Laws of a client's notes.
 
 ghost use Rattle.std.specs.Prelude.{◌≡◌, false};
-ghost use Rattle.client_notes.specs.Laws.{RecordsLaw, StandingLaw};
+ghost use Rattle.client_notes.specs.Laws.{AckedLaw, ForgotLaw, GotLaw, RecordsLaw, StandingLaw};
 ghost use Rattle.client_notes.specs.OnDisk.{EachImage};
+ghost use Rattle.client_notes.specs.Several.{OneLaw, SeveralLaw};
 ghost use Rattle.client_notes.specs.State.{IsRead, StandsFor, StandsOn};
 
 use crate::Notes;
@@ -34,3 +35,20 @@ pub fn images_law<D: Disk>(notes: &Notes, disk: &D)
 {
     notes.read_law();
 }
+
+/// What commands do to a disk: those of one list and then those of another do what both lists do, one after the other.
+pub fn several_law<D: Disk>()
+    ensures joined { SeveralLaw D.Disk }
+    ensures one { OneLaw D.Disk }
+{}
+
+/// What becomes of a task that was acknowledged: it stays so.
+pub fn acked_law()
+    ensures { AckedLaw }
+{}
+
+/// What is got of a file: what was got before, and behind it what came; and nothing once it was given up.
+pub fn got_law()
+    ensures more { GotLaw }
+    ensures none { ForgotLaw }
+{}

@@ -296,6 +296,14 @@ impl Notes {
         room.copy_from_slice(&self.lists.got(server, number)[at..at + room.len()]);
     }
 
+    /// The octets got of the file of this number of this server, as they lie in memory. Takes no memory.
+    pub fn got_octets(&self, server: Call, number: u32) -> &[u8]
+        ensures octets { result.now ≡ got_of self.now.lists server number }
+        ensures most { length result.now ≤ LONGEST_FILE }
+    {
+        self.lists.got(server, number)
+    }
+
     /// How the last task of this server, caller and name stands; `None` exactly where there is no such task. Takes no
     /// memory.
     pub fn noted(&self, server: Call, me: Call, name: &str) -> Option<Noted>

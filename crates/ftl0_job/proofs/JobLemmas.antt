@@ -1,0 +1,92 @@
+-- A job takes a packet as what it does takes it.
+use Rattle.std.proofs.Common.{◌≡◌, ℕ, List, [], refl, sym, ap, subst}
+use Rattle.std.specs.Prelude.{⊤, true, false, is_some, Option, None, Some, Ok, Err}
+use Rattle.disk_model.specs.declared.disk.Disk.{Ghosts}
+use Rattle.ftl0_packets.specs.Layout.{Item, PacketValue}
+use Rattle.client_notes.specs.Laws.{after_all}
+use Rattle.client_notes.specs.Notes.{Lists}
+use Rattle.client_notes.specs.Several.{DoesSeveral}
+use Rattle.client_notes.specs.State.{NotesState, StandsOn}
+use Rattle.ftl0_job.specs.declared.ending.Ending.{Ending}
+use Rattle.ftl0_job.specs.declared.stop.JobStop.{JobStop}
+use Rattle.ftl0_job.specs.declared.stop.JobStop.TheVariants as stop
+use Rattle.ftl0_job.specs.declared.work.Work.{Work}
+use Rattle.ftl0_job.specs.declared.work.Work.TheVariants as work
+use Rattle.ftl0_job.specs.Directory.{Directory, directory_row}
+use Rattle.ftl0_job.specs.JobState.{GoBy, GoWith}
+use Rattle.ftl0_job.specs.Noting.{HasNoted}
+use Rattle.ftl0_job.specs.Row.{Row}
+use Rattle.ftl0_job.specs.Table.{JobState, item_row, job_row, row_of}
+use Rattle.ftl0_job.specs.Taking.{Gives, StopsAt, TakesPacket, TakesRow}
+use Rattle.ftl0_job.proofs.NotingLemmas.{none-by, noted-err}
+use Rattle.ftl0_job.proofs.RowLemmas.{directory-silent, job-ended, job-in}
+use Rattle.ftl0_job.proofs.StaysLemmas.{stays-item}
+
+module _ {D : Type 0} (g : Ghosts D) where
+  -- a list has no commands of the notes
+  pub takes-list : (before now : Directory) (packet : PacketValue) (notes : NotesState) (disk : D) (replies : List ℕ) (ending : Option Ending) → notes.journal.failed ≡ false → StandsOn g notes disk
+      → g.lasts disk disk → Gives (directory_row before packet) now replies ending
+      → TakesRow g (row_of work.Directory (directory_row before packet)) (work.Directory before) (work.Directory now) notes notes disk disk replies (Ok ending)
+  takes-list before now packet notes disk replies ending healthy stands lasts gives = record {
+    answers = (ap work.Directory gives.0, gives.1, gives.2);
+    noted = none-by g notes disk (directory_row before packet).commands (directory-silent before packet) healthy stands lasts;
+  }
+
+  -- a packet after the outcome
+  pub takes-ended : (item : Item) (job : JobState) (ending : Ending) (notes : NotesState) (disk : D) (replies : List ℕ) → job.ending ≡ Some ending → replies ≡ [] → notes.journal.failed ≡ false
+      → StandsOn g notes disk → g.lasts disk disk → TakesPacket g item job job notes notes disk disk replies (Ok tt)
+  takes-ended item job ending notes disk replies is none healthy stands lasts =
+      let row = job-ended notes.lists job item ending is in
+      record {
+        answers = subst (λ (r : Row Work). Gives r job.work replies job.ending) (sym row) (refl, none, is);
+        noted = subst (λ (r : Row Work). DoesSeveral g ⊥ notes notes disk disk r.commands) (sym row) (none-by g notes disk [] refl healthy stands lasts);
+        stops = tt;
+      }
+
+  module _ (item : Item) (job : JobState) (doing : Work) (notes notes_now : NotesState) (disk disk_now : D) (replies : List ℕ) (is : job.ending ≡ None) where
+    -- what is done took it
+    pub takes-item : (ending : Option Ending) → TakesRow g (item_row notes.lists job.work item) job.work doing notes notes_now disk disk_now replies (Ok ending)
+        → TakesPacket g item job (record { work = doing; ending = ending }) notes notes_now disk disk_now replies (Ok tt)
+    takes-item ending takes =
+        let row = job-in notes.lists job item is in
+        record {
+          answers = subst (λ (r : Row Work). Gives r doing replies ending) (sym row) takes.answers;
+          noted = subst (λ (r : Row Work). DoesSeveral g ⊥ notes notes_now disk disk_now r.commands) (sym row) takes.noted;
+          stops = tt;
+        }
+
+    -- or stopped
+    pub takes-stop : (why : JobStop) → TakesRow g (item_row notes.lists job.work item) job.work doing notes notes_now disk disk_now replies (Err why) → StopsAt {T = Option Ending} job.work (Err why)
+        → TakesPacket g item job (record { work = doing; ending = job.ending }) notes notes_now disk disk_now replies (Err why)
+    takes-stop why takes stops =
+        let row = job-in notes.lists job item is in
+        record {
+          answers = (ap (λ (w : Work). record { work = w; ending = job.ending }) takes.answers.0, takes.answers.1);
+          noted = noted-err g (Option Ending) ⊤ notes notes_now disk disk_now (job_row notes.lists job item).commands why
+              (subst (λ (r : Row Work). HasNoted {T = Option Ending} g notes notes_now disk disk_now r.commands (Err why)) (sym row) takes.noted);
+          stops = stops-err job.work why stops;
+        }
+      where
+        stops-err : (at : Work) (why : JobStop) → StopsAt {T = Option Ending} at (Err why) → StopsAt {T = ⊤} at (Err why)
+        stops-err at stop.Disk stops = stops
+        stops-err at stop.OutOfMemory stops = stops
+
+    -- the notes go with what is done then
+    pub goes-on : (ending : Option Ending) → GoWith notes.lists job.work → TakesRow g (item_row notes.lists job.work item) job.work doing notes notes_now disk disk_now replies (Ok ending)
+        → GoBy ending notes_now.lists doing
+    goes-on ending goes takes =
+        let gives = takes.answers in
+        let lists : notes_now.lists ≡ after_all notes.lists (item_row notes.lists job.work item).commands = (takes.noted.done (λ never. never)).0 in
+        subst (λ (l : Lists). GoBy ending l doing) (sym lists)
+        (subst (λ (w : Work). GoBy ending (after_all notes.lists (item_row notes.lists job.work item).commands) w) (sym gives.0)
+        (subst (λ (e : Option Ending). GoBy e (after_all notes.lists (item_row notes.lists job.work item).commands) (item_row notes.lists job.work item).state) (sym gives.2)
+        (stays-item notes.lists job.work item goes)))
+
+-- an ending that is there, and one that isn't
+pub ending-some : (o : Option Ending) → is_some o ≡ true → (ending : Ending) × (o ≡ Some ending)
+ending-some None some = absurd (cc some)
+ending-some (Some ending) some = (ending, refl)
+
+pub ending-none : (o : Option Ending) → is_some o ≡ false → o ≡ None
+ending-none None none = refl
+ending-none (Some ending) none = absurd (cc none)

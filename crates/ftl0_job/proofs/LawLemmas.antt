@@ -1,0 +1,463 @@
+-- What the outcomes of a job promise, and how it goes on.
+use Rattle.std.proofs.Common.{◌≡◌, ℕ, zero, suc, ◌+◌, ◌-◌, ◌*◌, ◌/◌, ◌≤◌, ◌<◌, List, [], ◌∷◌, ◌++◌, Bool, true, false, length, take, drop, refl, sym, ◌∙◌, ap, subst, arith, length-append, length-drop, append_assoc, inl, inr}
+use Rattle.std.specs.Prelude.{IsTrue, ◌==◌, nat_le, nat_lt, slice_get, if◌then◌else◌, Option, None, Some, Ok, Err, Result, IsErr, ◌⊎◌}
+use Rattle.std.specs.Option.{option_map}
+use Rattle.std.proofs.Math.Seq.{get_or-append_seam}
+use Rattle.std.proofs.lemmas.Bool.Decides.{nat_tests}
+use Rattle.std.proofs.lemmas.List.{take-append-drop}
+use Rattle.std.proofs.lemmas.Option.{slice_get-get_or}
+use Rattle.px_base.specs.CallSign.{CallSign}
+use Rattle.ftl0_packets.specs.Layout.{Item, PacketValue, data_part, data_end, login_resp, upload_cmd, ul_go_resp, ul_error_resp, ul_ack_resp, ul_nak_resp, download_cmd}
+use Rattle.ftl0_packets.specs.Layout.{dl_error_resp, dl_aborted_resp, dl_completed_resp, dl_ack_cmd, dl_nak_cmd, dir_short_cmd, dir_long_cmd, select_cmd, select_resp}
+use Rattle.pfh_items.specs.Faults.{fault_code}
+use Rattle.client_notes.specs.declared.answers.Begun.{Begun}
+use Rattle.client_notes.specs.declared.answers.Begun.TheVariants as begun
+use Rattle.client_notes.specs.declared.answers.Noted.TheVariants as noted
+use Rattle.client_notes.specs.declared.limits.TheConstants.{LONGEST_FILE}
+use Rattle.client_notes.specs.declared.progress.Progress.{Progress}
+use Rattle.client_notes.specs.declared.progress.Progress.TheVariants as progress
+use Rattle.client_notes.specs.declared.refusals.NotesRefusal.{NotesRefusal}
+use Rattle.client_notes.specs.Answers.{StartsBy, start_reaches, answer_at, answer_by, answer_last, answer_of, fresh_task, noted_as, noted_at}
+use Rattle.client_notes.specs.Command.{NotesCommand, acked, after, new_task}
+use Rattle.client_notes.specs.Laws.{AreAllowed, after_all}
+use Rattle.client_notes.specs.Notes.{Lists, Task, got_of, is_of_file, last_task, task_count, task_of}
+use Rattle.client_notes.specs.OnDisk.{Does, Untouched}
+use Rattle.client_notes.specs.State.{NotesState, StandsFor}
+use Rattle.disk_model.specs.declared.disk.Disk.{Ghosts}
+use Rattle.client_notes.proofs.TaskLemmas.{acked-stays, both-left, task-after}
+use Rattle.ftl0_job.specs.declared.ending.Ending.{Ending}
+use Rattle.ftl0_job.specs.declared.ending.Outcome.TheVariants as outcome
+use Rattle.ftl0_job.specs.declared.phases.DownloadPhase.{DownloadPhase}
+use Rattle.ftl0_job.specs.declared.phases.DownloadPhase.TheVariants as fetch
+use Rattle.ftl0_job.specs.declared.phases.UploadPhase.{UploadPhase}
+use Rattle.ftl0_job.specs.declared.phases.UploadPhase.TheVariants as phase
+use Rattle.ftl0_job.specs.Download as download
+use Rattle.ftl0_job.specs.Download.{Download, download_row, unnoted, whole_gots, whole_row, with_rest}
+use Rattle.ftl0_job.specs.Due.{DuePacket, PutsDue, due_by, due_from, due_in, in_job, in_work, most_data, next_due, place_after, upload_due}
+use Rattle.ftl0_job.specs.JobState.{GoBy, HasGot, HasTask, IsCheckedIn, NotesGoWith, number_in}
+use Rattle.ftl0_job.specs.Laws.{Acknowledges, IsAckedIn, IsStarted, reached, started}
+use Rattle.ftl0_job.specs.Row.{Row, ends, goes_on, strange}
+use Rattle.ftl0_job.specs.declared.work.Work.{Work}
+use Rattle.ftl0_job.specs.declared.work.Work.TheVariants as work
+use Rattle.ftl0_job.specs.Table.{JobState, job_row, new_job, row_by}
+use Rattle.ftl0_job.specs.Upload as upload
+use Rattle.ftl0_job.specs.Upload.{Upload, in_phase, is_complete, may_go, new_upload, number_commands, refusal_of, upload_row}
+use Rattle.ftl0_job.proofs.BlockLemmas.{gots-after}
+use Rattle.ftl0_job.proofs.StaysLemmas.{stays-item}
+
+-- ---- the notes go with the job
+
+pub stays : (lists : Lists) (job : JobState) (item : Item) → NotesGoWith lists job
+    → NotesGoWith (after_all lists (job_row lists job item).commands) (record { work = (job_row lists job item).state; ending = (job_row lists job item).ending })
+unfolding job_row
+stays lists job item goes = by job.ending goes
+  where
+    by : (o : Option Ending) → GoBy o lists job.work → GoBy (row_by lists job.work item o).ending (after_all lists (row_by lists job.work item o).commands) (row_by lists job.work item o).state
+    by None went = stays-item lists job.work item went
+    by (Some ending) went = tt
+
+-- ---- what a start gives
+
+last-there : (tasks : List Task) (entry : Task) → slice_get (tasks ++ entry ∷ []) (length tasks) ≡ Some entry
+last-there tasks entry =
+    let sum : length (tasks ++ entry ∷ []) ≡ length tasks + length (entry ∷ []) = length-append tasks (entry ∷ []) in
+    slice_get-get_or (tasks ++ entry ∷ []) (length tasks) entry (omega (arith, sum)) ∙ ap Some (get_or-append_seam tasks entry [] entry)
+
+fresh : (lists : Lists) (server caller : CallSign) (name file digest : List ℕ)
+    → HasTask (after lists (fresh_task lists server caller name (length file) digest)) (new_upload (task_count lists + 1) 0 file)
+fresh lists server caller name file digest =
+    let entry : Task = new_task server caller name (length file) digest in
+    let some : (task_count lists + 1 == 0) ≡ false = grind (arith, nat_tests) in
+    let place : task_count lists ≡ task_count lists + 1 - 1 = omega arith in
+    record {
+      entry = entry;
+      is_entry = rw some (subst (λ (k : ℕ). slice_get (lists.tasks ++ entry ∷ []) k ≡ Some entry) place (last-there lists.tasks entry));
+      going = refl;
+      number = refl;
+      file_length = refl;
+    }
+
+going : (lists : Lists) (server caller : CallSign) (name file digest : List ℕ) (task number : ℕ)
+    → answer_of lists server caller name (length file) digest ≡ Ok (Some (begun.Going task number)) → HasTask lists (new_upload task number file)
+going lists server caller name file digest task number is = by_last (last_task lists server caller name) is
+  where
+    by_progress : (t : ℕ) (entry : Task) (b : Bool) (p : Progress) → task_of lists t ≡ Some entry → is_of_file (length file) digest entry ≡ b → entry.progress ≡ p
+        → answer_by t entry b p ≡ Ok (Some (begun.Going task number)) → HasTask lists (new_upload task number file)
+    by_progress t entry true progress.Acked found of_file far same = absurd (cc same)
+    by_progress t entry false progress.Acked found of_file far same = absurd (cc same)
+    by_progress t entry true progress.Going found of_file far same =
+        let task_is : t ≡ task = cc same in
+        let number_is : entry.number ≡ number = cc same in
+        let test : (entry.length == length file) ≡ true = both-left (entry.length == length file) _ of_file in
+        record {
+          entry = entry;
+          is_entry = subst (λ (k : ℕ). task_of lists k ≡ Some entry) task_is found;
+          going = far;
+          number = number_is;
+          file_length = grind (arith, nat_tests);
+        }
+    by_progress t entry false progress.Going found of_file far same = absurd (cc same)
+    by_progress t entry true (progress.Refused code) found of_file far same = absurd (cc same)
+    by_progress t entry false (progress.Refused code) found of_file far same = absurd (cc same)
+
+    by_task : (t : ℕ) (o : Option Task) → task_of lists t ≡ o → answer_at t (length file) digest o ≡ Ok (Some (begun.Going task number)) → HasTask lists (new_upload task number file)
+    by_task t None found same = absurd (cc same)
+    by_task t (Some entry) found same = by_progress t entry (is_of_file (length file) digest entry) entry.progress found refl refl same
+
+    by_last : (o : Option ℕ) → answer_last lists (length file) digest o ≡ Ok (Some (begun.Going task number)) → HasTask lists (new_upload task number file)
+    by_last None same = absurd (cc same)
+    by_last (Some t) same = by_task t (task_of lists t) refl same
+
+-- no answer of an earlier task is that a fresh one was noted
+not-fresh : (lists : Lists) (server caller : CallSign) (name digest : List ℕ) (len task : ℕ) → answer_of lists server caller name len digest ≡ Ok (Some (begun.Fresh task)) → ⊥
+not-fresh lists server caller name digest len task is = by_last (last_task lists server caller name) is
+  where
+    by_progress : (t : ℕ) (entry : Task) (b : Bool) (p : Progress) → answer_by t entry b p ≡ Ok (Some (begun.Fresh task)) → ⊥
+    by_progress t entry true progress.Acked same = cc same
+    by_progress t entry false progress.Acked same = cc same
+    by_progress t entry true progress.Going same = cc same
+    by_progress t entry false progress.Going same = cc same
+    by_progress t entry true (progress.Refused code) same = cc same
+    by_progress t entry false (progress.Refused code) same = cc same
+
+    by_task : (t : ℕ) (o : Option Task) → answer_at t len digest o ≡ Ok (Some (begun.Fresh task)) → ⊥
+    by_task t None same = cc same
+    by_task t (Some entry) same = by_progress t entry (is_of_file len digest entry) entry.progress same
+
+    by_last : (o : Option ℕ) → answer_last lists len digest o ≡ Ok (Some (begun.Fresh task)) → ⊥
+    by_last None same = cc same
+    by_last (Some t) same = by_task t (task_of lists t) same
+
+-- the number of a fresh task
+fresh-number : (old : NotesState) (r : Result (Option Begun) NotesRefusal) (task : ℕ) → (r ≡ Ok (Some (begun.Fresh task)) → ⊥) → StartsBy old r (Ok (begun.Fresh task)) → task ≡ task_count old.lists + 1
+fresh-number old (Ok None) task none starts = let is = starts.1 in cc is
+fresh-number old (Ok (Some kept)) task none starts = absurd (none (let kept_is : kept ≡ begun.Fresh task = cc starts in ap (λ (b : Begun). Ok (Some b)) kept_is))
+fresh-number old (Err refusal) task none starts = absurd (cc starts)
+
+-- the answer of an earlier task that is under way
+going-answer : (old : NotesState) (r : Result (Option Begun) NotesRefusal) (task number : ℕ) → StartsBy old r (Ok (begun.Going task number)) → r ≡ Ok (Some (begun.Going task number))
+going-answer old (Ok None) task number starts = absurd (let is = starts.1 in cc is)
+going-answer old (Ok (Some kept)) task number starts = let kept_is : kept ≡ begun.Going task number = cc starts in ap (λ (b : Begun). Ok (Some b)) kept_is
+going-answer old (Err refusal) task number starts = absurd (cc starts)
+
+pub is-started : {D : Type 0} (g : Ghosts D) (old new : NotesState) (disk disk_now : D) (server caller : CallSign) (name file digest : List ℕ) (given : Begun)
+    → StartsBy old (answer_of old.lists server caller name (length file) digest) (started given) → IsTrue (start_reaches (started given)) ⊎ Untouched old new disk disk_now
+    → (IsTrue (start_reaches (started given)) → Does g (IsErr (started given)) old new disk disk_now (fresh_task old.lists server caller name (length file) digest)) → IsStarted new.lists file given
+is-started g old new disk disk_now server caller name file digest (begun.Fresh task) starts untouched does =
+    let number : task ≡ task_count old.lists + 1 =
+    fresh-number old (answer_of old.lists server caller name (length file) digest) task (not-fresh old.lists server caller name digest (length file) task) starts in
+    let made = ((does refl).done (λ e. cc e)).lists in
+    subst (λ (l : Lists). HasTask l (new_upload task 0 file)) (sym made)
+    (subst (λ (k : ℕ). HasTask (after old.lists (fresh_task old.lists server caller name (length file) digest)) (new_upload k 0 file)) (sym number) (fresh old.lists server caller name file digest))
+is-started g old new disk disk_now server caller name file digest (begun.Going task number) starts untouched does =
+    let is = going-answer old (answer_of old.lists server caller name (length file) digest) task number starts in
+    subst (λ (n : NotesState). HasTask n.lists (new_upload task number file)) (sym (same-of old new disk disk_now untouched)) (going old.lists server caller name file digest task number is)
+  where
+    same-of : {D : Type 0} (old new : NotesState) (disk disk_now : D) → IsTrue false ⊎ Untouched old new disk disk_now → new ≡ old
+    same-of old new disk disk_now (inl never) = absurd (cc never)
+    same-of old new disk disk_now (inr same) = same.same
+is-started g old new disk disk_now server caller name file digest (begun.Already number) starts untouched does = tt
+
+-- ---- what is acknowledged
+
+-- since the first command, whatever comes behind it
+acked-in : (lists : Lists) (at : Upload) (number : ℕ) (row : Row Upload) → HasTask lists at → number_in at.phase at.known ≡ number → row.commands ≡ acked at.task ∷ [] → Acknowledges lists at.task number row
+acked-in lists at number row has is commands = record {
+  commands = commands;
+  stands = λ others least most image allowed some makes.
+      let all : row.commands ++ others ≡ acked at.task ∷ others = ap (λ (cs : List NotesCommand). cs ++ others) commands in
+      stands-by others image (subst (λ (cs : List NotesCommand). AreAllowed lists cs) all allowed) makes.0 (omega (arith, some, makes.1))
+      (subst (λ (cs : List NotesCommand). StandsFor image (after_all lists (take makes.0 cs))) all makes.3);
+}
+  where
+    noted_now : noted_at (after lists (acked at.task)) at.task ≡ Some (noted.Acked at.task number)
+    noted_now =
+        ap (option_map (noted_as at.task)) (task-after lists at.task (λ t. record t { progress = progress.Acked }) has.entry has.is_entry)
+        ∙ ap (λ (n : ℕ). Some (noted.Acked at.task n)) (has.number ∙ is)
+
+    allowed-take : (count : ℕ) (commands : List NotesCommand) (lists : Lists) → AreAllowed lists commands → AreAllowed lists (take count commands)
+    allowed-take zero commands lists allowed = tt
+    allowed-take (suc count) [] lists allowed = tt
+    allowed-take (suc count) (command ∷ commands) lists allowed = (allowed.0, allowed-take count commands (after lists command) allowed.1)
+
+    stands-by : (others : List NotesCommand) (image : List ℕ) → AreAllowed lists (acked at.task ∷ others) → (count : ℕ) → 1 ≤ count
+        → StandsFor image (after_all lists (take count (acked at.task ∷ others))) → IsAckedIn at.task number image
+    stands-by others image allowed zero some stands = absurd (omega (arith, some))
+    stands-by others image allowed (suc count) some stands = (
+      after_all (after lists (acked at.task)) (take count others),
+      stands,
+      acked-stays (after lists (acked at.task)) (take count others) at.task number (allowed-take count others (after lists (acked at.task)) allowed.1) noted_now,
+    )
+
+ack-login : (lists : Lists) (at : Upload) (packet : PacketValue) (number : ℕ) → reached (upload.login_row at packet) ≡ Some (outcome.Acked number) → Acknowledges lists at.task number (upload.login_row at packet)
+ack-login lists at (data_part octets) number is = absurd (cc is)
+ack-login lists at data_end number is = absurd (cc is)
+ack-login lists at (login_resp moment flags) number is = absurd (cc is)
+ack-login lists at (upload_cmd of file_length) number is = absurd (cc is)
+ack-login lists at (ul_go_resp of offset) number is = absurd (cc is)
+ack-login lists at (ul_error_resp code) number is = absurd (cc is)
+ack-login lists at ul_ack_resp number is = absurd (cc is)
+ack-login lists at (ul_nak_resp code) number is = absurd (cc is)
+ack-login lists at (download_cmd of offset lock) number is = absurd (cc is)
+ack-login lists at (dl_error_resp code) number is = absurd (cc is)
+ack-login lists at dl_aborted_resp number is = absurd (cc is)
+ack-login lists at dl_completed_resp number is = absurd (cc is)
+ack-login lists at dl_ack_cmd number is = absurd (cc is)
+ack-login lists at dl_nak_cmd number is = absurd (cc is)
+ack-login lists at (dir_short_cmd of) number is = absurd (cc is)
+ack-login lists at (dir_long_cmd of) number is = absurd (cc is)
+ack-login lists at (select_cmd tokens) number is = absurd (cc is)
+ack-login lists at (select_resp count) number is = absurd (cc is)
+
+ack-sending : (lists : Lists) (at : Upload) (packet : PacketValue) (number : ℕ) → reached (upload.sending_row at packet) ≡ Some (outcome.Acked number) → Acknowledges lists at.task number (upload.sending_row at packet)
+ack-sending lists at (data_part octets) number is = absurd (cc is)
+ack-sending lists at data_end number is = absurd (cc is)
+ack-sending lists at (login_resp moment flags) number is = absurd (cc is)
+ack-sending lists at (upload_cmd of file_length) number is = absurd (cc is)
+ack-sending lists at (ul_go_resp of offset) number is = absurd (cc is)
+ack-sending lists at (ul_error_resp code) number is = absurd (cc is)
+ack-sending lists at ul_ack_resp number is = absurd (cc is)
+ack-sending lists at (ul_nak_resp code) number is = absurd (cc is)
+ack-sending lists at (download_cmd of offset lock) number is = absurd (cc is)
+ack-sending lists at (dl_error_resp code) number is = absurd (cc is)
+ack-sending lists at dl_aborted_resp number is = absurd (cc is)
+ack-sending lists at dl_completed_resp number is = absurd (cc is)
+ack-sending lists at dl_ack_cmd number is = absurd (cc is)
+ack-sending lists at dl_nak_cmd number is = absurd (cc is)
+ack-sending lists at (dir_short_cmd of) number is = absurd (cc is)
+ack-sending lists at (dir_long_cmd of) number is = absurd (cc is)
+ack-sending lists at (select_cmd tokens) number is = absurd (cc is)
+ack-sending lists at (select_resp count) number is = absurd (cc is)
+
+go-resp-none : (b : Bool) (lists : Lists) (at : Upload) (of offset number : ℕ)
+    → reached (if b then goes_on (in_phase at (phase.Sending of offset)) (number_commands at of) [] else strange at 4) ≡ Some (outcome.Acked number)
+    → Acknowledges lists at.task number (if b then goes_on (in_phase at (phase.Sending of offset)) (number_commands at of) [] else strange at 4)
+go-resp-none true lists at of offset number is = absurd (cc is)
+go-resp-none false lists at of offset number is = absurd (cc is)
+
+go-error : (b : Bool) (lists : Lists) (at : Upload) (code number : ℕ) → at.phase ≡ phase.Go → HasTask lists at
+    → reached (if b then ends at (acked at.task ∷ []) (outcome.Acked at.known) else ends at (refusal_of at.task code) (outcome.Refused code)) ≡ Some (outcome.Acked number)
+    → Acknowledges lists at.task number (if b then ends at (acked at.task ∷ []) (outcome.Acked at.known) else ends at (refusal_of at.task code) (outcome.Refused code))
+go-error true lists at code number goes has is =
+    let same : at.known ≡ number = cc is in
+    acked-in lists at number (ends at (acked at.task ∷ []) (outcome.Acked at.known)) has (ap (λ (p : UploadPhase). number_in p at.known) goes ∙ same) refl
+go-error false lists at code number goes has is = absurd (cc is)
+
+ack-go : (lists : Lists) (at : Upload) (packet : PacketValue) (number : ℕ) → at.phase ≡ phase.Go → HasTask lists at → reached (upload.go_row at packet) ≡ Some (outcome.Acked number)
+    → Acknowledges lists at.task number (upload.go_row at packet)
+ack-go lists at (data_part octets) number goes has is = absurd (cc is)
+ack-go lists at data_end number goes has is = absurd (cc is)
+ack-go lists at (login_resp moment flags) number goes has is = absurd (cc is)
+ack-go lists at (upload_cmd of file_length) number goes has is = absurd (cc is)
+ack-go lists at (ul_go_resp of offset) number goes has is = go-resp-none (may_go at of offset) lists at of offset number is
+ack-go lists at (ul_error_resp code) number goes has is = go-error (is_complete at code) lists at code number goes has is
+ack-go lists at ul_ack_resp number goes has is = absurd (cc is)
+ack-go lists at (ul_nak_resp code) number goes has is = absurd (cc is)
+ack-go lists at (download_cmd of offset lock) number goes has is = absurd (cc is)
+ack-go lists at (dl_error_resp code) number goes has is = absurd (cc is)
+ack-go lists at dl_aborted_resp number goes has is = absurd (cc is)
+ack-go lists at dl_completed_resp number goes has is = absurd (cc is)
+ack-go lists at dl_ack_cmd number goes has is = absurd (cc is)
+ack-go lists at dl_nak_cmd number goes has is = absurd (cc is)
+ack-go lists at (dir_short_cmd of) number goes has is = absurd (cc is)
+ack-go lists at (dir_long_cmd of) number goes has is = absurd (cc is)
+ack-go lists at (select_cmd tokens) number goes has is = absurd (cc is)
+ack-go lists at (select_resp count) number goes has is = absurd (cc is)
+
+ack-ack : (lists : Lists) (at : Upload) (given : ℕ) (packet : PacketValue) (number : ℕ) → at.phase ≡ phase.Ack given → HasTask lists at → reached (upload.ack_row at given packet) ≡ Some (outcome.Acked number)
+    → Acknowledges lists at.task number (upload.ack_row at given packet)
+ack-ack lists at given (data_part octets) number waits has is = absurd (cc is)
+ack-ack lists at given data_end number waits has is = absurd (cc is)
+ack-ack lists at given (login_resp moment flags) number waits has is = absurd (cc is)
+ack-ack lists at given (upload_cmd of file_length) number waits has is = absurd (cc is)
+ack-ack lists at given (ul_go_resp of offset) number waits has is = absurd (cc is)
+ack-ack lists at given (ul_error_resp code) number waits has is = absurd (cc is)
+ack-ack lists at given ul_ack_resp number waits has is =
+    let same : given ≡ number = cc is in
+    acked-in lists at number (ends at (acked at.task ∷ []) (outcome.Acked given)) has (ap (λ (p : UploadPhase). number_in p at.known) waits ∙ same) refl
+ack-ack lists at given (ul_nak_resp code) number waits has is = absurd (cc is)
+ack-ack lists at given (download_cmd of offset lock) number waits has is = absurd (cc is)
+ack-ack lists at given (dl_error_resp code) number waits has is = absurd (cc is)
+ack-ack lists at given dl_aborted_resp number waits has is = absurd (cc is)
+ack-ack lists at given dl_completed_resp number waits has is = absurd (cc is)
+ack-ack lists at given dl_ack_cmd number waits has is = absurd (cc is)
+ack-ack lists at given dl_nak_cmd number waits has is = absurd (cc is)
+ack-ack lists at given (dir_short_cmd of) number waits has is = absurd (cc is)
+ack-ack lists at given (dir_long_cmd of) number waits has is = absurd (cc is)
+ack-ack lists at given (select_cmd tokens) number waits has is = absurd (cc is)
+ack-ack lists at given (select_resp count) number waits has is = absurd (cc is)
+
+pub acknowledged : (lists : Lists) (at : Upload) (packet : PacketValue) (number : ℕ) → HasTask lists at → reached (upload_row at packet) ≡ Some (outcome.Acked number)
+    → Acknowledges lists at.task number (upload_row at packet)
+unfolding upload_row
+acknowledged lists at packet number has is = by at.phase refl is
+  where
+    by : (p : UploadPhase) → at.phase ≡ p → reached (upload.row_in p at packet) ≡ Some (outcome.Acked number) → Acknowledges lists at.task number (upload.row_in p at packet)
+    by phase.Login here same = ack-login lists at packet number same
+    by phase.Go here same = ack-go lists at packet number here has same
+    by (phase.Sending of place) here same = ack-sending lists at packet number same
+    by (phase.Ack given) here same = ack-ack lists at given packet number here has same
+
+-- ---- how a job is continued
+
+pub continued : (at : Upload) (number offset : ℕ) → at.phase ≡ phase.Go → at.known ≡ number → 1 ≤ number → offset < length at.file
+    → (upload_row at (ul_go_resp number offset) ≡ goes_on (in_phase at (phase.Sending number offset)) [] [])
+    × (upload_due (in_phase at (phase.Sending number offset))
+    ≡ Some (record { packet = data_part (take most_data (drop offset at.file)); state = in_phase at (phase.Sending number (place_after at offset)) }))
+unfolding upload_row
+continued at number offset here known some within =
+    let old : (at.known == 0) ≡ false = grind (arith, nat_tests) in
+    let its : (number == at.known) ≡ true = grind (arith, nat_tests) in
+    let fits : nat_le offset (length at.file) ≡ true = grind (arith, nat_tests) in
+    let left : length (drop offset at.file) ≡ length at.file - offset = length-drop offset at.file in
+    let test : (length (drop offset at.file) == 0) ≡ false = grind (arith, nat_tests) in
+    (ap (λ (p : UploadPhase). upload.row_in p at (ul_go_resp number offset)) here ∙ rw (old, its, fits) refl, rw test refl)
+
+pub resumed : (held : List ℕ) (at : Download) (moment flags : ℕ) → at.phase ≡ fetch.Login
+    → (download_row held at (login_resp moment flags)).replies ≡ download_cmd at.number (length held) 0 ∷ []
+unfolding download_row
+resumed held at moment flags here = ap (λ (p : DownloadPhase). (download.row_in p held at (login_resp moment flags)).replies) here
+
+-- ---- what is fetched
+
+data-octets : (b : Bool) (lists : Lists) (at : Download) (octets : List ℕ) (row : Row Download)
+    → (if b then strange at 0 else goes_on (with_rest at (unnoted (at.rest ++ octets))) (whole_gots at.server at.number (at.rest ++ octets)) []) ≡ row → row.ending ≡ None
+    → got_of (after_all lists row.commands) at.server at.number ++ row.state.rest ≡ got_of lists at.server at.number ++ (at.rest ++ octets)
+data-octets true lists at octets row is none = absurd (let e = ap (λ (r : Row Download). r.ending) is ∙ none in cc e)
+data-octets false lists at octets row is none =
+    let all : List ℕ = at.rest ++ octets in
+    let n = length all / 512 in
+    let P : Row Download → Type 0 = λ r. got_of (after_all lists r.commands) at.server at.number ++ r.state.rest ≡ got_of lists at.server at.number ++ all in
+    subst P is
+    (ap (λ (os : List ℕ). os ++ unnoted all) (gots-after at.server at.number n all lists)
+    ∙ append_assoc (got_of lists at.server at.number) (take (512 * n) all) (drop (512 * n) all)
+    ∙ ap (λ (os : List ℕ). got_of lists at.server at.number ++ os) (take-append-drop (512 * n) all))
+
+pub fetching : (lists : Lists) (at : Download) (octets : List ℕ) (row : Row Download) → at.phase ≡ fetch.Fetching → download_row (got_of lists at.server at.number) at (data_part octets) ≡ row
+    → row.ending ≡ None → got_of (after_all lists row.commands) at.server at.number ++ row.state.rest ≡ got_of lists at.server at.number ++ (at.rest ++ octets)
+unfolding download_row
+fetching lists at octets row here is none =
+    data-octets (nat_lt LONGEST_FILE (length (got_of lists at.server at.number) + length (at.rest ++ octets))) lists at octets row
+    (ap (λ (p : DownloadPhase). download.row_in p (got_of lists at.server at.number) at (data_part octets)) (sym here) ∙ is) none
+
+-- a row by which a file was fetched
+abbrev IsFetched : List ℕ → Download → ℕ → Row Download → Type 0
+IsFetched held at number row = (number ≡ at.number) × (fault_code held ≡ None) × (row.commands ≡ [])
+
+fetched-login : (held : List ℕ) (at : Download) (packet : PacketValue) (number : ℕ) → reached (download.login_row held at packet) ≡ Some (outcome.Fetched number)
+    → IsFetched held at number (download.login_row held at packet)
+fetched-login held at (data_part octets) number is = absurd (cc is)
+fetched-login held at data_end number is = absurd (cc is)
+fetched-login held at (login_resp moment flags) number is = absurd (cc is)
+fetched-login held at (upload_cmd of file_length) number is = absurd (cc is)
+fetched-login held at (ul_go_resp of offset) number is = absurd (cc is)
+fetched-login held at (ul_error_resp code) number is = absurd (cc is)
+fetched-login held at ul_ack_resp number is = absurd (cc is)
+fetched-login held at (ul_nak_resp code) number is = absurd (cc is)
+fetched-login held at (download_cmd of offset lock) number is = absurd (cc is)
+fetched-login held at (dl_error_resp code) number is = absurd (cc is)
+fetched-login held at dl_aborted_resp number is = absurd (cc is)
+fetched-login held at dl_completed_resp number is = absurd (cc is)
+fetched-login held at dl_ack_cmd number is = absurd (cc is)
+fetched-login held at dl_nak_cmd number is = absurd (cc is)
+fetched-login held at (dir_short_cmd of) number is = absurd (cc is)
+fetched-login held at (dir_long_cmd of) number is = absurd (cc is)
+fetched-login held at (select_cmd tokens) number is = absurd (cc is)
+fetched-login held at (select_resp count) number is = absurd (cc is)
+
+fetched-data : (b : Bool) (held : List ℕ) (at : Download) (octets : List ℕ) (number : ℕ)
+    → reached (if b then strange at 0 else goes_on (with_rest at (unnoted (at.rest ++ octets))) (whole_gots at.server at.number (at.rest ++ octets)) []) ≡ Some (outcome.Fetched number)
+    → IsFetched held at number (if b then strange at 0 else goes_on (with_rest at (unnoted (at.rest ++ octets))) (whole_gots at.server at.number (at.rest ++ octets)) [])
+fetched-data true held at octets number is = absurd (cc is)
+fetched-data false held at octets number is = absurd (cc is)
+
+fetched-end : (o : Option ℕ) (held : List ℕ) (at : Download) (number : ℕ) → reached (whole_row at o) ≡ Some (outcome.Fetched number) → IsFetched held at number (whole_row at o)
+fetched-end None held at number is = absurd (cc is)
+fetched-end (Some code) held at number is = absurd (cc is)
+
+fetched-octets : (held : List ℕ) (at : Download) (packet : PacketValue) (number : ℕ) → reached (download.fetching_row held at packet) ≡ Some (outcome.Fetched number)
+    → IsFetched held at number (download.fetching_row held at packet)
+fetched-octets held at (data_part octets) number is = fetched-data (nat_lt LONGEST_FILE (length held + length (at.rest ++ octets))) held at octets number is
+fetched-octets held at data_end number is = fetched-end (fault_code (held ++ at.rest)) held at number is
+fetched-octets held at (login_resp moment flags) number is = absurd (cc is)
+fetched-octets held at (upload_cmd of file_length) number is = absurd (cc is)
+fetched-octets held at (ul_go_resp of offset) number is = absurd (cc is)
+fetched-octets held at (ul_error_resp code) number is = absurd (cc is)
+fetched-octets held at ul_ack_resp number is = absurd (cc is)
+fetched-octets held at (ul_nak_resp code) number is = absurd (cc is)
+fetched-octets held at (download_cmd of offset lock) number is = absurd (cc is)
+fetched-octets held at (dl_error_resp code) number is = absurd (cc is)
+fetched-octets held at dl_aborted_resp number is = absurd (cc is)
+fetched-octets held at dl_completed_resp number is = absurd (cc is)
+fetched-octets held at dl_ack_cmd number is = absurd (cc is)
+fetched-octets held at dl_nak_cmd number is = absurd (cc is)
+fetched-octets held at (dir_short_cmd of) number is = absurd (cc is)
+fetched-octets held at (dir_long_cmd of) number is = absurd (cc is)
+fetched-octets held at (select_cmd tokens) number is = absurd (cc is)
+fetched-octets held at (select_resp count) number is = absurd (cc is)
+
+fetched-done : (held : List ℕ) (at : Download) (packet : PacketValue) (number : ℕ) → fault_code held ≡ None → reached (download.done_row at packet) ≡ Some (outcome.Fetched number)
+    → IsFetched held at number (download.done_row at packet)
+fetched-done held at (data_part octets) number whole is = absurd (cc is)
+fetched-done held at data_end number whole is = absurd (cc is)
+fetched-done held at (login_resp moment flags) number whole is = absurd (cc is)
+fetched-done held at (upload_cmd of file_length) number whole is = absurd (cc is)
+fetched-done held at (ul_go_resp of offset) number whole is = absurd (cc is)
+fetched-done held at (ul_error_resp code) number whole is = absurd (cc is)
+fetched-done held at ul_ack_resp number whole is = absurd (cc is)
+fetched-done held at (ul_nak_resp code) number whole is = absurd (cc is)
+fetched-done held at (download_cmd of offset lock) number whole is = absurd (cc is)
+fetched-done held at (dl_error_resp code) number whole is = absurd (cc is)
+fetched-done held at dl_aborted_resp number whole is = absurd (cc is)
+fetched-done held at dl_completed_resp number whole is = let same : at.number ≡ number = cc is in (sym same, whole, refl)
+fetched-done held at dl_ack_cmd number whole is = absurd (cc is)
+fetched-done held at dl_nak_cmd number whole is = absurd (cc is)
+fetched-done held at (dir_short_cmd of) number whole is = absurd (cc is)
+fetched-done held at (dir_long_cmd of) number whole is = absurd (cc is)
+fetched-done held at (select_cmd tokens) number whole is = absurd (cc is)
+fetched-done held at (select_resp count) number whole is = absurd (cc is)
+
+pub fetched : (lists : Lists) (at : Download) (packet : PacketValue) (number : ℕ) → HasGot lists at
+    → reached (download_row (got_of lists at.server at.number) at packet) ≡ Some (outcome.Fetched number)
+    → (number ≡ at.number) × (fault_code (got_of lists at.server at.number) ≡ None) × ((download_row (got_of lists at.server at.number) at packet).commands ≡ [])
+unfolding download_row
+fetched lists at packet number has is = by at.phase refl is
+  where
+    by : (p : DownloadPhase) → at.phase ≡ p → reached (download.row_in p (got_of lists at.server at.number) at packet) ≡ Some (outcome.Fetched number)
+        → IsFetched (got_of lists at.server at.number) at number (download.row_in p (got_of lists at.server at.number) at packet)
+    by fetch.Login here same = fetched-login (got_of lists at.server at.number) at packet number same
+    by fetch.Fetching here same = fetched-octets (got_of lists at.server at.number) at packet number same
+    by fetch.Done here same =
+        fetched-done (got_of lists at.server at.number) at packet number (subst (λ (p : DownloadPhase). IsCheckedIn p (got_of lists at.server at.number)) here has.checked) same
+
+-- ---- what is due
+
+-- the notes go with an upload of which DATA or DATA_END was sent
+due-task : (lists : Lists) (at : Upload) (number place : ℕ) → at.phase ≡ phase.Sending number place → HasTask lists at → HasTask lists (due_from at number place).state
+due-task lists at number place here has = by (length (drop place at.file) == 0)
+  where
+    number_is : has.entry.number ≡ number
+    number_is = has.number ∙ ap (λ (p : UploadPhase). number_in p at.known) here
+
+    by : (b : Bool) → let due : DuePacket Upload = if b then record { packet = data_end; state = in_phase at (phase.Ack number) }
+        else record { packet = data_part (take most_data (drop place at.file)); state = in_phase at (phase.Sending number (place_after at place)) } in HasTask lists due.state
+    by true = record { entry = has.entry; is_entry = has.is_entry; going = has.going; number = number_is; file_length = has.file_length }
+    by false = record { entry = has.entry; is_entry = has.is_entry; going = has.going; number = number_is; file_length = has.file_length }
+
+due-upload : (lists : Lists) (at : Upload) (p : UploadPhase) (put : Bool) (now : JobState) (out out_now : List ℕ) → at.phase ≡ p → HasTask lists at
+    → PutsDue (option_map in_job (option_map in_work (due_in p at))) put (new_job (work.Upload at)) now out out_now → NotesGoWith lists now
+due-upload lists at phase.Login put now out out_now here has puts = subst (NotesGoWith lists) (sym puts.1) has
+due-upload lists at phase.Go put now out out_now here has puts = subst (NotesGoWith lists) (sym puts.1) has
+due-upload lists at (phase.Sending number place) put now out out_now here has puts = subst (NotesGoWith lists) (sym puts.1) (due-task lists at number place here has)
+due-upload lists at (phase.Ack number) put now out out_now here has puts = subst (NotesGoWith lists) (sym puts.1) has
+
+due-work : (lists : Lists) (doing : Work) (o : Option Ending) (put : Bool) (now : JobState) (out out_now : List ℕ) → GoBy o lists doing
+    → PutsDue (due_by o doing) put (record { work = doing; ending = o }) now out out_now → NotesGoWith lists now
+due-work lists doing (Some ending) put now out out_now goes puts = subst (NotesGoWith lists) (sym puts.1) tt
+due-work lists (work.Upload at) None put now out out_now goes puts = due-upload lists at at.phase put now out out_now refl goes puts
+due-work lists (work.Directory at) None put now out out_now goes puts = subst (NotesGoWith lists) (sym puts.1) tt
+due-work lists (work.Download at) None put now out out_now goes puts = subst (NotesGoWith lists) (sym puts.1) goes
+
+-- the notes that go with a job go with it once what was due was sent
+pub due-goes : (lists : Lists) (job now : JobState) (put : Bool) (out out_now : List ℕ) → PutsDue (next_due job) put job now out out_now → NotesGoWith lists job → NotesGoWith lists now
+due-goes lists job now put out out_now puts goes = due-work lists job.work job.ending put now out out_now goes puts

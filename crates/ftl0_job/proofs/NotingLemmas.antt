@@ -1,0 +1,142 @@
+-- What a call of the notes does, as a job says it.
+use Rattle.std.proofs.Common.{◌≡◌, ℕ, ◌≤◌, true, false, List, [], ◌∷◌, refl, sym, ◌∙◌, ap, subst, inl, inr, arith}
+use Rattle.std.specs.Prelude.{⊤, Option, Result, Ok, Err, IsErr, IsErrOf, IsTrue, ◌⊎◌, nat_lt}
+use Rattle.std.proofs.lemmas.Bool.Decides.{nat_tests}
+use Rattle.disk_model.specs.declared.disk.Disk.{Ghosts}
+use Rattle.file_journal.specs.declared.faults.JournalFault.{JournalFault}
+use Rattle.file_journal.specs.declared.faults.JournalFault.TheVariants as fault
+use Rattle.client_notes.specs.declared.refusals.NotesRefusal.{NotesRefusal}
+use Rattle.client_notes.specs.declared.refusals.NotesRefusal.TheVariants as refusal
+use Rattle.client_notes.specs.Answers.{Noting}
+use Rattle.client_notes.specs.Command.{NotesCommand, acked, is_allowed, is_going, is_numbered, is_unnumbered, numbered, passes, refused}
+use Rattle.client_notes.specs.Notes.{Lists, Task, task_of}
+use Rattle.client_notes.specs.OnDisk.{Answers, Does, Untouched}
+use Rattle.client_notes.specs.Several.{DoesSeveral}
+use Rattle.client_notes.specs.State.{NotesState, StandsOn}
+use Rattle.client_notes.proofs.SeveralLemmas.{Several-none, Several-one, Several-same}
+use Rattle.ftl0_job.specs.declared.ending.Ending.{Ending}
+use Rattle.ftl0_job.specs.declared.stop.JobStop.{JobStop}
+use Rattle.ftl0_job.specs.declared.stop.JobStop.TheVariants as stop
+use Rattle.ftl0_job.specs.JobState.{HasTask, number_in}
+use Rattle.ftl0_job.specs.Noting.{HasNoted, IsAnswer, IsAnswerOf, IsOfNoting}
+use Rattle.ftl0_job.specs.Row.{Row}
+use Rattle.ftl0_job.specs.Taking.{Gives, TakesRow}
+use Rattle.ftl0_job.specs.Upload.{Upload}
+
+-- the answers by name
+abbrev done : Result ⊤ JobStop
+done = Ok tt
+
+abbrev stopped : JobStop → Result ⊤ JobStop
+stopped why = Err why
+
+module _ {D : Type 0} (g : Ghosts D) where
+  -- ---- one command
+
+  pub does-one : (P Q : Type 0) (old new : NotesState) (disk disk_now : D) (command : NotesCommand) → (P → Q) → (Q → P) → Does g P old new disk disk_now command → DoesSeveral g Q old new disk disk_now (command ∷ [])
+  does-one P Q old new disk disk_now command there back does = Several-same g P Q old new disk disk_now (command ∷ []) there back (Several-one g P old new disk disk_now command does)
+
+  pub answers-noted : (old new : NotesState) (disk disk_now : D) (command : NotesCommand) (answer : Result ⊤ JournalFault) (result : Result ⊤ JobStop)
+      → Answers g old new disk disk_now command answer → IsAnswer answer result → HasNoted g old new disk disk_now (command ∷ []) result
+  answers-noted old new disk disk_now command (Ok x) result answers is =
+      subst (λ (r : Result ⊤ JobStop). HasNoted g old new disk disk_now (command ∷ []) r) (sym is)
+      (does-one (IsErr {T = ⊤} {E = JournalFault} (Ok x)) ⊥ old new disk disk_now command (λ e. cc e) (λ never. absurd never) (answers.does (λ e. cc e)))
+  answers-noted old new disk disk_now command (Err fault.Disk) result answers is =
+      subst (λ (r : Result ⊤ JobStop). HasNoted g old new disk disk_now (command ∷ []) r) (sym is)
+      (does-one (IsErr {T = ⊤} {E = JournalFault} (Err fault.Disk)) ⊤ old new disk disk_now command (λ e. tt) (λ e. refl) (answers.does (λ e. cc e)))
+  answers-noted old new disk disk_now command (Err fault.Failed) result answers is = absurd is
+
+  -- it wasn't that the notes had failed
+  pub not-failed : (old new : NotesState) (disk disk_now : D) (command : NotesCommand) (answer : Result ⊤ JournalFault) → old.journal.failed ≡ false → Answers g old new disk disk_now command answer
+      → IsErrOf answer fault.Failed → ⊥
+  not-failed old new disk disk_now command answer healthy answers is = let failed = answers.failed.0 is in cc
+
+  pub no-memory : (answer : Result ⊤ JournalFault) (result : Result ⊤ JobStop) → IsAnswer answer result → IsErrOf result stop.OutOfMemory → ⊥
+  no-memory (Ok x) result is e = cc
+  no-memory (Err fault.Disk) result is e = cc
+  no-memory (Err fault.Failed) result is e = absurd is
+
+  -- no command
+  pub noted-none : (notes : NotesState) (disk : D) → notes.journal.failed ≡ false → StandsOn g notes disk → g.lasts disk disk → DoesSeveral g ⊥ notes notes disk disk []
+  noted-none notes disk healthy stands lasts = Several-none g ⊥ notes disk (λ never. never) stands healthy lasts
+
+  pub none-by : (notes : NotesState) (disk : D) (commands : List NotesCommand) → commands ≡ [] → notes.journal.failed ≡ false → StandsOn g notes disk → g.lasts disk disk
+      → DoesSeveral g ⊥ notes notes disk disk commands
+  none-by notes disk commands none healthy stands lasts = subst (λ (cs : List NotesCommand). DoesSeveral g ⊥ notes notes disk disk cs) (sym none) (noted-none notes disk healthy stands lasts)
+
+  -- a command that takes memory
+  untouched-of : (old new : NotesState) (disk disk_now : D) → IsTrue false ⊎ Untouched old new disk disk_now → Untouched old new disk disk_now
+  untouched-of old new disk disk_now (inl never) = absurd (cc never)
+  untouched-of old new disk disk_now (inr same) = same
+
+  pub noting-noted : (old new : NotesState) (disk disk_now : D) (command : NotesCommand) (answer : Result ⊤ NotesRefusal) (result : Result ⊤ JobStop) → old.journal.failed ≡ false → StandsOn g old disk
+      → g.lasts disk disk → Noting g old new disk disk_now command answer → IsAnswerOf answer result → HasNoted g old new disk disk_now (command ∷ []) result
+  noting-noted old new disk disk_now command (Ok x) result healthy stands lasts noting is =
+      subst (λ (r : Result ⊤ JobStop). HasNoted g old new disk disk_now (command ∷ []) r) (sym is)
+      (does-one (IsErr {T = ⊤} {E = NotesRefusal} (Ok x)) ⊥ old new disk disk_now command (λ e. cc e) (λ never. absurd never) (noting.does refl))
+  noting-noted old new disk disk_now command (Err refusal.Disk) result healthy stands lasts noting is =
+      subst (λ (r : Result ⊤ JobStop). HasNoted g old new disk disk_now (command ∷ []) r) (sym is)
+      (does-one (IsErr {T = ⊤} {E = NotesRefusal} (Err refusal.Disk)) ⊤ old new disk disk_now command (λ e. tt) (λ e. refl) (noting.does refl))
+  noting-noted old new disk disk_now command (Err refusal.OutOfMemory) result healthy stands lasts noting is =
+      let same = untouched-of old new disk disk_now noting.untouched in
+      subst (λ (r : Result ⊤ JobStop). HasNoted g old new disk disk_now (command ∷ []) r) (sym is)
+      (0, omega arith, subst (λ (d : D). DoesSeveral g ⊥ old new disk d []) (sym same.same_disk) (subst (λ (n : NotesState). DoesSeveral g ⊥ old n disk disk []) (sym same.same) (noted-none old disk healthy stands lasts)))
+  noting-noted old new disk disk_now command (Err refusal.Failed) result healthy stands lasts noting is = absurd is
+  noting-noted old new disk disk_now command (Err refusal.Full) result healthy stands lasts noting is = absurd is
+  noting-noted old new disk disk_now command (Err (refusal.Changed kept_length digest)) result healthy stands lasts noting is = absurd is
+
+  pub of-noting : (old new : NotesState) (disk disk_now : D) (command : NotesCommand) (answer : Result ⊤ NotesRefusal) → old.journal.failed ≡ false → Noting g old new disk disk_now command answer → IsOfNoting answer
+  of-noting old new disk disk_now command (Ok x) healthy noting = tt
+  of-noting old new disk disk_now command (Err refusal.Disk) healthy noting = tt
+  of-noting old new disk disk_now command (Err refusal.OutOfMemory) healthy noting = tt
+  of-noting old new disk disk_now command (Err refusal.Failed) healthy noting = let failed = noting.refused in cc
+  of-noting old new disk disk_now command (Err refusal.Full) healthy noting = noting.refused
+  of-noting old new disk disk_now command (Err (refusal.Changed kept_length digest)) healthy noting = noting.refused
+
+  -- ---- a row
+
+  -- the same stop, of another type of answers
+  pub noted-err : (T U : Type 0) (old new : NotesState) (disk disk_now : D) (commands : List NotesCommand) (why : JobStop) → HasNoted {T = T} g old new disk disk_now commands (Err why)
+      → HasNoted {T = U} g old new disk disk_now commands (Err why)
+  noted-err T U old new disk disk_now commands stop.Disk noted = noted
+  noted-err T U old new disk disk_now commands stop.OutOfMemory noted = noted
+
+  module _ {S : Type 0} (row : Row S) (before now : S) (notes notes_now : NotesState) (disk disk_now : D) (replies : List ℕ) where
+    -- a row whose commands are done
+    pub takes-done : {T : Type 0} (x : T) (commands : List NotesCommand) (ending : Option Ending) → row.commands ≡ commands → HasNoted {T = T} g notes notes_now disk disk_now commands (Ok x) → Gives row now replies ending
+        → TakesRow g row before now notes notes_now disk disk_now replies (Ok ending)
+    takes-done x commands ending is noted gives = record { answers = gives; noted = subst (λ (cs : List NotesCommand). DoesSeveral g ⊥ notes notes_now disk disk_now cs) (sym is) noted }
+
+    -- a stop in one of them
+    pub takes-stopped : (T : Type 0) (why : JobStop) (commands : List NotesCommand) → row.commands ≡ commands → now ≡ before → replies ≡ [] → HasNoted {T = T} g notes notes_now disk disk_now commands (Err why)
+        → TakesRow g row before now notes notes_now disk disk_now replies (Err why)
+    takes-stopped T why commands is same none noted = record {
+      answers = (same, none);
+      noted = noted-err T (Option Ending) notes notes_now disk disk_now row.commands why (subst (λ (cs : List NotesCommand). HasNoted {T = T} g notes notes_now disk disk_now cs (Err why)) (sym is) noted);
+    }
+
+  -- a row without commands
+  pub takes-still : {S : Type 0} (row : Row S) (before now : S) (notes : NotesState) (disk : D) (replies : List ℕ) (ending : Option Ending) → row.commands ≡ [] → notes.journal.failed ≡ false
+      → StandsOn g notes disk → g.lasts disk disk → Gives row now replies ending → TakesRow g row before now notes notes disk disk replies (Ok ending)
+  takes-still row before now notes disk replies ending none healthy stands lasts gives = record { answers = gives; noted = none-by notes disk row.commands none healthy stands lasts }
+
+-- ---- what may be noted of an upload's task
+
+module _ (lists : Lists) (at : Upload) (has : HasTask lists at) where
+  pub may-refuse : (code : ℕ) → IsTrue (is_allowed lists (refused at.task code))
+  may-refuse code = subst (λ (o : Option Task). IsTrue (passes (λ t. is_going t.progress) o)) (sym has.is_entry) (ap is_going has.going)
+
+  pub may-ack : 1 ≤ number_in at.phase at.known → IsTrue (is_allowed lists (acked at.task))
+  may-ack some =
+      let going : is_going has.entry.progress ≡ true = ap is_going has.going in
+      let same : has.entry.number ≡ number_in at.phase at.known = has.number in
+      let positive : nat_lt 0 has.entry.number ≡ true = grind (arith, nat_tests) in
+      subst (λ (o : Option Task). IsTrue (passes is_numbered o)) (sym has.is_entry) (rw (going, positive) refl)
+
+  pub may-number : (number : ℕ) → number_in at.phase at.known ≡ 0 → 1 ≤ number → IsTrue (is_allowed lists (numbered at.task number))
+  may-number number none some =
+      let going : is_going has.entry.progress ≡ true = ap is_going has.going in
+      let same : has.entry.number ≡ 0 = has.number ∙ none in
+      let positive : nat_lt 0 number ≡ true = grind (arith, nat_tests) in
+      let fresh : IsTrue (passes is_unnumbered (task_of lists at.task)) = subst (λ (o : Option Task). IsTrue (passes is_unnumbered o)) (sym has.is_entry) (rw (going, same) refl) in
+      rw (fresh, positive) refl

@@ -1,0 +1,66 @@
+-- What a job needs of the notes to take a packet.
+use Rattle.std.specs.Prelude.{◌≡◌, ℕ, ◌+◌, ◌≤◌, List, length, false, Option, None, Some, ⊤}
+use Rattle.disk_model.specs.declared.disk.Disk.{Ghosts}
+use Rattle.pfh_items.specs.Faults.{fault_code}
+use Rattle.client_notes.specs.declared.limits.TheConstants.{LONGEST_FILE}
+use Rattle.client_notes.specs.declared.progress.Progress.TheVariants as progress
+use Rattle.client_notes.specs.Notes.{Lists, Task, got_of, task_of}
+use Rattle.client_notes.specs.State.{NotesState, StandsOn}
+use Rattle.ftl0_job.specs.declared.ending.Ending.{Ending}
+use Rattle.ftl0_job.specs.declared.phases.DownloadPhase.{DownloadPhase}
+use Rattle.ftl0_job.specs.declared.phases.DownloadPhase.TheVariants as fetch
+use Rattle.ftl0_job.specs.declared.phases.UploadPhase.{UploadPhase}
+use Rattle.ftl0_job.specs.declared.phases.UploadPhase.TheVariants as phase
+use Rattle.ftl0_job.specs.Download.{Download}
+use Rattle.ftl0_job.specs.declared.work.Work.{Work}
+use Rattle.ftl0_job.specs.declared.work.Work.TheVariants as work
+use Rattle.ftl0_job.specs.Table.{JobState}
+use Rattle.ftl0_job.specs.Upload.{Upload}
+
+-- the number that an upload's file is known to have, or 0
+abbrev pub number_in : UploadPhase → ℕ → ℕ
+number_in phase.Login known = known
+number_in phase.Go known = known
+number_in (phase.Sending number place) known = number
+number_in (phase.Ack number) known = number
+
+-- The notes have the upload's task. It is unfinished, and has the number that the upload knows and the length of its
+-- file.
+pub record HasTask (lists : Lists) (at : Upload) : Type 0 where
+  pub entry : Task
+  pub is_entry : task_of lists at.task ≡ Some entry
+  pub going : entry.progress ≡ progress.Going
+  pub number : entry.number ≡ number_in at.phase at.known
+  pub file_length : entry.length ≡ length at.file
+
+-- once all octets of a file came, it has no fault
+abbrev pub IsCheckedIn : DownloadPhase → List ℕ → Type 0
+IsCheckedIn fetch.Login held = ⊤
+IsCheckedIn fetch.Fetching held = ⊤
+IsCheckedIn fetch.Done held = fault_code held ≡ None
+
+-- The octets that were got and noted, and those not noted yet, are no more than a file may have; once all came, the file
+-- has no fault.
+pub record HasGot (lists : Lists) (at : Download) : Type 0 where
+  pub fits : length (got_of lists at.server at.number) + length at.rest ≤ LONGEST_FILE
+  pub checked : IsCheckedIn at.phase (got_of lists at.server at.number)
+
+-- the notes go with what is done
+abbrev pub GoWith : Lists → Work → Type 0
+GoWith lists (work.Upload at) = HasTask lists at
+GoWith lists (work.Directory at) = ⊤
+GoWith lists (work.Download at) = HasGot lists at
+
+-- as long as there is no outcome
+abbrev pub GoBy : Option Ending → Lists → Work → Type 0
+GoBy None lists doing = GoWith lists doing
+GoBy (Some ending) lists done = ⊤
+
+abbrev pub NotesGoWith : Lists → JobState → Type 0
+NotesGoWith lists job = GoBy job.ending lists job.work
+
+-- What a job needs to take a packet: the notes haven't failed, stand on the disk, and go with the job.
+pub record MayTake {D : Type 0} (g : Ghosts D) (notes : NotesState) (disk : D) (job : JobState) : Type 0 where
+  pub healthy : notes.journal.failed ≡ false
+  pub stands_on : StandsOn g notes disk
+  pub notes_are : NotesGoWith notes.lists job

@@ -1,0 +1,12 @@
+pub mod Directory
+pub mod Download
+pub mod Due
+pub mod JobState
+pub mod Laws
+pub mod Noting
+pub mod Row
+pub mod Short
+pub mod Stops
+pub mod Table
+pub mod Taking
+pub mod Upload

@@ -1,0 +1,119 @@
+//! What a job notes, one command a call.
+
+ghost use Rattle.std.specs.Prelude.{◌≡◌, ◌∷◌, [], false, IsTrue, IsErrOf};
+ghost use Rattle.client_notes.specs.Command.{acked, forgot, got, is_allowed, numbered, refused};
+ghost use Rattle.client_notes.specs.State.{StandsOn};
+ghost use Rattle.ftl0_job.specs.Noting.{HasNoted, IsAnswer, IsAnswerOf, IsOfNoting};
+ghost use Rattle.ftl0_job.specs.Upload.{refusal_of};
+
+use crate::JobStop;
+use client_notes::{Notes, NotesRefusal};
+use disk_model::Disk;
+use file_journal::JournalFault;
+use px_base::Call;
+
+/// The code of a fault of the server's disk.
+const FILE_SYSTEM: u8 = 3;
+
+/// Notes the number of a task's file. Takes no memory.
+pub(crate) fn note_number<D: Disk>(
+    disk: &mut D,
+    notes: &mut Notes,
+    task: u32,
+    number: u32,
+) -> Result<(), JobStop>
+    requires healthy { notes.old.journal.failed ≡ false }
+    requires stands_on { StandsOn D.Disk notes.old disk.old }
+    requires allowed { IsTrue (is_allowed notes.old.lists (numbered task number)) }
+    ensures noted { HasNoted D.Disk notes.old notes.new disk.old disk.new (numbered task number ∷ []) result }
+    ensures memory { ¬ IsErrOf result JobStop.OutOfMemory }
+{
+    answer_of(notes.numbered(disk, task, number))
+}
+
+/// Notes that a task's file was acknowledged. Takes no memory.
+pub(crate) fn note_acked<D: Disk>(disk: &mut D, notes: &mut Notes, task: u32) -> Result<(), JobStop>
+    requires healthy { notes.old.journal.failed ≡ false }
+    requires stands_on { StandsOn D.Disk notes.old disk.old }
+    requires allowed { IsTrue (is_allowed notes.old.lists (acked task)) }
+    ensures noted { HasNoted D.Disk notes.old notes.new disk.old disk.new (acked task ∷ []) result }
+    ensures memory { ¬ IsErrOf result JobStop.OutOfMemory }
+{
+    answer_of(notes.acked(disk, task))
+}
+
+/// Notes that a task's file was refused with this code, but for a fault of the server's disk. Takes no memory.
+pub(crate) fn note_refused<D: Disk>(
+    disk: &mut D,
+    notes: &mut Notes,
+    task: u32,
+    code: u8,
+) -> Result<(), JobStop>
+    requires healthy { notes.old.journal.failed ≡ false }
+    requires stands_on { StandsOn D.Disk notes.old disk.old }
+    requires allowed { IsTrue (is_allowed notes.old.lists (refused task code)) }
+    ensures noted { HasNoted D.Disk notes.old notes.new disk.old disk.new (refusal_of task code) result }
+    ensures memory { ¬ IsErrOf result JobStop.OutOfMemory }
+{
+    if code == FILE_SYSTEM {
+        return Ok(());
+    }
+    answer_of(notes.refused(disk, task, code))
+}
+
+/// Notes that what was got of a file is given up. Takes no memory.
+pub(crate) fn note_forgot<D: Disk>(
+    disk: &mut D,
+    notes: &mut Notes,
+    server: Call,
+    number: u32,
+) -> Result<(), JobStop>
+    requires healthy { notes.old.journal.failed ≡ false }
+    requires stands_on { StandsOn D.Disk notes.old disk.old }
+    ensures { HasNoted D.Disk notes.old notes.new disk.old disk.new (forgot server number ∷ []) result }
+{
+    answer_of(notes.forgot(disk, server, number))
+}
+
+/// Notes further octets of a file. Takes memory, before it touches the disk.
+pub(crate) fn note_got<D: Disk>(
+    disk: &mut D,
+    notes: &mut Notes,
+    server: Call,
+    number: u32,
+    octets: &[u8],
+) -> Result<(), JobStop>
+    requires healthy { notes.old.journal.failed ≡ false }
+    requires stands_on { StandsOn D.Disk notes.old disk.old }
+    requires allowed { IsTrue (is_allowed notes.old.lists (got server number octets.now)) }
+    ensures { HasNoted D.Disk notes.old notes.new disk.old disk.new (got server number octets.now ∷ []) result }
+{
+    answer_of_noting(notes.got(disk, server, number, octets))
+}
+
+/// The answer of notes that hadn't failed.
+fn answer_of(answer: Result<(), JournalFault>) -> Result<(), JobStop>
+    requires { ¬ IsErrOf answer JournalFault.Failed }
+    ensures { IsAnswer answer result }
+{
+    match answer {
+        Ok(()) => Ok(()),
+        Err(JournalFault::Disk) => Err(JobStop::Disk),
+        Err(JournalFault::Failed) => unreachable!(),
+    }
+}
+
+/// The answer of notes that hadn't failed to octets that came.
+fn answer_of_noting(answer: Result<(), NotesRefusal>) -> Result<(), JobStop>
+    requires { IsOfNoting answer }
+    ensures { IsAnswerOf answer result }
+{
+    match answer {
+        Ok(()) => Ok(()),
+        Err(NotesRefusal::Disk) => Err(JobStop::Disk),
+        Err(NotesRefusal::OutOfMemory) => Err(JobStop::OutOfMemory),
+        Err(NotesRefusal::Failed | NotesRefusal::Full | NotesRefusal::Changed { .. }) => {
+            unreachable!()
+        }
+    }
+}
