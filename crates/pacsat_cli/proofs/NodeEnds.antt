@@ -142,10 +142,12 @@ module _ {A : Type 0} (air : AirGhosts A) (before now : A) (s : Status) where
     node-spent (inl early) asked some earlier turns told_before told_now count all_open =
         let none = ap length (no-turns early.same earlier turns told_before told_now) in
         absurd (omega (arith, some, none, count))
-    node-spent (inr went) asked some earlier turns told_before told_now =
+    node-spent (inr went) asked some earlier turns told_before told_now count all_open =
         let at_status : Status → Type 0 = λ t. IsSpentBy t asked turns in
         let at_turns : List Turn → Type 0 = λ x. IsSpentBy (mended memory (status_of went.ended)) asked x in
-        subst at_status (sym went.status_is) (subst at_turns (turns_told went earlier turns told_before told_now) (spent_by memory went.ended polls asked went.turns went.ends))
+        subst at_status (sym went.status_is)
+        (subst at_turns (turns_told went earlier turns told_before told_now) (spent_by memory went.ended polls asked went.turns went.ends))
+        count all_open
 
     -- where it is done, the end of the air was read, and no count rose but that of failed reads of the disk
     pub node-done :

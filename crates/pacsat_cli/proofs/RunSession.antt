@@ -14,6 +14,7 @@ use Rattle.pacsat_cli.specs.declared.status.Status.{Status}
 use Rattle.pacsat_cli.specs.declared.status.Status.TheVariants as status
 use Rattle.pacsat_cli.specs.Run.{HasStatusCause}
 use Rattle.pacsat_cli.specs.Sessions.{AsksDisk, AsksFresh, AsksMoment, HasDiskCause, HasStoreCause, HasWriteCause, IsDoneAtEnd, IsDoneBy, IsOver, IsSpentBy, OverNamed, RefusesExactly, RunsSession, WhereHeard, run_terms}
+use Rattle.pacsat_cli.specs.Stops.{status_of}
 use Rattle.pacsat_cli.proofs.Ended.{heard-not_bad, memory-not_disk, mended-disk, mended-memory}
 use Rattle.pacsat_cli.proofs.NodeEnds.{Goes, OnDisk, is_early_status, is_node_status, node-complete, node-done, node-not, node-read, node-spent, node-write, on_disk-cause, on_disk-exact, on_disk-goes}
 
