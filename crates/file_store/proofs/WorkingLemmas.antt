@@ -1,6 +1,7 @@
 -- What commands do to a disk where reads come among them.
-use Rattle.std.proofs.Common.{◌≡◌, inl, inr, ⊎_elim, ℕ, ◌+◌, ◌*◌, ◌<◌, ◌≤◌, Bool, true, false, ◌||◌, List, [], ◌∷◌, ◌++◌, length, Option, Some, IfSome, refl, sym, ◌∙◌, ap, subst, arith, length-append}
-use Rattle.std.proofs.Math.Bool.{or-false}
+use Rattle.std.proofs.Common.{◌≡◌, inl, inr, ⊎_elim, ℕ, ◌+◌, ◌*◌, ◌<◌, ◌≤◌, Bool, true, false, nat_le, List, [], ◌∷◌, ◌++◌, length, Option, Some, IfSome, refl, sym, ◌∙◌, ap, subst, arith, length-append}
+use Rattle.std.proofs.Math.Nat.{add-zero}
+use Rattle.std.proofs.lemmas.Bool.Decides.{leb_tells}
 use Rattle.disk_model.specs.Moments.{LeavesOnly, TimePasses}
 use Rattle.disk_model.specs.declared.disk.Disk.{Ghosts}
 use Rattle.file_journal.specs.Calls.{ChangesReads, CountsFault, Leaves, Puts, Reads, images_now}
@@ -16,7 +17,7 @@ use Rattle.file_entries.specs.Store.{Store, empty_store}
 use Rattle.file_entries.proofs.GrowLemmas.{AreAllowed-append, after_all-append}
 use Rattle.file_store.specs.OnDisk.{CutsOff, Does, IsCut, MakesBetween, MakesFirst, StayDone, after_first}
 use Rattle.file_store.specs.State.{StandsOn, StoreState, store_in}
-use Rattle.file_store.specs.Working.{CutsOffAmongReads, DoesAmongReads, PutsAmongReads}
+use Rattle.file_store.specs.Working.{CountsSome, CutsOffAmongReads, DoesAmongReads, PutsAmongReads, one_if}
 use Rattle.file_store.proofs.DoesLemmas.{Does-moved, Does-none, Does-same, after_first-then, makes-first, makes-second, makes-within, stay-on}
 use Rattle.file_store.proofs.RecoveryLemmas.{reads-none}
 
@@ -31,14 +32,37 @@ nothing (command ∷ commands) is = absurd (cc is)
 counts-still : (before now : ℕ) (P : Type 0) → ¬ P → now ≡ before → CountsFault before now P
 counts-still before now P fine same = record { no_less = omega (arith, same); rose = λ failed. absurd (fine failed); same = λ still. same }
 
--- one run and then another, of each of which it is said whether one failed
-pub counts-either : (before mid now : ℕ) (first second : Bool) → CountsFault before mid (first ≡ true) → CountsFault mid now (second ≡ true) → CountsFault before now ((first || second) ≡ true)
-counts-either before mid now true second one other = record {
-  no_less = omega (arith, one.no_less, other.no_less);
-  rose = λ failed small. let rose : before < mid = one.rose refl small in omega (arith, rose, other.no_less);
-  same = λ fine. absurd (fine refl);
+-- none failed
+some-still : (before now : ℕ) → now ≡ before → CountsSome before now 0
+some-still before now same = record { no_less = omega (arith, same); rose = inl (omega (arith, same)); same = λ none. same }
+
+-- one run, of which a call failed or none did
+pub some-one : (before now : ℕ) (failed : Bool) → CountsFault before now (failed ≡ true) → CountsSome before now (one_if failed)
+some-one before now true counts = record {
+  no_less = counts.no_less;
+  rose =
+      ⊎_elim (λ (last : (nat_le 18446744073709551615 before ≡ true) × (18446744073709551615 ≤ before)). inr (omega (arith, counts.no_less, last.1)))
+      (λ (small : (nat_le 18446744073709551615 before ≡ false) × (before < 18446744073709551615)).
+      let rose : before < now = counts.rose refl small.1 in inl (omega (arith, rose))) (leb_tells 18446744073709551615 before);
+  same = λ none. absurd (cc none);
 }
-counts-either before mid now false second one other = counts_on before mid now (second ≡ true) (one.same (λ e. cc e)) other
+some-one before now false counts = some-still before now (counts.same (λ e. cc e))
+
+-- one run and then another
+pub some-then : (before mid now first second : ℕ) → CountsSome before mid first → CountsSome mid now second → CountsSome before now (first + second)
+some-then before mid now first second one other = record {
+  no_less = omega (arith, one.no_less, other.no_less);
+  rose = by one.rose other.rose;
+  same = λ none.
+      let same_mid : mid ≡ before = one.same (omega (arith, none)) in
+      let same_now : now ≡ mid = other.same (omega (arith, none)) in
+      omega (arith, same_mid, same_now);
+}
+  where
+    by : (before + first ≤ mid) ⊎ (18446744073709551615 ≤ mid) → (mid + second ≤ now) ⊎ (18446744073709551615 ≤ now) → (before + (first + second) ≤ now) ⊎ (18446744073709551615 ≤ now)
+    by (inl a) (inl b) = inl (omega (arith, a, b))
+    by (inl a) (inr last) = inr last
+    by (inr last) second_rose = inr (omega (arith, last, other.no_less))
 
 module _ {D : Type 0} (g : Ghosts D) where
   -- ---- one run of reads and another
@@ -110,17 +134,17 @@ module _ {D : Type 0} (g : Ghosts D) where
   -- ---- commands, with reads among them
 
   -- no command
-  pub reads-only : (missed : Bool) (self : StoreState) (old new : D) → Reads g (missed ≡ true) old new → self.journal.failed ≡ false → StandsOn g self old
-      → DoesAmongReads g ⊥ missed self self old new []
-  reads-only missed self old new run healthy stands = record {
+  pub reads-only : (failed : Bool) (self : StoreState) (old new : D) → Reads g (failed ≡ true) old new → self.journal.failed ≡ false → StandsOn g self old
+      → DoesAmongReads g ⊥ (one_if failed) self self old new []
+  reads-only failed self old new run healthy stands = record {
     stands_on = reads-stand old new run.only self stands;
     allowed = tt;
     since = if_told (g.content old) _ (λ before told. reads g.moment g.images_since old new (MakesFirst (store_in self) []) run.only.same_moment run.only.same_past);
     stay = λ fine. if_told (g.content old) _ (λ before told count some most image left. absurd (omega (arith, some, most)));
     calls = λ fine. if_told (g.content old) _ (λ before told. omega (arith, run.only.same_moment));
     none = λ is. run.only;
-    puts = puts-among-reads (missed ≡ true) ⊥ old new (λ never. never) run;
-    reads = run.faults;
+    puts = puts-among-reads (failed ≡ true) ⊥ old new (λ never. never) run;
+    reads = some-one _ _ failed run.faults;
     done = λ fine. (refl, healthy);
     cut = λ failed. absurd failed;
     same_magic = refl;
@@ -128,7 +152,7 @@ module _ {D : Type 0} (g : Ghosts D) where
 
   -- no read that failed
   pub does-among : (P : Type 0) (old new : StoreState) (disk disk_now : D) (commands : List Command) → Does g P old new disk disk_now commands
-      → DoesAmongReads g P false old new disk disk_now commands
+      → DoesAmongReads g P 0 old new disk disk_now commands
   does-among P old new disk disk_now commands does = record {
     stands_on = does.stands_on;
     allowed = does.allowed;
@@ -137,13 +161,13 @@ module _ {D : Type 0} (g : Ghosts D) where
     calls = does.calls;
     none = λ is. subst (λ (d : D). ChangesReads g disk d) (sym (does.none is)) (reads-none g disk);
     puts = puts-among P disk disk_now does.puts;
-    reads = counts-still _ _ (false ≡ true) (λ e. cc e) does.puts.reads;
+    reads = some-still _ _ does.puts.reads;
     done = does.done;
     cut = does.cut;
     same_magic = does.same_magic;
   }
 
-  pub among-same : (P Q : Type 0) (missed other : Bool) (old new : StoreState) (disk disk_now : D) (commands : List Command) → (P → Q) → (Q → P) → missed ≡ other
+  pub among-same : (P Q : Type 0) (missed other : ℕ) (old new : StoreState) (disk disk_now : D) (commands : List Command) → (P → Q) → (Q → P) → missed ≡ other
       → DoesAmongReads g P missed old new disk disk_now commands → DoesAmongReads g Q other old new disk disk_now commands
   among-same P Q missed other old new disk disk_now commands there back same does = record {
     stands_on = does.stands_on;
@@ -153,19 +177,19 @@ module _ {D : Type 0} (g : Ghosts D) where
     calls = λ fine. does.calls (λ p. fine (there p));
     none = does.none;
     puts = puts-among-same P Q disk disk_now there back does.puts;
-    reads = subst (λ (b : Bool). CountsFault (g.read_faults disk) (g.read_faults disk_now) (b ≡ true)) same does.reads;
+    reads = subst (λ (n : ℕ). CountsSome (g.read_faults disk) (g.read_faults disk_now) n) same does.reads;
     done = λ fine. does.done (λ p. fine (there p));
     cut = λ q. does.cut (back q);
     same_magic = does.same_magic;
   }
 
   -- the same commands, said otherwise
-  pub among-at : (P : Type 0) (missed : Bool) (old new : StoreState) (disk disk_now : D) (these those : List Command) → these ≡ those
+  pub among-at : (P : Type 0) (missed : ℕ) (old new : StoreState) (disk disk_now : D) (these those : List Command) → these ≡ those
       → DoesAmongReads g P missed old new disk disk_now these → DoesAmongReads g P missed old new disk disk_now those
   among-at P missed old new disk disk_now these those same does = subst (λ (cs : List Command). DoesAmongReads g P missed old new disk disk_now cs) same does
 
   -- of a store before that is the same, and a store after that is the same, each with the same journal
-  pub among-moved : (P : Type 0) (missed : Bool) (old new before after : StoreState) (disk disk_now : D) (commands : List Command) → store_in before ≡ store_in old → before.journal ≡ old.journal
+  pub among-moved : (P : Type 0) (missed : ℕ) (old new before after : StoreState) (disk disk_now : D) (commands : List Command) → store_in before ≡ store_in old → before.journal ≡ old.journal
       → store_in after ≡ store_in new → after.journal ≡ new.journal → DoesAmongReads g P missed old new disk disk_now commands → DoesAmongReads g P missed before after disk disk_now commands
   among-moved P missed old new before after disk disk_now commands first from last journal does = record {
     stands_on = subst (λ (p : Position). KeepsState empty_store store_step g p (store_in after) disk_now) (sym journal)
@@ -196,15 +220,15 @@ module _ {D : Type 0} (g : Ghosts D) where
   }
 
   -- the store at the end is another that is the same, with the same journal
-  pub among-parked : (P : Type 0) (missed : Bool) (old new after : StoreState) (disk disk_now : D) (commands : List Command) → store_in after ≡ store_in new → after.journal ≡ new.journal
+  pub among-parked : (P : Type 0) (missed : ℕ) (old new after : StoreState) (disk disk_now : D) (commands : List Command) → store_in after ≡ store_in new → after.journal ≡ new.journal
       → DoesAmongReads g P missed old new disk disk_now commands → DoesAmongReads g P missed old after disk disk_now commands
   among-parked P missed old new after disk disk_now commands last journal does = among-moved P missed old new old after disk disk_now commands refl refl last journal does
 
   -- the store is healthy after commands that were done, and they were
-  pub among-healthy : (missed : Bool) (old new : StoreState) (disk disk_now : D) (commands : List Command) → DoesAmongReads g ⊥ missed old new disk disk_now commands → new.journal.failed ≡ false
+  pub among-healthy : (missed : ℕ) (old new : StoreState) (disk disk_now : D) (commands : List Command) → DoesAmongReads g ⊥ missed old new disk disk_now commands → new.journal.failed ≡ false
   among-healthy missed old new disk disk_now commands does = (does.done (λ never. never)).1
 
-  pub among-store : (missed : Bool) (old new : StoreState) (disk disk_now : D) (commands : List Command) → DoesAmongReads g ⊥ missed old new disk disk_now commands
+  pub among-store : (missed : ℕ) (old new : StoreState) (disk disk_now : D) (commands : List Command) → DoesAmongReads g ⊥ missed old new disk disk_now commands
       → store_in new ≡ after_all (store_in old) commands
   among-store missed old new disk disk_now commands does = (does.done (λ never. never)).0
 
@@ -225,9 +249,9 @@ module _ {D : Type 0} (g : Ghosts D) where
       lasts = on old mid new first.lasts second.lasts;
     }
 
-    pub among-then : (P Q : Type 0) (missed other : Bool) (old mid new : StoreState) (disk disk_mid disk_now : D) (a b : List Command) → ¬ P
+    pub among-then : (P Q : Type 0) (missed other : ℕ) (old mid new : StoreState) (disk disk_mid disk_now : D) (a b : List Command) → ¬ P
         → DoesAmongReads g P missed old mid disk disk_mid a → DoesAmongReads g Q other mid new disk_mid disk_now b
-        → DoesAmongReads g Q (missed || other) old new disk disk_now (a ++ b)
+        → DoesAmongReads g Q (missed + other) old new disk disk_now (a ++ b)
     among-then P Q missed other old mid new disk disk_mid disk_now a b fine first second = record {
       stands_on = second.stands_on;
       allowed = AreAllowed-append a b (store_in old) first.allowed (subst (λ (s : Store). AreAllowed s b) at second.allowed);
@@ -242,7 +266,7 @@ module _ {D : Type 0} (g : Ghosts D) where
           let empty : length (a ++ b) ≡ 0 = ap length is in
           changes-on disk disk_mid disk_now (first.none (nothing a (omega (arith, sum, empty)))) (second.none (nothing b (omega (arith, sum, empty))));
       puts = puts-among-then P Q disk disk_mid disk_now fine first.puts second.puts;
-      reads = counts-either _ _ _ missed other first.reads second.reads;
+      reads = some-then _ _ _ missed other first.reads second.reads;
       done = λ still.
           let all = second.done still in
           (all.0 ∙ ap (λ (s : Store). after_all s b) at ∙ sym (after_all-append a b (store_in old)), all.1);
@@ -297,8 +321,8 @@ module _ {D : Type 0} (g : Ghosts D) where
 
     -- ---- commands, of which the disk may cut off the last
 
-    pub cuts-among-then : (F : Type 0) (missed other : Bool) (a b c : StoreState) (d e f : D) (xs done cut : List Command) → DoesAmongReads g ⊥ missed a b d e xs
-        → CutsOffAmongReads g F other b c e f done cut → CutsOffAmongReads g F (missed || other) a c d f (xs ++ done) cut
+    pub cuts-among-then : (F : Type 0) (missed other : ℕ) (a b c : StoreState) (d e f : D) (xs done cut : List Command) → DoesAmongReads g ⊥ missed a b d e xs
+        → CutsOffAmongReads g F other b c e f done cut → CutsOffAmongReads g F (missed + other) a c d f (xs ++ done) cut
     cuts-among-then F missed other a b c d e f xs done cut first cuts = record {
       store_then = cuts.store_then;
       disk_then = cuts.disk_then;
@@ -306,20 +330,20 @@ module _ {D : Type 0} (g : Ghosts D) where
       second = cuts.second;
     }
 
-    pub cuts-among-puts : (F : Type 0) (missed : Bool) (old new : StoreState) (disk disk_now : D) (done cut : List Command) → CutsOffAmongReads g F missed old new disk disk_now done cut
+    pub cuts-among-puts : (F : Type 0) (missed : ℕ) (old new : StoreState) (disk disk_now : D) (done cut : List Command) → CutsOffAmongReads g F missed old new disk disk_now done cut
         → PutsAmongReads g F disk disk_now
     cuts-among-puts F missed old new disk disk_now done cut cuts =
         puts-among-then ⊥ F disk cuts.disk_then disk_now (λ never. never) cuts.first.puts (puts-among F cuts.disk_then disk_now cuts.second.puts)
 
     -- all of them together
-    pub cuts-among-all : (F : Type 0) (missed : Bool) (old new : StoreState) (disk disk_now : D) (done cut : List Command) → CutsOffAmongReads g F missed old new disk disk_now done cut
+    pub cuts-among-all : (F : Type 0) (missed : ℕ) (old new : StoreState) (disk disk_now : D) (done cut : List Command) → CutsOffAmongReads g F missed old new disk disk_now done cut
         → DoesAmongReads g F missed old new disk disk_now (done ++ cut)
     cuts-among-all F missed old new disk disk_now done cut cuts =
-        among-same F F (missed || false) missed old new disk disk_now (done ++ cut) (λ p. p) (λ p. p) (or-false missed)
-        (among-then ⊥ F missed false old cuts.store_then new disk cuts.disk_then disk_now done cut (λ never. never) cuts.first
+        among-same F F (missed + 0) missed old new disk disk_now (done ++ cut) (λ p. p) (λ p. p) (add-zero missed)
+        (among-then ⊥ F missed 0 old cuts.store_then new disk cuts.disk_then disk_now done cut (λ never. never) cuts.first
         (does-among F cuts.store_then new cuts.disk_then disk_now cut cuts.second))
 
-  pub cuts-among-same : (P Q : Type 0) (missed other : Bool) (old new : StoreState) (disk disk_now : D) (done cut : List Command) → (P → Q) → (Q → P) → missed ≡ other
+  pub cuts-among-same : (P Q : Type 0) (missed other : ℕ) (old new : StoreState) (disk disk_now : D) (done cut : List Command) → (P → Q) → (Q → P) → missed ≡ other
       → CutsOffAmongReads g P missed old new disk disk_now done cut → CutsOffAmongReads g Q other old new disk disk_now done cut
   cuts-among-same P Q missed other old new disk disk_now done cut there back same cuts = record {
     store_then = cuts.store_then;
@@ -330,7 +354,7 @@ module _ {D : Type 0} (g : Ghosts D) where
 
   -- where no read failed
   pub cuts-among : (F : Type 0) (old new : StoreState) (disk disk_now : D) (done cut : List Command) → CutsOff g F old new disk disk_now done cut
-      → CutsOffAmongReads g F false old new disk disk_now done cut
+      → CutsOffAmongReads g F 0 old new disk disk_now done cut
   cuts-among F old new disk disk_now done cut cuts = record {
     store_then = cuts.store_then;
     disk_then = cuts.disk_then;
@@ -339,7 +363,7 @@ module _ {D : Type 0} (g : Ghosts D) where
   }
 
   -- commands that were all done
-  pub cuts-among-none : (F : Type 0) (missed : Bool) (old new : StoreState) (disk disk_now : D) (done : List Command) → ¬ F → g.lasts disk_now disk_now
+  pub cuts-among-none : (F : Type 0) (missed : ℕ) (old new : StoreState) (disk disk_now : D) (done : List Command) → ¬ F → g.lasts disk_now disk_now
       → DoesAmongReads g ⊥ missed old new disk disk_now done → CutsOffAmongReads g F missed old new disk disk_now done []
   cuts-among-none F missed old new disk disk_now done fine lasts does = record {
     store_then = new;
@@ -349,11 +373,11 @@ module _ {D : Type 0} (g : Ghosts D) where
   }
 
   -- a first command that the disk cut off, behind reads
-  pub cuts-among-cut : (F : Type 0) (missed : Bool) (old mid new : StoreState) (disk disk_mid disk_now : D) (done cut : List Command) → DoesAmongReads g ⊥ missed old mid disk disk_mid done
+  pub cuts-among-cut : (F : Type 0) (missed : ℕ) (old mid new : StoreState) (disk disk_mid disk_now : D) (done cut : List Command) → DoesAmongReads g ⊥ missed old mid disk disk_mid done
       → Does g F mid new disk_mid disk_now cut → CutsOffAmongReads g F missed old new disk disk_now done cut
   cuts-among-cut F missed old mid new disk disk_mid disk_now done cut first second = record { store_then = mid; disk_then = disk_mid; first = first; second = second }
 
-  pub cuts-among-parked : (F : Type 0) (missed : Bool) (old new after : StoreState) (disk disk_now : D) (done cut : List Command) → store_in after ≡ store_in new → after.journal ≡ new.journal
+  pub cuts-among-parked : (F : Type 0) (missed : ℕ) (old new after : StoreState) (disk disk_now : D) (done cut : List Command) → store_in after ≡ store_in new → after.journal ≡ new.journal
       → CutsOffAmongReads g F missed old new disk disk_now done cut → CutsOffAmongReads g F missed old after disk disk_now done cut
   cuts-among-parked F missed old new after disk disk_now done cut last journal cuts = record {
     store_then = cuts.store_then;

@@ -1,5 +1,5 @@
 -- What a run of a store's calls does to the disk where reads come among its commands.
-use Rattle.std.specs.Prelude.{◌≡◌, ◌⊎◌, ◌+◌, ◌*◌, ◌≤◌, List, [], length, Bool, true, false, IfSome}
+use Rattle.std.specs.Prelude.{◌≡◌, ◌⊎◌, ℕ, ◌+◌, ◌*◌, ◌≤◌, List, [], length, Bool, false, IfSome, if◌then◌else◌}
 use Rattle.disk_model.specs.Moments.{TimePasses}
 use Rattle.disk_model.specs.declared.disk.Disk.{Ghosts}
 use Rattle.file_journal.specs.Calls.{ChangesReads, CountsFault, Leaves, TellsAlike}
@@ -28,11 +28,22 @@ pub record PutsAmongReads {D : Type 0} (g : Ghosts D) (failed : Type 0) (old new
   pub stops : StopsAtFailedWrite g old new
   pub lasts : g.lasts old new
 
+-- one call that failed, or none
+abbrev pub one_if : Bool → ℕ
+one_if failed = if failed then 1 else 0
+
+-- A count of faults never falls. It rose by so many at least, or stands at its last number, 2 ^ 64 - 1; where there was
+-- none it stands as it stood.
+pub record CountsSome (before now some : ℕ) : Type 0 where
+  pub no_less : before ≤ now
+  pub rose : (before + some ≤ now) ⊎ (18446744073709551615 ≤ now)
+  pub same : some ≡ 0 → now ≡ before
+
 -- A store that hadn't failed did these commands, four calls of the disk each, or the disk failed in one of them; and reads
--- came before, between and behind them, of which some missed, or none did. A crash since it began leaves the store after
+-- came before, between and behind them, of which so many failed at least, or none did. A crash since it began leaves the store after
 -- the first of the commands, for some number of them, and no fewer than were done when it came. Without commands the disk
 -- is as reads leave it. The magic stays.
-pub record DoesAmongReads {D : Type 0} (g : Ghosts D) (failed : Type 0) (missed : Bool) (old new : StoreState)
+pub record DoesAmongReads {D : Type 0} (g : Ghosts D) (failed : Type 0) (missed : ℕ) (old new : StoreState)
     (disk disk_now : D) (commands : List Command) : Type 0 where
   pub stands_on : StandsOn g new disk_now
   pub allowed : AreAllowed (store_in old) commands
@@ -43,14 +54,14 @@ pub record DoesAmongReads {D : Type 0} (g : Ghosts D) (failed : Type 0) (missed 
   pub calls : ¬ failed → IfSome (g.content disk) (λ _. g.moment disk_now ≡ g.moment disk + 4 * length commands)
   pub none : commands ≡ [] → ChangesReads g disk disk_now
   pub puts : PutsAmongReads g failed disk disk_now
-  pub reads : CountsFault (g.read_faults disk) (g.read_faults disk_now) (missed ≡ true)
+  pub reads : CountsSome (g.read_faults disk) (g.read_faults disk_now) missed
   pub done : ¬ failed → (store_in new ≡ after_all (store_in old) commands) × (new.journal.failed ≡ false)
   pub cut : failed → IsCut g old new disk disk_now commands
   pub same_magic : new.journal.magic ≡ old.journal.magic
 
 -- The store did the first of these commands on its disk, and then the others, or the disk failed in one of these. Reads
--- came among the first, of which some missed, or none did.
-pub record CutsOffAmongReads {D : Type 0} (g : Ghosts D) (failed : Type 0) (missed : Bool) (old new : StoreState)
+-- came among the first, of which so many failed at least, or none did.
+pub record CutsOffAmongReads {D : Type 0} (g : Ghosts D) (failed : Type 0) (missed : ℕ) (old new : StoreState)
     (disk disk_now : D) (done cut : List Command) : Type 0 where
   pub store_then : StoreState
   pub disk_then : D

@@ -1,7 +1,7 @@
 -- How a connection answers one packet.
-use Rattle.std.proofs.Common.{◌≡◌, ℕ, suc, Bool, true, false, not, List, [], ◌∷◌, ◌++◌, refl, ap, sym, ◌∙◌, subst, arith, append-nil}
-use Rattle.std.specs.Prelude.{Result, Ok, Err, IsErrOf, IsTrue, ⊤, if◌then◌else◌, ◌||◌}
-use Rattle.std.proofs.Math.Bool.{or-false}
+use Rattle.std.proofs.Common.{◌≡◌, ℕ, ◌+◌, suc, Bool, true, false, not, List, [], ◌∷◌, ◌++◌, refl, ap, sym, ◌∙◌, subst, arith, append-nil}
+use Rattle.std.specs.Prelude.{Result, Ok, Err, IsErrOf, IsTrue, ⊤, if◌then◌else◌}
+use Rattle.std.proofs.Math.Nat.{add-zero}
 use Rattle.px_base.specs.CallSign.{CallSign}
 use Rattle.disk_model.specs.declared.disk.Disk.{Ghosts}
 use Rattle.ax25_link.specs.Calls.{after_abandon, after_push}
@@ -19,7 +19,7 @@ use Rattle.ftl0_uploads.specs.Failures.{Failure, failed_reads, failed_write, rea
 use Rattle.ftl0_session.specs.declared.stop.ServerStop.{ServerStop}
 use Rattle.ftl0_session.specs.declared.stop.ServerStop.TheVariants as stop
 use Rattle.ftl0_session.specs.SessionState.{SessionState, caller_of, state_in}
-use Rattle.ftl0_session.specs.Table.{Row, tell_failed_read}
+use Rattle.ftl0_session.specs.Table.{Row, failed_reads_told}
 use Rattle.ftl0_session.specs.Taking.{TakesPacket, Working, row_over, working}
 use Rattle.ftl0_session.proofs.WorkingLemmas.{taken-among, taken-cut, taken-none}
 use Rattle.ftl0_connection.specs.declared.fate.Fate.{Fate}
@@ -61,14 +61,14 @@ module _ {D : Type 0} (g : Ghosts D) (on : (first second third : D) → g.lasts 
 
   -- the packet's row was taken, and its replies queued or the link given up
   row-done : (row : Row) (enough : Bool) (fate : Fate) → is_over fate ≡ not enough → StandsFor w link_n (if enough then after_push end (texts row.replies) else after_abandon end)
-      → lists_n ≡ row.lists → state_in store_n session_n ≡ row.state → DoesAmongReads g ⊥ (tell_failed_read row.replies) store store_n disk disk_n row.commands
+      → lists_n ≡ row.lists → state_in store_n session_n ≡ row.state → DoesAmongReads g ⊥ (failed_reads_told row.replies) store store_n disk disk_n row.commands
       → Done fate (by_tests end (state_in store session) lists first row false enough (resting (after_push end (texts row.replies)) row.state row.lists (suc first)))
   row-done row true Stays over stands same state does = (
     refl,
     (same, (refl, record { link = stands; rest = refl; state = state })),
-    among-at g ⊥ (tell_failed_read row.replies || false) store store_n disk disk_n row.commands (row.commands ++ []) (sym (append-nil row.commands))
-        (among-same g ⊥ ⊥ (tell_failed_read row.replies) (tell_failed_read row.replies || false) store store_n disk disk_n row.commands (λ never. never) (λ never. never)
-        (sym (or-false (tell_failed_read row.replies))) does),
+    among-at g ⊥ (failed_reads_told row.replies + 0) store store_n disk disk_n row.commands (row.commands ++ []) (sym (append-nil row.commands))
+        (among-same g ⊥ ⊥ (failed_reads_told row.replies) (failed_reads_told row.replies + 0) store store_n disk disk_n row.commands (λ never. never) (λ never. never)
+        (sym (add-zero (failed_reads_told row.replies))) does),
   )
   row-done row true Ends over stands same state does = absurd cc
   row-done row false Stays over stands same state does = absurd cc
@@ -107,7 +107,7 @@ module _ {D : Type 0} (g : Ghosts D) (on : (first second third : D) → g.lasts 
   said-none replies takes =
       let parts : List ℕ = at_part takes.fails first in
       let none = taken-none g on (caller_of session) moment item (working session store lists) (working session_n store_n lists_n) disk disk_n replies healthy stands_on takes in
-      let missed : Bool = tell_failed_read (row_here takes.fails).replies in
+      let missed : ℕ = failed_reads_told (row_here takes.fails).replies in
       let P : Progress → Type 0 = λ p. (p.halt ≡ fails) × (Stays ≡ Stays) × DoesAmongReads g ⊥ p.missed store store_n disk disk_n p.done in
       let at : P (taking_one (failed_write first ++ failed_reads parts)) =
       subst P (sym (one-is (failed_write first ++ failed_reads parts) takes.fails true (reads-at (failed_write first) takes.fails first (one-writes first)) (writes-at first parts))) (

@@ -1,7 +1,7 @@
 -- How a connection queues what is due, behind the packets of a frame.
-use Rattle.std.proofs.Common.{◌≡◌, ◌⊎◌, inl, inr, ℕ, zero, suc, ◌<◌, ◌≤◌, Bool, true, false, List, [], ◌++◌, refl, ap, sym, ◌∙◌, subst, arith, append-nil}
-use Rattle.std.specs.Prelude.{All, Option, None, Some, nat_le, ◌||◌, Result, Ok, Err, ⊤}
-use Rattle.std.proofs.Math.Bool.{or-false, or_assoc}
+use Rattle.std.proofs.Common.{◌≡◌, ◌⊎◌, inl, inr, ℕ, zero, suc, ◌+◌, ◌<◌, ◌≤◌, Bool, true, false, List, [], ◌++◌, refl, ap, sym, ◌∙◌, subst, arith, append-nil}
+use Rattle.std.specs.Prelude.{All, Option, None, Some, nat_le, Result, Ok, Err, ⊤}
+use Rattle.std.proofs.Math.Nat.{add-zero, add_assoc}
 use Rattle.std.proofs.lemmas.List.Elements.{All-append, All-nil, All-weaker}
 use Rattle.disk_model.specs.declared.disk.Disk.{Ghosts}
 use Rattle.ax25_link.specs.Ends.{free_octets}
@@ -13,7 +13,7 @@ use Rattle.file_entries.specs.Store.{Store}
 use Rattle.file_journal.specs.Calls.{Leaves}
 use Rattle.file_store.specs.OnDisk.{MakesFirst}
 use Rattle.file_store.specs.State.{StandsOn, StoreState, store_in}
-use Rattle.file_store.specs.Working.{DoesAmongReads}
+use Rattle.file_store.specs.Working.{DoesAmongReads, one_if}
 use Rattle.file_store.proofs.DoesLemmas.{Does-none}
 use Rattle.file_store.proofs.WorkingLemmas.{among-at, among-same, among-then, does-among, puts-among-then}
 use Rattle.ftl0_uploads.specs.Failures.{Failure, failed_reads, failed_write, read_fails}
@@ -63,7 +63,7 @@ module _ (store : Store) (failures : List Failure) (progress : Progress) where
 module _ {D : Type 0} (g : Ghosts D) (lasts : (disk : D) → g.lasts disk disk) (on : (first second third : D) → g.lasts first second → g.lasts second third → g.lasts first third) where
   -- ---- no packet
 
-  pub does-none : (store : StoreState) (disk : D) → store.journal.failed ≡ false → StandsOn g store disk → DoesAmongReads g ⊥ false store store disk disk []
+  pub does-none : (store : StoreState) (disk : D) → store.journal.failed ≡ false → StandsOn g store disk → DoesAmongReads g ⊥ 0 store store disk disk []
   does-none store disk healthy stands = does-among g ⊥ store store disk disk [] (Does-none g ⊥ store disk (λ never. never) stands healthy (lasts disk))
 
   module _ (store : StoreState) (disk disk_n : D) (old new : ConnectionState) (healthy : store.journal.failed ≡ false) (stands_on : StandsOn g store disk) (link : new.link ≡ old.link)
@@ -78,9 +78,9 @@ module _ {D : Type 0} (g : Ghosts D) (lasts : (disk : D) → g.lasts disk disk) 
       is_now = is;
       link = subst (λ (k : Kept). StandsFor w k progress.end) (sym link) stands;
       state = state ∙ stood;
-      missed = false;
-      missed_is = sym (or-false progress.missed);
-      reads = subst (λ (d : D). DoesAmongReads g ⊥ false store store disk d []) (sym untouched) (does-none store disk healthy stands_on);
+      missed = 0;
+      missed_is = sym (add-zero progress.missed);
+      reads = subst (λ (d : D). DoesAmongReads g ⊥ 0 store store disk d []) (sym untouched) (does-none store disk healthy stands_on);
     }
 
     pub queues-none : IsNothingDue store old.session ⊎ AreFree old.link (λ free. free < enough_free) → QueuesDue g store disk disk_n old new
@@ -136,9 +136,9 @@ module _ {D : Type 0} (g : Ghosts D) (lasts : (disk : D) → g.lasts disk disk) 
           is_now = now-is;
           link = more.link;
           state = more.state;
-          missed = tells_failed_read one.due.packet || more.missed;
-          missed_is = more.missed_is ∙ or_assoc progress.missed (tells_failed_read one.due.packet) more.missed;
-          reads = among-then g on ⊥ ⊥ (tells_failed_read one.due.packet) more.missed store store store disk disk_m disk_n [] [] (λ never. never) one.reads more.reads;
+          missed = one_if (tells_failed_read one.due.packet) + more.missed;
+          missed_is = more.missed_is ∙ add_assoc progress.missed (one_if (tells_failed_read one.due.packet)) more.missed;
+          reads = among-then g on ⊥ ⊥ (one_if (tells_failed_read one.due.packet)) more.missed store store store disk disk_m disk_n [] [] (λ never. never) one.reads more.reads;
         }
 
     pub queues-then : QueuesDue g store disk_m disk_n mid new → QueuesDue g store disk disk_n old new
@@ -186,12 +186,12 @@ module _ {D : Type 0} (g : Ghosts D) (lasts : (disk : D) → g.lasts disk disk) 
         ∙ ap (λ (s : Store). queuing (free_octets made.end) s all made) stores ∙ queuing-alike (store_in store_m) (free_octets made.end) all (failed_reads q.parts) made alike ∙ sym q.is_now in
         let rest : KeepsRest made q.now =
         subst (λ (p : Progress). KeepsRest made p) (sym q.is_now) (queuing-keeps (store_in store_m) (free_octets made.end) (failed_reads q.parts) made) in
-        let joined : DoesAmongReads g ⊥ (made.missed || q.missed) store store_m disk disk_n (made.done ++ []) =
+        let joined : DoesAmongReads g ⊥ (made.missed + q.missed) store store_m disk disk_n (made.done ++ []) =
         among-then g on ⊥ ⊥ made.missed q.missed store store_m store_m disk disk_m disk_n made.done [] (λ never. never) h.2 q.reads in
         let does : DoesAmongReads g ⊥ q.now.missed store store_n disk disk_n q.now.done =
         subst (λ (s : StoreState). DoesAmongReads g ⊥ q.now.missed store s disk disk_n q.now.done) (sym same)
         (among-at g ⊥ q.now.missed store store_m disk disk_n (made.done ++ []) q.now.done (append-nil made.done ∙ sym rest.done)
-        (among-same g ⊥ ⊥ (made.missed || q.missed) q.now.missed store store_m disk disk_n (made.done ++ []) (λ never. never) (λ never. never) (sym q.missed_is) joined)) in
+        (among-same g ⊥ ⊥ (made.missed + q.missed) q.now.missed store store_m disk disk_n (made.done ++ []) (λ never. never) (λ never. never) (sym q.missed_is) joined)) in
         let P : Progress → Type 0 = λ p. (p.halt ≡ goes_on) × IsAfter w store_n lists_n now (progressed left p) Stays × DoesAmongReads g ⊥ p.missed store store_n disk disk_n p.done in
         let by : P (whole all) =
         subst P (sym now_is) (

@@ -40,9 +40,9 @@ parks-same store store_n phase.Aborting same = (ap store_in same, ap (λ (s : St
 module _ {D : Type 0} (g : Ghosts D) (lasts : (disk : D) → g.lasts disk disk) (w : Window) (left : List ℕ) (end : LinkEnd) (state : State) (lists : List CallerList) (store store_n : StoreState) (disk : D)
     (connection : ConnectionState) (healthy : store.journal.failed ≡ false) (stands_on : StandsOn g store disk) (same : store_in store_n ≡ store_in store) (journal : store_n.journal ≡ store.journal) where
   -- nothing was done to the store
-  does-nothing : DoesAmongReads g ⊥ false store store_n disk disk []
+  does-nothing : DoesAmongReads g ⊥ 0 store store_n disk disk []
   does-nothing =
-      among-parked g ⊥ false store store store_n disk disk [] same journal (does-among g ⊥ store store disk disk [] (Does-none g ⊥ store disk (λ never. never) stands_on healthy (lasts disk)))
+      among-parked g ⊥ 0 store store store_n disk disk [] same journal (does-among g ⊥ store store disk disk [] (Does-none g ⊥ store disk (λ never. never) stands_on healthy (lasts disk)))
 
   -- no packet was taken
   abbrev none : List Failure → Progress

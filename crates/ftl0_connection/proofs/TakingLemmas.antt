@@ -1,7 +1,7 @@
 -- How taking packets goes on, and how it stops.
 use Rattle.std.proofs.Common.{◌≡◌, ℕ, suc, ◌+◌, ◌≤◌, Bool, true, false, not, ◌&&◌, List, [], ◌∷◌, ◌++◌, length, refl, ap, sym, ◌∙◌, subst, append_assoc, append-nil, arith}
 use Rattle.std.specs.Prelude.{◌||◌, if◌then◌else◌}
-use Rattle.std.proofs.Math.Bool.{or_assoc}
+use Rattle.std.proofs.Math.Nat.{add_assoc, zero-add}
 use Rattle.px_base.specs.CallSign.{CallSign}
 use Rattle.ax25_link.specs.Calls.{after_push}
 use Rattle.ax25_link.specs.Ends.{LinkEnd}
@@ -12,7 +12,7 @@ use Rattle.file_entries.specs.Command.{Command, after_all}
 use Rattle.file_entries.specs.Store.{Store}
 use Rattle.file_entries.proofs.GrowLemmas.{after_all-append}
 use Rattle.ftl0_uploads.specs.Failures.{Failure, read_fails, write_fails}
-use Rattle.ftl0_session.specs.Table.{Row, State, row_at, session_row, tell_failed_read}
+use Rattle.ftl0_session.specs.Table.{Row, State, row_at, session_row, failed_reads_told}
 use Rattle.ftl0_connection.specs.Laws.{TakingLaw}
 use Rattle.ftl0_connection.specs.Taking.{Halt, Progress, after_row, failing_at, fails, fits, giving_up, goes_on, taking, taking_row}
 use Rattle.ftl0_connection.proofs.FailureLemmas.{AreAlike}
@@ -26,15 +26,19 @@ is_going fails = false
 abbrev pub going : Progress → Bool
 going progress = not progress.over && is_going progress.halt
 
--- these commands were done before, and reads failed or none did
-abbrev pub behind : Bool → List Command → Progress → Progress
-behind missed done progress = record progress { missed = missed || progress.missed; done = done ++ progress.done }
+-- these commands were done before, and so many reads failed
+abbrev pub behind : ℕ → List Command → Progress → Progress
+behind missed done progress = record progress { missed = missed + progress.missed; done = done ++ progress.done }
 
-pub behind-then : (first second : Bool) (some others : List Command) (progress : Progress)
-    → behind first some (behind second others progress) ≡ behind (first || second) (some ++ others) progress
+-- nothing came before
+behind-none : (progress : Progress) → progress ≡ behind 0 [] progress
+behind-none progress = ap (λ (missed : ℕ). record progress { missed = missed }) (sym (zero-add progress.missed))
+
+pub behind-then : (first second : ℕ) (some others : List Command) (progress : Progress)
+    → behind first some (behind second others progress) ≡ behind (first + second) (some ++ others) progress
 behind-then first second some others progress =
-    ap (λ (missed : Bool). record progress { missed = missed; done = some ++ (others ++ progress.done) }) (sym (or_assoc first second progress.missed))
-    ∙ ap (λ (done : List Command). record progress { missed = (first || second) || progress.missed; done = done }) (sym (append_assoc some others progress.done))
+    ap (λ (missed : ℕ). record progress { missed = missed; done = some ++ (others ++ progress.done) }) (sym (add_assoc first second progress.missed))
+    ∙ ap (λ (done : List Command). record progress { missed = (first + second) + progress.missed; done = done }) (sym (append_assoc some others progress.done))
 
 -- what a packet's row makes, by whether a write fails and whether its replies fit, where this comes behind it
 abbrev pub by_tests : LinkEnd → State → List CallerList → ℕ → Row → Bool → Bool → Progress → Progress
@@ -143,9 +147,9 @@ module _ (caller : CallSign) (moment : ℕ) (failures : List Failure) (store : S
   on-by each false true goes =
       let at : after_all (after_all store row.commands) later.done ≡ after_all store (row.commands ++ later.done) = sym (after_all-append row.commands later.done store) in
       ap (after_row row) (each goes)
-      ∙ behind-then (tell_failed_read row.replies) later.missed row.commands later.done
+      ∙ behind-then (failed_reads_told row.replies) later.missed row.commands later.done
       (taking caller moment (after_all (after_all store row.commands) later.done) later.lists later.state later.end others failures later.part)
-      ∙ ap (λ (s : Store). behind (tell_failed_read row.replies || later.missed) (row.commands ++ later.done) (taking caller moment s later.lists later.state later.end others failures later.part)) at
+      ∙ ap (λ (s : Store). behind (failed_reads_told row.replies + later.missed) (row.commands ++ later.done) (taking caller moment s later.lists later.state later.end others failures later.part)) at
   on-by each false false goes = absurd cc
 
   part-by : (count : ℕ) → (going later ≡ true → later.part ≡ suc part + count) → (failed enough : Bool) → going (by_tests end state lists part row failed enough later) ≡ true
@@ -160,7 +164,7 @@ module _ (caller : CallSign) (moment : ℕ) where
       → going (taking caller moment store lists state end items failures part) ≡ true
       → taking caller moment store lists state end (items ++ others) failures part
       ≡ goes_from caller moment failures store (taking caller moment store lists state end items failures part) others
-  taking-on store lists state end [] others failures part goes = refl
+  taking-on store lists state end [] others failures part goes = behind-none (taking caller moment store lists state end others failures part)
   taking-on store lists state end (item ∷ items) others failures part goes =
       let row : Row = row_at caller moment store lists state item failures part in
       on-by caller moment failures store end state lists part row others (later_of caller moment store end items failures part row) (later_of caller moment store end (items ++ others) failures part row)

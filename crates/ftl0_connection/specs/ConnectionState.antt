@@ -58,7 +58,7 @@ IsAfter w store lists connection happened fate =
 -- fail in it. Where all was taken none failed, and its commands are done. Where the disk failed, at a write or a sync
 -- of some packet and nowhere else, the commands before it are done, and it failed in one of that packet's; the replies
 -- before it and code 3 are left to be sent. Where there was no memory for some packet, the commands of the packets
--- before it are done, and its own aren't begun. The count of failed reads rose exactly where a part told of one.
+-- before it are done, and its own aren't begun. The count of failed reads rose by at least as many as the parts told of.
 abbrev pub HearsBy :
     {D : Type 0} → Ghosts D → Window → (List Failure → Happened) → StoreState → StoreState → List CallerList → D → D
     → ConnectionState → Fate → Result ⊤ ServerStop → Type 0

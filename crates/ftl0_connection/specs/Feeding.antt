@@ -1,6 +1,6 @@
 -- How a connection takes packets, and then queues what is due, part by part; and what each part leaves for the next
 -- one.
-use Rattle.std.specs.Prelude.{◌≡◌, ◌⊎◌, ℕ, ◌+◌, ◌<◌, ◌≤◌, List, [], ◌++◌, length, All, Bool, true, false, ◌||◌}
+use Rattle.std.specs.Prelude.{◌≡◌, ◌⊎◌, ℕ, ◌+◌, ◌<◌, ◌≤◌, List, [], ◌++◌, length, All, Bool, true, false}
 use Rattle.std.specs.Prelude.{None, Some, Result, Ok, IsErrOf, ⊤}
 use Rattle.disk_model.specs.declared.disk.Disk.{Ghosts}
 use Rattle.ax25_link.specs.declared.state.LinkState.TheVariants.{Up}
@@ -15,7 +15,7 @@ use Rattle.file_entries.specs.Kept.{KeepsComplete}
 use Rattle.file_entries.specs.Store.{Store}
 use Rattle.selection_lists.specs.Lists.{CallerList}
 use Rattle.file_store.specs.State.{StandsOn, StoreState, store_in}
-use Rattle.file_store.specs.Working.{DoesAmongReads, PutsAmongReads}
+use Rattle.file_store.specs.Working.{DoesAmongReads, PutsAmongReads, one_if}
 use Rattle.ftl0_uploads.specs.Failures.{Failure, failed_reads}
 use Rattle.ftl0_uploads.specs.Others.{KeepsOtherCallers}
 use Rattle.ftl0_downloads.specs.Needs.{IsDueIn}
@@ -127,7 +127,7 @@ pub record QueuesPacket {D : Type 0} (g : Ghosts D) (store : StoreState) (disk d
   pub enough : AreFree old.link (λ free. enough_free ≤ free)
   pub queued : Steps old.link new.link (λ w end. after_push end (packet_text due.packet))
   pub state : state_in store new.session ≡ due.state
-  pub reads : DoesAmongReads g ⊥ (tells_failed_read due.packet) store store disk disk_now []
+  pub reads : DoesAmongReads g ⊥ (one_if (tells_failed_read due.packet)) store store disk disk_now []
   pub fewer : room_of new.link.queue < room_of old.link.queue
 
 -- the same; or nothing is due, or fewer octets are free, and it stands as it stood
@@ -139,7 +139,7 @@ QueuesNext g store disk disk_now old new false =
     × (IsNothingDue store old.session ⊎ AreFree old.link (λ free. free < enough_free))
 
 -- Behind these parts of an event, at which the session goes on, what is due was queued: reads failed at these later
--- parts, and the count of failed reads rose exactly where one of the packets tells of it.
+-- parts, and the count of failed reads rose by at least as many as the packets tell of, and not where they tell of none.
 pub record Queued {D : Type 0} (g : Ghosts D) (w : Window) (store : StoreState) (disk disk_now : D)
     (new : ConnectionState) (progress : Progress) : Type 0 where
   pub parts : List ℕ
@@ -148,8 +148,8 @@ pub record Queued {D : Type 0} (g : Ghosts D) (w : Window) (store : StoreState) 
   pub is_now : now ≡ queuing (free_octets progress.end) (store_in store) (failed_reads parts) progress
   pub link : StandsFor w new.link now.end
   pub state : state_in store new.session ≡ now.state
-  pub missed : Bool
-  pub missed_is : now.missed ≡ (progress.missed || missed)
+  pub missed : ℕ
+  pub missed_is : now.missed ≡ (progress.missed + missed)
   pub reads : DoesAmongReads g ⊥ missed store store disk disk_now []
 
 -- the same behind whichever parts

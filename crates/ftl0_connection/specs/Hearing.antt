@@ -18,13 +18,13 @@ use Rattle.ftl0_connection.specs.Connected.{Connected, caller_of, greeted}
 use Rattle.ftl0_connection.specs.Taking.{Halt, Progress, queued, resting, taking}
 
 -- What an event makes of a connection: what it is now, and the lists of all callers; whether its session is over, so
--- that only its link's last frames are left; whether any part of the event told that a read failed; the store's
+-- that only its link's last frames are left; how many parts of the event told that a read failed; the store's
 -- commands that are done, and those in one of which the disk failed; and why no more of the event was taken.
 pub record Happened : Type 0 where
   pub after : Connected
   pub lists : List CallerList
   pub over : Bool
-  pub missed : Bool
+  pub missed : ℕ
   pub done : List Command
   pub cut : List Command
   pub halt : Halt

@@ -1,5 +1,5 @@
 -- What the packets of a frame make of a connection, one after another, and what is queued of what is due behind them.
-use Rattle.std.specs.Prelude.{ℕ, zero, suc, List, [], ◌∷◌, ◌++◌, length, Bool, true, false, ◌||◌, nat_le, if◌then◌else◌}
+use Rattle.std.specs.Prelude.{ℕ, ◌+◌, zero, suc, List, [], ◌∷◌, ◌++◌, length, Bool, true, false, nat_le, if◌then◌else◌}
 use Rattle.std.specs.Prelude.{Option, None, Some}
 use Rattle.px_base.specs.CallSign.{CallSign}
 use Rattle.ax25_link.specs.Calls.{after_abandon, after_push}
@@ -9,8 +9,9 @@ use Rattle.ftl0_packets.specs.Layout.{Item, packet_text}
 use Rattle.selection_lists.specs.Lists.{CallerList}
 use Rattle.file_entries.specs.Command.{Command, after_all}
 use Rattle.file_entries.specs.Store.{Store}
+use Rattle.file_store.specs.Working.{one_if}
 use Rattle.ftl0_uploads.specs.Failures.{Failure, write_fails}
-use Rattle.ftl0_session.specs.Table.{DuePacket, Row, State, command, due_at, fault_reply, row_at, tell_failed_read}
+use Rattle.ftl0_session.specs.Table.{DuePacket, Row, State, command, due_at, fault_reply, row_at, failed_reads_told}
 use Rattle.ftl0_session.specs.Table.{tells_failed_read}
 
 -- whether the link has room for replies of this text
@@ -28,7 +29,7 @@ pub data Halt : Type 0 where
   fails : Halt
 
 -- What the parts of an event make of a connection: its end and its session's state, and the lists of all callers; the
--- number of the event's next part; whether the session is over; whether any part told that a read failed; the store's
+-- number of the event's next part; whether the session is over; how many parts told that a read failed; the store's
 -- commands that are done, and those in one of which the disk failed; and why no more was taken.
 pub record Progress : Type 0 where
   pub end : LinkEnd
@@ -36,7 +37,7 @@ pub record Progress : Type 0 where
   pub lists : List CallerList
   pub part : ℕ
   pub over : Bool
-  pub missed : Bool
+  pub missed : ℕ
   pub done : List Command
   pub cut : List Command
   pub halt : Halt
@@ -50,7 +51,7 @@ resting end state lists part =
       lists = lists;
       part = part;
       over = false;
-      missed = false;
+      missed = 0;
       done = [];
       cut = [];
       halt = goes_on;
@@ -60,7 +61,7 @@ resting end state lists part =
 abbrev pub after_row : Row → Progress → Progress
 after_row row progress =
     record progress {
-      missed = tell_failed_read row.replies || progress.missed;
+      missed = failed_reads_told row.replies + progress.missed;
       done = row.commands ++ progress.done;
     }
 
@@ -74,7 +75,7 @@ failing_at end state lists row part =
       lists = lists;
       part = suc part;
       over = true;
-      missed = tell_failed_read row.replies;
+      missed = failed_reads_told row.replies;
       done = [];
       cut = row.commands;
       halt = fails;
@@ -89,7 +90,7 @@ giving_up end row part =
       lists = row.lists;
       part = suc part;
       over = true;
-      missed = tell_failed_read row.replies;
+      missed = failed_reads_told row.replies;
       done = row.commands;
       cut = [];
       halt = goes_on;
@@ -124,7 +125,7 @@ after_due due progress =
       end = after_push progress.end (packet_text due.packet);
       state = due.state;
       part = suc progress.part;
-      missed = progress.missed || tells_failed_read due.packet;
+      missed = progress.missed + one_if (tells_failed_read due.packet);
     }
 
 -- how many octets are free at least where DATA or DATA_END is queued

@@ -230,9 +230,9 @@ module _ {D : Type 0} (g : Ghosts D) (old new : ServerState) (server : Server) (
     (settled : IsSettled old.me old.k old.store old.places) (frame : FrameValue) (moment : ℕ) (disk : D)
     (found : position (has_caller frame.src) old.places ≡ None) (healthy : old.store.journal.failed ≡ false)
     (stands : StandsOn g old.store disk) (lasts : g.lasts disk disk) (same : new.store ≡ old.store) where
-  nothing-done : DoesAmongReads g ⊥ false old.store new.store disk disk []
+  nothing-done : DoesAmongReads g ⊥ 0 old.store new.store disk disk []
   nothing-done =
-      subst (λ (s : StoreState). DoesAmongReads g ⊥ false old.store s disk disk []) (sym same)
+      subst (λ (s : StoreState). DoesAmongReads g ⊥ 0 old.store s disk disk []) (sym same)
       (does-among g ⊥ old.store old.store disk disk [] (Does-none g ⊥ old.store disk (λ never. never) stands healthy lasts))
 
   stranger-by : (result : Result ⊤ ServerStop) → HearsStranger (λ s. hearing_stranger s frame moment) old new result

@@ -37,7 +37,7 @@ HearsBy g event old new disk disk_now (Err stop.Disk) =
     × CutsOffAmongReads g ⊤ (event (failed_write part)).missed old.store new.store disk disk_now
     (event (failed_write part)).done (event (failed_write part)).cut
 HearsBy g event old new disk disk_now (Err stop.OutOfMemory) =
-    DoesAmongReads g ⊥ false old.store new.store disk disk_now []
+    DoesAmongReads g ⊥ 0 old.store new.store disk disk_now []
     ⊎ ((part : ℕ) × ((event (failed_write part)).halt ≡ fails)
     × DoesAmongReads g ⊥ (event (failed_write part)).missed old.store new.store disk disk_now
     (event (failed_write part)).done)

@@ -1,5 +1,5 @@
 -- Laws of a server's steps.
-use Rattle.std.specs.Prelude.{◌≡◌, List, [], ◌∷◌, Bool, ⊤}
+use Rattle.std.specs.Prelude.{◌≡◌, ℕ, List, [], ◌∷◌, ⊤}
 use Rattle.ax25_frames.specs.FrameText.{FrameValue}
 use Rattle.ax25_link.specs.Ends.{IsEnd}
 use Rattle.ax25_link.specs.Window.{Window}
@@ -14,7 +14,7 @@ use Rattle.ftl0_server.specs.ServerStep.{ServerStep}
 use Rattle.ftl0_server.specs.Slots.{Slot, connected, free, leaving}
 
 -- what a step gives
-pub record SameStep (done those_done cut those_cut : List Command) (missed that_missed : Bool) (halt that_halt : Halt)
+pub record SameStep (done those_done cut those_cut : List Command) (missed that_missed : ℕ) (halt that_halt : Halt)
     (frames those : List FrameValue) (new that : Server) : Type 0 where
   pub commands : done ≡ those_done
   pub cuts : cut ≡ those_cut
@@ -27,7 +27,7 @@ pub record SameStep (done those_done cut those_cut : List Command) (missed that_
 abbrev pub OneStepLaw : Type 0
 OneStepLaw =
     (old : Server) (event : NodeEvent) (failures : List Failure) (done those_done cut those_cut : List Command)
-    (missed that_missed : Bool) (halt that_halt : Halt) (frames those : List FrameValue) (new that : Server)
+    (missed that_missed : ℕ) (halt that_halt : Halt) (frames those : List FrameValue) (new that : Server)
     → ServerStep old event failures done cut missed halt frames new
     → ServerStep old event failures those_done those_cut that_missed that_halt those that
     → SameStep done those_done cut those_cut missed that_missed halt that_halt frames those new that
@@ -63,7 +63,7 @@ pub record MayStep (server : Server) : Type 0 where
 pub record HasStep (old : Server) (event : NodeEvent) (failures : List Failure) : Type 0 where
   pub done : List Command
   pub cut : List Command
-  pub missed : Bool
+  pub missed : ℕ
   pub halt : Halt
   pub frames : List FrameValue
   pub new : Server

@@ -42,18 +42,18 @@ abbrev pub new_server : CallSign → Window → Store → Server
 new_server me window store =
     record { me = me; window = window; slots = all_free; stray = None; store = store; lists = [] }
 
--- What a frame makes of a server: what it is then; whether any part of the event told that a read failed; the store's
+-- What a frame makes of a server: what it is then; how many parts of the event told that a read failed; the store's
 -- commands that are done, and those in one of which the disk failed; and why no more of the frame was taken.
 pub record ServerHappened : Type 0 where
   pub after : Server
-  pub missed : Bool
+  pub missed : ℕ
   pub done : List Command
   pub cut : List Command
   pub halt : Halt
 
 -- the server is this one, and nothing is done to the store
 abbrev pub becoming : Server → ServerHappened
-becoming server = record { after = server; missed = false; done = []; cut = []; halt = goes_on }
+becoming server = record { after = server; missed = 0; done = []; cut = []; halt = goes_on }
 
 -- the place is this one
 abbrev pub with_slot : Server → ℕ → Slot → Server

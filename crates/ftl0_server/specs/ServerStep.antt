@@ -1,5 +1,5 @@
 -- A step of a server: a frame or a tick comes, and all that it gives is sent.
-use Rattle.std.specs.Prelude.{◌≡◌, List, [], ◌∷◌, Bool, Some}
+use Rattle.std.specs.Prelude.{◌≡◌, ℕ, List, [], ◌∷◌, Some}
 use Rattle.ax25_frames.specs.FrameText.{FrameValue}
 use Rattle.file_entries.specs.Command.{Command}
 use Rattle.ftl0_uploads.specs.Failures.{Failure}
@@ -22,10 +22,10 @@ happening server (hears frame moment) failures = server_hearing server frame mom
 happening server (ticks moment) failures = becoming (server_ticking server)
 
 -- Nothing is to be sent by the server as it was. The event comes, with these failures of the disk. These commands are
--- done, and, where the disk failed, in one of those; a part told that a read failed, or none did; these frames are
--- sent; and this is the server then, or, where it stops, its places.
+-- done, and, where the disk failed, in one of those; so many parts told that a read failed; these frames are sent;
+-- and this is the server then, or, where it stops, its places.
 pub record ServerStep
-    (old : Server) (event : NodeEvent) (failures : List Failure) (done cut : List Command) (missed : Bool)
+    (old : Server) (event : NodeEvent) (failures : List Failure) (done cut : List Command) (missed : ℕ)
     (halt : Halt) (frames : List FrameValue) (new : Server) : Type 0 where
   pub silent : IsSilent old
   pub done_is : done ≡ (happening old event failures).done

@@ -22,14 +22,14 @@ use Rattle.ftl0_downloads.specs.Table as download
 use Rattle.ftl0_downloads.specs.Table.{DownloadRow, DownloadState}
 use Rattle.ftl0_downloads.proofs.ReplyLemmas.{row_replies}
 use Rattle.ftl0_session.specs.Laws.{DueFaultLaw, FaultCodeLaw}
-use Rattle.ftl0_session.specs.Table.{State, aborting, command, download_part, download_row, error_by, in_session, next_due, listing, receiving, row_among, sending, session_row, tell_failed_read, tells_failed_read, upload_row, waiting}
+use Rattle.ftl0_session.specs.Table.{State, aborting, command, download_part, download_row, error_by, in_session, next_due, listing, receiving, row_among, sending, session_row, failed_reads_told, tells_failed_read, upload_row, waiting}
 use Rattle.ftl0_session.proofs.RowLemmas.{download-malformed}
 
 -- ---- rows of uploading
 
 -- none of these replies tells of a read that failed
 abbrev Silent : List PacketValue → Type 0
-Silent replies = tell_failed_read replies ≡ false
+Silent replies = failed_reads_told replies ≡ 0
 
 upload_either : (b : Bool) (first second : upload.Row) → Silent first.replies → Silent second.replies → Silent (if b then first else second).replies
 upload_either true first second a c = a

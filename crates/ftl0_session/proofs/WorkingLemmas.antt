@@ -1,24 +1,25 @@
 -- What a packet that is taken, or one that is sent, does to the disk, with the reads that were made for it.
-use Rattle.std.proofs.Common.{◌≡◌, ℕ, List, [], ◌∷◌, ◌++◌, ◌==◌, refl, ap, ap₂, sym, ◌∙◌, subst, Bool, true, false, ◌&&◌, ◌||◌, Option, None, Some, IfSome}
+use Rattle.std.proofs.Common.{◌≡◌, ℕ, ◌+◌, List, [], ◌∷◌, ◌++◌, ◌==◌, refl, ap, ap₂, sym, ◌∙◌, subst, Bool, true, false, ◌&&◌, ◌||◌, Option, None, Some, IfSome}
 use Rattle.std.specs.Prelude.{⊤, Result, Ok, Err, if◌then◌else◌}
 use Rattle.std.specs.List.{list_any}
 use Rattle.std.specs.Option.{option_map}
 use Rattle.std.proofs.Math.Bool.{and-false, and-true, or-false}
+use Rattle.std.proofs.Math.Nat.{add-zero, add_assoc, zero-add}
 use Rattle.std.proofs.lemmas.List.Folds.{list_any-append}
 use Rattle.px_base.specs.CallSign.{CallSign}
 use Rattle.disk_model.specs.declared.disk.Disk.{Ghosts}
-use Rattle.ftl0_packets.specs.Layout.{Item, dl_error_resp, packet_text}
+use Rattle.ftl0_packets.specs.Layout.{Item, PacketValue, dl_error_resp, packet_text}
 use Rattle.file_journal.proofs.ToldLemmas.{at_told}
 use Rattle.file_entries.specs.Store.{Store}
 use Rattle.file_store.specs.State.{StandsOn, StoreState, store_in}
-use Rattle.file_store.specs.Working.{CutsOffAmongReads, DoesAmongReads}
+use Rattle.file_store.specs.Working.{CutsOffAmongReads, DoesAmongReads, one_if}
 use Rattle.file_store.proofs.WorkingLemmas.{among-same, among-then, cuts-among-cut, does-among, reads-only}
 use Rattle.ftl0_uploads.specs.Failures.{Failure, failed_reads, failed_write, is_read_fault, is_write_fault, read_fails, write_fails}
 use Rattle.ftl0_downloads.specs.Sending as due
 use Rattle.ftl0_session.specs.declared.stop.ServerStop.{ServerStop}
 use Rattle.ftl0_session.specs.declared.stop.ServerStop.TheVariants as stop
 use Rattle.ftl0_session.specs.Filling.{IsDue, PutsDue}
-use Rattle.ftl0_session.specs.Table.{DuePacket, Row, State, download_part, due_at, in_session, next_due, row_at, tell_failed_read, tells_failed_read}
+use Rattle.ftl0_session.specs.Table.{DuePacket, Row, State, download_part, due_at, in_session, next_due, row_at, failed_reads_told, tells_failed_read}
 use Rattle.ftl0_session.specs.Taking.{TakesPacket, Working, row_over}
 use Rattle.ftl0_session.proofs.FaultLemmas.{due_codes, fault_codes}
 
@@ -26,8 +27,8 @@ use Rattle.ftl0_session.proofs.FaultLemmas.{due_codes, fault_codes}
 
 -- a row's replies tell of a read that failed exactly where one did
 pub told-is : (caller : CallSign) (moment : ℕ) (item : Item) (before : Working) (fails : Bool) → (fails ≡ true → (row_over caller moment before item fails).replies ≡ dl_error_resp 3 ∷ [])
-    → tell_failed_read (row_over caller moment before item fails).replies ≡ fails
-told-is caller moment item before true told = ap tell_failed_read (told refl)
+    → failed_reads_told (row_over caller moment before item fails).replies ≡ one_if fails
+told-is caller moment item before true told = ap failed_reads_told (told refl)
 told-is caller moment item before false told = (fault_codes caller moment (store_in before.store) before.lists before.state item).reads
 
 -- so does a packet that is sent
@@ -36,40 +37,46 @@ pub told-due : (store : Store) (state : State) (fails : Bool) (next : DuePacket)
 told-due store state true next is told = ap tells_failed_read (at_told (λ (sent : DuePacket). sent.packet ≡ dl_error_resp 3) next is (told refl))
 told-due store state false next is told = at_told (λ (sent : DuePacket). tells_failed_read sent.packet ≡ false) next is (due_codes store state).0
 
+-- packets joined tell of as many as they do together
+pub told-append : (xs ys : List PacketValue) → failed_reads_told (xs ++ ys) ≡ failed_reads_told xs + failed_reads_told ys
+told-append [] ys = sym (zero-add (failed_reads_told ys))
+told-append (x ∷ xs) ys =
+    ap (λ (n : ℕ). one_if (tells_failed_read x) + n) (told-append xs ys) ∙ sym (add_assoc (one_if (tells_failed_read x)) (failed_reads_told xs) (failed_reads_told ys))
+
 -- ---- a packet that is taken
 
 module _ {D : Type 0} (g : Ghosts D) (on : (first second third : D) → g.lasts first second → g.lasts second third → g.lasts first third)
     (caller : CallSign) (moment : ℕ) (item : Item) (before now : Working) (disk disk_now : D) (replies : List ℕ) (healthy : before.store.journal.failed ≡ false) (stands : StandsOn g before.store disk) where
   -- its reads
   first : (result : Result ⊤ ServerStop) (takes : TakesPacket g caller moment item before now disk disk_now replies result)
-      → DoesAmongReads g ⊥ (tell_failed_read (row_over caller moment before item takes.fails).replies) before.store before.store disk takes.disk_then []
+      → DoesAmongReads g ⊥ (failed_reads_told (row_over caller moment before item takes.fails).replies) before.store before.store disk takes.disk_then []
   first result takes =
-      among-same g ⊥ ⊥ takes.fails (tell_failed_read (row_over caller moment before item takes.fails).replies) before.store before.store disk takes.disk_then [] (λ p. p) (λ p. p)
+      among-same g ⊥ ⊥ (one_if takes.fails) (failed_reads_told (row_over caller moment before item takes.fails).replies) before.store before.store disk takes.disk_then [] (λ p. p) (λ p. p)
       (sym (told-is caller moment item before takes.fails takes.told)) (reads-only g takes.fails before.store disk takes.disk_then takes.reads healthy stands)
 
   -- its row's commands are done
   pub taken-among : (done : ⊤) (takes : TakesPacket g caller moment item before now disk disk_now replies (Ok done))
-      → DoesAmongReads g ⊥ (tell_failed_read (row_over caller moment before item takes.fails).replies) before.store now.store disk disk_now (row_over caller moment before item takes.fails).commands
+      → DoesAmongReads g ⊥ (failed_reads_told (row_over caller moment before item takes.fails).replies) before.store now.store disk disk_now (row_over caller moment before item takes.fails).commands
   taken-among done takes =
       let row : Row = row_over caller moment before item takes.fails in
-      let missed : Bool = tell_failed_read row.replies in
-      among-same g ⊥ ⊥ (missed || false) missed before.store now.store disk disk_now row.commands (λ p. p) (λ p. p) (or-false missed)
-      (among-then g on ⊥ ⊥ missed false before.store before.store now.store disk takes.disk_then disk_now [] row.commands (λ never. never) (first (Ok done) takes)
+      let missed : ℕ = failed_reads_told row.replies in
+      among-same g ⊥ ⊥ (missed + 0) missed before.store now.store disk disk_now row.commands (λ p. p) (λ p. p) (add-zero missed)
+      (among-then g on ⊥ ⊥ missed 0 before.store before.store now.store disk takes.disk_then disk_now [] row.commands (λ never. never) (first (Ok done) takes)
       (does-among g ⊥ before.store now.store takes.disk_then disk_now row.commands takes.on_disk))
 
   -- the disk failed in one of them
   pub taken-cut : (takes : TakesPacket g caller moment item before now disk disk_now replies (Err stop.Disk))
-      → CutsOffAmongReads g ⊤ (tell_failed_read (row_over caller moment before item takes.fails).replies) before.store now.store disk disk_now [] (row_over caller moment before item takes.fails).commands
+      → CutsOffAmongReads g ⊤ (failed_reads_told (row_over caller moment before item takes.fails).replies) before.store now.store disk disk_now [] (row_over caller moment before item takes.fails).commands
   taken-cut takes =
       let row : Row = row_over caller moment before item takes.fails in
-      cuts-among-cut g ⊤ (tell_failed_read row.replies) before.store before.store now.store disk takes.disk_then disk_now [] row.commands (first (Err stop.Disk) takes) takes.on_disk
+      cuts-among-cut g ⊤ (failed_reads_told row.replies) before.store before.store now.store disk takes.disk_then disk_now [] row.commands (first (Err stop.Disk) takes) takes.on_disk
 
   -- there was no memory
   pub taken-none : (takes : TakesPacket g caller moment item before now disk disk_now replies (Err stop.OutOfMemory))
-      → (now.store ≡ before.store) × DoesAmongReads g ⊥ (tell_failed_read (row_over caller moment before item takes.fails).replies) before.store before.store disk disk_now []
+      → (now.store ≡ before.store) × DoesAmongReads g ⊥ (failed_reads_told (row_over caller moment before item takes.fails).replies) before.store before.store disk disk_now []
   taken-none takes = (
     ap (λ (w : Working). w.store) takes.answers.1,
-    subst (λ (d : D). DoesAmongReads g ⊥ (tell_failed_read (row_over caller moment before item takes.fails).replies) before.store before.store disk d []) (sym takes.on_disk)
+    subst (λ (d : D). DoesAmongReads g ⊥ (failed_reads_told (row_over caller moment before item takes.fails).replies) before.store before.store disk d []) (sym takes.on_disk)
         (first (Err stop.OutOfMemory) takes),
   )
 
@@ -101,7 +108,7 @@ pub record Sent {D : Type 0} (g : Ghosts D) (files : StoreState) (disk disk_now 
   pub state_is : state_now ≡ next.state
   pub text_is : out_now ≡ packet_text next.packet
   pub tells : tells_failed_read next.packet ≡ fails
-  pub does : DoesAmongReads g ⊥ (tells_failed_read next.packet) files files disk disk_now []
+  pub does : DoesAmongReads g ⊥ (one_if (tells_failed_read next.packet)) files files disk disk_now []
 
 module _ {D : Type 0} (g : Ghosts D) (files : StoreState) (disk disk_now : D) (state state_now : State) (out out_now : List ℕ) where
   pub due-among : (puts : PutsDue g (store_in files) disk disk_now state state_now out out_now true) → files.journal.failed ≡ false → StandsOn g files disk
@@ -116,7 +123,7 @@ module _ {D : Type 0} (g : Ghosts D) (files : StoreState) (disk disk_now : D) (s
         text_is = has.3;
         tells = tells;
         does =
-            among-same g ⊥ ⊥ puts.fails (tells_failed_read has.0.packet) files files disk disk_now [] (λ p. p) (λ p. p) (sym tells)
+            among-same g ⊥ ⊥ (one_if puts.fails) (one_if (tells_failed_read has.0.packet)) files files disk disk_now [] (λ p. p) (λ p. p) (ap one_if (sym tells))
             (reads-only g puts.fails files disk disk_now puts.reads healthy stands);
       }
 

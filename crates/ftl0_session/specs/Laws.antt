@@ -15,7 +15,7 @@ use Rattle.ftl0_uploads.specs.Laws.{HasEntry, IsNoFault, IsUnderWay, IsWhole, ke
 use Rattle.ftl0_uploads.specs.Session as upload
 use Rattle.ftl0_downloads.specs.Table.{ready}
 use Rattle.ftl0_session.specs.Table.{Row, State, by_upload, command, next_due, receiving, session_row, state_by}
-use Rattle.ftl0_session.specs.Table.{tell_failed_read, tells_failed_read}
+use Rattle.ftl0_session.specs.Table.{failed_reads_told, tells_failed_read}
 
 -- Each row of uploading is a row of the whole table, in the state in which nothing is done of downloading, whether a
 -- read fails or none does. It leaves the lists.
@@ -86,7 +86,7 @@ AcknowledgedStandsLaw =
 
 -- Where no read fails the row tells of none, and it never replies UL_ERROR_RESP 3 or UL_NAK_RESP 3.
 pub record KeepsFaultCodes (row : Bool → Row) : Type 0 where
-  pub reads : tell_failed_read (row false).replies ≡ false
+  pub reads : failed_reads_told (row false).replies ≡ 0
   pub writes : (fails : Bool) → AllByRecursion IsNoFault (row fails).replies
 
 -- Code 3 comes by DL_ERROR_RESP only where a read of the disk fails, and by UL_ERROR_RESP or UL_NAK_RESP in no row of

@@ -1,6 +1,5 @@
 -- The session of one caller (FTL0 1990): its states, and its table, which has a row for each packet.
-use Rattle.std.specs.Prelude.{ℕ, ◌==◌, List, [], ◌∷◌, Bool, false, if◌then◌else◌, Option, None, Some, Ok, Err}
-use Rattle.std.specs.List.{list_any}
+use Rattle.std.specs.Prelude.{ℕ, ◌+◌, ◌==◌, List, [], ◌∷◌, Bool, false, if◌then◌else◌, Option, None, Some, Ok, Err}
 use Rattle.std.specs.Option.{option_map}
 use Rattle.px_base.specs.CallSign.{CallSign}
 use Rattle.ftl0_packets.specs.Items.{kind_of_item}
@@ -8,6 +7,7 @@ use Rattle.ftl0_packets.specs.Layout.{Item, PacketValue, dl_error_resp, login_re
 use Rattle.selection_lists.specs.Lists.{CallerList}
 use Rattle.file_entries.specs.Command.{Command}
 use Rattle.file_entries.specs.Store.{Store}
+use Rattle.file_store.specs.Working.{one_if}
 use Rattle.ftl0_uploads.specs.Failures.{Failure, read_fails}
 use Rattle.ftl0_uploads.specs.Session as upload
 use Rattle.ftl0_downloads.specs.Sending as due
@@ -159,9 +159,10 @@ abbrev pub tells_failed_read : PacketValue → Bool
 tells_failed_read (dl_error_resp code) = code == 3
 tells_failed_read packet = false
 
--- whether any of these packets does
-abbrev pub tell_failed_read : List PacketValue → Bool
-tell_failed_read packets = list_any tells_failed_read packets
+-- how many of these packets do
+abbrev pub failed_reads_told : List PacketValue → ℕ
+failed_reads_told [] = 0
+failed_reads_told (packet ∷ packets) = one_if (tells_failed_read packet) + failed_reads_told packets
 
 -- The row of a packet that is the part of this number of an event with these failures: a read fails where they list
 -- one.

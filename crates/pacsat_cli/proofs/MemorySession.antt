@@ -6,11 +6,11 @@ use Rattle.disk_model.specs.Calls.{new_state}
 use Rattle.disk_model.specs.Memory.{read_faults, state as disk_state}
 use Rattle.disk_model.specs.declared.disk.Disk.{Ghosts}
 use Rattle.disk_model.specs.declared.memory_disk.MemoryDisk.{MemoryDisk}
-use Rattle.file_journal.specs.Calls.{CountsFault}
 use Rattle.file_journal.specs.Journal.{journal_of}
 use Rattle.file_journal.specs.Walk.{state}
 use Rattle.file_entries.specs.Store.{Store, empty_store}
 use Rattle.file_store.specs.State.{standing_of}
+use Rattle.file_store.specs.Working.{CountsSome}
 use Rattle.file_store.specs.declared.refusals.StoreFault.{StoreFault}
 use Rattle.file_store.specs.declared.refusals.StoreFault.TheVariants as fault
 use Rattle.session_node.specs.SessionRan.{SessionEnds, SessionRan}
@@ -76,8 +76,8 @@ module _ {A C : Type 0} (g : Ghosts MemoryDisk) (air : AirGhosts A) (given : C �
         is_fresh = is_new;
         used = disk_now;
         reads =
-            let at_first : ℕ → Type 0 = λ n. CountsFault n (read_faults disk_now) (h.missed ≡ true) in
-            let at_last : ℕ → Type 0 = λ n. CountsFault (g.read_faults disk) n (h.missed ≡ true) in
+            let at_first : ℕ → Type 0 = λ n. CountsSome n (read_faults disk_now) h.missed in
+            let at_last : ℕ → Type 0 = λ n. CountsSome (g.read_faults disk) n h.missed in
             subst at_first (counts_so disk) (subst at_last (counts_so disk_now) h.reads);
         counts = counts;
         status_is = refl;

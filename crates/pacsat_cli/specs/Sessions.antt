@@ -1,5 +1,5 @@
 -- What a run of the program did for a session, by its words, by what was heard, and by its disk.
-use Rattle.std.specs.Prelude.{◌≡◌, ◌⊎◌, ◌↔◌, ℕ, ◌≤◌, ◌++◌, List, [], ◌∷◌, length, Bool, true, Option, Some, IfSome, Result, IsErrOf}
+use Rattle.std.specs.Prelude.{◌≡◌, ◌⊎◌, ◌↔◌, ℕ, ◌≤◌, ◌++◌, List, [], ◌∷◌, length, Option, Some, IfSome, Result, IsErrOf}
 use Rattle.std.specs.List.{AllByRecursion}
 use Rattle.px_base.specs.Moments.{MomentsOf}
 use Rattle.px_base.specs.Outside.{Gains, Rose}
@@ -11,11 +11,11 @@ use Rattle.disk_model.specs.Calls.{new_state}
 use Rattle.disk_model.specs.Memory.{read_faults, state}
 use Rattle.disk_model.specs.declared.disk.Disk.{Ghosts}
 use Rattle.disk_model.specs.declared.memory_disk.MemoryDisk.{MemoryDisk}
-use Rattle.file_journal.specs.Calls.{CountsFault}
 use Rattle.file_journal.specs.Walk.{damaged_at, no_store}
 use Rattle.file_entries.specs.Command.{Command}
 use Rattle.file_entries.specs.Store.{empty_store}
 use Rattle.file_store.specs.State.{standing_of}
+use Rattle.file_store.specs.Working.{CountsSome}
 use Rattle.session_node.specs.OnDisk.{NodeRuns}
 use Rattle.session_node.specs.SessionRan.{SessionEnds, SessionRan}
 use Rattle.session_node.specs.Stops.{HasAirCause, RefusesSession}
@@ -69,8 +69,8 @@ pub record OverDisk {A C D : Type 0} (g : Ghosts D) (air : AirGhosts A) (given :
   pub status_is : status ≡ status_of ended
 
 -- A session of these terms was served over a fresh disk in memory, none of whose calls is listed to fail, and so from the
--- empty store on. A write or a sync of such a disk that fails is want of memory, and a read that failed is told only where
--- the count of failed reads rose.
+-- empty store on. A write or a sync of such a disk that fails is want of memory, and no more reads that failed are told than
+-- the count of failed reads rose by.
 pub record InMemory {A C : Type 0} (air : AirGhosts A) (given : C → Option (List ℕ)) (before now : A) (clock clock_now : C)
     (terms : SessionTerms) (status : Status) : Type 0 where
   pub ended : Result Served NodeStop
@@ -79,7 +79,7 @@ pub record InMemory {A C : Type 0} (air : AirGhosts A) (given : C → Option (Li
   pub text : List ℕ
   pub done : List Command
   pub cut : List Command
-  pub missed : Bool
+  pub missed : ℕ
   pub turns_heard : HearsAll (air.heard before) (air.heard now) turns
   pub moments_given : MomentsOf terms.moment (given clock) (given clock_now) moments
   pub text_said : Gains (air.said before) (air.said now) text
@@ -89,7 +89,7 @@ pub record InMemory {A C : Type 0} (air : AirGhosts A) (given : C → Option (Li
   pub fresh : MemoryDisk
   pub is_fresh : state fresh ≡ new_state [] []
   pub used : MemoryDisk
-  pub reads : CountsFault (read_faults fresh) (read_faults used) (missed ≡ true)
+  pub reads : CountsSome (read_faults fresh) (read_faults used) missed
   pub counts : HasAirCause air.read_faults air.write_faults before now ended
   pub status_is : status ≡ status_in_memory (status_of ended)
 

@@ -1,6 +1,6 @@
 -- A server from the recovery of its store to its end.
 use Rattle.std.proofs.Common.{◌≡◌, inl, inr, ⊎_elim, ℕ, ◌+◌, ◌*◌, ◌≤◌, List, [], ◌∷◌, ◌++◌, length, refl, sym, ◌∙◌, ap, subst, arith, Option, IfSome, false}
-use Rattle.std.specs.Prelude.{Bool, Result, Ok, Err, IsErrOf}
+use Rattle.std.specs.Prelude.{Result, Ok, Err, IsErrOf}
 use Rattle.px_base.specs.declared.air.Air.{Ghosts as AirGhosts}
 use Rattle.px_base.specs.declared.air.Turn.{Turn}
 use Rattle.disk_model.specs.declared.disk.Disk.{Ghosts}
@@ -94,7 +94,7 @@ started_up g terms old mid self started = record {
 module _ {D : Type 0} (g : Ghosts D) (on : (first second third : D) → g.lasts first second → g.lasts second third → g.lasts first third)
     (earlier : (disk : D) (t u : ℕ) (image : List ℕ) → t ≤ u → g.images_since disk u image → g.images_since disk t image) (failed : Type 0) (fine : ¬ failed) (blocks : ℕ) (old mid now : D) (start new : StoreState)
     (alike : TellsAlike (g.content old) (g.content mid)) (stood : IfSome (g.content old) (λ before. standing_of blocks before ≡ state (store_in start)))
-    (since_sync : IfSome (g.content old) (λ before. IsSyncedFirst g old mid (StandsAlike blocks before))) (missed : Bool) where
+    (since_sync : IfSome (g.content old) (λ before. IsSyncedFirst g old mid (StandsAlike blocks before))) (missed : ℕ) where
   -- without commands each image is one that the recovery left
   left_none : DoesAmongReads g failed missed start new mid now [] → EachImage g now (λ image. StandsFor image (store_in new))
   left_none does = if_told (g.content now) _ (λ octets told image here.

@@ -1,5 +1,5 @@
 -- The store of a server is the one after its commands.
-use Rattle.std.proofs.Common.{◌≡◌, ℕ, List, [], ◌∷◌, ◌++◌, Bool, true, false, Option, None, Some, refl, ap, sym, ◌∙◌, append_assoc}
+use Rattle.std.proofs.Common.{◌≡◌, ℕ, ◌+◌, List, [], ◌∷◌, ◌++◌, Bool, true, false, Option, None, Some, refl, ap, sym, ◌∙◌, append_assoc}
 use Rattle.std.specs.Prelude.{◌&&◌, ◌||◌, if◌then◌else◌, slice_get}
 use Rattle.ax25_frames.specs.FrameText.{FrameValue}
 use Rattle.ax25_link.specs.Rows.{is_call}
@@ -71,7 +71,7 @@ happening_store server (ticks moment) failures = refl
 
 -- ---- events
 
-serves_store : (server : Server) (events : List NodeEvent) (frames : List FrameValue) (commands : List Command) (missed : Bool) (now : Server) → ServesOver server events frames commands missed now
+serves_store : (server : Server) (events : List NodeEvent) (frames : List FrameValue) (commands : List Command) (missed : ℕ) (now : Server) → ServesOver server events frames commands missed now
     → now.store ≡ after_all server.store commands
 serves_store server [] frames commands missed now h = rw (h.1, h.3) refl
 serves_store server (e ∷ events) frames commands missed now h =
@@ -80,12 +80,12 @@ serves_store server (e ∷ events) frames commands missed now h =
     ap (λ (s : Server). s.store) step.new_is ∙ empties_store _ h.1 step.last step.sent ∙ happening_store server e (failed_reads h.7.parts) ∙ ap (after_all server.store) (sym step.done_is) in
     serves_store h.3 events h.5 h.4 h.6 now h.11 ∙ ap (λ (s : Store). after_all s h.4) next ∙ sym (after_all-append h.0 h.4 server.store) ∙ ap (after_all server.store) (sym h.9)
 
-comes_to : (server : Server) (earlier : List NodeEvent) (next : NodeEvent) (later : List NodeEvent) (frames : List FrameValue) (commands : List Command) (missed : Bool) (now : Server)
+comes_to : (server : Server) (earlier : List NodeEvent) (next : NodeEvent) (later : List NodeEvent) (frames : List FrameValue) (commands : List Command) (missed : ℕ) (now : Server)
     → ServesOver server (earlier ++ next ∷ later) frames commands missed now → ServerComesTo server earlier next commands
 comes_to server [] next later frames commands missed now h = record {
   frames = [];
   before = [];
-  missed = false;
+  missed = 0;
   server_then = server;
   serves = (refl, refl, refl, refl);
   parts = h.7.parts;
@@ -97,7 +97,7 @@ comes_to server (e ∷ earlier) next later frames commands missed now h =
     record {
       frames = h.1 ++ on.frames;
       before = h.0 ++ on.before;
-      missed = h.2 || on.missed;
+      missed = h.2 + on.missed;
       server_then = on.server_then;
       serves = (h.0, h.1, h.2, h.3, on.before, on.frames, on.missed, h.7, refl, refl, refl, on.serves);
       parts = on.parts;

@@ -1,7 +1,7 @@
 -- How a node takes events.
-use Rattle.std.proofs.Common.{◌≡◌, ℕ, List, [], ◌∷◌, ◌++◌, Option, refl, ap, sym, subst, inl, inr}
+use Rattle.std.proofs.Common.{◌≡◌, ℕ, ◌+◌, List, [], ◌∷◌, ◌++◌, Option, refl, ap, sym, subst, inl, inr}
 use Rattle.std.proofs.lemmas.Bool.{eq-eqb, ne_eqb}
-use Rattle.std.specs.Prelude.{◌≢◌, Bool, false, ◌||◌, if◌then◌else◌, Result, Ok, Err, ⊤, OnErr, OnOk}
+use Rattle.std.specs.Prelude.{◌≢◌, if◌then◌else◌, Result, Ok, Err, ⊤, OnErr, OnOk}
 use Rattle.px_base.specs.Octets.{IsFront}
 use Rattle.px_base.specs.Outside.{Gains, HasCause}
 use Rattle.px_base.specs.declared.air.Air.{Ghosts as AirGhosts}
@@ -53,7 +53,7 @@ module _ {A D : Type 0} (g : Ghosts D) (air : AirGhosts A) (lasts : (disk : D) �
   takes-none before now self disk up same server serving = record {
     frames = [];
     commands = [];
-    missed = false;
+    missed = 0;
     next = server;
     serves = (refl, refl, refl, refl);
     text_said = gains-same (air.said before) (air.said now) same;
@@ -84,7 +84,7 @@ module _ {A D : Type 0} (g : Ghosts D) (air : AirGhosts A) (lasts : (disk : D) �
         record {
           frames = first.frames ++ second.frames;
           commands = first.commands ++ second.commands;
-          missed = first.missed || second.missed;
+          missed = first.missed + second.missed;
           next = second.next;
           serves =
               serves-append server events first.frames first.commands first.missed first.next others second.frames second.commands second.missed second.next first.serves second.serves;
@@ -103,7 +103,7 @@ module _ {A D : Type 0} (g : Ghosts D) (air : AirGhosts A) (lasts : (disk : D) �
           text_said = Gains-trans (air.said before) (air.said mid) (air.said now) (text_of first.frames) second.text first.text_said second.text_said;
           done = first.commands ++ second.done;
           cut = second.cut;
-          missed = first.missed || second.missed;
+          missed = first.missed + second.missed;
           stops =
               (stops-behind why (air.write_faults before) (air.write_faults now) second.cut server events first.frames first.commands first.missed first.next others second.text second.done second.missed first.serves
               (subst (λ (n : ℕ). StopsOver first.next others why n (air.write_faults now) second.text second.done second.cut second.missed) same second.stops)).stops;
@@ -249,9 +249,9 @@ module _ {A D : Type 0} (g : Ghosts D) (air : AirGhosts A) (lasts : (disk : D) �
       text_said = Gains-none (air.said before);
       done = [];
       cut = [];
-      missed = false;
-      stops = stops-at stop.OutOfMemory (air.write_faults before) (air.write_faults before) [] server event [] [] false (inl (refl, refl), refl, refl);
-      cuts = cuts-among-none g _ false old.store mid.store disk disk_n [] (λ (e : stop.OutOfMemory ≡ stop.Disk). cc e) (lasts disk_n) does;
+      missed = 0;
+      stops = stops-at stop.OutOfMemory (air.write_faults before) (air.write_faults before) [] server event [] [] 0 (inl (refl, refl), refl, refl);
+      cuts = cuts-among-none g _ 0 old.store mid.store disk disk_n [] (λ (e : stop.OutOfMemory ≡ stop.Disk). cc e) (lasts disk_n) does;
     }
     event-unmade (inr by) =
         let failed : ServerHappened = failing server event by.0 parts in

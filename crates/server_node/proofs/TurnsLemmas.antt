@@ -1,7 +1,7 @@
 -- How the loop over turns goes on, and how it ends.
 use Rattle.std.proofs.Common.{◌≡◌, ℕ, ◌+◌, ◌<◌, List, [], ◌∷◌, ◌++◌, length, Option, None, Some, refl, ap, sym, subst, ◌∙◌, inl, inr, length-append, unwrap_or, arith}
 use Rattle.std.specs.List.{AllByRecursion}
-use Rattle.std.specs.Prelude.{Bool, ◌||◌, Result, Ok, Err, IsErrOf, ⊤}
+use Rattle.std.specs.Prelude.{Result, Ok, Err, IsErrOf, ⊤}
 use Rattle.px_base.specs.CallSign.{CallSign}
 use Rattle.px_base.specs.Moments.{Gives}
 use Rattle.px_base.specs.Octets.{IsOctets}
@@ -152,7 +152,7 @@ module _ {A C D : Type 0} (g : Ghosts D) (air : AirGhosts A) (given : C → Opti
           (subst (λ (me : CallSign). Finishes me (octets_heard h.turns) (octets_of_turn taken.next) taken.frames) h.me taken.finishes)
 
       -- how the serving ended in this turn
-      turn-ended : (ended : Result Served NodeStop) (server : Server) → IsServing node.server server → (text : List ℕ) (done cut : List Command) (missed : Bool) → count < polls → TurnsBy ended polls turns_n
+      turn-ended : (ended : Result Served NodeStop) (server : Server) → IsServing node.server server → (text : List ℕ) (done cut : List Command) (missed : ℕ) → count < polls → TurnsBy ended polls turns_n
           → Gains (air.said old) (air.said now) text
           → EndsOver ended h.events server (h.events ++ more) (air.write_faults old) (air.write_faults now) text done cut missed
           → CutsOffAmongReads g (IsErrOf ended stop.Disk) missed node.server.store node_n.server.store disk disk_n done cut
@@ -223,7 +223,7 @@ module _ {A C D : Type 0} (g : Ghosts D) (air : AirGhosts A) (given : C → Opti
 
         -- the serving ended with all events taken
         taking-all : (ended : Result Served NodeStop) → count < polls → TurnsBy ended polls turns_n → ¬ IsErrOf ended stop.Disk
-            → ((server : Server) (text : List ℕ) (done cut : List Command) (missed : Bool) → TakesAll server (h.events ++ more) text done cut missed
+            → ((server : Server) (text : List ℕ) (done cut : List Command) (missed : ℕ) → TakesAll server (h.events ++ more) text done cut missed
             → EndsOver ended h.events server (h.events ++ more) (air.write_faults old) (air.write_faults now) text done cut missed)
             → Ended now clock_n disk_n node_n ended
         taking-all ended below ends no_disk over server serving =
@@ -235,19 +235,19 @@ module _ {A C D : Type 0} (g : Ghosts D) (air : AirGhosts A) (given : C → Opti
       -- the node stopped in an open turn
       taking-stopped :
           (why : NodeStop) → count < polls → IsOpen taken.next → (AllByRecursion IsOpen turns_n → TurnsBy (Err why) polls turns_n)
-          → ((server : Server) (text : List ℕ) (done cut : List Command) (missed : Bool) → StopsBehind h.events server (h.events ++ more) why (air.write_faults old) (air.write_faults now) text done cut missed
+          → ((server : Server) (text : List ℕ) (done cut : List Command) (missed : ℕ) → StopsBehind h.events server (h.events ++ more) why (air.write_faults old) (air.write_faults now) text done cut missed
           → EndsOver (Err why) h.events server (h.events ++ more) (air.write_faults old) (air.write_faults now) text done cut missed)
           → Turned (Err why) → Ended now clock_n disk_n node_n (Err why)
       taking-stopped why below is_open turns over stops server serving =
           let runs = h.takes server serving in
           let stop_is = stops runs.next runs.serving in
           let stops_old = subst (λ (n : ℕ). StopsOver runs.next more why n (air.write_faults now) stop_is.text stop_is.done stop_is.cut stop_is.missed) h.same_writes stop_is.stops in
-          turn-ended (Err why) server serving (text_of runs.frames ++ stop_is.text) (runs.commands ++ stop_is.done) stop_is.cut (runs.missed || stop_is.missed) below
+          turn-ended (Err why) server serving (text_of runs.frames ++ stop_is.text) (runs.commands ++ stop_is.done) stop_is.cut (runs.missed + stop_is.missed) below
           (turns (open_append h.turns taken.next h.all_open is_open))
           (Gains-trans (air.said old) (air.said mid) (air.said now) (text_of runs.frames) stop_is.text runs.text_said stop_is.text_said)
-          (over server (text_of runs.frames ++ stop_is.text) (runs.commands ++ stop_is.done) stop_is.cut (runs.missed || stop_is.missed)
+          (over server (text_of runs.frames ++ stop_is.text) (runs.commands ++ stop_is.done) stop_is.cut (runs.missed + stop_is.missed)
           (stops-behind why (air.write_faults old) (air.write_faults now) stop_is.cut server h.events runs.frames runs.commands runs.missed runs.next more stop_is.text stop_is.done stop_is.missed runs.serves stops_old))
-          (cuts-among-same g (why ≡ stop.Disk) (IsErrOf (Err why) stop.Disk) (runs.missed || stop_is.missed) (runs.missed || stop_is.missed) node.server.store node_n.server.store disk disk_n
+          (cuts-among-same g (why ≡ stop.Disk) (IsErrOf (Err why) stop.Disk) (runs.missed + stop_is.missed) (runs.missed + stop_is.missed) node.server.store node_n.server.store disk disk_n
           (runs.commands ++ stop_is.done) stop_is.cut (λ is. ap Err is) (λ is. of_error why stop.Disk (Err why) refl is) refl
           (cuts-among-then g on (why ≡ stop.Disk) runs.missed stop_is.missed node.server.store node_m.server.store node_n.server.store disk disk_m disk_n runs.commands stop_is.done stop_is.cut runs.does stop_is.cuts))
 

@@ -1,5 +1,5 @@
 -- Laws of a server over the events of its node.
-use Rattle.std.specs.Prelude.{◌≡◌, ℕ, List, ◌∷◌, ◌++◌, Bool}
+use Rattle.std.specs.Prelude.{◌≡◌, ℕ, List, ◌∷◌, ◌++◌}
 use Rattle.ax25_frames.specs.FrameText.{FrameValue}
 use Rattle.file_entries.specs.Command.{Command, after_all}
 use Rattle.node_events.specs.Events.{NodeEvent}
@@ -14,7 +14,7 @@ pub record ServerComesTo (server : Server) (earlier : List NodeEvent) (next : No
     Type 0 where
   pub frames : List FrameValue
   pub before : List Command
-  pub missed : Bool
+  pub missed : ℕ
   pub server_then : Server
   pub serves : ServesOver server earlier frames before missed server_then
   pub parts : List ℕ
@@ -25,10 +25,10 @@ pub record ServerComesTo (server : Server) (earlier : List NodeEvent) (next : No
 pub record ServesLaw : Type 0 where
   pub store :
       (server : Server) (events : List NodeEvent) (frames : List FrameValue) (commands : List Command)
-      (missed : Bool) (now : Server) → ServesOver server events frames commands missed now
+      (missed : ℕ) (now : Server) → ServesOver server events frames commands missed now
       → now.store ≡ after_all server.store commands
   pub comes_to :
       (server : Server) (earlier : List NodeEvent) (next : NodeEvent) (later : List NodeEvent)
-      (frames : List FrameValue) (commands : List Command) (missed : Bool) (now : Server)
+      (frames : List FrameValue) (commands : List Command) (missed : ℕ) (now : Server)
       → ServesOver server (earlier ++ next ∷ later) frames commands missed now
       → ServerComesTo server earlier next commands

@@ -1,5 +1,5 @@
 -- How a server's node goes on: what it hears and says, octet by octet and turn by turn.
-use Rattle.std.specs.Prelude.{◌≡◌, ◌≢◌, ℕ, List, [], ◌++◌, Bool, false, Result, Ok, Err, IsErrOf, MatchResult}
+use Rattle.std.specs.Prelude.{◌≡◌, ◌≢◌, ℕ, List, [], ◌++◌, false, Result, Ok, Err, IsErrOf, MatchResult}
 use Rattle.std.specs.Prelude.{OnErr, OnOk, Option, ⊤}
 use Rattle.px_base.specs.Octets.{IsFront, IsOctets}
 use Rattle.px_base.specs.Outside.{Gains, Grows}
@@ -67,12 +67,12 @@ pub record Settles {A : Type 0} (said : A → Option (List ℕ)) (before now : A
   pub silent : server_pending new ≡ false
 
 -- From one server to another the node takes these events: their frames are said, and the commands are done on the disk.
--- The disk's count of failed reads rose exactly where a part told of one.
+-- The disk's count of failed reads rose by at least as many as the parts told of, and not where none was told of.
 pub record RunsOn {A D : Type 0} (g : Ghosts D) (said : A → Option (List ℕ)) (before now : A) (old new : ServerState)
     (disk disk_now : D) (server : Server) (events : List NodeEvent) : Type 0 where
   pub frames : List FrameValue
   pub commands : List Command
-  pub missed : Bool
+  pub missed : ℕ
   pub next : Server
   pub serves : ServesOver server events frames commands missed next
   pub text_said : Gains (said before) (said now) (text_of frames)
@@ -88,7 +88,7 @@ pub record StopsOn {A D : Type 0} (g : Ghosts D) (said : A → Option (List ℕ)
   pub text_said : Gains (said before) (said now) text
   pub done : List Command
   pub cut : List Command
-  pub missed : Bool
+  pub missed : ℕ
   pub stops : StopsOver server events why (writes before) (writes now) text done cut missed
   pub cuts : CutsOffAmongReads g (why ≡ stop.Disk) missed old.store new.store disk disk_now done cut
 
@@ -161,7 +161,7 @@ pub record TakesTurns {A C D : Type 0} (g : Ghosts D) (air : AirGhosts A) (given
   pub text : List ℕ
   pub done : List Command
   pub cut : List Command
-  pub missed : Bool
+  pub missed : ℕ
   pub turns_heard : HearsAll (air.heard before) (air.heard now) turns
   pub moments_given : Grows (given clock) (given clock_now) moments
   pub text_said : Gains (air.said before) (air.said now) text

@@ -1,5 +1,5 @@
 -- How a packet is answered: its replies, and what is due behind them; or a stop at it.
-use Rattle.std.proofs.Common.{◌≡◌, ℕ, ◌==◌, ◌<◌, ◌≤◌, List, [], ◌∷◌, ◌++◌, Bool, true, false, ◌||◌, Option, refl, sym, ap, ap₂, ◌∙◌, subst, append-nil, append_assoc, inl, inr, arith}
+use Rattle.std.proofs.Common.{◌≡◌, ℕ, ◌+◌, ◌==◌, ◌<◌, ◌≤◌, List, [], ◌∷◌, ◌++◌, Bool, true, false, Option, refl, sym, ap, ap₂, ◌∙◌, subst, append-nil, append_assoc, inl, inr, arith}
 use Rattle.std.specs.Prelude.{Result, Ok, Err, MatchResult, IsTrue, ⊤}
 use Rattle.std.proofs.lemmas.Bool.Decides.{nat_tests}
 use Rattle.px_base.specs.CallSign.{CallSign}
@@ -24,15 +24,15 @@ use Rattle.ftl0_session.specs.Run.{Event as MetEvent, Sends, event_row}
 use Rattle.ftl0_uploads.specs.SessionState.{IsHeld, IsOnlyOut}
 use Rattle.ftl0_downloads.specs.Needs.{AreComplete, IsDueIn}
 use Rattle.ftl0_session.specs.SessionState.{IsFit, SessionState, caller_of, state_in}
-use Rattle.ftl0_session.specs.Table.{Row, State, tell_failed_read}
+use Rattle.ftl0_session.specs.Table.{Row, State, failed_reads_told}
 use Rattle.ftl0_session.specs.Taking.{TakesPacket, Working, row_over, working}
-use Rattle.ftl0_session.proofs.WorkingLemmas.{row-at, taken-among, taken-cut, taken-none}
+use Rattle.ftl0_session.proofs.WorkingLemmas.{row-at, taken-among, taken-cut, taken-none, told-append}
 use Rattle.session_node.specs.declared.stop.NodeStop.{NodeStop}
 use Rattle.session_node.specs.declared.stop.NodeStop.TheVariants as stop
 use Rattle.session_node.specs.Node.{SaysDue, SaysText, event_of}
 use Rattle.session_node.specs.Running.{RunsOn, SendsSome, StopsAt, StopsOn}
 use Rattle.session_node.specs.Stops.{CountsBy, HasAirCause, first_stop}
-use Rattle.session_node.proofs.RunLemmas.{tells-append, texts-append}
+use Rattle.session_node.proofs.RunLemmas.{texts-append}
 use Rattle.session_node.proofs.SendingLemmas.{sends-same, some-same, with-here, with-other, with_part}
 
 -- what nothing was said of stays
@@ -91,7 +91,7 @@ module _ {A D : Type 0} (g : Ghosts D) (air : AirGhosts A) (lasts : (disk : D) �
 
   -- a stop at it
   stop-at :
-      (why : NodeStop) (fails : Bool) (parts : List ℕ) (new : StoreState) (disk_n : D) (writes writes_n : ℕ) (text : List ℕ) (done cut : List Command) (missed : Bool)
+      (why : NodeStop) (fails : Bool) (parts : List ℕ) (new : StoreState) (disk_n : D) (writes writes_n : ℕ) (text : List ℕ) (done cut : List Command) (missed : ℕ)
       → read_fails (failed_reads parts) 0 ≡ false → StopsAt why (store_in store) state (met fails parts) (row fails) writes writes_n text done cut missed
       → CutsOffAmongReads g (why ≡ stop.Disk) missed store new disk disk_n done cut
       → StopsOn g caller store new lists disk disk_n state (event_of moment item) why writes writes_n text
@@ -135,14 +135,14 @@ module _ {A D : Type 0} (g : Ghosts D) (air : AirGhosts A) (lasts : (disk : D) �
       let front = Gains-front (air.said before) (air.said mid) text says.err in
       let given : Row = row takes.fails in
       let all : texts (given.replies ++ []) ≡ text = ap texts (append-nil given.replies) ∙ sym (is ∙ takes.answers.3) in
-      let missed : tell_failed_read given.replies ≡ tell_failed_read (given.replies ++ []) = ap tell_failed_read (sym (append-nil given.replies)) in
+      let missed : failed_reads_told given.replies ≡ failed_reads_told (given.replies ++ []) = ap failed_reads_told (sym (append-nil given.replies)) in
       let does = taken-among g on caller moment item before_it (working session_m store_m lists_m) disk disk_m replies healthy stands tt takes in (
         front.0,
         front.1,
-        stop-at stop.AirWrite takes.fails [] store_m disk_m (air.write_faults before) (air.write_faults mid) front.0 given.commands [] (tell_failed_read (given.replies ++ [])) refl
+        stop-at stop.AirWrite takes.fails [] store_m disk_m (air.write_faults before) (air.write_faults mid) front.0 given.commands [] (failed_reads_told (given.replies ++ [])) refl
             ([], tt, (λ none. says.some (sym all ∙ none)), (front.2.0, all ∙ front.2.1), refl, refl, refl)
-            (cuts-among-none g (stop.AirWrite ≡ stop.Disk) (tell_failed_read (given.replies ++ [])) store store_m disk disk_m given.commands (λ e. cc e) (lasts disk_m)
-            (among-same g ⊥ ⊥ (tell_failed_read given.replies) (tell_failed_read (given.replies ++ [])) store store_m disk disk_m given.commands (λ never. never) (λ never. never) missed does)),
+            (cuts-among-none g (stop.AirWrite ≡ stop.Disk) (failed_reads_told (given.replies ++ [])) store store_m disk disk_m given.commands (λ e. cc e) (lasts disk_m)
+            (among-same g ⊥ ⊥ (failed_reads_told given.replies) (failed_reads_told (given.replies ++ [])) store store_m disk disk_m given.commands (λ never. never) (λ never. never) missed does)),
       )
 
   -- the disk failed, and the reply was said, or a front of it
@@ -152,9 +152,9 @@ module _ {A D : Type 0} (g : Ghosts D) (air : AirGhosts A) (lasts : (disk : D) �
       given : Row
       given = row takes.fails
 
-      cuts : CutsOffAmongReads g (stop.Disk ≡ stop.Disk) (tell_failed_read (row takes.fails).replies) store store_m disk disk_m [] (row takes.fails).commands
+      cuts : CutsOffAmongReads g (stop.Disk ≡ stop.Disk) (failed_reads_told (row takes.fails).replies) store store_m disk disk_m [] (row takes.fails).commands
       cuts =
-          let missed : Bool = tell_failed_read (row takes.fails).replies in
+          let missed : ℕ = failed_reads_told (row takes.fails).replies in
           cuts-among-same g ⊤ (stop.Disk ≡ stop.Disk) missed missed store store_m disk disk_m [] (row takes.fails).commands (λ _. refl) (λ _. tt) refl
           (taken-cut g on caller moment item before_it (working session_m store_m lists_m) disk disk_m replies healthy stands takes)
 
@@ -162,14 +162,14 @@ module _ {A D : Type 0} (g : Ghosts D) (air : AirGhosts A) (lasts : (disk : D) �
       by (Ok done) says = (
         text,
         says.ok,
-        stop-at stop.Disk takes.fails [] store_m disk_m (air.write_faults before) (air.write_faults mid) text [] (row takes.fails).commands (tell_failed_read (row takes.fails).replies) refl
+        stop-at stop.Disk takes.fails [] store_m disk_m (air.write_faults before) (air.write_faults mid) text [] (row takes.fails).commands (failed_reads_told (row takes.fails).replies) refl
             (inl (is ∙ takes.answers.2, says.cause.same), refl, refl, refl) cuts,
       )
       by (Err down) says =
           let front = Gains-front (air.said before) (air.said mid) text says.err in (
             front.0,
             front.1,
-            stop-at stop.Disk takes.fails [] store_m disk_m (air.write_faults before) (air.write_faults mid) front.0 [] (row takes.fails).commands (tell_failed_read (row takes.fails).replies) refl
+            stop-at stop.Disk takes.fails [] store_m disk_m (air.write_faults before) (air.write_faults mid) front.0 [] (row takes.fails).commands (failed_reads_told (row takes.fails).replies) refl
                 (inr ((front.2.0, sym (is ∙ takes.answers.2) ∙ front.2.1), says.cause.rose), refl, refl, refl) cuts,
           )
 
@@ -178,12 +178,12 @@ module _ {A D : Type 0} (g : Ghosts D) (air : AirGhosts A) (lasts : (disk : D) �
   stop-memory text said is takes says =
       let given : Row = row takes.fails in
       let none = taken-none g on caller moment item before_it (working session_m store_m lists_m) disk disk_m replies healthy stands takes in
-      let does = subst (λ (s : StoreState). DoesAmongReads g ⊥ (tell_failed_read given.replies) store s disk disk_m []) (sym none.0) none.1 in (
+      let does = subst (λ (s : StoreState). DoesAmongReads g ⊥ (failed_reads_told given.replies) store s disk disk_m []) (sym none.0) none.1 in (
         [],
         gains-same (air.said before) (air.said mid) (ap air.said (says.none (is ∙ takes.answers.2))),
-        stop-at stop.OutOfMemory takes.fails [] store_m disk_m (air.write_faults before) (air.write_faults mid) [] [] [] (tell_failed_read given.replies) refl
+        stop-at stop.OutOfMemory takes.fails [] store_m disk_m (air.write_faults before) (air.write_faults mid) [] [] [] (failed_reads_told given.replies) refl
             (takes.answers.0, refl, refl, refl, refl)
-            (cuts-among-none g (stop.OutOfMemory ≡ stop.Disk) (tell_failed_read given.replies) store store_m disk disk_m [] (λ e. cc e) (lasts disk_m) does),
+            (cuts-among-none g (stop.OutOfMemory ≡ stop.Disk) (failed_reads_told given.replies) store store_m disk disk_m [] (λ e. cc e) (lasts disk_m) does),
       )
 
   -- A stop before anything that is due: what stopped first, taking the packet or saying its replies.
@@ -227,16 +227,16 @@ module _ {A D : Type 0} (g : Ghosts D) (air : AirGhosts A) (lasts : (disk : D) �
 
       at_store : store_in store_m ≡ after_all (store_in store) (row takes.fails).commands
       at_store =
-          among-store g (tell_failed_read (row takes.fails).replies) store store_m disk disk_m (row takes.fails).commands
+          among-store g (failed_reads_told (row takes.fails).replies) store store_m disk disk_m (row takes.fails).commands
           (taken-among g on caller moment item before_it (working session_m store_m lists_m) disk disk_m replies healthy stands tt takes)
 
-      does : DoesAmongReads g ⊥ (tell_failed_read all_said) store store_m disk disk_n (row takes.fails).commands
+      does : DoesAmongReads g ⊥ (failed_reads_told all_said) store store_m disk disk_n (row takes.fails).commands
       does =
-          let replied : Bool = tell_failed_read (row takes.fails).replies in
-          among-same g ⊥ ⊥ (replied || tell_failed_read due.sent) (tell_failed_read all_said) store store_m disk disk_n (row takes.fails).commands (λ never. never) (λ never. never)
-          (sym (tells-append (row takes.fails).replies due.sent))
-          (among-at g ⊥ (replied || tell_failed_read due.sent) store store_m disk disk_n ((row takes.fails).commands ++ []) (row takes.fails).commands (append-nil (row takes.fails).commands)
-          (among-then g on ⊥ ⊥ replied (tell_failed_read due.sent) store store_m store_m disk disk_m disk_n (row takes.fails).commands [] (λ never. never)
+          let replied : ℕ = failed_reads_told (row takes.fails).replies in
+          among-same g ⊥ ⊥ (replied + failed_reads_told due.sent) (failed_reads_told all_said) store store_m disk disk_n (row takes.fails).commands (λ never. never) (λ never. never)
+          (sym (told-append (row takes.fails).replies due.sent))
+          (among-at g ⊥ (replied + failed_reads_told due.sent) store store_m disk disk_n ((row takes.fails).commands ++ []) (row takes.fails).commands (append-nil (row takes.fails).commands)
+          (among-then g on ⊥ ⊥ replied (failed_reads_told due.sent) store store_m store_m disk disk_m disk_n (row takes.fails).commands [] (λ never. never)
           (taken-among g on caller moment item before_it (working session_m store_m lists_m) disk disk_m replies healthy stands tt takes) due.reads))
 
       -- the text of both
@@ -297,7 +297,7 @@ module _ {A D : Type 0} (g : Ghosts D) (air : AirGhosts A) (lasts : (disk : D) �
         (later-met takes.fails due.parts) sends in
         let P : NodeStop → Type 0 =
         λ w. StopsOn g caller store store_m lists disk disk_n state (event_of moment item) w (air.write_faults before) (air.write_faults now) (text ++ due.text) in
-        let missed : Bool = tell_failed_read ((row takes.fails).replies ++ due.sent) in
+        let missed : ℕ = failed_reads_told ((row takes.fails).replies ++ due.sent) in
         subst P (sym due.ends.0)
         (stop-at stop.AirWrite takes.fails due.parts store_m disk_n (air.write_faults before) (air.write_faults now) (text ++ due.text) (row takes.fails).commands [] missed due.none_yet (
           due.sent,

@@ -16,7 +16,7 @@ use Rattle.ftl0_uploads.specs.Events.{Brings, Event}
 use Rattle.ftl0_uploads.specs.Failures.{failed_reads, read_fails}
 use Rattle.ftl0_downloads.specs.Needs.{IsDueIn}
 use Rattle.ftl0_session.specs.SessionState.{SessionState, state_in}
-use Rattle.ftl0_session.specs.Table.{command, tell_failed_read}
+use Rattle.ftl0_session.specs.Table.{command, failed_reads_told}
 use Rattle.session_node.specs.declared.terms.SessionTerms.{SessionTerms}
 use Rattle.session_node.specs.Node.{GoesOn}
 use Rattle.session_node.specs.Running.{RunsOn}
@@ -40,7 +40,7 @@ pub record IsSaying {A D : Type 0} (g : Ghosts D) (air : AirGhosts A) (files : S
   pub none_later : (number : ℕ) → 1 + length sent ≤ number → read_fails (failed_reads parts) number ≡ false
   pub text_said : Gains (air.said old) (air.said now) (texts sent)
   pub sends : SendsTo (store_in files) (state_in files session) (failed_reads parts) 1 sent (state_in files_now session_now)
-  pub does : DoesAmongReads g ⊥ (tell_failed_read sent) files files disk disk_now []
+  pub does : DoesAmongReads g ⊥ (failed_reads_told sent) files files disk disk_now []
 
 -- the loop over octets that were heard: from old to now
 pub record IsHearing {A D : Type 0} (g : Ghosts D) (air : AirGhosts A) (moment : ℕ) (old : A) (disk : D) (server : ServerState) (octets : List ℕ)

@@ -1,5 +1,5 @@
 -- How the loop over turns goes on, and how it ends.
-use Rattle.std.proofs.Common.{◌≡◌, ℕ, ◌+◌, ◌<◌, max, Bool, false, ◌||◌, List, [], ◌∷◌, ◌++◌, length, refl, ap, sym, subst, ◌∙◌, inl, inr, length-append, arith}
+use Rattle.std.proofs.Common.{◌≡◌, ℕ, ◌+◌, ◌<◌, max, Bool, false, List, [], ◌∷◌, ◌++◌, length, refl, ap, sym, subst, ◌∙◌, inl, inr, length-append, arith}
 use Rattle.std.specs.List.{AllByRecursion}
 use Rattle.std.specs.Prelude.{Option, Result, Ok, Err, IsErrOf, IsSome, ⊤}
 use Rattle.px_base.specs.CallSign.{CallSign}
@@ -24,7 +24,7 @@ use Rattle.selection_lists.specs.Lists.{CallerList}
 use Rattle.file_store.specs.State.{StoreState, store_in}
 use Rattle.file_store.specs.Working.{CutsOffAmongReads}
 use Rattle.ftl0_uploads.specs.Events.{Brings, Event, at_moment}
-use Rattle.ftl0_session.specs.Table.{State, command, tell_failed_read}
+use Rattle.ftl0_session.specs.Table.{State, command, failed_reads_told}
 use Rattle.session_node.specs.declared.stop.NodeStop.{NodeStop}
 use Rattle.session_node.specs.declared.stop.NodeStop.TheVariants as stop
 use Rattle.session_node.specs.declared.terms.Served.{Served}
@@ -80,7 +80,7 @@ module _ {A C D : Type 0} (g : Ghosts D) (air : AirGhosts A) (given : C → Opti
 
   -- all that was heard was taken
   all-taken : (old_store new : StoreState) (lists : List CallerList) (d e : D) (next : State) (events : List Event) (text : List ℕ) (runs : RunsOn g terms.caller old_store new [] lists d e command next events text)
-      → TakesAll terms.caller (store_in old_store) events text runs.commands [] (tell_failed_read runs.said)
+      → TakesAll terms.caller (store_in old_store) events text runs.commands [] (failed_reads_told runs.said)
   all-taken old_store new lists d e next events text runs = record {
     met = runs.met;
     heard = runs.heard;
@@ -134,7 +134,7 @@ module _ {A C D : Type 0} (g : Ghosts D) (air : AirGhosts A) (given : C → Opti
         text = h.text;
         done = h.runs.commands;
         cut = [];
-        missed = tell_failed_read h.runs.said;
+        missed = failed_reads_told h.runs.said;
         turns_heard = h.turns_heard;
         moments_given = h.moments_given;
         text_said = h.text_said;
@@ -159,7 +159,7 @@ module _ {A C D : Type 0} (g : Ghosts D) (air : AirGhosts A) (given : C → Opti
               });
             };
         cuts =
-            cuts-among-none g (no_disk (Err stop.Spent)) (tell_failed_read h.runs.said) start server.store disk disk_n h.runs.commands (λ (e : no_disk (Err stop.Spent)). cc e) (lasts disk_n) h.runs.does;
+            cuts-among-none g (no_disk (Err stop.Spent)) (failed_reads_told h.runs.said) start server.store disk disk_n h.runs.commands (λ (e : no_disk (Err stop.Spent)). cc e) (lasts disk_n) h.runs.does;
       }
 
   module _ (law : IsReadAsStream) (mid : A) (clock_m : C) (disk_m : D) (server_m : ServerState) (count : ℕ) (h : Listening mid clock_m disk_m server_m count) (clock_n : C) (moment : ℕ)
@@ -183,7 +183,7 @@ module _ {A C D : Type 0} (g : Ghosts D) (air : AirGhosts A) (given : C → Opti
 
       -- what was heard, given and said, where the session ended so in this turn
       turn-ended :
-          (packets : List Item) (rest : List ℕ) (ended : Result Served NodeStop) (done cut : List Command) (missed : Bool) → Stream (server_m.octets ++ octets_of_turn taken.next) packets rest
+          (packets : List Item) (rest : List ℕ) (ended : Result Served NodeStop) (done cut : List Command) (missed : ℕ) → Stream (server_m.octets ++ octets_of_turn taken.next) packets rest
           → count < terms.polls → TurnsBy ended terms.polls turns_n
           → EndsOver ended h.events caller (store_in start) (h.events ++ at_moment moment packets) (air.write_faults old) (air.write_faults now) text_n done cut missed
           → CutsOffAmongReads g (IsErrOf ended stop.Disk) missed start server_n.store disk disk_n done cut → Listened now clock_n disk_n server_n.store ended
@@ -264,13 +264,13 @@ module _ {A C D : Type 0} (g : Ghosts D) (air : AirGhosts A) (given : C → Opti
 
         -- the turns end with that
         listening-last : (ended : Result Served NodeStop) → ¬ IsErrOf ended stop.Disk → count < terms.polls → TurnsBy ended terms.polls turns_n
-            → (TakesAll caller (store_in start) (h.events ++ at_moment moment serves.packets) text_n runs_n.commands [] (tell_failed_read runs_n.said)
-            → EndsOver ended h.events caller (store_in start) (h.events ++ at_moment moment serves.packets) (air.write_faults old) (air.write_faults now) text_n runs_n.commands [] (tell_failed_read runs_n.said))
+            → (TakesAll caller (store_in start) (h.events ++ at_moment moment serves.packets) text_n runs_n.commands [] (failed_reads_told runs_n.said)
+            → EndsOver ended h.events caller (store_in start) (h.events ++ at_moment moment serves.packets) (air.write_faults old) (air.write_faults now) text_n runs_n.commands [] (failed_reads_told runs_n.said))
             → Listened now clock_n disk_n server_n.store ended
         listening-last ended fine below ends over =
-            turn-ended serves.packets serves.rest ended runs_n.commands [] (tell_failed_read runs_n.said) serves.stream below ends
+            turn-ended serves.packets serves.rest ended runs_n.commands [] (failed_reads_told runs_n.said) serves.stream below ends
             (over (all-taken start server_n.store server_n.lists disk disk_n server_n.state (h.events ++ at_moment moment serves.packets) text_n runs_n))
-            (cuts-among-none g (no_disk ended) (tell_failed_read runs_n.said) start server_n.store disk disk_n runs_n.commands fine (lasts disk_n) runs_n.does)
+            (cuts-among-none g (no_disk ended) (failed_reads_told runs_n.said) start server_n.store disk disk_n runs_n.commands fine (lasts disk_n) runs_n.does)
 
         -- the end of the air was read
         listening-ends : count < terms.polls → taken.next ≡ turn.End → Listened now clock_n disk_n server_n.store (Ok (record { turns = count + 1 }))
@@ -286,7 +286,7 @@ module _ {A C D : Type 0} (g : Ghosts D) (air : AirGhosts A) (given : C → Opti
       -- the session stopped in an open turn
       listening-stopped :
           (why : NodeStop) → count < terms.polls → IsOpen taken.next → (AllByRecursion IsOpen turns_n → TurnsBy (Err why) terms.polls turns_n)
-          → ((events : List Event) (done cut : List Command) (missed : Bool)
+          → ((events : List Event) (done cut : List Command) (missed : ℕ)
           → StopsBehind h.events caller (store_in start) [] command events why (air.write_faults old) (air.write_faults now) text_n done cut missed
           → EndsOver (Err why) h.events caller (store_in start) events (air.write_faults old) (air.write_faults now) text_n done cut missed)
           → Served_so (Err why) → Listened now clock_n disk_n server_n.store (Err why)
@@ -295,7 +295,7 @@ module _ {A C D : Type 0} (g : Ghosts D) (air : AirGhosts A) (given : C → Opti
           let at_caller : CallSign → Type 0 = λ call. StopsOn g call server_m.store server_n.store server_m.lists disk_m disk_n server_m.state brought why (air.write_faults mid) (air.write_faults now) taken.text in
           let at_writes : ℕ → Type 0 = λ writes. StopsOn g caller server_m.store server_n.store server_m.lists disk_m disk_n server_m.state brought why writes (air.write_faults now) taken.text in
           let stops = subst at_writes h.same_writes (subst at_caller h.caller serves.ends) in
-          let missed : Bool = tell_failed_read h.runs.said || stops.missed in
+          let missed : ℕ = failed_reads_told h.runs.said + stops.missed in
           turn-ended serves.packets serves.rest (Err why) (h.runs.commands ++ stops.done) stops.cut missed serves.stream below
           (turns (open_append h.turns taken.next h.all_open is_open))
           (over (h.events ++ brought) (h.runs.commands ++ stops.done) stops.cut missed
@@ -351,7 +351,7 @@ greeting-failed g air given lasts start disk old now clock terms first down law 
       text = front.0;
       done = [];
       cut = [];
-      missed = false;
+      missed = 0;
       turns_heard = subst at_heard (sym same_heard) (Grows-none (air.heard old));
       moments_given = moments_none terms.moment (given clock);
       text_said = front.1;
@@ -367,7 +367,7 @@ greeting-failed g air given lasts start disk old now clock terms first down law 
             said = inl (record { why = refl; no_turn = refl; front = front.2; none_done = refl; none_cut = refl; none_missed = refl });
           };
       cuts =
-          cuts-among-none g (no_disk (Err stop.AirWrite)) false start start disk disk [] (λ (e : no_disk (Err stop.AirWrite)). cc e) (lasts disk)
+          cuts-among-none g (no_disk (Err stop.AirWrite)) 0 start start disk disk [] (λ (e : no_disk (Err stop.AirWrite)). cc e) (lasts disk)
           (does-among g ⊥ start start disk disk [] (Does-none g ⊥ start disk (λ never. never) up.stands_on up.healthy (lasts disk)));
     }
 

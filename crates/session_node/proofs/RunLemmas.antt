@@ -1,8 +1,7 @@
 -- How a session goes on over events, and how it stops.
-use Rattle.std.proofs.Common.{◌≡◌, ℕ, List, [], ◌∷◌, ◌++◌, map, Bool, ◌||◌, refl, ap, ap₂, sym, ◌∙◌, subst, append_assoc, append-nil}
-use Rattle.std.proofs.Math.Bool.{or_assoc}
+use Rattle.std.proofs.Common.{◌≡◌, ℕ, List, [], ◌∷◌, ◌+◌, ◌++◌, map, refl, ap, ap₂, sym, ◌∙◌, subst, append_assoc, append-nil}
+use Rattle.std.proofs.Math.Nat.{add_assoc}
 use Rattle.std.proofs.lemmas.List.{map-append}
-use Rattle.std.proofs.lemmas.List.Folds.{list_any-append}
 use Rattle.px_base.specs.CallSign.{CallSign}
 use Rattle.disk_model.specs.declared.disk.Disk.{Ghosts}
 use Rattle.ftl0_packets.specs.Items.{texts}
@@ -15,7 +14,8 @@ use Rattle.file_store.specs.Working.{CutsOffAmongReads}
 use Rattle.file_store.proofs.WorkingLemmas.{among-same, among-then, cuts-among-then}
 use Rattle.ftl0_uploads.specs.Events.{Event, at_moment}
 use Rattle.ftl0_session.specs.Run.{Event as MetEvent, RunsOver, event_row, heard_of}
-use Rattle.ftl0_session.specs.Table.{Row, State, tell_failed_read, tells_failed_read}
+use Rattle.ftl0_session.specs.Table.{Row, State, failed_reads_told}
+use Rattle.ftl0_session.proofs.WorkingLemmas.{told-append}
 use Rattle.session_node.specs.declared.stop.NodeStop.{NodeStop}
 use Rattle.session_node.specs.declared.stop.NodeStop.TheVariants as stop
 use Rattle.session_node.specs.Laws.{ComesTo}
@@ -25,10 +25,6 @@ use Rattle.session_node.specs.Running.{RunsOn, StopsBehind, StopsOn, StopsOver}
 pub texts-append : (xs ys : List PacketValue) → texts (xs ++ ys) ≡ texts xs ++ texts ys
 texts-append [] ys = refl
 texts-append (x ∷ xs) ys = ap (λ text. packet_text x ++ text) (texts-append xs ys) ∙ sym (append_assoc (packet_text x) (texts xs) (texts ys))
-
--- packets joined tell of a read that failed where any of them do
-pub tells-append : (xs ys : List PacketValue) → tell_failed_read (xs ++ ys) ≡ (tell_failed_read xs || tell_failed_read ys)
-tells-append xs ys = list_any-append tells_failed_read xs ys
 
 -- packets joined, all at one moment
 pub at_moment-append : (moment : ℕ) (xs ys : List Item) → at_moment moment (xs ++ ys) ≡ at_moment moment xs ++ at_moment moment ys
@@ -89,9 +85,9 @@ module _ (caller : CallSign) where
   -- events, and a stop at one of others, behind them
   pub stops_after :
       (store : Store) (lists : List CallerList) (state : State) (met : List MetEvent) (said : List PacketValue) (commands : List Command) (mid : Store) (lists_m : List CallerList) (between : State)
-      (others : List Event) (why : NodeStop) (writes writes_n : ℕ) (more : List ℕ) (done cut : List Command) (missed : Bool)
+      (others : List Event) (why : NodeStop) (writes writes_n : ℕ) (more : List ℕ) (done cut : List Command) (missed : ℕ)
       → RunsOver caller store lists state met said commands mid lists_m between → StopsOver caller mid lists_m between others why writes writes_n more done cut missed
-      → StopsBehind (map heard_of met) caller store lists state (map heard_of met ++ others) why writes writes_n (texts said ++ more) (commands ++ done) cut (tell_failed_read said || missed)
+      → StopsBehind (map heard_of met) caller store lists state (map heard_of met ++ others) why writes writes_n (texts said ++ more) (commands ++ done) cut (failed_reads_told said + missed)
   stops_after store lists state met said commands mid lists_m between others why writes writes_n more done cut missed h k =
       let both : map heard_of (met ++ k.before) ≡ map heard_of met ++ map heard_of k.before = map-append heard_of met k.before in
       record {
@@ -116,8 +112,8 @@ module _ (caller : CallSign) where
               text_is = ap (λ t. texts said ++ t) k.text_is ∙ sym (append_assoc (texts said) (texts k.said) k.last) ∙ ap (λ t. t ++ k.last) (sym (texts-append said k.said));
               done_is = ap (λ c. commands ++ c) k.done_is ∙ sym (append_assoc commands k.commands k.more);
               missed_is =
-                  ap (λ b. tell_failed_read said || b) k.missed_is ∙ sym (or_assoc (tell_failed_read said) (tell_failed_read k.said) k.last_missed)
-                  ∙ ap (λ b. b || k.last_missed) (sym (tells-append said k.said));
+                  ap (λ n. failed_reads_told said + n) k.missed_is ∙ sym (add_assoc (failed_reads_told said) (failed_reads_told k.said) k.last_missed)
+                  ∙ ap (λ n. n + k.last_missed) (sym (told-append said k.said));
             };
         between = map heard_of k.before;
         in_order = both;
@@ -169,32 +165,32 @@ module _ {D : Type 0} (g : Ghosts D) (on : (first second third : D) → g.lasts 
     commands = h.commands ++ k.commands;
     runs = runs-trans caller (store_in a) l state h.met h.said h.commands (store_in b) m between k.met k.said k.commands (store_in c) n next h.runs k.runs;
     does =
-        among-same g ⊥ ⊥ (tell_failed_read h.said || tell_failed_read k.said) (tell_failed_read (h.said ++ k.said)) a c d f (h.commands ++ k.commands) (λ never. never) (λ never. never)
-        (sym (tells-append h.said k.said))
-        (among-then g on ⊥ ⊥ (tell_failed_read h.said) (tell_failed_read k.said) a b c d e f h.commands k.commands (λ never. never) h.does k.does);
+        among-same g ⊥ ⊥ (failed_reads_told h.said + failed_reads_told k.said) (failed_reads_told (h.said ++ k.said)) a c d f (h.commands ++ k.commands) (λ never. never) (λ never. never)
+        (sym (told-append h.said k.said))
+        (among-then g on ⊥ ⊥ (failed_reads_told h.said) (failed_reads_told k.said) a b c d e f h.commands k.commands (λ never. never) h.does k.does);
   }
 
   module _ (c : StoreState) (f : D) (others : List Event) (why : NodeStop) (writes writes_n : ℕ) (more : List ℕ) (k : StopsOn g caller b c m e f between others why writes writes_n more) where
     -- events that were taken, and a stop at one of others
     pub stops_behind :
-        StopsBehind events caller (store_in a) l state (events ++ others) why writes writes_n (text ++ more) (h.commands ++ k.done) k.cut (tell_failed_read h.said || k.missed)
+        StopsBehind events caller (store_in a) l state (events ++ others) why writes writes_n (text ++ more) (h.commands ++ k.done) k.cut (failed_reads_told h.said + k.missed)
     stops_behind =
         let at_text : List ℕ → Type 0 =
-        λ t. StopsBehind events caller (store_in a) l state (events ++ others) why writes writes_n (t ++ more) (h.commands ++ k.done) k.cut (tell_failed_read h.said || k.missed) in
+        λ t. StopsBehind events caller (store_in a) l state (events ++ others) why writes writes_n (t ++ more) (h.commands ++ k.done) k.cut (failed_reads_told h.said + k.missed) in
         let at_events : List Event → Type 0 =
-        λ es. StopsBehind es caller (store_in a) l state (es ++ others) why writes writes_n (texts h.said ++ more) (h.commands ++ k.done) k.cut (tell_failed_read h.said || k.missed) in
+        λ es. StopsBehind es caller (store_in a) l state (es ++ others) why writes writes_n (texts h.said ++ more) (h.commands ++ k.done) k.cut (failed_reads_told h.said + k.missed) in
         subst at_text (sym h.text_is)
         (subst at_events h.heard
         (stops_after caller (store_in a) l state h.met h.said h.commands (store_in b) m between others why writes writes_n more k.done k.cut k.missed h.runs k.stops))
 
-    pub cuts_behind : CutsOffAmongReads g (why ≡ stop.Disk) (tell_failed_read h.said || k.missed) a c d f (h.commands ++ k.done) k.cut
-    cuts_behind = cuts-among-then g on (why ≡ stop.Disk) (tell_failed_read h.said) k.missed a b c d e f h.commands k.done k.cut h.does k.cuts
+    pub cuts_behind : CutsOffAmongReads g (why ≡ stop.Disk) (failed_reads_told h.said + k.missed) a c d f (h.commands ++ k.done) k.cut
+    cuts_behind = cuts-among-then g on (why ≡ stop.Disk) (failed_reads_told h.said) k.missed a b c d e f h.commands k.done k.cut h.does k.cuts
 
     pub stops_on-after : StopsOn g caller a c l d f state (events ++ others) why writes writes_n (text ++ more)
     stops_on-after = record {
       done = h.commands ++ k.done;
       cut = k.cut;
-      missed = tell_failed_read h.said || k.missed;
+      missed = failed_reads_told h.said + k.missed;
       stops = stops_behind.stops;
       cuts = cuts_behind;
     }

@@ -1,7 +1,7 @@
 -- The loop over what is due.
-use Rattle.std.proofs.Common.{◌≡◌, ℕ, suc, ◌+◌, ◌==◌, ◌<◌, ◌≤◌, List, [], ◌∷◌, ◌++◌, length, Bool, true, false, ◌||◌, None, Some, refl, sym, ap, ◌∙◌, subst, append-nil, append_assoc, length-append, arith}
+use Rattle.std.proofs.Common.{◌≡◌, ℕ, suc, ◌+◌, ◌==◌, ◌<◌, ◌≤◌, List, [], ◌∷◌, ◌++◌, length, Bool, true, false, None, Some, refl, sym, ap, ◌∙◌, subst, append-nil, append_assoc, length-append, arith}
 use Rattle.std.specs.Prelude.{Result, Ok, Err, ⊤}
-use Rattle.std.proofs.Math.Bool.{or-false}
+use Rattle.std.proofs.Math.Nat.{add-zero}
 use Rattle.std.proofs.lemmas.Bool.Decides.{nat_tests}
 use Rattle.px_base.specs.Outside.{Gains}
 use Rattle.px_base.specs.declared.air.Air.{Ghosts as AirGhosts}
@@ -12,25 +12,25 @@ use Rattle.ftl0_packets.specs.Items.{texts}
 use Rattle.ftl0_packets.specs.Layout.{PacketValue, packet_text}
 use Rattle.file_entries.specs.Command.{Command}
 use Rattle.file_store.specs.State.{StandsOn, StoreState, store_in}
-use Rattle.file_store.specs.Working.{DoesAmongReads}
+use Rattle.file_store.specs.Working.{DoesAmongReads, one_if}
 use Rattle.file_store.proofs.DoesLemmas.{Does-none}
 use Rattle.file_store.proofs.WorkingLemmas.{among-same, among-then, does-among}
 use Rattle.ftl0_uploads.specs.Failures.{failed_reads, read_fails}
 use Rattle.ftl0_downloads.specs.Needs.{IsDueIn}
 use Rattle.ftl0_session.specs.Filling.{PutsDue}
 use Rattle.ftl0_session.specs.SessionState.{SessionState, state_in}
-use Rattle.ftl0_session.specs.Table.{DuePacket, State, due_at, next_due, tell_failed_read, tells_failed_read}
-use Rattle.ftl0_session.proofs.WorkingLemmas.{Sent, due-among, due-none}
+use Rattle.ftl0_session.specs.Table.{DuePacket, State, due_at, next_due, failed_reads_told, tells_failed_read}
+use Rattle.ftl0_session.proofs.WorkingLemmas.{Sent, due-among, due-none, told-append}
 use Rattle.session_node.specs.declared.stop.NodeStop.{NodeStop}
 use Rattle.session_node.specs.declared.stop.NodeStop.TheVariants as stop
 use Rattle.session_node.specs.Node.{SaysDue, SaysText}
 use Rattle.session_node.proofs.Invariants.{IsSaying}
-use Rattle.session_node.proofs.RunLemmas.{tells-append, texts-append}
+use Rattle.session_node.proofs.RunLemmas.{texts-append}
 use Rattle.session_node.proofs.SendingLemmas.{SendsTo, left_in, smaller, to-all, to-more, to-same, to-some, with-here, with-other, with_part}
 
--- the last of some packets tells of a read that failed, or one of those before does
-tells-last : (sent : List PacketValue) (packet : PacketValue) → tell_failed_read (sent ++ packet ∷ []) ≡ (tell_failed_read sent || tells_failed_read packet)
-tells-last sent packet = tells-append sent (packet ∷ []) ∙ ap (λ (b : Bool). tell_failed_read sent || b) (or-false (tells_failed_read packet))
+-- the last of some packets tells of a read that failed, or of none, beside those before
+tells-last : (sent : List PacketValue) (packet : PacketValue) → failed_reads_told (sent ++ packet ∷ []) ≡ failed_reads_told sent + one_if (tells_failed_read packet)
+tells-last sent packet = told-append sent (packet ∷ []) ∙ ap (λ (n : ℕ). failed_reads_told sent + n) (add-zero (one_if (tells_failed_read packet)))
 
 texts-last : (sent : List PacketValue) (packet : PacketValue) → texts (sent ++ packet ∷ []) ≡ texts sent ++ packet_text packet
 texts-last sent packet = texts-append sent (packet ∷ []) ∙ ap (λ (text : List ℕ). texts sent ++ text) (append-nil (packet_text packet))
@@ -112,13 +112,13 @@ module _ {A D : Type 0} (g : Ghosts D) (air : AirGhosts A) (lasts : (disk : D) �
           subst (λ (s : State). SendsTo (store_in files) (state_in files session) (failed_reads parts_n) 1 sent_n s) (sym packet.state_is)
           (to-more (store_in files) (failed_reads parts_n) (state_in files session) 1 h.sent state_m number packet.next refl before here)
 
-      does_n : DoesAmongReads g ⊥ (tell_failed_read sent_n) files files disk disk_n []
+      does_n : DoesAmongReads g ⊥ (failed_reads_told sent_n) files files disk disk_n []
       does_n =
-          let then : DoesAmongReads g ⊥ (tells_failed_read packet.next.packet) files files disk_m disk_n [] =
-          subst (λ (s : StoreState). DoesAmongReads g ⊥ (tells_failed_read packet.next.packet) s s disk_m disk_n []) h.same_files packet.does in
-          among-same g ⊥ ⊥ (tell_failed_read h.sent || tells_failed_read packet.next.packet) (tell_failed_read sent_n) files files disk disk_n [] (λ never. never) (λ never. never)
+          let then : DoesAmongReads g ⊥ (one_if (tells_failed_read packet.next.packet)) files files disk_m disk_n [] =
+          subst (λ (s : StoreState). DoesAmongReads g ⊥ (one_if (tells_failed_read packet.next.packet)) s s disk_m disk_n []) h.same_files packet.does in
+          among-same g ⊥ ⊥ (failed_reads_told h.sent + one_if (tells_failed_read packet.next.packet)) (failed_reads_told sent_n) files files disk disk_n [] (λ never. never) (λ never. never)
           (sym (tells-last h.sent packet.next.packet))
-          (among-then g on ⊥ ⊥ (tell_failed_read h.sent) (tells_failed_read packet.next.packet) files files files disk disk_m disk_n [] [] (λ never. never) h.does then)
+          (among-then g on ⊥ ⊥ (failed_reads_told h.sent) (one_if (tells_failed_read packet.next.packet)) files files files disk disk_m disk_n [] [] (λ never. never) h.does then)
 
       none_yet_n : read_fails (failed_reads parts_n) 0 ≡ false
       none_yet_n = with-other puts.fails number h.parts 0 (number-other 0 (omega arith)) ∙ h.none_yet
@@ -192,5 +192,5 @@ module _ {A D : Type 0} (g : Ghosts D) (air : AirGhosts A) (lasts : (disk : D) �
             to-all (store_in files) (failed_reads h.parts) (state_in files session) 1 h.sent state_n ends
                 (subst (λ (s : State). SendsTo (store_in files) (state_in files session) (failed_reads h.parts) 1 h.sent s) (sym none.2) h.sends),
           );
-          reads = subst (λ (d : D). DoesAmongReads g ⊥ (tell_failed_read h.sent) files files disk d []) (sym none.1) h.does;
+          reads = subst (λ (d : D). DoesAmongReads g ⊥ (failed_reads_told h.sent) files files disk d []) (sym none.1) h.does;
         }

@@ -17,7 +17,7 @@ use Rattle.file_entries.specs.Store.{Store, empty_store}
 use Rattle.file_store.specs.OnDisk.{MakesFirst}
 use Rattle.file_store.specs.Recovery.{StandsAlike}
 use Rattle.file_store.specs.State.{StandsFor, StoreState, standing_of, store_in}
-use Rattle.file_store.specs.Working.{CutsOffAmongReads, DoesAmongReads, PutsAmongReads}
+use Rattle.file_store.specs.Working.{CountsSome, CutsOffAmongReads, DoesAmongReads, PutsAmongReads}
 use Rattle.file_store.proofs.DoesLemmas.{makes-second, stay-on}
 use Rattle.file_store.proofs.WorkingLemmas.{among-store, cuts-among-all}
 use Rattle.session_node.specs.OnDisk.{EachImage, NodeRuns, StandsThrough}
@@ -87,7 +87,7 @@ makes_none start commands image h = (0, omega arith, omega arith, h)
 -- ---- from the recovery on
 
 module _ {D : Type 0} (g : Ghosts D) (on : (first second third : D) → g.lasts first second → g.lasts second third → g.lasts first third) (failed : Type 0) (blocks : ℕ) (old mid now : D)
-    (start new : StoreState) (done cut : List Command) (missed : Bool) (alike : TellsAlike (g.content old) (g.content mid))
+    (start new : StoreState) (done cut : List Command) (missed : ℕ) (alike : TellsAlike (g.content old) (g.content mid))
     (stood : IfSome (g.content old) (λ before. standing_of blocks before ≡ state (store_in start)))
     (since_start : Leaves g old mid (StandsAlike blocks)) (since_sync : IfSome (g.content old) (λ before. IsSyncedFirst g old mid (StandsAlike blocks before)))
     (cuts : CutsOffAmongReads g failed missed start new mid now done cut) where
@@ -184,9 +184,9 @@ module _ {D : Type 0} (g : Ghosts D) (on : (first second third : D) → g.lasts 
         lasts = on old mid now first.lasts second.lasts;
       }
 
-  -- and only a read that failed is told of
-  pub session_reads : (P : Type 0) → ¬ P → Runs g P old mid → CountsFault (g.read_faults old) (g.read_faults now) (missed ≡ true)
-  session_reads P never first = subst (λ (n : ℕ). CountsFault n (g.read_faults now) (missed ≡ true)) (first.faults.same never).0 all_does.reads
+  -- and no more reads that failed are told of than were counted
+  pub session_reads : (P : Type 0) → ¬ P → Runs g P old mid → CountsSome (g.read_faults old) (g.read_faults now) missed
+  session_reads P never first = subst (λ (n : ℕ). CountsSome n (g.read_faults now) missed) (first.faults.same never).0 all_does.reads
 
 -- what a session does to its disk, by its writes and syncs
 pub node_runs : {D : Type 0} (g : Ghosts D) (failed : Type 0) (old now : D) → PutsAmongReads g failed old now → NodeRuns g failed old now

@@ -19,7 +19,7 @@ use Rattle.file_store.specs.Working.{DoesAmongReads}
 use Rattle.ftl0_uploads.specs.Events.{Event, at_moment}
 use Rattle.ftl0_uploads.specs.Failures.{failed_reads, read_fails}
 use Rattle.ftl0_session.specs.Run.{Sends}
-use Rattle.ftl0_session.specs.Table.{State, tell_failed_read}
+use Rattle.ftl0_session.specs.Table.{State, failed_reads_told}
 use Rattle.ftl0_session.specs.Taking.{Working}
 use Rattle.session_node.specs.declared.stop.NodeStop.{NodeStop}
 use Rattle.session_node.specs.declared.stop.NodeStop.TheVariants as stop
@@ -51,7 +51,7 @@ pub record SaysDue {A D : Type 0} (g : Ghosts D) (said : A → Option (List ℕ)
       (λ _. (text ≡ texts sent) × Sends (store_in store) state (failed_reads parts) 1 sent next)
       (λ why. (why ≡ stop.AirWrite) × (texts sent ≢ []) × IsFront text (texts sent)
       × SendsSome (store_in store) state (failed_reads parts) 1 sent)
-  pub reads : DoesAmongReads g ⊥ (tell_failed_read sent) store store disk disk_now []
+  pub reads : DoesAmongReads g ⊥ (failed_reads_told sent) store store disk disk_now []
 
 -- the one event of a packet
 abbrev pub event_of : ℕ → Item → List Event

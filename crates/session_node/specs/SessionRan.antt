@@ -1,5 +1,5 @@
 -- What a session says over its turns, what it does to its disk, and why it ends.
-use Rattle.std.specs.Prelude.{◌≡◌, ◌⊎◌, ℕ, ◌≤◌, max, List, [], ◌∷◌, ◌++◌, length, map, slice_index, Bool, true, false}
+use Rattle.std.specs.Prelude.{◌≡◌, ◌⊎◌, ℕ, ◌≤◌, max, List, [], ◌∷◌, ◌++◌, length, map, slice_index, false}
 use Rattle.std.specs.Prelude.{Option, IfSome, Result, Ok, Err, IsErrOf}
 use Rattle.std.specs.List.{AllByRecursion}
 use Rattle.px_base.specs.CallSign.{CallSign}
@@ -11,7 +11,7 @@ use Rattle.px_base.specs.declared.air.Turn.{Turn}
 use Rattle.px_base.specs.declared.air.Turn.TheVariants as turn
 use Rattle.px_base.specs.declared.air.Air.{Ghosts as AirGhosts}
 use Rattle.disk_model.specs.declared.disk.Disk.{Ghosts}
-use Rattle.file_journal.specs.Calls.{Becomes, ChangesReads, CountsFault, Runs, TakesStep}
+use Rattle.file_journal.specs.Calls.{Becomes, ChangesReads, Runs, TakesStep}
 use Rattle.file_journal.specs.Journal.{after_recovery}
 use Rattle.file_journal.specs.Walk.{state}
 use Rattle.ftl0_packets.specs.Items.{texts}
@@ -23,11 +23,11 @@ use Rattle.file_entries.specs.IsStore.{IsStore}
 use Rattle.file_entries.specs.Records.{store_magic}
 use Rattle.file_entries.specs.Store.{Store}
 use Rattle.file_store.specs.State.{StoreState, standing_of, store_in}
-use Rattle.file_store.specs.Working.{CutsOffAmongReads, PutsAmongReads}
+use Rattle.file_store.specs.Working.{CountsSome, CutsOffAmongReads, PutsAmongReads}
 use Rattle.file_store.specs.declared.refusals.StoreFault.{StoreFault}
 use Rattle.ftl0_uploads.specs.Events.{Brings, Event, packets_in}
 use Rattle.ftl0_session.specs.Run.{Event as MetEvent, RunsOver, heard_of}
-use Rattle.ftl0_session.specs.Table.{State, command, greeting, tell_failed_read}
+use Rattle.ftl0_session.specs.Table.{State, command, greeting, failed_reads_told}
 use Rattle.session_node.specs.declared.stop.NodeStop.{NodeStop}
 use Rattle.session_node.specs.declared.stop.NodeStop.TheVariants as stop
 use Rattle.session_node.specs.declared.terms.Served.{Served}
@@ -48,9 +48,9 @@ TurnsBy (Err (stop.NotAStore found)) polls turns = ⊥
 TurnsBy (Err (stop.Damaged at)) polls turns = ⊥
 
 -- All events were taken, at some of which reads failed, or at none: all that the table gives was said, and all commands
--- done. Whether a read failed is what was said of it.
+-- done. As many reads failed as what was said tells of.
 pub record TakesAll (caller : CallSign) (start : Store) (events : List Event) (replies : List ℕ)
-    (done cut : List Command) (missed : Bool) : Type 0 where
+    (done cut : List Command) (missed : ℕ) : Type 0 where
   pub met : List MetEvent
   pub heard : map heard_of met ≡ events
   pub said : List PacketValue
@@ -60,14 +60,14 @@ pub record TakesAll (caller : CallSign) (start : Store) (events : List Event) (r
   pub next : State
   pub runs : RunsOver caller start [] command met said done now lists_now next
   pub none_cut : cut ≡ []
-  pub missed_is : missed ≡ tell_failed_read said
+  pub missed_is : missed ≡ failed_reads_told said
 
--- What was said to these events, which commands were done, and whether a read failed, by how the session ended: all of
+-- What was said to these events, which commands were done, and how many reads failed, by how the session ended: all of
 -- them were taken where the end of the air was read, a poll failed, or as many polls were made as may be; else those up
 -- to a stop behind the least of them.
 abbrev pub EndsOver :
     Result Served NodeStop → List Event → CallSign → Store → List Event → ℕ → ℕ → List ℕ → List Command → List Command
-    → Bool → Type 0
+    → ℕ → Type 0
 EndsOver (Ok served) least caller start events writes writes_now replies done cut missed =
     TakesAll caller start events replies done cut missed
 EndsOver (Err stop.AirRead) least caller start events writes writes_now replies done cut missed =
@@ -88,14 +88,14 @@ abbrev pub login_text : ℕ → List ℕ
 login_text first = packet_text (greeting first false)
 
 -- LOGIN_RESP couldn't be said whole: a front of it was said, nothing was heard, and nothing done.
-pub record IsUngreeted (first : ℕ) (turns : List Turn) (text : List ℕ) (done cut : List Command) (missed : Bool)
+pub record IsUngreeted (first : ℕ) (turns : List Turn) (text : List ℕ) (done cut : List Command) (missed : ℕ)
     (result : Result Served NodeStop) : Type 0 where
   pub why : IsErrOf result stop.AirWrite
   pub no_turn : turns ≡ []
   pub front : IsFront text (login_text first)
   pub none_done : done ≡ []
   pub none_cut : cut ≡ []
-  pub none_missed : missed ≡ false
+  pub none_missed : missed ≡ 0
 
 -- all turns but the last, if there is one
 abbrev pub IsButLast : List Turn → List Turn → Type 0
@@ -104,7 +104,7 @@ IsButLast turns earlier = ((turns ≡ []) × (earlier ≡ [])) ⊎ ((last : Turn
 -- LOGIN_RESP was said, with the first of the moments, and then these replies to these events. Nothing was heard after
 -- what ended the session: a stop is at an event that only the last turn brings, behind all those that the others bring.
 pub record IsGreeted (caller : CallSign) (moments : List ℕ) (start : Store) (turns : List Turn) (events : List Event)
-    (writes writes_now : ℕ) (text : List ℕ) (done cut : List Command) (missed : Bool) (result : Result Served NodeStop)
+    (writes writes_now : ℕ) (text : List ℕ) (done cut : List Command) (missed : ℕ) (result : Result Served NodeStop)
     : Type 0 where
   pub replies : List ℕ
   pub text_is : text ≡ login_text (slice_index moments 0) ++ replies
@@ -116,9 +116,9 @@ pub record IsGreeted (caller : CallSign) (moments : List ℕ) (start : Store) (t
   pub ends_over : EndsOver result least caller start events writes writes_now replies done cut missed
 
 -- A session over these turns at these moments, from this store and no lists on, said this text, did these commands, met
--- a read that failed or none, and ended so.
+-- so many reads that failed, and ended so.
 pub record SessionRan (caller : CallSign) (moments : List ℕ) (start : Store) (polls : ℕ) (turns : List Turn)
-    (writes writes_now : ℕ) (text : List ℕ) (done cut : List Command) (missed : Bool) (result : Result Served NodeStop)
+    (writes writes_now : ℕ) (text : List ℕ) (done cut : List Command) (missed : ℕ) (result : Result Served NodeStop)
     : Type 0 where
   -- one moment for each turn; one for LOGIN_RESP where there is no turn
   pub one_each : length moments ≡ max 1 (length turns)
@@ -144,7 +144,7 @@ pub record SessionOn {A C D : Type 0} (g : Ghosts D) (air : AirGhosts A) (given 
   pub text : List ℕ
   pub done : List Command
   pub cut : List Command
-  pub missed : Bool
+  pub missed : ℕ
   pub turns_heard : HearsAll (air.heard before) (air.heard now) turns
   pub moments_given : MomentsOf terms.moment (given clock) (given clock_now) later
   pub text_said : Gains (air.said before) (air.said now) text
@@ -167,7 +167,7 @@ pub record IsUnrecovered {A C D : Type 0} (g : Ghosts D) (blocks : ℕ) (disk di
 -- A session of these terms was served over the store for which the disk's content stood. Its recovery changed no octet
 -- of a formatted store, and made a formatted one of any other content; without commands that is what the disk has at the
 -- end. Only a write or a sync that failed ends it by the disk; a read that failed is told by DL_ERROR_RESP with code 3,
--- and the count of failed reads rose exactly where one was.
+-- and the count of failed reads rose by at least as many as were told, and not where none was.
 pub record SessionServed {A C D : Type 0} (g : Ghosts D) (air : AirGhosts A) (given : C → Option (List ℕ))
     (disk disk_now : D) (before now : A) (clock clock_now : C) (terms : SessionTerms)
     (result : Result Served NodeStop) : Type 0 where
@@ -181,7 +181,7 @@ pub record SessionServed {A C D : Type 0} (g : Ghosts D) (air : AirGhosts A) (gi
   pub text : List ℕ
   pub done : List Command
   pub cut : List Command
-  pub missed : Bool
+  pub missed : ℕ
   pub turns_heard : HearsAll (air.heard before) (air.heard now) turns
   pub moments_given : MomentsOf terms.moment (given clock) (given clock_now) moments
   pub text_said : Gains (air.said before) (air.said now) text
@@ -189,7 +189,7 @@ pub record SessionServed {A C D : Type 0} (g : Ghosts D) (air : AirGhosts A) (gi
       SessionRan terms.caller moments start terms.polls turns (air.write_faults before) (air.write_faults now) text done
       cut missed result
   pub puts : PutsAmongReads g (IsErrOf result stop.Disk) disk disk_now
-  pub reads : CountsFault (g.read_faults disk) (g.read_faults disk_now) (missed ≡ true)
+  pub reads : CountsSome (g.read_faults disk) (g.read_faults disk_now) missed
   pub stands : StandsThrough g (IsErrOf result stop.Disk) start done cut disk disk_now
   pub ready : stands.ready ≡ g.moment recovered
   pub none : done ++ cut ≡ [] → ChangesReads g recovered disk_now

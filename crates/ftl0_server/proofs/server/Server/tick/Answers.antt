@@ -40,7 +40,7 @@ returns-clause-happens g c = λ server is.
     let nothing : Does g.D.Disk ⊥ c.self.inside.store c.tick_all.new.store c.args._disk.now c.args._disk.now [] =
     does-none g.D.Disk c.self.inside.store c.tick_all.new.store c.args._disk.now healthy stands c.tick_all.ensures.store c.tick_all.ensures.journal
     (g.met.D.Disk.lasts_same c.args._disk.now) in
-    let does : DoesAmongReads g.D.Disk ⊥ false c.self.inside.store c.tick_all.new.store c.args._disk.now c.args._disk.now [] =
+    let does : DoesAmongReads g.D.Disk ⊥ 0 c.self.inside.store c.tick_all.new.store c.args._disk.now c.args._disk.now [] =
     does-among g.D.Disk ⊥ c.self.inside.store c.tick_all.new.store c.args._disk.now c.args._disk.now [] nothing in
     subst (λ (s : ServerState). Hears g.D.Disk (λ failures. becoming (server_ticking server)) s new c.args._disk.now c.args._disk.now (Ok tt)) c.self.view_is
     (record { parts = []; by = (refl, ticked, does); since = does.since })
