@@ -264,30 +264,9 @@ fn serve(rt: &impl Abort, alloc: Global, rows: &[Row<'_>]) -> Result<(), Fail> {
     Ok(())
 }
 
-#[test]
-fn packets_and_a_further_call(rt: HostRuntime) -> Result<(), Fail> {
-    let stations = (call(&rt, "PACSAT"), call(&rt, "NOCALL"));
-    let mut disk = MemoryDisk::new(rt.alloc(), &[], &[])?;
-    let mut store = FileStore::recover(rt.alloc(), &mut disk, LIMITS)?;
-    let mut lists = Lists::new(rt.alloc())?;
-    let mut connection = Connection::answer(
-        rt.alloc(),
-        stations.0,
-        stations.1,
-        4,
-        true,
-        1,
-        &lists,
-    )?;
-    assert_eq!(rt; connection.caller(), stations.1);
-    // UA with F = 1, and LOGIN_RESP.
-    let mut heard = ArrayVec::new();
-    give_out(&rt, &mut connection, &mut heard);
-    assert_eq!(rt; (heard.get(14), heard.len()), (Some(&0x73), 38));
-    assert!(rt; heard.ends_with(&GREETING));
-    assert_eq!(rt; connection.tick(), Fate::Stays);
-    assert!(rt; !connection.pending());
-    let rows: [Row<'_>; 6] = [
+/// An upload in three frames, a selection, a download that is given up, and an upload that is begun.
+fn packets_in_frames() -> [Row<'static>; 6] {
+    [
         // Half of UPLOAD_CMD; the other half, and a part of DATA; the rest, and DATA_END.
         (Says::Information(0, 1, &UPLOAD[..5]), 0x21, 15, &[0x21]),
         (
@@ -321,7 +300,32 @@ fn packets_and_a_further_call(rt: HostRuntime) -> Result<(), Fail> {
             41,
             &[0xCA, 0xF0, 0x08, 0x04, 2, 0, 0, 0, 0, 0, 0, 0],
         ),
-    ];
+    ]
+}
+
+#[test]
+fn packets_and_a_further_call(rt: HostRuntime) -> Result<(), Fail> {
+    let stations = (call(&rt, "PACSAT"), call(&rt, "NOCALL"));
+    let mut disk = MemoryDisk::new(rt.alloc(), &[], &[])?;
+    let mut store = FileStore::recover(rt.alloc(), &mut disk, LIMITS)?;
+    let mut lists = Lists::new(rt.alloc())?;
+    let mut connection = Connection::answer(
+        rt.alloc(),
+        stations.0,
+        stations.1,
+        4,
+        true,
+        1,
+        &lists,
+    )?;
+    assert_eq!(rt; connection.caller(), stations.1);
+    // UA with F = 1, and LOGIN_RESP.
+    let mut heard = ArrayVec::new();
+    give_out(&rt, &mut connection, &mut heard);
+    assert_eq!(rt; (heard.get(14), heard.len()), (Some(&0x73), 38));
+    assert!(rt; heard.ends_with(&GREETING));
+    assert_eq!(rt; connection.tick(), Fate::Stays);
+    assert!(rt; !connection.pending());
     play(
         &rt,
         &mut connection,
@@ -329,7 +333,7 @@ fn packets_and_a_further_call(rt: HostRuntime) -> Result<(), Fail> {
         &mut store,
         &mut lists,
         &stations,
-        &rows,
+        &packets_in_frames(),
     );
     assert!(rt; store.is_out(2));
     // A further SABM parks the upload: UA with F = 0, and a new LOGIN_RESP.
