@@ -1,6 +1,7 @@
 -- How a packet is answered: its replies, and what is due behind them; or a stop at it.
 use Rattle.std.proofs.Common.{◌≡◌, ℕ, ◌+◌, ◌==◌, ◌<◌, ◌≤◌, List, [], ◌∷◌, ◌++◌, Bool, true, false, Option, refl, sym, ap, ap₂, ◌∙◌, subst, append-nil, append_assoc, inl, inr, arith}
 use Rattle.std.specs.Prelude.{Result, Ok, Err, MatchResult, IsTrue, ⊤}
+use Rattle.std.proofs.Math.Nat.{zero-add}
 use Rattle.std.proofs.lemmas.Bool.Decides.{nat_tests}
 use Rattle.px_base.specs.CallSign.{CallSign}
 use Rattle.px_base.specs.Outside.{Gains}
@@ -118,7 +119,7 @@ module _ {A D : Type 0} (g : Ghosts D) (air : AirGhosts A) (lasts : (disk : D) �
               subst (λ (r : Row). StopsAt why (store_in store) state (met fails parts) r writes writes_n text done cut missed) (sym (row-met fails parts free)) stops;
           text_is = refl;
           done_is = refl;
-          missed_is = refl;
+          missed_is = sym (zero-add missed);
         };
     cuts = cuts;
   }

@@ -140,7 +140,7 @@ left-after store state is lies test =
 packet-smaller : (store : Store) (state : DownloadState) (fails : Bool) → is_due state ≡ true → IsDueIn store state → left_of store (due.due_packet store state fails).state < left_of store state
 packet-smaller store state fails is lies = by (length (octets_due store state) == 0) (fails && is_read state) refl
   where
-    by : (none missed : ℕ) → (length (octets_due store state) == 0) ≡ none
+    by : (none missed : Bool) → (length (octets_due store state) == 0) ≡ none
         → (let next : due.DuePacket =
         if none then record { packet = data_end; state = state_at_end state } else if missed then record { packet = dl_error_resp 3; state = ready }
         else record { packet = data_part (take 254 (octets_due store state)); state = state_after 254 state } in
