@@ -6,7 +6,7 @@ use Rattle.std.specs.Option.{option_map}
 use Rattle.px_base.specs.CallSign.{CallSign}
 use Rattle.pfh_items.specs.Faults.{fault_code}
 use Rattle.ftl0_packets.specs.Items.{kind_of_item}
-use Rattle.ftl0_packets.specs.Layout.{Item, PacketValue, data_end, data_part, dl_aborted_resp, dl_completed_resp, dl_error_resp, ul_error_resp, upload_cmd}
+use Rattle.ftl0_packets.specs.Layout.{Item, PacketValue, data_end, data_part, dl_aborted_resp, dl_completed_resp, dl_error_resp, upload_cmd}
 use Rattle.ftl0_packets.specs.Layout.{select_resp}
 use Rattle.selection_lists.specs.Lists.{CallerList}
 use Rattle.file_entries.specs.Command.{can_begin, has_room, passes}
@@ -36,12 +36,12 @@ upload_either true first second a c = a
 upload_either false first second a c = c
 
 begins : (caller : CallSign) (moment : ℕ) (store : Store) (len : ℕ) → Silent (upload.begin_row caller moment store len).replies
-begins caller moment store len = upload_either (can_begin store len) (upload.granted_row caller moment store.next len) (upload.refused_row 13) refl refl
+begins caller moment store len = upload_either (can_begin store len) (upload.granted_row caller moment store.next len) (upload.refused_row upload.command 13) refl refl
 
 continues : (caller : CallSign) (number len : ℕ) (o : Option Entry) → Silent (upload.continue_row caller number len o).replies
 continues caller number len None = refl
 continues caller number len (Some e) =
-    upload_either (not (is_theirs caller len e)) (upload.refused_row 2) _ refl (upload_either (is_complete e.holding) (upload.refused_row 12) _ refl refl)
+    upload_either (not (is_theirs caller len e)) (upload.refused_row upload.command 2) _ refl (upload_either (is_complete e.holding) (upload.refused_row upload.command 12) _ refl refl)
 
 wholes : (moment number : ℕ) (rest : List ℕ) (fault : Option ℕ) → Silent (upload.whole_row moment number rest fault).replies
 wholes moment number rest None = refl
@@ -50,7 +50,7 @@ wholes moment number rest (Some code) = refl
 errors : (state : upload.State) (item : Item) → IfSome (upload.error_row state item) (λ row. Silent row.replies)
 errors state item = by (is_upload_kind (kind_of_item item))
   where
-    by : (b : Bool) → IfSome (if b then Some (record { state = state; commands = []; replies = ul_error_resp 1 ∷ [] }) else None) (λ (row : upload.Row). Silent row.replies)
+    by : (b : Bool) → IfSome (if b then Some (upload.refused_row state 1) else None) (λ (row : upload.Row). Silent row.replies)
     by true = refl
     by false = tt
 

@@ -1,9 +1,9 @@
 -- Which row a packet has, by what the session does of uploading and of downloading.
-use Rattle.std.proofs.Common.{◌≡◌, ℕ, List, [], ◌∷◌, refl, ap, ◌∙◌, true≢false, sym, Bool, true, false, Option, None, Some}
+use Rattle.std.proofs.Common.{◌≡◌, ℕ, List, refl, ap, ◌∙◌, sym, Bool, true, false, Option, None, Some}
 use Rattle.std.specs.Prelude.{Ok, Err}
 use Rattle.px_base.specs.CallSign.{CallSign}
 use Rattle.ftl0_packets.specs.Items.{kind_of_item}
-use Rattle.ftl0_packets.specs.Layout.{Item, PacketValue, data_end, data_part, ul_error_resp, upload_cmd}
+use Rattle.ftl0_packets.specs.Layout.{Item, PacketValue}
 use Rattle.ftl0_packets.specs.declared.packet.Malformed.{Malformed}
 use Rattle.selection_lists.specs.Lists.{CallerList}
 use Rattle.file_entries.specs.Store.{Store}
@@ -13,7 +13,7 @@ use Rattle.ftl0_uploads.specs.declared.phase.Phase.TheVariants as phase
 use Rattle.ftl0_uploads.specs.Session as upload
 use Rattle.ftl0_uploads.specs.Session.{is_upload_kind, session_row as upload_session_row}
 use Rattle.ftl0_uploads.specs.SessionState.{state_of}
-use Rattle.ftl0_uploads.proofs.Rows.{error-other, error-upload}
+use Rattle.ftl0_uploads.proofs.Rows.{row-none as upload_none}
 use Rattle.ftl0_downloads.specs.Table as download
 use Rattle.ftl0_downloads.specs.Table.{DownloadRow, DownloadState, ready}
 use Rattle.ftl0_session.specs.SessionState.{DoesOne}
@@ -46,30 +46,11 @@ upload-free caller moment store upload.command item = refl
 upload-free caller moment store (upload.receiving number rest) item = refl
 upload-free caller moment store upload.aborting item = refl
 
--- a packet of uploading has one
-pub upload-has : (caller : CallSign) (moment : ℕ) (store : Store) (part : upload.State) (item : Item) → is_upload_kind (kind_of_item item) ≡ true → (row : upload.Row) × (upload_session_row caller moment store part item ≡ Some row)
-unfolding upload_session_row
-upload-has caller moment store upload.command (Ok (upload_cmd number len)) kind = (upload.upload_row caller moment store number len, refl)
-upload-has caller moment store (upload.receiving number rest) (Ok (data_part octets)) kind = (upload.data_row store number rest octets, refl)
-upload-has caller moment store (upload.receiving number rest) (Ok data_end) kind = (upload.end_row moment store number rest, refl)
-upload-has caller moment store upload.aborting (Ok (data_part octets)) kind = (upload.silent_row upload.aborting, refl)
-upload-has caller moment store upload.aborting (Ok data_end) kind = (upload.silent_row upload.command, refl)
-upload-has caller moment store part item kind = (record { state = part; commands = []; replies = ul_error_resp 1 ∷ [] }, error-upload part item kind)
-
--- and any other has none
-pub upload-none : (caller : CallSign) (moment : ℕ) (store : Store) (part : upload.State) (item : Item) → is_upload_kind (kind_of_item item) ≡ false → upload_session_row caller moment store part item ≡ None
-unfolding upload_session_row
-upload-none caller moment store upload.command (Ok (upload_cmd number len)) kind = absurd (true≢false kind)
-upload-none caller moment store (upload.receiving number rest) (Ok (data_part octets)) kind = absurd (true≢false kind)
-upload-none caller moment store (upload.receiving number rest) (Ok data_end) kind = absurd (true≢false kind)
-upload-none caller moment store upload.aborting (Ok (data_part octets)) kind = absurd (true≢false kind)
-upload-none caller moment store upload.aborting (Ok data_end) kind = absurd (true≢false kind)
-upload-none caller moment store part item kind = error-other part item kind
-
-none-in : (caller : CallSign) (moment : ℕ) (store : Store) (state : State) (item : Item) → is_upload_kind (kind_of_item item) ≡ false → upload_row caller moment store state item ≡ None
-none-in caller moment store command item kind = upload-none caller moment store upload.command item kind
-none-in caller moment store (receiving number rest) item kind = upload-none caller moment store (upload.receiving number rest) item kind
-none-in caller moment store aborting item kind = upload-none caller moment store upload.aborting item kind
+-- a packet that isn't of uploading has none
+pub none-in : (caller : CallSign) (moment : ℕ) (store : Store) (state : State) (item : Item) → is_upload_kind (kind_of_item item) ≡ false → upload_row caller moment store state item ≡ None
+none-in caller moment store command item kind = upload_none caller moment store upload.command item kind
+none-in caller moment store (receiving number rest) item kind = upload_none caller moment store (upload.receiving number rest) item kind
+none-in caller moment store aborting item kind = upload_none caller moment store upload.aborting item kind
 none-in caller moment store (sending number place last) item kind = refl
 none-in caller moment store waiting item kind = refl
 none-in caller moment store (listing dues) item kind = refl

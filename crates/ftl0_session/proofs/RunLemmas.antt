@@ -5,10 +5,11 @@ use Rattle.file_entries.specs.Store.{Store}
 use Rattle.ftl0_uploads.specs.Failures.{Failure, read_fails}
 use Rattle.ftl0_uploads.specs.Run.{commands_of, on_row, replies_to, state_after, store_after}
 use Rattle.ftl0_uploads.specs.Session as upload
+use Rattle.ftl0_uploads.proofs.Rows.{row-some}
 use Rattle.ftl0_downloads.specs.Table.{ready}
 use Rattle.ftl0_session.specs.Run.{CommandsLaw, RunsOver, UploadRunLaw, as_event, event_row}
 use Rattle.ftl0_session.specs.Table.{by_upload, due_at, state_by}
-use Rattle.ftl0_session.proofs.RowLemmas.{row-upload, upload-free, upload-has}
+use Rattle.ftl0_session.proofs.RowLemmas.{row-upload, upload-free}
 
 -- commands one after another
 all-append : (a b : List Command) (store : Store) → after_all store (a ++ b) ≡ after_all (after_all store a) b
@@ -30,7 +31,7 @@ none-due store upload.aborting failures number = refl
 pub upload_run : UploadRunLaw
 upload_run caller store lists part [] all = (refl, refl, refl, refl, refl)
 upload_run caller store lists part (event ∷ events) all =
-    let has = upload-has caller event.moment store part event.packet all.0 in
+    let has = row-some caller event.moment store part event.packet all.0 in
     let row : upload.Row = has.0 in
     let later = upload_run caller (after_all store row.commands) lists row.state events all.1 in
     let is : event_row caller store lists (state_by part ready) (as_event event) ≡ by_upload lists row =

@@ -1,7 +1,6 @@
 -- What a packet of uploading does, while the session does nothing of downloading.
-use Rattle.std.proofs.Common.{◌≡◌, ℕ, List, [], ◌∷◌, refl, ap, ap₂, sym, ◌∙◌, subst, true≢false, Bool, true, false, None, Some}
+use Rattle.std.proofs.Common.{◌≡◌, ℕ, List, [], ◌∷◌, refl, ap, ap₂, sym, ◌∙◌, subst, true≢false, Bool, true, false, Some}
 use Rattle.std.specs.Prelude.{⊤, Result, Ok, Err, IsErrOf, IsTrue}
-use Rattle.px_base.specs.CallSign.{CallSign}
 use Rattle.disk_model.specs.declared.disk.Disk.{Ghosts}
 use Rattle.ftl0_packets.specs.Items.{kind_of_item, texts}
 use Rattle.ftl0_packets.specs.Layout.{Item}
@@ -21,48 +20,29 @@ use Rattle.ftl0_uploads.specs.Session as upload
 use Rattle.ftl0_uploads.specs.Session.{is_upload_kind, session_row as upload_session_row}
 use Rattle.ftl0_uploads.specs.SessionState.{IsHeld, IsOnlyOut, SessionState as Uploading, state_of}
 use Rattle.ftl0_uploads.specs.Taking.{Answers as UploadAnswers, LeavesDisk, PutsRow as UploadPuts, row_of}
+use Rattle.ftl0_uploads.proofs.Rows.{row-some}
 use Rattle.ftl0_downloads.specs.Needs.{AreComplete}
 use Rattle.ftl0_downloads.specs.Table.{ready}
-use Rattle.ftl0_session.specs.declared.stop.ServerStop.{ServerStop}
 use Rattle.ftl0_session.specs.declared.stop.ServerStop.TheVariants as stop
 use Rattle.ftl0_session.specs.SessionState.{session_of}
 use Rattle.ftl0_session.specs.Table.{Row, State, by_upload, state_by, takes_memory}
-use Rattle.ftl0_session.specs.Taking.{Answers, HasRow, IsAnswer, PutsRow, Taken, Working, row_over, working}
-use Rattle.ftl0_session.proofs.RowLemmas.{row-upload, upload-free, upload-has, upload_part-free}
+use Rattle.ftl0_session.specs.Taking.{Answers, PutsRow, Taken, Working, answer_by, row_over, working}
+use Rattle.ftl0_session.proofs.RowLemmas.{row-upload, upload-free, upload_part-free}
 
 -- what a session works on, by its parts
 abbrev working_at : List CallerList → StoreState → State → Working
 working_at lists store state = record { store = store; lists = lists; state = state }
 
--- the answers, said otherwise
-abbrev stopped : ServerStop → Result ⊤ ServerStop
-stopped why = Err why
-
-abbrev upload_stopped : UploadStop → Result ⊤ UploadStop
-upload_stopped why = Err why
-
 -- a fault of the disk is one in both
-fault-back : (given : Result ⊤ UploadStop) (result : Result ⊤ ServerStop) → IsAnswer given result → IsErrOf result stop.Disk → IsErrOf given upload_stop.Disk
-fault-back (Ok done) result answer fault = absurd (let e : Ok tt ≡ stopped stop.Disk = sym answer ∙ fault in cc)
-fault-back (Err upload_stop.Disk) result answer fault = refl
-fault-back (Err upload_stop.OutOfMemory) result answer fault = absurd (let e : stopped stop.OutOfMemory ≡ stopped stop.Disk = sym answer ∙ fault in cc)
-fault-back (Err (upload_stop.NotBuilt kind)) result answer fault = absurd answer
+fault-back : (given : Result ⊤ UploadStop) → IsErrOf (answer_by given) stop.Disk → IsErrOf given upload_stop.Disk
+fault-back (Ok done) fault = absurd (cc fault)
+fault-back (Err upload_stop.Disk) fault = refl
+fault-back (Err upload_stop.OutOfMemory) fault = absurd (cc fault)
 
-fault-on : (given : Result ⊤ UploadStop) (result : Result ⊤ ServerStop) → IsAnswer given result → IsErrOf given upload_stop.Disk → IsErrOf result stop.Disk
-fault-on (Ok done) result answer fault = absurd (cc fault)
-fault-on (Err upload_stop.Disk) result answer fault = answer
-fault-on (Err upload_stop.OutOfMemory) result answer fault = absurd (cc fault)
-fault-on (Err (upload_stop.NotBuilt kind)) result answer fault = absurd answer
-
--- a packet that has a row isn't one that has none
-pub has-row : (caller : CallSign) (moment : ℕ) (before : StoreState) (part : upload.State) (item : Item) (now : StoreState) (next : upload.State) (replies : List ℕ) (given : Result ⊤ UploadStop)
-    → is_upload_kind (kind_of_item item) ≡ true → UploadAnswers caller moment before part item now next replies given → HasRow given
-has-row caller moment before part item now next replies (Ok done) kind answers = tt
-has-row caller moment before part item now next replies (Err upload_stop.Disk) kind answers = tt
-has-row caller moment before part item now next replies (Err upload_stop.OutOfMemory) kind answers = tt
-has-row caller moment before part item now next replies (Err (upload_stop.NotBuilt k)) kind answers =
-    let has = upload-has caller moment (store_in before) part item kind in
-    absurd (let e : Some has.0 ≡ None = sym has.1 ∙ answers.0 in cc)
+fault-on : (given : Result ⊤ UploadStop) → IsErrOf given upload_stop.Disk → IsErrOf (answer_by given) stop.Disk
+fault-on (Ok done) fault = absurd (cc fault)
+fault-on (Err upload_stop.Disk) fault = refl
+fault-on (Err upload_stop.OutOfMemory) fault = absurd (cc fault)
 
 module _ {D : Type 0} (g : Ghosts D) (moment : ℕ) (item : Item) (uploads uploads_now : Uploading) (store store_now : StoreState) (lists : List CallerList) (disk disk_now : D) (replies : List ℕ) where
   abbrev part : upload.State
@@ -82,75 +62,66 @@ module _ {D : Type 0} (g : Ghosts D) (moment : ℕ) (item : Item) (uploads uploa
   row-is given is fails =
       row-upload uploads.caller moment (store_in store) lists (state_by part ready) item fails given (upload-free uploads.caller moment (store_in store) part item ∙ is)
 
-  answers-by : (given : Result ⊤ UploadStop) (result : Result ⊤ ServerStop) → IsAnswer given result
-      → UploadAnswers uploads.caller moment store part item store_now (state_of store_now uploads_now.phase) replies given → Answers before item (row false) now replies result
-  answers-by (Ok done) result answer said =
-      let is = row-is said.0 said.1 false in
-      subst (λ (r : Result ⊤ ServerStop). Answers before item (row false) now replies r) (sym answer) (
+  answers-by : (given : Result ⊤ UploadStop) → UploadAnswers uploads.caller moment store part item store_now (state_of store_now uploads_now.phase) replies given
+      → Answers before item (row false) now replies (answer_by given)
+  answers-by (Ok done) said =
+      let is = row-is said.0 said.1 false in (
         subst (λ (cs : List Command). DoesAll (store_in store) (store_in store_now) cs) (sym (ap (λ (r : Row). r.commands) is)) said.2.0,
         sym (ap (λ (r : Row). r.lists) is),
         ap (λ (p : upload.State). state_by p ready) said.2.1 ∙ sym (ap (λ (r : Row). r.state) is),
         said.2.2 ∙ sym (ap (λ (r : Row). texts r.replies) is),
       )
-  answers-by (Err upload_stop.Disk) result answer said =
-      subst (λ (r : Result ⊤ ServerStop). Answers before item (row false) now replies r) (sym answer) (
-        ap (λ (p : upload.State). state_by p ready) said.2,
-        refl,
-        said.3 ∙ ap (λ (p : upload.State). texts (upload.fault_reply p ∷ [])) (sym (upload_part-free part)),
-      )
-  answers-by (Err upload_stop.OutOfMemory) result answer said =
-      let is = row-is said.0 said.1 false in
-      subst (λ (r : Result ⊤ ServerStop). Answers before item (row false) now replies r) (sym answer) (
+  answers-by (Err upload_stop.Disk) said = (
+    ap (λ (p : upload.State). state_by p ready) said.2,
+    refl,
+    said.3 ∙ ap (λ (p : upload.State). texts (upload.fault_reply p ∷ [])) (sym (upload_part-free part)),
+  )
+  answers-by (Err upload_stop.OutOfMemory) said =
+      let is = row-is said.0 said.1 false in (
         subst (λ (r : Row). IsTrue (takes_memory item r.state)) (sym is)
             (subst (λ (p : upload.State). IsTrue (upload.takes_memory item p)) (sym (upload_part-free said.0.state)) said.2),
         ap₂ (λ (s : StoreState) (p : upload.State). working_at lists s (state_by p ready)) said.3.0 said.3.1,
         said.3.2,
       )
-  answers-by (Err (upload_stop.NotBuilt kind)) result answer said = absurd answer
 
-  on_disk-by : (given : Result ⊤ UploadStop) (result : Result ⊤ ServerStop) → IsAnswer given result
-      → UploadAnswers uploads.caller moment store part item store_now (state_of store_now uploads_now.phase) replies given
-      → UploadPuts g store store_now disk disk_now (row_of uploads.caller moment store part item) given → PutsRow g store store_now disk disk_now (row false) result
-  on_disk-by (Ok done) result answer said puts =
-      subst (λ (r : Result ⊤ ServerStop). PutsRow g store store_now disk disk_now (row false) r) (sym answer)
-      (subst (λ (cs : List Command). Does g ⊥ store store_now disk disk_now cs) (sym (ap (λ (r : Row). r.commands) (row-is said.0 said.1 false)))
-      (at_told (λ (r : upload.Row). Does g ⊥ store store_now disk disk_now r.commands) said.0 said.1 puts))
-  on_disk-by (Err upload_stop.Disk) result answer said puts =
-      subst (λ (r : Result ⊤ ServerStop). PutsRow g store store_now disk disk_now (row false) r) (sym answer)
-      (subst (λ (cs : List Command). Does g ⊤ store store_now disk disk_now cs) (sym (ap (λ (r : Row). r.commands) (row-is said.0 said.1 false)))
-      (at_told (λ (r : upload.Row). Does g ⊤ store store_now disk disk_now r.commands) said.0 said.1 puts))
-  on_disk-by (Err upload_stop.OutOfMemory) result answer said puts =
-      subst (λ (r : Result ⊤ ServerStop). PutsRow g store store_now disk disk_now (row false) r) (sym answer) puts
-  on_disk-by (Err (upload_stop.NotBuilt kind)) result answer said puts = absurd answer
+  on_disk-by : (given : Result ⊤ UploadStop) → UploadAnswers uploads.caller moment store part item store_now (state_of store_now uploads_now.phase) replies given
+      → UploadPuts g store store_now disk disk_now (row_of uploads.caller moment store part item) given → PutsRow g store store_now disk disk_now (row false) (answer_by given)
+  on_disk-by (Ok done) said puts =
+      subst (λ (cs : List Command). Does g ⊥ store store_now disk disk_now cs) (sym (ap (λ (r : Row). r.commands) (row-is said.0 said.1 false)))
+      (at_told (λ (r : upload.Row). Does g ⊥ store store_now disk disk_now r.commands) said.0 said.1 puts)
+  on_disk-by (Err upload_stop.Disk) said puts =
+      subst (λ (cs : List Command). Does g ⊤ store store_now disk disk_now cs) (sym (ap (λ (r : Row). r.commands) (row-is said.0 said.1 false)))
+      (at_told (λ (r : upload.Row). Does g ⊤ store store_now disk disk_now r.commands) said.0 said.1 puts)
+  on_disk-by (Err upload_stop.OutOfMemory) said puts = puts
 
-  pub taken-upload : (given : Result ⊤ UploadStop) (result : Result ⊤ ServerStop) → is_upload_kind (kind_of_item item) ≡ true → IsAnswer given result
+  pub taken-upload : (given : Result ⊤ UploadStop) → is_upload_kind (kind_of_item item) ≡ true
       → UploadAnswers uploads.caller moment store part item store_now (state_of store_now uploads_now.phase) replies given
       → UploadPuts g store store_now disk disk_now (row_of uploads.caller moment store part item) given
       → LeavesDisk disk disk_now (row_of uploads.caller moment store part item) → Puts g (IsErrOf given upload_stop.Disk) disk disk_now
       → (IsErrOf given upload_stop.Disk → store_now.journal.failed ≡ true) → KeepsComplete (store_in store) (store_in store_now) → KeepsOtherCallers store store_now uploads.caller
       → uploads_now.caller ≡ uploads.caller → (¬ IsErrOf given upload_stop.Disk → store_now.journal.failed ≡ false) → StandsOn g store_now disk_now
       → IsHeld store_now uploads_now → IsOnlyOut store_now uploads_now → AreComplete (store_in store_now) lists → g.lasts disk disk
-      → Taken g moment item (session_of uploads ready) (session_of uploads_now ready) store store_now lists lists disk disk_now replies result
-  taken-upload given result kind answer said on_disk untouched puts failed kept others caller healthy stands held only complete lasts =
-      let has = upload-has uploads.caller moment (store_in store) part item kind in
+      → Taken g moment item (session_of uploads ready) (session_of uploads_now ready) store store_now lists lists disk disk_now replies (answer_by given)
+  taken-upload given kind said on_disk untouched puts failed kept others caller healthy stands held only complete lasts =
+      let has = row-some uploads.caller moment (store_in store) part item kind in
       let same : has.0.commands ≡ [] → disk_now ≡ disk = at_told (λ (r : upload.Row). r.commands ≡ [] → disk_now ≡ disk) has.0 has.1 untouched in
       record {
         takes = record {
           fails = false;
           told = λ failed. absurd (true≢false (sym failed));
-          answers = answers-by given result answer said;
+          answers = answers-by given said;
           disk_then = disk;
           reads = reads_none g disk (IsTrue false) (λ never. true≢false (sym never)) lasts;
-          on_disk = on_disk-by given result answer said on_disk;
-          puts = puts_same g disk disk_now (IsErrOf given upload_stop.Disk) (IsErrOf result stop.Disk) (fault-on given result answer) (fault-back given result answer) puts;
+          on_disk = on_disk-by given said on_disk;
+          puts = puts_same g disk disk_now (IsErrOf given upload_stop.Disk) (IsErrOf (answer_by given) stop.Disk) (fault-on given) (fault-back given) puts;
         };
         untouched = λ fails without.
             subst (λ (d : D). ChangesReads g disk d) (sym (same (sym (ap (λ (r : Row). r.commands) (row-is has.0 has.1 fails)) ∙ without))) (reads-none g disk);
-        failed = λ fault. failed (fault-back given result answer fault);
+        failed = λ fault. failed (fault-back given fault);
         kept = kept;
         others = others;
         caller = caller;
-        healthy = λ fine. healthy (λ fault. fine (fault-on given result answer fault));
+        healthy = λ fine. healthy (λ fault. fine (fault-on given fault));
         stands_on = stands;
         held = held;
         only = only;

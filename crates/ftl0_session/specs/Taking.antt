@@ -117,15 +117,8 @@ pub record TakesDownload {D : Type 0} (g : Ghosts D) (item : Item) (uploads : Up
       (download_row uploads.caller (store_in store) lists (state_in store (session_of uploads downloads)) item fails) taken
       disk disk_now (made downloads lists []) (made downloads_now lists_now replies)
 
--- an answer of uploading, which has a row for the packet, as one of the session
-abbrev pub IsAnswer : Result ⊤ UploadStop → Result ⊤ ServerStop → Type 0
-IsAnswer (Ok done) result = result ≡ Ok tt
-IsAnswer (Err upload_stop.Disk) result = result ≡ Err stop.Disk
-IsAnswer (Err upload_stop.OutOfMemory) result = result ≡ Err stop.OutOfMemory
-IsAnswer (Err (upload_stop.NotBuilt kind)) result = ⊥
-
-abbrev pub HasRow : Result ⊤ UploadStop → Type 0
-HasRow (Ok done) = ⊤
-HasRow (Err upload_stop.Disk) = ⊤
-HasRow (Err upload_stop.OutOfMemory) = ⊤
-HasRow (Err (upload_stop.NotBuilt kind)) = ⊥
+-- an answer of uploading, as one of the session
+abbrev pub answer_by : Result ⊤ UploadStop → Result ⊤ ServerStop
+answer_by (Ok done) = Ok tt
+answer_by (Err upload_stop.Disk) = Err stop.Disk
+answer_by (Err upload_stop.OutOfMemory) = Err stop.OutOfMemory

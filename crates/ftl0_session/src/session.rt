@@ -15,8 +15,8 @@ ghost use Rattle.ftl0_downloads.specs.Table.{ready};
 ghost use Rattle.ftl0_session.specs.Filling.{PutsDue};
 ghost use Rattle.ftl0_session.specs.SessionState.{DoesOne, MayTake, caller_of, new_session, session_of, state_in};
 ghost use Rattle.ftl0_session.specs.Table.{error_by, flags, greeting};
-ghost use Rattle.ftl0_session.specs.Taking.{HasRow, IsAnswer, ReadsAlone, Taken, TakesDownload, TakesPacket};
-ghost use Rattle.ftl0_session.specs.Taking.{row_over, working};
+ghost use Rattle.ftl0_session.specs.Taking.{ReadsAlone, Taken, TakesDownload, TakesPacket, answer_by, row_over};
+ghost use Rattle.ftl0_session.specs.Taking.{working};
 
 use crate::ServerStop;
 use arrayvec::ArrayVec;
@@ -310,16 +310,14 @@ fn is_of_uploading(packet: &Result<Packet<'_>, Malformed>) -> bool
     matches!(kind_of(packet), 0 | 1 | 3)
 }
 
-/// The answer of uploading to a packet that has a row of it.
+/// An answer of uploading, as one of the session.
 fn answer_of(taken: Result<(), UploadStop>) -> Result<(), ServerStop>
-    requires { HasRow taken }
-    ensures { IsAnswer taken result }
+    ensures { result ≡ answer_by taken }
 {
     match taken {
         Ok(()) => Ok(()),
         Err(UploadStop::Disk) => Err(ServerStop::Disk),
         Err(UploadStop::OutOfMemory) => Err(ServerStop::OutOfMemory),
-        Err(UploadStop::NotBuilt { .. }) => unreachable!(),
     }
 }
 

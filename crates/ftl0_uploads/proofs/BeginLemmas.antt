@@ -89,13 +89,13 @@ module _ {D : Type 0} (g : Ghosts D) (caller : CallSign) (moment len : ℕ) (bef
       subst (λ (s : StoreState). Gives-it s disk_now replies result) (sym same.0) (subst (λ (d : D). Gives-it before d replies result) (sym same.1) given)
 
   barred : (replies : List ℕ) (result : Result ⊤ ServerStop) → (now ≡ before) × (disk_now ≡ disk)
-      → session_row caller moment (store_in before) command (Ok (upload_cmd 0 len)) ≡ Some (refused_row 13) → (result ≡ Ok tt) × (replies ≡ texts (ul_error_resp 13 ∷ [])) → Gives-it now disk_now replies result
+      → session_row caller moment (store_in before) command (Ok (upload_cmd 0 len)) ≡ Some (refused_row command 13) → (result ≡ Ok tt) × (replies ≡ texts (ul_error_resp 13 ∷ [])) → Gives-it now disk_now replies result
   barred replies result same row answer =
       subst (λ (r : Result ⊤ ServerStop). Gives-it now disk_now replies r) (sym answer.0)
       (untouched replies (Ok tt) same
       (answered-alone g caller moment command (Ok (upload_cmd 0 len)) before before disk replies (phase.Command, Ok tt) ready.healthy ready.stands_on lasts
-      (alone-row caller moment command (Ok (upload_cmd 0 len)) before phase.Command (refused_row 13) replies row refl
-      (refused_row 13, row, ((tt, refl), refl, answer.1)) tt ready.only)))
+      (alone-row caller moment command (Ok (upload_cmd 0 len)) before phase.Command (refused_row command 13) replies row refl
+      (refused_row command 13, row, ((tt, refl), refl, answer.1)) tt ready.only)))
 
   not_reached : {P : Type 0} → IsTrue (begin_reaches (refusing refusal.OutOfMemory)) ⊎ P → P
   not_reached (inl never) = absurd (true≢false (sym never))

@@ -48,7 +48,6 @@ module _ {D : Type 0} (g : Ghosts D) where
   on_disk-alone caller moment state item before now disk (Ok done) no_fault none does =
       told_weaker (session_row caller moment (store_in before) state item) _ _ (λ row is no_commands. subst (λ (cs : List Command). Does g ⊥ before now disk disk cs) (sym no_commands) does) none
   on_disk-alone caller moment state item before now disk (Err stop.Disk) no_fault none does = absurd (no_fault refl)
-  on_disk-alone caller moment state item before now disk (Err (stop.NotBuilt kind)) no_fault none does = refl
   on_disk-alone caller moment state item before now disk (Err stop.OutOfMemory) no_fault none does = refl
 
   -- a packet that leaves the disk alone
@@ -75,9 +74,6 @@ module _ {D : Type 0} (g : Ghosts D) where
         puts_same g disk disk_now ⊥ _ (λ never. absurd never) (λ e. cc e) (at_told (λ row. Does g ⊥ before now disk disk_now row.commands) answers.0 answers.1 on_disk).puts
     after-puts (Err stop.Disk) lasts answers on_disk =
         puts_same g disk disk_now ⊤ _ (λ failed. refl) (λ failed. tt) (at_told (λ row. Does g ⊤ before now disk disk_now row.commands) answers.0 answers.1 on_disk).puts
-    after-puts (Err (stop.NotBuilt kind)) lasts answers on_disk =
-        let fine : ¬ IsErrOf (stopped (stop.NotBuilt kind)) stop.Disk = λ e. cc e in
-        subst (λ (d : D). Puts g (IsErrOf (stopped (stop.NotBuilt kind)) stop.Disk) disk d) (sym on_disk) (puts_none g disk (IsErrOf (stopped (stop.NotBuilt kind)) stop.Disk) fine lasts)
     after-puts (Err stop.OutOfMemory) lasts answers on_disk =
         let fine : ¬ IsErrOf (stopped stop.OutOfMemory) stop.Disk = λ e. cc e in
         subst (λ (d : D). Puts g (IsErrOf (stopped stop.OutOfMemory) stop.Disk) disk d) (sym on_disk) (puts_none g disk (IsErrOf (stopped stop.OutOfMemory) stop.Disk) fine lasts)
@@ -86,22 +82,18 @@ module _ {D : Type 0} (g : Ghosts D) where
         → PutsRow g before now disk disk_now (row_of caller moment before state item) result → IsErrOf result stop.Disk → now.journal.failed ≡ true
     after-failed (Ok done) answers on_disk e = absurd (cc e)
     after-failed (Err stop.Disk) answers on_disk e = ((at_told (λ row. Does g ⊤ before now disk disk_now row.commands) answers.0 answers.1 on_disk).cut tt).failed
-    after-failed (Err (stop.NotBuilt kind)) answers on_disk e = absurd (cc e)
     after-failed (Err stop.OutOfMemory) answers on_disk e = absurd (cc e)
 
     pub after-healthy : (result : Result ⊤ ServerStop) → before.journal.failed ≡ false → Answers caller moment before state item now next replies result
         → PutsRow g before now disk disk_now (row_of caller moment before state item) result → ¬ IsErrOf result stop.Disk → now.journal.failed ≡ false
     after-healthy (Ok done) healthy answers on_disk fine = ((at_told (λ row. Does g ⊥ before now disk disk_now row.commands) answers.0 answers.1 on_disk).done (λ never. never)).1
     after-healthy (Err stop.Disk) healthy answers on_disk fine = absurd (fine refl)
-    after-healthy (Err (stop.NotBuilt kind)) healthy answers on_disk fine = ap (λ (s : StoreState). s.journal.failed) answers.2.0 ∙ healthy
     after-healthy (Err stop.OutOfMemory) healthy answers on_disk fine = ap (λ (s : StoreState). s.journal.failed) answers.3.0 ∙ healthy
 
     pub after-stands : (result : Result ⊤ ServerStop) → StandsOn g before disk → Answers caller moment before state item now next replies result
         → PutsRow g before now disk disk_now (row_of caller moment before state item) result → StandsOn g now disk_now
     after-stands (Ok done) stands answers on_disk = (at_told (λ row. Does g ⊥ before now disk disk_now row.commands) answers.0 answers.1 on_disk).stands_on
     after-stands (Err stop.Disk) stands answers on_disk = (at_told (λ row. Does g ⊤ before now disk disk_now row.commands) answers.0 answers.1 on_disk).stands_on
-    after-stands (Err (stop.NotBuilt kind)) stands answers on_disk =
-        subst (λ (s : StoreState). StandsOn g s disk_now) (sym answers.2.0) (subst (λ (d : D). StandsOn g before d) (sym on_disk) stands)
     after-stands (Err stop.OutOfMemory) stands answers on_disk =
         subst (λ (s : StoreState). StandsOn g s disk_now) (sym answers.3.0) (subst (λ (d : D). StandsOn g before d) (sym on_disk) stands)
 

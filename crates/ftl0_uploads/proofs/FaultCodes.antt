@@ -63,18 +63,20 @@ either : (b : Bool) (first second : Row) → NoFault first → NoFault second �
 either true first second a c = a
 either false first second a c = c
 
-refused : (code : ℕ) → code ≢ 3 → NoFault (refused_row code)
-refused code other = one (ul_error_resp code) other
+refused : (state : State) (code : ℕ) → code ≢ 3 → NoFault (refused_row state code)
+refused state code other = one (ul_error_resp code) other
 
 begins : (caller : CallSign) (moment : ℕ) (store : Store) (len : ℕ) → NoFault (begin_row caller moment store len)
 begins caller moment store len =
-    either (can_begin store len) (granted_row caller moment store.next len) (refused_row 13) (one (ul_go_resp store.next 0) (λ same. omega (arith, same))) (refused 13 (λ same. omega (arith, same)))
+    either (can_begin store len) (granted_row caller moment store.next len) (refused_row command 13) (one (ul_go_resp store.next 0) (λ same. omega (arith, same)))
+    (refused command 13 (λ same. omega (arith, same)))
 
 continues : (caller : CallSign) (number len : ℕ) (o : Option Entry) → NoFault (continue_row caller number len o)
-continues caller number len None = refused 4 (λ same. omega (arith, same))
+continues caller number len None = refused command 4 (λ same. omega (arith, same))
 continues caller number len (Some e) =
-    either (not (is_theirs caller len e)) (refused_row 2) (if is_complete e.holding then refused_row 12 else resumed_row number (length (octets_of e.holding))) (refused 2 (λ same. omega (arith, same)))
-    (either (is_complete e.holding) (refused_row 12) (resumed_row number (length (octets_of e.holding))) (refused 12 (λ same. omega (arith, same)))
+    either (not (is_theirs caller len e)) (refused_row command 2) (if is_complete e.holding then refused_row command 12 else resumed_row number (length (octets_of e.holding)))
+    (refused command 2 (λ same. omega (arith, same)))
+    (either (is_complete e.holding) (refused_row command 12) (resumed_row number (length (octets_of e.holding))) (refused command 12 (λ same. omega (arith, same)))
     (one (ul_go_resp number (length (octets_of e.holding))) (λ same. omega (arith, same))))
 
 takes : (store : Store) (number : ℕ) (rest octets : List ℕ) → NoFault (data_row store number rest octets)
@@ -94,8 +96,8 @@ ends moment store number rest =
 errors : (state : State) (item : Item) → IfSome (error_row state item) NoFault
 errors state item = by (is_upload_kind (kind_of_item item))
   where
-    by : (b : Bool) → IfSome (if b then Some (record { state = state; commands = []; replies = ul_error_resp 1 ∷ [] }) else None) NoFault
-    by true = one (ul_error_resp 1) (λ same. omega (arith, same))
+    by : (b : Bool) → IfSome (if b then Some (refused_row state 1) else None) NoFault
+    by true = refused state 1 (λ same. omega (arith, same))
     by false = tt
 
 pub fault_codes : FaultCodeLaw

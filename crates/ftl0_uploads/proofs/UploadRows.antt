@@ -30,7 +30,7 @@ row-granted caller moment store len can = rw can refl
 
 -- and one that may not
 pub row-barred : (caller : CallSign) (moment : ℕ) (store : Store) (len : ℕ) → can_begin store len ≡ false
-    → session_row caller moment store command (Ok (upload_cmd 0 len)) ≡ Some (refused_row 13)
+    → session_row caller moment store command (Ok (upload_cmd 0 len)) ≡ Some (refused_row command 13)
 unfolding session_row
 row-barred caller moment store len can = rw can refl
 
@@ -147,7 +147,7 @@ never_true true h = absurd (h refl)
 never_true false h = refl
 
 module _ (caller : CallSign) (moment : ℕ) (number len : ℕ) (some : number ≢ 0) where
-  pub row-no_such : (store : Store) → entry_of store number ≡ None → session_row caller moment store command (Ok (upload_cmd number len)) ≡ Some (refused_row 4)
+  pub row-no_such : (store : Store) → entry_of store number ≡ None → session_row caller moment store command (Ok (upload_cmd number len)) ≡ Some (refused_row command 4)
   row-no_such store none = row-number caller moment store number len some ∙ ap (λ (o : Option Entry). Some (continue_row caller number len o)) none
 
   continued : (store : Store) (e : Entry) → entry_of store number ≡ Some e
@@ -155,13 +155,13 @@ module _ (caller : CallSign) (moment : ℕ) (number len : ℕ) (some : number �
   continued store e found = row-number caller moment store number len some ∙ ap (λ (o : Option Entry). Some (continue_row caller number len o)) found
 
   pub row-bad : (store : Store) (e : Entry) → entry_of store number ≡ Some e → ((e.caller ≡ caller) × (e.length ≡ len) → ⊥)
-      → session_row caller moment store command (Ok (upload_cmd number len)) ≡ Some (refused_row 2)
+      → session_row caller moment store command (Ok (upload_cmd number len)) ≡ Some (refused_row command 2)
   row-bad store e found others =
       let test : is_theirs caller len e ≡ false = never_true (is_theirs caller len e) (λ h. others ((theirs-decides caller len e).0 h)) in
       continued store e found ∙ rw test refl
 
   pub row-whole_already : (store : Store) (e : Entry) → entry_of store number ≡ Some e → e.caller ≡ caller → e.length ≡ len → is_complete e.holding ≡ true
-      → session_row caller moment store command (Ok (upload_cmd number len)) ≡ Some (refused_row 12)
+      → session_row caller moment store command (Ok (upload_cmd number len)) ≡ Some (refused_row command 12)
   row-whole_already store e found by long whole =
       let test : is_theirs caller len e ≡ true = (theirs-decides caller len e).1 (by, long) in
       continued store e found ∙ rw (test, whole) refl

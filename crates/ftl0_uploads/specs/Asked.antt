@@ -1,5 +1,5 @@
--- What a packet asks of the session.
-use Rattle.std.specs.Prelude.{◌≡◌, ℕ, List, Bool, true, false, None, Result, Ok, ⊤}
+-- What a packet of uploading asks of the session.
+use Rattle.std.specs.Prelude.{◌≡◌, ℕ, List, true, None, Result, Ok, IsErr, ⊤}
 use Rattle.px_base.specs.CallSign.{CallSign}
 use Rattle.disk_model.specs.declared.disk.Disk.{Ghosts}
 use Rattle.ftl0_packets.specs.Layout.{Item, data_end, data_part, upload_cmd}
@@ -9,30 +9,16 @@ use Rattle.ftl0_uploads.specs.declared.asked.Asked.TheVariants as asked
 use Rattle.ftl0_uploads.specs.declared.phase.Phase.{Phase}
 use Rattle.ftl0_uploads.specs.declared.stop.ServerStop.{ServerStop}
 use Rattle.ftl0_packets.specs.Items.{kind_of_item}
-use Rattle.ftl0_uploads.specs.Session.{State, aborting}
+use Rattle.ftl0_uploads.specs.Session.{State, aborting, is_upload_kind}
 use Rattle.ftl0_uploads.specs.SessionState.{NoOtherOut}
 use Rattle.ftl0_uploads.specs.Taking.{Answered, AnsweredAlone}
 
--- whether the packet has a row of its own in some state
-abbrev pub has_row : Item → Bool
-has_row (Ok (upload_cmd number file_length)) = true
-has_row (Ok (data_part octets)) = true
-has_row (Ok data_end) = true
-has_row item = false
-
--- this is what the packet asks
+-- this is what the packet asks, which is of uploading
 abbrev pub IsAsked : Item → Asked → Type 0
 IsAsked item (asked.Upload number file_length) = item ≡ Ok (upload_cmd number file_length)
 IsAsked item (asked.Part octets) = item ≡ Ok (data_part octets.now)
 IsAsked item asked.End = item ≡ Ok data_end
-IsAsked item (asked.Other kind) = (has_row item ≡ false) × (kind ≡ kind_of_item item)
-
--- the type of the packet that asks this
-abbrev pub kind_of_asked : Asked → ℕ
-kind_of_asked (asked.Upload number file_length) = 3
-kind_of_asked (asked.Part octets) = 0
-kind_of_asked asked.End = 1
-kind_of_asked (asked.Other kind) = kind
+IsAsked item asked.Malformed = IsErr item × (is_upload_kind (kind_of_item item) ≡ true)
 
 -- what each packet that asks this gives in a state
 abbrev pub AnswersAsked :

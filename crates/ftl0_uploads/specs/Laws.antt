@@ -1,8 +1,11 @@
--- Laws of the session's table: what is granted, what goes on, what is acknowledged, and that this stands.
-use Rattle.std.specs.Prelude.{◌≡◌, ◌≢◌, ℕ, ◌+◌, ◌≤◌, List, [], ◌∷◌, ◌++◌, length, true, None, Some, IfSome, Ok}
+-- Laws of the session's table: which packets have a row, what is granted, what goes on, what is acknowledged, and that
+-- this stands.
+use Rattle.std.specs.Prelude.{◌≡◌, ◌≢◌, ℕ, ◌+◌, ◌≤◌, List, [], ◌∷◌, ◌++◌, length, true}
+use Rattle.std.specs.Prelude.{None, Some, IfSome, is_some, Ok}
 use Rattle.std.specs.List.{AllByRecursion}
 use Rattle.px_base.specs.CallSign.{CallSign, IsCall}
 use Rattle.px_base.specs.Octets.{IsOctets}
+use Rattle.ftl0_packets.specs.Items.{kind_of_item}
 use Rattle.ftl0_packets.specs.Layout.{Item, PacketValue, data_end, ul_ack_resp, ul_error_resp}
 use Rattle.ftl0_packets.specs.Layout.{ul_nak_resp, upload_cmd}
 use Rattle.pfh_items.specs.Faults.{fault_code}
@@ -12,7 +15,14 @@ use Rattle.pfh_writer.specs.KeptFile.{KeepsClient}
 use Rattle.file_entries.specs.Store.{Entry, Store, complete, entry_of, partial}
 use Rattle.file_store.specs.OnDisk.{MakesBetween}
 use Rattle.file_store.specs.State.{StandsFor}
-use Rattle.ftl0_uploads.specs.Session.{Row, State, command, granted_row, receiving, resumed_row, session_row}
+use Rattle.ftl0_uploads.specs.Session.{Row, State, command, granted_row, is_upload_kind, receiving, resumed_row}
+use Rattle.ftl0_uploads.specs.Session.{session_row}
+
+-- Each packet of uploading, malformed or not, has a row in each state, and no other packet has one in any.
+abbrev pub RowsLaw : Type 0
+RowsLaw =
+    (caller : CallSign) (moment : ℕ) (store : Store) (state : State) (item : Item)
+    → is_some (session_row caller moment store state item) ≡ is_upload_kind (kind_of_item item)
 
 -- A new file that may be begun is begun, with the next number, and UL_GO_RESP says this number and place 0.
 abbrev pub GrantedLaw : Type 0
@@ -71,9 +81,9 @@ abbrev pub HasEntry : ℕ → Entry → List ℕ → Type 0
 HasEntry number entry image =
     (files : Store) × StandsFor image files × (entry_of files number ≡ Some entry)
 
--- Over the store that these commands come to, DATA_END's row has commands and replies UL_ACK_RESP. In each image that stands for the
--- store after at least these commands and the row's, whatever commands come behind them, the file's entry is complete
--- with the octets that came, stamped.
+-- Over the store that these commands come to, DATA_END's row has commands and replies UL_ACK_RESP. In each image that
+-- stands for the store after at least these commands and the row's, whatever commands come behind them, the file's
+-- entry is complete with the octets that came, stamped.
 pub record StandsAcknowledged (caller : CallSign) (start store : Store) (commands : List Command) (moment number : ℕ)
     (entry : Entry) (file rest : List ℕ) : Type 0 where
   pub row : Row

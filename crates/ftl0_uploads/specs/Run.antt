@@ -1,13 +1,13 @@
--- A session over events: the rows of their packets, one after another, up to the first packet whose row isn't built.
+-- A session over events: the rows of their packets, one after another, up to the first packet that isn't of uploading.
 use Rattle.std.specs.Prelude.{◌≡◌, List, [], ◌∷◌, ◌++◌, Option, None, Some}
 use Rattle.px_base.specs.CallSign.{CallSign}
-use Rattle.ftl0_packets.specs.Layout.{Item, PacketValue}
+use Rattle.ftl0_packets.specs.Layout.{PacketValue}
 use Rattle.file_entries.specs.Command.{Command, after_all}
 use Rattle.file_entries.specs.Store.{Store}
 use Rattle.ftl0_uploads.specs.Events.{Event}
 use Rattle.ftl0_uploads.specs.Session.{Row, State, session_row}
 
--- what follows from a row, or what stands where none is built
+-- what follows from a row, or what stands where there is none
 abbrev pub on_row : {X : Type 0} → Option Row → X → (Row → X) → X
 on_row None otherwise given = otherwise
 on_row (Some row) otherwise given = given row
@@ -25,13 +25,6 @@ commands_of caller store state [] = []
 commands_of caller store state (event ∷ events) =
     on_row (session_row caller event.moment store state event.packet) []
     (λ row. row.commands ++ commands_of caller (after_all store row.commands) row.state events)
-
--- the first packet whose row isn't built, if there is one
-abbrev pub first_unbuilt : CallSign → Store → State → List Event → Option Item
-first_unbuilt caller store state [] = None
-first_unbuilt caller store state (event ∷ events) =
-    on_row (session_row caller event.moment store state event.packet) (Some event.packet)
-    (λ row. first_unbuilt caller (after_all store row.commands) row.state events)
 
 -- the store afterwards
 abbrev pub store_after : CallSign → Store → State → List Event → Store

@@ -1,5 +1,5 @@
--- The uploads of a caller's session (FTL0 1990, uploading): its states while it receives files or is ready to, and its table
--- row by row, as far as it is of uploading.
+-- The uploads of a caller's session (FTL0 1990, uploading): its states while it receives files or is ready to, and its
+-- table row by row, as far as it is of uploading.
 use Rattle.std.specs.Prelude.{ℕ, ◌+◌, ◌==◌, List, [], ◌∷◌, ◌++◌, length, Option, None, Some, Ok}
 use Rattle.std.specs.Prelude.{bytes_eq, Bool, true, false, not, ◌&&◌, ◌||◌, if◌then◌else◌}
 use Rattle.px_base.specs.CallSign.{CallSign}
@@ -29,9 +29,9 @@ pub record Row : Type 0 where
 abbrev pub is_upload_kind : ℕ → Bool
 is_upload_kind kind = (kind == 0) || (kind == 1) || (kind == 3)
 
--- Command, an UPLOAD_CMD that is refused: UL_ERROR_RESP with this code, and nothing else changes.
-abbrev pub refused_row : ℕ → Row
-refused_row code = record { state = command; commands = []; replies = ul_error_resp code ∷ [] }
+-- A packet that is refused in this state: UL_ERROR_RESP with this code, and nothing else changes.
+abbrev pub refused_row : State → ℕ → Row
+refused_row state code = record { state = state; commands = []; replies = ul_error_resp code ∷ [] }
 
 -- the row of a new file that is begun: UL_GO_RESP with its number and offset 0, and its octets come next
 abbrev pub granted_row : CallSign → ℕ → ℕ → ℕ → Row
@@ -46,7 +46,7 @@ granted_row caller moment number file_length =
 -- too long, or no entry, no number or no room is left: error 13.
 abbrev pub begin_row : CallSign → ℕ → Store → ℕ → Row
 begin_row caller moment store file_length =
-    if can_begin store file_length then granted_row caller moment store.next file_length else refused_row 13
+    if can_begin store file_length then granted_row caller moment store.next file_length else refused_row command 13
 
 -- the same call
 abbrev pub is_same_call : CallSign → CallSign → Bool
@@ -65,10 +65,10 @@ resumed_row number held =
 -- Command, UPLOAD_CMD with the number of a file. No entry of the number stands: error 4. It is of another caller, or
 -- has another length: error 2. It is complete: error 12. Else the file goes on.
 abbrev pub continue_row : CallSign → ℕ → ℕ → Option Entry → Row
-continue_row caller number file_length None = refused_row 4
+continue_row caller number file_length None = refused_row command 4
 continue_row caller number file_length (Some entry) =
-    if not (is_theirs caller file_length entry) then refused_row 2
-    else if is_complete entry.holding then refused_row 12
+    if not (is_theirs caller file_length entry) then refused_row command 2
+    else if is_complete entry.holding then refused_row command 12
     else resumed_row number (length (octets_of entry.holding))
 
 -- Command, UPLOAD_CMD: number 0 is for a new file, and any other for the file of that number.
@@ -118,16 +118,13 @@ end_row moment store number rest =
 abbrev pub silent_row : State → Row
 silent_row state = record { state = state; commands = []; replies = [] }
 
--- Any packet that belongs to uploading and has no row of its own, malformed ones too: error 1, and nothing else changes.
--- Any other packet has no row here.
+-- Any packet that belongs to uploading and has no row of its own, malformed ones too: error 1, and nothing else
+-- changes. Any other packet has no row here.
 abbrev pub error_row : State → Item → Option Row
-error_row state item =
-    if is_upload_kind (kind_of_item item)
-    then Some (record { state = state; commands = []; replies = ul_error_resp 1 ∷ [] })
-    else None
+error_row state item = if is_upload_kind (kind_of_item item) then Some (refused_row state 1) else None
 
--- The table, row by row: what a packet gives in a state, over a store, at a moment. None where the packet has no row of
--- uploading.
+-- The table, row by row: what a packet gives in a state, over a store, at a moment. None exactly where the packet isn't
+-- of uploading.
 unfoldable pub session_row : CallSign → ℕ → Store → State → Item → Option Row
 session_row caller moment store command (Ok (upload_cmd number file_length)) =
     Some (upload_row caller moment store number file_length)

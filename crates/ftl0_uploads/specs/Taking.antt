@@ -1,6 +1,5 @@
--- How the code's session answers a packet, and what that does to the disk.
-use Rattle.std.specs.Prelude.{◌≡◌, ℕ, List, [], ◌∷◌, true, false, IfSome, IsTrue, ⊤}
-use Rattle.std.specs.Prelude.{Option, None, Some, Result, Ok, Err, IsErrOf}
+-- How the code's session answers a packet of uploading, and what that does to the disk.
+use Rattle.std.specs.Prelude.{◌≡◌, ℕ, List, [], ◌∷◌, IsTrue, ⊤, Option, Some, IfSome, Result, Ok, Err, IsErrOf}
 use Rattle.px_base.specs.CallSign.{CallSign}
 use Rattle.disk_model.specs.declared.disk.Disk.{Ghosts}
 use Rattle.ftl0_packets.specs.Layout.{Item, ul_error_resp}
@@ -17,12 +16,11 @@ use Rattle.ftl0_uploads.specs.declared.phase.Phase.{Phase}
 use Rattle.ftl0_uploads.specs.declared.stop.ServerStop.{ServerStop}
 use Rattle.ftl0_uploads.specs.declared.stop.ServerStop.TheVariants as stop
 use Rattle.ftl0_uploads.specs.Others.{KeepsOtherCallers}
-use Rattle.ftl0_packets.specs.Items.{kind_of_item, texts}
-use Rattle.ftl0_uploads.specs.Session.{Row, State, command, fault_reply, is_upload_kind, session_row}
-use Rattle.ftl0_uploads.specs.Session.{takes_memory}
+use Rattle.ftl0_packets.specs.Items.{texts}
+use Rattle.ftl0_uploads.specs.Session.{Row, State, command, fault_reply, session_row, takes_memory}
 use Rattle.ftl0_uploads.specs.SessionState.{NoOtherOut, PhaseIsHeld, SessionState, number_of, state_of}
 
--- the packet's row over this store, if it is built
+-- the packet's row over this store: each packet of uploading has one
 abbrev pub row_of : CallSign → ℕ → StoreState → State → Item → Option Row
 row_of caller moment before state item = session_row caller moment (store_in before) state item
 
@@ -35,15 +33,12 @@ Gives before row now next replies =
 abbrev pub GivesNothing : StoreState → State → StoreState → State → List ℕ → Type 0
 GivesNothing before state now next replies = (now ≡ before) × (next ≡ state) × (replies ≡ [])
 
--- The answer to a packet is its row of the table. A stop says that the row isn't built; that there is no memory, where
--- the row begins a file or takes octets; or that the disk failed in one of the row's commands, which code 3 replies.
+-- The answer to a packet is its row of the table. A stop says that there is no memory, where the row begins a file or
+-- takes octets, and nothing changed; or that the disk failed in one of the row's commands, which code 3 replies.
 abbrev pub Answers :
     CallSign → ℕ → StoreState → State → Item → StoreState → State → List ℕ → Result ⊤ ServerStop → Type 0
 Answers caller moment before state item now next replies (Ok done) =
     (row : Row) × (row_of caller moment before state item ≡ Some row) × Gives before row now next replies
-Answers caller moment before state item now next replies (Err (stop.NotBuilt kind)) =
-    (row_of caller moment before state item ≡ None) × (kind ≡ kind_of_item item)
-    × GivesNothing before state now next replies
 Answers caller moment before state item now next replies (Err stop.OutOfMemory) =
     (row : Row) × (row_of caller moment before state item ≡ Some row)
     × IsTrue (takes_memory item row.state) × GivesNothing before state now next replies
@@ -62,19 +57,11 @@ abbrev pub PutsRow :
     {D : Type 0} → Ghosts D → StoreState → StoreState → D → D → Option Row → Result ⊤ ServerStop → Type 0
 PutsRow g before now disk disk_now row (Ok done) = DoesRow g ⊥ before now disk disk_now row
 PutsRow g before now disk disk_now row (Err stop.Disk) = DoesRow g ⊤ before now disk disk_now row
-PutsRow g before now disk disk_now row (Err (stop.NotBuilt kind)) = disk_now ≡ disk
 PutsRow g before now disk disk_now row (Err stop.OutOfMemory) = disk_now ≡ disk
 
 -- a row without commands leaves the disk as it was
 abbrev pub LeavesDisk : {D : Type 0} → D → D → Option Row → Type 0
 LeavesDisk disk disk_now row = IfSome row (λ r. r.commands ≡ [] → disk_now ≡ disk)
-
--- error 1 for a type that belongs to uploading, and a stop for any other
-abbrev pub Refuses : ℕ → List ℕ → Result ⊤ ServerStop → Type 0
-Refuses kind replies (Ok done) = (is_upload_kind kind ≡ true) × (replies ≡ texts (ul_error_resp 1 ∷ []))
-Refuses kind replies (Err (stop.NotBuilt other)) = (is_upload_kind kind ≡ false) × (other ≡ kind) × (replies ≡ [])
-Refuses kind replies (Err stop.OutOfMemory) = ⊥
-Refuses kind replies (Err stop.Disk) = ⊥
 
 -- the answer by UL_ERROR_RESP with this code
 abbrev pub AnswersCode : ℕ → List ℕ → Result ⊤ ServerStop → Type 0
@@ -100,7 +87,7 @@ TakesPacket moment old before packet new now replies result =
     Answers old.caller moment before (state_of before old.phase) (item_of packet)
     now (state_of now new.phase) replies result
 
--- the row of a packet that a session takes, if it is built
+-- the row of a packet that a session takes
 abbrev pub row_for : ℕ → SessionState → StoreState → Result Packet Malformed → Option Row
 row_for moment old before packet = row_of old.caller moment before (state_of before old.phase) (item_of packet)
 

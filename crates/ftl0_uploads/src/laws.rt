@@ -2,8 +2,14 @@
 
 ghost use Rattle.ftl0_uploads.specs.Continued.{ContinuedLaw};
 ghost use Rattle.ftl0_uploads.specs.Laws.{AcknowledgedLaw, AcknowledgedStandsLaw, FaultCodeLaw, GrantedLaw, ResumedLaw};
+ghost use Rattle.ftl0_uploads.specs.Laws.{RowsLaw};
 ghost use Rattle.ftl0_uploads.specs.Run.{CommandsOfLaw};
 ghost use Rattle.ftl0_uploads.specs.Uploaded.{UploadedLaw};
+
+/// Each packet of uploading has a row in each state, and no other packet has one in any.
+pub fn rows_law()
+    ensures { RowsLaw }
+{}
 
 /// A new file that may be begun is granted.
 pub fn granted_law()

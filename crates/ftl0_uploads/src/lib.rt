@@ -1,5 +1,5 @@
-//! The uploads of one caller's session with the server (FTL0 1990, uploading): the rows of the session's table for DATA,
-//! DATA_END and UPLOAD_CMD, over a store of files on a disk. Any other packet has no row here.
+//! The uploads of one caller's session with the server (FTL0 1990, uploading): the rows of the session's table for
+//! DATA, DATA_END and UPLOAD_CMD, malformed or not, over a store of files on a disk. No other packet is taken.
 #![tactic(auto)]
 
 mod asked;

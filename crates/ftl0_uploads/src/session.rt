@@ -1,23 +1,24 @@
 //! The uploads of one caller's session: what each packet of uploading gives (FTL0 1990, uploading).
 
 ghost use Rattle.std.specs.Prelude.{◌≡◌, ◌≢◌, ◌↔◌, ℕ, [], ◌∷◌, false, true, IsErrOf, IsTrue, None, Ok};
+ghost use Rattle.ftl0_packets.specs.Items.{kind_of_item, texts};
 ghost use Rattle.ftl0_packets.specs.Layout.{data_end, data_part, packet_text, ul_ack_resp, ul_error_resp};
 ghost use Rattle.ftl0_packets.specs.Layout.{ul_go_resp, upload_cmd};
+ghost use Rattle.ftl0_packets.specs.Values.{item_of};
 ghost use Rattle.file_entries.specs.Kept.{KeepsComplete};
 ghost use Rattle.file_journal.specs.Calls.{Puts};
 ghost use Rattle.file_store.specs.State.{StandsOn, store_in};
 ghost use Rattle.ftl0_uploads.specs.Asked.{AnswersAborting, AnswersAsked};
 ghost use Rattle.ftl0_uploads.specs.Others.{KeepsOtherCallers};
-ghost use Rattle.ftl0_packets.specs.Items.{texts};
-ghost use Rattle.ftl0_uploads.specs.Session.{command as in_command, greeting};
+ghost use Rattle.ftl0_uploads.specs.Session.{command as in_command, greeting, is_upload_kind};
 ghost use Rattle.ftl0_uploads.specs.SessionState.{IsHeld, IsOnlyOut, IsReady, NoOtherOut, Parks};
 ghost use Rattle.ftl0_uploads.specs.SessionState.{new_session, receiving_of, state_of};
 ghost use Rattle.ftl0_uploads.specs.Taking.{Answered, AnsweredAlone, AnswersRefusal, LeavesDisk, PutsPacket};
-ghost use Rattle.ftl0_uploads.specs.Taking.{Refuses, TakesPacket, row_for};
+ghost use Rattle.ftl0_uploads.specs.Taking.{TakesPacket, row_for};
 ghost use Rattle.ftl0_uploads.specs.declared.phase.Phase.TheVariants.{Command as command_phase};
 ghost use Rattle.ftl0_uploads.specs.declared.phase.Phase.TheVariants.{Receiving as receiving_phase};
 
-use crate::asked::{Asked, UPLOAD_CMD};
+use crate::asked::Asked;
 use crate::{Phase, ServerStop};
 use arrayvec::ArrayVec;
 use disk_model::Disk;
@@ -114,8 +115,8 @@ impl Session {
         self.caller
     }
 
-    /// Takes a packet: one row of the session's table, or code 3 where the disk fails. The row's commands are on the
-    /// disk before its replies are given. Takes memory, before it touches the disk.
+    /// Takes a packet of uploading: its row of the session's table, or code 3 where the disk fails. The row's commands
+    /// are on the disk before its replies are given. Takes memory, before it touches the disk.
     pub fn take<D: Disk>(
         &mut self,
         disk: &mut D,
@@ -125,6 +126,7 @@ impl Session {
         replies: &mut Replies,
     ) -> Result<(), ServerStop>
         requires empty { replies.old.items ≡ [] }
+        requires kind { is_upload_kind (kind_of_item (item_of packet)) ≡ true }
         requires healthy { store.old.journal.failed ≡ false }
         requires stands_on { StandsOn D.Disk store.old disk.old }
         requires held { IsHeld store.old self.old }
@@ -223,7 +225,7 @@ impl Session {
         match asked {
             Asked::Part(octets) => take_data(disk, self.caller, up, octets, store, replies),
             Asked::End => self.take_end(disk, up, moment, store, replies),
-            _ => (Phase::Receiving(up), refuse(asked.kind(), replies)),
+            _ => refuse(Phase::Receiving(up), ILL_FORMED, replies),
         }
     }
 
@@ -282,7 +284,7 @@ fn take_command<D: Disk>(
     match asked {
         Asked::Upload { number: 0, length } => begin(disk, caller, length, moment, store, replies),
         Asked::Upload { number, length } => resume(caller, number, length, store, replies),
-        _ => (Phase::Command, refuse(asked.kind(), replies)),
+        _ => refuse(Phase::Command, ILL_FORMED, replies),
     }
 }
 
@@ -354,9 +356,9 @@ fn resume(
             go_on(number, up.held(), replies);
             (Phase::Receiving(up), Ok(()))
         }
-        Err(ResumeRefusal::NoSuch) => refuse_upload(NO_SUCH_FILE, replies),
-        Err(ResumeRefusal::Bad) => refuse_upload(BAD_CONTINUE, replies),
-        Err(ResumeRefusal::Complete) => refuse_upload(FILE_COMPLETE, replies),
+        Err(ResumeRefusal::NoSuch) => refuse(Phase::Command, NO_SUCH_FILE, replies),
+        Err(ResumeRefusal::Bad) => refuse(Phase::Command, BAD_CONTINUE, replies),
+        Err(ResumeRefusal::Complete) => refuse(Phase::Command, FILE_COMPLETE, replies),
         Err(ResumeRefusal::Failed) => unreachable!(),
     }
 }
@@ -369,14 +371,14 @@ fn go_on(number: u32, offset: u32, replies: &mut Replies)
     write_packet(&Packet::UlGoResp { number, offset }, replies);
 }
 
-/// Refuses an UPLOAD_CMD with this code.
-fn refuse_upload(code: u8, replies: &mut Replies) -> Taken
+/// Refuses a packet with this code. The phase stays.
+fn refuse(phase: Phase, code: u8, replies: &mut Replies) -> Taken
     requires { replies.old.items ≡ [] }
     ensures text { replies.new.items ≡ texts (ul_error_resp code ∷ []) }
-    ensures taken { result ≡ (command_phase, Ok tt) }
+    ensures taken { result ≡ (phase, Ok tt) }
 {
     write_packet(&Packet::UlErrorResp(code), replies);
-    (Phase::Command, Ok(()))
+    (phase, Ok(()))
 }
 
 /// Receiving, DATA: the octets become the file's, unless they are more than it has.
@@ -419,19 +421,6 @@ fn take_aborting(asked: Asked<'_>, replies: &mut Replies) -> Taken
     match asked {
         Asked::Part(_) => (Phase::Aborting, Ok(())),
         Asked::End => (Phase::Command, Ok(())),
-        _ => (Phase::Aborting, refuse(asked.kind(), replies)),
+        _ => refuse(Phase::Aborting, ILL_FORMED, replies),
     }
-}
-
-/// A packet of this type that is malformed or has no row of its own in the state: error 1 where it is DATA, DATA_END or
-/// UPLOAD_CMD. Any other has no row of uploading.
-fn refuse(kind: u8, replies: &mut Replies) -> Result<(), ServerStop>
-    requires { replies.old.items ≡ [] }
-    ensures { Refuses kind replies.new.items result }
-{
-    if !matches!(kind, 0 | 1 | UPLOAD_CMD) {
-        return Err(ServerStop::NotBuilt { kind });
-    }
-    write_packet(&Packet::UlErrorResp(ILL_FORMED), replies);
-    Ok(())
 }

@@ -5,12 +5,6 @@ use thiserror::Error;
 /// Why a session goes on no further.
 #[derive(Clone, Copy, Debug, PartialEq, Eq, Error)]
 pub enum ServerStop {
-    /// The packet has no row of uploading. It gave nothing: session, store and disk are as they were.
-    #[error("the packet asks for what is not built yet")]
-    NotBuilt {
-        /// The packet's type.
-        kind: u8,
-    },
     /// A write or a sync of the disk failed, and its count of write faults rose. The reply has code 3; the upload is
     /// spent, and the store has failed. Some of the packet's octets may be held, and its file begun, complete or gone.
     #[error("the disk failed")]

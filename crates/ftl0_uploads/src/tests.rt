@@ -7,10 +7,6 @@ use std::test::Fail;
 #[test]
 fn stops_are_shown(rt: HostRuntime) -> Result<(), Fail> {
     for (stop, text) in [
-        (
-            ServerStop::NotBuilt { kind: 8 },
-            "the packet asks for what is not built yet",
-        ),
         (ServerStop::Disk, "the disk failed"),
         (ServerStop::OutOfMemory, "out of memory"),
     ] {

@@ -1,19 +1,22 @@
--- A packet of uploading has a row of it, which is its row.
+-- A packet of uploading is answered by its row of it.
+use Rattle.std.proofs.Common.{sym, subst}
+use Rattle.std.specs.Prelude.{⊤, Result}
 use Rattle.ftl0_packets.specs.Values.{item_of}
 use Rattle.file_store.specs.State.{store_in}
-use Rattle.ftl0_uploads.specs.SessionState.{state_of}
-use Rattle.ftl0_session.proofs.UploadLemmas.{has-row, taken-upload}
+use Rattle.ftl0_downloads.specs.Table.{ready}
+use Rattle.ftl0_session.specs.declared.stop.ServerStop.{ServerStop}
+use Rattle.ftl0_session.specs.SessionState.{session_of}
+use Rattle.ftl0_session.specs.Taking.{Taken}
+use Rattle.ftl0_session.proofs.UploadLemmas.{taken-upload}
 use Rattle.ftl0_session.proofs.session.take_upload.Goals as goal
-
-pub answer_of-requires : goal.answer_of-requires
-answer_of-requires g c =
-    has-row c.args.uploads.now.caller c.args.moment c.args.store.now (state_of c.args.store.now c.args.uploads.now.phase) (item_of c.args.packet) c.take.new.store
-    (state_of c.take.new.store c.take.new.self.phase) c.take.new.replies.items c.take.result c.requires.kind c.take.ensures.takes
 
 pub returns : goal.returns
 returns g c =
-    taken-upload g.D.Disk c.args.moment (item_of c.args.packet) c.args.uploads.now c.take.new.self c.args.store.now c.take.new.store c.args.lists.now c.args.disk.now c.take.new.disk
-    c.take.new.replies.items c.take.result c.answer_of.result c.requires.kind c.answer_of.ensures c.take.ensures.takes c.take.ensures.on_disk c.take.ensures.untouched
+    let P : Result ⊤ ServerStop → Type 0 = λ result. Taken g.D.Disk c.args.moment (item_of c.args.packet) (session_of c.args.uploads.now ready) (session_of c.take.new.self ready)
+    c.args.store.now c.take.new.store c.args.lists.now c.args.lists.now c.args.disk.now c.take.new.disk c.take.new.replies.items result in
+    subst P (sym c.answer_of.ensures)
+    (taken-upload g.D.Disk c.args.moment (item_of c.args.packet) c.args.uploads.now c.take.new.self c.args.store.now c.take.new.store c.args.lists.now c.args.disk.now c.take.new.disk
+    c.take.new.replies.items c.take.result c.requires.kind c.take.ensures.takes c.take.ensures.on_disk c.take.ensures.untouched
     c.take.ensures.puts c.take.ensures.failed c.take.ensures.kept c.take.ensures.others c.take.ensures.caller c.take.ensures.healthy c.take.ensures.stands_on c.take.ensures.held
     c.take.ensures.only (c.stays_law.ensures.lists (store_in c.args.store.now) (store_in c.take.new.store) c.args.lists.now c.take.ensures.kept c.requires.may.complete)
-    (g.met.D.Disk.lasts_same c.args.disk.now)
+    (g.met.D.Disk.lasts_same c.args.disk.now))

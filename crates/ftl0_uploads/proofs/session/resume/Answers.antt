@@ -9,7 +9,7 @@ use Rattle.ftl0_packets.specs.Items.{texts}
 use Rattle.ftl0_uploads.specs.Session.{resumed_row}
 use Rattle.ftl0_uploads.specs.SessionState.{NoOtherOut}
 use Rattle.ftl0_uploads.proofs.OtherLemmas.{only-own, only-wider, others-kept, touches-same}
-use Rattle.ftl0_uploads.proofs.Rows.{alone-refused, none-at}
+use Rattle.ftl0_uploads.proofs.Rows.{none-at, upload-refused}
 use Rattle.ftl0_uploads.proofs.UploadRows.{receiving-at, row-bad, row-no_such, row-resumed, row-whole_already}
 use Rattle.ftl0_uploads.proofs.session.resume.Goals as goal
 
@@ -45,20 +45,20 @@ returns-in-Ok c = λ moment.
 
 pub returns-in-Err-NoSuch : goal.returns-in-Err-NoSuch
 returns-in-Err-NoSuch c = λ moment.
-    alone-refused c.args.caller moment _ c.args.store.now c.resume.new.self 4 _ _
+    upload-refused c.args.caller moment _ c.args.store.now c.resume.new.self 4 _ _
     (row-no_such c.args.caller moment c.args.number c.args.length c.requires.number (store_in c.args.store.now) (rw c.in-Err-NoSuch.field-0-is at c.in-Err-NoSuch.ensures.refused))
-    c.in-Err-NoSuch.ensures.err c.refuse_upload.ensures.taken c.refuse_upload.ensures.text c.requires.only
+    c.in-Err-NoSuch.ensures.err c.refuse.ensures.taken c.refuse.ensures.text c.requires.only
 
 pub returns-in-Err-Bad : goal.returns-in-Err-Bad
 returns-in-Err-Bad c = λ moment.
     let bad = rw c.in-Err-Bad.field-0-is at c.in-Err-Bad.ensures.refused in
-    alone-refused c.args.caller moment _ c.args.store.now c.resume.new.self 2 _ _
+    upload-refused c.args.caller moment _ c.args.store.now c.resume.new.self 2 _ _
     (row-bad c.args.caller moment c.args.number c.args.length c.requires.number (store_in c.args.store.now) bad.0 bad.1 bad.2)
-    c.in-Err-Bad.ensures.err c.refuse_upload-in-Err-Bad.ensures.taken c.refuse_upload-in-Err-Bad.ensures.text c.requires.only
+    c.in-Err-Bad.ensures.err c.refuse-in-Err-Bad.ensures.taken c.refuse-in-Err-Bad.ensures.text c.requires.only
 
 pub returns-in-Err-Complete : goal.returns-in-Err-Complete
 returns-in-Err-Complete c = λ moment.
     let whole = rw c.in-Err-Complete.field-0-is at c.in-Err-Complete.ensures.refused in
-    alone-refused c.args.caller moment _ c.args.store.now c.resume.new.self 12 _ _
+    upload-refused c.args.caller moment _ c.args.store.now c.resume.new.self 12 _ _
     (row-whole_already c.args.caller moment c.args.number c.args.length c.requires.number (store_in c.args.store.now) whole.0 whole.1.0 whole.1.1 whole.1.2 whole.2)
-    c.in-Err-Complete.ensures.err c.refuse_upload-in-Err-Complete.ensures.taken c.refuse_upload-in-Err-Complete.ensures.text c.requires.only
+    c.in-Err-Complete.ensures.err c.refuse-in-Err-Complete.ensures.taken c.refuse-in-Err-Complete.ensures.text c.requires.only

@@ -3,7 +3,7 @@ use Rattle.std.proofs.Common.{refl}
 use Rattle.file_store.specs.State.{store_in}
 use Rattle.ftl0_uploads.specs.declared.phase.Phase.TheVariants as phase
 use Rattle.ftl0_uploads.specs.Session.{aborting, command, silent_row}
-use Rattle.ftl0_uploads.proofs.Rows.{alone-error, alone-row, error-aborting, row-aborting_data, row-aborting_end, row-at}
+use Rattle.ftl0_uploads.proofs.Rows.{alone-refused, alone-row, error-aborting, row-aborting_data, row-aborting_end, row-at}
 use Rattle.ftl0_uploads.proofs.session.take_aborting.Goals as goal
 
 pub returns-in-Part : goal.returns-in-Part
@@ -20,5 +20,5 @@ returns-in-End c = λ caller moment store item only is.
 
 pub returns-in_default : goal.returns-in_default
 returns-in_default c = λ caller moment store item only is.
-    let error = error-aborting caller moment (store_in store) item _ c.in_default.not-Part c.in_default.not-End is in
-    alone-error caller moment aborting item store phase.Aborting _ _ _ error.0 refl error.1 (rw c.kind.ensures at c.refuse.ensures) tt only
+    let row = error-aborting caller moment (store_in store) item _ c.in_default.not-Part c.in_default.not-End is in
+    alone-refused caller moment aborting item store phase.Aborting 1 _ _ row refl c.refuse.ensures.taken c.refuse.ensures.text tt only

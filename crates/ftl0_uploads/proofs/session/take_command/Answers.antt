@@ -7,7 +7,7 @@ use Rattle.ftl0_uploads.specs.declared.phase.Phase.TheVariants as phase
 use Rattle.ftl0_uploads.specs.Session.{command}
 use Rattle.ftl0_uploads.specs.Taking.{Answered}
 use Rattle.ftl0_uploads.proofs.DoesLemmas.{answered-alone}
-use Rattle.ftl0_uploads.proofs.Rows.{alone-error, error-command}
+use Rattle.ftl0_uploads.proofs.Rows.{alone-refused, error-command}
 use Rattle.ftl0_uploads.proofs.session.take_command.Goals as goal
 
 pub returns-in-Upload : goal.returns-in-Upload
@@ -20,7 +20,7 @@ returns-in-Upload g c = λ item is.
 
 pub returns-in_default : goal.returns-in_default
 returns-in_default g c = λ item is.
-    let error = error-command c.args.caller c.args.moment (store_in c.args.store.now) item _ c.in_default.not-Upload is in
+    let row = error-command c.args.caller c.args.moment (store_in c.args.store.now) item _ c.in_default.not-Upload is in
     answered-alone g.D.Disk c.args.caller c.args.moment command item c.args.store.now c.args.store.now c.args.disk.now _ _ c.requires.ready.healthy c.requires.ready.stands_on
     (g.met.D.Disk.lasts_same c.args.disk.now)
-    (alone-error c.args.caller c.args.moment command item c.args.store.now phase.Command _ _ _ error.0 refl error.1 (rw c.kind.ensures at c.refuse.ensures) tt c.requires.ready.only)
+    (alone-refused c.args.caller c.args.moment command item c.args.store.now phase.Command 1 _ _ row refl c.refuse.ensures.taken c.refuse.ensures.text tt c.requires.ready.only)

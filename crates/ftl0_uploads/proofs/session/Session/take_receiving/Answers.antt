@@ -9,7 +9,7 @@ use Rattle.ftl0_uploads.specs.declared.phase.Phase.TheVariants as phase
 use Rattle.ftl0_uploads.specs.SessionState.{SessionState, receiving_of}
 use Rattle.ftl0_uploads.specs.Taking.{Answered}
 use Rattle.ftl0_uploads.proofs.DoesLemmas.{answered-alone}
-use Rattle.ftl0_uploads.proofs.Rows.{alone-error, error-receiving}
+use Rattle.ftl0_uploads.proofs.Rows.{alone-refused, error-receiving}
 use Rattle.ftl0_uploads.proofs.session.Session.take_receiving.Goals as goal
 
 pub returns-in-Part-clause-answered : goal.returns-in-Part-clause-answered
@@ -21,8 +21,8 @@ returns-in-Part-clause-answered g c = λ item is.
 
 pub returns-in_default-clause-answered : goal.returns-in_default-clause-answered
 returns-in_default-clause-answered g c = λ item is.
-    let error = error-receiving c.args.self.now.caller c.args.moment (store_in c.args.store.now) c.args.up.number (waiting c.args.store.now c.args.up) item _ c.in_default.not-Part c.in_default.not-End is in
+    let row = error-receiving c.args.self.now.caller c.args.moment (store_in c.args.store.now) c.args.up.number (waiting c.args.store.now c.args.up) item _ c.in_default.not-Part c.in_default.not-End is in
     answered-alone g.D.Disk c.args.self.now.caller c.args.moment (receiving_of c.args.store.now c.args.up) item c.args.store.now c.args.store.now c.args.disk.now _ _
     c.requires.ready.healthy c.requires.ready.stands_on (g.met.D.Disk.lasts_same c.args.disk.now)
-    (alone-error c.args.self.now.caller c.args.moment (receiving_of c.args.store.now c.args.up) item c.args.store.now (phase.Receiving c.args.up) _ _ _ error.0 refl error.1
-    (rw c.kind.ensures at c.refuse.ensures) c.requires.ready.held c.requires.ready.only)
+    (alone-refused c.args.self.now.caller c.args.moment (receiving_of c.args.store.now c.args.up) item c.args.store.now (phase.Receiving c.args.up) 1 _ _ row refl c.refuse.ensures.taken
+    c.refuse.ensures.text c.requires.ready.held c.requires.ready.only)
