@@ -1,3 +1,4 @@
+pub mod DownloadLemmas
 pub mod FaultLemmas
 pub mod FillLemmas
 pub mod LawLemmas

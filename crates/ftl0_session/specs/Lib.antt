@@ -1,3 +1,4 @@
+pub mod DownloadLaws
 pub mod Filling
 pub mod Laws
 pub mod Run

@@ -1,5 +1,6 @@
 //! Laws of the session's whole table, and of a session over events.
 
+ghost use Rattle.ftl0_session.specs.DownloadLaws.{DownloadedLaw, DownloadsLaw, LongListedLaw, SentLaw, ShortListedLaw};
 ghost use Rattle.ftl0_session.specs.Laws.{AcknowledgedLaw, AcknowledgedStandsLaw, DueFaultLaw, FaultCodeLaw};
 ghost use Rattle.ftl0_session.specs.Laws.{GrantedLaw, ResumedLaw, UploadsLaw};
 ghost use Rattle.ftl0_session.specs.Run.{CommandsLaw, UploadRunLaw};
@@ -37,6 +38,31 @@ pub fn acknowledged_stands_law()
 pub fn fault_code_law()
     ensures rows { FaultCodeLaw }
     ensures due { DueFaultLaw }
+{}
+
+/// Each row of downloading is a row of the whole table, while nothing is done of uploading: what holds of the rows of
+/// `ftl0_downloads` holds of it.
+pub fn downloads_law()
+    ensures { DownloadsLaw }
+{}
+
+/// In an event in which no read fails, the DATA that are sent from a state on have together exactly the octets that
+/// are due, and then comes DATA_END.
+pub fn sent_law()
+    ensures { SentLaw }
+{}
+
+/// A complete file that is asked for from an offset on, up to its length, is sent exactly from there to its end, over
+/// the command's event: DATA with these octets and then DATA_END, so DATA_END alone where the offset is its length.
+pub fn downloaded_law()
+    ensures { DownloadedLaw }
+{}
+
+/// Over the event of a directory command exactly the short forms of the complete files that it lists are sent, or
+/// exactly their headers, one after another, and then DATA_END.
+pub fn listed_law()
+    ensures short { ShortListedLaw }
+    ensures long { LongListedLaw }
 {}
 
 /// The store that a session over events comes to is the one after the commands of their rows.

@@ -1,6 +1,6 @@
 -- The disk faults of an event. A part of an event is one packet that is taken, or one DATA that is due; the parts are
 -- numbered in order through the event, from 0 on.
-use Rattle.std.specs.Prelude.{ℕ, ◌==◌, List, [], ◌∷◌, Bool, true, false, ◌&&◌, map}
+use Rattle.std.specs.Prelude.{◌≡◌, ℕ, ◌==◌, List, [], ◌∷◌, Bool, true, false, ◌&&◌, map}
 use Rattle.std.specs.List.{list_any}
 
 -- what failed: a read; or a write or a sync
@@ -28,6 +28,10 @@ read_fails failures part = list_any (λ failure. (failure.part == part) && is_re
 -- whether this part is listed with a write or a sync that failed
 abbrev pub write_fails : List Failure → ℕ → Bool
 write_fails failures part = list_any (λ failure. (failure.part == part) && is_write_fault failure.fault) failures
+
+-- no part is listed with a read that failed
+abbrev pub NoReadFails : List Failure → Type 0
+NoReadFails failures = (part : ℕ) → read_fails failures part ≡ false
 
 -- nothing failed but a write or a sync of this part
 abbrev pub failed_write : ℕ → List Failure
