@@ -34,7 +34,7 @@ Sends store state failures part (packet ∷ packets) now =
     (next : State) × (due_at store state failures part ≡ Some (record { packet = packet; state = next }))
     × Sends store next failures (suc part) packets now
 
--- Over these events, at no packet of which a write or a sync fails, the session comes from one store, lists and state
+-- Over these events, of whose failures the reads alone count, the session comes from one store, lists and state
 -- to another: it says these packets, all that is due right behind each packet's replies, and does these commands.
 abbrev pub RunsOver :
     CallSign → Store → List CallerList → State → List Event → List PacketValue → List Command → Store

@@ -70,7 +70,7 @@ impl Session {
         };
         write_packet(&greeting, replies);
         Session {
-            uploads: Uploads::of_caller(caller),
+            uploads: Uploads::new(caller),
             downloads: Downloads::new(),
         }
     }

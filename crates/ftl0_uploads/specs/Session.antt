@@ -5,7 +5,7 @@ use Rattle.std.specs.Prelude.{bytes_eq, Bool, true, false, not, ◌&&◌, ◌||�
 use Rattle.px_base.specs.CallSign.{CallSign}
 use Rattle.pfh_items.specs.Faults.{fault_code}
 use Rattle.ftl0_packets.specs.Items.{kind_of_item}
-use Rattle.ftl0_packets.specs.Layout.{Item, PacketValue, data_part, data_end, login_resp}
+use Rattle.ftl0_packets.specs.Layout.{Item, PacketValue, data_part, data_end}
 use Rattle.ftl0_packets.specs.Layout.{ul_ack_resp, ul_error_resp, ul_go_resp, ul_nak_resp, upload_cmd}
 use Rattle.file_entries.specs.Command.{Command, begin, drop_entry, seal, can_begin, has_room, passes}
 use Rattle.file_entries.specs.Command.{last_grow, unfilled_block, whole_grows}
@@ -153,7 +153,3 @@ abbrev pub takes_memory : Item → State → Bool
 takes_memory (Ok (upload_cmd number file_length)) next = (number == 0) && is_receiving next
 takes_memory (Ok (data_part octets)) next = is_receiving next
 takes_memory item next = false
-
--- The reply to the connection (FTL0 1990, LOGIN_RESP): the moment; version 0, and file headers in use.
-abbrev pub greeting : ℕ → PacketValue
-greeting moment = login_resp moment 4

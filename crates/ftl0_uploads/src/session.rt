@@ -10,7 +10,7 @@ ghost use Rattle.file_journal.specs.Calls.{Puts};
 ghost use Rattle.file_store.specs.State.{StandsOn, store_in};
 ghost use Rattle.ftl0_uploads.specs.Asked.{AnswersAborting, AnswersAsked};
 ghost use Rattle.ftl0_uploads.specs.Others.{KeepsOtherCallers};
-ghost use Rattle.ftl0_uploads.specs.Session.{command as in_command, greeting, is_upload_kind};
+ghost use Rattle.ftl0_uploads.specs.Session.{command as in_command, is_upload_kind};
 ghost use Rattle.ftl0_uploads.specs.SessionState.{IsHeld, IsOnlyOut, IsReady, NoOtherOut, Parks};
 ghost use Rattle.ftl0_uploads.specs.SessionState.{new_session, receiving_of, state_of};
 ghost use Rattle.ftl0_uploads.specs.Taking.{Answered, AnsweredAlone, AnswersRefusal, LeavesDisk, PutsPacket};
@@ -30,9 +30,6 @@ use ftl0_packets::{Malformed, Packet, write_packet};
 use px_base::Call;
 use std::marker::Model;
 use std::mem;
-
-/// Bit 2 of LOGIN_RESP's flags: file headers are in use. Bits 1 and 0 are the version, 0.
-const FLAGS: u8 = 4;
 
 /// The code of an ill-formed command, or of a packet that has no place in the state.
 const ILL_FORMED: u8 = 1;
@@ -76,23 +73,8 @@ impl Model for Session {
 type Taken = (Phase, Result<(), ServerStop>);
 
 impl Session {
-    /// The session of this caller, in the state Command, with LOGIN_RESP at this moment among the replies (FTL0 1990,
-    /// LOGIN_RESP). Takes no memory.
-    pub fn new(caller: Call, moment: u32, replies: &mut Replies) -> Session
-        requires { replies.old.items ≡ [] }
-        ensures session { result ≡ new_session caller }
-        ensures text { replies.new.items ≡ packet_text (greeting moment) }
-    {
-        let greeting = Packet::LoginResp {
-            moment,
-            flags: FLAGS,
-        };
-        write_packet(&greeting, replies);
-        Session::of_caller(caller)
-    }
-
     /// The session of this caller, in the state Command; nothing is replied. Takes no memory.
-    pub fn of_caller(caller: Call) -> Session
+    pub fn new(caller: Call) -> Session
         ensures { result ≡ new_session caller }
     {
         Session {
