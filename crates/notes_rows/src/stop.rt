@@ -1,0 +1,104 @@
+//! A row of a disk that stops, and of what is recovered from it.
+
+use crate::calls::play_calls;
+use crate::octets::read_octets;
+use anyhow::{Context, Result};
+use disk_model::{FuseDisk, MemoryDisk};
+use std::alloc::Global;
+
+/// What is done on a disk that stops, and what is then asked.
+#[derive(Clone, Copy)]
+struct Stop<'a> {
+    /// How many calls of `write_at` and `sync` pass.
+    count: u64,
+    /// The disk's octets at first.
+    octets: &'a [u8],
+    /// The calls in which it stops.
+    calls: &'a str,
+    /// The calls that are made on the notes that are recovered.
+    questions: &'a str,
+}
+
+/// Plays the row, and gives what is printed for it. Takes memory.
+pub fn play(alloc: Global, row: &str) -> Result<String> {
+    let (count, rest) = row.split_once('|').context("no count")?;
+    let (octets, rest) = rest.split_once('|').context("no octets")?;
+    let (calls, rest) = rest.split_once('|').context("no calls")?;
+    let (picks, questions) = rest.split_once('|').context("no picks")?;
+    let octets = read_octets(alloc, octets)?;
+    let stop = Stop {
+        count: count.trim().parse::<u64>()?,
+        octets: octets.as_slice(),
+        calls,
+        questions,
+    };
+    stop.text(alloc, picks)
+}
+
+impl Stop<'_> {
+    /// What is printed for it.
+    fn text(&self, alloc: Global, picks: &str) -> Result<String> {
+        let (answers, _disk) = self.stopped(alloc)?;
+        let before = self.asked(alloc, self.disk(alloc)?)?;
+        let after = self.asked(alloc, self.done(alloc)?)?;
+        let mut text = format!(in alloc; "{answers} | {before} | {after}")?;
+        for pick in picks.split_whitespace() {
+            let found = self.asked(alloc, self.left(alloc, pick)?)?;
+            let which = which(found.as_str(), before.as_str(), after.as_str());
+            push_found(&mut text, pick, which)?;
+        }
+        Ok(text)
+    }
+
+    /// What is answered by the notes that are recovered from a disk.
+    fn asked(&self, alloc: Global, mut disk: MemoryDisk) -> Result<String> {
+        play_calls(alloc, &mut disk, self.questions)
+    }
+
+    /// The disk before.
+    fn disk(&self, alloc: Global) -> Result<MemoryDisk> {
+        Ok(MemoryDisk::new(alloc, self.octets, &[])?)
+    }
+
+    /// The disk after the calls, where it doesn't stop in them.
+    fn done(&self, alloc: Global) -> Result<MemoryDisk> {
+        let mut disk = self.disk(alloc)?;
+        let _answers = play_calls(alloc, &mut disk, self.calls)?;
+        Ok(disk)
+    }
+
+    /// What the calls answer where it stops in them, and the disk then.
+    fn stopped(&self, alloc: Global) -> Result<(String, MemoryDisk)> {
+        let mut disk = FuseDisk::new(self.disk(alloc)?, self.count);
+        let answers = play_calls(alloc, &mut disk, self.calls)?;
+        Ok((answers, disk.into_disk()))
+    }
+
+    /// The disk that it leaves: as it is, or what a crash leaves of it, as a number picks it.
+    fn left(&self, alloc: Global, pick: &str) -> Result<MemoryDisk> {
+        let (_answers, disk) = self.stopped(alloc)?;
+        match pick {
+            "-" => Ok(disk),
+            number => Ok(disk.crash(number.parse::<u64>()?)?),
+        }
+    }
+}
+
+/// Which answers were found: those before, those after, or themselves.
+fn which<'a>(found: &'a str, before: &str, after: &str) -> &'a str {
+    if found == before {
+        "before"
+    } else if found == after {
+        "after"
+    } else {
+        found
+    }
+}
+
+/// Puts what was found at a pick behind the text.
+fn push_found(text: &mut String, pick: &str, which: &str) -> Result<()> {
+    for part in [" | ", pick, " ", which] {
+        text.push_str(part)?;
+    }
+    Ok(())
+}
