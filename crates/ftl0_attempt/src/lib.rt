@@ -1,0 +1,13 @@
+//! An attempt of a client: one SABM that it sent, and all that follows until it sends the next. It is the client's end
+//! of the link, and the job over it (AX.25 2.0, 2.4; FTL0 1990), over notes and a disk that it doesn't hold. Frames and
+//! ticks go in, frames come out, and the notes' commands are on the disk before any of them does.
+#![tactic(auto)]
+
+mod attempt;
+pub mod laws;
+mod outcome;
+#[cfg(test)]
+mod tests;
+
+pub use attempt::Attempt;
+pub use outcome::AttemptOutcome;
