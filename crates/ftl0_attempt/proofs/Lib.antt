@@ -1,0 +1,10 @@
+pub mod AnswerLemmas
+pub mod FeedLemmas
+pub mod HearLemmas
+pub mod Invariants
+pub mod LinkLemmas
+pub mod OctetsLemmas
+pub mod QueuingLemmas
+pub mod SettlingLemmas
+pub mod TakingLemmas
+pub mod WaitingLemmas

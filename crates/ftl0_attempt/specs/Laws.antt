@@ -1,5 +1,5 @@
 -- Laws of an attempt: what is due is queued, and an outcome stays.
-use Rattle.std.specs.Prelude.{◌≡◌, ◌⊎◌, ℕ, ◌<◌, None, Some}
+use Rattle.std.specs.Prelude.{◌≡◌, ◌⊎◌, ℕ, ◌<◌, [], None, Some}
 use Rattle.ax25_frames.specs.FrameText.{FrameValue}
 use Rattle.ax25_link.specs.declared.state.LinkState.TheVariants.{Up}
 use Rattle.ax25_link.specs.Ends.{free_octets}
@@ -23,4 +23,5 @@ QueuedLaw = (a : Attempted) → a.end.state ≡ Up → IsQueued (settled a)
 abbrev pub StaysLaw : Type 0
 StaysLaw =
     (w : Window) (lists : Lists) (a : Attempted) (frame : FrameValue) (ending : Ending) → a.job.ending ≡ Some ending
-    → ((hearing w lists a frame).after.job ≡ a.job) × ((ticking a).job ≡ a.job)
+    → ((hearing w lists a frame).after.job ≡ a.job) × ((hearing w lists a frame).noted ≡ [])
+    × ((ticking a).job ≡ a.job)

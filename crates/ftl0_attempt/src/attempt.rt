@@ -130,7 +130,7 @@ impl Attempt {
     pub fn tick(&mut self)
         requires { is_pending self.old.link ≡ false }
         ensures ticks { Becomes self.old self.new (λ w a. ticking a) }
-        ensures keeps { (lists : Lists) → NotesGoWith lists self.old.job → NotesGoWith lists self.new.job }
+        ensures notes_are { (lists : Lists) → NotesGoWith lists self.old.job → NotesGoWith lists self.new.job }
         ensures stations { SameStations self.old.link self.new.link }
     {
         self.count_tick();
@@ -214,6 +214,7 @@ impl Attempt {
             (taking notes.old.lists (after_hearing w a (value_of frame.now)) (packets_heard w a (value_of frame.now)))
             (after_hearing w a (value_of frame.now)) (packets_heard w a (value_of frame.now))
             notes.old notes.new disk.old disk.new self.new result }
+        ensures puts { PutsBy D.Disk disk.old disk.new result }
         ensures fit { LeavesFit D.Disk notes.new disk.new self.old.link self.new.link self.new.job result }
     {
         match self.link.take(frame) {
@@ -230,7 +231,8 @@ impl Attempt {
     fn count_tick(&mut self)
         requires { is_pending self.old.link ≡ false }
         ensures ticks { Becomes self.old self.new (λ w a. after_ticking a) }
-        ensures keeps { KeepsFit self.old self.new }
+        ensures job { self.new.job ≡ self.old.job }
+        ensures stations { SameStations self.old.link self.new.link }
     {
         if let Some(why) = self.link.tick() {
             self.close(why);
@@ -380,10 +382,11 @@ fn answer<D: Disk>(
 /// Queues replies to a packet of this type, or loses them where the link has no room for them; and hangs the link up
 /// where the job's outcome asks for that at once.
 fn reply(link: &mut Link, job: &mut Job, text: &[u8], kind: u8)
-    requires { link.old.state ≡ LinkState.Up }
+    requires some { StandsForSome link.old }
+    requires up { link.old.state ≡ LinkState.Up }
     ensures replies { (w : Window) (end : LinkEnd) → StandsFor w link.old end →
         RepliesAndParts kind text.now job.old job.new w end link.new }
-    ensures up { StandsForSome link.old → job.new.ending ≡ None → link.new.state ≡ LinkState.Up }
+    ensures up { job.new.ending ≡ None → link.new.state ≡ LinkState.Up }
     ensures notes_are { (lists : Lists) → NotesGoWith lists job.old → NotesGoWith lists job.new }
     ensures stations { SameStations link.old link.new }
 {
@@ -394,12 +397,13 @@ fn reply(link: &mut Link, job: &mut Job, text: &[u8], kind: u8)
 /// Queues replies to a packet of this type. Where the link has no room for them nothing of them is queued, and the
 /// packet is strange.
 fn queue_replies(link: &mut Link, job: &mut Job, text: &[u8], kind: u8)
-    requires { link.old.state ≡ LinkState.Up }
+    requires some { StandsForSome link.old }
+    requires up { link.old.state ≡ LinkState.Up }
     ensures replies { (w : Window) (end : LinkEnd) → StandsFor w link.old end →
         HasReplied kind text.now job.old job.new w end link.new }
     ensures notes_are { (lists : Lists) → NotesGoWith lists job.old → NotesGoWith lists job.new }
+    ensures up { link.new.state ≡ LinkState.Up }
     ensures stations { SameStations link.old link.new }
-    ensures up { StandsForSome link.old → link.new.state ≡ LinkState.Up }
 {
     if text.len() > link.free() {
         job.lose_reply(kind);
