@@ -30,10 +30,10 @@ module _ {D : Type 0} (g : Ghosts D) where
     rest = rest;
     down = down;
     takes = λ w at stands same. record {
-        link = subst (λ (k : Kept). StandsFor w k at.end) (sym link) stands;
-        job = job ∙ same;
-        noted = Several-none g ⊥ notes disk (λ never. never) stands_on healthy lasts;
-      };
+      link = subst (λ (k : Kept). StandsFor w k at.end) (sym link) stands;
+      job = job ∙ same;
+      noted = Several-none g ⊥ notes disk (λ never. never) stands_on healthy lasts;
+    };
   }
 
   module _ (on : (first second third : D) → g.lasts first second → g.lasts second third → g.lasts first third) where

@@ -1,4 +1,6 @@
+pub mod AckedLemmas
 pub mod AnswerLemmas
+pub mod EndedLemmas
 pub mod FeedLemmas
 pub mod HearLemmas
 pub mod Invariants

@@ -1,4 +1,4 @@
--- What becomes of an end by a frame, and of its link.
+-- Information that is next in the stream is told of an I frame alone.
 use Rattle.std.proofs.Common.{◌≡◌, ℕ, ◌+◌, ◌==◌, Bool, true, false, ◌&&◌, List, refl, ap, sym, ◌∙◌, subst}
 use Rattle.std.specs.Prelude.{Option, None, Some, IsTrue, nat_lt, if◌then◌else◌, ⊤}
 use Rattle.std.proofs.lemmas.Bool.{cond_both}
@@ -20,46 +20,32 @@ use Rattle.ax25_link.specs.Window.{Window}
 use Rattle.ax25_link.proofs.EndLemmas.{acknowledging-keeps}
 use Rattle.ftl0_attempt.specs.AttemptState.{StandsForSome}
 
--- Information that is next in the stream is told of an I frame alone, and the end is up then.
-pub record IsOfInformation (control : Control) (o : Outcome) : Type 0 where
-  pub information : IsTrue (is_information control)
-  pub up : o.after.state ≡ Up
-
 abbrev TellsBytes : Control → Outcome → Type 0
-TellsBytes control o = o.heard ≡ Bytes → IsOfInformation control o
-
-applying-state : (end : LinkEnd) (meaning : Meaning) → (applying end meaning).state ≡ end.state
-applying-state end (good x) = (acknowledging-keeps end x).state
-applying-state end stale = (acknowledging-keeps end end.acked).state
-applying-state end bad = refl
+TellsBytes control o = o.heard ≡ Bytes → IsTrue (is_information control)
 
 module _ (w : Window) (end : LinkEnd) (frame : FrameValue) where
-  numbered-tells : (control : Control) (nr : ℕ) (next : LinkEnd → Outcome) → ((e : LinkEnd) → e.state ≡ end.state → TellsBytes control (next e)) → TellsBytes control (numbered_row w end frame nr next)
+  numbered-tells : (control : Control) (nr : ℕ) (next : LinkEnd → Outcome) → ((e : LinkEnd) → TellsBytes control (next e)) → TellsBytes control (numbered_row w end frame nr next)
   numbered-tells control nr next h =
       cond_both (is_bad (meaning_of w end nr)) _ _ (λ (o : Outcome). TellsBytes control o)
       (λ b bytes. absurd cc)
-      (λ b. h (applying end (meaning_of w end nr)) (applying-state end (meaning_of w end nr)))
-
-  information-tells : (ns nr : ℕ) (e : LinkEnd) → e.state ≡ Up → TellsBytes (I ns nr) (information_row w e frame ns)
-  information-tells ns nr e up =
-      cond_both (ns == receive_number w e) _ _ (λ (o : Outcome). TellsBytes (I ns nr) o) (λ b bytes. record { information = refl; up = up }) (λ b bytes. absurd cc)
+      (λ b. h (applying end (meaning_of w end nr)))
 
   silent-tells : (control : Control) (e : LinkEnd) → TellsBytes control (supervisory_row e frame)
   silent-tells control e bytes = absurd cc
 
-  up-tells : (control : Control) → end.state ≡ Up → TellsBytes control (up_row w end frame control)
-  up-tells (I ns nr) up = numbered-tells (I ns nr) nr (λ e. information_row w e frame ns) (λ e is. information-tells ns nr e (is ∙ up))
-  up-tells (Rr nr) up = numbered-tells (Rr nr) nr (λ e. supervisory_row (with_busy false e) frame) (λ e is. silent-tells (Rr nr) (with_busy false e))
-  up-tells (Rnr nr) up = numbered-tells (Rnr nr) nr (λ e. supervisory_row (with_busy true e) frame) (λ e is. silent-tells (Rnr nr) (with_busy true e))
-  up-tells (Rej nr) up =
+  up-tells : (control : Control) → TellsBytes control (up_row w end frame control)
+  up-tells (I ns nr) = λ bytes. refl
+  up-tells (Rr nr) = numbered-tells (Rr nr) nr (λ e. supervisory_row (with_busy false e) frame) (λ e. silent-tells (Rr nr) (with_busy false e))
+  up-tells (Rnr nr) = numbered-tells (Rnr nr) nr (λ e. supervisory_row (with_busy true e) frame) (λ e. silent-tells (Rnr nr) (with_busy true e))
+  up-tells (Rej nr) =
       numbered-tells (Rej nr) nr (λ e. supervisory_row (with_busy false (if is_good (meaning_of w end nr) then sending_again e else e)) frame)
-      (λ e is. silent-tells (Rej nr) (with_busy false (if is_good (meaning_of w end nr) then sending_again e else e)))
-  up-tells Sabm up = cond_both end.called _ _ (λ (o : Outcome). TellsBytes Sabm o) (λ b bytes. absurd cc) (λ b bytes. absurd cc)
-  up-tells Disc up = λ bytes. absurd cc
-  up-tells Dm up = λ bytes. absurd cc
-  up-tells Frmr up = λ bytes. absurd cc
-  up-tells Ua up = λ bytes. absurd cc
-  up-tells Ui up = λ bytes. absurd cc
+      (λ e. silent-tells (Rej nr) (with_busy false (if is_good (meaning_of w end nr) then sending_again e else e)))
+  up-tells Sabm = cond_both end.called _ _ (λ (o : Outcome). TellsBytes Sabm o) (λ b bytes. absurd cc) (λ b bytes. absurd cc)
+  up-tells Disc = λ bytes. absurd cc
+  up-tells Dm = λ bytes. absurd cc
+  up-tells Frmr = λ bytes. absurd cc
+  up-tells Ua = λ bytes. absurd cc
+  up-tells Ui = λ bytes. absurd cc
 
   calling-tells : (control : Control) → (calling_row end frame control).heard ≡ Bytes → ⊥
   calling-tells (I ns nr) bytes = cc
@@ -85,27 +71,13 @@ module _ (w : Window) (end : LinkEnd) (frame : FrameValue) where
   ending-tells Ua bytes = cc
   ending-tells Ui bytes = cc
 
-  state-tells : (state : LinkState) → end.state ≡ state → TellsBytes frame.kind.control (row_of_state state w end frame)
-  state-tells Calling is = λ bytes. absurd (calling-tells frame.kind.control bytes)
-  state-tells Up is = up-tells frame.kind.control is
-  state-tells Ending is = λ bytes. absurd (ending-tells frame.kind.control bytes)
-  state-tells Down is = λ bytes. absurd cc
+  state-tells : (state : LinkState) → TellsBytes frame.kind.control (row_of_state state w end frame)
+  state-tells Calling = λ bytes. absurd (calling-tells frame.kind.control bytes)
+  state-tells Up = up-tells frame.kind.control
+  state-tells Ending = λ bytes. absurd (ending-tells frame.kind.control bytes)
+  state-tells Down = λ bytes. absurd cc
 
-  pub frame-tells : TellsBytes frame.kind.control (row w end frame)
-  frame-tells = state-tells end.state refl
-
--- ---- the same of a link
-
-module _ (link : Kept) (some : StandsForSome link) (frame : FrameValue) (told : Heard) (tells : Tells link (λ w end. heard_of w end frame) told) (bytes : told ≡ Bytes) where
-  at-some : IsOfInformation frame.kind.control (row some.w some.end frame)
-  at-some = frame-tells some.w some.end frame (sym (tells some.w some.end some.stands) ∙ bytes)
-
-  pub link-information : IsTrue (is_information frame.kind.control)
-  link-information = at-some.information
-
-  pub link-up : (link_n : Kept) → Steps link link_n (λ w end. after_frame w end frame) → link_n.state ≡ Up
-  link-up link_n steps = ap (λ (k : Kept). k.state) (steps some.w some.end some.stands).kept ∙ at-some.up
-
--- a link that stood for some end stands for one after each step
-pub some-after : (link link_n : Kept) (next : Window → LinkEnd → LinkEnd) → StandsForSome link → Steps link link_n next → StandsForSome link_n
-some-after link link_n next some steps = record { w = some.w; end = next some.w some.end; stands = steps some.w some.end some.stands }
+-- the same of a link
+pub link-information : (link : Kept) (some : StandsForSome link) (frame : FrameValue) (told : Heard) → Tells link (λ w end. heard_of w end frame) told → told ≡ Bytes
+    → IsTrue (is_information frame.kind.control)
+link-information link some frame told tells bytes = state-tells some.w some.end frame some.end.state (sym (tells some.w some.end some.stands) ∙ bytes)

@@ -1,13 +1,23 @@
--- Laws of an attempt: what is due is queued, and an outcome stays.
-use Rattle.std.specs.Prelude.{◌≡◌, ◌⊎◌, ℕ, ◌<◌, [], None, Some}
+-- Laws of an attempt: what is due is queued, an outcome stays, and what was acknowledged is noted.
+use Rattle.std.specs.Prelude.{◌≡◌, ◌⊎◌, ℕ, ◌<◌, ◌≤◌, List, [], ◌∷◌, ◌++◌, length, None, Some}
 use Rattle.ax25_frames.specs.FrameText.{FrameValue}
 use Rattle.ax25_link.specs.declared.state.LinkState.TheVariants.{Up}
 use Rattle.ax25_link.specs.Ends.{free_octets}
 use Rattle.ax25_link.specs.Window.{Window}
+use Rattle.client_notes.specs.Command.{NotesCommand, acked}
+use Rattle.client_notes.specs.Laws.{AreAllowed}
 use Rattle.client_notes.specs.Notes.{Lists}
+use Rattle.client_notes.specs.Several.{MakesBetween}
 use Rattle.ftl0_job.specs.declared.ending.Ending.{Ending}
+use Rattle.ftl0_job.specs.declared.ending.Outcome.TheVariants as outcome
+use Rattle.ftl0_job.specs.declared.work.Work.TheVariants as work
 use Rattle.ftl0_job.specs.Due.{next_due}
-use Rattle.ftl0_attempt.specs.Attempted.{Attempted}
+use Rattle.ftl0_job.specs.JobState.{HasTask}
+use Rattle.ftl0_job.specs.Laws.{IsAckedIn}
+use Rattle.ftl0_job.specs.Table.{new_job}
+use Rattle.ftl0_job.specs.Upload.{Upload}
+use Rattle.ftl0_attempt.specs.declared.outcome.AttemptOutcome.TheVariants.{Reached}
+use Rattle.ftl0_attempt.specs.Attempted.{Attempted, outcome_of}
 use Rattle.ftl0_attempt.specs.Hearing.{hearing, ticking}
 use Rattle.ftl0_attempt.specs.Settling.{enough_free, settled}
 
@@ -25,3 +35,20 @@ StaysLaw =
     (w : Window) (lists : Lists) (a : Attempted) (frame : FrameValue) (ending : Ending) → a.job.ending ≡ Some ending
     → ((hearing w lists a frame).after.job ≡ a.job) × ((hearing w lists a frame).noted ≡ [])
     × ((ticking a).job ≡ a.job)
+
+-- These commands of an event note last that the task was acknowledged. In each image that stands for the notes after at
+-- least all of them, whatever commands come behind, it was, with this number.
+pub record AcknowledgesIn (lists : Lists) (task number : ℕ) (noted : List NotesCommand) : Type 0 where
+  pub before : List NotesCommand
+  pub last : noted ≡ before ++ acked task ∷ []
+  pub stands :
+      (others : List NotesCommand) (least most : ℕ) (image : List ℕ) → AreAllowed lists (noted ++ others)
+      → length noted ≤ least → MakesBetween least most lists (noted ++ others) image → IsAckedIn task number image
+
+-- The frame by which an upload of a task's file comes to the outcome that it was acknowledged has that noted.
+abbrev pub AckedLaw : Type 0
+AckedLaw =
+    (w : Window) (lists : Lists) (a : Attempted) (frame : FrameValue) (at : Upload) (number : ℕ)
+    → a.job ≡ new_job (work.Upload at) → HasTask lists at
+    → outcome_of (hearing w lists a frame).after ≡ Some (Reached (outcome.Acked number))
+    → AcknowledgesIn lists at.task number (hearing w lists a frame).noted

@@ -1,13 +1,19 @@
 //! Laws of an attempt, each the contract of a function that does nothing.
 
-ghost use Rattle.ftl0_attempt.specs.Laws.{QueuedLaw, StaysLaw};
+ghost use Rattle.ftl0_attempt.specs.Laws.{AckedLaw, QueuedLaw, StaysLaw};
 
 /// At the end of an event at which the link is up nothing more is due, or fewer than 1,280 octets are free on it.
 pub fn queued_law()
     ensures { QueuedLaw }
 {}
 
-/// Once the job has an outcome no frame and no tick changes it.
+/// Once the job has an outcome no frame and no tick changes it, and no command is noted.
 pub fn stays_law()
     ensures { StaysLaw }
+{}
+
+/// An upload comes to the outcome that its file was acknowledged only by a frame of which that is noted, in every image
+/// from the end of the event on.
+pub fn acked_law()
+    ensures { AckedLaw }
 {}

@@ -1,6 +1,6 @@
 //! Whole exchanges of an attempt: the frames that are said, what is noted, and what becomes of it.
 
-ghost use Rattle.std.specs.Prelude.{◌≡◌, ◌≤◌, false, OnOk};
+ghost use Rattle.std.specs.Prelude.{◌≡◌, ◌≤◌, false, length, OnOk};
 ghost use Rattle.ax25_frames.specs.Kinds.{FitsControl};
 ghost use Rattle.ax25_frames.specs.Values.{kind_value};
 ghost use Rattle.ax25_link.specs.Kept.{SameStations, is_pending};
@@ -152,13 +152,7 @@ fn play<D: Disk>(
 }
 
 /// Calls the server for a job.
-fn begin(
-    rt: &impl Abort,
-    alloc: Global,
-    k: u8,
-    job: Job,
-    stations: &(Call, Call),
-) -> Attempt
+fn begin(rt: &impl Abort, alloc: Global, k: u8, job: Job, stations: &(Call, Call)) -> Attempt
     ensures me { result.link.me ≡ stations.now.0 }
     ensures peer { result.link.peer ≡ stations.now.1 }
     ensures quiet { is_pending result.link ≡ false }
@@ -175,7 +169,7 @@ fn begin(
     attempt
 }
 
-/// The upload of this file, for which a task is started.
+/// The upload of this file, for which a task is started. It has at most 4,194,304 octets.
 fn upload<D: Disk>(
     rt: &impl Abort,
     alloc: Global,
@@ -184,7 +178,8 @@ fn upload<D: Disk>(
     stations: &(Call, Call),
     octets: &[u8],
 ) -> Job
-    requires { StandsOn D.Disk notes.old disk.old }
+    requires most { length octets.now ≤ 4194304 }
+    requires stands_on { StandsOn D.Disk notes.old disk.old }
     ensures stands_on { StandsOn D.Disk notes.new disk.new }
     ensures notes_are { NotesGoWith notes.new.lists result }
 {
@@ -211,7 +206,14 @@ fn a_call_that_is_refused(rt: HostRuntime) -> Result<(), Fail> {
     let stations = stations(&rt);
     let mut disk = MemoryDisk::new(rt.alloc(), &[], &[])?;
     let mut notes = Notes::recover(rt.alloc(), &mut disk)?;
-    let job = upload(&rt, rt.alloc(), &mut disk, &mut notes, &stations, &FILE[2..75]);
+    let job = upload(
+        &rt,
+        rt.alloc(),
+        &mut disk,
+        &mut notes,
+        &stations,
+        &FILE[2..75],
+    );
     assert!(rt; !notes.failed());
     let mut attempt = begin(&rt, rt.alloc(), 4, job, &stations);
     assert_eq!(rt; attempt.outcome(), None);
@@ -230,7 +232,14 @@ fn data_before_a_greeting(rt: HostRuntime) -> Result<(), Fail> {
     let stations = stations(&rt);
     let mut disk = MemoryDisk::new(rt.alloc(), &[], &[])?;
     let mut notes = Notes::recover(rt.alloc(), &mut disk)?;
-    let job = upload(&rt, rt.alloc(), &mut disk, &mut notes, &stations, &FILE[2..75]);
+    let job = upload(
+        &rt,
+        rt.alloc(),
+        &mut disk,
+        &mut notes,
+        &stations,
+        &FILE[2..75],
+    );
     assert!(rt; !notes.failed());
     let mut attempt = begin(&rt, rt.alloc(), 4, job, &stations);
     // DATA without octets, and LOGIN_RESP, which comes after the outcome.
@@ -254,7 +263,14 @@ fn an_upload_that_is_refused_while_it_is_sent(rt: HostRuntime) -> Result<(), Fai
     let stations = stations(&rt);
     let mut disk = MemoryDisk::new(rt.alloc(), &[], &[])?;
     let mut notes = Notes::recover(rt.alloc(), &mut disk)?;
-    let job = upload(&rt, rt.alloc(), &mut disk, &mut notes, &stations, &[0; 4000]);
+    let job = upload(
+        &rt,
+        rt.alloc(),
+        &mut disk,
+        &mut notes,
+        &stations,
+        &[0; 4000],
+    );
     assert!(rt; !notes.failed());
     let mut attempt = begin(&rt, rt.alloc(), 7, job, &stations);
     // What follows the control octet where 254 octets of the file are sent.
@@ -278,7 +294,14 @@ fn an_upload_that_is_refused_while_it_is_sent(rt: HostRuntime) -> Result<(), Fai
         (
             Says::Information(1, 1, &GO),
             &[
-                &[0x41], &data[0], &data[1], &data[2], &data[3], &data[4], &data[5], &data[6],
+                &[0x41],
+                &data[0],
+                &data[1],
+                &data[2],
+                &data[3],
+                &data[4],
+                &data[5],
+                &data[6],
             ],
         ),
         (Says::Information(2, 1, &[0x01, 0x07, 0x0D]), &[&[0x61]]),
@@ -382,10 +405,7 @@ fn a_download_that_comes_in_one_frame(rt: HostRuntime) -> Result<(), Fail> {
             Says::Information(1, 1, &FILE),
             &[&[0x41], &[0x42, 0xF0, 0x00, 0x0C]],
         ),
-        (
-            Says::Information(2, 2, &[0x00, 0x0B]),
-            &[&[0x61], &ENDS],
-        ),
+        (Says::Information(2, 2, &[0x00, 0x0B]), &[&[0x61], &ENDS]),
     ];
     play(&rt, &mut attempt, &mut disk, &mut notes, &stations, &rows);
     assert_eq!(rt; attempt.outcome(), reached(Outcome::Fetched { number: 5 }));
@@ -457,7 +477,14 @@ fn a_disk_that_fails(rt: HostRuntime) -> Result<(), Fail> {
     let stations = stations(&rt);
     let mut disk = MemoryDisk::new(rt.alloc(), &[], &[16])?;
     let mut notes = Notes::recover(rt.alloc(), &mut disk)?;
-    let job = upload(&rt, rt.alloc(), &mut disk, &mut notes, &stations, &FILE[2..75]);
+    let job = upload(
+        &rt,
+        rt.alloc(),
+        &mut disk,
+        &mut notes,
+        &stations,
+        &FILE[2..75],
+    );
     assert!(rt; !notes.failed());
     let mut attempt = begin(&rt, rt.alloc(), 4, job, &stations);
     let rows: [Row<'_>; 2] = [
