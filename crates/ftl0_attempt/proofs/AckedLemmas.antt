@@ -8,7 +8,7 @@ use Rattle.ax25_link.specs.Ends.{free_octets}
 use Rattle.ax25_link.specs.Rows.{after_frame, heard_of}
 use Rattle.ax25_link.specs.Timer.{is_up}
 use Rattle.ftl0_packets.specs.Items.{kind_of_item, texts}
-use Rattle.ftl0_packets.specs.Layout.{Item, PacketValue, login_resp, ul_error_resp, ul_go_resp}
+use Rattle.ftl0_packets.specs.Layout.{Item, PacketValue, login_resp, ul_ack_resp, ul_error_resp, ul_go_resp, ul_nak_resp}
 use Rattle.client_notes.specs.Command.{NotesCommand, acked, after}
 use Rattle.client_notes.specs.Laws.{AreAllowed, after_all}
 use Rattle.client_notes.specs.Notes.{Lists}
@@ -52,9 +52,11 @@ task-go at (ul_error_resp code) = cond_both (is_complete at code) _ _ (λ (row :
 task-go at packet = refl
 
 task-sending : (at : Upload) (packet : PacketValue) → (upload.sending_row at packet).state.task ≡ at.task
+task-sending at (ul_nak_resp code) = refl
 task-sending at packet = refl
 
 task-ack : (at : Upload) (number : ℕ) (packet : PacketValue) → (upload.ack_row at number packet).state.task ≡ at.task
+task-ack at number ul_ack_resp = refl
 task-ack at number packet = refl
 
 task-row : (at : Upload) (packet : PacketValue) → (upload_row at packet).state.task ≡ at.task
@@ -191,14 +193,16 @@ due-ending : (o : Option Ending) (doing : Work) (due : DuePacket JobState) → d
 due-ending None doing due is = mapped (work_due doing) due is
 due-ending (Some ending) doing due is = absurd (cc is)
 
+ending-due : (a : Attempted) (later : DuePacket JobState → Attempted) → ((due : DuePacket JobState) → (later due).job.ending ≡ due.state.ending) → (o : Option (DuePacket JobState)) → next_due a.job ≡ o
+    → (on_due o a later).job.ending ≡ a.job.ending
+ending-due a later each None is = refl
+ending-due a later each (Some due) is = each due ∙ due-ending a.job.ending a.job.work due is
+
 queuing-ending : (count : ℕ) (a : Attempted) → (queuing count a).job.ending ≡ a.job.ending
 queuing-ending zero a = refl
 queuing-ending (suc more) a =
-    cond_both (nat_le enough_free (free_octets a.end)) _ _ (λ (now : Attempted). now.job.ending ≡ a.job.ending) (λ enough. by (next_due a.job) refl) (λ fewer. refl)
-  where
-    by : (o : Option (DuePacket JobState)) → next_due a.job ≡ o → (on_due o a (λ due. queuing more (after_due due a))).job.ending ≡ a.job.ending
-    by None is = refl
-    by (Some due) is = queuing-ending more (after_due due a) ∙ due-ending a.job.ending a.job.work due is
+    cond_both (nat_le enough_free (free_octets a.end)) _ _ (λ (now : Attempted). now.job.ending ≡ a.job.ending)
+    (λ enough. ending-due a (λ due. queuing more (after_due due a)) (λ due. queuing-ending more (after_due due a)) (next_due a.job) refl) (λ fewer. refl)
 
 settled-ending : (a : Attempted) → (settled a).job.ending ≡ a.job.ending
 settled-ending a =

@@ -36,7 +36,7 @@ told-job Reopened a octets = refl
 told-job Bytes a octets = refl
 told-job (Closed why) a octets = refl
 
-parting-job : (a : Attempted) → (parting_later a).job ≡ a.job
+pub parting-job : (a : Attempted) → (parting_later a).job ≡ a.job
 parting-job a = cond_both (is_later a.job.ending && is_all_free a.end) _ _ (λ (now : Attempted). now.job ≡ a.job) (λ both. refl) (λ not_both. refl)
 
 -- nor does the end of an event change it, where nothing is due
