@@ -1,6 +1,6 @@
 -- What an upload that comes to the outcome that its file was acknowledged noted.
-use Rattle.std.proofs.Common.{◌≡◌, ℕ, zero, suc, ◌+◌, ◌-◌, ◌≤◌, Bool, true, false, List, [], ◌∷◌, ◌++◌, length, refl, ap, sym, ◌∙◌, subst, arith, append_assoc, append-nil, length-append}
-use Rattle.std.specs.Prelude.{Option, None, Some, Ok, Err, nat_le, if◌then◌else◌}
+use Rattle.std.proofs.Common.{◌≡◌, ℕ, zero, suc, ◌+◌, ◌-◌, Bool, true, false, List, [], ◌∷◌, ◌++◌, length, refl, ap, sym, ◌∙◌, subst, arith, append_assoc, append-nil, length-append}
+use Rattle.std.specs.Prelude.{Option, None, Some, Ok, Err, nat_le}
 use Rattle.std.specs.Option.{option_map}
 use Rattle.std.proofs.lemmas.Bool.{cond_both}
 use Rattle.ax25_link.specs.declared.state.Why.{Why}
@@ -12,7 +12,7 @@ use Rattle.ftl0_packets.specs.Layout.{Item, PacketValue, login_resp, ul_ack_resp
 use Rattle.client_notes.specs.Command.{NotesCommand, acked, after}
 use Rattle.client_notes.specs.Laws.{AreAllowed, after_all}
 use Rattle.client_notes.specs.Notes.{Lists}
-use Rattle.client_notes.specs.Several.{MakesBetween, after_first}
+use Rattle.client_notes.specs.Several.{after_first}
 use Rattle.client_notes.specs.State.{StandsFor}
 use Rattle.client_notes.proofs.SeveralLemmas.{after_first-then}
 use Rattle.ftl0_job.specs.declared.ending.Ending.{Ending}
@@ -37,7 +37,7 @@ use Rattle.ftl0_attempt.specs.Attempted.{Attempted, outcome_by}
 use Rattle.ftl0_attempt.specs.Hearing.{after_hearing, packets_heard, with_end}
 use Rattle.ftl0_attempt.specs.Laws.{AckedLaw, AcknowledgesIn}
 use Rattle.ftl0_attempt.specs.Settling.{after_due, enough_free, on_due, queuing, settled}
-use Rattle.ftl0_attempt.specs.Taking.{Happened, after_replies, answering, fits, job_after, quietly, taking, taking_by, taking_one}
+use Rattle.ftl0_attempt.specs.Taking.{Happened, after_replies, answering, fits, job_after, taking, taking_by, taking_one}
 use Rattle.ftl0_attempt.proofs.EndedLemmas.{parting-job, taking-ended, told-job}
 
 -- ---- an upload stays that of its task

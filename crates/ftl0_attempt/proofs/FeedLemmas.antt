@@ -1,6 +1,6 @@
 -- How an attempt takes octets, piece by piece.
-use Rattle.std.proofs.Common.{◌≡◌, ℕ, List, [], ◌∷◌, ◌++◌, refl, ap, sym, ◌∙◌, subst, append_assoc, append-nil}
-use Rattle.std.specs.Prelude.{false, Ok}
+use Rattle.std.proofs.Common.{◌≡◌, ℕ, List, [], ◌++◌, ap, sym, ◌∙◌, subst, append_assoc, append-nil}
+use Rattle.std.specs.Prelude.{false}
 use Rattle.disk_model.specs.declared.disk.Disk.{Ghosts}
 use Rattle.ax25_link.specs.Kept.{Kept, StandsFor}
 use Rattle.ax25_link.specs.Window.{Window}
@@ -14,7 +14,7 @@ use Rattle.client_notes.proofs.SeveralLemmas.{Several-none, Several-then}
 use Rattle.ftl0_job.specs.declared.stop.JobStop.{JobStop}
 use Rattle.ftl0_job.specs.Table.{JobState}
 use Rattle.ftl0_attempt.specs.Attempted.{Attempted}
-use Rattle.ftl0_attempt.specs.AttemptState.{AttemptState, HearsBy, IsAttempt, IsWaiting, StopsAmong, StopsAtPacket}
+use Rattle.ftl0_attempt.specs.AttemptState.{AttemptState, IsAttempt, IsWaiting, StopsAmong, StopsAtPacket}
 use Rattle.ftl0_attempt.specs.Feeding.{FeedStops, Feeds, Made, with_octets}
 use Rattle.ftl0_attempt.specs.Hearing.{accepting}
 use Rattle.ftl0_attempt.specs.Taking.{Happened, taking}

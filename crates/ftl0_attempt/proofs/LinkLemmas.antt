@@ -1,23 +1,20 @@
 -- Information that is next in the stream is told of an I frame alone.
-use Rattle.std.proofs.Common.{◌≡◌, ℕ, ◌+◌, ◌==◌, Bool, true, false, ◌&&◌, List, refl, ap, sym, ◌∙◌, subst}
-use Rattle.std.specs.Prelude.{Option, None, Some, IsTrue, nat_lt, if◌then◌else◌, ⊤}
+use Rattle.std.proofs.Common.{◌≡◌, ℕ, true, false, refl, sym, ◌∙◌}
+use Rattle.std.specs.Prelude.{IsTrue, if◌then◌else◌}
 use Rattle.std.proofs.lemmas.Bool.{cond_both}
 use Rattle.ax25_frames.specs.declared.control.Control.{Control}
 use Rattle.ax25_frames.specs.declared.control.Control.TheVariants.{I, Rr, Rnr, Rej, Sabm, Disc, Dm, Ua, Frmr, Ui}
 use Rattle.ax25_frames.specs.FrameText.{FrameValue}
 use Rattle.ax25_link.specs.declared.state.Heard.{Heard}
-use Rattle.ax25_link.specs.declared.state.Heard.TheVariants.{Nothing, Bytes, Closed}
+use Rattle.ax25_link.specs.declared.state.Heard.TheVariants.{Bytes}
 use Rattle.ax25_link.specs.declared.state.LinkState.{LinkState}
 use Rattle.ax25_link.specs.declared.state.LinkState.TheVariants.{Calling, Up, Ending, Down}
-use Rattle.ax25_link.specs.Acknowledging.{Meaning, good, stale, bad, applying, is_bad, is_good, meaning_of}
+use Rattle.ax25_link.specs.Acknowledging.{applying, is_bad, is_good, meaning_of}
 use Rattle.ax25_link.specs.Air.{is_information}
-use Rattle.ax25_link.specs.Calls.{after_push}
 use Rattle.ax25_link.specs.Ends.{LinkEnd}
-use Rattle.ax25_link.specs.Frames.{receive_number}
-use Rattle.ax25_link.specs.Kept.{Kept, StandsFor, Steps, Tells}
-use Rattle.ax25_link.specs.Rows.{Outcome, after_frame, calling_row, ending_row, heard_of, information_row, numbered_row, row, row_of_state, sending_again, supervisory_row, up_row, with_busy}
+use Rattle.ax25_link.specs.Kept.{Kept, Tells}
+use Rattle.ax25_link.specs.Rows.{Outcome, calling_row, ending_row, heard_of, numbered_row, row_of_state, sending_again, supervisory_row, up_row, with_busy}
 use Rattle.ax25_link.specs.Window.{Window}
-use Rattle.ax25_link.proofs.EndLemmas.{acknowledging-keeps}
 use Rattle.ftl0_attempt.specs.AttemptState.{StandsForSome}
 
 abbrev TellsBytes : Control → Outcome → Type 0

@@ -1,10 +1,10 @@
 -- The loop that queues what is due.
-use Rattle.std.proofs.Common.{◌≡◌, ◌⊎◌, inl, inr, ⊎_elim, ℕ, ◌<◌, ◌≤◌, List, refl, ap, sym, ◌∙◌, subst, arith}
+use Rattle.std.proofs.Common.{◌≡◌, ⊎_elim, ℕ, ◌<◌, ◌≤◌, List, refl, ap, sym, ◌∙◌, subst}
 use Rattle.std.specs.Prelude.{None, false}
 use Rattle.ax25_link.specs.Calls.{after_push}
 use Rattle.ax25_link.specs.declared.state.LinkState.TheVariants.{Up}
 use Rattle.ax25_link.specs.Ends.{free_octets}
-use Rattle.ax25_link.specs.Kept.{Kept, StandsFor, Steps}
+use Rattle.ax25_link.specs.Kept.{Kept, Steps}
 use Rattle.ax25_link.specs.Queue.{room_of}
 use Rattle.ax25_link.specs.Window.{Window}
 use Rattle.ftl0_job.specs.Due.{next_due}

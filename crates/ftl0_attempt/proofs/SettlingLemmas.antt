@@ -7,9 +7,8 @@ use Rattle.std.proofs.lemmas.Bool.Decides.{leb_tells}
 use Rattle.std.proofs.lemmas.List.{length-take}
 use Rattle.ax25_link.specs.Calls.{after_push}
 use Rattle.ax25_link.specs.declared.state.LinkState.{LinkState}
-use Rattle.ax25_link.specs.declared.state.LinkState.TheVariants.{Up}
 use Rattle.ax25_link.specs.Ends.{LinkEnd, free_octets}
-use Rattle.ax25_link.specs.Kept.{Kept, StandsFor, Steps}
+use Rattle.ax25_link.specs.Kept.{Kept, Steps}
 use Rattle.ax25_link.specs.Queue.{room_of}
 use Rattle.ax25_link.specs.Timer.{is_up}
 use Rattle.ftl0_packets.specs.Layout.{PacketValue, packet_text}
@@ -20,7 +19,7 @@ use Rattle.ftl0_job.specs.Table.{JobState}
 use Rattle.ftl0_attempt.specs.Attempted.{Attempted}
 use Rattle.ftl0_attempt.specs.AttemptState.{StandsForSome}
 use Rattle.ftl0_attempt.specs.Laws.{IsQueued, QueuedLaw}
-use Rattle.ftl0_attempt.specs.Settling.{after_due, enough_free, is_all_free, is_later, on_due, parting_later, queuing, settled}
+use Rattle.ftl0_attempt.specs.Settling.{after_due, enough_free, is_all_free, is_later, on_due, parting_later, queuing}
 
 -- ---- room
 

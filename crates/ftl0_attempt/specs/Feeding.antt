@@ -1,5 +1,5 @@
 -- How an attempt takes packets, one after another, and then queues what is due; and what each leaves for the next one.
-use Rattle.std.specs.Prelude.{◌≡◌, ◌⊎◌, ℕ, ◌<◌, ◌≤◌, List, [], ◌∷◌, ◌++◌, length, drop, Bool, true, false, nat_le}
+use Rattle.std.specs.Prelude.{◌≡◌, ◌⊎◌, ℕ, ◌<◌, ◌≤◌, List, [], ◌∷◌, ◌++◌, drop, Bool, true, false}
 use Rattle.std.specs.Prelude.{None, Some, Result, Ok, Err, ⊤}
 use Rattle.disk_model.specs.declared.disk.Disk.{Ghosts}
 use Rattle.ax25_link.specs.declared.state.LinkState.TheVariants.{Up}
@@ -18,7 +18,7 @@ use Rattle.ftl0_job.specs.Due.{DuePacket, next_due}
 use Rattle.ftl0_job.specs.JobState.{MayTake, NotesGoWith}
 use Rattle.ftl0_job.specs.Table.{JobState}
 use Rattle.ftl0_attempt.specs.Attempted.{Attempted}
-use Rattle.ftl0_attempt.specs.AttemptState.{AttemptState, Becomes, StandsForSome, StopsAtPacket}
+use Rattle.ftl0_attempt.specs.AttemptState.{AttemptState, StandsForSome, StopsAtPacket}
 use Rattle.ftl0_attempt.specs.Settling.{enough_free}
 use Rattle.ftl0_attempt.specs.Taking.{Happened, after_replies, fits, parting, replied, taking}
 

@@ -1,11 +1,11 @@
 -- A packet that is found is answered, and less than one is waited with.
-use Rattle.std.proofs.Common.{◌≡◌, ℕ, [], ◌∷◌, ◌++◌, drop, refl, rules, sym, subst, arith, Ok, Err}
+use Rattle.std.proofs.Common.{◌≡◌, ℕ, [], ◌∷◌, ◌++◌, drop, refl, rules, sym, subst, arith, Err}
 use Rattle.std.specs.Prelude.{Result}
 use Rattle.ftl0_packets.specs.Reading.{packets_of, read_item, rest_of, under_way}
 use Rattle.ftl0_packets.proofs.OctetLemmas.{octets_from}
 use Rattle.ftl0_job.specs.declared.stop.JobStop.{JobStop}
 use Rattle.ftl0_attempt.specs.AttemptState.{AttemptState}
-use Rattle.ftl0_attempt.specs.Feeding.{FeedsBy, Feeds, FeedStops, with_octets}
+use Rattle.ftl0_attempt.specs.Feeding.{FeedsBy, Feeds, with_octets}
 use Rattle.ftl0_attempt.specs.Inside.{attempt_state}
 use Rattle.ftl0_attempt.proofs.FeedLemmas.{feeds-none}
 use Rattle.ftl0_attempt.proofs.WaitingLemmas.{waits-after, with-none}

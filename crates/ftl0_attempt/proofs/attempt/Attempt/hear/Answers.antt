@@ -1,10 +1,10 @@
 -- A frame is heard, and the event ends.
-use Rattle.std.proofs.Common.{◌≡◌, Ok, Err, rules, refl, sym, subst}
+use Rattle.std.proofs.Common.{◌≡◌, Err, rules, refl, sym, subst}
 use Rattle.std.specs.Prelude.{Result, ⊤}
 use Rattle.ax25_frames.specs.Values.{value_of}
 use Rattle.ftl0_job.specs.declared.stop.JobStop.{JobStop}
 use Rattle.ftl0_attempt.specs.AttemptState.{Hears, PutsBy}
-use Rattle.ftl0_attempt.specs.Hearing.{after_hearing, hearing, packets_heard}
+use Rattle.ftl0_attempt.specs.Hearing.{after_hearing, packets_heard}
 use Rattle.ftl0_attempt.specs.Taking.{taking}
 use Rattle.ftl0_attempt.proofs.HearLemmas.{hears-since}
 use Rattle.ftl0_attempt.proofs.attempt.Attempt.hear.Goals as goal

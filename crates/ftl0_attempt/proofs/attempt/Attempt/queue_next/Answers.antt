@@ -1,5 +1,5 @@
 -- What is due was queued.
-use Rattle.std.proofs.Common.{◌≡◌, ◌≤◌, List, ℕ, ap, sym, ◌∙◌, subst, arith}
+use Rattle.std.proofs.Common.{◌≡◌, ◌≤◌, List, ℕ, ◌∙◌, subst, arith}
 use Rattle.ax25_link.specs.Calls.{after_push}
 use Rattle.ax25_link.specs.Kept.{StandsFor, Steps}
 use Rattle.ax25_link.specs.Queue.{room_of}

@@ -1,5 +1,5 @@
 -- What the link told decides what becomes of the attempt.
-use Rattle.std.proofs.Common.{◌≡◌, ◌++◌, ℕ, List, refl, ap, subst, sym, ◌∙◌}
+use Rattle.std.proofs.Common.{◌≡◌, ◌++◌, ℕ, List, refl, subst}
 use Rattle.ax25_frames.specs.Values.{value_of}
 use Rattle.ax25_link.specs.declared.state.Heard.TheVariants.{Bytes}
 use Rattle.ax25_link.specs.Rows.{after_frame}

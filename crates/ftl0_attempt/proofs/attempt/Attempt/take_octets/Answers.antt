@@ -1,10 +1,8 @@
 -- The loop goes on by what is fed, and stops where that stops.
 use Rattle.std.proofs.Common.{◌≡◌, ◌++◌, Err, rules, sym, subst, ◌∙◌}
 use Rattle.std.specs.Prelude.{Result, ⊤}
-use Rattle.ax25_link.specs.Window.{Window}
 use Rattle.ftl0_packets.specs.Reading.{packets_of}
 use Rattle.ftl0_job.specs.declared.stop.JobStop.{JobStop}
-use Rattle.ftl0_attempt.specs.Attempted.{Attempted}
 use Rattle.ftl0_attempt.specs.AttemptState.{AttemptState, HearsBy, IsWaiting}
 use Rattle.ftl0_attempt.specs.Hearing.{accepting}
 use Rattle.ftl0_attempt.specs.Taking.{taking}
