@@ -1,5 +1,6 @@
 pub mod AckedLemmas
 pub mod AnswerLemmas
+pub mod DownLemmas
 pub mod EndedLemmas
 pub mod FeedLemmas
 pub mod HearLemmas

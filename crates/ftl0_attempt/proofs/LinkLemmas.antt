@@ -45,28 +45,12 @@ module _ (w : Window) (end : LinkEnd) (frame : FrameValue) where
   up-tells Ui = λ bytes. absurd cc
 
   calling-tells : (control : Control) → (calling_row end frame control).heard ≡ Bytes → ⊥
-  calling-tells (I ns nr) bytes = cc
-  calling-tells (Rr nr) bytes = cc
-  calling-tells (Rnr nr) bytes = cc
-  calling-tells (Rej nr) bytes = cc
-  calling-tells Sabm bytes = cc
-  calling-tells Disc bytes = cc
-  calling-tells Dm bytes = cc
-  calling-tells Frmr bytes = cc
   calling-tells Ua bytes = cc
-  calling-tells Ui bytes = cc
+  calling-tells control bytes = cc
 
   ending-tells : (control : Control) → (ending_row end frame control).heard ≡ Bytes → ⊥
-  ending-tells (I ns nr) bytes = cc
-  ending-tells (Rr nr) bytes = cc
-  ending-tells (Rnr nr) bytes = cc
-  ending-tells (Rej nr) bytes = cc
-  ending-tells Sabm bytes = cc
-  ending-tells Disc bytes = cc
-  ending-tells Dm bytes = cc
-  ending-tells Frmr bytes = cc
   ending-tells Ua bytes = cc
-  ending-tells Ui bytes = cc
+  ending-tells control bytes = cc
 
   state-tells : (state : LinkState) → TellsBytes frame.kind.control (row_of_state state w end frame)
   state-tells Calling = λ bytes. absurd (calling-tells frame.kind.control bytes)

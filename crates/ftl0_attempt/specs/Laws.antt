@@ -1,7 +1,8 @@
 -- Laws of an attempt: what is due is queued, an outcome stays, and what was acknowledged is noted.
 use Rattle.std.specs.Prelude.{◌≡◌, ◌⊎◌, ℕ, ◌<◌, ◌≤◌, List, [], ◌∷◌, ◌++◌, length, None, Some}
 use Rattle.ax25_frames.specs.FrameText.{FrameValue}
-use Rattle.ax25_link.specs.declared.state.LinkState.TheVariants.{Up}
+use Rattle.ax25_link.specs.declared.state.LinkState.TheVariants.{Up, Down}
+use Rattle.ax25_link.specs.declared.state.Why.{Why}
 use Rattle.ax25_link.specs.Ends.{free_octets}
 use Rattle.ax25_link.specs.Window.{Window}
 use Rattle.client_notes.specs.Command.{NotesCommand, acked}
@@ -16,6 +17,7 @@ use Rattle.ftl0_job.specs.JobState.{HasTask}
 use Rattle.ftl0_job.specs.Laws.{IsAckedIn}
 use Rattle.ftl0_job.specs.Table.{new_job}
 use Rattle.ftl0_job.specs.Upload.{Upload}
+use Rattle.ftl0_attempt.specs.declared.outcome.AttemptOutcome.{AttemptOutcome}
 use Rattle.ftl0_attempt.specs.declared.outcome.AttemptOutcome.TheVariants.{Reached}
 use Rattle.ftl0_attempt.specs.Attempted.{Attempted, outcome_of}
 use Rattle.ftl0_attempt.specs.Hearing.{hearing, ticking}
@@ -35,6 +37,21 @@ StaysLaw =
     (w : Window) (lists : Lists) (a : Attempted) (frame : FrameValue) (ending : Ending) → a.job.ending ≡ Some ending
     → ((hearing w lists a frame).after.job ≡ a.job) × ((hearing w lists a frame).noted ≡ [])
     × ((ticking a).job ≡ a.job)
+
+-- where an attempt has it that its link went down before an outcome, its end of the link is down
+abbrev pub IsToldDown : Attempted → Type 0
+IsToldDown a = (why : Why) → a.down ≡ Some why → a.end.state ≡ Down
+
+-- what became of an attempt, if anything did, is what became of it then
+abbrev pub StaysReached : Attempted → Attempted → Type 0
+StaysReached before now = (reached : AttemptOutcome) → outcome_of before ≡ Some reached → outcome_of now ≡ Some reached
+
+-- Once something became of an attempt, no frame and no tick changes it.
+abbrev pub OutcomeLaw : Type 0
+OutcomeLaw =
+    (w : Window) (lists : Lists) (a : Attempted) (frame : FrameValue) → IsToldDown a
+    → (IsToldDown (hearing w lists a frame).after × StaysReached a (hearing w lists a frame).after)
+    × (IsToldDown (ticking a) × StaysReached a (ticking a))
 
 -- These commands of an event note last that the task was acknowledged. In each image that stands for the notes after at
 -- least all of them, whatever commands come behind, it was, with this number.

@@ -1,6 +1,6 @@
 //! Laws of an attempt, each the contract of a function that does nothing.
 
-ghost use Rattle.ftl0_attempt.specs.Laws.{AckedLaw, QueuedLaw, StaysLaw};
+ghost use Rattle.ftl0_attempt.specs.Laws.{AckedLaw, OutcomeLaw, QueuedLaw, StaysLaw};
 
 /// At the end of an event at which the link is up nothing more is due, or fewer than 1,280 octets are free on it.
 pub fn queued_law()
@@ -10,6 +10,11 @@ pub fn queued_law()
 /// Once the job has an outcome no frame and no tick changes it, and no command is noted.
 pub fn stays_law()
     ensures { StaysLaw }
+{}
+
+/// What became of an attempt stays, whichever it is: an outcome of the job, or that the link went down before one.
+pub fn outcome_law()
+    ensures { OutcomeLaw }
 {}
 
 /// An upload comes to the outcome that its file was acknowledged only by a frame of which that is noted, in every image
