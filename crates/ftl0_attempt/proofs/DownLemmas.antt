@@ -1,5 +1,5 @@
 -- What became of an attempt stays.
-use Rattle.std.proofs.Common.{◌≡◌, ℕ, zero, suc, ◌+◌, ◌==◌, Bool, true, false, ◌&&◌, ◌||◌, List, [], refl, ap, sym, ◌∙◌, subst}
+use Rattle.std.proofs.Common.{◌≡◌, ℕ, zero, suc, ◌+◌, ◌==◌, Bool, true, false, ◌&&◌, ◌||◌, List, [], refl, ap, sym, ◌∙◌}
 use Rattle.std.specs.Prelude.{Option, None, Some, nat_le, if◌then◌else◌}
 use Rattle.std.proofs.lemmas.Bool.{cond_both}
 use Rattle.ax25_frames.specs.declared.control.Control.{Control}
@@ -16,20 +16,18 @@ use Rattle.ax25_link.specs.Acknowledging.{applying, is_bad, is_good, meaning_of}
 use Rattle.ax25_link.specs.Ends.{LinkEnd, free_octets, refuse}
 use Rattle.ax25_link.specs.Frames.{receive_number}
 use Rattle.ax25_link.specs.LinkStep.{heard_of_tick}
-use Rattle.ax25_link.specs.Rows.{Outcome, after_frame, calling_row, down_row, ending_row, entering, heard_of, information_row, is_call, numbered_row, replying, row, row_of_state, sending_again, supervisory_row, up_row, with_busy}
+use Rattle.ax25_link.specs.Rows.{Outcome, after_frame, calling_row, ending_row, entering, heard_of, information_row, is_call, numbered_row, replying, row_of_state, sending_again, supervisory_row, up_row, with_busy}
 use Rattle.ax25_link.specs.Timer.{after_count, after_tick, is_down, is_spent, is_up, runs_out, told_of_tick, trying}
 use Rattle.ax25_link.specs.Window.{Window}
 use Rattle.client_notes.specs.Notes.{Lists}
 use Rattle.ftl0_job.specs.declared.ending.Ending.{Ending}
 use Rattle.ftl0_job.specs.Due.{DuePacket, next_due}
 use Rattle.ftl0_job.specs.Table.{JobState}
-use Rattle.ftl0_attempt.specs.declared.outcome.AttemptOutcome.{AttemptOutcome}
-use Rattle.ftl0_attempt.specs.declared.outcome.AttemptOutcome.TheVariants.{Reached}
 use Rattle.ftl0_attempt.specs.Attempted.{Attempted, outcome_by, outcome_of}
-use Rattle.ftl0_attempt.specs.Hearing.{after_ticking, after_told, closing, hearing, packets_told, settling, ticking, with_end}
+use Rattle.ftl0_attempt.specs.Hearing.{after_told, closing, hearing, packets_told, settling, ticking, with_end}
 use Rattle.ftl0_attempt.specs.Laws.{IsToldDown, OutcomeLaw, StaysReached}
 use Rattle.ftl0_attempt.specs.Settling.{after_due, enough_free, is_all_free, is_later, on_due, parting_later, queuing, settled}
-use Rattle.ftl0_attempt.specs.Taking.{Happened, quietly, taking}
+use Rattle.ftl0_attempt.specs.Taking.{Happened, taking}
 use Rattle.ftl0_attempt.proofs.EndedLemmas.{stays-law}
 use Rattle.ftl0_attempt.proofs.TakingLemmas.{taking-keeps}
 

@@ -3,11 +3,13 @@ pub mod AnswerLemmas
 pub mod DownLemmas
 pub mod EndedLemmas
 pub mod FeedLemmas
+pub mod FetchedLemmas
 pub mod HearLemmas
 pub mod Invariants
 pub mod LinkLemmas
 pub mod OctetsLemmas
 pub mod QueuingLemmas
+pub mod ReachedLemmas
 pub mod SettlingLemmas
 pub mod TakingLemmas
 pub mod WaitingLemmas

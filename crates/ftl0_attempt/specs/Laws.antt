@@ -6,14 +6,16 @@ use Rattle.ax25_link.specs.declared.state.Why.{Why}
 use Rattle.ax25_link.specs.Ends.{free_octets}
 use Rattle.ax25_link.specs.Window.{Window}
 use Rattle.client_notes.specs.Command.{NotesCommand, acked}
-use Rattle.client_notes.specs.Laws.{AreAllowed}
-use Rattle.client_notes.specs.Notes.{Lists}
+use Rattle.pfh_items.specs.Faults.{fault_code}
+use Rattle.client_notes.specs.Laws.{AreAllowed, after_all}
+use Rattle.client_notes.specs.Notes.{Lists, got_of}
 use Rattle.client_notes.specs.Several.{MakesBetween}
 use Rattle.ftl0_job.specs.declared.ending.Ending.{Ending}
 use Rattle.ftl0_job.specs.declared.ending.Outcome.TheVariants as outcome
 use Rattle.ftl0_job.specs.declared.work.Work.TheVariants as work
+use Rattle.ftl0_job.specs.Download.{Download}
 use Rattle.ftl0_job.specs.Due.{next_due}
-use Rattle.ftl0_job.specs.JobState.{HasTask}
+use Rattle.ftl0_job.specs.JobState.{HasGot, HasTask}
 use Rattle.ftl0_job.specs.Laws.{IsAckedIn}
 use Rattle.ftl0_job.specs.Table.{new_job}
 use Rattle.ftl0_job.specs.Upload.{Upload}
@@ -69,3 +71,16 @@ AckedLaw =
     → a.job ≡ new_job (work.Upload at) → HasTask lists at
     → outcome_of (hearing w lists a frame).after ≡ Some (Reached (outcome.Acked number))
     → AcknowledgesIn lists at.task number (hearing w lists a frame).noted
+
+-- the file has this number, and after these commands its octets are noted, and have no fault
+abbrev pub IsFetchedBy : ℕ → Lists → Download → List NotesCommand → Type 0
+IsFetchedBy number lists at noted =
+    (number ≡ at.number) × (fault_code (got_of (after_all lists noted) at.server at.number) ≡ None)
+
+-- The frame by which a download comes to the outcome that its file was fetched leaves the file noted, without fault.
+abbrev pub FetchedLaw : Type 0
+FetchedLaw =
+    (w : Window) (lists : Lists) (a : Attempted) (frame : FrameValue) (at : Download) (number : ℕ)
+    → a.job ≡ new_job (work.Download at) → HasGot lists at
+    → outcome_of (hearing w lists a frame).after ≡ Some (Reached (outcome.Fetched number))
+    → IsFetchedBy number lists at (hearing w lists a frame).noted

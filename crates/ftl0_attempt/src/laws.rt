@@ -1,6 +1,6 @@
 //! Laws of an attempt, each the contract of a function that does nothing.
 
-ghost use Rattle.ftl0_attempt.specs.Laws.{AckedLaw, OutcomeLaw, QueuedLaw, StaysLaw};
+ghost use Rattle.ftl0_attempt.specs.Laws.{AckedLaw, FetchedLaw, OutcomeLaw, QueuedLaw, StaysLaw};
 
 /// At the end of an event at which the link is up nothing more is due, or fewer than 1,280 octets are free on it.
 pub fn queued_law()
@@ -21,4 +21,10 @@ pub fn outcome_law()
 /// from the end of the event on.
 pub fn acked_law()
     ensures { AckedLaw }
+{}
+
+/// A download comes to the outcome that its file was fetched only by a frame after which the file's octets are noted,
+/// and have no fault.
+pub fn fetched_law()
+    ensures { FetchedLaw }
 {}
