@@ -1,0 +1,38 @@
+-- A station with which there is no link hears what an end to it that is down would say.
+use Rattle.std.proofs.Common.{◌≡◌, Bool, true, false, sym, ◌∙◌, ap, ap₂}
+use Rattle.std.specs.Prelude.{Option, None, Some, if◌then◌else◌}
+use Rattle.std.specs.Option.{option_map}
+use Rattle.px_base.specs.CallSign.{CallSign}
+use Rattle.ax25_frames.specs.FrameText.{FrameValue}
+use Rattle.ax25_link.specs.Ends.{LinkEnd, refuse}
+use Rattle.ax25_link.specs.Frames.{frame_of_reply}
+use Rattle.ax25_link.specs.Rows.{replying, row_of_state}
+use Rattle.ax25_link.specs.declared.state.LinkState.{LinkState}
+use Rattle.ax25_link.specs.Sending.{Sending, next_sending}
+use Rattle.ax25_link.specs.Window.{Window}
+use Rattle.ftl0_client.specs.Client.{Client, ClientSends, client_next, is_answered, refusal_frame, refusing}
+use Rattle.ftl0_client.specs.Laws.{StrangerLaw}
+
+-- what is said next by a client, and by an end
+abbrev said : Client → Option FrameValue
+said client = option_map (λ (sends : ClientSends). sends.frame) (client_next client)
+
+abbrev told : Window → LinkEnd → Option FrameValue
+told w end = option_map (λ (sending : Sending). sending.frame) (next_sending w end)
+
+-- the DM of each, with these stations
+dm-same : (me to : CallSign) (final : Bool) (w : Window) (end : LinkEnd) → end.me ≡ me → end.peer ≡ to
+    → refusal_frame me (record { to = to; final = final }) ≡ frame_of_reply w end (refuse final)
+dm-same me to final w end is_me is_to =
+    ap₂ (λ (from : CallSign) (dest : CallSign). refusal_frame from (record { to = dest; final = final })) (sym is_me) (sym is_to)
+
+by-answer : (client : Client) (frame : FrameValue) (w : Window) (end : LinkEnd) (answers : Bool) → end.me ≡ client.me → end.peer ≡ frame.src → said client ≡ None → told w end ≡ None
+    → said (if answers then refusing client frame.src frame.poll else client) ≡ told w (if answers then replying end (refuse frame.poll) else end)
+by-answer client frame w end true me peer silent quiet = ap Some (dm-same client.me frame.src frame.poll w end me peer)
+by-answer client frame w end false me peer silent quiet = silent ∙ sym quiet
+
+pub stranger : StrangerLaw
+stranger client frame w end down me peer quiet silent =
+    let none : said client ≡ None = ap (λ (o : Option ClientSends). option_map (λ (sends : ClientSends). sends.frame) o) silent in
+    let still : told w end ≡ None = ap (λ (o : Option Sending). option_map (λ (sending : Sending). sending.frame) o) quiet in
+    by-answer client frame w end (is_answered frame) me peer none still ∙ ap (λ (s : LinkState). told w (row_of_state s w end frame).after) (sym down)
