@@ -8,8 +8,11 @@ use Rattle.client_notes.specs.Notes.{Lists}
 use Rattle.client_notes.specs.State.{NotesState, StandsOn}
 use Rattle.ftl0_job.specs.declared.work.Work.{Work}
 use Rattle.ftl0_job.specs.declared.work.Work.TheVariants as work
+use Rattle.ftl0_job.specs.Directory.{new_directory}
+use Rattle.ftl0_job.specs.Download.{new_download}
 use Rattle.ftl0_job.specs.JobState.{NotesGoWith}
-use Rattle.ftl0_job.specs.Table.{listing_of}
+use Rattle.ftl0_job.specs.Table.{JobState, listing_of}
+use Rattle.ftl0_job.specs.Upload.{new_upload}
 use Rattle.ftl0_attempt.specs.Attempted.{Attempted}
 use Rattle.ftl0_attempt.specs.Attempted as attempted
 use Rattle.ftl0_attempt.specs.AttemptState.{AttemptState, IsAttempt, is_closed}
@@ -97,6 +100,16 @@ pub record MayHear {D : Type 0} (g : Ghosts D) (self : ClientState) (disk : D) :
   pub healthy : self.notes.journal.failed ≡ false
   pub stands_on : StandsOn g self.notes disk
   pub notes_are : GoWithAttempt self.notes.lists self.attempt
+
+-- nothing of what is to be done was done yet
+abbrev pub IsNotBegun : Work → Type 0
+IsNotBegun (work.Upload at) = at ≡ new_upload at.task at.known at.file
+IsNotBegun (work.Directory at) = at ≡ new_directory at.tokens
+IsNotBegun (work.Download at) = at ≡ new_download at.server at.number
+
+-- the job was just made: it has no outcome, and nothing of it was done
+abbrev pub IsNew : JobState → Type 0
+IsNew job = (job.ending ≡ None) × IsNotBegun job.work
 
 -- a download is of a file of this server
 abbrev pub IsOfServer : CallSign → Work → Type 0

@@ -19,8 +19,9 @@ ghost use Rattle.ftl0_client.specs.Calls.{SameClient};
 ghost use Rattle.ftl0_client.specs.Client.{Client as ClientValue, asking, client_ticking, hearing_stranger, new_client};
 ghost use Rattle.ftl0_client.specs.Client.{is_answered as is_answered_frame};
 ghost use Rattle.ftl0_client.specs.Outcomes.{outcome_by};
-ghost use Rattle.ftl0_client.specs.ClientState.{IsClient, IsFree, IsOfServer, MayHear, client_closed, client_most};
-ghost use Rattle.ftl0_client.specs.ClientState.{LinkFits, client_pending, listing_in, new_state, outcome_in};
+ghost use Rattle.ftl0_client.specs.ClientState.{IsClient, IsFree, IsNew, IsOfServer, MayHear, client_closed};
+ghost use Rattle.ftl0_client.specs.ClientState.{LinkFits, client_most, client_pending, listing_in, new_state};
+ghost use Rattle.ftl0_client.specs.ClientState.{outcome_in};
 
 use crate::Outcome;
 use crate::stray::Stray;
@@ -125,12 +126,13 @@ impl Client {
             .start(disk, self.server, self.me, name, file_length, digest)
     }
 
-    /// Asks for a job, while nothing is under way: an attempt begins, and SABM with P = 1 is pending (AX.25 2.0,
-    /// 2.4.3.1). The link of the one before is gone. An upload is of a task that is unfinished, with the number that
-    /// the notes have and a file of its length, and a download is of this client's server. Takes memory, and fails only
-    /// where there is none; nothing changes then.
+    /// Asks for a job that was just made, while nothing is under way: an attempt begins, and SABM with P = 1 is pending
+    /// (AX.25 2.0, 2.4.3.1). The link of the one before is gone. An upload is of a task that is unfinished, with the
+    /// number that the notes have and a file of its length, and a download is of this client's server. Takes memory,
+    /// and fails only where there is none; nothing changes then.
     pub fn ask(&mut self, alloc: Global, job: Job) -> Result<(), OutOfMemory>
         requires free { IsFree self.old }
+        requires new { IsNew job }
         requires go_with { NotesGoWith self.old.notes.lists job }
         requires server { IsOfServer self.old.server job.work }
         ensures asks { OnOk result (Becomes self.old self.new (λ client. asking client job)) }

@@ -5,7 +5,7 @@ ghost use Rattle.ax25_frames.specs.Kinds.{FitsControl};
 ghost use Rattle.ax25_frames.specs.Values.{kind_value};
 ghost use Rattle.ftl0_job.specs.JobState.{NotesGoWith};
 ghost use Rattle.ftl0_client.specs.Calls.{SameClient};
-ghost use Rattle.ftl0_client.specs.ClientState.{IsFree, IsOfServer, MayHear, client_pending};
+ghost use Rattle.ftl0_client.specs.ClientState.{IsFree, IsNew, IsOfServer, MayHear, client_pending};
 
 use super::*;
 use arrayvec::ArrayVec;
@@ -215,6 +215,7 @@ fn begin<D: Disk>(rt: &impl Abort, alloc: Global, disk: &mut D, stations: &(Call
 /// Asks for a job, and says SABM. The disk isn't touched.
 fn ask<D: Disk>(rt: &impl Abort, alloc: Global, client: &mut Client, disk: &D, job: Job)
     requires free { IsFree client.old }
+    requires new { IsNew job }
     requires go_with { NotesGoWith client.old.notes.lists job }
     requires server { IsOfServer client.old.server job.work }
     requires may { MayHear D.Disk client.old disk.now }
