@@ -268,7 +268,7 @@ impl Client {
     }
 
     /// A law, which does nothing: whatever end the link stands for is one that frames and ticks can bring about.
-    pub(crate) fn fits_law(&self)
+    pub fn fits_law(&self)
         ensures window { IsGoodK self.now.k }
         ensures fits { LinkFits self.now.attempt }
     {
