@@ -1,8 +1,7 @@
 -- What an upload that comes to the outcome that its file was acknowledged noted.
 use Rattle.std.proofs.Common.{◌≡◌, ℕ, ◌+◌, ◌-◌, List, [], ◌∷◌, ◌++◌, length, refl, ap, sym, ◌∙◌, subst, arith, append_assoc, append-nil, length-append}
 use Rattle.std.specs.Prelude.{Option, None, Some, Ok, Err}
-use Rattle.std.proofs.lemmas.Bool.{cond_both}
-use Rattle.ftl0_packets.specs.Layout.{Item, PacketValue, login_resp, ul_ack_resp, ul_error_resp, ul_go_resp, ul_nak_resp}
+use Rattle.ftl0_packets.specs.Layout.{Item, PacketValue}
 use Rattle.client_notes.specs.Command.{NotesCommand, acked, after}
 use Rattle.client_notes.specs.Laws.{AreAllowed, after_all}
 use Rattle.client_notes.specs.Notes.{Lists}
@@ -11,15 +10,13 @@ use Rattle.client_notes.specs.State.{StandsFor}
 use Rattle.client_notes.proofs.SeveralLemmas.{after_first-then}
 use Rattle.ftl0_job.specs.declared.ending.Ending.{Ending}
 use Rattle.ftl0_job.specs.declared.ending.Outcome.TheVariants as outcome
-use Rattle.ftl0_job.specs.declared.phases.UploadPhase.{UploadPhase}
-use Rattle.ftl0_job.specs.declared.phases.UploadPhase.TheVariants as phase
 use Rattle.ftl0_job.specs.declared.work.Work.TheVariants as work
 use Rattle.ftl0_job.specs.JobState.{GoBy, HasTask}
 use Rattle.ftl0_job.specs.Laws.{Acknowledges, reached}
 use Rattle.ftl0_job.specs.Row.{Row, strange}
 use Rattle.ftl0_job.specs.Table.{job_row, new_job, row_of}
-use Rattle.ftl0_job.specs.Upload as upload
-use Rattle.ftl0_job.specs.Upload.{Upload, is_complete, may_go, upload_row}
+use Rattle.ftl0_job.specs.Upload.{Upload, upload_row}
+use Rattle.ftl0_job.proofs.CaseLemmas.{UploadRows, upload-rows}
 use Rattle.ftl0_job.proofs.LawLemmas.{acknowledged}
 use Rattle.ftl0_job.proofs.RowLemmas.{job-in}
 use Rattle.ftl0_job.proofs.StaysLemmas.{stays-item}
@@ -28,32 +25,19 @@ use Rattle.ftl0_attempt.proofs.ReachedLemmas.{reaches}
 
 -- ---- an upload stays that of its task
 
-task-login : (at : Upload) (packet : PacketValue) → (upload.login_row at packet).state.task ≡ at.task
-task-login at (login_resp moment flags) = refl
-task-login at packet = refl
-
-task-go : (at : Upload) (packet : PacketValue) → (upload.go_row at packet).state.task ≡ at.task
-task-go at (ul_go_resp number offset) = cond_both (may_go at number offset) _ _ (λ (row : Row Upload). row.state.task ≡ at.task) (λ may. refl) (λ not_may. refl)
-task-go at (ul_error_resp code) = cond_both (is_complete at code) _ _ (λ (row : Row Upload). row.state.task ≡ at.task) (λ complete. refl) (λ other. refl)
-task-go at packet = refl
-
-task-sending : (at : Upload) (packet : PacketValue) → (upload.sending_row at packet).state.task ≡ at.task
-task-sending at (ul_nak_resp code) = refl
-task-sending at packet = refl
-
-task-ack : (at : Upload) (number : ℕ) (packet : PacketValue) → (upload.ack_row at number packet).state.task ≡ at.task
-task-ack at number ul_ack_resp = refl
-task-ack at number packet = refl
-
 task-row : (at : Upload) (packet : PacketValue) → (upload_row at packet).state.task ≡ at.task
-unfolding upload_row
-task-row at packet = by at.phase
+task-row at packet = upload-rows (λ row. row.state.task ≡ at.task) at rows packet
   where
-    by : (p : UploadPhase) → (upload.row_in p at packet).state.task ≡ at.task
-    by phase.Login = task-login at packet
-    by phase.Go = task-go at packet
-    by (phase.Sending number place) = task-sending at packet
-    by (phase.Ack number) = task-ack at number packet
+    rows : UploadRows (λ row. row.state.task ≡ at.task) at
+    rows = record {
+      strange_rows = λ kind. refl;
+      login = λ is. refl;
+      go = λ number offset is may. refl;
+      complete = λ is. refl;
+      refused_rows = λ code. refl;
+      broken_off = λ code. refl;
+      ack = λ number is. refl;
+    }
 
 -- ---- commands behind others
 

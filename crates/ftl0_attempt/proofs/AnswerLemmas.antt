@@ -13,11 +13,11 @@ use Rattle.client_notes.specs.State.{NotesState}
 use Rattle.ftl0_job.specs.declared.ending.Ending.{Ending}
 use Rattle.ftl0_job.specs.declared.work.Work.{Work}
 use Rattle.ftl0_job.specs.Row.{Row}
-use Rattle.ftl0_job.specs.Table.{JobState, job_row}
+use Rattle.ftl0_job.specs.Table.{JobState, job_after, job_row}
 use Rattle.ftl0_job.specs.Taking.{TakesPacket}
 use Rattle.ftl0_attempt.specs.Attempted.{Attempted}
 use Rattle.ftl0_attempt.specs.Feeding.{Made, RepliesAndParts, Takes}
-use Rattle.ftl0_attempt.specs.Taking.{after_noting, job_after, quietly, taking_by}
+use Rattle.ftl0_attempt.specs.Taking.{after_noting, quietly, taking_by}
 
 module _ {D : Type 0} (g : Ghosts D) (item : Item) (job_m job_n : JobState) (notes notes_n : NotesState) (disk disk_n : D) (link_n : Kept) (kind : ℕ) (text replies : List ℕ)
     (is_kind : kind ≡ kind_of_item item) (is_text : text ≡ replies) (w : Window) (a : Attempted) where

@@ -86,7 +86,7 @@ tick-down end false false spent reason is = absurd (cc is)
 -- ---- a link that is down tells nothing, and stays down
 
 module _ (w : Window) (end : LinkEnd) (frame : FrameValue) (is : end.state ≡ Down) where
-  still-silent : heard_of w end frame ≡ Nothing
+  pub still-silent : heard_of w end frame ≡ Nothing
   still-silent = ap (λ (s : LinkState). (row_of_state s w end frame).heard) is
 
   still-down : (after_frame w end frame).state ≡ Down

@@ -1,26 +1,22 @@
 -- What a download that comes to the outcome that its file was fetched noted.
-use Rattle.std.proofs.Common.{◌≡◌, ℕ, ◌+◌, List, [], ◌++◌, length, refl, sym, ◌∙◌, subst}
-use Rattle.std.specs.Prelude.{Option, None, Some, Ok, Err, nat_lt}
-use Rattle.std.proofs.lemmas.Bool.{cond_both}
+use Rattle.std.proofs.Common.{◌≡◌, ℕ, List, [], ◌++◌, refl, sym, ◌∙◌, subst}
+use Rattle.std.specs.Prelude.{Option, None, Some, Ok, Err}
 use Rattle.px_base.specs.CallSign.{CallSign}
-use Rattle.ftl0_packets.specs.Layout.{Item, PacketValue, data_end, data_part, dl_completed_resp, dl_error_resp, login_resp}
+use Rattle.ftl0_packets.specs.Layout.{Item, PacketValue}
 use Rattle.pfh_items.specs.Faults.{fault_code}
-use Rattle.client_notes.specs.declared.limits.TheConstants.{LONGEST_FILE}
 use Rattle.client_notes.specs.Command.{NotesCommand}
 use Rattle.client_notes.specs.Laws.{after_all}
 use Rattle.client_notes.specs.Notes.{Lists, got_of}
 use Rattle.client_notes.proofs.SeveralLemmas.{after_all-append}
 use Rattle.ftl0_job.specs.declared.ending.Ending.{Ending}
 use Rattle.ftl0_job.specs.declared.ending.Outcome.TheVariants as outcome
-use Rattle.ftl0_job.specs.declared.phases.DownloadPhase.{DownloadPhase}
-use Rattle.ftl0_job.specs.declared.phases.DownloadPhase.TheVariants as phase
 use Rattle.ftl0_job.specs.declared.work.Work.TheVariants as work
-use Rattle.ftl0_job.specs.Download as download
 use Rattle.ftl0_job.specs.Download.{Download, download_row}
 use Rattle.ftl0_job.specs.JobState.{GoBy, HasGot}
 use Rattle.ftl0_job.specs.Laws.{reached}
 use Rattle.ftl0_job.specs.Row.{Row, strange}
 use Rattle.ftl0_job.specs.Table.{job_row, new_job, row_of}
+use Rattle.ftl0_job.proofs.CaseLemmas.{DownloadRows, download-rows}
 use Rattle.ftl0_job.proofs.LawLemmas.{fetched}
 use Rattle.ftl0_job.proofs.RowLemmas.{job-in}
 use Rattle.ftl0_job.proofs.StaysLemmas.{stays-item}
@@ -36,34 +32,19 @@ pub record SameFile (at now : Download) : Type 0 where
 same : (at : Download) → SameFile at at
 same at = record { server = refl; number = refl }
 
-file-login : (held : List ℕ) (at : Download) (packet : PacketValue) → SameFile at (download.login_row held at packet).state
-file-login held at (login_resp moment flags) = record { server = refl; number = refl }
-file-login held at packet = same at
-
-file-whole : (at : Download) (fault : Option ℕ) → SameFile at (download.whole_row at fault).state
-file-whole at None = record { server = refl; number = refl }
-file-whole at (Some code) = record { server = refl; number = refl }
-
-file-fetching : (held : List ℕ) (at : Download) (packet : PacketValue) → SameFile at (download.fetching_row held at packet).state
-file-fetching held at (data_part octets) =
-    cond_both (nat_lt LONGEST_FILE (length held + length (at.rest ++ octets))) _ _ (λ (row : Row Download). SameFile at row.state) (λ above. same at)
-    (λ within. record { server = refl; number = refl })
-file-fetching held at data_end = file-whole at (fault_code (held ++ at.rest))
-file-fetching held at (dl_error_resp code) = same at
-file-fetching held at packet = same at
-
-file-done : (at : Download) (packet : PacketValue) → SameFile at (download.done_row at packet).state
-file-done at dl_completed_resp = same at
-file-done at packet = same at
-
 file-row : (held : List ℕ) (at : Download) (packet : PacketValue) → SameFile at (download_row held at packet).state
-unfolding download_row
-file-row held at packet = by at.phase
+file-row held at packet = download-rows (λ row. SameFile at row.state) held at rows packet
   where
-    by : (p : DownloadPhase) → SameFile at (download.row_in p held at packet).state
-    by phase.Login = file-login held at packet
-    by phase.Fetching = file-fetching held at packet
-    by phase.Done = file-done at packet
+    rows : DownloadRows (λ row. SameFile at row.state) held at
+    rows = record {
+      strange_rows = λ kind. same at;
+      refused_rows = λ code. same at;
+      login = record { server = refl; number = refl };
+      octets = λ octets is few. record { server = refl; number = refl };
+      whole = λ is. record { server = refl; number = refl };
+      bad = λ code. record { server = refl; number = refl };
+      done = λ is. same at;
+    }
 
 -- ---- packets
 

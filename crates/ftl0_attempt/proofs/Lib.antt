@@ -11,5 +11,8 @@ pub mod OctetsLemmas
 pub mod QueuingLemmas
 pub mod ReachedLemmas
 pub mod SettlingLemmas
+pub mod SomeLemmas
+pub mod StandLemmas
 pub mod TakingLemmas
+pub mod ToldLemmas
 pub mod WaitingLemmas

@@ -21,12 +21,12 @@ use Rattle.ftl0_job.specs.declared.work.Work.{Work}
 use Rattle.ftl0_job.specs.Due.{DuePacket, due_by, in_job, next_due, work_due}
 use Rattle.ftl0_job.specs.Laws.{reached}
 use Rattle.ftl0_job.specs.Row.{Row, strange_ending}
-use Rattle.ftl0_job.specs.Table.{JobState, job_row, new_job, row_of}
+use Rattle.ftl0_job.specs.Table.{JobState, job_after, job_row, new_job, row_of}
 use Rattle.ftl0_attempt.specs.declared.outcome.AttemptOutcome.TheVariants.{Reached}
 use Rattle.ftl0_attempt.specs.Attempted.{Attempted, outcome_by, outcome_of}
 use Rattle.ftl0_attempt.specs.Hearing.{after_hearing, hearing, packets_heard, with_end}
 use Rattle.ftl0_attempt.specs.Settling.{after_due, enough_free, on_due, queuing, settled}
-use Rattle.ftl0_attempt.specs.Taking.{Happened, after_replies, answering, fits, job_after, taking, taking_by, taking_one}
+use Rattle.ftl0_attempt.specs.Taking.{Happened, after_replies, answering, fits, taking, taking_by, taking_one}
 use Rattle.ftl0_attempt.proofs.EndedLemmas.{parting-job, taking-ended, told-job}
 
 -- ---- the end of the event

@@ -8,7 +8,7 @@ use Rattle.ax25_link.specs.declared.state.Why.{Why}
 use Rattle.ax25_link.specs.Ends.{LinkEnd}
 use Rattle.ax25_link.specs.Kept.{Kept, SameStations, StandsFor, is_pending}
 use Rattle.ax25_link.specs.Timer.{is_down}
-use Rattle.ax25_link.specs.Window.{Window}
+use Rattle.ax25_link.specs.Window.{Window, window_of}
 use Rattle.ftl0_packets.specs.Layout.{Item}
 use Rattle.ftl0_packets.specs.Reading.{packets_of, rest_of}
 use Rattle.file_journal.specs.Calls.{Leaves, Puts}
@@ -44,6 +44,10 @@ pub record IsAttempt (w : Window) (attempt : AttemptState) (a : Attempted) : Typ
   pub rest : attempt.octets ≡ a.rest
   pub job : attempt.job ≡ a.job
   pub down : attempt.down ≡ a.down
+
+-- It stands for some attempt, with the window of its link.
+abbrev pub IsSomeAttempt : AttemptState → Type 0
+IsSomeAttempt attempt = (a : Attempted) × IsAttempt (window_of attempt.link.k) attempt a
 
 -- Whatever attempt it stood for, it stands for what this makes of that now.
 abbrev pub Becomes : AttemptState → AttemptState → (Window → Attempted → Attempted) → Type 0

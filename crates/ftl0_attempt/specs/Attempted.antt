@@ -1,5 +1,6 @@
--- An attempt of a client as the definitions have it: one SABM that it sent, and all that follows until it sends the
--- next.
+-- An attempt of a client at a job as the definitions have it: its call to the server, with each SABM that its timer
+-- repeats, and all that follows on that link. (In ax25_link an attempt is shorter: one SABM, and what follows it until
+-- the next.)
 use Rattle.std.specs.Prelude.{ℕ, List, [], Option, None, Some}
 use Rattle.px_base.specs.CallSign.{CallSign}
 use Rattle.ax25_link.specs.declared.state.Why.{Why}

@@ -1,5 +1,6 @@
 -- Laws of an attempt: what is due is queued, an outcome stays, and what was acknowledged is noted.
-use Rattle.std.specs.Prelude.{◌≡◌, ◌⊎◌, ℕ, ◌<◌, ◌≤◌, List, [], ◌∷◌, ◌++◌, length, None, Some}
+use Rattle.std.specs.Prelude.{◌≡◌, ◌⊎◌, ℕ, ◌≢◌, ◌<◌, ◌≤◌, List, [], ◌∷◌, ◌++◌, length, None, Some}
+use Rattle.px_base.specs.CallSign.{CallSign}
 use Rattle.ax25_frames.specs.FrameText.{FrameValue}
 use Rattle.ax25_link.specs.declared.state.LinkState.TheVariants.{Up, Down}
 use Rattle.ax25_link.specs.declared.state.Why.{Why}
@@ -12,16 +13,18 @@ use Rattle.client_notes.specs.Notes.{Lists, got_of}
 use Rattle.client_notes.specs.Several.{MakesBetween}
 use Rattle.ftl0_job.specs.declared.ending.Ending.{Ending}
 use Rattle.ftl0_job.specs.declared.ending.Outcome.TheVariants as outcome
+use Rattle.ftl0_job.specs.declared.work.Work.{Work}
 use Rattle.ftl0_job.specs.declared.work.Work.TheVariants as work
 use Rattle.ftl0_job.specs.Download.{Download}
 use Rattle.ftl0_job.specs.Due.{next_due}
-use Rattle.ftl0_job.specs.JobState.{HasGot, HasTask}
+use Rattle.ftl0_job.specs.JobState.{HasGot, HasTask, IsNew, NotesGoWith}
 use Rattle.ftl0_job.specs.Laws.{IsAckedIn}
-use Rattle.ftl0_job.specs.Table.{new_job}
+use Rattle.ftl0_job.specs.Promises.{JobStands}
+use Rattle.ftl0_job.specs.Table.{JobState, new_job}
 use Rattle.ftl0_job.specs.Upload.{Upload}
 use Rattle.ftl0_attempt.specs.declared.outcome.AttemptOutcome.{AttemptOutcome}
 use Rattle.ftl0_attempt.specs.declared.outcome.AttemptOutcome.TheVariants.{Reached}
-use Rattle.ftl0_attempt.specs.Attempted.{Attempted, outcome_of}
+use Rattle.ftl0_attempt.specs.Attempted.{Attempted, calling, outcome_of}
 use Rattle.ftl0_attempt.specs.Hearing.{hearing, ticking}
 use Rattle.ftl0_attempt.specs.Settling.{enough_free, settled}
 
@@ -84,3 +87,30 @@ FetchedLaw =
     → a.job ≡ new_job (work.Download at) → HasGot lists at
     → outcome_of (hearing w lists a frame).after ≡ Some (Reached (outcome.Fetched number))
     → IsFetchedBy number lists at (hearing w lists a frame).noted
+
+-- Once something became of an attempt, no frame has anything noted.
+abbrev pub QuietLaw : Type 0
+QuietLaw =
+    (w : Window) (lists : Lists) (a : Attempted) (frame : FrameValue) → IsToldDown a → outcome_of a ≢ None
+    → (hearing w lists a frame).noted ≡ []
+
+-- What stands of an attempt of which this work was asked, over these notes, after each event: what stands of its job;
+-- and its end of the link is down where it went down before an outcome, and only where something became of the
+-- attempt.
+pub record AttemptStands (asked : Work) (lists : Lists) (a : Attempted) : Type 0 where
+  pub job : JobStands asked lists a.job
+  pub told_down : IsToldDown a
+  pub down_told : a.end.state ≡ Down → outcome_of a ≢ None
+
+-- It stands of an attempt that begins with a job that was just made, over notes that go with it.
+abbrev pub CallingLaw : Type 0
+CallingLaw =
+    (me server : CallSign) (lists : Lists) (job : JobState) → IsNew job → NotesGoWith lists job
+    → AttemptStands job.work lists (calling me server job)
+
+-- Where it stands before a frame or a tick, it stands after it.
+abbrev pub StandsLaw : Type 0
+StandsLaw =
+    (asked : Work) (w : Window) (lists : Lists) (a : Attempted) (frame : FrameValue) → AttemptStands asked lists a
+    → AttemptStands asked (after_all lists (hearing w lists a frame).noted) (hearing w lists a frame).after
+    × AttemptStands asked lists (ticking a)

@@ -11,7 +11,7 @@ use Rattle.client_notes.specs.Notes.{Lists}
 use Rattle.ftl0_job.specs.declared.ending.Ending.{Ending}
 use Rattle.ftl0_job.specs.declared.work.Work.{Work}
 use Rattle.ftl0_job.specs.Row.{Row, strange_ending}
-use Rattle.ftl0_job.specs.Table.{JobState, job_row}
+use Rattle.ftl0_job.specs.Table.{JobState, job_after, job_row}
 use Rattle.ftl0_attempt.specs.Attempted.{Attempted}
 
 -- whether the link has room for replies of this text
@@ -44,10 +44,6 @@ quietly a = record { after = a; noted = [] }
 -- these commands come before
 abbrev pub after_noting : List NotesCommand → Happened → Happened
 after_noting commands happened = record happened { noted = commands ++ happened.noted }
-
--- the job as a row leaves it
-abbrev pub job_after : Row Work → JobState
-job_after row = record { work = row.state; ending = row.ending }
 
 -- the attempt with this job, after replies of this text, and hung up where the job's outcome asks for it at once
 abbrev pub with_replies : Attempted → JobState → List ℕ → Attempted

@@ -16,8 +16,8 @@ ghost use Rattle.client_notes.specs.Notes.{Lists};
 ghost use Rattle.ftl0_job.specs.JobState.{MayTake, NotesGoWith};
 ghost use Rattle.ftl0_job.specs.Table.{listing_of};
 ghost use Rattle.ftl0_attempt.specs.Attempted.{Attempted, calling, outcome_by};
-ghost use Rattle.ftl0_attempt.specs.AttemptState.{Becomes, Hears, HearsBy, IsAttempt, LeavesFit, PutsBy};
-ghost use Rattle.ftl0_attempt.specs.AttemptState.{StandsForSome, is_closed};
+ghost use Rattle.ftl0_attempt.specs.AttemptState.{Becomes, Hears, HearsBy, IsAttempt, IsSomeAttempt, LeavesFit};
+ghost use Rattle.ftl0_attempt.specs.AttemptState.{PutsBy, StandsForSome, is_closed};
 ghost use Rattle.ftl0_attempt.specs.Feeding.{AnswersPacket, FeedsBy, KeepsFit, KeepsUp, MayAnswer, QueuesNext};
 ghost use Rattle.ftl0_attempt.specs.Feeding.{Replies as HasReplied, RepliesAndParts};
 ghost use Rattle.ftl0_attempt.specs.Hearing.{accepting, after_hearing, after_ticking, down_by};
@@ -195,6 +195,14 @@ impl Attempt {
     /// A law, which does nothing: whatever end the link stands for is one that frames and ticks can bring about.
     pub fn fits_law(&self)
         ensures { Fits self.now.link }
+    {
+        let _ = self.link.state();
+    }
+
+    /// A law, which does nothing: it stands for some attempt of the definitions, whatever was heard, and whatever
+    /// stopped it.
+    pub fn some_law(&self)
+        ensures { IsSomeAttempt self.now }
     {
         let _ = self.link.state();
     }

@@ -1,6 +1,7 @@
 //! Laws of an attempt, each the contract of a function that does nothing.
 
-ghost use Rattle.ftl0_attempt.specs.Laws.{AckedLaw, FetchedLaw, OutcomeLaw, QueuedLaw, StaysLaw};
+ghost use Rattle.ftl0_attempt.specs.Laws.{AckedLaw, CallingLaw, FetchedLaw, OutcomeLaw, QueuedLaw};
+ghost use Rattle.ftl0_attempt.specs.Laws.{QuietLaw, StandsLaw, StaysLaw};
 
 /// At the end of an event at which the link is up nothing more is due, or fewer than 1,280 octets are free on it.
 pub fn queued_law()
@@ -16,6 +17,20 @@ pub fn stays_law()
 pub fn outcome_law()
     ensures { OutcomeLaw }
 {}
+
+/// Once something became of an attempt, whichever it is, no frame has anything noted.
+pub fn quiet_law()
+    ensures { QuietLaw }
+{}
+
+/// What stands of an attempt stands after each frame and each tick: it is of the work that was asked, and its outcome
+/// keeps what it promises.
+pub fn stands_law()
+    ensures calling { CallingLaw }
+    ensures stays { StandsLaw }
+{
+    ftl0_job::laws::promises_law();
+}
 
 /// An upload comes to the outcome that its file was acknowledged only by a frame of which that is noted, in every image
 /// from the end of the event on.

@@ -185,6 +185,7 @@ fn upload<D: Disk>(
 ) -> Job
     requires most { length octets.now ≤ 4194304 }
     requires stands_on { StandsOn D.Disk notes.old disk.old }
+    ensures healthy { notes.new.journal.failed ≡ false }
     ensures stands_on { StandsOn D.Disk notes.new disk.new }
     ensures notes_are { NotesGoWith notes.new.lists result }
 {
@@ -196,6 +197,7 @@ fn upload<D: Disk>(
     let Ok(begun) = notes.start(disk, server, me, "A", file.len() as u32, [7; 32]) else {
         panic!(rt; "not started");
     };
+    assert!(rt; !notes.failed());
     match begun {
         Begun::Fresh { task } => Job::upload(task, 0, file),
         Begun::Going { .. } | Begun::Already { .. } => panic!(rt; "noted before"),
@@ -204,6 +206,13 @@ fn upload<D: Disk>(
 
 const fn reached(outcome: Outcome) -> Option<AttemptOutcome> {
     Some(AttemptOutcome::Reached(outcome))
+}
+
+const fn later(outcome: Outcome) -> Option<Ending> {
+    Some(Ending {
+        outcome,
+        later: true,
+    })
 }
 
 #[test]
@@ -219,7 +228,6 @@ fn a_call_that_is_refused(rt: HostRuntime) -> Result<(), Fail> {
         &stations,
         &FILE[2..75],
     );
-    assert!(rt; !notes.failed());
     let mut attempt = begin(&rt, rt.alloc(), 4, job, &stations);
     assert_eq!(rt; attempt.outcome(), None);
     assert!(rt; !attempt.closed());
@@ -245,7 +253,6 @@ fn data_before_a_greeting(rt: HostRuntime) -> Result<(), Fail> {
         &stations,
         &FILE[2..75],
     );
-    assert!(rt; !notes.failed());
     let mut attempt = begin(&rt, rt.alloc(), 4, job, &stations);
     // DATA without octets, and LOGIN_RESP, which comes after the outcome.
     let strange = [0x00, 0x00, 0x05, 0x02, 0x01, 0, 0, 0, 0x04];
@@ -263,16 +270,18 @@ fn data_before_a_greeting(rt: HostRuntime) -> Result<(), Fail> {
     Ok(())
 }
 
-/// Puts what follows the addresses in I frames with these control octets, each of which has 254 octets of a file of
-/// zeros.
-fn put_data(rt: &impl Abort, said: &mut Said, controls: &[u8]) {
+/// The first octets, what follows the addresses in I frames with these control octets, each of which has 254 octets of a
+/// file of zeros, and the last octets.
+fn data_said(rt: &impl Abort, front: &[u8], controls: &[u8], behind: &[u8]) -> Said {
+    let mut said = Said::new();
+    assert!(rt; said.try_extend_from_slice(front).is_ok());
     for control in controls {
-        assert!(rt;
-            said.try_extend_from_slice(&[*control, 0xF0, 0xFE, 0x00])
-                .is_ok()
-        );
+        let begins = [*control, 0xF0, 0xFE, 0x00];
+        assert!(rt; said.try_extend_from_slice(&begins).is_ok());
         assert!(rt; said.try_extend_from_slice(&[0; 254]).is_ok());
     }
+    assert!(rt; said.try_extend_from_slice(behind).is_ok());
+    said
 }
 
 #[test]
@@ -288,19 +297,12 @@ fn an_upload_that_is_refused_while_it_is_sent(rt: HostRuntime) -> Result<(), Fai
         &stations,
         &[0; 4000],
     );
-    assert!(rt; !notes.failed());
     let mut attempt = begin(&rt, rt.alloc(), 7, job, &stations);
     // Twelve DATA are queued, of which seven are sent. DATA_END comes behind them, and no more of the file.
-    let mut first = Said::new();
-    first.push(0x41);
-    put_data(&rt, &mut first, &[0x42, 0x44, 0x46, 0x48, 0x4A, 0x4C, 0x4E]);
-    let mut second = Said::new();
-    put_data(&rt, &mut second, &[0x60, 0x62, 0x64, 0x66, 0x68]);
-    assert!(rt;
-        second
-            .try_extend_from_slice(&[0x6A, 0xF0, 0x00, 0x01])
-            .is_ok()
-    );
+    let first = [0x42, 0x44, 0x46, 0x48, 0x4A, 0x4C, 0x4E];
+    let first = data_said(&rt, &[0x41], &first, &[]);
+    let second = [0x60, 0x62, 0x64, 0x66, 0x68];
+    let second = data_said(&rt, &[], &second, &[0x6A, 0xF0, 0x00, 0x01]);
     let greeted = [0x21, 0x20, 0xF0, 0x08, 0x03, 0, 0, 0, 0, 0xA0, 0x0F, 0, 0];
     let rows: [Row<'_>; 4] = [
         (Says::Accepts, 0, &[]),
@@ -310,11 +312,7 @@ fn an_upload_that_is_refused_while_it_is_sent(rt: HostRuntime) -> Result<(), Fai
     ];
     play(&rt, &mut attempt, &mut disk, &mut notes, &stations, &rows);
     let refused = Outcome::Refused { code: 13 };
-    let later = Ending {
-        outcome: refused,
-        later: true,
-    };
-    assert_eq!(rt; attempt.ending(), Some(later));
+    assert_eq!(rt; attempt.ending(), later(refused));
     let noted = Noted::Refused { task: 1, code: 13 };
     assert_eq!(rt; notes.noted(stations.1, stations.0, "A"), Some(noted));
     let rows: [Row<'_>; 3] = [
@@ -475,7 +473,6 @@ fn a_disk_that_fails(rt: HostRuntime) -> Result<(), Fail> {
         &stations,
         &FILE[2..75],
     );
-    assert!(rt; !notes.failed());
     let mut attempt = begin(&rt, rt.alloc(), 4, job, &stations);
     let greeted = [0x21, 0x20, 0xF0, 0x08, 0x03, 0, 0, 0, 0, 0x49, 0, 0, 0];
     let rows: [Row<'_>; 2] = [

@@ -21,11 +21,11 @@ use Rattle.ftl0_job.specs.declared.ending.Ending.{Ending}
 use Rattle.ftl0_job.specs.declared.work.Work.{Work}
 use Rattle.ftl0_job.specs.Due.{DuePacket, next_due}
 use Rattle.ftl0_job.specs.Row.{Row}
-use Rattle.ftl0_job.specs.Table.{JobState, job_row}
+use Rattle.ftl0_job.specs.Table.{JobState, job_after, job_row}
 use Rattle.ftl0_attempt.specs.Attempted.{Attempted}
 use Rattle.ftl0_attempt.specs.Hearing.{after_hearing, after_told, packets_heard, with_end}
 use Rattle.ftl0_attempt.specs.Settling.{after_due, enough_free, is_all_free, is_later, on_due, parting_later, queuing, settled}
-use Rattle.ftl0_attempt.specs.Taking.{Happened, after_replies, fits, job_after, parting, replied, taking, taking_by, taking_one}
+use Rattle.ftl0_attempt.specs.Taking.{Happened, after_replies, fits, parting, replied, taking, taking_by, taking_one}
 use Rattle.ftl0_client.specs.Client.{Client, ClientEvent, IsSilent, Refused, asks, attempt_for, hearing_by}
 use Rattle.ftl0_client.specs.Client.{hears, is_answered, refusing, sends_by, sends_of_attempt, sends_of_link, ticking_by, ticks}
 use Rattle.ftl0_client.specs.ClientStep.{happening}

@@ -1,6 +1,9 @@
 pub mod EmptiesLemmas
 pub mod FitsLemmas
+pub mod GoingLemmas
 pub mod KeptLemmas
 pub mod OutcomeLemmas
+pub mod SomeLemmas
+pub mod StartLemmas
 pub mod StrangerLemmas
 pub mod TickLemmas

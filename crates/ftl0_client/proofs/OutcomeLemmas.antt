@@ -23,7 +23,7 @@ use Rattle.ftl0_client.specs.Laws.{AckedLaw, FetchedLaw, IsToldDownOf, KeepsOutc
 use Rattle.ftl0_client.specs.Outcomes.{outcome_as, outcome_by}
 
 -- a frame of a station with which there is no link leaves the attempt
-stranger-attempt : (client : Client) (frame : FrameValue) → (hearing_stranger client frame).attempt ≡ client.attempt
+pub stranger-attempt : (client : Client) (frame : FrameValue) → (hearing_stranger client frame).attempt ≡ client.attempt
 stranger-attempt client frame = cond_both (is_answered frame) (refusing client frame.src frame.poll) client (λ (c : Client). c.attempt ≡ client.attempt) (λ b. refl) (λ b. refl)
 
 -- ---- it stays

@@ -1,5 +1,6 @@
 -- A client as contracts see it, and which of the definitions' clients it stands for.
 use Rattle.std.specs.Prelude.{◌≡◌, ◌≢◌, ℕ, ◌+◌, List, [], Bool, true, false, not, ◌&&◌, ◌||◌, Option, None, Some, ⊤}
+use Rattle.sha2.specs.Sha256.{sha256}
 use Rattle.px_base.specs.CallSign.{CallSign}
 use Rattle.disk_model.specs.declared.disk.Disk.{Ghosts}
 use Rattle.ax25_link.specs.Kept.{Fits, HasStations, count_of, is_pending, is_there, most_pending}
@@ -8,11 +9,8 @@ use Rattle.client_notes.specs.Notes.{Lists}
 use Rattle.client_notes.specs.State.{NotesState, StandsOn}
 use Rattle.ftl0_job.specs.declared.work.Work.{Work}
 use Rattle.ftl0_job.specs.declared.work.Work.TheVariants as work
-use Rattle.ftl0_job.specs.Directory.{new_directory}
-use Rattle.ftl0_job.specs.Download.{new_download}
-use Rattle.ftl0_job.specs.JobState.{NotesGoWith}
-use Rattle.ftl0_job.specs.Table.{JobState, listing_of}
-use Rattle.ftl0_job.specs.Upload.{new_upload}
+use Rattle.ftl0_job.specs.JobState.{IsTaskOf, NotesGoWith}
+use Rattle.ftl0_job.specs.Table.{listing_of}
 use Rattle.ftl0_attempt.specs.Attempted.{Attempted}
 use Rattle.ftl0_attempt.specs.Attempted as attempted
 use Rattle.ftl0_attempt.specs.AttemptState.{AttemptState, IsAttempt, is_closed}
@@ -101,21 +99,12 @@ pub record MayHear {D : Type 0} (g : Ghosts D) (self : ClientState) (disk : D) :
   pub stands_on : StandsOn g self.notes disk
   pub notes_are : GoWithAttempt self.notes.lists self.attempt
 
--- nothing of what is to be done was done yet
-abbrev pub IsNotBegun : Work → Type 0
-IsNotBegun (work.Upload at) = at ≡ new_upload at.task at.known at.file
-IsNotBegun (work.Directory at) = at ≡ new_directory at.tokens
-IsNotBegun (work.Download at) = at ≡ new_download at.server at.number
-
--- the job was just made: it has no outcome, and nothing of it was done
-abbrev pub IsNew : JobState → Type 0
-IsNew job = (job.ending ≡ None) × IsNotBegun job.work
-
--- a download is of a file of this server
-abbrev pub IsOfServer : CallSign → Work → Type 0
-IsOfServer server (work.Upload at) = ⊤
-IsOfServer server (work.Directory at) = ⊤
-IsOfServer server (work.Download at) = at.server ≡ server
+-- Work that may be asked of this client: an upload is of a task of its server and its own call, whose digest is the
+-- SHA-256 of the file (FIPS 180-4), and a download is of a file of its server.
+abbrev pub IsOwn : ClientState → Work → Type 0
+IsOwn self (work.Upload at) = IsTaskOf self.notes.lists self.server self.me (sha256 at.file) at.task
+IsOwn self (work.Directory at) = ⊤
+IsOwn self (work.Download at) = at.server ≡ self.server
 
 -- the attempt's link, if there is one, is of these stations, and this one called
 abbrev pub HasLink : CallSign → CallSign → ℕ → Option AttemptState → Type 0

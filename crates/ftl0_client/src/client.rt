@@ -2,6 +2,7 @@
 
 ghost use Rattle.std.specs.Prelude.{◌≡◌, ◌⊎◌, ℕ, ◌<◌, ◌≤◌, List, length, false, true};
 ghost use Rattle.std.specs.Prelude.{IfOk, IsErr, IsErrOf, IsTrue, OnErr, OnOk};
+ghost use Rattle.sha2.specs.Sha256.{sha256};
 ghost use Rattle.ax25_frames.specs.Kinds.{FitsControl};
 ghost use Rattle.ax25_frames.specs.Values.{kind_value, value_of};
 ghost use Rattle.ax25_link.specs.Rows.{is_call};
@@ -11,16 +12,16 @@ ghost use Rattle.client_notes.specs.Answers.{StartsBy, answer_of, fresh_task, st
 ghost use Rattle.client_notes.specs.Notes.{is_same_call};
 ghost use Rattle.client_notes.specs.OnDisk.{Does, Untouched};
 ghost use Rattle.client_notes.specs.State.{StandsOn};
-ghost use Rattle.ftl0_job.specs.JobState.{NotesGoWith};
-ghost use Rattle.ftl0_job.specs.Laws.{IsStarted};
+ghost use Rattle.ftl0_job.specs.JobState.{IsNew, NotesGoWith};
+ghost use Rattle.ftl0_job.specs.Laws.{IsOwned, IsStarted};
 ghost use Rattle.ftl0_attempt.specs.AttemptState.{PutsBy};
 ghost use Rattle.ftl0_client.specs.Calls.{Becomes, HandsOutNext, HasAsked, Hears, KeepsNotes, SameButFrames};
 ghost use Rattle.ftl0_client.specs.Calls.{SameClient};
 ghost use Rattle.ftl0_client.specs.Client.{Client as ClientValue, asking, client_ticking, hearing_stranger, new_client};
 ghost use Rattle.ftl0_client.specs.Client.{is_answered as is_answered_frame};
 ghost use Rattle.ftl0_client.specs.Outcomes.{outcome_by};
-ghost use Rattle.ftl0_client.specs.ClientState.{IsClient, IsFree, IsNew, IsOfServer, MayHear, client_closed};
-ghost use Rattle.ftl0_client.specs.ClientState.{LinkFits, client_most, client_pending, listing_in, new_state};
+ghost use Rattle.ftl0_client.specs.ClientState.{IsClient, IsFree, IsOwn, LinkFits, MayHear};
+ghost use Rattle.ftl0_client.specs.ClientState.{client_closed, client_most, client_pending, listing_in, new_state};
 ghost use Rattle.ftl0_client.specs.ClientState.{outcome_in};
 
 use crate::Outcome;
@@ -30,7 +31,7 @@ use ax25_frames::{Frame, Kind};
 use client_notes::{Begun, Notes, NotesRefusal};
 use disk_model::Disk;
 use ftl0_attempt::Attempt;
-use ftl0_job::laws::started_law;
+use ftl0_job::laws::{owned_law, started_law};
 use ftl0_job::{Job, JobStop};
 use px_base::{Call, OutOfMemory};
 use std::alloc::Global;
@@ -117,24 +118,27 @@ impl Client {
         ensures may { ¬ IsErrOf result NotesRefusal.Disk → MayHear D.Disk self.old disk.old →
             MayHear D.Disk self.new disk.new }
 
-        // The task is the one that an upload of a file of this length needs.
-        ensures started { IfOk result (λ begun. (file : List ℕ) → length file ≡ file_length →
-            IsStarted self.new.notes.lists file begun) }
+        // The task is the one that an upload of a file of this length and digest needs, and may be asked.
+        ensures started { IfOk result (λ begun. (file : List ℕ) → length file ≡ file_length → sha256 file ≡ digest →
+            IsStarted self.new.notes.lists file begun
+            × IsOwned self.new.notes.lists self.new.server self.new.me (sha256 file) begun) }
     {
         started_law::<D>();
+        owned_law::<D>();
         self.notes
             .start(disk, self.server, self.me, name, file_length, digest)
     }
 
     /// Asks for a job that was just made, while nothing is under way: an attempt begins, and SABM with P = 1 is pending
-    /// (AX.25 2.0, 2.4.3.1). The link of the one before is gone. An upload is of a task that is unfinished, with the
-    /// number that the notes have and a file of its length, and a download is of this client's server. Takes memory,
-    /// and fails only where there is none; nothing changes then.
+    /// (AX.25 2.0, 2.4.3.1). The link of the one before is gone. An upload is of a task of this client and its server
+    /// that is unfinished, with the number that the notes have and a file of its length and digest (SHA-256, FIPS
+    /// 180-4), and a download is of this client's server. Takes memory, and fails only where there is none; nothing
+    /// changes then.
     pub fn ask(&mut self, alloc: Global, job: Job) -> Result<(), OutOfMemory>
         requires free { IsFree self.old }
         requires new { IsNew job }
         requires go_with { NotesGoWith self.old.notes.lists job }
-        requires server { IsOfServer self.old.server job.work }
+        requires own { IsOwn self.old job.work }
         ensures asks { OnOk result (Becomes self.old self.new (λ client. asking client job)) }
         ensures refused { OnErr result (self.new ≡ self.old) }
         ensures notes { OnOk result (HasAsked self.old self.new) }
@@ -274,6 +278,15 @@ impl Client {
     {
         if let Some(attempt) = &self.attempt {
             attempt.fits_law();
+        }
+    }
+
+    /// A law, which does nothing: it stands for some client of the definitions, after each call, whatever stopped it.
+    pub fn some_law(&self)
+        ensures { (client : ClientValue) × IsClient self.now client }
+    {
+        if let Some(attempt) = &self.attempt {
+            attempt.some_law();
         }
     }
 

@@ -5,6 +5,7 @@ ghost use Rattle.ax25_frames.specs.FrameText.{FrameValue};
 ghost use Rattle.ftl0_client.specs.Client.{Client as ClientValue};
 ghost use Rattle.ftl0_client.specs.ClientState.{IsClient};
 ghost use Rattle.ftl0_client.specs.ClientStep.{Empties};
+ghost use Rattle.ftl0_client.specs.Going.{GoesLaw, SettledLaw};
 ghost use Rattle.ftl0_client.specs.Laws.{AckedLaw, FetchedLaw, OneStepLaw, OutcomeLaw, SomeStepLaw, StrangerLaw};
 
 use crate::Client;
@@ -49,6 +50,23 @@ pub fn fetched_law()
     ensures { FetchedLaw }
 {
     ftl0_attempt::laws::fetched_law();
+}
+
+/// What a client comes to that was asked for a job, over frames and ticks: what stands of it, and what its outcome
+/// promises.
+pub fn goes_law()
+    ensures { GoesLaw }
+{
+    ftl0_attempt::laws::stands_law();
+}
+
+/// Once something became of what was asked, whichever it is, nothing more is noted, and it stays.
+pub fn settled_law()
+    ensures { SettledLaw }
+{
+    ftl0_attempt::laws::stands_law();
+    ftl0_attempt::laws::quiet_law();
+    ftl0_attempt::laws::outcome_law();
 }
 
 /// What a client says to a station with which it has no link is what an end of a link that is down says (AX.25 2.0,

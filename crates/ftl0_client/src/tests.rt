@@ -3,9 +3,9 @@
 ghost use Rattle.std.specs.Prelude.{◌≡◌, ◌≤◌, false, length, OnOk};
 ghost use Rattle.ax25_frames.specs.Kinds.{FitsControl};
 ghost use Rattle.ax25_frames.specs.Values.{kind_value};
-ghost use Rattle.ftl0_job.specs.JobState.{NotesGoWith};
+ghost use Rattle.ftl0_job.specs.JobState.{IsNew, NotesGoWith};
 ghost use Rattle.ftl0_client.specs.Calls.{SameClient};
-ghost use Rattle.ftl0_client.specs.ClientState.{IsFree, IsNew, IsOfServer, MayHear, client_pending};
+ghost use Rattle.ftl0_client.specs.ClientState.{IsFree, IsOwn, MayHear, client_pending};
 
 use super::*;
 use arrayvec::ArrayVec;
@@ -13,8 +13,8 @@ use ax25_frames::{Frame, Kind};
 use ax25_link::Why;
 use client_notes::{Begun, Noted, Notes};
 use disk_model::{Disk, MemoryDisk};
-use ftl0_job::laws::started_law;
 use px_base::{Call, FileBytes};
+use sha2::{Digest, Sha256};
 use std::alloc::Global;
 use std::process::Abort;
 use std::test::Fail;
@@ -200,6 +200,7 @@ fn refuses<D: Disk>(
 /// A client without notes, over this disk, of which nothing was asked.
 fn begin<D: Disk>(rt: &impl Abort, alloc: Global, disk: &mut D, stations: &(Call, Call)) -> Client
     ensures me { result.me ≡ stations.now.0 }
+    ensures server { result.server ≡ stations.now.1 }
     ensures free { IsFree result }
     ensures quiet { client_pending result ≡ false }
     ensures may { MayHear D.Disk result disk.new }
@@ -217,7 +218,7 @@ fn ask<D: Disk>(rt: &impl Abort, alloc: Global, client: &mut Client, disk: &D, j
     requires free { IsFree client.old }
     requires new { IsNew job }
     requires go_with { NotesGoWith client.old.notes.lists job }
-    requires server { IsOfServer client.old.server job.work }
+    requires own { IsOwn client.old job.work }
     requires may { MayHear D.Disk client.old disk.now }
     ensures quiet { client_pending client.new ≡ false }
     ensures may { MayHear D.Disk client.new disk.now }
@@ -250,7 +251,8 @@ fn upload<D: Disk>(
     let Ok(file) = FileBytes::copy_of(alloc, octets) else {
         panic!(rt; "no memory");
     };
-    let Ok(begun) = client.start_task(disk, name, file.len() as u32, [7; 32]) else {
+    let digest = Sha256::digest(file.as_slice());
+    let Ok(begun) = client.start_task(disk, name, file.len() as u32, digest) else {
         panic!(rt; "not started");
     };
     let (task, number) = match begun {
@@ -357,68 +359,74 @@ fn an_upload_that_is_carried_on(rt: HostRuntime) -> Result<(), Fail> {
 }
 
 #[test]
-fn stations_without_a_link(rt: HostRuntime) -> Result<(), Fail> {
+fn a_client_of_which_nothing_was_asked(rt: HostRuntime) -> Result<(), Fail> {
     let stations = stations(&rt);
     let strangers = (stations.0, call(&rt, "NOCALL"));
     let mut disk = MemoryDisk::new(rt.alloc(), &[], &[])?;
     let mut client = begin(&rt, rt.alloc(), &mut disk, &stations);
-
-    // Before anything was asked there is no link to the server either.
-    refuses(
-        &rt,
-        &mut client,
-        &mut disk,
-        &strangers,
-        &Says::Calls,
-        &REFUSES,
-    );
-    refuses(
-        &rt,
-        &mut client,
-        &mut disk,
-        &stations,
-        &Says::Accepts,
-        &REFUSES_SERVER,
-    );
-    play(
-        &rt,
-        &mut client,
-        &mut disk,
-        &stations,
-        &[(Says::Accepts, 0, &[])],
-    );
+    let (calls, accepts) = (Says::Calls, Says::Accepts);
+    refuses(&rt, &mut client, &mut disk, &strangers, &calls, &REFUSES);
+    // There is no link to the server either.
+    let says = &REFUSES_SERVER;
+    refuses(&rt, &mut client, &mut disk, &stations, &accepts, says);
+    let rows: [Row<'_>; 1] = [(accepts, 0, &[])];
+    play(&rt, &mut client, &mut disk, &stations, &rows);
     assert_eq!(rt; client.outcome(), Outcome::Idle);
-
-    // Another station has no part in what is under way.
-    upload(&rt, rt.alloc(), &mut client, &mut disk, "A", &FILE[5..78]);
-    play(
-        &rt,
-        &mut client,
-        &mut disk,
-        &strangers,
-        &[(Says::Refuses, 0, &[])],
-    );
-    assert_eq!(rt; client.outcome(), Outcome::Working);
-
-    // A link that is down answers as none does.
-    play(
-        &rt,
-        &mut client,
-        &mut disk,
-        &stations,
-        &[(Says::Refuses, 0, &[])],
-    );
-    assert_eq!(rt; client.outcome(), Outcome::LinkDown(Why::Dm));
-    refuses(
-        &rt,
-        &mut client,
-        &mut disk,
-        &stations,
-        &Says::Calls,
-        &REFUSES_SERVER,
-    );
     assert!(rt; client.closed());
     Ok(())
+}
+
+#[test]
+fn a_link_that_is_refused(rt: HostRuntime) -> Result<(), Fail> {
+    let stations = stations(&rt);
+    let strangers = (stations.0, call(&rt, "NOCALL"));
+    let mut disk = MemoryDisk::new(rt.alloc(), &[], &[])?;
+    let mut client = begin(&rt, rt.alloc(), &mut disk, &stations);
+    upload(&rt, rt.alloc(), &mut client, &mut disk, "A", &FILE[5..78]);
+    // Another station has no part in what is under way.
+    let rows: [Row<'_>; 1] = [(Says::Refuses, 0, &[])];
+    play(&rt, &mut client, &mut disk, &strangers, &rows);
+    assert_eq!(rt; client.outcome(), Outcome::Working);
+    // A link that is down answers as none does.
+    play(&rt, &mut client, &mut disk, &stations, &rows);
+    assert_eq!(rt; client.outcome(), Outcome::LinkDown(Why::Dm));
+    let (calls, says) = (Says::Calls, &REFUSES_SERVER);
+    refuses(&rt, &mut client, &mut disk, &stations, &calls, says);
+    assert!(rt; client.closed());
+    Ok(())
+}
+
+/// Asks for a list, and plays it up to its end: it has one file.
+fn lists<D: Disk>(
+    rt: &impl Abort,
+    alloc: Global,
+    client: &mut Client,
+    disk: &mut D,
+    stations: &(Call, Call),
+)
+    requires me { client.old.me ≡ stations.now.0 }
+    requires free { IsFree client.old }
+    requires may { MayHear D.Disk client.old disk.old }
+{
+    let Ok(tokens) = FileBytes::copy_of(alloc, &[0x10, 0x7F, 0x00, 0x00, 0x22]) else {
+        panic!(rt; "no memory");
+    };
+    ask(rt, alloc, client, disk, Job::list(alloc, tokens));
+    let greeted = [0x21, 0x20, 0xF0, 0x05, 0x10, 0x10, 0x7F, 0x00, 0x00, 0x22];
+    let selected = [0x41, 0x42, 0xF0, 0x04, 0x0E, 0, 0, 0, 0];
+    let listed = [0x61, 0x64, 0xF0, 0x04, 0x0E, 0, 0, 0, 0];
+    let count = [0x02, 0x11, 0x01, 0x00];
+    let empty = [0x01, 0x09, 0x0B];
+    let rows: [Row<'_>; 5] = [
+        (Says::Accepts, 0, &[]),
+        (Says::Information(0, 0, &LOGIN), 2, &greeted),
+        (Says::Information(1, 1, &count), 2, &selected),
+        (Says::Information(2, 2, &FILE[3..]), 2, &listed),
+        (Says::Information(3, 3, &empty), 2, &[0x81, 0x53]),
+    ];
+    play(rt, client, disk, stations, &rows);
+    assert_eq!(rt; client.outcome(), Outcome::Listed);
+    assert_eq!(rt; client.listing(), &FILE[5..78]);
 }
 
 #[test]
@@ -426,35 +434,48 @@ fn a_list_of_one_file(rt: HostRuntime) -> Result<(), Fail> {
     let stations = stations(&rt);
     let mut disk = MemoryDisk::new(rt.alloc(), &[], &[])?;
     let mut client = begin(&rt, rt.alloc(), &mut disk, &stations);
-    let tokens = FileBytes::copy_of(rt.alloc(), &[0x10, 0x7F, 0x00, 0x00, 0x22])?;
-    ask(
-        &rt,
-        rt.alloc(),
-        &mut client,
-        &disk,
-        Job::list(rt.alloc(), tokens),
-    );
-    let greeted = [0x21, 0x20, 0xF0, 0x05, 0x10, 0x10, 0x7F, 0x00, 0x00, 0x22];
-    let selected = [0x41, 0x42, 0xF0, 0x04, 0x0E, 0, 0, 0, 0];
-    let listed = [0x61, 0x64, 0xF0, 0x04, 0x0E, 0, 0, 0, 0];
+    lists(&rt, rt.alloc(), &mut client, &mut disk, &stations);
+    assert!(rt; !client.closed());
+    Ok(())
+}
+
+/// Asks for the download of file 5, of which nothing was got.
+fn download<D: Disk>(rt: &impl Abort, alloc: Global, client: &mut Client, disk: &D, server: Call)
+    requires server { client.old.server ≡ server }
+    requires free { IsFree client.old }
+    requires may { MayHear D.Disk client.old disk.now }
+    ensures quiet { client_pending client.new ≡ false }
+    ensures may { MayHear D.Disk client.new disk.now }
+    ensures same { SameClient client.old client.new }
+{
+    assert_eq!(rt; client.notes().got_len(server, 5), 0);
+    ask(rt, alloc, client, disk, Job::download(server, 5));
+}
+
+#[test]
+fn a_download_and_then_a_list(rt: HostRuntime) -> Result<(), Fail> {
+    let stations = stations(&rt);
+    let mut disk = MemoryDisk::new(rt.alloc(), &[], &[])?;
+    let mut client = begin(&rt, rt.alloc(), &mut disk, &stations);
+    download(&rt, rt.alloc(), &mut client, &disk, stations.1);
+    let greeted = [0x21, 0x20, 0xF0, 0x09, 0x08, 0x05, 0, 0, 0, 0, 0, 0, 0, 0];
     let rows: [Row<'_>; 5] = [
         (Says::Accepts, 0, &[]),
         (Says::Information(0, 0, &LOGIN), 2, &greeted),
         (
-            Says::Information(1, 1, &[0x02, 0x11, 0x01, 0x00]),
+            Says::Information(1, 1, &FILE[3..]),
             2,
-            &selected,
+            &[0x41, 0x42, 0xF0, 0x00, 0x0C],
         ),
-        (Says::Information(2, 2, &FILE[3..]), 2, &listed),
-        (
-            Says::Information(3, 3, &[0x01, 0x09, 0x0B]),
-            2,
-            &[0x81, 0x53],
-        ),
+        (Says::Information(2, 2, &[0x00, 0x0B]), 2, &[0x61, 0x53]),
+        (Says::Accepts, 0, &[]),
     ];
     play(&rt, &mut client, &mut disk, &stations, &rows);
-    assert_eq!(rt; client.outcome(), Outcome::Listed);
-    assert_eq!(rt; client.listing(), &FILE[5..78]);
+    assert_eq!(rt; client.outcome(), Outcome::Fetched { number: 5 });
+    let got = client.notes().got_octets(stations.1, 5);
+    assert_eq!(rt; got, &FILE[5..78]);
+    assert!(rt; client.closed());
+    lists(&rt, rt.alloc(), &mut client, &mut disk, &stations);
     Ok(())
 }
 

@@ -7,8 +7,7 @@ use Rattle.std.proofs.lemmas.Bool.Decides.{nat_tests}
 use Rattle.std.proofs.lemmas.List.{take-append-drop}
 use Rattle.std.proofs.lemmas.Option.{slice_get-get_or}
 use Rattle.px_base.specs.CallSign.{CallSign}
-use Rattle.ftl0_packets.specs.Layout.{Item, PacketValue, data_part, data_end, login_resp, upload_cmd, ul_go_resp, ul_error_resp, ul_ack_resp, ul_nak_resp, download_cmd}
-use Rattle.ftl0_packets.specs.Layout.{dl_error_resp, dl_aborted_resp, dl_completed_resp, dl_ack_cmd, dl_nak_cmd, dir_short_cmd, dir_long_cmd, select_cmd, select_resp}
+use Rattle.ftl0_packets.specs.Layout.{Item, PacketValue, data_part, data_end, login_resp, ul_go_resp, download_cmd}
 use Rattle.pfh_items.specs.Faults.{fault_code}
 use Rattle.client_notes.specs.declared.answers.Begun.{Begun}
 use Rattle.client_notes.specs.declared.answers.Begun.TheVariants as begun
@@ -43,6 +42,7 @@ use Rattle.ftl0_job.specs.Table.{JobState, job_row, new_job, row_by}
 use Rattle.ftl0_job.specs.Upload as upload
 use Rattle.ftl0_job.specs.Upload.{Upload, in_phase, is_complete, may_go, new_upload, number_commands, refusal_of, upload_row}
 use Rattle.ftl0_job.proofs.BlockLemmas.{gots-after}
+use Rattle.ftl0_job.proofs.CaseLemmas.{DownloadRows, UploadRows, download-rows, upload-rows}
 use Rattle.ftl0_job.proofs.StaysLemmas.{stays-item}
 
 -- ---- the notes go with the job
@@ -63,15 +63,20 @@ last-there tasks entry =
     let sum : length (tasks ++ entry ∷ []) ≡ length tasks + length (entry ∷ []) = length-append tasks (entry ∷ []) in
     slice_get-get_or (tasks ++ entry ∷ []) (length tasks) entry (omega (arith, sum)) ∙ ap Some (get_or-append_seam tasks entry [] entry)
 
+-- a task that was just begun
+pub task-begun : (lists : Lists) (entry : Task) → task_of (record lists { tasks = lists.tasks ++ entry ∷ [] }) (task_count lists + 1) ≡ Some entry
+task-begun lists entry =
+    let some : (task_count lists + 1 == 0) ≡ false = grind (arith, nat_tests) in
+    let place : task_count lists ≡ task_count lists + 1 - 1 = omega arith in
+    rw some (subst (λ (k : ℕ). slice_get (lists.tasks ++ entry ∷ []) k ≡ Some entry) place (last-there lists.tasks entry))
+
 fresh : (lists : Lists) (server caller : CallSign) (name file digest : List ℕ)
     → HasTask (after lists (fresh_task lists server caller name (length file) digest)) (new_upload (task_count lists + 1) 0 file)
 fresh lists server caller name file digest =
     let entry : Task = new_task server caller name (length file) digest in
-    let some : (task_count lists + 1 == 0) ≡ false = grind (arith, nat_tests) in
-    let place : task_count lists ≡ task_count lists + 1 - 1 = omega arith in
     record {
       entry = entry;
-      is_entry = rw some (subst (λ (k : ℕ). slice_get (lists.tasks ++ entry ∷ []) k ≡ Some entry) place (last-there lists.tasks entry));
+      is_entry = task-begun lists entry;
       going = refl;
       number = refl;
       file_length = refl;
@@ -109,7 +114,7 @@ going lists server caller name file digest task number is = by_last (last_task l
     by_last (Some t) same = by_task t (task_of lists t) refl same
 
 -- no answer of an earlier task is that a fresh one was noted
-not-fresh : (lists : Lists) (server caller : CallSign) (name digest : List ℕ) (len task : ℕ) → answer_of lists server caller name len digest ≡ Ok (Some (begun.Fresh task)) → ⊥
+pub not-fresh : (lists : Lists) (server caller : CallSign) (name digest : List ℕ) (len task : ℕ) → answer_of lists server caller name len digest ≡ Ok (Some (begun.Fresh task)) → ⊥
 not-fresh lists server caller name digest len task is = by_last (last_task lists server caller name) is
   where
     by_progress : (t : ℕ) (entry : Task) (b : Bool) (p : Progress) → answer_by t entry b p ≡ Ok (Some (begun.Fresh task)) → ⊥
@@ -129,13 +134,13 @@ not-fresh lists server caller name digest len task is = by_last (last_task lists
     by_last (Some t) same = by_task t (task_of lists t) same
 
 -- the number of a fresh task
-fresh-number : (old : NotesState) (r : Result (Option Begun) NotesRefusal) (task : ℕ) → (r ≡ Ok (Some (begun.Fresh task)) → ⊥) → StartsBy old r (Ok (begun.Fresh task)) → task ≡ task_count old.lists + 1
+pub fresh-number : (old : NotesState) (r : Result (Option Begun) NotesRefusal) (task : ℕ) → (r ≡ Ok (Some (begun.Fresh task)) → ⊥) → StartsBy old r (Ok (begun.Fresh task)) → task ≡ task_count old.lists + 1
 fresh-number old (Ok None) task none starts = let is = starts.1 in cc is
 fresh-number old (Ok (Some kept)) task none starts = absurd (none (let kept_is : kept ≡ begun.Fresh task = cc starts in ap (λ (b : Begun). Ok (Some b)) kept_is))
 fresh-number old (Err refusal) task none starts = absurd (cc starts)
 
 -- the answer of an earlier task that is under way
-going-answer : (old : NotesState) (r : Result (Option Begun) NotesRefusal) (task number : ℕ) → StartsBy old r (Ok (begun.Going task number)) → r ≡ Ok (Some (begun.Going task number))
+pub going-answer : (old : NotesState) (r : Result (Option Begun) NotesRefusal) (task number : ℕ) → StartsBy old r (Ok (begun.Going task number)) → r ≡ Ok (Some (begun.Going task number))
 going-answer old (Ok None) task number starts = absurd (let is = starts.1 in cc is)
 going-answer old (Ok (Some kept)) task number starts = let kept_is : kept ≡ begun.Going task number = cc starts in ap (λ (b : Begun). Ok (Some b)) kept_is
 going-answer old (Err refusal) task number starts = absurd (cc starts)
@@ -160,6 +165,12 @@ is-started g old new disk disk_now server caller name file digest (begun.Already
 
 -- ---- what is acknowledged
 
+-- it is noted that an upload whose file has this number was acknowledged with it
+pub acked-now : (lists : Lists) (at : Upload) (number : ℕ) → HasTask lists at → number_in at.phase at.known ≡ number → noted_at (after lists (acked at.task)) at.task ≡ Some (noted.Acked at.task number)
+acked-now lists at number has is =
+    ap (option_map (noted_as at.task)) (task-after lists at.task (λ t. record t { progress = progress.Acked }) has.entry has.is_entry)
+    ∙ ap (λ (n : ℕ). Some (noted.Acked at.task n)) (has.number ∙ is)
+
 -- since the first command, whatever comes behind it
 acked-in : (lists : Lists) (at : Upload) (number : ℕ) (row : Row Upload) → HasTask lists at → number_in at.phase at.known ≡ number → row.commands ≡ acked at.task ∷ [] → Acknowledges lists at.task number row
 acked-in lists at number row has is commands = record {
@@ -170,11 +181,6 @@ acked-in lists at number row has is commands = record {
       (subst (λ (cs : List NotesCommand). StandsFor image (after_all lists (take makes.0 cs))) all makes.3);
 }
   where
-    noted_now : noted_at (after lists (acked at.task)) at.task ≡ Some (noted.Acked at.task number)
-    noted_now =
-        ap (option_map (noted_as at.task)) (task-after lists at.task (λ t. record t { progress = progress.Acked }) has.entry has.is_entry)
-        ∙ ap (λ (n : ℕ). Some (noted.Acked at.task n)) (has.number ∙ is)
-
     allowed-take : (count : ℕ) (commands : List NotesCommand) (lists : Lists) → AreAllowed lists commands → AreAllowed lists (take count commands)
     allowed-take zero commands lists allowed = tt
     allowed-take (suc count) [] lists allowed = tt
@@ -186,117 +192,31 @@ acked-in lists at number row has is commands = record {
     stands-by others image allowed (suc count) some stands = (
       after_all (after lists (acked at.task)) (take count others),
       stands,
-      acked-stays (after lists (acked at.task)) (take count others) at.task number (allowed-take count others (after lists (acked at.task)) allowed.1) noted_now,
+      acked-stays (after lists (acked at.task)) (take count others) at.task number (allowed-take count others (after lists (acked at.task)) allowed.1) (acked-now lists at number has is),
     )
 
-ack-login : (lists : Lists) (at : Upload) (packet : PacketValue) (number : ℕ) → reached (upload.login_row at packet) ≡ Some (outcome.Acked number) → Acknowledges lists at.task number (upload.login_row at packet)
-ack-login lists at (data_part octets) number is = absurd (cc is)
-ack-login lists at data_end number is = absurd (cc is)
-ack-login lists at (login_resp moment flags) number is = absurd (cc is)
-ack-login lists at (upload_cmd of file_length) number is = absurd (cc is)
-ack-login lists at (ul_go_resp of offset) number is = absurd (cc is)
-ack-login lists at (ul_error_resp code) number is = absurd (cc is)
-ack-login lists at ul_ack_resp number is = absurd (cc is)
-ack-login lists at (ul_nak_resp code) number is = absurd (cc is)
-ack-login lists at (download_cmd of offset lock) number is = absurd (cc is)
-ack-login lists at (dl_error_resp code) number is = absurd (cc is)
-ack-login lists at dl_aborted_resp number is = absurd (cc is)
-ack-login lists at dl_completed_resp number is = absurd (cc is)
-ack-login lists at dl_ack_cmd number is = absurd (cc is)
-ack-login lists at dl_nak_cmd number is = absurd (cc is)
-ack-login lists at (dir_short_cmd of) number is = absurd (cc is)
-ack-login lists at (dir_long_cmd of) number is = absurd (cc is)
-ack-login lists at (select_cmd tokens) number is = absurd (cc is)
-ack-login lists at (select_resp count) number is = absurd (cc is)
-
-ack-sending : (lists : Lists) (at : Upload) (packet : PacketValue) (number : ℕ) → reached (upload.sending_row at packet) ≡ Some (outcome.Acked number) → Acknowledges lists at.task number (upload.sending_row at packet)
-ack-sending lists at (data_part octets) number is = absurd (cc is)
-ack-sending lists at data_end number is = absurd (cc is)
-ack-sending lists at (login_resp moment flags) number is = absurd (cc is)
-ack-sending lists at (upload_cmd of file_length) number is = absurd (cc is)
-ack-sending lists at (ul_go_resp of offset) number is = absurd (cc is)
-ack-sending lists at (ul_error_resp code) number is = absurd (cc is)
-ack-sending lists at ul_ack_resp number is = absurd (cc is)
-ack-sending lists at (ul_nak_resp code) number is = absurd (cc is)
-ack-sending lists at (download_cmd of offset lock) number is = absurd (cc is)
-ack-sending lists at (dl_error_resp code) number is = absurd (cc is)
-ack-sending lists at dl_aborted_resp number is = absurd (cc is)
-ack-sending lists at dl_completed_resp number is = absurd (cc is)
-ack-sending lists at dl_ack_cmd number is = absurd (cc is)
-ack-sending lists at dl_nak_cmd number is = absurd (cc is)
-ack-sending lists at (dir_short_cmd of) number is = absurd (cc is)
-ack-sending lists at (dir_long_cmd of) number is = absurd (cc is)
-ack-sending lists at (select_cmd tokens) number is = absurd (cc is)
-ack-sending lists at (select_resp count) number is = absurd (cc is)
-
-go-resp-none : (b : Bool) (lists : Lists) (at : Upload) (of offset number : ℕ)
-    → reached (if b then goes_on (in_phase at (phase.Sending of offset)) (number_commands at of) [] else strange at 4) ≡ Some (outcome.Acked number)
-    → Acknowledges lists at.task number (if b then goes_on (in_phase at (phase.Sending of offset)) (number_commands at of) [] else strange at 4)
-go-resp-none true lists at of offset number is = absurd (cc is)
-go-resp-none false lists at of offset number is = absurd (cc is)
-
-go-error : (b : Bool) (lists : Lists) (at : Upload) (code number : ℕ) → at.phase ≡ phase.Go → HasTask lists at
-    → reached (if b then ends at (acked at.task ∷ []) (outcome.Acked at.known) else ends at (refusal_of at.task code) (outcome.Refused code)) ≡ Some (outcome.Acked number)
-    → Acknowledges lists at.task number (if b then ends at (acked at.task ∷ []) (outcome.Acked at.known) else ends at (refusal_of at.task code) (outcome.Refused code))
-go-error true lists at code number goes has is =
-    let same : at.known ≡ number = cc is in
-    acked-in lists at number (ends at (acked at.task ∷ []) (outcome.Acked at.known)) has (ap (λ (p : UploadPhase). number_in p at.known) goes ∙ same) refl
-go-error false lists at code number goes has is = absurd (cc is)
-
-ack-go : (lists : Lists) (at : Upload) (packet : PacketValue) (number : ℕ) → at.phase ≡ phase.Go → HasTask lists at → reached (upload.go_row at packet) ≡ Some (outcome.Acked number)
-    → Acknowledges lists at.task number (upload.go_row at packet)
-ack-go lists at (data_part octets) number goes has is = absurd (cc is)
-ack-go lists at data_end number goes has is = absurd (cc is)
-ack-go lists at (login_resp moment flags) number goes has is = absurd (cc is)
-ack-go lists at (upload_cmd of file_length) number goes has is = absurd (cc is)
-ack-go lists at (ul_go_resp of offset) number goes has is = go-resp-none (may_go at of offset) lists at of offset number is
-ack-go lists at (ul_error_resp code) number goes has is = go-error (is_complete at code) lists at code number goes has is
-ack-go lists at ul_ack_resp number goes has is = absurd (cc is)
-ack-go lists at (ul_nak_resp code) number goes has is = absurd (cc is)
-ack-go lists at (download_cmd of offset lock) number goes has is = absurd (cc is)
-ack-go lists at (dl_error_resp code) number goes has is = absurd (cc is)
-ack-go lists at dl_aborted_resp number goes has is = absurd (cc is)
-ack-go lists at dl_completed_resp number goes has is = absurd (cc is)
-ack-go lists at dl_ack_cmd number goes has is = absurd (cc is)
-ack-go lists at dl_nak_cmd number goes has is = absurd (cc is)
-ack-go lists at (dir_short_cmd of) number goes has is = absurd (cc is)
-ack-go lists at (dir_long_cmd of) number goes has is = absurd (cc is)
-ack-go lists at (select_cmd tokens) number goes has is = absurd (cc is)
-ack-go lists at (select_resp count) number goes has is = absurd (cc is)
-
-ack-ack : (lists : Lists) (at : Upload) (given : ℕ) (packet : PacketValue) (number : ℕ) → at.phase ≡ phase.Ack given → HasTask lists at → reached (upload.ack_row at given packet) ≡ Some (outcome.Acked number)
-    → Acknowledges lists at.task number (upload.ack_row at given packet)
-ack-ack lists at given (data_part octets) number waits has is = absurd (cc is)
-ack-ack lists at given data_end number waits has is = absurd (cc is)
-ack-ack lists at given (login_resp moment flags) number waits has is = absurd (cc is)
-ack-ack lists at given (upload_cmd of file_length) number waits has is = absurd (cc is)
-ack-ack lists at given (ul_go_resp of offset) number waits has is = absurd (cc is)
-ack-ack lists at given (ul_error_resp code) number waits has is = absurd (cc is)
-ack-ack lists at given ul_ack_resp number waits has is =
-    let same : given ≡ number = cc is in
-    acked-in lists at number (ends at (acked at.task ∷ []) (outcome.Acked given)) has (ap (λ (p : UploadPhase). number_in p at.known) waits ∙ same) refl
-ack-ack lists at given (ul_nak_resp code) number waits has is = absurd (cc is)
-ack-ack lists at given (download_cmd of offset lock) number waits has is = absurd (cc is)
-ack-ack lists at given (dl_error_resp code) number waits has is = absurd (cc is)
-ack-ack lists at given dl_aborted_resp number waits has is = absurd (cc is)
-ack-ack lists at given dl_completed_resp number waits has is = absurd (cc is)
-ack-ack lists at given dl_ack_cmd number waits has is = absurd (cc is)
-ack-ack lists at given dl_nak_cmd number waits has is = absurd (cc is)
-ack-ack lists at given (dir_short_cmd of) number waits has is = absurd (cc is)
-ack-ack lists at given (dir_long_cmd of) number waits has is = absurd (cc is)
-ack-ack lists at given (select_cmd tokens) number waits has is = absurd (cc is)
-ack-ack lists at given (select_resp count) number waits has is = absurd (cc is)
+-- a row that comes to this acknowledges
+abbrev AcknowledgesBy : Lists → Upload → ℕ → Row Upload → Type 0
+AcknowledgesBy lists at number row = reached row ≡ Some (outcome.Acked number) → Acknowledges lists at.task number row
 
 pub acknowledged : (lists : Lists) (at : Upload) (packet : PacketValue) (number : ℕ) → HasTask lists at → reached (upload_row at packet) ≡ Some (outcome.Acked number)
     → Acknowledges lists at.task number (upload_row at packet)
-unfolding upload_row
-acknowledged lists at packet number has is = by at.phase refl is
+acknowledged lists at packet number has = upload-rows (AcknowledgesBy lists at number) at rows packet
   where
-    by : (p : UploadPhase) → at.phase ≡ p → reached (upload.row_in p at packet) ≡ Some (outcome.Acked number) → Acknowledges lists at.task number (upload.row_in p at packet)
-    by phase.Login here same = ack-login lists at packet number same
-    by phase.Go here same = ack-go lists at packet number here has same
-    by (phase.Sending of place) here same = ack-sending lists at packet number same
-    by (phase.Ack given) here same = ack-ack lists at given packet number here has same
+    rows : UploadRows (AcknowledgesBy lists at number) at
+    rows = record {
+      strange_rows = λ kind is. absurd (cc is);
+      login = λ here is. absurd (cc is);
+      go = λ of offset here may is. absurd (cc is);
+      complete = λ here is.
+          let same : at.known ≡ number = cc is in
+          acked-in lists at number (ends at (acked at.task ∷ []) (outcome.Acked at.known)) has (ap (λ (p : UploadPhase). number_in p at.known) here ∙ same) refl;
+      refused_rows = λ code is. absurd (cc is);
+      broken_off = λ code is. absurd (cc is);
+      ack = λ given here is.
+          let same : given ≡ number = cc is in
+          acked-in lists at number (ends at (acked at.task ∷ []) (outcome.Acked given)) has (ap (λ (p : UploadPhase). number_in p at.known) here ∙ same) refl;
+    }
 
 -- ---- how a job is continued
 
@@ -344,91 +264,30 @@ fetching lists at octets row here is none =
 abbrev IsFetched : List ℕ → Download → ℕ → Row Download → Type 0
 IsFetched held at number row = (number ≡ at.number) × (fault_code held ≡ None) × (row.commands ≡ [])
 
-fetched-login : (held : List ℕ) (at : Download) (packet : PacketValue) (number : ℕ) → reached (download.login_row held at packet) ≡ Some (outcome.Fetched number)
-    → IsFetched held at number (download.login_row held at packet)
-fetched-login held at (data_part octets) number is = absurd (cc is)
-fetched-login held at data_end number is = absurd (cc is)
-fetched-login held at (login_resp moment flags) number is = absurd (cc is)
-fetched-login held at (upload_cmd of file_length) number is = absurd (cc is)
-fetched-login held at (ul_go_resp of offset) number is = absurd (cc is)
-fetched-login held at (ul_error_resp code) number is = absurd (cc is)
-fetched-login held at ul_ack_resp number is = absurd (cc is)
-fetched-login held at (ul_nak_resp code) number is = absurd (cc is)
-fetched-login held at (download_cmd of offset lock) number is = absurd (cc is)
-fetched-login held at (dl_error_resp code) number is = absurd (cc is)
-fetched-login held at dl_aborted_resp number is = absurd (cc is)
-fetched-login held at dl_completed_resp number is = absurd (cc is)
-fetched-login held at dl_ack_cmd number is = absurd (cc is)
-fetched-login held at dl_nak_cmd number is = absurd (cc is)
-fetched-login held at (dir_short_cmd of) number is = absurd (cc is)
-fetched-login held at (dir_long_cmd of) number is = absurd (cc is)
-fetched-login held at (select_cmd tokens) number is = absurd (cc is)
-fetched-login held at (select_resp count) number is = absurd (cc is)
-
-fetched-data : (b : Bool) (held : List ℕ) (at : Download) (octets : List ℕ) (number : ℕ)
-    → reached (if b then strange at 0 else goes_on (with_rest at (unnoted (at.rest ++ octets))) (whole_gots at.server at.number (at.rest ++ octets)) []) ≡ Some (outcome.Fetched number)
-    → IsFetched held at number (if b then strange at 0 else goes_on (with_rest at (unnoted (at.rest ++ octets))) (whole_gots at.server at.number (at.rest ++ octets)) [])
-fetched-data true held at octets number is = absurd (cc is)
-fetched-data false held at octets number is = absurd (cc is)
-
-fetched-end : (o : Option ℕ) (held : List ℕ) (at : Download) (number : ℕ) → reached (whole_row at o) ≡ Some (outcome.Fetched number) → IsFetched held at number (whole_row at o)
-fetched-end None held at number is = absurd (cc is)
-fetched-end (Some code) held at number is = absurd (cc is)
-
-fetched-octets : (held : List ℕ) (at : Download) (packet : PacketValue) (number : ℕ) → reached (download.fetching_row held at packet) ≡ Some (outcome.Fetched number)
-    → IsFetched held at number (download.fetching_row held at packet)
-fetched-octets held at (data_part octets) number is = fetched-data (nat_lt LONGEST_FILE (length held + length (at.rest ++ octets))) held at octets number is
-fetched-octets held at data_end number is = fetched-end (fault_code (held ++ at.rest)) held at number is
-fetched-octets held at (login_resp moment flags) number is = absurd (cc is)
-fetched-octets held at (upload_cmd of file_length) number is = absurd (cc is)
-fetched-octets held at (ul_go_resp of offset) number is = absurd (cc is)
-fetched-octets held at (ul_error_resp code) number is = absurd (cc is)
-fetched-octets held at ul_ack_resp number is = absurd (cc is)
-fetched-octets held at (ul_nak_resp code) number is = absurd (cc is)
-fetched-octets held at (download_cmd of offset lock) number is = absurd (cc is)
-fetched-octets held at (dl_error_resp code) number is = absurd (cc is)
-fetched-octets held at dl_aborted_resp number is = absurd (cc is)
-fetched-octets held at dl_completed_resp number is = absurd (cc is)
-fetched-octets held at dl_ack_cmd number is = absurd (cc is)
-fetched-octets held at dl_nak_cmd number is = absurd (cc is)
-fetched-octets held at (dir_short_cmd of) number is = absurd (cc is)
-fetched-octets held at (dir_long_cmd of) number is = absurd (cc is)
-fetched-octets held at (select_cmd tokens) number is = absurd (cc is)
-fetched-octets held at (select_resp count) number is = absurd (cc is)
-
-fetched-done : (held : List ℕ) (at : Download) (packet : PacketValue) (number : ℕ) → fault_code held ≡ None → reached (download.done_row at packet) ≡ Some (outcome.Fetched number)
-    → IsFetched held at number (download.done_row at packet)
-fetched-done held at (data_part octets) number whole is = absurd (cc is)
-fetched-done held at data_end number whole is = absurd (cc is)
-fetched-done held at (login_resp moment flags) number whole is = absurd (cc is)
-fetched-done held at (upload_cmd of file_length) number whole is = absurd (cc is)
-fetched-done held at (ul_go_resp of offset) number whole is = absurd (cc is)
-fetched-done held at (ul_error_resp code) number whole is = absurd (cc is)
-fetched-done held at ul_ack_resp number whole is = absurd (cc is)
-fetched-done held at (ul_nak_resp code) number whole is = absurd (cc is)
-fetched-done held at (download_cmd of offset lock) number whole is = absurd (cc is)
-fetched-done held at (dl_error_resp code) number whole is = absurd (cc is)
-fetched-done held at dl_aborted_resp number whole is = absurd (cc is)
-fetched-done held at dl_completed_resp number whole is = let same : at.number ≡ number = cc is in (sym same, whole, refl)
-fetched-done held at dl_ack_cmd number whole is = absurd (cc is)
-fetched-done held at dl_nak_cmd number whole is = absurd (cc is)
-fetched-done held at (dir_short_cmd of) number whole is = absurd (cc is)
-fetched-done held at (dir_long_cmd of) number whole is = absurd (cc is)
-fetched-done held at (select_cmd tokens) number whole is = absurd (cc is)
-fetched-done held at (select_resp count) number whole is = absurd (cc is)
+-- by a row that comes to this the file was fetched
+abbrev FetchedBy : List ℕ → Download → ℕ → Row Download → Type 0
+FetchedBy held at number row = reached row ≡ Some (outcome.Fetched number) → IsFetched held at number row
 
 pub fetched : (lists : Lists) (at : Download) (packet : PacketValue) (number : ℕ) → HasGot lists at
     → reached (download_row (got_of lists at.server at.number) at packet) ≡ Some (outcome.Fetched number)
     → (number ≡ at.number) × (fault_code (got_of lists at.server at.number) ≡ None) × ((download_row (got_of lists at.server at.number) at packet).commands ≡ [])
-unfolding download_row
-fetched lists at packet number has is = by at.phase refl is
+fetched lists at packet number has = download-rows (FetchedBy held at number) held at rows packet
   where
-    by : (p : DownloadPhase) → at.phase ≡ p → reached (download.row_in p (got_of lists at.server at.number) at packet) ≡ Some (outcome.Fetched number)
-        → IsFetched (got_of lists at.server at.number) at number (download.row_in p (got_of lists at.server at.number) at packet)
-    by fetch.Login here same = fetched-login (got_of lists at.server at.number) at packet number same
-    by fetch.Fetching here same = fetched-octets (got_of lists at.server at.number) at packet number same
-    by fetch.Done here same =
-        fetched-done (got_of lists at.server at.number) at packet number (subst (λ (p : DownloadPhase). IsCheckedIn p (got_of lists at.server at.number)) here has.checked) same
+    held : List ℕ
+    held = got_of lists at.server at.number
+
+    rows : DownloadRows (FetchedBy held at number) held at
+    rows = record {
+      strange_rows = λ kind is. absurd (cc is);
+      refused_rows = λ code is. absurd (cc is);
+      login = λ is. absurd (cc is);
+      octets = λ octets here few is. absurd (cc is);
+      whole = λ whole is. absurd (cc is);
+      bad = λ code is. absurd (cc is);
+      done = λ here is.
+          let same : at.number ≡ number = cc is in
+          (sym same, subst (λ (p : DownloadPhase). IsCheckedIn p held) here has.checked, refl);
+    }
 
 -- ---- what is due
 

@@ -1,9 +1,13 @@
 pub mod BlockLemmas
+pub mod CaseLemmas
 pub mod DueLemmas
 pub mod EndLemmas
+pub mod HeaderLemmas
 pub mod JobLemmas
 pub mod LawLemmas
 pub mod NotingLemmas
+pub mod OwnLemmas
+pub mod PromiseLemmas
 pub mod RowLemmas
 pub mod ShortLemmas
 pub mod StaysLemmas

@@ -1,21 +1,33 @@
--- What a job needs of the notes to take a packet.
-use Rattle.std.specs.Prelude.{◌≡◌, ℕ, ◌+◌, ◌≤◌, List, length, false, Option, None, Some, ⊤}
+-- A job that was just made, and what a job needs of the notes to take a packet.
+use Rattle.std.specs.Prelude.{◌≡◌, ℕ, ◌+◌, ◌≤◌, List, length, true, false, Option, None, Some, ⊤}
+use Rattle.px_base.specs.CallSign.{CallSign}
 use Rattle.disk_model.specs.declared.disk.Disk.{Ghosts}
 use Rattle.pfh_items.specs.Faults.{fault_code}
 use Rattle.client_notes.specs.declared.limits.TheConstants.{LONGEST_FILE}
 use Rattle.client_notes.specs.declared.progress.Progress.TheVariants as progress
-use Rattle.client_notes.specs.Notes.{Lists, Task, got_of, task_of}
+use Rattle.client_notes.specs.Notes.{Lists, Task, got_of, is_same_call, task_of}
 use Rattle.client_notes.specs.State.{NotesState, StandsOn}
 use Rattle.ftl0_job.specs.declared.ending.Ending.{Ending}
 use Rattle.ftl0_job.specs.declared.phases.DownloadPhase.{DownloadPhase}
 use Rattle.ftl0_job.specs.declared.phases.DownloadPhase.TheVariants as fetch
 use Rattle.ftl0_job.specs.declared.phases.UploadPhase.{UploadPhase}
 use Rattle.ftl0_job.specs.declared.phases.UploadPhase.TheVariants as phase
-use Rattle.ftl0_job.specs.Download.{Download}
+use Rattle.ftl0_job.specs.Directory.{new_directory}
+use Rattle.ftl0_job.specs.Download.{Download, new_download}
 use Rattle.ftl0_job.specs.declared.work.Work.{Work}
 use Rattle.ftl0_job.specs.declared.work.Work.TheVariants as work
 use Rattle.ftl0_job.specs.Table.{JobState}
-use Rattle.ftl0_job.specs.Upload.{Upload}
+use Rattle.ftl0_job.specs.Upload.{Upload, new_upload}
+
+-- nothing of what is to be done was done yet
+abbrev pub IsNotBegun : Work → Type 0
+IsNotBegun (work.Upload at) = at ≡ new_upload at.task at.known at.file
+IsNotBegun (work.Directory at) = at ≡ new_directory at.tokens
+IsNotBegun (work.Download at) = at ≡ new_download at.server at.number
+
+-- the job was just made: it has no outcome, and nothing of it was done
+abbrev pub IsNew : JobState → Type 0
+IsNew job = (job.ending ≡ None) × IsNotBegun job.work
 
 -- the number that an upload's file is known to have, or 0
 abbrev pub number_in : UploadPhase → ℕ → ℕ
@@ -32,6 +44,14 @@ pub record HasTask (lists : Lists) (at : Upload) : Type 0 where
   pub going : entry.progress ≡ progress.Going
   pub number : entry.number ≡ number_in at.phase at.known
   pub file_length : entry.length ≡ length at.file
+
+-- The notes have this task. It is of this server and caller, and its file has this digest.
+pub record IsTaskOf (lists : Lists) (server caller : CallSign) (digest : List ℕ) (task : ℕ) : Type 0 where
+  pub entry : Task
+  pub is_entry : task_of lists task ≡ Some entry
+  pub of_server : is_same_call entry.server server ≡ true
+  pub of_caller : is_same_call entry.caller caller ≡ true
+  pub of_file : entry.digest ≡ digest
 
 -- once all octets of a file came, it has no fault
 abbrev pub IsCheckedIn : DownloadPhase → List ℕ → Type 0

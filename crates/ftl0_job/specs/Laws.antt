@@ -1,5 +1,5 @@
 -- Laws of a job's table: what the notes need to go with it, and what its outcomes promise.
-use Rattle.std.specs.Prelude.{◌≡◌, ◌⊎◌, ℕ, ◌<◌, ◌≤◌, List, [], ◌∷◌, ◌++◌, length, take, drop, Option, None, Some, Result, Ok, IsErr, IsTrue, ⊤}
+use Rattle.std.specs.Prelude.{◌≡◌, ◌⊎◌, ℕ, ◌<◌, ◌≤◌, List, [], ◌∷◌, ◌++◌, length, take, drop, true, Option, None, Some, Result, Ok, IsErr, IsTrue, ⊤}
 use Rattle.disk_model.specs.declared.disk.Disk.{Ghosts}
 use Rattle.std.specs.Option.{option_map}
 use Rattle.px_base.specs.CallSign.{CallSign}
@@ -20,19 +20,22 @@ use Rattle.ftl0_job.specs.declared.ending.Outcome.{Outcome}
 use Rattle.ftl0_job.specs.declared.ending.Outcome.TheVariants as outcome
 use Rattle.ftl0_job.specs.declared.phases.DownloadPhase.TheVariants as fetch
 use Rattle.ftl0_job.specs.declared.phases.UploadPhase.TheVariants as phase
+use Rattle.ftl0_job.specs.declared.work.Work.{Work}
+use Rattle.ftl0_job.specs.Directory.{Directory, directory_row}
 use Rattle.ftl0_job.specs.Download.{Download, download_row}
-use Rattle.ftl0_job.specs.Due.{most_data, place_after, upload_due}
-use Rattle.ftl0_job.specs.JobState.{HasGot, HasTask, NotesGoWith}
+use Rattle.ftl0_job.specs.Due.{DuePacket, most_data, next_due, place_after, upload_due}
+use Rattle.ftl0_job.specs.JobState.{HasGot, HasTask, IsNew, IsTaskOf, NotesGoWith}
+use Rattle.ftl0_job.specs.Promises.{IsEmptyBefore, JobStands}
 use Rattle.ftl0_job.specs.Row.{Row, goes_on}
-use Rattle.ftl0_job.specs.Table.{JobState, job_row}
+use Rattle.ftl0_job.specs.Short.{IsShortText, are_short_headers, is_short_header}
+use Rattle.ftl0_job.specs.Table.{JobState, job_after, job_row}
 use Rattle.ftl0_job.specs.Upload.{Upload, in_phase, new_upload, upload_row}
 
 -- The notes that go with a job before a packet go with it after the packet's row.
 abbrev pub StaysLaw : Type 0
 StaysLaw =
     (lists : Lists) (job : JobState) (item : Item) → NotesGoWith lists job
-    → NotesGoWith (after_all lists (job_row lists job item).commands)
-    (record { work = (job_row lists job item).state; ending = (job_row lists job item).ending })
+    → NotesGoWith (after_all lists (job_row lists job item).commands) (job_after (job_row lists job item))
 
 -- the notes have the task that a start of them gave for this file, as the file's upload needs it
 abbrev pub IsStarted : Lists → List ℕ → Begun → Type 0
@@ -54,6 +57,23 @@ StartedLaw {D} g =
     → (IsTrue (start_reaches (started given)) → Does g (IsErr (started given)) old new disk disk_now
     (fresh_task old.lists server caller name (length file) digest))
     → IsStarted new.lists file given
+
+-- the task that a start of the notes gave is of this server and caller, and its file has this digest
+abbrev pub IsOwned : Lists → CallSign → CallSign → List ℕ → Begun → Type 0
+IsOwned lists server caller digest (begun.Fresh task) = IsTaskOf lists server caller digest task
+IsOwned lists server caller digest (begun.Going task number) = IsTaskOf lists server caller digest task
+IsOwned lists server caller digest (begun.Already number) = ⊤
+
+-- A fresh task that a start of the notes gave, and a task that it found under way, are of the server, the caller and
+-- the digest that were given.
+abbrev pub OwnedLaw : {D : Type 0} → Ghosts D → Type 0
+OwnedLaw {D} g =
+    (old new : NotesState) (disk disk_now : D) (server caller : CallSign) (name digest : List ℕ) (file_length : ℕ)
+    (given : Begun) → StartsBy old (answer_of old.lists server caller name file_length digest) (started given)
+    → IsTrue (start_reaches (started given)) ⊎ Untouched old new disk disk_now
+    → (IsTrue (start_reaches (started given)) → Does g (IsErr (started given)) old new disk disk_now
+    (fresh_task old.lists server caller name file_length digest))
+    → IsOwned new.lists server caller digest given
 
 -- what a row comes to, where it ends the job
 abbrev pub reached : {S : Type 0} → Row S → Option Outcome
@@ -112,3 +132,35 @@ FetchedLaw =
     → reached (download_row (got_of lists at.server at.number) at packet) ≡ Some (outcome.Fetched number)
     → (number ≡ at.number) × (fault_code (got_of lists at.server at.number) ≡ None)
     × ((download_row (got_of lists at.server at.number) at packet).commands ≡ [])
+
+-- A list has no octets before headers come, and its outcome is that it is whole only where its octets are whole short
+-- headers, one after another.
+abbrev pub ListedLaw : Type 0
+ListedLaw =
+    (at : Directory) (packet : PacketValue) → IsEmptyBefore at.phase at.listing
+    → IsEmptyBefore (directory_row at packet).state.phase (directory_row at packet).state.listing
+    × (reached (directory_row at packet) ≡ Some outcome.Listed
+    → are_short_headers (directory_row at packet).state.listing ≡ true)
+
+-- What stands of a job that was just made, over notes that go with it.
+abbrev pub BegunLaw : Type 0
+BegunLaw = (lists : Lists) (job : JobState) → IsNew job → NotesGoWith lists job → JobStands job.work lists job
+
+-- What stands of a job before a packet stands of it after the packet's row: in whatever it ends, it ends so of what was
+-- asked, and keeps what that promises.
+abbrev pub PromisesLaw : Type 0
+PromisesLaw =
+    (asked : Work) (lists : Lists) (job : JobState) (item : Item) → JobStands asked lists job
+    → JobStands asked (after_all lists (job_row lists job item).commands) (job_after (job_row lists job item))
+
+-- What stands of a job stands of it once what was due was sent.
+abbrev pub DueLaw : Type 0
+DueLaw =
+    (asked : Work) (lists : Lists) (job : JobState) (due : DuePacket JobState) → JobStands asked lists job
+    → next_due job ≡ Some due → JobStands asked lists due.state
+
+-- Octets are a short header exactly where they are the header with an item of each mandatory rule, in order.
+abbrev pub ShortLaw : Type 0
+ShortLaw =
+    (octets : List ℕ) → (is_short_header octets ≡ true → IsShortText octets)
+    × (IsShortText octets → is_short_header octets ≡ true)

@@ -4,6 +4,7 @@ pub mod Due
 pub mod JobState
 pub mod Laws
 pub mod Noting
+pub mod Promises
 pub mod Row
 pub mod Short
 pub mod Stops

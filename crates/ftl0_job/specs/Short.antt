@@ -1,9 +1,9 @@
 -- Short headers one after another (PFH 1990, mandatory header; FTL0 1990, short directory).
-use Rattle.std.specs.Prelude.{ℕ, zero, suc, ◌+◌, ◌/◌, ◌==◌, List, [], ◌∷◌, ◌++◌, length, take, drop, nat_le, Bool, ◌&&◌}
+use Rattle.std.specs.Prelude.{◌≡◌, ℕ, zero, suc, ◌+◌, ◌/◌, ◌==◌, List, [], ◌∷◌, ◌++◌, length, take, drop, nat_le, Bool, ◌&&◌, ⊤}
 use Rattle.std.specs.Str.{bytes_eq}
 use Rattle.px_base.specs.Numbers.{le16_octets}
 use Rattle.pfh_items.specs.declared.table.MandatoryItem.{MandatoryItem}
-use Rattle.pfh_items.specs.Layout.{end_item, header_start}
+use Rattle.pfh_items.specs.Layout.{ItemValue, end_item, header_start, header_text}
 use Rattle.pfh_items.specs.Table.{mandatory_items}
 
 -- how many octets a short header has
@@ -40,3 +40,18 @@ are_headers (suc n) octets = is_short_header (take short_len octets) && are_head
 -- whether they are short headers, one after another, as many as they have the octets for
 abbrev pub are_short_headers : List ℕ → Bool
 are_short_headers octets = are_headers (length octets / short_len) octets
+
+-- the item has the rule's id, and data of its length
+abbrev pub IsItemOf : MandatoryItem → ItemValue → Type 0
+IsItemOf rule item = (item.id ≡ rule.id) × (length item.content ≡ rule.len)
+
+-- there is an item of each of these rules, in order, and no other
+abbrev pub AreItemsOf : List MandatoryItem → List ItemValue → Type 0
+AreItemsOf [] [] = ⊤
+AreItemsOf [] (item ∷ items) = ⊥
+AreItemsOf (rule ∷ rules) [] = ⊥
+AreItemsOf (rule ∷ rules) (item ∷ items) = IsItemOf rule item × AreItemsOf rules items
+
+-- the octets of a header that has the mandatory items with their lengths in ascending order, and no others
+abbrev pub IsShortText : List ℕ → Type 0
+IsShortText octets = (items : List ItemValue) × AreItemsOf mandatory_items items × (octets ≡ header_text items)

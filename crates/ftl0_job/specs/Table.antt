@@ -19,6 +19,10 @@ pub record JobState : Type 0 where
 abbrev pub new_job : Work → JobState
 new_job begun = record { work = begun; ending = None }
 
+-- the job as a row leaves it
+abbrev pub job_after : Row Work → JobState
+job_after row = record { work = row.state; ending = row.ending }
+
 -- a row of an upload, a list or a download as one of a job
 abbrev pub row_of : {S : Type 0} → (S → Work) → Row S → Row Work
 row_of made row =

@@ -1,7 +1,8 @@
 //! Laws of a job's table.
 
-ghost use Rattle.ftl0_job.specs.Laws.{AcknowledgedLaw, ContinuedLaw, FetchedLaw, FetchingLaw};
-ghost use Rattle.ftl0_job.specs.Laws.{ResumedLaw, StartedLaw, StaysLaw};
+ghost use Rattle.ftl0_job.specs.Laws.{AcknowledgedLaw, BegunLaw, ContinuedLaw, DueLaw, FetchedLaw};
+ghost use Rattle.ftl0_job.specs.Laws.{FetchingLaw, ListedLaw, OwnedLaw, PromisesLaw, ResumedLaw, ShortLaw};
+ghost use Rattle.ftl0_job.specs.Laws.{StartedLaw, StaysLaw};
 
 use disk_model::Disk;
 
@@ -13,6 +14,11 @@ pub fn stays_law()
 /// The task that a start of the notes gives is the one that the file's upload needs.
 pub fn started_law<D: Disk>()
     ensures { StartedLaw D.Disk }
+{}
+
+/// The task that a start of the notes gives is of the server, the caller and the digest that were given.
+pub fn owned_law<D: Disk>()
+    ensures { OwnedLaw D.Disk }
 {}
 
 /// An upload whose outcome is that its file was acknowledged noted that, and so it stands from then on.
@@ -32,4 +38,23 @@ pub fn continued_law()
 pub fn fetched_law()
     ensures octets { FetchingLaw }
     ensures whole { FetchedLaw }
+{}
+
+/// A list is whole only where its octets are whole short headers, one after another.
+pub fn listed_law()
+    ensures { ListedLaw }
+{}
+
+/// Octets are a short header exactly where they are a header of the mandatory items alone, in ascending order (PFH
+/// 1990, mandatory header; FTL0 1990, short directory).
+pub fn short_law()
+    ensures { ShortLaw }
+{}
+
+/// What stands of a job that was just made stands after each packet, and once what was due was sent: it is of the work
+/// that was asked, and its outcome keeps what it promises.
+pub fn promises_law()
+    ensures begun { BegunLaw }
+    ensures packet { PromisesLaw }
+    ensures due { DueLaw }
 {}

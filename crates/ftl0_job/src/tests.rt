@@ -82,9 +82,22 @@ fn call(rt: &impl Abort, text: &str) -> Call {
     Call::read(text).expect(rt, "no call")
 }
 
+/// The notes of an empty disk.
+fn begin<D: Disk>(rt: &impl Abort, alloc: Global, disk: &mut D) -> Notes
+    ensures healthy { result.journal.failed ≡ false }
+    ensures stands_on { StandsOn D.Disk result disk.new }
+{
+    let Ok(notes) = Notes::recover(alloc, disk) else {
+        panic!(rt; "not recovered");
+    };
+    assert!(rt; !notes.failed());
+    notes
+}
+
 /// The upload of the file of [`FILE`], for which a task is started or goes on.
 fn upload<D: Disk>(rt: &impl Abort, alloc: Global, disk: &mut D, notes: &mut Notes) -> Job
     requires { StandsOn D.Disk notes.old disk.old }
+    ensures healthy { notes.new.journal.failed ≡ false }
     ensures stands_on { StandsOn D.Disk notes.new disk.new }
     ensures notes_are { NotesGoWith notes.new.lists result }
 {
@@ -96,11 +109,31 @@ fn upload<D: Disk>(rt: &impl Abort, alloc: Global, disk: &mut D, notes: &mut Not
     let Ok(begun) = notes.start(disk, server, me, "A", file.len() as u32, [7; 32]) else {
         panic!(rt; "not started");
     };
+    assert!(rt; !notes.failed());
     match begun {
         Begun::Fresh { task } => Job::upload(task, 0, file),
         Begun::Going { task, number } => Job::upload(task, number, file),
         Begun::Already { .. } => panic!(rt; "acknowledged"),
     }
+}
+
+/// The upload of the same file, for which its number came, and is noted.
+fn numbered<D: Disk>(rt: &impl Abort, alloc: Global, disk: &mut D, notes: &mut Notes) -> Job
+    requires { StandsOn D.Disk notes.old disk.old }
+    ensures { MayTake D.Disk notes.new disk.new result }
+{
+    let mut job = upload(rt, alloc, disk, notes);
+    let rows: [Row<'_>; 2] = [
+        (&LOGIN, &[0x08, 0x03, 0, 0, 0, 0, 0x49, 0, 0, 0], None),
+        (&GO, &[], None),
+    ];
+    play(rt, &mut job, disk, notes, &rows);
+    job
+}
+
+/// How the task of that file stands.
+fn noted(rt: &impl Abort, notes: &Notes) -> Option<Noted> {
+    notes.noted(call(rt, "PACSAT"), call(rt, "KA9XYZ"), "A")
 }
 
 /// The download of file 5.
@@ -114,17 +147,10 @@ fn download(notes: &Notes, server: Call) -> Job
 #[test]
 fn an_upload_to_its_acknowledgement(rt: HostRuntime) -> Result<(), Fail> {
     let mut disk = MemoryDisk::new(rt.alloc(), &[], &[])?;
-    let mut notes = Notes::recover(rt.alloc(), &mut disk)?;
-    let mut job = upload(&rt, rt.alloc(), &mut disk, &mut notes);
-    assert!(rt; !notes.failed());
-    let rows: [Row<'_>; 2] = [
-        (&LOGIN, &[0x08, 0x03, 0, 0, 0, 0, 0x49, 0, 0, 0], None),
-        (&GO, &[], None),
-    ];
-    play(&rt, &mut job, &mut disk, &mut notes, &rows);
-    let (server, me) = (call(&rt, "PACSAT"), call(&rt, "KA9XYZ"));
+    let mut notes = begin(&rt, rt.alloc(), &mut disk);
+    let mut job = numbered(&rt, rt.alloc(), &mut disk, &mut notes);
     let going = Noted::Going { task: 1, number: 5 };
-    assert_eq!(rt; notes.noted(server, me, "A"), Some(going));
+    assert_eq!(rt; noted(&rt, &notes), Some(going));
     let mut out = ArrayVec::new();
     assert!(rt; job.fill(&mut out));
     assert_eq!(rt; out.as_slice(), FILE.as_slice());
@@ -135,23 +161,16 @@ fn an_upload_to_its_acknowledgement(rt: HostRuntime) -> Result<(), Fail> {
     let rows: [Row<'_>; 2] = [(&[0x00, 0x06], &[], acked), (&[0x00, 0x06], &[], acked)];
     play(&rt, &mut job, &mut disk, &mut notes, &rows);
     let acked = Noted::Acked { task: 1, number: 5 };
-    assert_eq!(rt; notes.noted(server, me, "A"), Some(acked));
+    assert_eq!(rt; noted(&rt, &notes), Some(acked));
     Ok(())
 }
 
 #[test]
 fn an_upload_that_is_continued(rt: HostRuntime) -> Result<(), Fail> {
     let mut disk = MemoryDisk::new(rt.alloc(), &[], &[])?;
-    let mut notes = Notes::recover(rt.alloc(), &mut disk)?;
+    let mut notes = begin(&rt, rt.alloc(), &mut disk);
+    numbered(&rt, rt.alloc(), &mut disk, &mut notes);
     let mut job = upload(&rt, rt.alloc(), &mut disk, &mut notes);
-    assert!(rt; !notes.failed());
-    let rows: [Row<'_>; 2] = [
-        (&LOGIN, &[0x08, 0x03, 0, 0, 0, 0, 0x49, 0, 0, 0], None),
-        (&GO, &[], None),
-    ];
-    play(&rt, &mut job, &mut disk, &mut notes, &rows);
-    let mut job = upload(&rt, rt.alloc(), &mut disk, &mut notes);
-    assert!(rt; !notes.failed());
     let rows: [Row<'_>; 2] = [
         (&LOGIN, &[0x08, 0x03, 0x05, 0, 0, 0, 0x49, 0, 0, 0], None),
         (&[0x08, 0x04, 0x05, 0, 0, 0, 0x46, 0, 0, 0], &[], None),
@@ -164,59 +183,48 @@ fn an_upload_that_is_continued(rt: HostRuntime) -> Result<(), Fail> {
     let rows: [Row<'_>; 1] = [(&[0x01, 0x07, 0x03], &[0x00, 0x01], nak)];
     play(&rt, &mut job, &mut disk, &mut notes, &rows);
     assert!(rt; !job.fill(&mut out));
-    let (server, me) = (call(&rt, "PACSAT"), call(&rt, "KA9XYZ"));
     let going = Noted::Going { task: 1, number: 5 };
-    assert_eq!(rt; notes.noted(server, me, "A"), Some(going));
+    assert_eq!(rt; noted(&rt, &notes), Some(going));
     Ok(())
 }
 
 #[test]
 fn an_upload_that_is_complete_already(rt: HostRuntime) -> Result<(), Fail> {
     let mut disk = MemoryDisk::new(rt.alloc(), &[], &[])?;
-    let mut notes = Notes::recover(rt.alloc(), &mut disk)?;
+    let mut notes = begin(&rt, rt.alloc(), &mut disk);
+    numbered(&rt, rt.alloc(), &mut disk, &mut notes);
     let mut job = upload(&rt, rt.alloc(), &mut disk, &mut notes);
-    assert!(rt; !notes.failed());
-    let rows: [Row<'_>; 2] = [
-        (&LOGIN, &[0x08, 0x03, 0, 0, 0, 0, 0x49, 0, 0, 0], None),
-        (&GO, &[], None),
-    ];
-    play(&rt, &mut job, &mut disk, &mut notes, &rows);
-    let mut job = upload(&rt, rt.alloc(), &mut disk, &mut notes);
-    assert!(rt; !notes.failed());
     let acked = ended(Outcome::Acked { number: 5 }, false);
     let rows: [Row<'_>; 2] = [
         (&LOGIN, &[0x08, 0x03, 0x05, 0, 0, 0, 0x49, 0, 0, 0], None),
         (&[0x01, 0x05, 0x0C], &[], acked),
     ];
     play(&rt, &mut job, &mut disk, &mut notes, &rows);
-    let (server, me) = (call(&rt, "PACSAT"), call(&rt, "KA9XYZ"));
     let acked = Noted::Acked { task: 1, number: 5 };
-    assert_eq!(rt; notes.noted(server, me, "A"), Some(acked));
+    assert_eq!(rt; noted(&rt, &notes), Some(acked));
     Ok(())
 }
 
 #[test]
 fn an_upload_that_is_refused(rt: HostRuntime) -> Result<(), Fail> {
     let mut disk = MemoryDisk::new(rt.alloc(), &[], &[])?;
-    let mut notes = Notes::recover(rt.alloc(), &mut disk)?;
+    let mut notes = begin(&rt, rt.alloc(), &mut disk);
     let mut job = upload(&rt, rt.alloc(), &mut disk, &mut notes);
-    assert!(rt; !notes.failed());
     let refused = ended(Outcome::Refused { code: 13 }, false);
     let rows: [Row<'_>; 2] = [
         (&LOGIN, &[0x08, 0x03, 0, 0, 0, 0, 0x49, 0, 0, 0], None),
         (&[0x01, 0x05, 0x0D], &[], refused),
     ];
     play(&rt, &mut job, &mut disk, &mut notes, &rows);
-    let (server, me) = (call(&rt, "PACSAT"), call(&rt, "KA9XYZ"));
     let refused = Noted::Refused { task: 1, code: 13 };
-    assert_eq!(rt; notes.noted(server, me, "A"), Some(refused));
+    assert_eq!(rt; noted(&rt, &notes), Some(refused));
     Ok(())
 }
 
 #[test]
 fn a_list(rt: HostRuntime) -> Result<(), Fail> {
     let mut disk = MemoryDisk::new(rt.alloc(), &[], &[])?;
-    let mut notes = Notes::recover(rt.alloc(), &mut disk)?;
+    let mut notes = begin(&rt, rt.alloc(), &mut disk);
     let tokens = FileBytes::copy_of(rt.alloc(), &[0x10, 0x7F, 0x00, 0x00, 0x22])?;
     let mut job = Job::list(rt.alloc(), tokens);
     let rows: [Row<'_>; 5] = [
@@ -248,7 +256,7 @@ fn a_list(rt: HostRuntime) -> Result<(), Fail> {
 fn a_download(rt: HostRuntime) -> Result<(), Fail> {
     let server = call(&rt, "PACSAT");
     let mut disk = MemoryDisk::new(rt.alloc(), &[], &[])?;
-    let mut notes = Notes::recover(rt.alloc(), &mut disk)?;
+    let mut notes = begin(&rt, rt.alloc(), &mut disk);
     let mut job = download(&notes, server);
     let fetched = ended(Outcome::Fetched { number: 5 }, false);
     let rows: [Row<'_>; 4] = [
@@ -275,7 +283,7 @@ fn a_download(rt: HostRuntime) -> Result<(), Fail> {
 fn octets_are_noted_by_whole_blocks(rt: HostRuntime) -> Result<(), Fail> {
     let server = call(&rt, "PACSAT");
     let mut disk = MemoryDisk::new(rt.alloc(), &[], &[])?;
-    let mut notes = Notes::recover(rt.alloc(), &mut disk)?;
+    let mut notes = begin(&rt, rt.alloc(), &mut disk);
     let mut data = [0x41; 602];
     data[0] = 0x58;
     data[1] = 0x40;
@@ -321,7 +329,7 @@ fn play_each<D: Disk>(
 fn what_is_strange(rt: HostRuntime) -> Result<(), Fail> {
     let server = call(&rt, "PACSAT");
     let mut disk = MemoryDisk::new(rt.alloc(), &[], &[])?;
-    let mut notes = Notes::recover(rt.alloc(), &mut disk)?;
+    let mut notes = begin(&rt, rt.alloc(), &mut disk);
     let rows: [Row<'_>; 4] = [
         (&FILE, &[], ended(Outcome::Strange { kind: 0 }, false)),
         (

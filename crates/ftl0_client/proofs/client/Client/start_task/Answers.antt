@@ -3,6 +3,7 @@ use Rattle.std.proofs.Common.{subst}
 use Rattle.ftl0_client.specs.ClientState.{ClientState, MayHear}
 use Rattle.ftl0_client.specs.Inside.{client_state}
 use Rattle.ftl0_client.proofs.KeptLemmas.{started-goes}
+use Rattle.ftl0_client.proofs.StartLemmas.{start-gives}
 use Rattle.ftl0_client.proofs.client.Client.start_task.Goals as goal
 
 pub returns-clause-may : goal.returns-clause-may
@@ -14,3 +15,9 @@ returns-clause-may g c = λ fine.
     let goes = started-goes g.D.Disk a.attempt a.notes c.start.new.self c.args.disk.now c.start.new.disk _ _ _ _ _ c.start.result
     c.start.ensures.untouched c.start.ensures.does c.start.ensures.stands_on fine (may.healthy, may.stands_on, may.notes_are) in
     record { healthy = goes.0; stands_on = goes.1; notes_are = goes.2 })
+
+pub returns-clause-started : goal.returns-clause-started
+returns-clause-started g c =
+    let a = c.self.inside in
+    start-gives g.D.Disk c.started_law.ensures c.owned_law.ensures a.notes c.start.new.self c.args.disk.now c.start.new.disk a.server a.me _ _ _ c.start.result c.start.ensures.answers c.start.ensures.untouched
+    c.start.ensures.does

@@ -1,0 +1,23 @@
+-- Its attempt, if there is one, stands for some attempt.
+use Rattle.std.proofs.Common.{◌≡◌, None, Some, sym, ◌∙◌, subst}
+use Rattle.std.proofs.lemmas.Option.{same_Some}
+use Rattle.ftl0_attempt.specs.AttemptState.{IsSomeAttempt}
+use Rattle.ftl0_client.specs.Client.{Client}
+use Rattle.ftl0_client.specs.ClientState.{ClientState, IsClient}
+use Rattle.ftl0_client.specs.Inside.{client_state}
+use Rattle.ftl0_client.proofs.SomeLemmas.{some-client}
+use Rattle.ftl0_client.proofs.client.Client.some_law.Goals as goal
+
+-- some client is stood for
+abbrev IsSome : ClientState → Type 0
+IsSome self = (client : Client) × IsClient self client
+
+pub returns-in-Some : goal.returns-in-Some
+returns-in-Some c =
+    subst IsSome c.self.view_is
+    (some-client (client_state c.self.inside) c.self.invariant.link (λ attempt is. subst IsSomeAttempt (same_Some _ _ (sym c.in-Some.is ∙ is)) c.some_law.ensures))
+
+pub returns-in_default : goal.returns-in_default
+returns-in_default c =
+    subst IsSome c.self.view_is
+    (some-client (client_state c.self.inside) c.self.invariant.link (λ attempt is. (let none : None ≡ Some attempt = sym c.in_default.is ∙ is in absurd (cc none))))

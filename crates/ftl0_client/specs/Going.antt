@@ -1,0 +1,93 @@
+-- How a client goes on over events, and what stands of it between them.
+use Rattle.std.specs.Prelude.{◌≡◌, ◌≢◌, ℕ, List, [], ◌∷◌, ◌++◌, Bool, true, Option, None, Some, ⊤}
+use Rattle.std.specs.List.{AllByRecursion}
+use Rattle.ax25_frames.specs.FrameText.{FrameValue}
+use Rattle.ax25_link.specs.declared.state.LinkState.TheVariants.{Down}
+use Rattle.ax25_link.specs.Timer.{is_down}
+use Rattle.client_notes.specs.Command.{NotesCommand}
+use Rattle.client_notes.specs.Laws.{after_all}
+use Rattle.client_notes.specs.Notes.{Lists}
+use Rattle.ftl0_job.specs.declared.ending.Outcome.TheVariants as reached
+use Rattle.ftl0_job.specs.declared.work.Work.{Work}
+use Rattle.ftl0_job.specs.JobState.{IsNew, NotesGoWith}
+use Rattle.ftl0_job.specs.Promises.{IsFilled, IsOfSame, WorkPromises}
+use Rattle.ftl0_job.specs.Table.{JobState, listing_of}
+use Rattle.ftl0_attempt.specs.Attempted.{Attempted, outcome_of}
+use Rattle.ftl0_attempt.specs.Laws.{IsToldDown}
+use Rattle.ftl0_client.specs.Client.{Client, ClientEvent, asks, hears, ticks}
+use Rattle.ftl0_client.specs.ClientStep.{ClientStep}
+use Rattle.ftl0_client.specs.declared.outcome.Outcome.{Outcome}
+use Rattle.ftl0_client.specs.declared.outcome.Outcome.TheVariants as outcome
+use Rattle.ftl0_client.specs.Outcomes.{outcome_by}
+
+-- Over these events, one after another, the client comes from one to another: it sends these frames and notes these
+-- commands.
+abbrev pub GoesOver : Client → List ClientEvent → List FrameValue → List NotesCommand → Client → Type 0
+GoesOver client [] frames commands now = (frames ≡ []) × (commands ≡ []) × (now ≡ client)
+GoesOver client (event ∷ events) frames commands now =
+    (noted : List NotesCommand) × (sent : List FrameValue) × (next : Client) × (others : List NotesCommand)
+    × (more : List FrameValue) × ClientStep client event noted sent next
+    × (frames ≡ sent ++ more) × (commands ≡ noted ++ others) × GoesOver next events more others now
+
+-- the link of an attempt is down, or there is none yet
+abbrev pub is_over_at : Option Attempted → Bool
+is_over_at None = true
+is_over_at (Some a) = is_down a.end.state
+
+-- its link is down, or there is none yet: once it has sent all, it is done with the air
+abbrev pub is_over : Client → Bool
+is_over client = is_over_at client.attempt
+
+-- a frame or a tick, and nothing that is asked
+abbrev pub AsksNothing : ClientEvent → Type 0
+AsksNothing (asks job) = ⊥
+AsksNothing (hears frame) = ⊤
+AsksNothing ticks = ⊤
+
+-- What an outcome of this work promises, by the notes and the list that came: what its job does. What is under way, or
+-- whose link went down, promises nothing. Once something was asked the client isn't idle.
+abbrev pub Promises : Lists → Work → List ℕ → Outcome → Type 0
+Promises lists asked listing outcome.Idle = ⊥
+Promises lists asked listing outcome.Working = ⊤
+Promises lists asked listing (outcome.Acked number) = WorkPromises lists asked listing (reached.Acked number)
+Promises lists asked listing (outcome.Refused code) = WorkPromises lists asked listing (reached.Refused code)
+Promises lists asked listing (outcome.BadFile code) = WorkPromises lists asked listing (reached.BadFile code)
+Promises lists asked listing (outcome.Fetched number) = WorkPromises lists asked listing (reached.Fetched number)
+Promises lists asked listing outcome.Listed = WorkPromises lists asked listing reached.Listed
+Promises lists asked listing (outcome.LinkDown why) = ⊤
+Promises lists asked listing (outcome.Strange kind) = WorkPromises lists asked listing (reached.Strange kind)
+
+-- What stands of a client of which this work was asked, at the end of each event: its attempt is of the same work, and
+-- the notes go with its job; its end of the link is down where it went down before an outcome, and only where something
+-- became of what was asked; and what became of it keeps what it promises.
+pub record Stands (asked : Work) (client : Client) : Type 0 where
+  pub a : Attempted
+  pub is_attempt : client.attempt ≡ Some a
+  pub same : IsOfSame asked a.job.work
+  pub go_with : NotesGoWith client.lists a.job
+  pub filled : IsFilled a.job.work
+  pub told_down : IsToldDown a
+  pub down_told : a.end.state ≡ Down → outcome_of a ≢ None
+  pub promises : Promises client.lists asked (listing_of a.job.work) (outcome_by client.attempt)
+
+-- What a client that was asked for a job comes to over frames and ticks.
+pub record Comes (base : Client) (job : JobState) (commands : List NotesCommand) (now : Client) : Type 0 where
+  pub lists : now.lists ≡ after_all base.lists commands
+  pub stands : Stands job.work now
+  pub over : is_over now ≡ true → outcome_by now.attempt ≢ outcome.Working
+
+-- A client that is asked for a job that was just made, over notes that go with it, comes to this.
+abbrev pub GoesLaw : Type 0
+GoesLaw =
+    (base : Client) (job : JobState) (events : List ClientEvent) (frames : List FrameValue)
+    (commands : List NotesCommand) (now : Client) → IsNew job → NotesGoWith base.lists job
+    → AllByRecursion AsksNothing events → GoesOver base (asks job ∷ events) frames commands now
+    → Comes base job commands now
+
+-- Once something became of what was asked nothing more is noted, and it stays, the link's going down included.
+abbrev pub SettledLaw : Type 0
+SettledLaw =
+    (asked : Work) (old : Client) (events : List ClientEvent) (frames : List FrameValue)
+    (commands : List NotesCommand) (now : Client) → Stands asked old → outcome_by old.attempt ≢ outcome.Working
+    → AllByRecursion AsksNothing events → GoesOver old events frames commands now
+    → (commands ≡ []) × (outcome_by now.attempt ≡ outcome_by old.attempt)
