@@ -1,0 +1,13 @@
+pub mod CarriedLemmas
+pub mod GoesLemmas
+pub mod HearingLemmas
+pub mod Invariants
+pub mod MemoryLemmas
+pub mod OpenLemmas
+pub mod PromiseLemmas
+pub mod QuietLemmas
+pub mod SendingLemmas
+pub mod TakesLemmas
+pub mod TurnEvents
+pub mod TurnLemmas
+pub mod TurnsLemmas

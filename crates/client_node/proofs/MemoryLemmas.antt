@@ -1,0 +1,107 @@
+-- Where there was no memory, nothing had become of the job: a link that is down brings no packets.
+use Rattle.std.proofs.Common.{◌≡◌, List, ◌∷◌, ◌++◌, false, refl, ap, sym, subst, ◌∙◌}
+use Rattle.std.specs.Prelude.{Option, None, Some}
+use Rattle.std.proofs.lemmas.Bool.{cond_both}
+use Rattle.disk_model.specs.declared.disk.Disk.{Ghosts}
+use Rattle.ax25_frames.specs.FrameText.{FrameValue}
+use Rattle.ax25_link.specs.declared.state.Heard.{Heard}
+use Rattle.ax25_link.specs.declared.state.LinkState.TheVariants.{Down}
+use Rattle.ax25_link.specs.declared.state.Why.{Why}
+use Rattle.ax25_link.specs.Kept.{Kept}
+use Rattle.ax25_link.specs.Rows.{after_frame, heard_of}
+use Rattle.ax25_link.specs.Window.{Window}
+use Rattle.client_notes.specs.Notes.{Lists, is_same_call}
+use Rattle.client_notes.specs.State.{NotesState}
+use Rattle.ftl0_packets.specs.Layout.{Item}
+use Rattle.ftl0_job.specs.declared.ending.Ending.{Ending}
+use Rattle.ftl0_job.specs.declared.stop.JobStop.{JobStop}
+use Rattle.ftl0_job.specs.Table.{JobState}
+use Rattle.ftl0_attempt.specs.Attempted as attempted
+use Rattle.ftl0_attempt.specs.Attempted.{Attempted}
+use Rattle.ftl0_attempt.specs.AttemptState.{AttemptState, IsAttempt, StopsAmong}
+use Rattle.ftl0_attempt.specs.Hearing.{after_hearing, packets_heard, packets_told, with_end}
+use Rattle.ftl0_attempt.specs.Laws.{IsToldDown}
+use Rattle.ftl0_attempt.specs.Taking.{Happened, taking}
+use Rattle.ftl0_attempt.proofs.DownLemmas.{outcome-law, still-silent}
+use Rattle.ftl0_attempt.proofs.EndedLemmas.{taking-ended, told-job}
+use Rattle.ftl0_client.specs.Calls.{SameAttempt, SameButFrames, SameJob}
+use Rattle.ftl0_client.specs.Client.{Client, asking, attempt_for, client_hearing, client_ticking, refusal_frame}
+use Rattle.ftl0_client.specs.ClientState.{ClientState, IsAttemptOf, IsClient}
+use Rattle.ftl0_client.specs.Laws.{IsToldDownOf}
+use Rattle.ftl0_client.specs.declared.outcome.Outcome.TheVariants as outcome
+use Rattle.ftl0_client.specs.Outcomes.{outcome_as, outcome_by}
+use Rattle.ftl0_client.proofs.OutcomeLemmas.{outcome-stays}
+use Rattle.client_node.proofs.OpenLemmas.{no-split}
+
+-- ---- the end of a link that went down before an outcome is down
+
+-- once a job was asked
+pub told-asked : (client : Client) (job : JobState) → IsToldDownOf (asking client job).attempt
+told-asked client job = λ why is. absurd (cc is)
+
+-- after a frame
+pub told-heard : (client : Client) (frame : FrameValue) → IsToldDownOf client.attempt → IsToldDownOf (client_hearing client frame).after.attempt
+told-heard client frame told = (outcome-stays outcome-law client frame told).0.down
+
+-- after a tick
+pub told-ticked : (client : Client) → IsToldDownOf client.attempt → IsToldDownOf (client_ticking client).attempt
+told-ticked client told = (outcome-stays outcome-law client (refusal_frame client.me (record { to = client.server; final = false })) told).1.down
+
+told-link : (v w : Window) (mid new : AttemptState) (a b : Attempted) → IsAttempt v mid a → IsAttempt w new b → SameJob mid new → IsToldDown a → IsToldDown b
+told-link v w mid new a b mid_is new_is same told why is =
+    let down : a.down ≡ Some why = sym mid_is.down ∙ sym same.down ∙ new_is.down ∙ is in
+    let before : mid.link.state ≡ a.end.state = ap (λ (k : Kept). k.state) mid_is.link.kept in
+    let now : new.link.state ≡ b.end.state = ap (λ (k : Kept). k.state) new_is.link.kept in
+    sym now ∙ same.state ∙ before ∙ told why down
+
+told-attempt : (v w : Window) (mid new : Option AttemptState) (a b : Option Attempted) → IsAttemptOf v mid a → IsAttemptOf w new b → SameAttempt mid new → IsToldDownOf a → IsToldDownOf b
+told-attempt v w mid new a None mid_is new_is same told = tt
+told-attempt v w mid None a (Some b) mid_is new_is same told = absurd new_is
+told-attempt v w None (Some new) a (Some b) mid_is new_is same told = absurd same
+told-attempt v w (Some mid) (Some new) None (Some b) mid_is new_is same told = absurd mid_is
+told-attempt v w (Some mid) (Some new) (Some a) (Some b) mid_is new_is same told = told-link v w mid new a b mid_is new_is same told
+
+-- giving out frames changes none of it
+pub told-sent : (mid new : ClientState) (client last : Client) → IsClient mid client → IsClient new last → SameButFrames mid new → IsToldDownOf client.attempt → IsToldDownOf last.attempt
+told-sent mid new client last mid_is new_is same told =
+    told-attempt client.window last.window mid.attempt new.attempt client.attempt last.attempt mid_is.attempt new_is.attempt same.attempt told
+
+-- ---- a stop at a packet
+
+module _ (client : Client) (frame : FrameValue) (told : IsToldDownOf client.attempt) (a : Attempted) (hears_it : attempt_for client frame ≡ Some a) where
+  -- the attempt before packets are taken
+  abbrev start : Attempted
+  start = after_hearing client.window a frame
+
+  is_attempt : client.attempt ≡ Some a
+  is_attempt =
+      cond_both (is_same_call frame.src client.server) client.attempt None (λ (o : Option Attempted). o ≡ Some a → client.attempt ≡ Some a) (λ same is. is) (λ other is. absurd (cc is)) hears_it
+
+  told_a : IsToldDown a
+  told_a = subst (λ (o : Option Attempted). IsToldDownOf o) is_attempt told
+
+  -- the packets keep an outcome, so there was none before them
+  no-ending : (lists : Lists) (before : List Item) → (taking lists start before).after.job.ending ≡ None → (e : Option Ending) → a.job.ending ≡ e → a.job.ending ≡ None
+  no-ending lists before none None is = is
+  no-ending lists before none (Some ending) is =
+      let job : start.job ≡ a.job = told-job (heard_of client.window a.end frame) (with_end a (after_frame client.window a.end frame)) frame.kind.information in
+      let begun : start.job.ending ≡ Some ending = ap (λ (j : JobState). j.ending) job ∙ is in
+      let kept : (taking lists start before).after.job.ending ≡ Some ending = ap (λ (h : Happened). h.after.job.ending) (taking-ended lists start before ending begun) ∙ begun in
+      absurd (cc (sym none ∙ kept))
+
+  -- a link that is down brings no packet
+  some-packet : (before : List Item) (item : Item) (behind : List Item) → packets_heard client.window a frame ≡ before ++ item ∷ behind → a.end.state ≡ Down → ⊥
+  some-packet before item behind parts down =
+      no-split before item behind (sym (ap (λ (t : Heard). packets_told t a frame.kind.information) (still-silent client.window a.end frame down)) ∙ parts)
+
+  not-down : (before : List Item) (item : Item) (behind : List Item) → packets_heard client.window a frame ≡ before ++ item ∷ behind → (d : Option Why) → a.down ≡ d → a.down ≡ None
+  not-down before item behind parts None is = is
+  not-down before item behind parts (Some why) is = absurd (some-packet before item behind parts (told_a why is))
+
+  -- the client was at work
+  pub stopped-working : {D : Type 0} (g : Ghosts D) (notes notes_n : NotesState) (disk disk_n : D) (attempt : AttemptState) (why : JobStop)
+      → StopsAmong g start (packets_heard client.window a frame) notes notes_n disk disk_n attempt why → outcome_by client.attempt ≡ outcome.Working
+  stopped-working g notes notes_n disk disk_n attempt why h =
+      ap outcome_by is_attempt
+      ∙ ap (λ (e : Option Ending). outcome_as (attempted.outcome_by e a.down)) (no-ending notes.lists h.before h.stops.no_outcome a.job.ending refl)
+      ∙ ap (λ (d : Option Why). outcome_as (attempted.outcome_by None d)) (not-down h.before h.item h.behind h.is_part a.down refl)

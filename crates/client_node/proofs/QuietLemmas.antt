@@ -1,0 +1,212 @@
+-- What a client that has nothing to send is, and what it tells whatever of its frames was given out.
+use Rattle.std.proofs.Common.{◌≡◌, ℕ, ◌-◌, List, [], ◌∷◌, length, drop, Bool, true, false, not, Option, None, Some, refl, sym, ◌∙◌, ap, subst, length-drop}
+use Rattle.std.proofs.lemmas.Option.{same_Some}
+use Rattle.std.proofs.lemmas.Result.{err_from_is_err_and}
+use Rattle.std.specs.Prelude.{nat_lt, if◌then◌else◌, ◌||◌, ◌&&◌, IsErrAnd, Result, Err}
+use Rattle.px_base.specs.Outside.{Gains}
+use Rattle.px_base.proofs.Told.{Gains-none}
+use Rattle.disk_model.specs.declared.disk.Disk.{Ghosts}
+use Rattle.ax25_frames.specs.FrameText.{FrameValue}
+use Rattle.ax25_link.specs.Ends.{Farewell, LinkEnd, Reply}
+use Rattle.ax25_link.specs.Kept.{Kept, StandsFor, has_new_in, is_pending, is_there, kept_of}
+use Rattle.ax25_link.specs.Sending.{Sending, has_new, is_empty, last_sending, later_sending, next_sending, sending_after, sends_again, sends_new}
+use Rattle.ax25_link.specs.Timer.{is_down, is_up}
+use Rattle.ax25_link.specs.Window.{Window}
+use Rattle.client_notes.specs.Notes.{Lists}
+use Rattle.client_notes.specs.State.{NotesState, StandsOn}
+use Rattle.ftl0_job.specs.JobState.{NotesGoWith}
+use Rattle.ftl0_job.specs.Table.{JobState, listing_of}
+use Rattle.ftl0_attempt.specs.Attempted as attempted
+use Rattle.ftl0_attempt.specs.Attempted.{Attempted}
+use Rattle.ftl0_attempt.specs.AttemptState.{AttemptState}
+use Rattle.ax25_link.specs.declared.state.Why.{Why}
+use Rattle.ftl0_client.specs.Calls.{SameAttempt, SameButFrames}
+use Rattle.ftl0_client.specs.Client.{Client, ClientSends, IsSilent, Refused, sends_by, sends_of_attempt, sends_of_link}
+use Rattle.ftl0_client.specs.ClientState.{ClientState, GoWithAttempt, IsAttemptOf, IsClient, MayHear, attempt_closed, attempt_pending, client_closed, client_pending, listing_in, outcome_in}
+use Rattle.ftl0_client.specs.ClientStep.{Empties}
+use Rattle.ftl0_client.specs.Laws.{IsToldDownOf}
+use Rattle.ftl0_client.specs.Outcomes.{outcome_as, outcome_by}
+use Rattle.ftl0_client.specs.Going.{is_over, is_over_at}
+use Rattle.client_node.specs.Came.{TellsOf, listing_by}
+use Rattle.client_node.specs.Node.{IsSettled}
+
+-- what holds of the error that a `?` hands on holds of the result
+pub at_exit : {T E : Type 0} (P : Result T E → Type 0) (result : Result T E) (why : E) → IsErrAnd result (λ e. e ≡ why) → P (Err why) → P result
+at_exit P result why h k =
+    let p = err_from_is_err_and result h in
+    subst P (sym (p.1 ∙ ap Err p.2)) k
+
+-- what stays gains nothing
+pub gains-same : (before now : Option (List ℕ)) → now ≡ before → Gains before now []
+gains-same before now same = let P : Option (List ℕ) → Type 0 = λ x. Gains before x [] in subst P (sym same) (Gains-none before)
+
+-- ---- a link with nothing pending sends nothing
+
+pub true_no : {X : Type 0} → true ≡ false → X
+true_no same = absurd (let x : ⊥ = cc same in x)
+
+later-none : (w : Window) (end : LinkEnd) (again new : Bool) (farewell : Option Farewell) → again ≡ false → new ≡ false → is_there farewell ≡ false
+    → (if again then Some (sends_again w end) else if new then Some (sends_new w end) else last_sending end farewell) ≡ None
+later-none w end true new farewell a n f = true_no a
+later-none w end false true farewell a n f = true_no n
+later-none w end false false None a n f = refl
+later-none w end false false (Some x) a n f = true_no f
+
+after-none : (w : Window) (end : LinkEnd) (reply : Option Reply) → is_there reply ≡ false → later_sending w end ≡ None → sending_after w end reply ≡ None
+after-none w end None none later = later
+after-none w end (Some reply) none later = true_no none
+
+none_of : (a b c d : Bool) → (a || b || c || d) ≡ false → (a ≡ false) × (b ≡ false) × (c ≡ false) × (d ≡ false)
+none_of true b c d h = true_no h
+none_of false true c d h = true_no h
+none_of false false true d h = true_no h
+none_of false false false true h = true_no h
+none_of false false false false h = (refl, refl, refl, refl)
+
+quiet-end : (w : Window) (end : LinkEnd) → is_pending (kept_of w end) ≡ false → next_sending w end ≡ None
+quiet-end w end none =
+    let parts = none_of (is_there end.reply) (nat_lt 0 end.again) (has_new_in (kept_of w end)) (is_there end.farewell) none in
+    let size : length (drop end.acked end.sent) ≡ length end.sent - end.acked = length-drop end.acked end.sent in
+    let new : has_new w end ≡ false =
+    ap (λ (n : ℕ). is_up end.state && nat_lt n w.size && not end.busy && not (is_empty end.queued)) (sym size) ∙ parts.2 in
+    after-none w end end.reply parts.0 (later-none w end (nat_lt 0 end.again) (has_new w end) end.farewell parts.1 new parts.3)
+
+quiet-link : (w : Window) (link : Kept) (end : LinkEnd) → StandsFor w link end → is_pending link ≡ false → next_sending w end ≡ None
+quiet-link w link end stands none = quiet-end w end (ap (λ (x : Kept). is_pending x) (sym stands.kept) ∙ none)
+
+-- ---- a client with nothing pending
+
+neither : (a b : Bool) → (a || b) ≡ false → (a ≡ false) × (b ≡ false)
+neither true b h = true_no h
+neither false b h = (refl, h)
+
+stray-none : (o : Option Refused) → is_there o ≡ false → o ≡ None
+stray-none None h = refl
+stray-none (Some refused) h = true_no h
+
+module _ (client : Client) where
+  attempt-silent : (attempt : Option AttemptState) (o : Option Attempted) → IsAttemptOf client.window attempt o → attempt_pending attempt ≡ false → sends_of_attempt client o ≡ None
+  attempt-silent None None is quiet = refl
+  attempt-silent None (Some a) is quiet = absurd is
+  attempt-silent (Some attempt) None is quiet = absurd is
+  attempt-silent (Some attempt) (Some a) is quiet = ap (λ (o : Option Sending). sends_of_link client a o) (quiet-link client.window attempt.link a.end is.link quiet)
+
+  pub silent : (self : ClientState) → IsClient self client → client_pending self ≡ false → IsSilent client
+  silent self is quiet =
+      let parts = neither (is_there self.stray) (attempt_pending self.attempt) quiet in
+      let none : client.stray ≡ None = sym is.stray ∙ stray-none self.stray parts.0 in
+      subst (λ (o : Option Refused). sends_by client o ≡ None) (sym none) (attempt-silent self.attempt client.attempt is.attempt parts.1)
+
+  pub settled-quiet : (self : ClientState) → IsClient self client → client_pending self ≡ false → IsToldDownOf client.attempt → IsSettled self client
+  settled-quiet self is quiet told = record { is = is; silent = silent self is quiet; told_down = told }
+
+-- ---- it is closed exactly where it is over
+
+not-false : (b : Bool) → b ≡ false → (c : Bool) → (c && not b) ≡ c
+not-false true h c = true_no h
+not-false false h true = refl
+not-false false h false = refl
+
+attempt-over : (w : Window) (attempt : Option AttemptState) (o : Option Attempted) → IsAttemptOf w attempt o → attempt_pending attempt ≡ false → attempt_closed attempt ≡ is_over_at o
+attempt-over w None None is quiet = refl
+attempt-over w None (Some a) is quiet = absurd is
+attempt-over w (Some attempt) None is quiet = absurd is
+attempt-over w (Some attempt) (Some a) is quiet =
+    not-false (is_pending attempt.link) quiet (is_down attempt.link.state) ∙ ap (λ (link : Kept). is_down link.state) is.link.kept
+
+no-stray : (o : Option Refused) (closed : Bool) → is_there o ≡ false → (not (is_there o) && closed) ≡ closed
+no-stray None closed h = refl
+no-stray (Some refused) closed h = true_no h
+
+pub closed-over : (self : ClientState) (client : Client) → IsClient self client → client_pending self ≡ false → client_closed self ≡ is_over client
+closed-over self client is quiet =
+    let parts = neither (is_there self.stray) (attempt_pending self.attempt) quiet in
+    no-stray self.stray (attempt_closed self.attempt) parts.0 ∙ attempt-over client.window self.attempt client.attempt is.attempt parts.1
+
+-- ---- what it tells
+
+told-by : (attempt : AttemptState) (a : Attempted) (job : JobState) (down : Option Why) → attempt.job ≡ job → attempt.down ≡ down → a.job ≡ job → a.down ≡ down
+    → (outcome_as (attempted.outcome_by attempt.job.ending attempt.down) ≡ outcome_as (attempted.outcome_by a.job.ending a.down)) × (listing_of attempt.job.work ≡ listing_of a.job.work)
+told-by attempt a job down h k m n = (
+  ap (λ (j : JobState). outcome_as (attempted.outcome_by j.ending attempt.down)) (h ∙ sym m) ∙ ap (λ (d : Option Why). outcome_as (attempted.outcome_by a.job.ending d)) (k ∙ sym n),
+  ap (λ (j : JobState). listing_of j.work) (h ∙ sym m),
+)
+
+-- the attempt of the code's client tells what that one has
+abbrev ToldOf : Option AttemptState → Option Attempted → Type 0
+ToldOf attempt o = (outcome_in attempt ≡ outcome_by o) × (listing_in attempt ≡ listing_by o)
+
+attempt-told : (w : Window) (attempt : Option AttemptState) (o : Option Attempted) → IsAttemptOf w attempt o → ToldOf attempt o
+attempt-told w None None is = (refl, refl)
+attempt-told w None (Some a) is = absurd is
+attempt-told w (Some attempt) None is = absurd is
+attempt-told w (Some attempt) (Some a) is = told-by attempt a a.job a.down is.job is.down refl refl
+
+pub tells-of : (self : ClientState) (client : Client) → IsClient self client → TellsOf self client
+tells-of self client is =
+    let told = attempt-told client.window self.attempt client.attempt is.attempt in
+    record { lists = is.lists; outcome = told.0; listing = told.1 }
+
+-- giving out frames changes none of it
+same-told : (old new : Option AttemptState) → SameAttempt old new → (outcome_in new ≡ outcome_in old) × (listing_in new ≡ listing_in old)
+same-told None None same = (refl, refl)
+same-told None (Some new) same = absurd same
+same-told (Some old) None same = absurd same
+same-told (Some old) (Some new) same = (
+  ap (λ (j : JobState). outcome_as (attempted.outcome_by j.ending new.down)) same.job ∙ ap (λ (d : Option Why). outcome_as (attempted.outcome_by old.job.ending d)) same.down,
+  ap (λ (j : JobState). listing_of j.work) same.job,
+)
+
+pub tells-still : (old new : ClientState) (client : Client) → SameButFrames old new → TellsOf old client → TellsOf new client
+tells-still old new client same tells =
+    let told = same-told old.attempt new.attempt same.attempt in
+    record { lists = ap (λ (n : NotesState). n.lists) same.notes ∙ tells.lists; outcome = told.0 ∙ tells.outcome; listing = told.1 ∙ tells.listing }
+
+-- nor does sending them
+abbrev SentAlike : Client → Client → Type 0
+SentAlike old new = (new.lists ≡ old.lists) × (outcome_by new.attempt ≡ outcome_by old.attempt) × (listing_by new.attempt ≡ listing_by old.attempt) × (new.me ≡ old.me)
+
+link-alike : (client : Client) (a : Attempted) (o : Option Sending) (sends : ClientSends) → client.attempt ≡ Some a → sends_of_link client a o ≡ Some sends → SentAlike client sends.after
+link-alike client a None sends is h = absurd (cc h)
+link-alike client a (Some sending) sends is h =
+    let after : sends.after ≡ record client { attempt = Some (record a { end = sending.after }) } = sym (ap (λ (s : ClientSends). s.after) (same_Some _ sends h)) in
+    subst (λ (c : Client). SentAlike client c) (sym after)
+    (refl, sym (ap (λ (o : Option Attempted). outcome_by o) is), sym (ap (λ (o : Option Attempted). listing_by o) is), refl)
+
+sent-alike : (client : Client) (o : Option Refused) (a : Option Attempted) (sends : ClientSends) → client.attempt ≡ a → sends_by client o ≡ Some sends → SentAlike client sends.after
+sent-alike client None None sends is h =
+    absurd (cc (subst (λ (o : Option Attempted). sends_of_attempt client o ≡ Some sends) is h))
+sent-alike client None (Some a) sends is h =
+    link-alike client a (next_sending client.window a.end) sends is (subst (λ (o : Option Attempted). sends_of_attempt client o ≡ Some sends) is h)
+sent-alike client (Some refused) a sends is h =
+    let after : sends.after ≡ record client { stray = None } = sym (ap (λ (s : ClientSends). s.after) (same_Some _ sends h)) in
+    subst (λ (c : Client). SentAlike client c) (sym after) (refl, refl, refl, refl)
+
+pub empties-alike : (client : Client) (frames : List FrameValue) (last : Client) → Empties client frames last → SentAlike client last
+empties-alike client [] last h = subst (λ (c : Client). SentAlike client c) (sym h.1) (refl, refl, refl, refl)
+empties-alike client (f ∷ frames) last h =
+    let one = sent-alike client client.stray client.attempt h.0 refl h.1 in
+    let rest = empties-alike h.0.after frames last h.3 in
+    (rest.0 ∙ one.0, rest.1 ∙ one.1, rest.2 ∙ one.2, rest.3 ∙ one.3)
+
+pub tells-sent : (self : ClientState) (client : Client) (frames : List FrameValue) (last : Client) → Empties client frames last → TellsOf self client → TellsOf self last
+tells-sent self client frames last sent tells =
+    let alike = empties-alike client frames last sent in
+    record { lists = tells.lists ∙ sym alike.0; outcome = tells.outcome ∙ sym alike.1; listing = tells.listing ∙ sym alike.2 }
+
+-- ---- what it needs to hear a frame stays
+
+goes-still : (lists : Lists) (old new : Option AttemptState) → SameAttempt old new → GoWithAttempt lists old → GoWithAttempt lists new
+goes-still lists None None same goes = goes
+goes-still lists None (Some new) same goes = absurd same
+goes-still lists (Some old) None same goes = absurd same
+goes-still lists (Some old) (Some new) same goes = subst (λ (j : JobState). NotesGoWith lists j) (sym same.job) goes
+
+pub may-still : {D : Type 0} (g : Ghosts D) (old new : ClientState) (disk : D) → SameButFrames old new → MayHear g old disk → MayHear g new disk
+may-still g old new disk same may =
+    let back = sym same.notes in
+    record {
+      healthy = ap (λ (n : NotesState). n.journal.failed) same.notes ∙ may.healthy;
+      stands_on = subst (λ (n : NotesState). StandsOn g n disk) back may.stands_on;
+      notes_are = goes-still new.notes.lists old.attempt new.attempt same.attempt (subst (λ (n : NotesState). GoWithAttempt n.lists old.attempt) back may.notes_are);
+    }
