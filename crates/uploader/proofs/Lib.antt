@@ -1,0 +1,9 @@
+pub mod CarryLemmas
+pub mod FetchLemmas
+pub mod LineLemmas
+pub mod ListLemmas
+pub mod OutcomeLemmas
+pub mod ReadyLemmas
+pub mod SendLemmas
+pub mod Standing
+pub mod StartLemmas

@@ -1,0 +1,137 @@
+-- What stands on the disk through a command: from the recovery on, and at its end.
+use Rattle.std.proofs.Common.{◌≡◌, inr, ⊎_elim, ℕ, ◌+◌, ◌*◌, ◌≤◌, List, [], ◌++◌, length, refl, ◌∙◌, subst, arith, Some, IfSome, length-append}
+use Rattle.px_base.specs.Outside.{Rose}
+use Rattle.disk_model.specs.declared.disk.Disk.{Ghosts}
+use Rattle.file_journal.specs.Calls.{Leaves, Runs, TellsAlike}
+use Rattle.file_journal.specs.Recovery.{IsSyncedFirst}
+use Rattle.file_journal.specs.Walk.{state}
+use Rattle.file_journal.proofs.CallLemmas.{stops_on}
+use Rattle.file_journal.proofs.MomentLemmas.{joined, weaker}
+use Rattle.file_journal.proofs.ToldLemmas.{alike_on, at_told, if_told, told_before, told_weaker}
+use Rattle.client_notes.specs.Command.{NotesCommand}
+use Rattle.client_notes.specs.Notes.{Lists}
+use Rattle.client_notes.specs.Records.{notes_magic}
+use Rattle.client_notes.specs.Recovery.{StandsAlike}
+use Rattle.client_notes.specs.Several.{DoesSeveral, MakesFirst}
+use Rattle.client_notes.specs.State.{NotesState, StandsFor, standing_of}
+use Rattle.client_notes.proofs.PutLemmas.{images-here}
+use Rattle.client_notes.proofs.SeveralLemmas.{Several-then, makes-second, stay-on}
+use Rattle.client_node.specs.Carried.{CutsOff}
+use Rattle.uploader.specs.OnDisk.{StandsThrough}
+
+module _ {D : Type 0} (g : Ghosts D) (on : (first second third : D) → g.lasts first second → g.lasts second third → g.lasts first third) (failed : Type 0) (old mid now : D) (start new : NotesState)
+    (done cut : List NotesCommand) (alike : TellsAlike (g.content old) (g.content mid)) (stood : IfSome (g.content old) (λ before. standing_of before ≡ state start.lists))
+    (since_start : Leaves g old mid StandsAlike) (since_sync : IfSome (g.content old) (λ before. IsSyncedFirst g old mid (StandsAlike before)))
+    (cuts : CutsOff g failed start new mid now done cut) where
+  all_does : DoesSeveral g failed start new mid now (done ++ cut)
+  all_does = Several-then g on ⊥ failed start cuts.notes_then new mid cuts.disk_then now done cut (λ never. never) cuts.first cuts.second
+
+  -- what stands for the same as the content stands for the notes before the first command
+  none_yet : (before image : List ℕ) → g.content old ≡ Some before → StandsAlike before image → MakesFirst start.lists (done ++ cut) image
+  none_yet before image told same =
+      (0, omega arith, omega arith, same.same ∙ at_told (λ (octets : List ℕ). standing_of octets ≡ state start.lists) before told stood)
+
+  -- the commands are of the notes that the recovery gave
+  later_told : (before : List ℕ) → g.content old ≡ Some before → (middle : List ℕ) × (g.content mid ≡ Some middle)
+  later_told before told = told_before (g.content mid) (g.content old) before (alike.1, alike.0) told
+
+  -- and so is what the first commands left
+  last_told : (octets : List ℕ) → g.content mid ≡ Some octets → (last : List ℕ) × (g.content cuts.disk_then ≡ Some last)
+  last_told octets told = told_before (g.content cuts.disk_then) (g.content mid) octets (cuts.first.puts.told.1, cuts.first.puts.told.0) told
+
+  -- what stands through the command, from the moment on at which the recovery was done
+  pub stands_through : start.journal.magic ≡ notes_magic → (stands : StandsThrough g failed start.lists done cut old now) × (stands.ready ≡ g.moment mid)
+  stands_through magic = (
+    record {
+      allowed = all_does.allowed;
+      since_sync = if_told (g.content old) _ (λ before told.
+          let middle = later_told before told in
+          let synced = at_told (λ (octets : List ℕ). IsSyncedFirst g old mid (StandsAlike octets)) before told since_sync in
+          let made = at_told (λ (_ : List ℕ). _) middle.0 middle.1 all_does.since in
+          record {
+            later = omega (arith, synced.later, made.later);
+            each = λ image since. ⊎_elim
+                (λ past. none_yet before image told (synced.each image past))
+                (λ here. here)
+                (made.each (g.moment old + 1) image synced.later since);
+          });
+      since_start = if_told (g.content old) _ (λ before told.
+          let middle = later_told before told in
+          joined g.moment g.images_since old mid now (MakesFirst start.lists (done ++ cut))
+          (weaker g.moment g.images_since old mid (StandsAlike before) (MakesFirst start.lists (done ++ cut)) (λ image same. none_yet before image told same)
+          (at_told _ before told since_start))
+          (at_told (λ (_ : List ℕ). _) middle.0 middle.1 all_does.since));
+      ready = g.moment mid;
+      after_sync = told_weaker (g.content old) _ _ (λ before told synced. synced.later) since_sync;
+      stay = λ fine. if_told (g.content old) _ (λ before told. let middle = later_told before told in at_told (λ (_ : List ℕ). _) middle.0 middle.1 (all_does.stay fine));
+      calls = λ fine. if_told (g.content old) _ (λ before told. let middle = later_told before told in at_told (λ (_ : List ℕ). _) middle.0 middle.1 (all_does.calls fine));
+      all_done = λ fine.
+          let end = all_does.done fine in
+          told_weaker (g.content now) _ _ (λ octets told each image here.
+          subst (λ (s : Lists). StandsFor image s) end.0 (each image here))
+          (images-here g new.journal now new.lists (all_does.same_magic ∙ magic) end.1 all_does.stands_on);
+      interrupted = λ stopped.
+          let end = cuts.second.cut stopped in
+          let is = (cuts.first.done (λ never. never)).0 in
+          record {
+            count = length done + end.count;
+            no_less = omega arith;
+            fewer = omega (arith, end.fewer, length-append done cut);
+            images = told_weaker (g.content now) _ _ (λ octets told each image here.
+                makes-second end.count (end.count + 1) (length done + end.count) (length done + end.count + 1) start.lists cuts.notes_then.lists done cut image is (omega arith) (omega arith) (each image here)) end.images;
+            stay = if_told (g.content old) _ (λ before told.
+                let middle = later_told before told in
+                let last = last_told middle.0 middle.1 in
+                stay-on g (g.moment mid) end.count start.lists cuts.notes_then.lists done cut cuts.disk_then now is (at_told (λ (_ : List ℕ). _) middle.0 middle.1 (cuts.first.calls (λ never. never)))
+                (at_told (λ (_ : List ℕ). _) middle.0 middle.1 (cuts.first.stay (λ never. never))) (at_told (λ (_ : List ℕ). _) last.0 last.1 cuts.second.since) (at_told (λ (_ : List ℕ). _) last.0 last.1 end.stay));
+            calls = if_told (g.content old) _ (λ before told.
+                let middle = later_told before told in
+                let last = last_told middle.0 middle.1 in
+                let first : g.moment cuts.disk_then ≡ g.moment mid + 4 * length done = at_told (λ (_ : List ℕ). _) middle.0 middle.1 (cuts.first.calls (λ never. never)) in
+                let second : g.moment cuts.disk_then + 4 * end.count ≤ g.moment now = at_told (λ (_ : List ℕ). _) last.0 last.1 end.calls in
+                omega arith);
+            at_most = if_told (g.content old) _ (λ before told.
+                let middle = later_told before told in
+                let last = last_told middle.0 middle.1 in
+                let first : g.moment cuts.disk_then ≡ g.moment mid + 4 * length done = at_told (λ (_ : List ℕ). _) middle.0 middle.1 (cuts.first.calls (λ never. never)) in
+                let second : g.moment now ≤ g.moment cuts.disk_then + 4 * (end.count + 1) = at_told (λ (_ : List ℕ). _) last.0 last.1 end.at_most in
+                omega arith);
+          };
+    },
+    refl,
+  )
+
+  -- without commands the disk is as the recovery left it
+  pub none_moves : done ++ cut ≡ [] → now ≡ mid
+  none_moves none = (all_does.none none).same_disk
+
+  -- and all that the command does to it is a run of calls
+  pub command_runs : (P : Type 0) → ¬ P → Runs g P old mid → Runs g failed old now
+  command_runs P never first =
+      let same = first.faults.same never in
+      let second = all_does.puts in
+      record {
+        told = alike_on _ _ _ first.told second.told;
+        faults = record {
+          reads = omega (arith, same.0, second.reads);
+          writes = omega (arith, same.1, second.faults.no_less);
+          rose = λ stopped. inr (subst (λ (n : ℕ). Rose n (g.write_faults now)) same.1 (second.faults.rose stopped));
+          same = λ fine. (second.reads ∙ same.0, second.faults.same fine ∙ same.1);
+        };
+        stops = stops_on g on old mid now first.lasts same.0 same.1 second.stops;
+        lasts = on old mid now first.lasts second.lasts;
+      }
+
+-- how the failure is named makes no difference
+pub runs_same : {D : Type 0} (g : Ghosts D) (P Q : Type 0) → (P → Q) → (Q → P) → (old now : D) → Runs g P old now → Runs g Q old now
+runs_same g P Q there back old now runs = record {
+  told = runs.told;
+  faults = record {
+    reads = runs.faults.reads;
+    writes = runs.faults.writes;
+    rose = λ stopped. runs.faults.rose (back stopped);
+    same = λ fine. runs.faults.same (λ p. fine (there p));
+  };
+  stops = runs.stops;
+  lasts = runs.lasts;
+}

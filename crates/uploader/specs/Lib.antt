@@ -1,0 +1,10 @@
+pub mod Carried
+pub mod Causes
+pub mod Fetching
+pub mod Lines
+pub mod Listing
+pub mod Loading
+pub mod OnDisk
+pub mod Ready
+pub mod Sending
+pub mod Stops

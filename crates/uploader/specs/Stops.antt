@@ -1,0 +1,64 @@
+-- How the stops of a command's parts stop it.
+use Rattle.std.specs.Prelude.{Result, Ok, Err}
+use Rattle.px_base.specs.declared.shelf.ShelfRefusal.{ShelfRefusal}
+use Rattle.px_base.specs.declared.shelf.ShelfRefusal.TheVariants as shelf
+use Rattle.client_notes.specs.declared.refusals.NotesRefusal.{NotesRefusal}
+use Rattle.client_notes.specs.declared.refusals.NotesRefusal.TheVariants as refusal
+use Rattle.client_notes.specs.declared.refusals.StoreFault.{StoreFault}
+use Rattle.client_notes.specs.declared.refusals.StoreFault.TheVariants as fault
+use Rattle.ftl0_client.specs.declared.outcome.Outcome.{Outcome}
+use Rattle.ftl0_client.specs.declared.outcome.Outcome.TheVariants as outcome
+use Rattle.client_node.specs.declared.stop.NodeStop.{NodeStop}
+use Rattle.client_node.specs.declared.stop.NodeStop.TheVariants as node
+use Rattle.uploader.specs.declared.stop.SendStop.{SendStop}
+use Rattle.uploader.specs.declared.stop.SendStop.TheVariants as stop
+use Rattle.uploader.specs.declared.sum.FileSum.{FileSum}
+
+-- a load of the shelf that is refused
+abbrev pub stop_of_load : ShelfRefusal → SendStop
+stop_of_load shelf.NoSuch = stop.NoSuch
+stop_of_load shelf.TooLong = stop.TooLong
+stop_of_load shelf.Fault = stop.Shelf
+stop_of_load shelf.OutOfMemory = stop.OutOfMemory
+
+-- a recovery of the notes that is refused
+abbrev pub stop_of_fault : StoreFault → SendStop
+stop_of_fault (fault.NotAStore found) = stop.NotAStore found
+stop_of_fault (fault.Damaged at) = stop.Damaged at
+stop_of_fault fault.Disk = stop.Disk
+stop_of_fault fault.OutOfMemory = stop.OutOfMemory
+
+-- a task that isn't started for this file
+abbrev pub stop_of_start : FileSum → NotesRefusal → SendStop
+stop_of_start given (refusal.Changed kept_length digest) =
+    stop.Changed (record { length = kept_length; digest = digest }) given
+stop_of_start given refusal.Full = stop.NotesFull
+stop_of_start given refusal.Disk = stop.Disk
+stop_of_start given refusal.Failed = stop.Disk
+stop_of_start given refusal.OutOfMemory = stop.OutOfMemory
+
+-- turns that ended before anything became of the job: at the end of the air the link is down
+abbrev pub stop_of_node : NodeStop → SendStop
+stop_of_node node.AirRead = stop.AirRead
+stop_of_node node.AirWrite = stop.AirWrite
+stop_of_node node.Disk = stop.Disk
+stop_of_node node.Ended = stop.LinkDown
+stop_of_node node.Spent = stop.Spent
+stop_of_node node.OutOfMemory = stop.OutOfMemory
+
+-- what a job's outcome is to the command that asked for it: each that isn't the one that it asked for is a stop
+abbrev pub by_outcome : Outcome → Result Outcome SendStop
+by_outcome (outcome.Refused code) = Err (stop.Refused code)
+by_outcome (outcome.BadFile code) = Err (stop.BadFile code)
+by_outcome (outcome.LinkDown reason) = Err stop.LinkDown
+by_outcome (outcome.Strange kind) = Err (stop.Strange kind)
+by_outcome (outcome.Acked number) = Ok (outcome.Acked number)
+by_outcome (outcome.Fetched number) = Ok (outcome.Fetched number)
+by_outcome outcome.Listed = Ok outcome.Listed
+by_outcome outcome.Idle = Ok outcome.Idle
+by_outcome outcome.Working = Ok outcome.Working
+
+-- what became of the job, or why the turns ended before anything did
+abbrev pub by_node : Result Outcome NodeStop → Result Outcome SendStop
+by_node (Ok reached) = by_outcome reached
+by_node (Err why) = Err (stop_of_node why)

@@ -1,0 +1,62 @@
+//! A file is fetched.
+
+ghost use Rattle.std.specs.Prelude.{◌≡◌, ◌≤◌, IsErrOf};
+ghost use Rattle.ax25_link.specs.Window.{IsGoodK};
+ghost use Rattle.file_journal.specs.Calls.{CountsFault, Runs};
+ghost use Rattle.uploader.specs.Carried.{setting};
+ghost use Rattle.uploader.specs.Causes.{HasAirCauseOf};
+ghost use Rattle.uploader.specs.Fetching.{FetchEnds};
+ghost use Rattle.uploader.specs.OnDisk.{RefusesNotes};
+
+use crate::carrying::{carry, recover_client};
+use crate::{ClientTerms, SendStop};
+use disk_model::Disk;
+use ftl0_client::Job;
+use px_base::{Air, Clock, Shelf};
+use std::alloc::Global;
+
+/// Fetches the file of this number, which isn't 0, from the server, and keeps it on the shelf under this name. The
+/// notes are recovered from the disk first. Then its download is asked and carried out (FTL0 1990, downloads), behind
+/// the octets that the notes have of it. The whole file is kept once the server knows that it came without fault; the
+/// got octets stay in the notes. What is noted is on the disk before any frame of that event is put. Takes memory for
+/// the notes, and for the octets that come.
+///
+/// `BadFile` where the file that came has a fault: nothing is kept, and the notes give up what they had of it. `Shelf`
+/// where it couldn't be kept, and then the shelf may have anything under the name. Each [`SendStop`] but `NoSuch`,
+/// `Changed`, `Out`, `NotesFull` and `TooLong` may come.
+pub fn fetch<D: Disk, A: Air, S: Shelf, C: Clock>(
+    alloc: Global,
+    disk: &mut D,
+    air: &mut A,
+    shelf: &mut S,
+    clock: &mut C,
+    terms: &ClientTerms,
+    number: u32,
+    name: &str,
+) -> Result<(), SendStop>
+    requires window { IsGoodK terms.now.k }
+    requires number { 1 ≤ number }
+
+    // But for a fault of the disk and want of memory, each stop by the notes' disk comes exactly where its cause is
+    // told.
+    ensures notes { RefusesNotes (D.content disk.old) result }
+
+    // How it ended: what was touched, said and kept, and what stands on the disk at each moment.
+    ensures ends { FetchEnds D.Disk A.Air C.given S.held (setting disk.old air.old clock.old)
+        (setting disk.new air.new clock.new) shelf.old shelf.new terms.now number name.now result }
+
+    // Each cause rose in a count.
+    ensures shelf { CountsFault (S.faults shelf.old) (S.faults shelf.new) (IsErrOf result SendStop.Shelf) }
+    ensures air { HasAirCauseOf A.read_faults A.write_faults air.old air.new result }
+    ensures runs { Runs D.Disk (IsErrOf result SendStop.Disk) disk.old disk.new }
+{
+    let mut client = recover_client(alloc, disk, terms)?;
+    // What is got of a file is no longer than a file may be.
+    let _held = client.notes().got_len(terms.server, number);
+    let job = Job::download(terms.server, number);
+    let _fetched = carry(alloc, terms, &mut client, job, disk, air, clock)?;
+    match shelf.keep(name, client.notes().got_octets(terms.server, number)) {
+        Ok(()) => Ok(()),
+        Err(_down) => Err(SendStop::Shelf),
+    }
+}

@@ -1,0 +1,33 @@
+//! The file that is sent.
+
+ghost use Rattle.std.specs.Prelude.{◌≡◌, ◌≤◌, None, length, IfOk};
+ghost use Rattle.px_base.specs.Shelves.{Holding};
+ghost use Rattle.pfh_items.specs.Faults.{fault_code};
+ghost use Rattle.uploader.specs.Loading.{HasShelfCause, IsSendable, LoadsBy, most_octets};
+
+use crate::SendStop;
+use pfh_reader::check;
+use px_base::{FileBytes, Shelf};
+use std::alloc::Global;
+
+/// The most octets of a file that is sent.
+const MOST_OCTETS: usize = 4_194_304;
+
+/// The file that the shelf has under this name, where it has at most 4,194,304 octets and keeps the rules of file
+/// headers (PFH 1990). Takes memory for it.
+pub(crate) fn load_file<S: Shelf>(
+    alloc: Global,
+    shelf: &mut S,
+    name: &str,
+) -> Result<FileBytes, SendStop>
+    ensures loads { LoadsBy (S.held shelf.old) name.now result }
+    ensures sendable { IfOk result IsSendable }
+    ensures held { S.held shelf.new ≡ S.held shelf.old }
+    ensures cause { HasShelfCause (S.faults shelf.old) (S.faults shelf.new) result }
+{
+    let file = shelf.load(alloc, name, MOST_OCTETS)?;
+    match check(file.as_slice()) {
+        Ok(_header) => Ok(file),
+        Err(fault) => Err(SendStop::BadFile { code: fault.code }),
+    }
+}
