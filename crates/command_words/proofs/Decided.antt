@@ -6,19 +6,22 @@ use Rattle.std.proofs.lemmas.Bool.{cases_Bool, cases_lt}
 use Rattle.px_base.specs.CallSign.{CallSign, CallText, SsidText, base_length, padded, ssid_digits}
 use Rattle.px_base.proofs.Calls.{call_is, cut_of}
 use Rattle.clap.specs.Lexer.{has_byte}
+use Rattle.command_words.specs.Disks.{IsDiskOf}
+use Rattle.command_words.specs.declared.disk.DiskWord.{DiskWord}
+use Rattle.command_words.specs.declared.disk.DiskWord.TheVariants.{Fresh, Named}
 use Rattle.command_words.specs.Grammar.{Line, line_places, line_value}
-use Rattle.command_words.specs.Lines.{are_places, is_option_name}
+use Rattle.command_words.specs.Lines.{are_apart, are_places, is_option_name}
 use Rattle.header_tool.specs.Made.{MakeValue, spec_refusal}
 use Rattle.command_words.specs.Making.{MakeOptions, MakeSays, MakeText, make_options, options_given}
-use Rattle.command_words.specs.Numbers.{GivesNumber, IsDigit, IsNumberOr, NumberText, number_after}
-use Rattle.command_words.specs.Words.{CallGiven, IsAir, IsHostPort, NameText, ServeText, SessionText, default_blocks, default_k, default_polls, serve_options, session_options}
+use Rattle.command_words.specs.Numbers.{GivesNumber, IsDigit, IsNumberOr, NumberText, default_blocks, default_k, default_polls, number_after}
+use Rattle.command_words.specs.Words.{CallGiven, IsAir, IsHostPort, NameText, ServeText, SessionText, serve_options, session_options}
 use Rattle.command_words.proofs.Bytes.{after_first-append, before_first-append, before_first-lacks, has_byte-append, split_at_byte}
 use Rattle.command_words.proofs.HostPorts.{all_lack, lack_all}
 use Rattle.command_words.proofs.Uses.{Text, Uses, text_eq, text_same}
 use Rattle.command_words.proofs.Machine.{run}
 use Rattle.command_words.proofs.Rules.{AreApart}
-use Rattle.command_words.proofs.Readings.{all_good, apart_names, are_given, distinct_places, is_distinct, line-run, run-line, uses_in}
-use Rattle.command_words.proofs.Meanings.{are_served, make_says, one_text, says_one, serve_given, session_given}
+use Rattle.command_words.proofs.Readings.{all_good, apart_names, apart_places, are_given, line-run, run-line, uses_in}
+use Rattle.command_words.proofs.Meanings.{are_served, disk_of, make_says, one_text, says_one, serve_given, session_given}
 
 abbrev pub Decided : Type 0 → Type 0
 Decided P = P ⊎ (P → ⊥)
@@ -44,7 +47,7 @@ digits_decided (c ∷ text) = elim (digit_decided c) [
   ]
 ]
 
-number_decided : (low high : ℕ) (text : Text) → Decided ((number : ℕ) × NumberText low high text number)
+pub number_decided : (low high : ℕ) (text : Text) → Decided ((number : ℕ) × NumberText low high text number)
 number_decided low high text = elim (digits_decided text) [
   | inr none ↦ inr (λ (number, is). none is.digits)
   | inl digits ↦ elim (cases_lt (length text) 1) [
@@ -73,7 +76,7 @@ gives_decided low high (Some text) = elim (number_decided low high text) [
     of_one None e = absurd cc
     of_one (Some n) (other, e, is) = let same : other ≡ text = cc in (n, subst (λ (t : Text). NumberText low high t n) same is)
 
-number_or_decided : (otherwise low high : ℕ) (value : Option Text) → Decided ((number : ℕ) × IsNumberOr otherwise low high value number)
+pub number_or_decided : (otherwise low high : ℕ) (value : Option Text) → Decided ((number : ℕ) × IsNumberOr otherwise low high value number)
 number_or_decided otherwise low high None = inl (otherwise, refl)
 number_or_decided otherwise low high (Some text) = number_decided low high text
 
@@ -162,6 +165,14 @@ air_decided air = elim (cases_Bool (bytes_eq air (codes "-"))) [
   ]
 ]
 
+-- DISK names a file
+pub file_decided : (disk : Text) → Decided (IsDiskOf disk Named)
+file_decided disk = decide (disk_of disk)
+  where
+    decide : (which : DiskWord) × IsDiskOf disk which → Decided (IsDiskOf disk Named)
+    decide (Fresh, none) = inr (λ named. named none)
+    decide (Named, named) = inl named
+
 -- ---- the words after COMMAND
 
 pub line_decided : (names ids : List Text) → are_places ids ≡ true → list_all (is_option_name ids) names ≡ true → (words : List Text) → Decided (Line names words (length ids))
@@ -170,8 +181,8 @@ line_decided names ids placed options words = decide (run names ids words None (
     apart : AreApart names ids
     apart = apart_names names ids options
 
-    distinct : is_distinct ids ≡ true
-    distinct = distinct_places ids placed
+    distinct : are_apart ids ≡ true
+    distinct = apart_places ids placed
 
     decide : (read : Option Uses) → run names ids words None (Some []) ≡ read → Decided (Line names words (length ids))
     decide None e = inr (λ line.
@@ -285,7 +296,7 @@ says_decided options = named options.name refl
 abbrev pub GivesMake : List Text → Type 0
 GivesMake others = (body : Text) × (kept : Text) × (spec : MakeValue) × MakeText body kept spec others
 
-two_texts : (texts : List Text) → length texts ≡ 2 → (one : Text) × (other : Text) × (texts ≡ one ∷ other ∷ [])
+pub two_texts : (texts : List Text) → length texts ≡ 2 → (one : Text) × (other : Text) × (texts ≡ one ∷ other ∷ [])
 two_texts [] e = absurd (omega arith)
 two_texts (one ∷ []) e = absurd (omega arith)
 two_texts (one ∷ other ∷ []) e = (one, other, refl)

@@ -2,6 +2,7 @@ pub mod Bytes
 pub mod ClapLine
 pub mod ClapSteps
 pub mod ClapWalk
+pub mod ClientTexts
 pub mod Decided
 pub mod Digits
 pub mod HostPorts

@@ -11,8 +11,9 @@ use Rattle.clap.specs.Faults.{fault_of, is_simple_and_free}
 use Rattle.clap.specs.declared.parser.matches.ArgMatches.{ArgMatches}
 use Rattle.clap.proofs.WalkLemmas.{first_value-rows}
 use Rattle.command_words.specs.declared.request.Refusal.{Refusal}
+use Rattle.command_words.specs.Clients.{client_options}
 use Rattle.command_words.specs.Grammar.{Line}
-use Rattle.command_words.specs.Lines.{IsFound, IsLine, command_of, make_app, serve_app, session_app}
+use Rattle.command_words.specs.Lines.{IsFound, IsLine, are_apart, client_app, client_places, command_of, fetch_app, fetch_places, make_app, serve_app, session_app}
 use Rattle.command_words.specs.Making.{make_options}
 use Rattle.command_words.specs.Words.{serve_options, session_options}
 use Rattle.command_words.proofs.Uses.{Text, Uses, values}
@@ -20,7 +21,7 @@ use Rattle.command_words.proofs.Machine.{is_name-from}
 use Rattle.command_words.proofs.Rules.{AreApart, rows}
 use Rattle.command_words.proofs.ClapWalk.{IsFine}
 use Rattle.command_words.proofs.ClapLine.{first_of-rows, line_finds_rows, line_free, line_reads, line_simple, line_takes}
-use Rattle.command_words.proofs.Readings.{all_good, apart_names, distinct_places, fine_words, is_distinct, line-run, line_places_are, line_value_is, run-line, uses_in}
+use Rattle.command_words.proofs.Readings.{all_good, apart_names, apart_places, fine_words, line-run, line_places_are, line_value_is, run-line, uses_in}
 
 -- the words after the first are the octets of texts
 fine_after : {Z : Type 0} (line : List (String Z)) → AllByRecursion IsFine (drop 1 (map string_bytes line))
@@ -34,8 +35,8 @@ module _ {Z : Type 0} (app : App) (ids names : List Text) (is : IsLine app ids n
   apart : AreApart names ids
   apart = apart_names names ids is.apart
 
-  distinct : is_distinct ids ≡ true
-  distinct = distinct_places ids is.placed
+  distinct : are_apart ids ≡ true
+  distinct = apart_places ids is.placed
 
   pub free : is_simple_and_free app ≡ true
   free = ap is_simple_and_free is.written ∙ line_free is.command ids names
@@ -76,6 +77,12 @@ session_line app e = record { command = codes "session"; written = e; placed = r
 
 pub serve_line : (app : App) → app ≡ serve_app → IsLine app (codes "me" ∷ []) serve_options
 serve_line app e = record { command = codes "serve"; written = e; placed = refl; apart = refl }
+
+pub client_line : (command : Text) (app : App) → app ≡ client_app command → IsLine app client_places client_options
+client_line command app e = record { command = command; written = e; placed = refl; apart = refl }
+
+pub fetch_line : (app : App) → app ≡ fetch_app → IsLine app fetch_places client_options
+fetch_line app e = record { command = codes "fetch"; written = e; placed = refl; apart = refl }
 
 pub make_line : (app : App) → app ≡ make_app → IsLine app (codes "body" ∷ codes "kept" ∷ []) make_options
 make_line app e = record { command = codes "pfh-make"; written = e; placed = refl; apart = refl }

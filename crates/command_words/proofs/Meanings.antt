@@ -6,14 +6,17 @@ use Rattle.std.specs.List.{list_all}
 use Rattle.std.specs.Str.{bytes_eq}
 use Rattle.std.proofs.lemmas.Bool.{cases_Bool}
 use Rattle.px_base.specs.CallSign.{CallSign, CallText}
+use Rattle.px_base.proofs.Calls.{one_call}
 use Rattle.clap.specs.Lexer.{has_byte}
 use Rattle.command_words.specs.Grammar.{Line, line_places, line_value}
 use Rattle.command_words.specs.Laws.{AsksServe, AsksSession}
-use Rattle.command_words.specs.Lines.{MakeLine, ServeLine, SessionLine, are_places, is_option_name, options_read}
+use Rattle.command_words.specs.Lines.{MakeLine, ServeLine, SessionLine, are_apart, are_places, is_option_name, options_read}
 use Rattle.header_tool.specs.Made.{MakeValue, spec_refusal}
 use Rattle.command_words.specs.Making.{MakeOptions, MakeSays, MakeText, make_options, options_given}
-use Rattle.command_words.specs.Numbers.{GivesNumber, IsNumberOr}
-use Rattle.command_words.specs.Commands.{IsCommandOf, word_of}
+use Rattle.command_words.specs.Numbers.{GivesNumber, IsNumberOr, default_blocks, default_k, default_polls}
+use Rattle.command_words.specs.Commands.{AsksBy, IsCommandOf, client_word, word_of}
+use Rattle.command_words.specs.declared.command.ClientCommand.{ClientCommand}
+use Rattle.command_words.specs.declared.command.ClientCommand.TheVariants as client
 use Rattle.command_words.specs.declared.command.CommandWord.{CommandWord}
 use Rattle.command_words.specs.declared.command.CommandWord.TheVariants as word
 use Rattle.command_words.specs.declared.command.NameCommand.{NameCommand}
@@ -25,12 +28,12 @@ use Rattle.command_words.specs.declared.air.AirWord.TheVariants.{HostPort, Nothi
 use Rattle.command_words.specs.Disks.{IsDiskOf}
 use Rattle.command_words.specs.declared.disk.DiskWord.{DiskWord}
 use Rattle.command_words.specs.declared.disk.DiskWord.TheVariants.{Fresh, Named}
-use Rattle.command_words.specs.Words.{AreInRange, CallGiven, InSet, IsAir, IsHostPort, IsMake, IsNamed, IsUnbuilt, IsUsage, NeedsAir, NeedsNeither, ServeText, SessionText, default_blocks, default_k, default_polls, serve_options, session_options, unbuilt_commands}
+use Rattle.command_words.specs.Words.{AreInRange, CallGiven, InSet, IsAir, IsHostPort, IsMake, IsNamed, IsUnbuilt, IsUsage, NeedsAir, NeedsNeither, ServeText, SessionText, serve_options, session_options, unbuilt_commands}
 use Rattle.command_words.proofs.Bytes.{has_byte-append}
 use Rattle.command_words.proofs.Uses.{Text, Uses, text_eq, text_same, values}
 use Rattle.command_words.proofs.Machine.{is_name, is_name-from}
 use Rattle.command_words.proofs.Rules.{AreApart}
-use Rattle.command_words.proofs.Readings.{all_good, apart_names, distinct_places, is_distinct, line-run, line_places_are, line_value_is, no_values, some_texts, uses_in}
+use Rattle.command_words.proofs.Readings.{all_good, apart_names, apart_places, line-run, line_places_are, line_value_is, no_values, some_texts, uses_in}
 
 -- ---- lines
 
@@ -38,8 +41,8 @@ module _ (names ids : List Text) (placed : are_places ids ≡ true) (options : l
   apart : AreApart names ids
   apart = apart_names names ids options
 
-  distinct : is_distinct ids ≡ true
-  distinct = distinct_places ids placed
+  distinct : are_apart ids ≡ true
+  distinct = apart_places ids placed
 
   abbrev uses : {words : List Text} → Line names words (length ids) → Uses
   uses line = uses_in names ids apart distinct line
@@ -83,6 +86,12 @@ pub one_text : (texts : List Text) → length texts ≡ 1 → (text : Text) × (
 one_text [] e = absurd (omega arith)
 one_text (text ∷ []) e = (text, refl)
 one_text (text ∷ other ∷ texts) e = absurd (omega arith)
+
+-- a text spells one call
+pub same_call : (one other : CallSign) (text : Text) → CallText one text → CallText other text → one ≡ other
+same_call one other text s t =
+    let (chars, ssid) = one_call text one other s t in
+    λ i. record { chars = chars i; ssid = ssid i }
 
 -- ---- a call, blocks and polls
 
@@ -305,6 +314,7 @@ three_words (x ∷ y ∷ z ∷ words) disk air command d a c some d_at a_at c_at
 abbrev pub AreOf : CommandWord → List Text → Type 0
 AreOf word.Session words = AsksSession words
 AreOf word.Serve words = AsksServe words
+AreOf (word.Client command) words = AsksBy command words
 AreOf (word.Named command) words = (name : Text) × IsNamed (word_of command) words name
 AreOf word.PfhMake words = (body kept : Text) × (spec : MakeValue) × IsMake words body kept spec
 AreOf word.Unbuilt words = IsUnbuilt words
@@ -314,16 +324,22 @@ pub of_set : {words : List Text} → InSet words → (command : CommandWord) × 
 of_set (inl unbuilt) = (word.Unbuilt, unbuilt)
 of_set (inr (inl session)) = (word.Session, session)
 of_set (inr (inr (inl serve))) = (word.Serve, serve)
-of_set (inr (inr (inr (inl frames)))) = (word.Named Frames, frames)
-of_set (inr (inr (inr (inr (inl check))))) = (word.Named PfhCheck, check)
-of_set (inr (inr (inr (inr (inr (inl show)))))) = (word.Named PfhShow, show)
-of_set (inr (inr (inr (inr (inr (inr make)))))) = (word.PfhMake, make)
+of_set (inr (inr (inr (inl (inl send))))) = (word.Client client.Send, send)
+of_set (inr (inr (inr (inl (inr (inl fetch)))))) = (word.Client client.Fetch, fetch)
+of_set (inr (inr (inr (inl (inr (inr list)))))) = (word.Client client.List, list)
+of_set (inr (inr (inr (inr (inl frames))))) = (word.Named Frames, frames)
+of_set (inr (inr (inr (inr (inr (inl check)))))) = (word.Named PfhCheck, check)
+of_set (inr (inr (inr (inr (inr (inr (inl show))))))) = (word.Named PfhShow, show)
+of_set (inr (inr (inr (inr (inr (inr (inr make))))))) = (word.PfhMake, make)
 
 -- which their third word names
 pub third_word : {words : List Text} (command : CommandWord) → AreOf command words
     → (d a c : Text) × (others : List Text) × (words ≡ d ∷ a ∷ c ∷ others) × IsCommandOf c command
 third_word word.Session (asked, asks) = (asks.disk, asks.air, codes "session", asks.others, asks.written, refl)
 third_word word.Serve (asked, asks) = (asks.disk, asks.air, codes "serve", asks.others, asks.written, refl)
+third_word (word.Client client.Send) (terms, name, asks) = (asks.disk, asks.air, codes "send", asks.others, asks.written, refl)
+third_word (word.Client client.Fetch) (terms, number, name, asks) = (asks.disk, asks.air, codes "fetch", asks.others, asks.written, refl)
+third_word (word.Client client.List) (terms, tokens, asks) = (asks.disk, asks.air, codes "list", asks.others, asks.written, refl)
 third_word (word.Named command) (name, asks) = (asks.disk, asks.air, word_of command, asks.others, asks.written, refl)
 third_word word.PfhMake (body, kept, spec, asks) = (asks.disk, asks.air, codes "pfh-make", asks.others, asks.written, refl)
 third_word word.Unbuilt other = (other.disk, other.air, other.command, other.others, other.written, other.unbuilt)
@@ -341,14 +357,20 @@ named_by c =
     cond (is_name unbuilt_commands c) (Some word.Unbuilt)
     (cond (bytes_eq c (codes "session")) (Some word.Session)
     (cond (bytes_eq c (codes "serve")) (Some word.Serve)
+    (cond (bytes_eq c (codes "send")) (Some (word.Client client.Send))
+    (cond (bytes_eq c (codes "fetch")) (Some (word.Client client.Fetch))
+    (cond (bytes_eq c (codes "list")) (Some (word.Client client.List))
     (cond (bytes_eq c (codes "frames")) (Some (word.Named Frames))
     (cond (bytes_eq c (codes "pfh-check")) (Some (word.Named PfhCheck))
     (cond (bytes_eq c (codes "pfh-show")) (Some (word.Named PfhShow))
-    (cond (bytes_eq c (codes "pfh-make")) (Some word.PfhMake) None))))))
+    (cond (bytes_eq c (codes "pfh-make")) (Some word.PfhMake) None)))))))))
 
 pub names : (c : Text) (command : CommandWord) → IsCommandOf c command → named_by c ≡ Some command
 names c word.Session is = ap named_by is
 names c word.Serve is = ap named_by is
+names c (word.Client client.Send) is = ap named_by is
+names c (word.Client client.Fetch) is = ap named_by is
+names c (word.Client client.List) is = ap named_by is
 names c (word.Named Frames) is = ap named_by is
 names c (word.Named PfhCheck) is = ap named_by is
 names c (word.Named PfhShow) is = ap named_by is
@@ -379,6 +401,10 @@ session_usage whole none = usage_of word.Session refl whole none
 pub serve_usage : {words : List Text} {d a : Text} {others : List Text} → words ≡ d ∷ a ∷ codes "serve" ∷ others
     → (AsksServe (d ∷ a ∷ codes "serve" ∷ others) → ⊥) → IsUsage words
 serve_usage whole none = usage_of word.Serve refl whole none
+
+pub client_usage : (command : ClientCommand) {words : List Text} {d a : Text} {others : List Text} → words ≡ d ∷ a ∷ client_word command ∷ others
+    → (AsksBy command (d ∷ a ∷ client_word command ∷ others) → ⊥) → IsUsage words
+client_usage command whole none = usage_of (word.Client command) refl whole none
 
 pub name_usage : (command : NameCommand) {words : List Text} {d a : Text} {others : List Text} → words ≡ d ∷ a ∷ word_of command ∷ others
     → ((name : Text) → IsNamed (word_of command) (d ∷ a ∷ word_of command ∷ others) name → ⊥) → IsUsage words

@@ -1,28 +1,29 @@
 -- Each list of words has one meaning.
-use Rattle.std.proofs.Common.{◌≡◌, ◌≤◌, ◌⊎◌, ℕ, List, [], ◌∷◌, length, Option, None, Some, refl, sym, ap, ◌∙◌, subst, arith, inl, inr, codes, true≢false}
+use Rattle.std.proofs.Common.{◌≡◌, ◌≤◌, ◌⊎◌, ℕ, List, [], ◌∷◌, length, Option, None, Some, refl, sym, ap, ◌∙◌, subst, arith, inl, inr, codes, false, true≢false}
 use Rattle.std.specs.Str.{bytes_eq}
 use Rattle.std.proofs.lemmas.Bool.{cases_Bool}
 use Rattle.px_base.specs.CallSign.{CallSign, CallText}
-use Rattle.px_base.proofs.Calls.{one_call}
-use Rattle.command_words.specs.Commands.{IsCommandOf, word_of}
+use Rattle.command_words.specs.Commands.{AsksBy, IsCommandOf, client_word, word_of}
+use Rattle.command_words.specs.declared.command.ClientCommand.{ClientCommand}
+use Rattle.command_words.specs.declared.command.ClientCommand.TheVariants as client
 use Rattle.command_words.specs.declared.command.CommandWord.{CommandWord}
 use Rattle.command_words.specs.declared.command.CommandWord.TheVariants as word
 use Rattle.command_words.specs.declared.command.NameCommand.{NameCommand}
 use Rattle.command_words.specs.declared.command.NameCommand.TheVariants.{Frames, PfhCheck, PfhShow}
 use Rattle.command_words.specs.Disks.{IsDiskOf}
 use Rattle.command_words.specs.declared.disk.DiskWord.{DiskWord}
-use Rattle.command_words.specs.declared.disk.DiskWord.TheVariants.{Fresh, Named}
 use Rattle.command_words.specs.Grammar.{line_value}
 use Rattle.command_words.specs.Laws.{AsksFrames, AsksServe, AsksSession, Determined, OnlyMake, OnlyOne}
 use Rattle.command_words.specs.Making.{options_given}
-use Rattle.command_words.specs.Numbers.{GivesNumber}
+use Rattle.command_words.specs.Numbers.{GivesNumber, default_blocks, default_k, default_polls}
 use Rattle.command_words.specs.declared.request.SessionRequest.{SessionRequest}
 use Rattle.command_words.specs.declared.serve.ServeRequest.{ServeRequest}
-use Rattle.command_words.specs.Words.{AsksHeader, CallGiven, IsAir, IsNamed, IsServe, IsSession, IsUnbuilt, IsUsage, NameText, NeedsAir, NeedsNeither, default_blocks, default_k, default_polls, unbuilt_commands}
+use Rattle.command_words.specs.Words.{AsksClient, AsksHeader, CallGiven, IsAir, IsNamed, IsServe, IsSession, IsUnbuilt, IsUsage, NameText, NeedsAir, NeedsNeither, unbuilt_commands}
 use Rattle.command_words.proofs.Uses.{Text, text_eq, text_same}
-use Rattle.command_words.proofs.Machine.{is_name, is_name-to}
-use Rattle.command_words.proofs.Meanings.{AreOf, air_from, air_in, air_text, disk_in, disk_of, make_says, make_usage, name_usage, named_by, names, neither_from, neither_text, no_command_usage, not_both, number_one, of_set, one_disk, same_places, says_one, serve_given, serve_usage, session_given, session_usage, third_word}
-use Rattle.command_words.proofs.Decided.{Decided, air_decided, make_decided, name_decided, serve_decided, session_decided}
+use Rattle.command_words.proofs.Machine.{is_name, is_name-from, is_name-to}
+use Rattle.command_words.proofs.Meanings.{AreOf, air_from, air_in, air_text, client_usage, disk_in, disk_of, make_says, make_usage, name_usage, neither_from, neither_text, no_command_usage, not_both, number_one, of_set, one_disk, same_call, same_places, says_one, serve_given, serve_usage, session_given, session_usage, third_word}
+use Rattle.command_words.proofs.ClientTexts.{by_decided, fetch_same, list_same, send_same}
+use Rattle.command_words.proofs.Decided.{Decided, air_decided, file_decided, make_decided, name_decided, serve_decided, session_decided}
 
 -- ---- two lines
 
@@ -36,18 +37,13 @@ gives_same low high value (Some m) (Some n) (text, e, is) (other, f, is2) =
     let number : m ≡ n = is.value ∙ ap (Rattle.command_words.specs.Numbers.number_after 0) same ∙ sym is2.value in
     ap (λ (k : ℕ). Some k) number
 
-same_caller : (one other : CallSign) (text : Text) → CallText one text → CallText other text → one ≡ other
-same_caller one other text s t =
-    let (chars, ssid) = one_call text one other s t in
-    λ i. record { chars = chars i; ssid = ssid i }
-
 -- what a place and options give is one call, one number of blocks and one of polls
 given_same : {places : List Text} {value : Text → Option Text} {one other : CallSign} {blocks blocks2 polls polls2 : ℕ}
     → CallGiven places value one blocks polls → CallGiven places value other blocks2 polls2 → (one ≡ other) × (blocks ≡ blocks2) × (polls ≡ polls2)
 given_same {one = one} {other = other} {blocks = blocks} {blocks2 = blocks2} {polls = polls} {polls2 = polls2} first second =
     let both : first.call_text ∷ [] ≡ second.call_text ∷ [] = sym first.place ∙ second.place in
     let text : first.call_text ≡ second.call_text = cc in (
-      same_caller one other second.call_text (subst (λ (t : Text). CallText one t) text first.called) second.called,
+      same_call one other second.call_text (subst (λ (t : Text). CallText one t) text first.called) second.called,
       number_one default_blocks 1 65536 _ blocks blocks2 first.blocks_given second.blocks_given,
       number_one default_polls 1 18446744073709551615 _ polls polls2 first.polls_given second.polls_given,
     )
@@ -90,23 +86,44 @@ header_apart words other no_check no_show no_make asks (inl check) = not_both wo
 header_apart words other no_check no_show no_make asks (inr (inl show)) = not_both words other (word.Named PfhShow) no_show asks show
 header_apart words other no_check no_show no_make asks (inr (inr make)) = not_both words other word.PfhMake no_make asks make
 
+-- words that ask for something of a client are of no other command
+client_apart : (words : List Text) (other : CommandWord) → ((command : ClientCommand) → other ≡ word.Client command → ⊥) → AreOf other words → AsksClient words → ⊥
+client_apart words other differ asks (inl send) = not_both words other (word.Client client.Send) (differ client.Send) asks send
+client_apart words other differ asks (inr (inl fetch)) = not_both words other (word.Client client.Fetch) (differ client.Fetch) asks fetch
+client_apart words other differ asks (inr (inr list)) = not_both words other (word.Client client.List) (differ client.List) asks list
+
+-- nor for a header
+client_headers : (words : List Text) → AsksClient words → AsksHeader words → ⊥
+client_headers words client (inl check) = client_apart words (word.Named PfhCheck) (λ command same. cc) check client
+client_headers words client (inr (inl show)) = client_apart words (word.Named PfhShow) (λ command same. cc) show client
+client_headers words client (inr (inr make)) = client_apart words word.PfhMake (λ command same. cc) make client
+
 pub only_one : (words : List Text) → OnlyOne words
 only_one words = record {
   usage_unbuilt = λ usage unbuilt. usage (inl unbuilt);
   usage_session = λ usage session. usage (inr (inl session));
   usage_serve = λ usage serve. usage (inr (inr (inl serve)));
-  usage_frames = λ usage frames. usage (inr (inr (inr (inl frames))));
-  usage_header = λ usage header. usage (inr (inr (inr (inr header))));
+  usage_client = λ usage client. usage (inr (inr (inr (inl client))));
+  usage_frames = λ usage frames. usage (inr (inr (inr (inr (inl frames)))));
+  usage_header = λ usage header. usage (inr (inr (inr (inr (inr header)))));
   unbuilt_session = λ unbuilt session. not_both words word.Unbuilt word.Session (λ same. cc) unbuilt session;
   unbuilt_serve = λ unbuilt serve. not_both words word.Unbuilt word.Serve (λ same. cc) unbuilt serve;
+  unbuilt_client = λ unbuilt client. client_apart words word.Unbuilt (λ command same. cc) unbuilt client;
   unbuilt_frames = λ unbuilt frames. not_both words word.Unbuilt (word.Named Frames) (λ same. cc) unbuilt frames;
   unbuilt_header = λ unbuilt header. header_apart words word.Unbuilt (λ same. cc) (λ same. cc) (λ same. cc) unbuilt header;
   session_serve = λ session serve. not_both words word.Session word.Serve (λ same. cc) session serve;
+  session_client = λ session client. client_apart words word.Session (λ command same. cc) session client;
   session_frames = λ session frames. not_both words word.Session (word.Named Frames) (λ same. cc) session frames;
   session_header = λ session header. header_apart words word.Session (λ same. cc) (λ same. cc) (λ same. cc) session header;
+  serve_client = λ serve client. client_apart words word.Serve (λ command same. cc) serve client;
   serve_frames = λ serve frames. not_both words word.Serve (word.Named Frames) (λ same. cc) serve frames;
   serve_header = λ serve header. header_apart words word.Serve (λ same. cc) (λ same. cc) (λ same. cc) serve header;
+  client_frames = λ client frames. client_apart words (word.Named Frames) (λ command same. cc) frames client;
+  client_header = λ client header. client_headers words client header;
   frames_header = λ frames header. header_apart words (word.Named Frames) (λ same. cc) (λ same. cc) (λ same. cc) frames header;
+  send_fetch = λ send fetch. not_both words (word.Client client.Send) (word.Client client.Fetch) (λ same. cc) send fetch;
+  send_list = λ send list. not_both words (word.Client client.Send) (word.Client client.List) (λ same. cc) send list;
+  fetch_list = λ fetch list. not_both words (word.Client client.Fetch) (word.Client client.List) (λ same. cc) fetch list;
   check_show = λ name other check show. not_both words (word.Named PfhCheck) (word.Named PfhShow) (λ same. cc) (name, check) (other, show);
   check_make = λ name body kept spec check make. not_both words (word.Named PfhCheck) word.PfhMake (λ same. cc) (name, check) (body, kept, spec, make);
   show_make = λ name body kept spec show make. not_both words (word.Named PfhShow) word.PfhMake (λ same. cc) (name, show) (body, kept, spec, make);
@@ -148,6 +165,9 @@ pub determined : (words : List Text) → Determined words
 determined words = record {
   session = λ asked other one two. session_same asked other one two;
   serve = λ asked other one two. serve_same asked other one two;
+  send = λ terms other name another one two. let (disk, (others, first, second)) = air_same one two in send_same first second;
+  fetch = λ terms other number more name another one two. let (disk, (others, first, second)) = air_same one two in fetch_same first second;
+  list = λ terms other tokens more one two. let (disk, (others, first, second)) = air_same one two in list_same first second;
   frames = λ name other one two. named_same (codes "frames") words name other one two;
   check = λ name other one two. named_same (codes "pfh-check") words name other one two;
   show = λ name other one two. named_same (codes "pfh-show") words name other one two;
@@ -157,7 +177,7 @@ determined words = record {
 -- ---- some meaning
 
 abbrev Meant : List Text → Type 0
-Meant words = IsUsage words ⊎ (IsUnbuilt words ⊎ (AsksSession words ⊎ (AsksServe words ⊎ (AsksFrames words ⊎ AsksHeader words))))
+Meant words = IsUsage words ⊎ (IsUnbuilt words ⊎ (AsksSession words ⊎ (AsksServe words ⊎ (AsksClient words ⊎ (AsksFrames words ⊎ AsksHeader words)))))
 
 -- too few words
 few : (words : List Text) → length words ≤ 2 → IsUsage words
@@ -177,14 +197,6 @@ session_meant disk air others = elim (session_decided others) [
   ]
 ]
 
--- DISK names a file
-file_decided : (disk : Text) → Decided (IsDiskOf disk Named)
-file_decided disk = decide (disk_of disk)
-  where
-    decide : (which : DiskWord) × IsDiskOf disk which → Decided (IsDiskOf disk Named)
-    decide (Fresh, none) = inr (λ named. named none)
-    decide (Named, named) = inl named
-
 serve_meant : (disk air : Text) (others : List Text) → Meant (disk ∷ air ∷ codes "serve" ∷ others)
 serve_meant disk air others = elim (serve_decided others) [
   | inr none ↦ inl (serve_usage refl (λ (asked, asks). none (asked.me, asked.k, asked.blocks, asked.polls, air_text asks)))
@@ -195,6 +207,18 @@ serve_meant disk air others = elim (serve_decided others) [
       | inl named ↦ inr (inr (inr (inl (record { me = me; k = k; blocks = blocks; polls = polls }, air_from disk air others named form text))))
     ]
   ]
+]
+
+by_asks : {words : List Text} (command : ClientCommand) → AsksBy command words → AsksClient words
+by_asks client.Send asks = inl asks
+by_asks client.Fetch asks = inr (inl asks)
+by_asks client.List asks = inr (inr asks)
+
+-- words of a client's command
+client_meant : (command : ClientCommand) (disk air : Text) (others : List Text) → Meant (disk ∷ air ∷ client_word command ∷ others)
+client_meant command disk air others = elim (by_decided command disk air others) [
+  | inl asks ↦ inr (inr (inr (inr (inl (by_asks command asks)))))
+  | inr none ↦ inl (client_usage command refl none)
 ]
 
 -- AIR has one of its forms
@@ -223,18 +247,56 @@ named_meant command disk air others asked = elim (name_decided others) [
 ]
 
 command_meant : (command : NameCommand) (disk air : Text) (others : List Text) → Meant (disk ∷ air ∷ word_of command ∷ others)
-command_meant Frames disk air others = named_meant Frames disk air others (λ name asks. inr (inr (inr (inr (inl (name, asks))))))
-command_meant PfhCheck disk air others = named_meant PfhCheck disk air others (λ name asks. inr (inr (inr (inr (inr (inl (name, asks)))))))
-command_meant PfhShow disk air others = named_meant PfhShow disk air others (λ name asks. inr (inr (inr (inr (inr (inr (inl (name, asks))))))))
+command_meant Frames disk air others = named_meant Frames disk air others (λ name asks. inr (inr (inr (inr (inr (inl (name, asks)))))))
+command_meant PfhCheck disk air others = named_meant PfhCheck disk air others (λ name asks. inr (inr (inr (inr (inr (inr (inl (name, asks))))))))
+command_meant PfhShow disk air others = named_meant PfhShow disk air others (λ name asks. inr (inr (inr (inr (inr (inr (inr (inl (name, asks)))))))))
 
 make_meant : (disk air : Text) (others : List Text) → Meant (disk ∷ air ∷ codes "pfh-make" ∷ others)
 make_meant disk air others = elim (make_decided others) [
   | inr none ↦ inl (make_usage refl (λ body kept spec asks. none (body, kept, spec, (neither_text asks).0)))
   | inl (body, kept, spec, text) ↦ elim (form_decided air) [
-    | inl is ↦ inr (inr (inr (inr (inr (inr (inr (body, kept, spec, neither_from disk air others is text)))))))
+    | inl is ↦ inr (inr (inr (inr (inr (inr (inr (inr (body, kept, spec, neither_from disk air others is text))))))))
     | inr none ↦ inl (make_usage refl (λ b k other asks. none (neither_text asks).1))
   ]
 ]
+
+-- a word names a client's command or none
+client_word_decided : (c : Text) → Decided ((command : ClientCommand) × (c ≡ client_word command))
+client_word_decided c = elim (cases_Bool (bytes_eq c (codes "send"))) [
+  | inl is ↦ inl (client.Send, text_same c (codes "send") is)
+  | inr no_send ↦ elim (cases_Bool (bytes_eq c (codes "fetch"))) [
+    | inl is ↦ inl (client.Fetch, text_same c (codes "fetch") is)
+    | inr no_fetch ↦ elim (cases_Bool (bytes_eq c (codes "list"))) [
+      | inl is ↦ inl (client.List, text_same c (codes "list") is)
+      | inr no_list ↦ inr (λ (command, is). none command is no_send no_fetch no_list)
+    ]
+  ]
+]
+  where
+    none : (command : ClientCommand) → c ≡ client_word command → bytes_eq c (codes "send") ≡ false → bytes_eq c (codes "fetch") ≡ false
+        → bytes_eq c (codes "list") ≡ false → ⊥
+    none client.Send is no_send no_fetch no_list = true≢false (sym (text_eq c (codes "send") is) ∙ no_send)
+    none client.Fetch is no_send no_fetch no_list = true≢false (sym (text_eq c (codes "fetch") is) ∙ no_fetch)
+    none client.List is no_send no_fetch no_list = true≢false (sym (text_eq c (codes "list") is) ∙ no_list)
+
+-- or one with a name, or none
+name_word_decided : (c : Text) → Decided ((command : NameCommand) × (c ≡ word_of command))
+name_word_decided c = elim (cases_Bool (bytes_eq c (codes "frames"))) [
+  | inl is ↦ inl (Frames, text_same c (codes "frames") is)
+  | inr no_frames ↦ elim (cases_Bool (bytes_eq c (codes "pfh-check"))) [
+    | inl is ↦ inl (PfhCheck, text_same c (codes "pfh-check") is)
+    | inr no_check ↦ elim (cases_Bool (bytes_eq c (codes "pfh-show"))) [
+      | inl is ↦ inl (PfhShow, text_same c (codes "pfh-show") is)
+      | inr no_show ↦ inr (λ (command, is). none command is no_frames no_check no_show)
+    ]
+  ]
+]
+  where
+    none : (command : NameCommand) → c ≡ word_of command → bytes_eq c (codes "frames") ≡ false → bytes_eq c (codes "pfh-check") ≡ false
+        → bytes_eq c (codes "pfh-show") ≡ false → ⊥
+    none Frames is no_frames no_check no_show = true≢false (sym (text_eq c (codes "frames") is) ∙ no_frames)
+    none PfhCheck is no_frames no_check no_show = true≢false (sym (text_eq c (codes "pfh-check") is) ∙ no_check)
+    none PfhShow is no_frames no_check no_show = true≢false (sym (text_eq c (codes "pfh-show") is) ∙ no_show)
 
 -- each word names a command or none
 command_decided : (c : Text) → Decided ((command : CommandWord) × IsCommandOf c command)
@@ -244,28 +306,34 @@ command_decided c = elim (cases_Bool (is_name unbuilt_commands c)) [
     | inl is ↦ inl (word.Session, text_same c (codes "session") is)
     | inr no_session ↦ elim (cases_Bool (bytes_eq c (codes "serve"))) [
       | inl is ↦ inl (word.Serve, text_same c (codes "serve") is)
-      | inr no_serve ↦ elim (cases_Bool (bytes_eq c (codes "frames"))) [
-        | inl is ↦ inl (word.Named Frames, text_same c (codes "frames") is)
-        | inr no_frames ↦ elim (cases_Bool (bytes_eq c (codes "pfh-check"))) [
-          | inl is ↦ inl (word.Named PfhCheck, text_same c (codes "pfh-check") is)
-          | inr no_check ↦ elim (cases_Bool (bytes_eq c (codes "pfh-show"))) [
-            | inl is ↦ inl (word.Named PfhShow, text_same c (codes "pfh-show") is)
-            | inr no_show ↦ elim (cases_Bool (bytes_eq c (codes "pfh-make"))) [
-              | inl is ↦ inl (word.PfhMake, text_same c (codes "pfh-make") is)
-              | inr no_make ↦
-                  let none : named_by c ≡ None = rw (no_other, no_session, no_serve, no_frames, no_check, no_show, no_make) refl in
-                  inr (λ (command, is). let no : Some command ≡ None = sym (names c command is) ∙ none in absurd cc)
-            ]
+      | inr no_serve ↦ elim (cases_Bool (bytes_eq c (codes "pfh-make"))) [
+        | inl is ↦ inl (word.PfhMake, text_same c (codes "pfh-make") is)
+        | inr no_make ↦ elim (client_word_decided c) [
+          | inl (command, is) ↦ inl (word.Client command, is)
+          | inr no_client ↦ elim (name_word_decided c) [
+            | inl (command, is) ↦ inl (word.Named command, is)
+            | inr no_name ↦ inr (λ (command, is). none command is no_other no_session no_serve no_make no_client no_name)
           ]
         ]
       ]
     ]
   ]
 ]
+  where
+    none : (command : CommandWord) → IsCommandOf c command → is_name unbuilt_commands c ≡ false → bytes_eq c (codes "session") ≡ false
+        → bytes_eq c (codes "serve") ≡ false → bytes_eq c (codes "pfh-make") ≡ false → ((command : ClientCommand) × (c ≡ client_word command) → ⊥)
+        → ((command : NameCommand) × (c ≡ word_of command) → ⊥) → ⊥
+    none word.Session is no_other no_session no_serve no_make no_client no_name = true≢false (sym (text_eq c (codes "session") is) ∙ no_session)
+    none word.Serve is no_other no_session no_serve no_make no_client no_name = true≢false (sym (text_eq c (codes "serve") is) ∙ no_serve)
+    none (word.Client command) is no_other no_session no_serve no_make no_client no_name = no_client (command, is)
+    none (word.Named command) is no_other no_session no_serve no_make no_client no_name = no_name (command, is)
+    none word.PfhMake is no_other no_session no_serve no_make no_client no_name = true≢false (sym (text_eq c (codes "pfh-make") is) ∙ no_make)
+    none word.Unbuilt is no_other no_session no_serve no_make no_client no_name = true≢false (sym (is_name-from unbuilt_commands c is) ∙ no_other)
 
 meant_by : (d a c : Text) (others : List Text) (command : CommandWord) → IsCommandOf c command → Meant (d ∷ a ∷ c ∷ others)
 meant_by d a c others word.Session is = subst (λ (t : Text). Meant (d ∷ a ∷ t ∷ others)) (sym is) (session_meant d a others)
 meant_by d a c others word.Serve is = subst (λ (t : Text). Meant (d ∷ a ∷ t ∷ others)) (sym is) (serve_meant d a others)
+meant_by d a c others (word.Client command) is = subst (λ (t : Text). Meant (d ∷ a ∷ t ∷ others)) (sym is) (client_meant command d a others)
 meant_by d a c others (word.Named command) is = subst (λ (t : Text). Meant (d ∷ a ∷ t ∷ others)) (sym is) (command_meant command d a others)
 meant_by d a c others word.PfhMake is = subst (λ (t : Text). Meant (d ∷ a ∷ t ∷ others)) (sym is) (make_meant d a others)
 meant_by d a c others word.Unbuilt is = inr (inl (record { disk = d; air = a; command = c; others = others; written = refl; unbuilt = is }))

@@ -1,6 +1,6 @@
 -- What is read of the words are the places and the values of a line.
-use Rattle.std.proofs.Common.{◌≡◌, ◌≤◌, ◌⊎◌, ℕ, Bool, true, false, not, ◌&&◌, List, [], ◌∷◌, ◌++◌, length, map, Option, None, Some, unwrap_or, refl, sym, ap, ap₂, ◌∙◌, subst, arith, inl, inr, true≢false, string_bytes}
-use Rattle.std.specs.Prelude.{flat_map, slice_get}
+use Rattle.std.proofs.Common.{◌≡◌, ◌≤◌, ℕ, zero, suc, Bool, true, false, not, List, [], ◌∷◌, ◌++◌, length, map, Option, None, Some, unwrap_or, refl, sym, ap, ap₂, ◌∙◌, subst, arith, inl, inr, true≢false, string_bytes}
+use Rattle.std.specs.Prelude.{Contains, flat_map, slice_get}
 use Rattle.std.specs.List.{AllByRecursion, list_all}
 use Rattle.std.specs.Str.{bytes_eq, chars, IsUtf8}
 use Rattle.std.specs.declared.string.String.{String}
@@ -8,10 +8,10 @@ use Rattle.std.proofs.lemmas.Bool.{and_parts, cases_Bool, not-true, or_parts, or
 use Rattle.std.proofs.lemmas.Str.{IsCharBoundary-after_ascii, IsUtf8-drop, IsUtf8-string_bytes, encodes-chars}
 use Rattle.clap.specs.Lexer.{has_byte}
 use Rattle.command_words.specs.Grammar.{IsPart, Line, Part, joined, line_places, line_value, place, place_in, spaced, value_in, values_of}
-use Rattle.command_words.specs.Lines.{are_places, is_option_name}
+use Rattle.command_words.specs.Lines.{are_apart, are_places, is_option_name}
 use Rattle.command_words.proofs.Uses.{Text, Uses, add, add_all, add_all-is, add_all-single, add_all-some, has, has-none, has-values, text_eq, text_same, value_of, values}
 use Rattle.command_words.proofs.Machine.{add_places, is_good, is_name, is_name-from, run, run-read, run-written, uses_after, written_by}
-use Rattle.command_words.proofs.Rules.{AreApart, name_other}
+use Rattle.command_words.proofs.Rules.{AreApart, name_other, place_other}
 use Rattle.command_words.proofs.ClapWalk.{IsFine}
 
 -- ---- texts
@@ -52,24 +52,9 @@ apart_names ((y ∷ name) ∷ names) ids e x known =
       | inr is ↦ let more : is_name names x ≡ true = rw is at known in apart_names names ids parts.1 x more
     ]
 
--- no two of these names are one
-abbrev pub is_distinct : List Text → Bool
-is_distinct [] = true
-is_distinct (id ∷ ids) = not (is_name ids id) && is_distinct ids
-
-pub distinct_places : (ids : List Text) → are_places ids ≡ true → is_distinct ids ≡ true
-distinct_places [] e = refl
-distinct_places (a ∷ []) e = refl
-distinct_places (a ∷ b ∷ []) e =
-    let other : bytes_eq b a ≡ false = apart_of a b (not-true (bytes_eq a b) e) in
-    rw other refl
-  where
-    apart_of : (x y : Text) → bytes_eq x y ≡ false → bytes_eq y x ≡ false
-    apart_of x y differ = elim (cases_Bool (bytes_eq y x)) [
-      | inl is ↦ absurd (true≢false (sym (text_eq x y (sym (text_same y x is))) ∙ differ))
-      | inr is ↦ is
-    ]
-distinct_places (a ∷ b ∷ c ∷ ids) e = absurd (true≢false (sym e))
+-- places are of different names
+pub apart_places : (ids : List Text) → are_places ids ≡ true → are_apart ids ≡ true
+apart_places ids placed = (and_parts _ (are_apart ids) placed).1
 
 -- ---- the uses of parts
 
@@ -154,18 +139,12 @@ values-place names left (joined name value ∷ parts) end x none each =
 
 -- ---- places of different names
 
-distinct_other : (left : List Text) (id x : Text) → is_name left id ≡ false → is_name left x ≡ true → bytes_eq id x ≡ false
-distinct_other left id x none known = elim (cases_Bool (bytes_eq id x)) [
-  | inl is ↦ absurd (true≢false (sym (subst (λ (y : Text). is_name left y ≡ true) (sym (text_same id x is)) known) ∙ none))
-  | inr is ↦ is
-]
-
 -- each has at most one value,
-named_single : (left words : List Text) (x : Text) → is_distinct left ≡ true → length (values x (named left words)) ≤ 1
+named_single : (left words : List Text) (x : Text) → are_apart left ≡ true → length (values x (named left words)) ≤ 1
 named_single left [] x apart = omega arith
 named_single [] (word ∷ words) x apart = omega arith
 named_single (id ∷ left) (word ∷ words) x apart =
-    let parts = and_parts (not (is_name left id)) (is_distinct left) apart in
+    let parts = and_parts (not (is_name left id)) (are_apart left) apart in
     let fresh = not-true (is_name left id) parts.0 in
     elim (cases_Bool (bytes_eq id x)) [
       | inl is ↦
@@ -187,31 +166,31 @@ named_given (id ∷ left) (word ∷ words) x fit known = elim (cases_Bool (bytes
 ]
 
 -- and only then,
-named_all : (left words : List Text) → is_distinct left ≡ true → ((x : Text) → is_name left x ≡ true → 1 ≤ length (values x (named left words)))
+named_all : (left words : List Text) → are_apart left ≡ true → ((x : Text) → is_name left x ≡ true → 1 ≤ length (values x (named left words)))
     → length left ≤ length words
 named_all [] words apart given = omega arith
 named_all (id ∷ left) [] apart given =
     let one : 1 ≤ 0 = given id (rw (text_eq id id refl) refl) in
     absurd (omega arith)
 named_all (id ∷ left) (word ∷ words) apart given =
-    let parts = and_parts (not (is_name left id)) (is_distinct left) apart in
+    let parts = and_parts (not (is_name left id)) (are_apart left) apart in
     let rest : length left ≤ length words = named_all left words parts.1 (λ x known.
-    let other = distinct_other left id x (not-true (is_name left id) parts.0) known in
+    let other = place_other left id x (not-true (is_name left id) parts.0) known in
     let one : 1 ≤ length (values x ((id, word) ∷ named left words)) = given x (rw (other, known) refl) in
     rw other at one) in
     omega arith
 
 -- and that is the word.
-named_first : (f : Text → Option Text) (left words : List Text) → is_distinct left ≡ true → length words ≡ length left
+named_first : (f : Text → Option Text) (left words : List Text) → are_apart left ≡ true → length words ≡ length left
     → ((x : Text) → is_name left x ≡ true → f x ≡ slice_get (values x (named left words)) 0) → map f left ≡ map (λ text. Some text) words
 named_first f [] [] apart same given = refl
 named_first f [] (word ∷ words) apart same given = absurd (omega arith)
 named_first f (id ∷ left) [] apart same given = absurd (omega arith)
 named_first f (id ∷ left) (word ∷ words) apart same given =
-    let parts = and_parts (not (is_name left id)) (is_distinct left) apart in
+    let parts = and_parts (not (is_name left id)) (are_apart left) apart in
     let first : f id ≡ Some word = given id (rw (text_eq id id refl) refl) ∙ rw (text_eq id id refl) refl in
     let rest = named_first f left words parts.1 (omega arith) (λ x known.
-    let other = distinct_other left id x (not-true (is_name left id) parts.0) known in
+    let other = place_other left id x (not-true (is_name left id) parts.0) known in
     let one : f x ≡ slice_get (values x ((id, word) ∷ named left words)) 0 = given x (rw (other, known) refl) in
     rw other at one) in
     ap₂ (λ (o : Option Text) (os : List (Option Text)). o ∷ os) first rest
@@ -237,26 +216,35 @@ some_texts (text ∷ texts) (other ∷ others) e =
     let rest : map (λ t. Some t) texts ≡ map (λ t. Some t) others = cc in
     ap₂ (λ (t : Text) (ts : List Text). t ∷ ts) first (some_texts texts others rest)
 
--- a place that is found is the only one
-pub one_found : (first : Option Text) (places : List Text) (got : Text) → first ∷ [] ≡ map (λ text. Some text) places → Some got ≡ first → places ≡ got ∷ []
-one_found first places got e f = some_texts places (got ∷ []) (sym e ∙ ap (λ (o : Option Text). o ∷ []) (sym f))
+-- these texts are found of places
+abbrev pub AreFound : List (Option Text) → List Text → Type 0
+AreFound [] [] = Unit
+AreFound [] (text ∷ texts) = ⊥
+AreFound (first ∷ firsts) [] = ⊥
+AreFound (first ∷ firsts) (text ∷ texts) = (Some text ≡ first) × AreFound firsts texts
 
--- and one of them is found
-pub none_found : (first : Option Text) (places : List Text) → first ∷ [] ≡ map (λ text. Some text) places → None ≡ first → ⊥
-none_found first [] e f = absurd cc
-none_found first (text ∷ texts) e f = let some : first ≡ Some text = cc in let no : None ≡ Some text = f ∙ some in absurd cc
+found_texts : (firsts : List (Option Text)) (texts : List Text) → AreFound firsts texts → firsts ≡ map (λ text. Some text) texts
+found_texts [] [] found = refl
+found_texts [] (text ∷ texts) found = absurd found
+found_texts (first ∷ firsts) [] found = absurd found
+found_texts (first ∷ firsts) (text ∷ texts) found =
+    ap₂ (λ (o : Option Text) (os : List (Option Text)). o ∷ os) (sym found.0) (found_texts firsts texts found.1)
 
--- the same of two places
-pub two_found : (first second : Option Text) (places : List Text) (one other : Text) → first ∷ second ∷ [] ≡ map (λ text. Some text) places
-    → Some one ≡ first → Some other ≡ second → places ≡ one ∷ other ∷ []
-two_found first second places one other e f g =
-    some_texts places (one ∷ other ∷ []) (sym e ∙ ap₂ (λ (a b : Option Text). a ∷ b ∷ []) (sym f) (sym g))
+-- places that are found are all of them
+pub all_found : (firsts : List (Option Text)) (places texts : List Text) → firsts ≡ map (λ text. Some text) places → AreFound firsts texts → places ≡ texts
+all_found firsts places texts e found = some_texts places texts (sym e ∙ found_texts firsts texts found)
 
-pub none_of_two : (first second : Option Text) (places : List Text) → first ∷ second ∷ [] ≡ map (λ text. Some text) places → (None ≡ first) ⊎ (None ≡ second) → ⊥
-none_of_two first second [] e f = absurd cc
-none_of_two first second (text ∷ []) e f = absurd cc
-none_of_two first second (text ∷ other ∷ texts) e (inl f) = let some : first ≡ Some text = cc in let no : None ≡ Some text = f ∙ some in absurd cc
-none_of_two first second (text ∷ other ∷ texts) e (inr f) = let some : second ≡ Some other = cc in let no : None ≡ Some other = f ∙ some in absurd cc
+-- and none of them is missing
+pub none_missing : (firsts : List (Option Text)) (places : List Text) → firsts ≡ map (λ text. Some text) places → Contains firsts None → ⊥
+none_missing [] places e (k, inside, missing) = omega (arith, inside)
+none_missing (first ∷ firsts) [] e missing = absurd cc
+none_missing (first ∷ firsts) (text ∷ texts) e (zero, inside, missing) =
+    let some : first ≡ Some text = cc in
+    let no : Some text ≡ None = sym some ∙ missing in
+    absurd cc
+none_missing (first ∷ firsts) (text ∷ texts) e (suc k, inside, missing) =
+    let rest : firsts ≡ map (λ t. Some t) texts = cc in
+    none_missing firsts texts rest (k, omega (arith, inside), missing)
 
 -- ---- lines
 
@@ -284,7 +272,7 @@ values-has x uses some = elim (cases_Bool (has x uses)) [
   | inr none ↦ let empty = has-none x uses none in absurd (omega (arith, ap (λ (texts : List Text). length texts) empty))
 ]
 
-module _ (names ids : List Text) (apart : AreApart names ids) (distinct : is_distinct ids ≡ true) where
+module _ (names ids : List Text) (apart : AreApart names ids) (distinct : are_apart ids ≡ true) where
   -- no place is an option
   no_option : (x : Text) → is_name ids x ≡ true → is_name names x ≡ false
   no_option x known = elim (cases_Bool (is_name names x)) [

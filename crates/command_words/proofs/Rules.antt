@@ -1,7 +1,7 @@
 -- The rules of a command with options and places, as `clap` keeps them when it has built the command, and one use of them.
-use Rattle.std.proofs.Common.{◌≡◌, ◌+◌, ◌&&◌, ◌||◌, ℕ, min, Bool, true, false, cond, not, List, [], ◌∷◌, ◌++◌, map, None, Some, refl, sym, ap, ◌∙◌, subst, inl, inr, true≢false, append-nil}
+use Rattle.std.proofs.Common.{◌≡◌, ◌+◌, ◌<◌, ◌≤◌, ◌&&◌, ◌||◌, ℕ, min, nat_lt, Bool, true, false, cond, not, List, [], ◌∷◌, ◌++◌, length, map, None, Some, refl, sym, ap, ◌∙◌, subst, arith, eq-eqb, inl, inr, ne_eqb, true≢false, append-nil}
 use Rattle.std.specs.Str.{bytes_eq}
-use Rattle.std.proofs.lemmas.Bool.{cases_Bool, not-true, or_parts}
+use Rattle.std.proofs.lemmas.Bool.{and_parts, cases_Bool, ltb-true, not-true, or_parts, or_right}
 use Rattle.clap.specs.declared.builder.action.ArgAction.TheVariants.{Set}
 use Rattle.clap.specs.declared.builder.value_parser.ValueParser.TheVariants as vp
 use Rattle.clap.specs.declared.builder.value_parser.Reading.TheVariants as reading
@@ -13,7 +13,7 @@ use Rattle.clap.specs.Faults.{use_fault}
 use Rattle.clap.specs.Kinds.{or_else}
 use Rattle.clap.specs.Lexer.{usize_max}
 use Rattle.clap.specs.declared.error.kind.ErrorKind.TheVariants as kind
-use Rattle.command_words.specs.Lines.{are_places}
+use Rattle.command_words.specs.Lines.{are_apart, are_places}
 use Rattle.command_words.proofs.Uses.{Text, Use, Uses, has, text_eq, text_same}
 use Rattle.command_words.proofs.Machine.{is_name}
 
@@ -119,14 +119,35 @@ line_finds names ids apart = record {
   short = λ x. short_places 1 ids (map option_rule names) x ∙ short_none names x;
 }
 
--- one place, or two of different names
+-- a place that is none of the others is another one than each of them
+pub place_other : (left : List Text) (id x : Text) → is_name left id ≡ false → is_name left x ≡ true → bytes_eq id x ≡ false
+place_other left id x none known = elim (cases_Bool (bytes_eq id x)) [
+  | inl is ↦ absurd (true≢false (sym (subst (λ (y : Text). is_name left y ≡ true) (sym (text_same id x is)) known) ∙ none))
+  | inr is ↦ is
+]
+
+-- Where rules find these places, from this position on, as the places alone do, these come next.
+next_from : (rules : List Rule) (names ids : List Text) (position : ℕ) → position + length ids ≤ usize_max → are_apart ids ≡ true
+    → ((k : ℕ) → position ≤ k → arg_by_index rules k ≡ arg_by_index (places_from position ids ++ map option_rule names) k)
+    → ((x : Text) → is_name ids x ≡ true → arg_by_id rules x ≡ arg_by_id (places_from position ids ++ map option_rule names) x)
+    → AreNext rules position ids
+next_from rules names [] position fits apart by_index by_id = by_index position (omega arith) ∙ no_index names position
+next_from rules names (id ∷ ids) position fits apart by_index by_id =
+    let parts = and_parts (not (is_name ids id)) (are_apart ids) apart in
+    let next : next_at position ≡ position + 1 = omega arith in (
+      by_index position (omega arith) ∙ rw (eq-eqb position position refl) refl,
+      by_id id (rw (text_eq id id refl) refl) ∙ rw (text_eq id id refl) refl,
+      next_from rules names ids (next_at position) (omega (arith, next)) parts.1
+          (λ k past. by_index k (omega (arith, next, past)) ∙ rw (ne_eqb position k (λ same. omega (arith, next, past, same))) refl)
+          (λ x known. by_id x (rw (known, or_right (bytes_eq id x) true refl) refl) ∙ rw (place_other ids id x (not-true (is_name ids id) parts.0) known) refl),
+    )
+
+-- places of different names come one after another
 pub line_next : (names ids : List Text) → are_places ids ≡ true → AreNext (line_rules names ids) 1 ids
-line_next names [] e = absurd (true≢false (sym e))
-line_next names (a ∷ []) e = (refl, rw (text_eq a a refl) refl, no_index names (next_at 1))
-line_next names (a ∷ b ∷ []) e =
-    let other : bytes_eq a b ≡ false = not-true (bytes_eq a b) e in
-    (refl, rw (text_eq a a refl) refl, (refl, rw (other, text_eq b b refl) refl, no_index names (next_at (next_at 1))))
-line_next names (a ∷ b ∷ c ∷ ids) e = absurd (true≢false (sym e))
+line_next names ids placed =
+    let parts = and_parts (nat_lt (length ids) usize_max) (are_apart ids) placed in
+    let few : length ids < usize_max = ltb-true (length ids) usize_max parts.0 in
+    next_from (line_rules names ids) names ids 1 (omega (arith, few)) parts.1 (λ k past. refl) (λ x known. refl)
 
 -- ---- rows
 

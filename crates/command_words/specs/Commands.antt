@@ -1,10 +1,12 @@
 -- What the word COMMAND names.
 use Rattle.std.specs.Prelude.{◌≡◌, ℕ, List, Contains, codes}
+use Rattle.command_words.specs.declared.command.ClientCommand.{ClientCommand}
+use Rattle.command_words.specs.declared.command.ClientCommand.TheVariants as client
 use Rattle.command_words.specs.declared.command.CommandWord.{CommandWord}
 use Rattle.command_words.specs.declared.command.CommandWord.TheVariants as word
 use Rattle.command_words.specs.declared.command.NameCommand.{NameCommand}
 use Rattle.command_words.specs.declared.command.NameCommand.TheVariants.{Frames, PfhCheck, PfhShow}
-use Rattle.command_words.specs.Words.{unbuilt_commands}
+use Rattle.command_words.specs.Words.{AsksFetch, AsksList, AsksSend, unbuilt_commands}
 
 -- the word of a command whose one place is a name
 abbrev pub word_of : NameCommand → List ℕ
@@ -12,10 +14,23 @@ word_of Frames = codes "frames"
 word_of PfhCheck = codes "pfh-check"
 word_of PfhShow = codes "pfh-show"
 
+-- the word of a client's command
+abbrev pub client_word : ClientCommand → List ℕ
+client_word client.Send = codes "send"
+client_word client.Fetch = codes "fetch"
+client_word client.List = codes "list"
+
 -- the word names this
 abbrev pub IsCommandOf : List ℕ → CommandWord → Type 0
 IsCommandOf text word.Session = text ≡ codes "session"
 IsCommandOf text word.Serve = text ≡ codes "serve"
+IsCommandOf text (word.Client command) = text ≡ client_word command
 IsCommandOf text (word.Named command) = text ≡ word_of command
 IsCommandOf text word.PfhMake = text ≡ codes "pfh-make"
 IsCommandOf text word.Unbuilt = Contains unbuilt_commands text
+
+-- the words ask for what this client's command does
+abbrev pub AsksBy : ClientCommand → List (List ℕ) → Type 0
+AsksBy client.Send words = AsksSend words
+AsksBy client.Fetch words = AsksFetch words
+AsksBy client.List words = AsksList words

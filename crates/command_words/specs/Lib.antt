@@ -1,5 +1,6 @@
 pub mod Airs
 pub mod Asked
+pub mod Clients
 pub mod Commands
 pub mod Disks
 pub mod Grammar

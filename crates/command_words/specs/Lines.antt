@@ -1,5 +1,5 @@
 -- What `clap` is asked: the words from COMMAND on, as those of a command with options and places of some names.
-use Rattle.std.specs.Prelude.{◌≡◌, ℕ, List, [], ◌∷◌, ◌++◌, length, map, Option, Some, Contains, true, false, not, Bool, ◌&&◌, codes}
+use Rattle.std.specs.Prelude.{◌≡◌, ℕ, List, [], ◌∷◌, ◌++◌, length, map, Option, Some, Contains, true, false, not, nat_lt, Bool, ◌&&◌, codes}
 use Rattle.std.specs.List.{list_all, list_any}
 use Rattle.std.specs.Option.{option_copied}
 use Rattle.std.specs.Str.{bytes_eq}
@@ -9,6 +9,8 @@ use Rattle.clap.specs.Simple.{new_shape}
 use Rattle.clap.specs.declared.builder.action.ArgAction.TheVariants.{Set}
 use Rattle.clap.specs.declared.parser.matches.ArgMatches.{ArgMatches}
 use Rattle.command_words.specs.declared.line.MakeTexts.{MakeTexts}
+use Rattle.command_words.specs.declared.terms.Terms.{Terms}
+use Rattle.command_words.specs.Clients.{ClientTerms, client_options}
 use Rattle.command_words.specs.Grammar.{Line, line_places, line_value}
 use Rattle.command_words.specs.Making.{MakeOptions, make_options, options_given}
 use Rattle.command_words.specs.Words.{serve_options, session_options}
@@ -45,6 +47,14 @@ session_app = command_of (codes "session") (codes "caller" ∷ []) session_optio
 abbrev pub serve_app : App
 serve_app = command_of (codes "serve") (codes "me" ∷ []) serve_options
 
+-- the places of `send` and `list`
+abbrev pub client_places : List (List ℕ)
+client_places = codes "server" ∷ codes "me" ∷ codes "subject" ∷ []
+
+-- the places of `fetch`
+abbrev pub fetch_places : List (List ℕ)
+fetch_places = codes "server" ∷ codes "me" ∷ codes "number" ∷ codes "name" ∷ []
+
 -- the command `pfh-make`
 abbrev pub make_app : App
 make_app = command_of (codes "pfh-make") (codes "body" ∷ codes "kept" ∷ []) make_options
@@ -54,11 +64,18 @@ abbrev pub is_option_name : List (List ℕ) → List ℕ → Bool
 is_option_name places [] = false
 is_option_name places (x ∷ name) = not (has_byte 61 (x ∷ name)) && not (list_any (λ place. bytes_eq place (x ∷ name)) places)
 
--- one place, or two of different names
+-- this is the name of one of these places
+abbrev pub is_place : List (List ℕ) → List ℕ → Bool
+is_place places name = list_any (λ place. bytes_eq place name) places
+
+-- places of different names
+abbrev pub are_apart : List (List ℕ) → Bool
+are_apart [] = true
+are_apart (place ∷ places) = not (is_place places place) && are_apart places
+
+-- and fewer than can be counted
 abbrev pub are_places : List (List ℕ) → Bool
-are_places (a ∷ []) = true
-are_places (a ∷ b ∷ []) = not (bytes_eq a b)
-are_places places = false
+are_places places = nat_lt (length places) 18446744073709551615 && are_apart places
 
 -- the command is one with these places and options
 pub record IsLine (app : App) (places names : List (List ℕ)) : Type 0 where
@@ -96,6 +113,25 @@ pub record ServeLine (words : List (List ℕ)) (me : List ℕ) (k blocks polls :
   pub k_given : line_value line (codes "k") ≡ k
   pub blocks_given : line_value line (codes "blocks") ≡ blocks
   pub polls_given : line_value line (codes "polls") ≡ polls
+
+-- a client's command of this name, with one place behind SERVER and ME
+abbrev pub client_app : List ℕ → App
+client_app command = command_of command client_places client_options
+
+-- the command `fetch`
+abbrev pub fetch_app : App
+fetch_app = command_of (codes "fetch") fetch_places client_options
+
+-- The words after a client's command give these places, and these values of the options.
+pub record ClientLine (count : ℕ) (words places : List (List ℕ)) (k polls : Option (List ℕ)) : Type 0 where
+  pub line : Line client_options words count
+  pub places_are : line_places line ≡ places
+  pub k_given : line_value line (codes "k") ≡ k
+  pub polls_given : line_value line (codes "polls") ≡ polls
+
+-- the terms of a client that were read
+abbrev pub terms_read : Terms → ClientTerms
+terms_read terms = record { server = terms.server; me = terms.me; k = terms.k; polls = terms.polls }
 
 -- the values of the options of `pfh-make` that were read
 abbrev pub options_read : MakeTexts → MakeOptions

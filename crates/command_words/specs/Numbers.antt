@@ -29,3 +29,15 @@ GivesNumber low high value (Some number) = (text : List ℕ) × (value ≡ Some 
 abbrev pub IsNumberOr : ℕ → ℕ → ℕ → Option (List ℕ) → ℕ → Type 0
 IsNumberOr otherwise low high None number = number ≡ otherwise
 IsNumberOr otherwise low high (Some text) number = NumberText low high text number
+
+-- how many I frames of a link may be outstanding, where the words don't say (k of AX.25 2.0, 2.4.7.4)
+abbrev pub default_k : ℕ
+default_k = 4
+
+-- how many blocks of 512 octets a store has, where the words don't say
+abbrev pub default_blocks : ℕ
+default_blocks = 65536
+
+-- how many polls a run makes at most, where the words don't say
+abbrev pub default_polls : ℕ
+default_polls = 1000000000000

@@ -7,19 +7,21 @@ use Rattle.command_words.specs.declared.disk.DiskWord.{DiskWord}
 use Rattle.command_words.specs.declared.disk.DiskWord.TheVariants.{Named}
 use Rattle.command_words.specs.declared.request.SessionRequest.{SessionRequest}
 use Rattle.command_words.specs.declared.serve.ServeRequest.{ServeRequest}
+use Rattle.command_words.specs.Clients.{ClientTerms, FetchText, ListText, SendText}
 use Rattle.command_words.specs.Disks.{IsDiskOf}
 use Rattle.command_words.specs.Grammar.{Line, line_places, line_value}
 use Rattle.command_words.specs.Making.{MakeText}
-use Rattle.command_words.specs.Numbers.{GivesNumber, IsNumberOr, NumberText}
+use Rattle.command_words.specs.Numbers.{GivesNumber, IsNumberOr, NumberText, default_blocks, default_k, default_polls}
 
 -- the commands that aren't built yet
 abbrev pub unbuilt_commands : List (List ℕ)
-unbuilt_commands = codes "send" ∷ codes "fetch" ∷ codes "list" ∷ codes "rehearse" ∷ []
+unbuilt_commands = codes "rehearse" ∷ []
 
 -- the commands that are built
 abbrev pub built_commands : List (List ℕ)
 built_commands =
-    codes "session" ∷ codes "serve" ∷ codes "frames" ∷ codes "pfh-check" ∷ codes "pfh-show" ∷ codes "pfh-make" ∷ []
+    codes "session" ∷ codes "serve" ∷ codes "send" ∷ codes "fetch" ∷ codes "list" ∷ codes "frames" ∷ codes "pfh-check"
+    ∷ codes "pfh-show" ∷ codes "pfh-make" ∷ []
 
 -- Host and port: text without a colon, a colon, and the number of a port.
 pub record IsHostPort (air : List ℕ) : Type 0 where
@@ -42,18 +44,6 @@ session_options = codes "moment" ∷ codes "blocks" ∷ codes "polls" ∷ []
 -- the options of `serve`
 abbrev pub serve_options : List (List ℕ)
 serve_options = codes "k" ∷ codes "blocks" ∷ codes "polls" ∷ []
-
--- how many I frames of a link may be outstanding, where the words don't say (k of AX.25 2.0, 2.4.7.4)
-abbrev pub default_k : ℕ
-default_k = 4
-
--- how many blocks of 512 octets a store has, where the words don't say
-abbrev pub default_blocks : ℕ
-default_blocks = 65536
-
--- how many polls a run makes at most, where the words don't say
-abbrev pub default_polls : ℕ
-default_polls = 1000000000000
 
 -- The one place is a call, and the options give a number of blocks and one of polls.
 pub record CallGiven (places : List (List ℕ)) (value : List ℕ → Option (List ℕ)) (call : CallSign) (blocks polls : ℕ)
@@ -109,6 +99,34 @@ abbrev pub IsServe : List (List ℕ) → ServeRequest → Type 0
 IsServe words asked =
     NeedsAir (codes "serve") Named (λ others. ServeText others asked.me asked.k asked.blocks asked.polls) words
 
+-- the words are `DISK AIR send SERVER ME NAME` and options, where DISK isn't `none`
+abbrev pub IsSend : List (List ℕ) → ClientTerms → List ℕ → Type 0
+IsSend words terms name = NeedsAir (codes "send") Named (SendText terms name) words
+
+-- the words are `DISK AIR fetch SERVER ME NUMBER NAME` and options, where DISK isn't `none`
+abbrev pub IsFetch : List (List ℕ) → ClientTerms → ℕ → List ℕ → Type 0
+IsFetch words terms number name = NeedsAir (codes "fetch") Named (FetchText terms number name) words
+
+-- the words are `DISK AIR list SERVER ME HEX` and options, where DISK isn't `none`, and HEX is hexadecimal of these tokens
+abbrev pub IsList : List (List ℕ) → ClientTerms → List ℕ → Type 0
+IsList words terms tokens = NeedsAir (codes "list") Named (ListText terms tokens) words
+
+-- the words ask for a file to be sent
+abbrev pub AsksSend : List (List ℕ) → Type 0
+AsksSend words = (terms : ClientTerms) × (name : List ℕ) × IsSend words terms name
+
+-- the words ask for a file to be fetched
+abbrev pub AsksFetch : List (List ℕ) → Type 0
+AsksFetch words = (terms : ClientTerms) × (number : ℕ) × (name : List ℕ) × IsFetch words terms number name
+
+-- the words ask for a list
+abbrev pub AsksList : List (List ℕ) → Type 0
+AsksList words = (terms : ClientTerms) × (tokens : List ℕ) × IsList words terms tokens
+
+-- the words ask for one of these three
+abbrev pub AsksClient : List (List ℕ) → Type 0
+AsksClient words = AsksSend words ⊎ (AsksFetch words ⊎ AsksList words)
+
 -- The words are DISK, AIR, this command, which needs neither of them, and others of which this holds.
 pub record NeedsNeither (command : List ℕ) (P : List (List ℕ) → Type 0) (words : List (List ℕ)) : Type 0 where
   pub disk : List ℕ
@@ -163,7 +181,8 @@ abbrev pub InSet : List (List ℕ) → Type 0
 InSet words =
     IsUnbuilt words
     ⊎ (((asked : SessionRequest) × IsSession words asked)
-    ⊎ (((asked : ServeRequest) × IsServe words asked) ⊎ (((name : List ℕ) × IsFrames words name) ⊎ AsksHeader words)))
+    ⊎ (((asked : ServeRequest) × IsServe words asked)
+    ⊎ (AsksClient words ⊎ (((name : List ℕ) × IsFrames words name) ⊎ AsksHeader words))))
 
 -- the words aren't in the command set
 abbrev pub IsUsage : List (List ℕ) → Type 0

@@ -4,7 +4,7 @@ ghost use Rattle.std.specs.Prelude.{◌≡◌, ℕ, List, IfNone, IfSome};
 ghost use Rattle.std.specs.List.{list_any};
 ghost use Rattle.std.specs.Str.{bytes_eq};
 ghost use Rattle.command_words.specs.Asked.{AsksFor};
-ghost use Rattle.command_words.specs.Commands.{IsCommandOf, word_of};
+ghost use Rattle.command_words.specs.Commands.{IsCommandOf, client_word, word_of};
 ghost use Rattle.command_words.specs.Words.{IsNamed, unbuilt_commands};
 
 use crate::request::Request;
@@ -16,6 +16,8 @@ pub(crate) enum CommandWord {
     Session,
     /// The service of a station.
     Serve,
+    /// A command of a client.
+    Client(ClientCommand),
     /// A command whose one place is a name.
     Named(NameCommand),
     /// The making of a file.
@@ -35,6 +37,17 @@ pub(crate) enum NameCommand {
     PfhShow,
 }
 
+/// The commands of a client, which need a disk and an air.
+#[derive(Clone, Copy)]
+pub(crate) enum ClientCommand {
+    /// `send`.
+    Send,
+    /// `fetch`.
+    Fetch,
+    /// `list`.
+    List,
+}
+
 /// What this word COMMAND names.
 pub(crate) fn read_command(word: &str) -> Option<CommandWord>
     ensures some { IfSome result (λ command. IsCommandOf word.now command) }
@@ -45,6 +58,9 @@ pub(crate) fn read_command(word: &str) -> Option<CommandWord>
     }
     if word == "serve" {
         return Some(CommandWord::Serve);
+    }
+    if let Some(command) = read_client_command(word) {
+        return Some(CommandWord::Client(command));
     }
     if let Some(command) = read_name_command(word) {
         return Some(CommandWord::Named(command));
@@ -75,11 +91,28 @@ fn read_name_command(word: &str) -> Option<NameCommand>
     None
 }
 
+/// Which of a client's commands this is.
+fn read_client_command(word: &str) -> Option<ClientCommand>
+    ensures some { IfSome result (λ command. word.now ≡ client_word command) }
+    ensures none { IfNone result ((command : ClientCommand) → word.now ≡ client_word command → ⊥) }
+{
+    if word == "send" {
+        return Some(ClientCommand::Send);
+    }
+    if word == "fetch" {
+        return Some(ClientCommand::Fetch);
+    }
+    if word == "list" {
+        return Some(ClientCommand::List);
+    }
+    None
+}
+
 /// Whether this is one of the commands that aren't built yet.
 fn is_unbuilt(word: &str) -> bool
     ensures { result ≡ list_any (bytes_eq word.now) unbuilt_commands }
 {
-    word == "send" || word == "fetch" || word == "list" || word == "rehearse"
+    word == "rehearse"
 }
 
 impl NameCommand {

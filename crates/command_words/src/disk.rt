@@ -1,6 +1,10 @@
 //! The word DISK.
 
+ghost use Rattle.std.specs.Prelude.{◌≡◌, IsTrue, false};
 ghost use Rattle.command_words.specs.Disks.{IsDiskOf};
+ghost use Rattle.command_words.specs.Words.{IsAir};
+
+use crate::air::names_air;
 
 /// The disk that the word DISK names, on which a store lies.
 #[derive(Clone, Copy, Debug, PartialEq, Eq)]
@@ -19,5 +23,16 @@ pub(crate) fn read_disk(word: &str) -> DiskWord
         DiskWord::Fresh
     } else {
         DiskWord::Named
+    }
+}
+
+/// Whether DISK names a file and AIR an air, as a station needs them that is to outlast the run.
+pub(crate) fn is_station(disk: &str, air: &str) -> bool
+    ensures some { IsTrue result → IsDiskOf disk.now DiskWord.Named × IsAir air.now }
+    ensures none { result ≡ false → IsDiskOf disk.now DiskWord.Named → IsAir air.now → ⊥ }
+{
+    match read_disk(disk) {
+        DiskWord::Named => names_air(air),
+        DiskWord::Fresh => false,
     }
 }

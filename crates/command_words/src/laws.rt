@@ -4,7 +4,8 @@ ghost use Rattle.std.specs.Prelude.{ℕ, List};
 ghost use Rattle.command_words.specs.Laws.{Determined, HasMeaning, OnlyOne};
 
 /// Each list of words has exactly one meaning: it isn't in the command set, it asks for what isn't built yet, for one
-/// session, for one service, for the frames of one name, or for the check, the header or the making of one file.
+/// session, for one service, for a client to send one file, to fetch one or to ask for one list, for the frames of one
+/// name, or for the check, the header or the making of one file.
 pub fn one_meaning()
     ensures some { HasMeaning }
     ensures only_one { (words : List (List ℕ)) → OnlyOne words }

@@ -7,17 +7,22 @@
 #![tactic(auto)]
 
 mod air;
+mod client;
+mod client_line;
 mod command;
 mod disk;
+mod hex_text;
 pub mod laws;
 mod line;
 mod make;
 mod number;
 mod request;
 mod serve;
+mod terms;
 mod words;
 
 pub use air::{AirWord, read_air};
+pub use client::{ClientRequest, FetchRequest, ListRequest, SendRequest};
 pub use disk::DiskWord;
 pub use make::MakeRequest;
 pub use request::{BLOCKS, POLLS, Refusal, Request, SessionRequest, read};

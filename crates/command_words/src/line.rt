@@ -180,7 +180,7 @@ fn make_command<'a>(alloc: Global) -> Result<Command<'a>, AllocError>
 }
 
 /// A command with one place and no options yet.
-fn line_command<'a>(
+pub(crate) fn line_command<'a>(
     alloc: Global,
     name: &'a str,
     place_name: &'a str,
@@ -193,7 +193,7 @@ fn line_command<'a>(
 }
 
 /// The command with an option more of each of these names.
-fn with_options<'a>(
+pub(crate) fn with_options<'a>(
     alloc: Global,
     command: Command<'a>,
     names: &[&'a str],
@@ -220,7 +220,7 @@ fn with_option<'a>(
 }
 
 /// A place that has to be there.
-fn place<'a>(alloc: Global, name: &'a str) -> Arg<'a>
+pub(crate) fn place<'a>(alloc: Global, name: &'a str) -> Arg<'a>
     ensures rule { rule_of result ≡ place_of name.entry.now }
     ensures local { result.global ≡ false }
 {
@@ -228,7 +228,10 @@ fn place<'a>(alloc: Global, name: &'a str) -> Arg<'a>
 }
 
 /// Reads the words of a line, of which the first is the command itself. Takes memory.
-fn read_line<'a>(command: Command<'a>, line: &'a [String]) -> Result<ArgMatches<'a>, Refusal>
+pub(crate) fn read_line<'a>(
+    command: Command<'a>,
+    line: &'a [String],
+) -> Result<ArgMatches<'a>, Refusal>
     ensures found { IfOk result (FindsLine (app_of command.entry) (drop 1 (map string_bytes line.now))) }
     ensures usage { IsErrOf result Refusal.Usage →
         RefusesLine (app_of command.entry) (drop 1 (map string_bytes line.now)) }

@@ -9,6 +9,7 @@ ghost use Rattle.command_words.specs.Laws.{AsksSession};
 ghost use Rattle.command_words.specs.Words.{IsNamed, IsUnbuilt, IsUsage, NamesBuilt, SessionText};
 
 use crate::air::{names_air, read_air};
+use crate::client::{ClientRequest, client_request};
 use crate::command::{CommandWord, NameCommand, read_command};
 use crate::disk::{DiskWord, read_disk};
 use crate::line;
@@ -51,6 +52,8 @@ pub enum Request<'a> {
     Session(SessionRequest),
     /// The service of a station.
     Serve(ServeRequest),
+    /// Something of a client.
+    Client(ClientRequest<'a>),
     /// The frames in a file of the shelf.
     Frames {
         /// The file's name.
@@ -119,6 +122,9 @@ pub fn read(alloc: Global, words: &Words) -> Result<Request<'_>, Refusal>
     match read_command(command.as_str()) {
         Some(CommandWord::Session) => session_request(alloc, disk.as_str(), air.as_str(), line),
         Some(CommandWord::Serve) => serve_request(alloc, disk.as_str(), air.as_str(), line),
+        Some(CommandWord::Client(asked)) => {
+            client_request(alloc, asked, disk.as_str(), air.as_str(), line)
+        }
         Some(CommandWord::Named(named)) => name_request(alloc, named, air.as_str(), line),
         Some(CommandWord::PfhMake) => make_request(alloc, air.as_str(), line),
         Some(CommandWord::Unbuilt) => Err(Refusal::NotBuilt),

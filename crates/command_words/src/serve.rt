@@ -18,7 +18,7 @@ use std::alloc::Global;
 pub const K: u8 = 4;
 
 /// How many I frames of a link may be outstanding at most.
-const MOST_K: u64 = 7;
+pub(crate) const MOST_K: u64 = 7;
 
 /// The service that the words ask for. Its air is the one that AIR names, standard input and output or a host and port, and
 /// its store lies on the disk that DISK names, the file of that path.

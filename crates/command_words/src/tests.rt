@@ -1,8 +1,8 @@
 //! What the words ask for, from outside.
 
 use crate::{
-    AirWord, DiskWord, MakeRequest, Refusal, Request, ServeRequest, SessionRequest, Words, read,
-    read_air,
+    AirWord, ClientRequest, DiskWord, FetchRequest, ListRequest, MakeRequest, Refusal, Request,
+    SendRequest, ServeRequest, SessionRequest, Words, read, read_air,
 };
 use px_base::OutOfMemory;
 use std::alloc::{AllocError, Global};
@@ -200,8 +200,101 @@ const WORDS: [(&str, &str); 106] = [
     ("none none pfh-make A B --name X --ext \u{9}", USAGE),
 ];
 
+/// Words, split at blanks, and what they ask a client for.
+const CLIENT_WORDS: [(&str, &str); 53] = [
+    (
+        "d - send PACSAT KA9XYZ NAME",
+        "send PACSAT KA9XYZ 4 1000000000000 NAME",
+    ),
+    (
+        "d x:1 send --k=1 PACSAT-15 --polls 18446744073709551615 KA9XYZ-1 N",
+        "send PACSAT-15 KA9XYZ-1 1 18446744073709551615 N",
+    ),
+    (
+        " - send --polls=00000000000000000001 --k 7 Q-0 Q -- --k",
+        "send Q Q 7 1 --k",
+    ),
+    (
+        "NONE - send PACSAT KA9XYZ -",
+        "send PACSAT KA9XYZ 4 1000000000000 -",
+    ),
+    (
+        "d - send PACSAT KA9XYZ nnnnnnnnnnnnnnnnnnnnnnnnnnnnnnnnnnnnnnnnnnnnnnnnnnnnnnnnnnnnnnnn",
+        "send PACSAT KA9XYZ 4 1000000000000 nnnnnnnnnnnnnnnnnnnnnnnnnnnnnnnnnnnnnnnnnnnnnnnnnnnnnnnnnnnnnnnn",
+    ),
+    (
+        "d - send PACSAT KA9XYZ nnnnnnnnnnnnnnnnnnnnnnnnnnnnnnnnnnnnnnnnnnnnnnnnnnnnnnnnnnnnnnnnn",
+        USAGE,
+    ),
+    ("d - send PACSAT KA9XYZ ", USAGE),
+    ("none - send PACSAT KA9XYZ N", USAGE),
+    ("d none send PACSAT KA9XYZ N", USAGE),
+    ("d x:0 send PACSAT KA9XYZ N", USAGE),
+    ("d - Send PACSAT KA9XYZ N", USAGE),
+    ("d - send", USAGE),
+    ("d - send PACSAT KA9XYZ", USAGE),
+    ("d - send PACSAT KA9XYZ N N", USAGE),
+    ("d - send PACSAT-16 KA9XYZ N", USAGE),
+    ("d - send PACSAT KA9XYZ-16 N", USAGE),
+    ("d - send PACSAT ka9xyz N", USAGE),
+    ("d - send PACSAT  N", USAGE),
+    ("d - send PACSAT KA9XYZ --n", USAGE),
+    ("d - send PACSAT KA9XYZ N --k 0", USAGE),
+    ("d - send PACSAT KA9XYZ N --k 8", USAGE),
+    ("d - send PACSAT KA9XYZ N --k", USAGE),
+    ("d - send PACSAT KA9XYZ N --k 4 --k=4", USAGE),
+    ("d - send PACSAT KA9XYZ N -- --k 4", USAGE),
+    ("d - send PACSAT KA9XYZ N --polls 0", USAGE),
+    (
+        "d - send PACSAT KA9XYZ N --polls 18446744073709551616",
+        USAGE,
+    ),
+    ("d - send PACSAT KA9XYZ N --blocks 8", USAGE),
+    (
+        "d - fetch PACSAT KA9XYZ 1 N",
+        "fetch PACSAT KA9XYZ 1 4 1000000000000 N",
+    ),
+    (
+        "d h:8001 fetch --k 2 PACSAT KA9XYZ --polls=3 00000000004294967295 ",
+        "fetch PACSAT KA9XYZ 4294967295 2 3 ",
+    ),
+    ("d - fetch PACSAT KA9XYZ 0 N", USAGE),
+    ("d - fetch PACSAT KA9XYZ 4294967296 N", USAGE),
+    ("d - fetch PACSAT KA9XYZ 000000000000000000001 N", USAGE),
+    ("d - fetch PACSAT KA9XYZ 1x N", USAGE),
+    ("d - fetch PACSAT KA9XYZ  N", USAGE),
+    ("d - fetch PACSAT KA9XYZ N", USAGE),
+    ("d - fetch PACSAT KA9XYZ 1 N N", USAGE),
+    ("d - fetch PACSAT KA9XYZ-16 1 N", USAGE),
+    ("d - fetch PACSAT KA9XYZ 1 N --k 8", USAGE),
+    ("none - fetch PACSAT KA9XYZ 1 N", USAGE),
+    ("d none fetch PACSAT KA9XYZ 1 N", USAGE),
+    (
+        "d - list PACSAT KA9XYZ 20",
+        "list PACSAT KA9XYZ 4 1000000000000 20",
+    ),
+    (
+        "d x:1 list PACSAT KA9XYZ -- 0aFf",
+        "list PACSAT KA9XYZ 4 1000000000000 0aFf",
+    ),
+    (
+        "d - list --k 7 PACSAT KA9XYZ  --polls 1",
+        "list PACSAT KA9XYZ 7 1 ",
+    ),
+    ("d - list PACSAT KA9XYZ 2", USAGE),
+    ("d - list PACSAT KA9XYZ 2g", USAGE),
+    ("d - list PACSAT KA9XYZ 0x20", USAGE),
+    ("d - list PACSAT KA9XYZ", USAGE),
+    ("d - list PACSAT KA9XYZ 20 20", USAGE),
+    ("d - list PACSAT-16 KA9XYZ 20", USAGE),
+    ("d - list PACSAT KA9XYZ 20 --polls 0", USAGE),
+    ("none - list PACSAT KA9XYZ 20", USAGE),
+    ("d none list PACSAT KA9XYZ 20", USAGE),
+    ("d -", USAGE),
+];
+
 /// Words of commands that aren't built yet.
-const UNBUILT: [&str; 4] = ["send", "fetch", "list", "rehearse"];
+const UNBUILT: [&str; 1] = ["rehearse"];
 
 /// Words AIR, and what each names.
 const AIRS: [(&str, Option<AirWord>); 20] = [
@@ -241,6 +334,7 @@ fn told(alloc: Global, asked: &Result<Request<'_>, Refusal>) -> Result<String, A
     match asked {
         Ok(Request::Session(session)) => told_session(alloc, session),
         Ok(Request::Serve(service)) => told_service(alloc, service),
+        Ok(Request::Client(request)) => told_client(alloc, request),
         Ok(Request::Frames { name }) => format!(in alloc; "frames {name}"),
         Ok(Request::PfhCheck { name }) => format!(in alloc; "check {name}"),
         Ok(Request::PfhShow { name }) => format!(in alloc; "show {name}"),
@@ -273,6 +367,39 @@ fn told_service(alloc: Global, service: &ServeRequest) -> Result<String, AllocEr
     )
 }
 
+/// A request of a client as text.
+fn told_client(alloc: Global, asked: &ClientRequest<'_>) -> Result<String, AllocError> {
+    match asked {
+        ClientRequest::Send(request) => told_send(alloc, request),
+        ClientRequest::Fetch(request) => told_fetch(alloc, request),
+        ClientRequest::List(request) => told_list(alloc, request),
+    }
+}
+
+/// A file to be sent, as text: the server, the client, k, polls and the name.
+fn told_send(alloc: Global, request: &SendRequest<'_>) -> Result<String, AllocError> {
+    format!(in alloc;
+        "send {} {} {} {} {}",
+        request.server, request.me, request.k, request.polls, request.name
+    )
+}
+
+/// A file to be fetched, as text: the server, the client, the number, k, polls and the name.
+fn told_fetch(alloc: Global, request: &FetchRequest<'_>) -> Result<String, AllocError> {
+    format!(in alloc;
+        "fetch {} {} {} {} {} {}",
+        request.server, request.me, request.number, request.k, request.polls, request.name
+    )
+}
+
+/// A list, as text: the server, the client, k, polls and HEX.
+fn told_list(alloc: Global, request: &ListRequest<'_>) -> Result<String, AllocError> {
+    format!(in alloc;
+        "list {} {} {} {} {}",
+        request.server, request.me, request.k, request.polls, request.hex
+    )
+}
+
 /// What is to be made, as text: the names on the shelf, name and extension, type, time, source and destination, and title.
 fn told_make(alloc: Global, request: &MakeRequest<'_>) -> Result<String, AllocError> {
     let header = request.header;
@@ -297,6 +424,21 @@ fn words_are_read(rt: HostRuntime) -> Result<(), Fail> {
         let asked = read(rt.alloc(), &words);
         assert_eq!(rt; told(rt.alloc(), &asked)?.as_str(), *want, "{text}");
     }
+    Ok(())
+}
+
+#[test]
+fn client_words_are_read(rt: HostRuntime) -> Result<(), Fail> {
+    for (text, want) in CLIENT_WORDS.iter() {
+        let words = words_of(rt.alloc(), text)?;
+        let asked = read(rt.alloc(), &words);
+        assert_eq!(rt; told(rt.alloc(), &asked)?.as_str(), *want, "{text}");
+    }
+    Ok(())
+}
+
+#[test]
+fn unbuilt_words_are_told(rt: HostRuntime) -> Result<(), Fail> {
     for command in UNBUILT.iter() {
         let text = format!(in rt.alloc(); "none none {command} --x -y ")?;
         let words = words_of(rt.alloc(), text.as_str())?;
@@ -313,5 +455,34 @@ fn airs_are_read(rt: HostRuntime) -> Result<(), Fail> {
     for (air, want) in AIRS.iter() {
         assert!(rt; read_air(air) == *want, "{air}");
     }
+    Ok(())
+}
+
+#[test]
+fn tokens_are_given(rt: HostRuntime) -> Result<(), Fail> {
+    let words = words_of(rt.alloc(), "d - list PACSAT KA9XYZ 0aFf00")?;
+    match read(rt.alloc(), &words) {
+        Ok(Request::Client(ClientRequest::List(request))) => {
+            let tokens = request.tokens(rt.alloc())?;
+            assert!(rt; tokens.as_slice() == [0x0a, 0xff, 0x00].as_slice());
+        }
+        _ => assert!(rt; false),
+    }
+    Ok(())
+}
+
+/// Whether the words of `list` with this HEX are read.
+fn lists_by(alloc: Global, hex: &str) -> Result<bool, OutOfMemory> {
+    let mut words = words_of(alloc, "d - list PACSAT KA9XYZ")?;
+    words.add(hex)?;
+    Ok(read(alloc, &words).is_ok())
+}
+
+#[test]
+fn longest_tokens_are_read(rt: HostRuntime) -> Result<(), Fail> {
+    let longest = hex::encode(rt.alloc(), [0xa5_u8; 2_047].as_slice())?;
+    assert!(rt; lists_by(rt.alloc(), longest.as_str())?);
+    let longer = hex::encode(rt.alloc(), [0xa5_u8; 2_048].as_slice())?;
+    assert!(rt; !lists_by(rt.alloc(), longer.as_str())?);
     Ok(())
 }

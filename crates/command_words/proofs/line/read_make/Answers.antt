@@ -1,10 +1,10 @@
 -- The places that were read are BODY and NAME, and the values found are those of the options.
-use Rattle.std.proofs.Common.{◌∷◌, [], codes, inl, inr, lit<, refl}
+use Rattle.std.proofs.Common.{◌∷◌, [], codes, lit<, refl, sym}
 use Rattle.std.proofs.lemmas.Result.{err_from_is_err_and}
 use Rattle.clap.specs.Words.{app_of}
 use Rattle.command_words.specs.Making.{make_options}
 use Rattle.command_words.proofs.LineLemmas.{handed_on, make_line, value_got}
-use Rattle.command_words.proofs.Readings.{none_of_two, two_found}
+use Rattle.command_words.proofs.Readings.{all_found, none_missing}
 use Rattle.command_words.proofs.line.read_make.Goals as goal
 
 pub returns-in_err-matches-clause-usage : goal.returns-in_err-matches-clause-usage
@@ -17,13 +17,13 @@ pub returns-in_default-clause-usage : goal.returns-in_default-clause-usage
 returns-in_default-clause-usage c = λ usage line.
     let found = c.in_ok-matches.ensures.found (codes "body" ∷ codes "kept" ∷ []) make_options
     (make_line (app_of c.in_ok-make_command.field-0) c.in_ok-make_command.ensures) in
-    absurd (none_of_two _ _ _ found.places_found (inl c.in_default.ensures))
+    absurd (none_missing _ _ found.places_found (0, lit< tt, sym c.in_default.ensures))
 
 pub returns-in_default-get_str-clause-usage : goal.returns-in_default-get_str-clause-usage
 returns-in_default-get_str-clause-usage c = λ usage line.
     let found = c.in_ok-matches.ensures.found (codes "body" ∷ codes "kept" ∷ []) make_options
     (make_line (app_of c.in_ok-make_command.field-0) c.in_ok-make_command.ensures) in
-    absurd (none_of_two _ _ _ found.places_found (inr c.in_default-get_str.ensures))
+    absurd (none_missing _ _ found.places_found (1, lit< tt, sym c.in_default-get_str.ensures))
 
 pub returns-clause-texts : goal.returns-clause-texts
 returns-clause-texts c =
@@ -38,7 +38,8 @@ returns-clause-texts c =
     let title = value_got _ _ c.get_str-9.result (found.values_found (codes "title") (6, lit< tt, refl)) c.get_str-9.ensures in
     record {
       line = found.line;
-      places = two_found _ _ _ c.in-Some.body.now c.in-Some-get_str.kept.now found.places_found c.in-Some.ensures c.in-Some-get_str.ensures;
+      places = all_found _ _ (c.in-Some.body.now ∷ c.in-Some-get_str.kept.now ∷ []) found.places_found
+          (c.in-Some.ensures, (c.in-Some-get_str.ensures, tt));
       options = λ i. record {
         name = name i;
         ext = ext i;

@@ -1,9 +1,9 @@
 -- The place that was read is the NAME.
-use Rattle.std.proofs.Common.{[], ◌∷◌, codes}
+use Rattle.std.proofs.Common.{[], ◌∷◌, codes, lit<, sym}
 use Rattle.std.proofs.lemmas.Result.{err_from_is_err_and}
 use Rattle.clap.specs.Words.{app_of}
 use Rattle.command_words.proofs.LineLemmas.{handed_on, name_line}
-use Rattle.command_words.proofs.Readings.{none_found, one_found}
+use Rattle.command_words.proofs.Readings.{all_found, none_missing}
 use Rattle.command_words.proofs.line.read_name.Goals as goal
 
 pub returns-in_err-matches-clause-usage : goal.returns-in_err-matches-clause-usage
@@ -16,10 +16,10 @@ pub returns-in-Some-clause-name : goal.returns-in-Some-clause-name
 returns-in-Some-clause-name c =
     let found = c.in_ok-matches.ensures.found (codes "name" ∷ []) []
     (name_line c.args.command.now (app_of c.in_ok-line_command.field-0) c.in_ok-line_command.ensures) in
-    record { line = found.line; place = one_found _ _ c.in-Some.name.now found.places_found c.in-Some.ensures }
+    record { line = found.line; place = all_found _ _ (c.in-Some.name.now ∷ []) found.places_found (c.in-Some.ensures, tt) }
 
 pub returns-clause-usage : goal.returns-clause-usage
 returns-clause-usage c = λ usage line.
     let found = c.in_ok-matches.ensures.found (codes "name" ∷ []) []
     (name_line c.args.command.now (app_of c.in_ok-line_command.field-0) c.in_ok-line_command.ensures) in
-    absurd (none_found _ _ found.places_found c.in-None.ensures)
+    absurd (none_missing _ _ found.places_found (0, lit< tt, sym c.in-None.ensures))

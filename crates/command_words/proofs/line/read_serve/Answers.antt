@@ -1,10 +1,10 @@
 -- The place that was read is ME, and the values found are those of the options.
-use Rattle.std.proofs.Common.{◌∷◌, [], codes, lit<, refl}
+use Rattle.std.proofs.Common.{◌∷◌, [], codes, lit<, refl, sym}
 use Rattle.std.proofs.lemmas.Result.{err_from_is_err_and}
 use Rattle.clap.specs.Words.{app_of}
 use Rattle.command_words.specs.Words.{serve_options}
 use Rattle.command_words.proofs.LineLemmas.{handed_on, serve_line, value_got}
-use Rattle.command_words.proofs.Readings.{none_found, one_found}
+use Rattle.command_words.proofs.Readings.{all_found, none_missing}
 use Rattle.command_words.proofs.line.read_serve.Goals as goal
 
 pub returns-in_err-matches-clause-usage : goal.returns-in_err-matches-clause-usage
@@ -17,7 +17,7 @@ pub returns-in_default-clause-usage : goal.returns-in_default-clause-usage
 returns-in_default-clause-usage c = λ usage line.
     let found = c.in_ok-matches.ensures.found (codes "me" ∷ []) serve_options
     (serve_line (app_of c.in_ok-serve_command.field-0) c.in_ok-serve_command.ensures) in
-    absurd (none_found _ _ found.places_found c.in_default.ensures)
+    absurd (none_missing _ _ found.places_found (0, lit< tt, sym c.in_default.ensures))
 
 pub returns-clause-texts : goal.returns-clause-texts
 returns-clause-texts c =
@@ -25,7 +25,7 @@ returns-clause-texts c =
     (serve_line (app_of c.in_ok-serve_command.field-0) c.in_ok-serve_command.ensures) in
     record {
       line = found.line;
-      place = one_found _ _ c.in-Some.me.now found.places_found c.in-Some.ensures;
+      place = all_found _ _ (c.in-Some.me.now ∷ []) found.places_found (c.in-Some.ensures, tt);
       k_given = value_got _ _ c.get_str-2.result (found.values_found (codes "k") (0, lit< tt, refl)) c.get_str-2.ensures;
       blocks_given = value_got _ _ c.get_str-3.result (found.values_found (codes "blocks") (1, lit< tt, refl)) c.get_str-3.ensures;
       polls_given = value_got _ _ c.get_str-4.result (found.values_found (codes "polls") (2, lit< tt, refl)) c.get_str-4.ensures;

@@ -3,12 +3,14 @@ use Rattle.std.proofs.Common.{◌≡◌, List, ◌∷◌, codes, drop, length, l
 use Rattle.std.specs.Prelude.{Contains, IfOk}
 use Rattle.std.proofs.lemmas.Result.{IfOk-weaker}
 use Rattle.command_words.specs.Asked.{AsksFor}
-use Rattle.command_words.specs.Commands.{word_of}
+use Rattle.command_words.specs.Commands.{client_word, word_of}
+use Rattle.command_words.specs.declared.command.ClientCommand.{ClientCommand}
+use Rattle.command_words.specs.declared.command.ClientCommand.TheVariants as client
 use Rattle.command_words.specs.Words.{built_commands}
 use Rattle.command_words.specs.declared.command.NameCommand.{NameCommand}
 use Rattle.command_words.specs.declared.command.NameCommand.TheVariants.{Frames, PfhCheck, PfhShow}
 use Rattle.command_words.proofs.Uses.{Text}
-use Rattle.command_words.proofs.Meanings.{make_usage, name_usage, no_command_usage, serve_usage, session_usage, three_words}
+use Rattle.command_words.proofs.Meanings.{client_usage, make_usage, name_usage, no_command_usage, serve_usage, session_usage, three_words}
 use Rattle.command_words.proofs.request.read.Goals as goal
 
 -- ---- a session
@@ -45,6 +47,29 @@ returns-in-Some-Serve c = record {
   memory = λ _. (_, _, _, _, serve_words c, (1, lit< tt, refl));
 }
 
+-- ---- something of a client
+
+client_words : (c : goal.After-client_request)
+    → c.args.words.now ≡ c.as_str-in-Some-Client.result.now ∷ c.as_str-in-Some-Client-2.result.now ∷ client_word c.in-Some-Client.asked ∷ drop 1 (map string_bytes (take (length c.as_slice-texts.result.now - 2) (drop 2 c.as_slice-texts.result.now)))
+client_words c =
+    sym c.as_slice-texts.ensures ∙ three_words c.as_slice-texts.result.now c.disk-item.result c.air-item.result c.command-item.result _ _ _ c.in-len3-up.len_at_least c.disk-item.is c.air-item.is c.command-item.is
+    c.as_str-in-Some-Client.ensures.value c.as_str-in-Some-Client-2.ensures.value
+    (sym (rw c.in-Some-Client.field-0-is at c.in-Some-Client.ensures.some) ∙ c.as_str.ensures.value)
+
+-- which is one of the built ones
+client_built : (command : ClientCommand) → Contains built_commands (client_word command)
+client_built client.Send = (2, lit< tt, refl)
+client_built client.Fetch = (3, lit< tt, refl)
+client_built client.List = (4, lit< tt, refl)
+
+pub returns-in-Some-Client : goal.returns-in-Some-Client
+returns-in-Some-Client c = record {
+  asks = subst (λ (ws : List Text). IfOk c.client_request.result (AsksFor ws)) (sym (client_words c)) c.client_request.ensures.asks;
+  usage = λ usage. client_usage c.in-Some-Client.asked (client_words c) (c.client_request.ensures.usage usage);
+  unbuilt = λ unbuilt. absurd (c.client_request.ensures.built unbuilt);
+  memory = λ _. (_, _, _, _, client_words c, client_built c.in-Some-Client.asked);
+}
+
 -- ---- a command with a name
 
 name_words : (c : goal.After-name_request)
@@ -55,9 +80,9 @@ name_words c =
 
 -- which is one of the built ones
 name_built : (command : NameCommand) → Contains built_commands (word_of command)
-name_built Frames = (2, lit< tt, refl)
-name_built PfhCheck = (3, lit< tt, refl)
-name_built PfhShow = (4, lit< tt, refl)
+name_built Frames = (5, lit< tt, refl)
+name_built PfhCheck = (6, lit< tt, refl)
+name_built PfhShow = (7, lit< tt, refl)
 
 pub returns-in-Some-Named : goal.returns-in-Some-Named
 returns-in-Some-Named c = record {
@@ -82,7 +107,7 @@ returns-in-Some-PfhMake c = record {
       (IfOk-weaker c.make_request.result _ _ (λ request asks. asks (string_bytes c.disk-item.result)) c.make_request.ensures.asks);
   usage = λ usage. make_usage (make_words c) (c.make_request.ensures.usage usage (string_bytes c.disk-item.result));
   unbuilt = λ unbuilt. absurd (c.make_request.ensures.built unbuilt);
-  memory = λ _. (_, _, _, _, make_words c, (5, lit< tt, refl));
+  memory = λ _. (_, _, _, _, make_words c, (8, lit< tt, refl));
 }
 
 -- ---- what isn't built, and what is no command
