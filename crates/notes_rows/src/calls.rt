@@ -2,12 +2,12 @@
 
 ghost use Rattle.client_notes.specs.State.{StandsOn};
 
-use crate::octets::read_octets;
 use crate::task::unfinished;
 use anyhow::{Context, Result, bail, ensure};
 use client_notes::{LONGEST_FILE, LONGEST_NAME, MOST_GOT, Notes};
 use disk_model::Disk;
 use px_base::Call;
+use row_words::read_octets;
 use std::alloc::Global;
 use std::fmt::Debug;
 

@@ -18,7 +18,6 @@
 #![tactic(auto)]
 
 mod calls;
-mod octets;
 mod row;
 mod stop;
 mod task;

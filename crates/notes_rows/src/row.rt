@@ -1,10 +1,10 @@
 //! One row: a disk, and what is done with the notes on it.
 
 use crate::calls::play_calls;
-use crate::octets::read_octets;
 use crate::stop;
 use anyhow::{Context, Result, bail};
 use disk_model::{FuseDisk, MemoryDisk};
+use row_words::read_octets;
 use std::alloc::Global;
 
 /// Plays a row, and gives what is printed for it. Takes memory.

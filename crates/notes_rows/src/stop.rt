@@ -1,9 +1,9 @@
 //! A row of a disk that stops, and of what is recovered from it.
 
 use crate::calls::play_calls;
-use crate::octets::read_octets;
 use anyhow::{Context, Result};
 use disk_model::{FuseDisk, MemoryDisk};
+use row_words::read_octets;
 use std::alloc::Global;
 
 /// What is done on a disk that stops, and what is then asked.

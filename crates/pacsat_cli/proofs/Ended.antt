@@ -16,7 +16,7 @@ use Rattle.pacsat_cli.specs.declared.status.BadStore.TheVariants as bad
 use Rattle.pacsat_cli.specs.declared.status.Status.{Status}
 use Rattle.pacsat_cli.specs.declared.status.Status.TheVariants as status
 use Rattle.pacsat_cli.specs.Run.{HasStatusCause}
-use Rattle.pacsat_cli.specs.Sessions.{HasWriteCause, AsksFresh, IsSpentBy}
+use Rattle.pacsat_cli.specs.Sessions.{HasWriteCause, AsksFresh, AsksStore, IsSpentBy}
 use Rattle.pacsat_cli.specs.Stops.{status_in_memory, status_of}
 use Rattle.pacsat_cli.proofs.OpenTurns.{ends_with-not_open, failed-no_end, open-no_end}
 
@@ -93,16 +93,16 @@ read_cause memory (Err stop.Spent) reads reads_now writes writes_now h = record 
 read_cause memory (Err stop.OutOfMemory) reads reads_now writes writes_now h = record { rose = λ e. absurd (cc); same = λ _. h.0 }
 
 -- and so with saying, but for the reply after a fault of the disk
-pub write_cause : (memory : Bool) (words : List (List ℕ)) (ended : Result Served NodeStop) (reads reads_now writes writes_now : ℕ) → (memory ≡ true → AsksFresh words) → CountsBy ended reads reads_now writes writes_now → HasWriteCause words writes writes_now (mended memory (status_of ended))
-write_cause memory words (Ok served) reads reads_now writes writes_now fresh h = record { rose = λ e. absurd (cc); same = λ _ _ _. h.1 }
-write_cause memory words (Err stop.AirRead) reads reads_now writes writes_now fresh h = record { rose = λ e. absurd (cc); same = λ _ _ _. h.1 }
-write_cause memory words (Err stop.AirWrite) reads reads_now writes writes_now fresh h = record { rose = λ _. h.1; same = λ isnt _ _. absurd (isnt refl) }
-write_cause true words (Err stop.Disk) reads reads_now writes writes_now fresh h = record { rose = λ e. absurd (cc); same = λ _ _ named. absurd (named refl (fresh refl)) }
-write_cause false words (Err stop.Disk) reads reads_now writes writes_now fresh h = record { rose = λ e. absurd (cc); same = λ _ isnt _. absurd (isnt refl) }
-write_cause memory words (Err (stop.NotAStore found)) reads reads_now writes writes_now fresh h = record { rose = λ e. absurd (cc); same = λ _ _ _. h.1 }
-write_cause memory words (Err (stop.Damaged at)) reads reads_now writes writes_now fresh h = record { rose = λ e. absurd (cc); same = λ _ _ _. h.1 }
-write_cause memory words (Err stop.Spent) reads reads_now writes writes_now fresh h = record { rose = λ e. absurd (cc); same = λ _ _ _. h.1 }
-write_cause memory words (Err stop.OutOfMemory) reads reads_now writes writes_now fresh h = record { rose = λ e. absurd (cc); same = λ _ _ _. h.1 }
+pub write_cause : (memory : Bool) (words : List (List ℕ)) (ended : Result Served NodeStop) (reads reads_now writes writes_now : ℕ) → (memory ≡ true → AsksFresh words) → (memory ≡ false → AsksStore words) → CountsBy ended reads reads_now writes writes_now → HasWriteCause words writes writes_now (mended memory (status_of ended))
+write_cause memory words (Ok served) reads reads_now writes writes_now fresh store h = record { rose = λ e. absurd (cc); same = λ _ _ _ _. h.1 }
+write_cause memory words (Err stop.AirRead) reads reads_now writes writes_now fresh store h = record { rose = λ e. absurd (cc); same = λ _ _ _ _. h.1 }
+write_cause memory words (Err stop.AirWrite) reads reads_now writes writes_now fresh store h = record { rose = λ _. h.1; same = λ isnt _ _ _. absurd (isnt refl) }
+write_cause true words (Err stop.Disk) reads reads_now writes writes_now fresh store h = record { rose = λ e. absurd (cc); same = λ _ _ named _. absurd (named refl (fresh refl)) }
+write_cause false words (Err stop.Disk) reads reads_now writes writes_now fresh store h = record { rose = λ e. absurd (cc); same = λ _ isnt _ _. absurd (isnt refl (store refl)) }
+write_cause memory words (Err (stop.NotAStore found)) reads reads_now writes writes_now fresh store h = record { rose = λ e. absurd (cc); same = λ _ _ _ _. h.1 }
+write_cause memory words (Err (stop.Damaged at)) reads reads_now writes writes_now fresh store h = record { rose = λ e. absurd (cc); same = λ _ _ _ _. h.1 }
+write_cause memory words (Err stop.Spent) reads reads_now writes writes_now fresh store h = record { rose = λ e. absurd (cc); same = λ _ _ _ _. h.1 }
+write_cause memory words (Err stop.OutOfMemory) reads reads_now writes writes_now fresh store h = record { rose = λ e. absurd (cc); same = λ _ _ _ _. h.1 }
 
 -- which end has the status Disk, and which that of content that is no store
 pub disk-end : (ended : Result Served NodeStop) → status_of ended ≡ status.Disk → ended ≡ Err stop.Disk
@@ -138,7 +138,11 @@ damaged-end (Err stop.OutOfMemory) at e = absurd (cc)
 -- over a disk in memory neither comes
 pub memory-not_disk : (s : Status) → status_in_memory s ≡ status.Disk → ⊥
 memory-not_disk status.Done e = absurd (cc)
-memory-not_disk status.Refused e = absurd (cc)
+memory-not_disk (status.Refused why) e = absurd (cc)
+memory-not_disk (status.FileChanged kept given) e = absurd (cc)
+memory-not_disk status.LinkDown e = absurd (cc)
+memory-not_disk (status.Strange kind) e = absurd (cc)
+memory-not_disk status.NotesFull e = absurd (cc)
 memory-not_disk status.Usage e = absurd (cc)
 memory-not_disk status.AirRead e = absurd (cc)
 memory-not_disk status.AirWrite e = absurd (cc)

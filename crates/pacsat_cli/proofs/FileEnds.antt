@@ -2,8 +2,9 @@
 use Rattle.std.proofs.Common.{◌≡◌, ℕ, ◌<◌, List, length, refl, ap, sym, ◌∙◌, inl, inr, arith}
 use Rattle.std.specs.Prelude.{Option, None, Some}
 use Rattle.pacsat_cli.specs.declared.files.FileCommand.{FileCommand}
+use Rattle.pacsat_cli.specs.declared.status.RefusedBy.TheVariants as by
 use Rattle.pacsat_cli.specs.declared.status.Status.{Status}
-use Rattle.pacsat_cli.specs.declared.status.Status.TheVariants.{Done, Refused, Usage, AirRead, AirWrite, Disk, NoSuch, BadStore, OutOfMemory, Spent, Out, Shelf, TooLong, NotBuilt}
+use Rattle.pacsat_cli.specs.declared.status.Status.TheVariants.{Done, Refused, Usage, AirRead, AirWrite, Disk, NoSuch, FileChanged, BadStore, OutOfMemory, Spent, Out, Shelf, LinkDown, Strange, NotesFull, TooLong, NotBuilt}
 use Rattle.pacsat_cli.specs.Files.{FileEnd, FileText, IsNoSuchBy, IsShownBy, IsTooLongBy, end_of, most_octets}
 
 -- content that isn't there isn't content that may be shown
@@ -24,7 +25,7 @@ text-end command content all last octets h there =
 
 pub no_such-end : (command : FileCommand) (content : Option (List ℕ)) (text : List ℕ) (s : Status) → FileEnd command content text s → IsNoSuchBy s command content
 no_such-end command content text Done h none = absurd (text-none command content text Done h none)
-no_such-end command content text Refused h none = absurd (text-none command content text Refused h none)
+no_such-end command content text (Refused by.Shown) h none = absurd (text-none command content text (Refused by.Shown) h none)
 no_such-end command content text NoSuch h none = inl refl
 no_such-end command content text TooLong h none = absurd (let e = sym h.1 ∙ none in cc)
 no_such-end command content text Out h none = absurd (text-none command content h.0 h.1 h.2 none)
@@ -37,10 +38,16 @@ no_such-end command content text Disk h none = absurd h
 no_such-end command content text (BadStore why) h none = absurd h
 no_such-end command content text Spent h none = absurd h
 no_such-end command content text NotBuilt h none = absurd h
+no_such-end command content text (Refused (by.Server code)) h none = absurd h
+no_such-end command content text (Refused (by.Fault code)) h none = absurd h
+no_such-end command content text (FileChanged kept given) h none = absurd h
+no_such-end command content text LinkDown h none = absurd h
+no_such-end command content text (Strange kind) h none = absurd h
+no_such-end command content text NotesFull h none = absurd h
 
 pub too_long-end : (command : FileCommand) (content : Option (List ℕ)) (text : List ℕ) (s : Status) → FileEnd command content text s → IsTooLongBy s command content
 too_long-end command content text Done h octets there long = absurd (text-long command content text Done octets h there long)
-too_long-end command content text Refused h octets there long = absurd (text-long command content text Refused octets h there long)
+too_long-end command content text (Refused by.Shown) h octets there long = absurd (text-long command content text (Refused by.Shown) octets h there long)
 too_long-end command content text NoSuch h octets there long = absurd (let e = sym h.0 ∙ there in cc)
 too_long-end command content text TooLong h octets there long = inl refl
 too_long-end command content text Out h octets there long = absurd (text-long command content h.0 h.1 octets h.2 there long)
@@ -53,10 +60,16 @@ too_long-end command content text Disk h octets there long = absurd h
 too_long-end command content text (BadStore why) h octets there long = absurd h
 too_long-end command content text Spent h octets there long = absurd h
 too_long-end command content text NotBuilt h octets there long = absurd h
+too_long-end command content text (Refused (by.Server code)) h octets there long = absurd h
+too_long-end command content text (Refused (by.Fault code)) h octets there long = absurd h
+too_long-end command content text (FileChanged kept given) h octets there long = absurd h
+too_long-end command content text LinkDown h octets there long = absurd h
+too_long-end command content text (Strange kind) h octets there long = absurd h
+too_long-end command content text NotesFull h octets there long = absurd h
 
 pub shown-end : (command : FileCommand) (content : Option (List ℕ)) (text : List ℕ) (s : Status) → FileEnd command content text s → IsShownBy s command content
 shown-end command content text Done h octets there short = inl (text-end command content text Done octets h there)
-shown-end command content text Refused h octets there short = inl (text-end command content text Refused octets h there)
+shown-end command content text (Refused by.Shown) h octets there short = inl (text-end command content text (Refused by.Shown) octets h there)
 shown-end command content text NoSuch h octets there short = absurd (let e = sym h.0 ∙ there in cc)
 shown-end command content text TooLong h octets there short =
     let same : h.0 ≡ octets = (let e = sym h.1 ∙ there in cc) in
@@ -71,3 +84,9 @@ shown-end command content text Disk h octets there short = absurd h
 shown-end command content text (BadStore why) h octets there short = absurd h
 shown-end command content text Spent h octets there short = absurd h
 shown-end command content text NotBuilt h octets there short = absurd h
+shown-end command content text (Refused (by.Server code)) h octets there short = absurd h
+shown-end command content text (Refused (by.Fault code)) h octets there short = absurd h
+shown-end command content text (FileChanged kept given) h octets there short = absurd h
+shown-end command content text LinkDown h octets there short = absurd h
+shown-end command content text (Strange kind) h octets there short = absurd h
+shown-end command content text NotesFull h octets there short = absurd h

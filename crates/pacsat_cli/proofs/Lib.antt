@@ -1,12 +1,17 @@
+pub mod CarriedAll
+pub mod ClientEnds
+pub mod ClientStops
 pub mod Ended
 pub mod FileEnds
 pub mod FilesShown
+pub mod LedAll
 pub mod Loading
 pub mod MakeEnds
 pub mod MemorySession
 pub mod NodeEnds
 pub mod OneTask
 pub mod OpenTurns
+pub mod RunClient
 pub mod RunFile
 pub mod RunMake
 pub mod RunRefused

@@ -3,8 +3,9 @@ use Rattle.std.proofs.Common.{◌≡◌, ℕ, ◌≤◌, List, length, sym, subs
 use Rattle.std.specs.Prelude.{Option, None, Some, IfSome, Ok}
 use Rattle.px_base.specs.Shelves.{Holding, Loads, content_of}
 use Rattle.header_tool.specs.Made.{IsMade, MakeValue}
+use Rattle.pacsat_cli.specs.declared.status.RefusedBy.TheVariants as by
 use Rattle.pacsat_cli.specs.declared.status.Status.{Status}
-use Rattle.pacsat_cli.specs.declared.status.Status.TheVariants.{Done, Refused, Usage, AirRead, AirWrite, Disk, NoSuch, BadStore, OutOfMemory, Spent, Out, Shelf, TooLong, NotBuilt}
+use Rattle.pacsat_cli.specs.declared.status.Status.TheVariants.{Done, Refused, Usage, AirRead, AirWrite, Disk, NoSuch, FileChanged, BadStore, OutOfMemory, Spent, Out, Shelf, LinkDown, Strange, NotesFull, TooLong, NotBuilt}
 use Rattle.pacsat_cli.specs.Files.{most_octets}
 use Rattle.pacsat_cli.specs.Making.{IsMadeOf, IsMakeStatus, MakeEnd, MakeRan, OctetsMade}
 use Rattle.pacsat_cli.proofs.Loading.{loaded}
@@ -20,7 +21,13 @@ ends-of IsFile Other f name before now Shelf h = elim h [ inl same ↦ inl same 
 ends-of IsFile Other f name before now NoSuch h = h
 ends-of IsFile Other f name before now TooLong h = h
 ends-of IsFile Other f name before now OutOfMemory h = h
-ends-of IsFile Other f name before now Refused h = h
+ends-of IsFile Other f name before now (Refused by.Shown) h = h
+ends-of IsFile Other f name before now (Refused (by.Server code)) h = h
+ends-of IsFile Other f name before now (Refused (by.Fault code)) h = h
+ends-of IsFile Other f name before now (FileChanged kept given) h = h
+ends-of IsFile Other f name before now LinkDown h = h
+ends-of IsFile Other f name before now (Strange kind) h = h
+ends-of IsFile Other f name before now NotesFull h = h
 ends-of IsFile Other f name before now Usage h = h
 ends-of IsFile Other f name before now AirRead h = h
 ends-of IsFile Other f name before now AirWrite h = h

@@ -6,6 +6,7 @@ use Rattle.px_base.specs.Polling.{HasEnd, HearsAll}
 use Rattle.px_base.specs.declared.air.Air.{Ghosts as AirGhosts}
 use Rattle.px_base.specs.declared.air.Turn.{Turn}
 use Rattle.disk_model.specs.declared.disk.Disk.{Ghosts}
+use Rattle.file_store.specs.State.{standing_of}
 use Rattle.file_store.specs.Working.{PutsAmongReads}
 use Rattle.file_store.specs.declared.refusals.StoreFault.{StoreFault}
 use Rattle.file_store.specs.declared.refusals.StoreFault.TheVariants as fault
@@ -15,10 +16,11 @@ use Rattle.session_node.specs.Stops.{CountsBy, EndsExactly, RefusesSession, stop
 use Rattle.session_node.specs.declared.stop.NodeStop.{NodeStop}
 use Rattle.session_node.specs.declared.stop.NodeStop.TheVariants as stop
 use Rattle.session_node.specs.declared.terms.Served.{Served}
+use Rattle.command_words.specs.Words.{AsksClient}
 use Rattle.pacsat_cli.specs.declared.status.Status.{Status}
 use Rattle.pacsat_cli.specs.declared.status.Status.TheVariants as status
 use Rattle.pacsat_cli.specs.Run.{HasStatusCause}
-use Rattle.pacsat_cli.specs.Sessions.{AsksDisk, AsksFresh, HasDiskCause, HasWriteCause, IsDoneAtEnd, IsSpentBy, RefusesExactly}
+use Rattle.pacsat_cli.specs.Sessions.{AsksFresh, AsksStore, HasDiskCause, HasReadCause, HasWriteCause, IsDoneAtEnd, IsSpentBy, RefusesExactly}
 use Rattle.pacsat_cli.specs.Stops.{status_of}
 use Rattle.pacsat_cli.proofs.Ended.{damaged-end, disk-end, done_by, mended, not_a_store-end, read_cause, reads_end, spent_by, told-same, write_cause}
 
@@ -66,7 +68,11 @@ early-node status.AirRead e = refl
 early-node status.AirWrite e = refl
 early-node status.Spent e = refl
 early-node status.NotBuilt e = absurd (cc)
-early-node status.Refused e = absurd (cc)
+early-node (status.Refused why) e = absurd (cc)
+early-node (status.FileChanged kept given) e = absurd (cc)
+early-node status.LinkDown e = absurd (cc)
+early-node (status.Strange kind) e = absurd (cc)
+early-node status.NotesFull e = absurd (cc)
 early-node status.Usage e = absurd (cc)
 early-node status.NoSuch e = absurd (cc)
 early-node status.Out e = absurd (cc)
@@ -105,23 +111,24 @@ module _ {A : Type 0} (air : AirGhosts A) (before now : A) (s : Status) where
     node-not (inl early) other isnt is = let yes = early-node s early.kind in let same = ap is_node_status is in absurd (cc)
     node-not (inr went) other isnt is = let yes = mended-node memory went.ended in let same = ap is_node_status (sym is ∙ went.status_is) in absurd (cc)
 
-    pub node-read : Goes air polls memory before now s → HasStatusCause status.AirRead (air.read_faults before) (air.read_faults now) s
-    node-read (inl early) = record {
+    pub node-read : (words : List (List ℕ)) → Goes air polls memory before now s → HasReadCause words (air.read_faults before) (air.read_faults now) s
+    node-read words (inl early) = record {
       rose = λ e. let other = ap is_early_status e in let yes = early.kind in absurd (cc);
-      same = λ _. ap air.read_faults early.same;
+      same = λ _ _. ap air.read_faults early.same;
     }
-    node-read (inr went) =
+    node-read words (inr went) =
         let P : Status → Type 0 = λ t. HasStatusCause status.AirRead (air.read_faults before) (air.read_faults now) t in
-        subst P (sym went.status_is) (read_cause memory went.ended (air.read_faults before) (air.read_faults now) (air.write_faults before) (air.write_faults now) went.counts)
+        let cause = subst P (sym went.status_is) (read_cause memory went.ended (air.read_faults before) (air.read_faults now) (air.write_faults before) (air.write_faults now) went.counts) in
+        record { rose = cause.rose; same = λ isnt _. cause.same isnt }
 
-    pub node-write : (words : List (List ℕ)) → (memory ≡ true → AsksFresh words) → Goes air polls memory before now s → HasWriteCause words (air.write_faults before) (air.write_faults now) s
-    node-write words fresh (inl early) = record {
+    pub node-write : (words : List (List ℕ)) → (memory ≡ true → AsksFresh words) → (memory ≡ false → AsksStore words) → Goes air polls memory before now s → HasWriteCause words (air.write_faults before) (air.write_faults now) s
+    node-write words fresh store (inl early) = record {
       rose = λ e. let other = ap is_early_status e in let yes = early.kind in absurd (cc);
-      same = λ _ _ _. ap air.write_faults early.same;
+      same = λ _ _ _ _. ap air.write_faults early.same;
     }
-    node-write words fresh (inr went) =
+    node-write words fresh store (inr went) =
         let P : Status → Type 0 = λ t. HasWriteCause words (air.write_faults before) (air.write_faults now) t in
-        subst P (sym went.status_is) (write_cause memory words went.ended (air.read_faults before) (air.read_faults now) (air.write_faults before) (air.write_faults now) fresh went.counts)
+        subst P (sym went.status_is) (write_cause memory words went.ended (air.read_faults before) (air.read_faults now) (air.write_faults before) (air.write_faults now) fresh store went.counts)
 
     -- the turns that it took are those that are told
     pub turns_told : (went : Went air polls memory before now s) (earlier turns : List Turn) → air.heard before ≡ Some earlier → air.heard now ≡ Some (earlier ++ turns) → went.turns ≡ turns
@@ -152,9 +159,10 @@ module _ {A : Type 0} (air : AirGhosts A) (before now : A) (s : Status) where
     -- where it is done, the end of the air was read, and no count rose but that of failed reads of the disk
     pub node-done :
         {D : Type 0} (words : List (List ℕ)) (reads writes : D → ℕ) (disk disk_now : D) → (memory ≡ true → AsksFresh words)
+        → (memory ≡ false → AsksStore words) → (AsksClient words → ⊥)
         → Goes air polls memory before now s → HasDiskCause words reads writes disk disk_now before now s → s ≡ status.Done
         → IsDoneAtEnd air reads writes before now disk disk_now
-    node-done words reads writes disk disk_now fresh goes cause done =
+    node-done words reads writes disk disk_now fresh store others goes cause done =
         let disks = cause.same (λ e. let other = sym done ∙ e in cc) in
         record {
           end =
@@ -162,8 +170,8 @@ module _ {A : Type 0} (air : AirGhosts A) (before now : A) (s : Status) where
                 | inl early ↦ absurd (let kind = sym early.kind ∙ ap is_early_status done in cc)
                 | inr went ↦ (went.turns, went.turns_heard, reads_end memory went.ended polls went.turns went.ends (sym went.status_is ∙ done))
               ];
-          air_reads = (node-read goes).same (λ e. let other = sym done ∙ e in cc);
-          air_writes = (node-write words fresh goes).same (λ e. let other = sym done ∙ e in cc) (λ e. let other = sym done ∙ e in cc) (λ e. let other = sym done ∙ e in absurd (cc));
+          air_reads = (node-read words goes).same (λ e. let other = sym done ∙ e in cc) (λ pass. others pass.0);
+          air_writes = (node-write words fresh store goes).same (λ e. let other = sym done ∙ e in cc) (λ e. let other = sym done ∙ e in absurd (cc)) (λ e. let other = sym done ∙ e in absurd (cc)) (λ pass. others pass.0);
           disk_reads = cause.no_less.0;
           disk_writes = disks;
         }
@@ -191,22 +199,22 @@ module _ {A D : Type 0} (g : Ghosts D) (air : AirGhosts A) (blocks polls : ℕ) 
       ]
 
   -- the disk's counts by how it ended
-  pub on_disk-cause : (words : List (List ℕ)) → AsksDisk words → HasDiskCause words g.read_faults g.write_faults disk disk_now before now s
+  pub on_disk-cause : (words : List (List ℕ)) → AsksStore words → HasDiskCause words g.read_faults g.write_faults disk disk_now before now s
   on_disk-cause words asks = record {
-    asked = λ _. asks;
+    asked = λ _. inl asks;
     rose = λ e.
         let failed = disk-end over.ended (sym over.status_is ∙ e) in
         elim over.goes [
-          | inl refused ↦ elim (over.runs.rose failed) [ inl reads ↦ inr (reads, refused.2) | inr writes ↦ inl writes ]
+          | inl refused ↦ elim (over.runs.rose failed) [ inl reads ↦ inr (reads, inl refused.2) | inr writes ↦ inl writes ]
           | inr went ↦ inl (went.0.faults.rose failed)
         ];
     same = λ isnt. over.runs.same (λ failed. isnt (over.status_is ∙ ap status_of failed));
-    same_reads = λ none. absurd (none asks);
+    same_reads = λ _ none. absurd (none asks);
     no_less = (over.runs.reads, over.runs.writes);
   }
 
   -- each refusal, by what the content stands for
-  exact-of : (octets : List ℕ) → EndsExactly blocks octets over.ended → RefusesExactly blocks octets s
+  exact-of : (octets : List ℕ) → EndsExactly blocks octets over.ended → RefusesExactly (standing_of blocks octets) s
   exact-of octets h = record {
     not_a_store = λ found. (
       λ e. (h.not_a_store found).0 (not_a_store-end over.ended found (sym over.status_is ∙ e)),
@@ -218,11 +226,11 @@ module _ {A D : Type 0} (g : Ghosts D) (air : AirGhosts A) (blocks polls : ℕ) 
     );
   }
 
-  told-exact : (content : Option (List ℕ)) → IfSome content (λ octets. EndsExactly blocks octets over.ended) → IfSome content (λ octets. RefusesExactly blocks octets s)
+  told-exact : (content : Option (List ℕ)) → IfSome content (λ octets. EndsExactly blocks octets over.ended) → IfSome content (λ octets. RefusesExactly (standing_of blocks octets) s)
   told-exact None h = tt
   told-exact (Some octets) h = exact-of octets h
 
-  pub on_disk-exact : (s ≡ status.Disk → ⊥) → (s ≡ status.OutOfMemory → ⊥) → IfSome (g.content disk) (λ octets. RefusesExactly blocks octets s)
+  pub on_disk-exact : (s ≡ status.Disk → ⊥) → (s ≡ status.OutOfMemory → ⊥) → IfSome (g.content disk) (λ octets. RefusesExactly (standing_of blocks octets) s)
   on_disk-exact disk_not memory_not =
       told-exact (g.content disk)
       (over.refuses (λ failed. disk_not (over.status_is ∙ ap status_of failed)) (λ failed. memory_not (over.status_is ∙ ap status_of failed)))

@@ -1,10 +1,11 @@
 -- Words ask for one thing to do.
 use Rattle.std.proofs.Common.{◌≡◌, ℕ, List, refl, inl, inr}
 use Rattle.command_words.specs.Laws.{AsksServe, AsksSession, Determined, OnlyOne}
-use Rattle.command_words.specs.Words.{IsUnbuilt, IsUsage}
+use Rattle.command_words.specs.Words.{AsksClient, IsUnbuilt, IsUsage}
 use Rattle.pacsat_cli.specs.declared.files.FileCommand.{FileCommand}
 use Rattle.pacsat_cli.specs.declared.files.FileCommand.TheVariants.{Frames, Show, Check}
-use Rattle.pacsat_cli.specs.Sessions.{AsksNode}
+use Rattle.pacsat_cli.specs.Run.{AreRefused}
+use Rattle.pacsat_cli.specs.Sessions.{AsksNode, AsksStore}
 use Rattle.pacsat_cli.specs.Tasks.{AsksFile, AsksMake, AsksText}
 
 module _ (words : List (List ℕ)) (only : OnlyOne words) where
@@ -53,6 +54,24 @@ module _ (words : List (List ℕ)) (only : OnlyOne words) where
 
   pub node-make : AsksNode words → AsksMake words → ⊥
   node-make node make = elim node [ inl session ↦ session-make session make | inr serve ↦ serve-make serve make ]
+
+  -- nor is any of these a client's command
+  pub file-client : AsksFile words → AsksClient words → ⊥
+  file-client (Frames, name, is) client = only.client_frames client (name, is)
+  file-client (Show, name, is) client = only.client_header client (inr (inl (name, is)))
+  file-client (Check, name, is) client = only.client_header client (inl (name, is))
+
+  pub make-client : AsksMake words → AsksClient words → ⊥
+  make-client make client = only.client_header client (inr (inr make))
+
+  pub node-client : AsksNode words → AsksClient words → ⊥
+  node-client node client = elim node [ inl session ↦ only.session_client session client | inr serve ↦ only.serve_client serve client ]
+
+  pub store-client : AsksStore words → AsksClient words → ⊥
+  store-client store client = elim store [ inl session ↦ only.session_client (session.0, session.1) client | inr serve ↦ only.serve_client serve client ]
+
+  pub refused-client : AreRefused words → AsksClient words → ⊥
+  refused-client refused client = elim refused [ inl usage ↦ only.usage_client usage client | inr unbuilt ↦ only.unbuilt_client unbuilt client ]
 
   -- they ask for one text of one file
   pub one-text : Determined words → (command other : FileCommand) (name another : List ℕ) → AsksText words command name → AsksText words other another → (command ≡ other) × (name ≡ another)

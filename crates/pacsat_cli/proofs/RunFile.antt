@@ -4,6 +4,7 @@ use Rattle.std.specs.Prelude.{Option, IfSome}
 use Rattle.px_base.specs.Outside.{Rose}
 use Rattle.px_base.specs.Shelves.{Holding, content_of}
 use Rattle.pacsat_cli.specs.declared.files.FileCommand.{FileCommand}
+use Rattle.pacsat_cli.specs.declared.status.RefusedBy.TheVariants as by
 use Rattle.pacsat_cli.specs.declared.status.Status.{Status}
 use Rattle.pacsat_cli.specs.declared.status.Status.TheVariants as status
 use Rattle.pacsat_cli.specs.Files.{FileEnd, FileShown, IsNoSuchBy, IsShownBy, IsTooLongBy, is_file_status}
@@ -21,6 +22,12 @@ isnt_file_status status.Disk = true
 isnt_file_status (status.BadStore why) = true
 isnt_file_status status.Spent = true
 isnt_file_status status.NotBuilt = true
+isnt_file_status (status.Refused (by.Server code)) = true
+isnt_file_status (status.Refused (by.Fault code)) = true
+isnt_file_status (status.FileChanged kept given) = true
+isnt_file_status status.LinkDown = true
+isnt_file_status (status.Strange kind) = true
+isnt_file_status status.NotesFull = true
 isnt_file_status s = false
 
 never : (command : FileCommand) (other : Status) → isnt_file_status other ≡ true → is_file_status command other ≡ true → ⊥
@@ -32,7 +39,13 @@ never command (status.BadStore why) isnt is = cc
 never command status.Spent isnt is = cc
 never command status.NotBuilt isnt is = cc
 never command status.Done isnt is = cc
-never command status.Refused isnt is = cc
+never command (status.Refused by.Shown) isnt is = cc
+never command (status.Refused (by.Server code)) isnt is = cc
+never command (status.Refused (by.Fault code)) isnt is = cc
+never command (status.FileChanged kept given) isnt is = cc
+never command status.LinkDown isnt is = cc
+never command (status.Strange kind) isnt is = cc
+never command status.NotesFull isnt is = cc
 never command status.NoSuch isnt is = cc
 never command status.TooLong isnt is = cc
 never command status.Out isnt is = cc

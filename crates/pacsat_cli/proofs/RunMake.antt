@@ -5,6 +5,7 @@ use Rattle.px_base.specs.Shelves.{Holding}
 use Rattle.command_words.specs.Laws.{Determined}
 use Rattle.command_words.specs.Words.{IsMake}
 use Rattle.header_tool.specs.Made.{MakeValue}
+use Rattle.pacsat_cli.specs.declared.status.RefusedBy.TheVariants as by
 use Rattle.pacsat_cli.specs.declared.status.Status.{Status}
 use Rattle.pacsat_cli.specs.declared.status.Status.TheVariants as status
 use Rattle.pacsat_cli.specs.Making.{MakeEnd, MakeRan}
@@ -25,7 +26,13 @@ make-status IsFile name before now status.NoSuch h = refl
 make-status IsFile name before now status.TooLong h = refl
 make-status IsFile name before now status.Shelf h = refl
 make-status IsFile name before now status.OutOfMemory h = refl
-make-status IsFile name before now status.Refused h = absurd h
+make-status IsFile name before now (status.Refused by.Shown) h = absurd h
+make-status IsFile name before now (status.Refused (by.Server code)) h = absurd h
+make-status IsFile name before now (status.Refused (by.Fault code)) h = absurd h
+make-status IsFile name before now (status.FileChanged kept given) h = absurd h
+make-status IsFile name before now status.LinkDown h = absurd h
+make-status IsFile name before now (status.Strange kind) h = absurd h
+make-status IsFile name before now status.NotesFull h = absurd h
 make-status IsFile name before now status.Usage h = absurd h
 make-status IsFile name before now status.AirRead h = absurd h
 make-status IsFile name before now status.AirWrite h = absurd h

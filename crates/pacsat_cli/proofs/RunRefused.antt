@@ -3,18 +3,22 @@ use Rattle.std.proofs.Common.{◌≡◌, ℕ, List, [], ◌∷◌, refl, ap, sym
 use Rattle.std.specs.Prelude.{Option, None, Some, IfSome, Result}
 use Rattle.px_base.specs.Shelves.{Holding, content_of}
 use Rattle.px_base.specs.declared.air.Air.{Ghosts as AirGhosts}
+use Rattle.px_base.specs.declared.out.Out.{Ghosts as OutGhosts}
+use Rattle.px_base.specs.declared.shelf.Shelf.{Ghosts as ShelfGhosts}
 use Rattle.disk_model.specs.declared.disk.Disk.{Ghosts}
+use Rattle.uploader.specs.Carried.{Setting}
 use Rattle.command_words.specs.declared.request.SessionRequest.{SessionRequest}
 use Rattle.command_words.specs.declared.serve.ServeRequest.{ServeRequest}
 use Rattle.px_base.proofs.Told.{Gains-none}
 use Rattle.command_words.specs.Laws.{OnlyOne}
-use Rattle.command_words.specs.Words.{IsMake, IsServe, IsSession, IsUnbuilt, IsUsage, NamesBuilt}
+use Rattle.command_words.specs.Words.{AsksClient, IsMake, IsServe, IsSession, IsUnbuilt, IsUsage, NamesBuilt}
 use Rattle.command_words.specs.declared.request.Refusal.{Refusal}
 use Rattle.command_words.specs.declared.request.Refusal.TheVariants as refusal
 use Rattle.header_tool.specs.Made.{MakeValue}
 use Rattle.pacsat_cli.specs.declared.status.Status.{Status}
 use Rattle.pacsat_cli.specs.declared.status.Status.TheVariants as status
 use Rattle.pacsat_cli.specs.declared.files.FileCommand.{FileCommand}
+use Rattle.pacsat_cli.specs.Clients.{RunsFetch, RunsList, RunsSend}
 use Rattle.pacsat_cli.specs.Files.{FileEnd, FileShown, IsNoSuchBy, IsShownBy, IsTooLongBy}
 use Rattle.pacsat_cli.specs.Making.{IsMakeStatus, MakeRan}
 use Rattle.pacsat_cli.specs.Run.{IsUnless, Shows}
@@ -96,6 +100,11 @@ module _ (words : List (List ℕ)) (only : OnlyOne words) where
   make-memory refusal.NotBuilt h body name asked is = absurd (unbuilt-make words only h (body, name, asked, is))
   make-memory refusal.OutOfMemory h body name asked is = refl
 
+  client-memory : (why : Refusal) → MeansOf words why → AsksClient words → status_of_refusal why ≡ status.OutOfMemory
+  client-memory refusal.Usage h client = absurd (only.usage_client h client)
+  client-memory refusal.NotBuilt h client = absurd (only.unbuilt_client h client)
+  client-memory refusal.OutOfMemory h client = refl
+
   module _ (why : Refusal) (h : MeansOf words why) where
     module _ {A : Type 0} (air : AirGhosts A) (before : A) where
       pub refused-session : {C D : Type 0} (g : Ghosts D) (given : C → Option (List ℕ)) (disk : D) (clock : C) → RunsSession words g air given disk disk before before clock clock (status_of_refusal why)
@@ -126,7 +135,7 @@ module _ (words : List (List ℕ)) (only : OnlyOne words) where
       asked = λ e. absurd (refused-not why status.Disk refl e);
       rose = λ e. absurd (refused-not why status.Disk refl e);
       same = λ _. refl;
-      same_reads = λ _. refl;
+      same_reads = λ _ _. refl;
       no_less = (omega arith, omega arith);
     }
 
@@ -135,7 +144,19 @@ module _ (words : List (List ℕ)) (only : OnlyOne words) where
       asked = λ bad e. absurd (refused-not why (status.BadStore bad) refl e);
       exact = λ asked is named disk_not memory_not. absurd (memory_not (session-memory why h asked is));
       exact_served = λ asked is disk_not memory_not. absurd (memory_not (serve-memory why h asked is));
+      exact_notes = λ client disk_not memory_not _. absurd (memory_not (client-memory why h client));
     }
+
+    -- nothing was touched before the status's line
+    module _ {A C D S O : Type 0} (g : Ghosts D) (air : AirGhosts A) (given : C → Option (List ℕ)) (sh : ShelfGhosts S) (o : OutGhosts O) (old : Setting D A C) (shelf : S) (before now : O) (line : Shows o.shown o.faults before now (line_of (status_of_refusal why))) (done : line_of (status_of_refusal why) ≡ [] → now ≡ before) where
+      pub refused-send : RunsSend words g air given sh o old old shelf shelf before now (status_of_refusal why)
+      refused-send = λ asked name is. record { mid = before; ran = inl (client-memory why h (inl (asked, name, is)), refl, refl, refl); line = line; done = done }
+
+      pub refused-fetch : RunsFetch words g air given sh o old old shelf shelf before now (status_of_refusal why)
+      refused-fetch = λ asked number name is. record { mid = before; ran = inl (client-memory why h (inr (inl (asked, number, name, is))), refl, refl, refl); line = line; done = done }
+
+      pub refused-list : RunsList words g air given o old old shelf shelf before now (status_of_refusal why)
+      refused-list = λ asked tokens is. record { mid = before; ran = inl (client-memory why h (inr (inr (asked, tokens, is))), refl, refl, refl); line = line; done = done }
 
     -- want of memory says nothing of the content
     memory_end : (command : FileCommand) (held : Option Holding) (name : List ℕ) → IfSome held (λ shelf. FileEnd command (content_of shelf name) [] status.OutOfMemory)

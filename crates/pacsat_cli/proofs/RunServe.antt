@@ -3,14 +3,14 @@ use Rattle.std.proofs.Common.{◌≡◌, ℕ, List, ap, sym, subst, ◌∙◌, i
 use Rattle.std.specs.Prelude.{Option, IfSome}
 use Rattle.px_base.specs.declared.air.Air.{Ghosts as AirGhosts}
 use Rattle.disk_model.specs.declared.disk.Disk.{Ghosts}
+use Rattle.file_store.specs.State.{standing_of}
 use Rattle.command_words.specs.declared.serve.ServeRequest.{ServeRequest}
 use Rattle.command_words.specs.Laws.{Determined, OnlyOne}
 use Rattle.command_words.specs.Words.{IsServe}
 use Rattle.pacsat_cli.specs.declared.status.Status.{Status}
 use Rattle.pacsat_cli.specs.declared.status.Status.TheVariants as status
-use Rattle.pacsat_cli.specs.Run.{HasStatusCause}
 use Rattle.pacsat_cli.specs.Servers.{IsServedOver, RunsServe, WhereServed, serve_terms}
-use Rattle.pacsat_cli.specs.Sessions.{AsksFresh, HasDiskCause, HasStoreCause, HasWriteCause, IsDoneAtEnd, IsDoneBy, IsSpentBy, RefusesExactly}
+use Rattle.pacsat_cli.specs.Sessions.{AsksFresh, AsksStore, HasDiskCause, HasReadCause, HasStoreCause, HasWriteCause, IsDoneAtEnd, IsDoneBy, IsSpentBy, RefusesExactly}
 use Rattle.pacsat_cli.proofs.Ended.{mended-disk}
 use Rattle.pacsat_cli.proofs.NodeEnds.{Goes, OnDisk, is_node_status, node-complete, node-done, node-not, node-read, node-spent, node-write, on_disk-cause, on_disk-exact, on_disk-goes}
 
@@ -54,6 +54,9 @@ module _ {A C D : Type 0} (g : Ghosts D) (air : AirGhosts A) (given : C → Opti
       never-fresh : false ≡ true → AsksFresh words
       never-fresh never = absurd (cc)
 
+      store : false ≡ false → AsksStore words
+      store is = inr (asked, asks)
+
       -- no service ends with another command's status
       pub serve-not : (other : Status) → is_node_status other ≡ false → s ≡ other → ⊥
       serve-not = node-not air before now s asked.polls false goes
@@ -70,24 +73,25 @@ module _ {A C D : Type 0} (g : Ghosts D) (air : AirGhosts A) (given : C → Opti
       pub serve-spent : WhereServed words air.heard before now (IsSpentBy s)
       serve-spent = λ told. node-spent air before now s asked.polls false goes told.asked.polls told.asks.text.ranges.some_polls told.earlier told.turns told.told_before told.told_now
 
-      pub serve-read : HasStatusCause status.AirRead (air.read_faults before) (air.read_faults now) s
-      serve-read = node-read air before now s asked.polls false goes
+      pub serve-read : HasReadCause words (air.read_faults before) (air.read_faults now) s
+      serve-read = node-read air before now s asked.polls false words goes
 
       pub serve-write : HasWriteCause words (air.write_faults before) (air.write_faults now) s
-      serve-write = node-write air before now s asked.polls false words never-fresh goes
+      serve-write = node-write air before now s asked.polls false words never-fresh store goes
 
       pub serve-disk : HasDiskCause words g.read_faults g.write_faults disk disk_now before now s
       serve-disk = on_disk-cause g air asked.blocks asked.polls disk disk_now before now s on_disk words (inr (asked, asks))
 
       pub serve-bad_store : HasStoreCause words (g.content disk) s
       serve-bad_store = record {
-        asked = λ _ _. inr (asked, asks);
+        asked = λ _ _. inl (inr (asked, asks));
         exact = λ other is _ _ _. absurd (only.session_serve (other, is) (asked, asks));
         exact_served = λ other is disk_not memory_not.
-            let at_blocks : ℕ → Type 0 = λ b. IfSome (g.content disk) (λ octets. RefusesExactly b octets s) in
+            let at_blocks : ℕ → Type 0 = λ b. IfSome (g.content disk) (λ octets. RefusesExactly (standing_of b octets) s) in
             subst at_blocks (ap (λ (r : ServeRequest). r.blocks) (one other is))
             (on_disk-exact g air asked.blocks asked.polls disk disk_now before now s on_disk disk_not memory_not);
+        exact_notes = λ client _ _ _. absurd (only.serve_client (asked, asks) client);
       }
 
       pub serve-done : s ≡ status.Done → IsDoneAtEnd air g.read_faults g.write_faults before now disk disk_now
-      serve-done = node-done air before now s asked.polls false words g.read_faults g.write_faults disk disk_now never-fresh goes serve-disk
+      serve-done = node-done air before now s asked.polls false words g.read_faults g.write_faults disk disk_now never-fresh store (only.serve_client (asked, asks)) goes serve-disk

@@ -3,6 +3,7 @@ use Rattle.std.proofs.Common.{◌≡◌, ℕ, ◌≤◌, List, [], refl, ap, sym
 use Rattle.std.specs.Prelude.{Option, Some, None, IsSome, IfSome}
 use Rattle.px_base.specs.declared.air.Air.{Ghosts as AirGhosts}
 use Rattle.disk_model.specs.declared.disk.Disk.{Ghosts}
+use Rattle.file_store.specs.State.{standing_of}
 use Rattle.command_words.specs.declared.disk.DiskWord.{DiskWord}
 use Rattle.command_words.specs.declared.disk.DiskWord.TheVariants.{Fresh, Named}
 use Rattle.command_words.specs.declared.request.SessionRequest.{SessionRequest}
@@ -12,8 +13,7 @@ use Rattle.command_words.specs.Words.{IsSession}
 use Rattle.pacsat_cli.specs.declared.status.BadStore.{BadStore}
 use Rattle.pacsat_cli.specs.declared.status.Status.{Status}
 use Rattle.pacsat_cli.specs.declared.status.Status.TheVariants as status
-use Rattle.pacsat_cli.specs.Run.{HasStatusCause}
-use Rattle.pacsat_cli.specs.Sessions.{AsksDisk, AsksFresh, AsksMoment, HasDiskCause, HasStoreCause, HasWriteCause, IsDoneAtEnd, IsDoneBy, IsOver, IsSpentBy, OverNamed, RefusesExactly, RunsSession, WhereHeard, run_terms}
+use Rattle.pacsat_cli.specs.Sessions.{AsksDisk, AsksFresh, AsksMoment, AsksStore, HasDiskCause, HasReadCause, HasStoreCause, HasWriteCause, IsDoneAtEnd, IsDoneBy, IsOver, IsSpentBy, OverNamed, RefusesExactly, RunsSession, WhereHeard, run_terms}
 use Rattle.pacsat_cli.specs.Stops.{status_of}
 use Rattle.pacsat_cli.proofs.Ended.{heard-not_bad, memory-not_disk, mended-disk, mended-memory}
 use Rattle.pacsat_cli.proofs.NodeEnds.{Goes, OnDisk, is_early_status, is_node_status, node-complete, node-done, node-not, node-read, node-spent, node-write, on_disk-cause, on_disk-exact, on_disk-goes}
@@ -104,13 +104,13 @@ module _ {A C D : Type 0} (g : Ghosts D) (air : AirGhosts A) (given : C → Opti
       ]
 
   -- the disk's counts by how the session ended
-  disk-cause : (words : List (List ℕ)) (word : DiskWord) → (word ≡ Named → AsksDisk words) → OverNamed word g air given disk disk_now before now clock clock_n (run_terms asked) s → HasDiskCause words g.read_faults g.write_faults disk disk_now before now s
+  disk-cause : (words : List (List ℕ)) (word : DiskWord) → (word ≡ Named → AsksStore words) → OverNamed word g air given disk disk_now before now clock clock_n (run_terms asked) s → HasDiskCause words g.read_faults g.write_faults disk disk_now before now s
   disk-cause words Named names over = on_disk-cause g air asked.blocks asked.polls disk disk_now before now s (session-on_disk over) words (names refl)
   disk-cause words Fresh names over = record {
     asked = λ e. absurd (memory-disk over e);
     rose = λ e. absurd (memory-disk over e);
     same = λ _. ap g.write_faults over.0;
-    same_reads = λ _. ap g.read_faults over.0;
+    same_reads = λ _ _. ap g.read_faults over.0;
     no_less = (let same = ap g.read_faults over.0 in omega (arith, same), let same = ap g.write_faults over.0 in omega (arith, same));
   }
 
@@ -121,26 +121,32 @@ module _ {A C D : Type 0} (g : Ghosts D) (air : AirGhosts A) (given : C → Opti
 
     store-cause : (word : DiskWord) → asked.disk ≡ word → OverNamed word g air given disk disk_now before now clock clock_n (run_terms asked) s → HasStoreCause words (g.content disk) s
     store-cause Named is over = record {
-      asked = λ _ _. inl (asked, asks, is);
+      asked = λ _ _. inl (inl (asked, asks, is));
       exact = λ other asks_other named disk_not memory_not.
-          let at_blocks : ℕ → Type 0 = λ b. IfSome (g.content disk) (λ octets. RefusesExactly b octets s) in
+          let at_blocks : ℕ → Type 0 = λ b. IfSome (g.content disk) (λ octets. RefusesExactly (standing_of b octets) s) in
           subst at_blocks (ap (λ (r : SessionRequest). r.blocks) (one other asks_other))
           (on_disk-exact g air asked.blocks asked.polls disk disk_now before now s (session-on_disk over) disk_not memory_not);
       exact_served = λ other asks_other _ _. absurd (only.session_serve (asked, asks) (other, asks_other));
+      exact_notes = λ client _ _ _. absurd (only.session_client (asked, asks) client);
     }
     store-cause Fresh is over = record {
       asked = λ why e. absurd (memory-not_bad over why e);
       exact = λ other asks_other named _ _. absurd (let same = ap (λ (r : SessionRequest). r.disk) (one other asks_other) in cc);
       exact_served = λ other asks_other _ _. absurd (only.session_serve (asked, asks) (other, asks_other));
+      exact_notes = λ client _ _ _. absurd (only.session_client (asked, asks) client);
     }
 
     alone : (word : DiskWord) → asked.disk ≡ word → OverNamed word g air given disk disk_now before now clock clock_n (run_terms asked) s → (AsksDisk words → ⊥) → disk_now ≡ disk
-    alone Named is over none = absurd (none (inl (asked, asks, is)))
+    alone Named is over none = absurd (none (inl (inl (asked, asks, is))))
     alone Fresh is over none = over.0
 
     fresh-by : (word : DiskWord) → asked.disk ≡ word → is_memory word ≡ true → AsksFresh words
     fresh-by Named is memory = absurd (cc)
     fresh-by Fresh is memory = (asked, asks, is)
+
+    store-by : (word : DiskWord) → asked.disk ≡ word → is_memory word ≡ false → AsksStore words
+    store-by Named is memory = inl (asked, asks, is)
+    store-by Fresh is memory = absurd (cc)
 
     module _ (over : IsOver asked g air given disk disk_now before now clock clock_n s) where
       goes : Goes air asked.polls (is_memory asked.disk) before now s
@@ -166,11 +172,11 @@ module _ {A C D : Type 0} (g : Ghosts D) (air : AirGhosts A) (given : C → Opti
       session-spent = λ told.
           node-spent air before now s asked.polls (is_memory asked.disk) goes told.asked.polls (some_polls words told.asked told.asks) told.earlier told.turns told.told_before told.told_now
 
-      pub session-read : HasStatusCause status.AirRead (air.read_faults before) (air.read_faults now) s
-      session-read = node-read air before now s asked.polls (is_memory asked.disk) goes
+      pub session-read : HasReadCause words (air.read_faults before) (air.read_faults now) s
+      session-read = node-read air before now s asked.polls (is_memory asked.disk) words goes
 
       pub session-write : HasWriteCause words (air.write_faults before) (air.write_faults now) s
-      session-write = node-write air before now s asked.polls (is_memory asked.disk) words (fresh-by asked.disk refl) goes
+      session-write = node-write air before now s asked.polls (is_memory asked.disk) words (fresh-by asked.disk refl) (store-by asked.disk refl) goes
 
       pub session-disk : HasDiskCause words g.read_faults g.write_faults disk disk_now before now s
       session-disk = disk-cause words asked.disk (λ is. inl (asked, asks, is)) over
@@ -179,4 +185,4 @@ module _ {A C D : Type 0} (g : Ghosts D) (air : AirGhosts A) (given : C → Opti
       session-bad_store = store-cause asked.disk refl over
 
       pub session-done : s ≡ status.Done → IsDoneAtEnd air g.read_faults g.write_faults before now disk disk_now
-      session-done = node-done air before now s asked.polls (is_memory asked.disk) words g.read_faults g.write_faults disk disk_now (fresh-by asked.disk refl) goes session-disk
+      session-done = node-done air before now s asked.polls (is_memory asked.disk) words g.read_faults g.write_faults disk disk_now (fresh-by asked.disk refl) (store-by asked.disk refl) (only.session_client (asked, asks)) goes session-disk

@@ -10,8 +10,9 @@ use Rattle.header_tool.specs.Lines.{check_text, header_lines}
 use Rattle.frame_lines.specs.FramesText.{FramesText}
 use Rattle.pacsat_cli.specs.declared.files.FileCommand.{FileCommand}
 use Rattle.pacsat_cli.specs.declared.files.FileCommand.TheVariants.{Frames, Show, Check}
+use Rattle.pacsat_cli.specs.declared.status.RefusedBy.TheVariants.{Shown as by_shown}
 use Rattle.pacsat_cli.specs.declared.status.Status.{Status}
-use Rattle.pacsat_cli.specs.declared.status.Status.TheVariants.{Done, Refused, Usage, AirRead, AirWrite, Disk, NoSuch, BadStore, OutOfMemory, Spent, Out, Shelf, TooLong, NotBuilt}
+use Rattle.pacsat_cli.specs.declared.status.Status.TheVariants.{Done, Refused, NoSuch, OutOfMemory, Out, Shelf, TooLong}
 use Rattle.pacsat_cli.specs.Run.{HasStatusCause, IsUnless, Shows}
 use Rattle.pacsat_cli.specs.Status.{line_of}
 
@@ -28,11 +29,11 @@ IsTextOf Check octets text = text ≡ check_text octets
 -- a file with this fault is refused, and one without is not
 abbrev pub fault_status : Option ℕ → Status
 fault_status None = Done
-fault_status (Some code) = Refused
+fault_status (Some code) = Refused by_shown
 
 -- the same, by the code, 0 for none
 abbrev pub code_status : ℕ → Status
-code_status code = if code == 0 then Done else Refused
+code_status code = if code == 0 then Done else Refused by_shown
 
 -- The status of the command, where all of the text was shown. A file is refused by its first fault, whose code the last line
 -- of the text says.
@@ -53,20 +54,14 @@ pub record FileText (command : FileCommand) (content : Option (List ℕ)) (all :
 -- its cause, and no other status comes.
 abbrev pub FileEnd : FileCommand → Option (List ℕ) → List ℕ → Status → Type 0
 FileEnd command content text Done = FileText command content text Done
-FileEnd command content text Refused = FileText command content text Refused
+FileEnd command content text (Refused by_shown) = FileText command content text (Refused by_shown)
 FileEnd command content text NoSuch = (content ≡ None) × (text ≡ [])
 FileEnd command content text TooLong =
     (octets : List ℕ) × (content ≡ Some octets) × (most_octets < length octets) × (text ≡ [])
 FileEnd command content text Out = (all : List ℕ) × (last : Status) × FileText command content all last × IsFront text all
 FileEnd command content text Shelf = text ≡ []
 FileEnd command content text OutOfMemory = text ≡ []
-FileEnd command content text Usage = ⊥
-FileEnd command content text AirRead = ⊥
-FileEnd command content text AirWrite = ⊥
-FileEnd command content text Disk = ⊥
-FileEnd command content text (BadStore why) = ⊥
-FileEnd command content text Spent = ⊥
-FileEnd command content text NotBuilt = ⊥
+FileEnd command content text status = ⊥
 
 -- whether the command can refuse a file
 abbrev pub checks_headers : FileCommand → Bool
@@ -77,19 +72,13 @@ checks_headers Check = true
 -- whether the command can end with this status
 abbrev pub is_file_status : FileCommand → Status → Bool
 is_file_status command Done = true
-is_file_status command Refused = checks_headers command
+is_file_status command (Refused by_shown) = checks_headers command
 is_file_status command NoSuch = true
 is_file_status command TooLong = true
 is_file_status command Out = true
 is_file_status command Shelf = true
 is_file_status command OutOfMemory = true
-is_file_status command Usage = false
-is_file_status command AirRead = false
-is_file_status command AirWrite = false
-is_file_status command Disk = false
-is_file_status command (BadStore why) = false
-is_file_status command Spent = false
-is_file_status command NotBuilt = false
+is_file_status command status = false
 
 -- whether such a command can end with this status before it shows anything
 abbrev pub is_unshown : Status → Bool

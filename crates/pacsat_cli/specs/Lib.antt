@@ -1,4 +1,6 @@
+pub mod Clients
 pub mod Files
+pub mod Led
 pub mod Making
 pub mod Run
 pub mod Servers

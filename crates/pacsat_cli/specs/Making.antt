@@ -4,7 +4,7 @@ use Rattle.px_base.specs.Shelves.{Holding, Keeps, KeepsOthers, content_of}
 use Rattle.pfh_writer.specs.Built.{passing_len}
 use Rattle.header_tool.specs.Made.{IsMade, MakeValue, made_builder}
 use Rattle.pacsat_cli.specs.declared.status.Status.{Status}
-use Rattle.pacsat_cli.specs.declared.status.Status.TheVariants.{Done, Refused, Usage, AirRead, AirWrite, Disk, NoSuch, BadStore, OutOfMemory, Spent, Out, Shelf, TooLong, NotBuilt}
+use Rattle.pacsat_cli.specs.declared.status.Status.TheVariants.{Done, NoSuch, OutOfMemory, Shelf, TooLong}
 use Rattle.pacsat_cli.specs.Files.{most_octets}
 use Rattle.pacsat_cli.specs.Run.{IsUnless}
 
@@ -28,15 +28,7 @@ MakeEnd IsFile name before now Shelf = MakeFails IsFile name before now
 MakeEnd IsFile name before now NoSuch = now ≡ before
 MakeEnd IsFile name before now TooLong = now ≡ before
 MakeEnd IsFile name before now OutOfMemory = now ≡ before
-MakeEnd IsFile name before now Refused = ⊥
-MakeEnd IsFile name before now Usage = ⊥
-MakeEnd IsFile name before now AirRead = ⊥
-MakeEnd IsFile name before now AirWrite = ⊥
-MakeEnd IsFile name before now Disk = ⊥
-MakeEnd IsFile name before now (BadStore why) = ⊥
-MakeEnd IsFile name before now Spent = ⊥
-MakeEnd IsFile name before now Out = ⊥
-MakeEnd IsFile name before now NotBuilt = ⊥
+MakeEnd IsFile name before now status = ⊥
 
 -- the status by the length that a header or a file can't have, if there is one
 abbrev pub length_status : Option ℕ → Status

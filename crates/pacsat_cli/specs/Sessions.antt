@@ -1,5 +1,5 @@
 -- What a run of the program did for a session, by its words, by what was heard, and by its disk.
-use Rattle.std.specs.Prelude.{◌≡◌, ◌⊎◌, ◌↔◌, ℕ, ◌≤◌, ◌++◌, List, [], ◌∷◌, length, Option, Some, IfSome, Result, IsErrOf}
+use Rattle.std.specs.Prelude.{◌≡◌, ◌⊎◌, ◌↔◌, ℕ, ◌≤◌, ◌++◌, List, [], ◌∷◌, length, Bool, true, false, Option, Some, IfSome, IsTrue, Result, IsErrOf}
 use Rattle.std.specs.List.{AllByRecursion}
 use Rattle.px_base.specs.Moments.{MomentsOf}
 use Rattle.px_base.specs.Outside.{Gains, Rose}
@@ -11,7 +11,8 @@ use Rattle.disk_model.specs.Calls.{new_state}
 use Rattle.disk_model.specs.Memory.{read_faults, state}
 use Rattle.disk_model.specs.declared.disk.Disk.{Ghosts}
 use Rattle.disk_model.specs.declared.memory_disk.MemoryDisk.{MemoryDisk}
-use Rattle.file_journal.specs.Walk.{damaged_at, no_store}
+use Rattle.client_notes.specs.State.{standing_of as notes_standing}
+use Rattle.file_journal.specs.Walk.{Stands, damaged_at, no_store}
 use Rattle.file_entries.specs.Command.{Command}
 use Rattle.file_entries.specs.Store.{empty_store}
 use Rattle.file_store.specs.State.{standing_of}
@@ -28,11 +29,12 @@ use Rattle.command_words.specs.declared.disk.DiskWord.TheVariants.{Fresh, Named}
 use Rattle.command_words.specs.declared.request.SessionRequest.{SessionRequest}
 use Rattle.command_words.specs.declared.serve.ServeRequest.{ServeRequest}
 use Rattle.command_words.specs.Laws.{AsksServe, AsksSession}
-use Rattle.command_words.specs.Words.{IsServe, IsSession}
+use Rattle.command_words.specs.Words.{AsksClient, AsksSend, IsServe, IsSession}
 use Rattle.pacsat_cli.specs.declared.status.BadStore.{BadStore as BadStoreWhy}
 use Rattle.pacsat_cli.specs.declared.status.BadStore.TheVariants.{NotAStore, Damaged}
+use Rattle.pacsat_cli.specs.declared.status.RefusedBy.TheVariants.{Fault}
 use Rattle.pacsat_cli.specs.declared.status.Status.{Status}
-use Rattle.pacsat_cli.specs.declared.status.Status.TheVariants.{AirWrite, BadStore, Disk, Done, OutOfMemory, Spent}
+use Rattle.pacsat_cli.specs.declared.status.Status.TheVariants.{AirRead, AirWrite, BadStore, Disk, Done, LinkDown, NoSuch, Out, OutOfMemory, Refused, Shelf, Spent, Strange, TooLong}
 use Rattle.pacsat_cli.specs.Run.{IsUnless}
 use Rattle.pacsat_cli.specs.Stops.{status_in_memory, status_of}
 
@@ -41,8 +43,12 @@ abbrev pub AsksMoment : List (List ℕ) → Type 0
 AsksMoment words = (asked : SessionRequest) × IsSession words asked × ((moment : ℕ) × (asked.moment ≡ Some moment))
 
 -- the words ask for a session over the disk that DISK names, or for a service, which is over it
+abbrev pub AsksStore : List (List ℕ) → Type 0
+AsksStore words = ((asked : SessionRequest) × IsSession words asked × (asked.disk ≡ Named)) ⊎ AsksServe words
+
+-- the words ask for one of these, or for a client's command, whose notes lie on that disk
 abbrev pub AsksDisk : List (List ℕ) → Type 0
-AsksDisk words = ((asked : SessionRequest) × IsSession words asked × (asked.disk ≡ Named)) ⊎ AsksServe words
+AsksDisk words = AsksStore words ⊎ AsksClient words
 
 -- the words ask for a session or a service
 abbrev pub AsksNode : List (List ℕ) → Type 0
@@ -128,40 +134,79 @@ RunsSession words g air given disk disk_now before now clock clock_now status =
     → (IsUntouched before now clock clock_now status × (disk_now ≡ disk))
     ⊎ IsOver asked g air given disk disk_now before now clock clock_now status
 
+-- Whether a client's command with this status may have come to its outcome. What the air does after that changes no status.
+abbrev pub may_have_outcome : Status → Bool
+may_have_outcome Done = true
+may_have_outcome (Refused by) = true
+may_have_outcome Out = true
+may_have_outcome Shelf = true
+may_have_outcome LinkDown = true
+may_have_outcome (Strange kind) = true
+may_have_outcome status = false
+
+-- The words ask for a client's command, which with this status may have come to its outcome: then a poll or a put may have
+-- failed behind that.
+abbrev pub MayPassOver : List (List ℕ) → Status → Type 0
+MayPassOver words status = AsksClient words × IsTrue (may_have_outcome status)
+
 -- The disk's counts of faults by the status; neither falls. Disk comes only in a session or a service over the disk that
 -- DISK names, and where the count of failed writes and syncs rose; or, in the recovery, before anything was heard or said,
--- where that of failed reads did. Where it doesn't come, the count of failed writes and syncs is as it was. That of failed
--- reads is, but in a session or a service over that disk, where a read that failed is told by code 3.
+-- where that of failed reads did; or in a client's command, where either rose. Where it doesn't come, the count of failed
+-- writes and syncs is as it was. That of failed reads is, but in a session or a service over that disk, where a read that
+-- failed is told by code 3.
 pub record HasDiskCause {A D : Type 0} (words : List (List ℕ)) (reads writes : D → ℕ) (disk disk_now : D) (before now : A)
     (status : Status) : Type 0 where
   pub asked : status ≡ Disk → AsksDisk words
-  pub rose : status ≡ Disk → Rose (writes disk) (writes disk_now) ⊎ (Rose (reads disk) (reads disk_now) × (now ≡ before))
+  pub rose :
+      status ≡ Disk
+      → Rose (writes disk) (writes disk_now) ⊎ (Rose (reads disk) (reads disk_now) × ((now ≡ before) ⊎ AsksClient words))
   pub same : (status ≡ Disk → ⊥) → writes disk_now ≡ writes disk
-  pub same_reads : (AsksDisk words → ⊥) → reads disk_now ≡ reads disk
+  pub same_reads : (status ≡ Disk → ⊥) → (AsksStore words → ⊥) → reads disk_now ≡ reads disk
   pub no_less : (reads disk ≤ reads disk_now) × (writes disk ≤ writes disk_now)
 
--- The air's count of failed puts by the status. After a fault of the disk one reply more was to be said, and that may have
--- failed too; over a disk in memory such a fault is want of memory.
+-- The air's count of failed polls by the status. In a client's command that came to its outcome a poll may have failed
+-- behind that.
+pub record HasReadCause (words : List (List ℕ)) (before now : ℕ) (status : Status) : Type 0 where
+  pub rose : status ≡ AirRead → Rose before now
+  pub same : (status ≡ AirRead → ⊥) → (MayPassOver words status → ⊥) → now ≡ before
+
+-- The air's count of failed puts by the status. After a fault of the disk a node that serves has one reply more to say, and
+-- that may have failed too; over a disk in memory such a fault is want of memory. In a client's command that came to its
+-- outcome a put may have failed behind that.
 pub record HasWriteCause (words : List (List ℕ)) (before now : ℕ) (status : Status) : Type 0 where
   pub rose : status ≡ AirWrite → Rose before now
   pub same :
-      (status ≡ AirWrite → ⊥) → (status ≡ Disk → ⊥) → (status ≡ OutOfMemory → AsksFresh words → ⊥) → now ≡ before
+      (status ≡ AirWrite → ⊥) → (status ≡ Disk → AsksStore words → ⊥) → (status ≡ OutOfMemory → AsksFresh words → ⊥)
+      → (MayPassOver words status → ⊥) → now ≡ before
 
--- each refusal of a disk's content comes exactly where the content stands for no store, with what it stands for
-pub record RefusesExactly (blocks : ℕ) (content : List ℕ) (status : Status) : Type 0 where
-  pub not_a_store : (found : List ℕ) → (status ≡ BadStore (NotAStore found)) ↔ (standing_of blocks content ≡ no_store found)
-  pub damaged : (at : ℕ) → (status ≡ BadStore (Damaged at)) ↔ (standing_of blocks content ≡ damaged_at at)
+-- each refusal of a disk's content comes exactly where the content stands for nothing, with what it stands for
+pub record RefusesExactly {T : Type 0} (standing : Stands T) (status : Status) : Type 0 where
+  pub not_a_store : (found : List ℕ) → (status ≡ BadStore (NotAStore found)) ↔ (standing ≡ no_store found)
+  pub damaged : (at : ℕ) → (status ≡ BadStore (Damaged at)) ↔ (standing ≡ damaged_at at)
 
--- The content of the disk is refused only in a session or a service over the disk that DISK names. But for a fault of the
--- disk and want of memory, and where the content is told, it is refused exactly where it stands for no store.
+-- whether `send` ends so by the file, and not by its notes: before they are recovered
+abbrev pub is_of_file : Status → Bool
+is_of_file (Refused (Fault code)) = true
+is_of_file NoSuch = true
+is_of_file Shelf = true
+is_of_file TooLong = true
+is_of_file status = false
+
+-- The content of the disk is refused only in a session or a service over the disk that DISK names, or in a client's
+-- command. But for a fault of the disk and want of memory, and where the content is told, it is refused exactly where it
+-- stands for no store, or for no notes; in `send` only where the file itself didn't end it before.
 pub record HasStoreCause (words : List (List ℕ)) (content : Option (List ℕ)) (status : Status) : Type 0 where
   pub asked : (why : BadStoreWhy) → status ≡ BadStore why → AsksDisk words
   pub exact :
       (asked : SessionRequest) → IsSession words asked → asked.disk ≡ Named → (status ≡ Disk → ⊥)
-      → (status ≡ OutOfMemory → ⊥) → IfSome content (λ octets. RefusesExactly asked.blocks octets status)
+      → (status ≡ OutOfMemory → ⊥) → IfSome content (λ octets. RefusesExactly (standing_of asked.blocks octets) status)
   pub exact_served :
       (asked : ServeRequest) → IsServe words asked → (status ≡ Disk → ⊥) → (status ≡ OutOfMemory → ⊥)
-      → IfSome content (λ octets. RefusesExactly asked.blocks octets status)
+      → IfSome content (λ octets. RefusesExactly (standing_of asked.blocks octets) status)
+  pub exact_notes :
+      AsksClient words → (status ≡ Disk → ⊥) → (status ≡ OutOfMemory → ⊥)
+      → (AsksSend words → IsTrue (is_of_file status) → ⊥)
+      → IfSome content (λ octets. RefusesExactly (notes_standing octets) status)
 
 -- the end of the air was read, after turns that left it open
 abbrev pub ReadsEnd : Option (List Turn) → Option (List Turn) → Type 0

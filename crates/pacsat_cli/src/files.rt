@@ -4,8 +4,8 @@ ghost use Rattle.std.specs.Prelude.{◌≡◌, ◌≤◌, length};
 ghost use Rattle.pacsat_cli.specs.Files.{FileShown, IsTextPut, OctetsShown, code_status, most_octets};
 ghost use Rattle.pacsat_cli.specs.Run.{HasShelfCause, Stays};
 
-use crate::Status;
 use crate::status::status_of_load;
+use crate::{RefusedBy, Status};
 use frame_lines::show_frames;
 use header_tool::{Shown, check_line, show};
 use px_base::{Out, OutOfMemory, Shelf};
@@ -80,6 +80,6 @@ fn status_of_code(code: u8) -> Status
     if code == 0 {
         Status::Done
     } else {
-        Status::Refused
+        Status::Refused(RefusedBy::Shown)
     }
 }

@@ -1,7 +1,8 @@
-//! The program's one top call, `run`, and what it is made of: the session or the service of a node, the texts of files,
-//! and the making of a file.
+//! The program's one top call, `run`, and what it is made of: the session or the service of a node, the commands of a
+//! client, the texts of files, and the making of a file.
 #![tactic(auto)]
 
+mod clients;
 mod files;
 mod making;
 mod serving;
@@ -10,8 +11,9 @@ mod task;
 mod top_call;
 
 pub use command_words::Words;
-pub use status::{BadStore, Status};
+pub use status::{BadStore, RefusedBy, Status};
 pub use top_call::{end_with, run};
+pub use uploader::FileSum;
 
 #[cfg(test)]
 mod tests;

@@ -1,43 +1,62 @@
 //! How a run of the program ended.
 
-ghost use Rattle.std.specs.Prelude.{◌≡◌, ◌+◌, ◌≤◌, ◌++◌, length};
+ghost use Rattle.std.specs.Prelude.{◌≡◌, ◌+◌, ◌≤◌, ◌++◌, decimal, length};
 ghost use Rattle.arrayvec.specs.ArrayVec.{array_vec_len};
 ghost use Rattle.hex.specs.Hex.{encode_lower};
-ghost use Rattle.pacsat_cli.specs.Status.{bad_line, line_of, number_of};
+ghost use Rattle.pacsat_cli.specs.Status.{bad_line, changed_line, line_of, number_of, numbered_line, refused_line, sum_text};
 ghost use Rattle.pacsat_cli.specs.Stops.{status_of_load as load_status};
 
 use arrayvec::ArrayVec;
 use itoa::Buffer;
 use px_base::ShelfRefusal;
+use uploader::FileSum;
 
-/// Room for a status's line in octets: `damaged `, 20 digits and the line feed, or `not a store `, 16 digits and it.
-const LINE_ROOM: usize = 29;
+/// Room for a status's line in octets: `file changed `, twice ten digits, a blank and 64 digits, the blank between the two,
+/// and the line feed.
+const LINE_ROOM: usize = 165;
 
 /// A status's line, with its line feed.
 pub(crate) type Line = ArrayVec<u8, LINE_ROOM>;
 
-/// Why the content of a disk is no store of files.
+/// Why the content of a disk is no store of files, or no client's notes.
 #[derive(Clone, Copy, Debug, PartialEq, Eq)]
 pub enum BadStore {
-    /// It has more than 16 octets, and they don't begin as a store's.
+    /// It has more than 16 octets, and they don't begin as those of one.
     NotAStore {
         /// Its first eight octets.
         found: [u8; 8],
     },
-    /// It begins as a store, and is damaged.
+    /// It begins as one, and is damaged.
     Damaged {
         /// 8 for the block number, else the place of the gate before a record that is none.
         at: u64,
     },
 }
 
+/// By what a file, or what a client asked of a server, was refused.
+#[derive(Clone, Copy, Debug, PartialEq, Eq)]
+pub enum RefusedBy {
+    /// By the file's first fault, whose code the last line of what was shown says.
+    Shown,
+    /// By the server, with a code (FTL0 1990, error codes).
+    Server {
+        /// The code.
+        code: u8,
+    },
+    /// By the first fault of the file that is sent, or that came (PFH 1990).
+    Fault {
+        /// The fault's code: 6, 7, 14, 15 or 16.
+        code: u8,
+    },
+}
+
 /// How a run of the program ended. The statuses of commands that aren't built yet come with them.
 #[derive(Clone, Copy, Debug, PartialEq, Eq)]
 pub enum Status {
-    /// The command did what it says; a node read the end of the air.
+    /// The command did what it says; a node that serves read the end of the air.
     Done,
-    /// The file's first fault has the code that was shown.
-    Refused,
+    /// A file, or what was asked of a server, was refused.
+    Refused(RefusedBy),
     /// The words aren't in the command set.
     Usage,
     /// Hearing failed: the air's count of read faults rose.
@@ -48,16 +67,35 @@ pub enum Status {
     Disk,
     /// The shelf has no content of the name.
     NoSuch,
-    /// The disk's content is no store of files.
+    /// The last task of this server, caller and name is unfinished, and was begun with another file.
+    FileChanged {
+        /// The length and the digest of the task's file.
+        kept: FileSum,
+        /// Those of the file on the shelf.
+        given: FileSum,
+    },
+    /// The disk's content is no store of files, or no client's notes.
     BadStore(BadStore),
     /// There was no memory.
     OutOfMemory,
-    /// As many polls were made as may be, and none was the end of the air.
+    /// As many polls were made as may be, and none was the end of the air; of a client's, before anything became of what it
+    /// asked.
     Spent,
     /// Showing failed: the output's count of faults rose.
     Out,
     /// The shelf failed: its count of faults rose.
     Shelf,
+    /// The link to the server went down before anything became of what was asked, or the end of the air was read before
+    /// (AX.25 2.0, 2.4).
+    LinkDown,
+    /// The server said a packet that has no place in what was asked, or a malformed one; or the reply to it didn't fit the
+    /// link.
+    Strange {
+        /// The packet's type.
+        kind: u8,
+    },
+    /// A new task is wanted, and 65,536 stand in the notes.
+    NotesFull,
     /// The content of the name is longer than may be.
     TooLong,
     /// A word asks for what isn't built yet.
@@ -71,39 +109,48 @@ impl Status {
     {
         match self {
             Status::Done => 0,
-            Status::Refused => 1,
+            Status::Refused(_) => 1,
             Status::Usage => 2,
             Status::AirRead => 3,
             Status::AirWrite => 4,
             Status::Disk => 5,
             Status::NoSuch => 6,
+            Status::FileChanged { .. } => 7,
             Status::BadStore(_) => 8,
             Status::OutOfMemory => 9,
             Status::Spent => 10,
             Status::Out => 11,
             Status::Shelf => 12,
+            Status::LinkDown => 13,
+            Status::Strange { .. } => 15,
+            Status::NotesFull => 16,
             Status::TooLong => 17,
             Status::NotBuilt => 18,
         }
     }
 
-    /// The line that says so, with its line feed; none where all is done, nor where a file was refused: then the last line of
-    /// what was shown says why.
+    /// The line that says so, with its line feed; none where all is done, nor where the last line of what was shown says
+    /// why a file was refused.
     pub(crate) fn line(&self) -> Line
         ensures { result.items ≡ line_of self.now }
     {
         match self {
-            Status::Done | Status::Refused => Line::new(),
+            Status::Done => Line::new(),
+            Status::Refused(by) => line_of_refusal(by),
             Status::Usage => text("usage\n"),
             Status::AirRead => text("air read\n"),
             Status::AirWrite => text("air write\n"),
             Status::Disk => text("disk\n"),
             Status::NoSuch => text("no such file\n"),
+            Status::FileChanged { kept, given } => line_of_change(kept, given),
             Status::BadStore(why) => line_of_bad_store(why),
             Status::OutOfMemory => text("out of memory\n"),
             Status::Spent => text("spent\n"),
             Status::Out => text("out\n"),
             Status::Shelf => text("shelf\n"),
+            Status::LinkDown => text("link down\n"),
+            Status::Strange { kind } => numbered("strange packet ", u32::from(*kind)),
+            Status::NotesFull => text("notes full\n"),
             Status::TooLong => text("too long\n"),
             Status::NotBuilt => text("not built\n"),
         }
@@ -112,11 +159,47 @@ impl Status {
 
 /// A line of this text.
 fn text(text: &str) -> Line
-    requires { length text.now ≤ 29 }
+    requires { length text.now ≤ 165 }
     ensures { result.items ≡ text.now }
 {
     let mut line = Line::new();
     push(&mut line, text.as_bytes());
+    line
+}
+
+/// The line of these words and a number.
+pub(crate) fn numbered(words: &str, number: u32) -> Line
+    requires { length words.now ≤ 20 }
+    ensures { result.items ≡ numbered_line words.now number }
+{
+    let mut line = Line::new();
+    push(&mut line, words.as_bytes());
+    push_number(&mut line, number);
+    push(&mut line, b"\n");
+    line
+}
+
+/// The line of a refusal: none where what was shown says why.
+fn line_of_refusal(by: &RefusedBy) -> Line
+    ensures { result.items ≡ refused_line by.now }
+{
+    match by {
+        RefusedBy::Shown => Line::new(),
+        RefusedBy::Server { code } => numbered("refused ", u32::from(*code)),
+        RefusedBy::Fault { code } => numbered("fault ", u32::from(*code)),
+    }
+}
+
+/// The line of a file that isn't the one of its task: the length and the digest of that one, and then its own.
+fn line_of_change(kept: &FileSum, given: &FileSum) -> Line
+    ensures { result.items ≡ changed_line kept.now given.now }
+{
+    let mut line = Line::new();
+    push(&mut line, b"file changed ");
+    push_sum(&mut line, kept);
+    push(&mut line, b" ");
+    push_sum(&mut line, given);
+    push(&mut line, b"\n");
     line
 }
 
@@ -149,6 +232,28 @@ fn push_hex(line: &mut Line, octets: &[u8; 8])
     let mut digits = [0; 16];
     hex::encode_to_slice(octets.as_slice(), digits.as_mut_slice()).unwrap();
     push(line, digits.as_slice());
+}
+
+/// Adds a file's length in decimal digits, a blank, and its digest in hexadecimal digits, in lower case.
+fn push_sum(line: &mut Line, sum: &FileSum)
+    requires { array_vec_len line.old + 75 ≤ LINE_ROOM }
+    ensures text { line.new.items ≡ line.old.items ++ sum_text sum.now }
+    ensures len { array_vec_len line.new ≤ array_vec_len line.old + 75 }
+{
+    let mut digits = [0; 64];
+    hex::encode_to_slice(&sum.digest, &mut digits).unwrap();
+    push_number(line, sum.length);
+    push(line, b" ");
+    push(line, &digits);
+}
+
+/// Adds a number in decimal digits.
+fn push_number(line: &mut Line, number: u32)
+    requires { array_vec_len line.old + 10 ≤ LINE_ROOM }
+    ensures text { line.new.items ≡ line.old.items ++ decimal number }
+    ensures len { array_vec_len line.new ≤ array_vec_len line.old + 10 }
+{
+    push(line, Buffer::new().format(number).as_bytes());
 }
 
 /// Adds octets to a line.

@@ -5,7 +5,10 @@ ghost use Rattle.command_words.specs.Asked.{AsksFor};
 ghost use Rattle.pacsat_cli.specs.Tasks.{AsksTask};
 
 use crate::files::FileCommand;
-use command_words::{MakeRequest, Request, ServeRequest, SessionRequest};
+use command_words::{
+    ClientRequest, FetchRequest, ListRequest, MakeRequest, Request, SendRequest, ServeRequest,
+    SessionRequest,
+};
 
 /// What a run does, by what the words ask for.
 #[derive(Clone, Copy)]
@@ -23,27 +26,30 @@ pub(crate) enum Task<'a> {
     },
     /// Makes a file, and keeps it on the shelf.
     Make(MakeRequest<'a>),
+    /// Carries out a client's command.
+    Client(&'a ClientRequest<'a>),
 }
 
 /// What is done for this request.
-pub(crate) fn task_of<'a>(request: &Request<'a>) -> Task<'a>
+pub(crate) fn task_of<'a>(request: &'a Request<'a>) -> Task<'a>
     ensures { (words : List (List ℕ)) → AsksFor words request.now → AsksTask words result }
 {
-    match *request {
-        Request::Session(session) => Task::Session(session),
-        Request::Serve(serve) => Task::Serve(serve),
+    match request {
+        Request::Session(session) => Task::Session(*session),
+        Request::Serve(serve) => Task::Serve(*serve),
         Request::Frames { name } => Task::File {
             command: FileCommand::Frames,
-            name,
+            name: *name,
         },
         Request::PfhShow { name } => Task::File {
             command: FileCommand::Show,
-            name,
+            name: *name,
         },
         Request::PfhCheck { name } => Task::File {
             command: FileCommand::Check,
-            name,
+            name: *name,
         },
-        Request::PfhMake(make) => Task::Make(make),
+        Request::PfhMake(make) => Task::Make(*make),
+        Request::Client(client) => Task::Client(client),
     }
 }

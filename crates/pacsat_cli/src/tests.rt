@@ -5,14 +5,38 @@ use px_base::MemoryOut;
 use std::process::Abort;
 use std::test::Fail;
 
-const STATUSES: [(Status, u8, &str); 16] = [
+const STATUSES: [(Status, u8, &str); 22] = [
     (Status::Done, 0, ""),
-    (Status::Refused, 1, ""),
+    (Status::Refused(RefusedBy::Shown), 1, ""),
+    (
+        Status::Refused(RefusedBy::Server { code: 255 }),
+        1,
+        "refused 255\n",
+    ),
+    (
+        Status::Refused(RefusedBy::Fault { code: 16 }),
+        1,
+        "fault 16\n",
+    ),
     (Status::Usage, 2, "usage\n"),
     (Status::AirRead, 3, "air read\n"),
     (Status::AirWrite, 4, "air write\n"),
     (Status::Disk, 5, "disk\n"),
     (Status::NoSuch, 6, "no such file\n"),
+    (
+        Status::FileChanged {
+            kept: FileSum {
+                length: 4_194_304,
+                digest: [0x0A; 32],
+            },
+            given: FileSum {
+                length: 73,
+                digest: [0xF5; 32],
+            },
+        },
+        7,
+        CHANGED,
+    ),
     (
         Status::BadStore(BadStore::NotAStore {
             found: [0x00, 0x01, 0x0A, 0x7F, 0x80, 0xAB, 0xF0, 0xFF],
@@ -31,6 +55,9 @@ const STATUSES: [(Status, u8, &str); 16] = [
     (Status::Spent, 10, "spent\n"),
     (Status::Out, 11, "out\n"),
     (Status::Shelf, 12, "shelf\n"),
+    (Status::LinkDown, 13, "link down\n"),
+    (Status::Strange { kind: 31 }, 15, "strange packet 31\n"),
+    (Status::NotesFull, 16, "notes full\n"),
     (Status::TooLong, 17, "too long\n"),
     (Status::NotBuilt, 18, "not built\n"),
     (
@@ -39,6 +66,10 @@ const STATUSES: [(Status, u8, &str); 16] = [
         "damaged 8\n",
     ),
 ];
+
+const CHANGED: &str = "file changed \
+    4194304 0a0a0a0a0a0a0a0a0a0a0a0a0a0a0a0a0a0a0a0a0a0a0a0a0a0a0a0a0a0a0a0a \
+    73 f5f5f5f5f5f5f5f5f5f5f5f5f5f5f5f5f5f5f5f5f5f5f5f5f5f5f5f5f5f5f5f5\n";
 
 #[test]
 fn statuses_are_shown(rt: HostRuntime) -> Result<(), Fail> {

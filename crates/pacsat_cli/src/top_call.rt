@@ -2,19 +2,24 @@
 
 ghost use Rattle.std.specs.Prelude.{◌≡◌, ◌≤◌, [], ◌∷◌};
 ghost use Rattle.command_words.specs.Laws.{AsksServe, AsksSession};
-ghost use Rattle.command_words.specs.Words.{IsUnbuilt, IsUsage, NamesBuilt};
+ghost use Rattle.command_words.specs.Words.{AsksClient, AsksList, IsUnbuilt, IsUsage, NamesBuilt};
 ghost use Rattle.ftl0_session.specs.Laws.{AcknowledgedStandsLaw};
 ghost use Rattle.px_base.specs.Outside.{Rose};
 ghost use Rattle.session_node.specs.Laws.{AcknowledgedSinceLaw};
+ghost use Rattle.uploader.specs.Carried.{setting};
+ghost use Rattle.pacsat_cli.specs.Clients.{RunsFetch, RunsList, RunsSend};
 ghost use Rattle.pacsat_cli.specs.Files.{IsNoSuchBy, IsShownBy, IsTooLongBy};
-ghost use Rattle.pacsat_cli.specs.Run.{AreRefused, HasShelfCause, HasStatusCause, IsUnless, Shows, Stays};
+ghost use Rattle.pacsat_cli.specs.Led.{LedLaws};
+ghost use Rattle.pacsat_cli.specs.Run.{AreRefused, HasShelfCause, IsUnless, Shows, Stays};
 ghost use Rattle.pacsat_cli.specs.Servers.{RunsServe, WhereServed};
-ghost use Rattle.pacsat_cli.specs.Sessions.{AsksDisk, AsksMoment, AsksNode, HasDiskCause, HasStoreCause, HasWriteCause};
+ghost use Rattle.pacsat_cli.specs.Sessions.{AsksDisk, AsksMoment, AsksNode, HasDiskCause, HasReadCause, HasStoreCause};
+ghost use Rattle.pacsat_cli.specs.Sessions.{HasWriteCause};
 ghost use Rattle.pacsat_cli.specs.Sessions.{IsDoneAtEnd, IsDoneBy, IsSpentBy, RunsSession, WhereHeard};
 ghost use Rattle.pacsat_cli.specs.Status.{line_of};
 ghost use Rattle.pacsat_cli.specs.Stops.{status_of_refusal};
-ghost use Rattle.pacsat_cli.specs.Tasks.{AsksFile, AsksMake, RunsFile, RunsMake, WhereHeld};
+ghost use Rattle.pacsat_cli.specs.Tasks.{AsksFile, AsksKept, AsksMake, AsksShown, RunsFile, RunsMake, WhereHeld};
 
+use crate::clients::run_client;
 use crate::files::run_file;
 use crate::making::run_make;
 use crate::serving::{run_serve, run_session};
@@ -23,7 +28,9 @@ use crate::{Status, Words};
 use command_words::Refusal;
 use command_words::laws::one_meaning;
 use disk_model::Disk;
+use ftl0_client::laws::one_step_law;
 use ftl0_session::laws::acknowledged_stands_law;
+use node_events::laws::one_run_law;
 use px_base::{Air, Clock, Out, Shelf};
 use session_node::laws::acknowledged_since_law;
 use std::alloc::Global;
@@ -32,9 +39,9 @@ use std::alloc::Global;
 ///
 /// These commands are built: `serve`, the server of up to eight sessions on the air, with a store on the disk; `session`,
 /// one session over FTL0 octets without a link, with a store on the disk, or, where DISK is `none`, on a fresh one in
-/// memory; `frames`, `pfh-show` and `pfh-check`, which show a text of a file on the shelf; and `pfh-make`, which makes a
-/// file of one on the shelf and keeps it there. A place for a bench after the clock comes with the command that uses it.
-/// Takes memory.
+/// memory; `send`, `fetch` and `list`, the commands of a client of a server on the air, with its notes on the disk; `frames`,
+/// `pfh-show` and `pfh-check`, which show a text of a file on the shelf; and `pfh-make`, which makes a file of one on the
+/// shelf and keeps it there. A place for a bench after the clock comes with the command that uses it. Takes memory.
 pub fn run<D: Disk, A: Air, S: Shelf, O: Out, C: Clock>(
     alloc: Global,
     words: &Words,
@@ -46,14 +53,14 @@ pub fn run<D: Disk, A: Air, S: Shelf, O: Out, C: Clock>(
 ) -> Status
     // Usage comes exactly by the words, and words that ask for what isn't built yet give NotBuilt, both but for want of
     // memory to read the words of a command that is built; then nothing is touched. What the shelf holds stays, but for
-    // a file that is made.
+    // a file that is made or fetched.
     ensures usage { result ≡ Status.Usage → IsUsage words.now }
     ensures usage_told { IsUsage words.now → IsUnless result Status.Usage (Status.OutOfMemory ∷ []) }
     ensures unbuilt { result ≡ Status.NotBuilt → IsUnbuilt words.now }
     ensures unbuilt_words { IsUnbuilt words.now → IsUnless result Status.NotBuilt (Status.OutOfMemory ∷ []) }
     ensures unread { AreRefused words.now → result ≡ Status.OutOfMemory → NamesBuilt words.now }
     ensures untouched { AreRefused words.now → (air.new ≡ air.old) × (shelf.new ≡ shelf.old) × (clock.new ≡ clock.old) }
-    ensures held { (AsksMake words.now → ⊥) → Stays S.held shelf.old shelf.new }
+    ensures held { (AsksKept words.now → ⊥) → Stays S.held shelf.old shelf.new }
 
     // A session says LOGIN_RESP, and for each packet of the octets heard the replies of its table and all that is due right
     // behind them, from the store for which its disk's content stands, and ends with a status that has its cause. A read of
@@ -72,13 +79,30 @@ pub fn run<D: Disk, A: Air, S: Shelf, O: Out, C: Clock>(
     ensures serve { RunsServe words.now D.Disk A.Air C.given disk.old disk.new air.old air.new clock.old clock.new result }
     ensures serve_alone { AsksServe words.now → shelf.new ≡ shelf.old }
 
+    // A client says the KISS text of the frames that its definition gives for what is asked and for the frames and ticks of
+    // the turns of the air, from the notes for which its disk's content stands, and ends as its job does, or with another
+    // status that has its cause. At every moment since the first sync of the recovery each image stands for those notes after
+    // the first of the client's commands, none skipped. A file that is acknowledged is so in each image; one that is fetched
+    // is kept whole on the shelf. Or there was no memory to read the words.
+    ensures send { RunsSend words.now D.Disk A.Air C.given S.Shelf O.Out (setting disk.old air.old clock.old)
+        (setting disk.new air.new clock.new) shelf.old shelf.new out.old out.new result }
+    ensures fetch { RunsFetch words.now D.Disk A.Air C.given S.Shelf O.Out (setting disk.old air.old clock.old)
+        (setting disk.new air.new clock.new) shelf.old shelf.new out.old out.new result }
+    ensures list { RunsList words.now D.Disk A.Air C.given O.Out (setting disk.old air.old clock.old)
+        (setting disk.new air.new clock.new) shelf.old shelf.new out.old out.new result }
+    ensures list_alone { AsksList words.now → shelf.new ≡ shelf.old }
+
+    // Where what was heard leads a client to what its command asks for, by the definition, the command came to that, and is
+    // done, unless a put failed, or there was no memory, or disk, shelf or output failed.
+    ensures led { LedLaws D.Disk A.Air C.given S.Shelf O.Out }
+
     // So what was acknowledged stands: once DATA_END's row replied UL_ACK_RESP, the file's entry is complete, with exactly the
     // octets that came, stamped, in every image in which its commands are done, whatever comes behind them; and so in every
     // image that a crash leaves since the last call of the disk for them, in each session and each server, however it ends.
     ensures acknowledged { AcknowledgedStandsLaw }
     ensures acknowledged_since { AcknowledgedSinceLaw D.Disk }
 
-    // No other command touches the disk, nor does a session with `none` for DISK.
+    // No other command than these touches the disk, nor does a session with `none` for DISK.
     ensures disk_alone { (AsksDisk words.now → ⊥) → disk.new ≡ disk.old }
 
     // Where the end of the air was heard, the run is done. Where all polls were made, and none was the end or failed, only
@@ -105,31 +129,35 @@ pub fn run<D: Disk, A: Air, S: Shelf, O: Out, C: Clock>(
     ensures made_alone { AsksMake words.now → (air.new ≡ air.old) × (clock.new ≡ clock.old) }
 
     // A fault is answered only where its count rose; and where it isn't answered, its count stayed, but for the
-    // status's line, for a shelf that finds no memory, for a reply that was to be said after a fault of the disk, and for
-    // a read of the disk that was told by code 3.
-    ensures air_read { HasStatusCause Status.AirRead (A.read_faults air.old) (A.read_faults air.new) result }
+    // status's line, for a shelf that finds no memory, for a reply that was to be said after a fault of the disk, for a
+    // read of the disk that was told by code 3, and for an air that failed when a client's command had its outcome.
+    ensures air_read { HasReadCause words.now (A.read_faults air.old) (A.read_faults air.new) result }
     ensures air_write { HasWriteCause words.now (A.write_faults air.old) (A.write_faults air.new) result }
     ensures disk { HasDiskCause words.now D.read_faults D.write_faults disk.old disk.new air.old air.new result }
     ensures shelf { HasShelfCause (S.faults shelf.old) (S.faults shelf.new) result }
     ensures out { result ≡ Status.Out → Rose (O.faults out.old) (O.faults out.new) }
 
-    // The content of a session's or a server's disk is refused exactly where it stands for no store.
+    // The content of a session's or a server's disk is refused exactly where it stands for no store, that of a client's
+    // where it stands for no notes.
     ensures bad_store { HasStoreCause words.now (D.content disk.old) result }
 
-    // Done says that no count rose, but that of failed reads of the disk in a session or a server; and of these on an air
-    // that tells, that its end was read.
+    // Done says that no count rose, but that of failed reads of the disk in a session or a server, and those of the air in a
+    // client's command, once it had its outcome; and of a session or a server on an air that tells, that its end was read.
     ensures node_done { AsksNode words.now → result ≡ Status.Done
         → IsDoneAtEnd A.Air D.read_faults D.write_faults air.old air.new disk.old disk.new }
     ensures done { result ≡ Status.Done → Stays S.faults shelf.old shelf.new × Stays O.faults out.old out.new }
 
-    // But for the text of a file the status's line alone is shown, or the output's count of faults rose.
-    ensures unshown { result ≡ Status.Done → (AsksFile words.now → ⊥) → out.new ≡ out.old }
-    ensures shown { (AsksFile words.now → ⊥) → Shows O.shown O.faults out.old out.new (line_of result) }
+    // But for the text of a file and a client's command the status's line alone is shown, or the output's count of faults
+    // rose.
+    ensures unshown { result ≡ Status.Done → (AsksShown words.now → ⊥) → out.new ≡ out.old }
+    ensures shown { (AsksShown words.now → ⊥) → Shows O.shown O.faults out.old out.new (line_of result) }
 {
-    // The words ask for one thing, and what was acknowledged stands.
+    // The words ask for one thing, what was acknowledged stands, and a client has one run over what is heard.
     one_meaning();
     acknowledged_stands_law();
     acknowledged_since_law::<D>();
+    one_run_law();
+    one_step_law();
     let request = match command_words::read(alloc, words) {
         Ok(request) => request,
         Err(refusal) => {
@@ -156,6 +184,11 @@ pub fn run<D: Disk, A: Air, S: Shelf, O: Out, C: Clock>(
         }
         Task::Make(request) => {
             let status = run_make(alloc, &request.header, request.body, request.kept, shelf);
+            show_line(status, out);
+            status
+        }
+        Task::Client(request) => {
+            let status = run_client(alloc, request, disk, air, shelf, out, clock);
             show_line(status, out);
             status
         }

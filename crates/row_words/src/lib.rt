@@ -1,10 +1,30 @@
 //! What the programs share that play rows: lines of data, each a run. Words and numbers in a row are parted by blanks.
+//!
+//! Octets are words of hexadecimal digits. Behind `*` stands how often a word's octets stand; behind `+`, how many
+//! records like it there are, the first number of each greater by one than that of the one before.
+//!
+//! Turns of an air are words too. Octets in hexadecimal are heard in as many turns as polls of so many octets take;
+//! `quiet`, `end` and `fail` are a turn each. Each turn has the clock's moment, which is 1 at first; `@` and a number
+//! is the moment from then on, and `+` and a number are so many quiet turns, each at the moment after the one before.
+//! After the last turn the air is closed, and the clock goes on with the last moment.
+//!
+//! A disk has the octets that are written; or `=`, what a read gives of the disk of the row right before; or `=` and a
+//! number, what a crash leaves of that disk, as the number picks it. Its failing calls are their numbers; or `!` and a
+//! number: so many calls of `write_at` and `sync` pass, and each after them fails.
 #![tactic(auto)]
 
 ghost use Rattle.std.specs.Prelude.{◌≡◌, ◌≢◌, ◌↔◌, ◌<◌, [], length, slice_index, codes, IsTrue};
 
+mod disk;
+mod octets;
+mod script;
+mod turns;
+
 use anyhow::{Context, Result};
-use pacsat_cli::Words;
+use command_words::Words;
+pub use disk::{OverDisk, disk_after, octets_before};
+pub use octets::read_octets;
+pub use script::Script;
 use std::alloc::Global;
 use std::io::{Input, Print};
 

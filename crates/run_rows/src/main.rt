@@ -18,11 +18,8 @@
 //! `damaged` and the place. `none` stands there where DISK is `none`.
 #![tactic(auto)]
 
-mod disk;
 mod row;
-mod script;
 mod standing;
-mod turns;
 
 use anyhow::Result;
 use row::RunRows;

@@ -1,13 +1,11 @@
 //! One row: what is run, and what it says.
 
-use crate::disk::{disk_after, octets_before};
-use crate::script::Script;
 use crate::standing::standing_text;
 use anyhow::{Context, Result};
 use disk_model::{Disk, MemoryDisk};
 use pacsat_cli::{Words, run};
 use px_base::{MemoryAir, MemoryClock, MemoryOut, MemoryShelf};
-use row_words::{Player, read_numbers, read_words};
+use row_words::{OverDisk, Player, Script, disk_after, octets_before, read_numbers, read_words};
 use std::alloc::Global;
 
 /// Plays rows, each of which may begin on what the row before left on its disk.
@@ -31,10 +29,24 @@ impl Player for RunRows {
             .context("no failing calls of the disk")?;
         let (row, octets) = row.rsplit_once(';').context("no disk")?;
         let octets = octets_before(alloc, octets, self.before.take())?;
-        let (ended, disk) = disk_after(alloc, row, octets.as_slice(), failing)?;
+        let (ended, disk) = disk_after(alloc, &mut Run { row }, octets.as_slice(), failing)?;
         let standing = content_text(alloc, row, disk.bytes())?;
         self.before = Some(disk);
         Ok(format!(in alloc; "{ended} | {standing}")?)
+    }
+}
+
+/// The parts of a row but for those of its disk.
+#[derive(Drop)]
+struct Run<'a> {
+    row: &'a str,
+}
+
+impl OverDisk for Run<'_> {
+    type Told = String;
+
+    fn over<D: Disk>(&mut self, alloc: Global, disk: &mut D) -> Result<String> {
+        play_over(alloc, self.row, disk)
     }
 }
 
@@ -47,7 +59,7 @@ fn content_text(alloc: Global, row: &str, octets: &[u8]) -> Result<String> {
 }
 
 /// Plays a row over a disk, and gives the octets said in hexadecimal, the status's number, and the line that was shown.
-pub fn play_over<D: Disk>(alloc: Global, row: &str, disk: &mut D) -> Result<String> {
+fn play_over<D: Disk>(alloc: Global, row: &str, disk: &mut D) -> Result<String> {
     let (words, rest) = row.split_once(';').context("no words")?;
     let (failing, heard) = rest.split_once(';').context("no failing calls")?;
     let words = read_words(alloc, words)?;

@@ -1,15 +1,19 @@
 -- Each task by what it did, and refused words by why they were.
 use Rattle.std.proofs.Common.{◌≡◌, ℕ, List, refl, ap, sym, arith, inl, inr, Err}
 use Rattle.command_words.specs.Laws.{AsksServe, AsksSession}
+use Rattle.command_words.specs.Words.{AsksClient}
 use Rattle.header_tool.specs.Made.{make_value}
 use Rattle.pacsat_cli.specs.declared.files.FileCommand.{FileCommand}
 use Rattle.pacsat_cli.specs.declared.status.Status.TheVariants as status
 use Rattle.pacsat_cli.specs.Status.{line_of}
 use Rattle.pacsat_cli.specs.Tasks.{AsksFile, AsksMake, AsksText}
-use Rattle.pacsat_cli.proofs.OneTask.{file-make, node-file, node-make, one-text, serve-file, serve-make, session-file, session-make, unbuilt-file, unbuilt-make, usage-file, usage-make}
+use Rattle.uploader.specs.Carried.{setting}
+use Rattle.pacsat_cli.proofs.LedAll.{led-laws}
+use Rattle.pacsat_cli.proofs.OneTask.{file-client, file-make, make-client, node-client, refused-client, node-file, node-make, one-text, serve-file, serve-make, session-file, session-make, unbuilt-file, unbuilt-make, usage-file, usage-make}
+use Rattle.pacsat_cli.proofs.RunClient.{asks-client, client-alone, client-did, client-done, client-fetches, client-held, client-lists, client-not, client-rose, client-sends, client-store, may-run}
 use Rattle.pacsat_cli.proofs.RunFile.{file-done, file-no_such, file-not, file-rose, file-runs, file-shown, file-too_long}
 use Rattle.pacsat_cli.proofs.RunMake.{make-not, make-runs}
-use Rattle.pacsat_cli.proofs.RunRefused.{means, refused-bad_store, refused-complete, refused-disk, refused-files, refused-made, refused-no_such, refused-not, refused-serve, refused-serve_complete, refused-serve_spent, refused-session, refused-shown, refused-spent, refused-too_long, refused-unbuilt, refused-unbuilt_told, refused-unread, refused-usage, refused-usage_told}
+use Rattle.pacsat_cli.proofs.RunRefused.{means, refused-bad_store, refused-complete, refused-disk, refused-fetch, refused-files, refused-list, refused-made, refused-no_such, refused-not, refused-send, refused-serve, refused-serve_complete, refused-serve_spent, refused-session, refused-shown, refused-spent, refused-too_long, refused-unbuilt, refused-unbuilt_told, refused-unread, refused-usage, refused-usage_told}
 use Rattle.pacsat_cli.proofs.RunServe.{serve-bad_store, serve-complete, serve-disk, serve-done, serve-not, serve-read, serve-runs, serve-spent, serve-write}
 use Rattle.pacsat_cli.proofs.RunSession.{asked_moment, most_blocks, session-alone, session-bad_store, session-complete, session-disk, session-done, session-not, session-read, session-runs, session-spent, session-write, some_blocks}
 use Rattle.pacsat_cli.proofs.top_call.run.Goals as goal
@@ -37,6 +41,11 @@ returns-in-Err g c =
       serve = refused-serve words only why h g.A.Air c.args.air.now g.D.Disk g.C.Clock.given c.args.disk.now c.args.clock.now;
       serve_alone = λ _. refl;
       clock_unasked = λ _. refl;
+      send = refused-send words only why h g.D.Disk g.A.Air g.C.Clock.given g.S.Shelf g.O.Out (setting c.args.disk.now c.args.air.now c.args.clock.now) c.args.shelf.now c.args.out.now c.show_line.new.out line.shown line.no_line;
+      fetch = refused-fetch words only why h g.D.Disk g.A.Air g.C.Clock.given g.S.Shelf g.O.Out (setting c.args.disk.now c.args.air.now c.args.clock.now) c.args.shelf.now c.args.out.now c.show_line.new.out line.shown line.no_line;
+      list = refused-list words only why h g.D.Disk g.A.Air g.C.Clock.given g.S.Shelf g.O.Out (setting c.args.disk.now c.args.air.now c.args.clock.now) c.args.shelf.now c.args.out.now c.show_line.new.out line.shown line.no_line;
+      list_alone = λ _. refl;
+      led = led-laws g.D.Disk g.A.Air g.C.Clock.given g.S.Shelf g.O.Out c.one_run_law.ensures c.one_step_law.ensures;
       acknowledged = c.acknowledged_stands_law.ensures;
       acknowledged_since = c.acknowledged_since_law.ensures;
       disk_alone = λ _. refl;
@@ -51,8 +60,8 @@ returns-in-Err g c =
       files_done = refused-shown words only why h held;
       made = refused-made words only why h g.S.Shelf.held c.args.shelf.now;
       made_alone = λ _. (refl, refl);
-      air_read = record { rose = λ e. absurd (refused-not why status.AirRead refl e); same = λ _. refl };
-      air_write = record { rose = λ e. absurd (refused-not why status.AirWrite refl e); same = λ _ _ _. refl };
+      air_read = record { rose = λ e. absurd (refused-not why status.AirRead refl e); same = λ _ _. refl };
+      air_write = record { rose = λ e. absurd (refused-not why status.AirWrite refl e); same = λ _ _ _ _. refl };
       disk = refused-disk words only why h g.D.Disk.read_faults g.D.Disk.write_faults c.args.disk.now c.args.air.now;
       shelf = record { rose = λ e. absurd (refused-not why status.Shelf refl e); same = λ _ _. refl };
       out = λ e. absurd (refused-not why status.Out refl e);
@@ -94,6 +103,11 @@ returns-in-Session g c =
       serve = λ other is. absurd (only.session_serve session (other, is));
       serve_alone = λ serve. absurd (only.session_serve session serve);
       clock_unasked = λ given. ran.ensures.clock (asked_moment words asked asks determined given);
+      send = λ asked name is. absurd (only.session_client session (inl (asked, name, is)));
+      fetch = λ asked number name is. absurd (only.session_client session (inr (inl (asked, number, name, is))));
+      list = λ asked tokens is. absurd (only.session_client session (inr (inr (asked, tokens, is))));
+      list_alone = λ _. refl;
+      led = led-laws g.D.Disk g.A.Air g.C.Clock.given g.S.Shelf g.O.Out c.one_run_law.ensures c.one_step_law.ensures;
       acknowledged = c.acknowledged_stands_law.ensures;
       acknowledged_since = c.acknowledged_since_law.ensures;
       disk_alone = session-alone g.D.Disk g.A.Air g.C.Clock.given c.args.disk.now ran.new.disk c.args.air.now ran.new.air c.args.clock.now ran.new.clock asked ran.result words asks only determined over;
@@ -150,9 +164,14 @@ returns-in-Serve g c =
       serve = serve-runs g.D.Disk g.A.Air g.C.Clock.given c.args.disk.now ran.new.disk c.args.air.now ran.new.air c.args.clock.now ran.new.clock asked ran.result words asks only determined over;
       serve_alone = λ _. refl;
       clock_unasked = λ given. absurd (only.session_serve (given.0, given.1) serve);
+      send = λ asked name is. absurd (only.serve_client serve (inl (asked, name, is)));
+      fetch = λ asked number name is. absurd (only.serve_client serve (inr (inl (asked, number, name, is))));
+      list = λ asked tokens is. absurd (only.serve_client serve (inr (inr (asked, tokens, is))));
+      list_alone = λ _. refl;
+      led = led-laws g.D.Disk g.A.Air g.C.Clock.given g.S.Shelf g.O.Out c.one_run_law.ensures c.one_step_law.ensures;
       acknowledged = c.acknowledged_stands_law.ensures;
       acknowledged_since = c.acknowledged_since_law.ensures;
-      disk_alone = λ none. absurd (none (inr serve));
+      disk_alone = λ none. absurd (none (inl (inr serve)));
       complete = λ told. absurd (only.session_serve (told.asked, told.asks) serve);
       spent = λ told. absurd (only.session_serve (told.asked, told.asks) serve);
       serve_complete = serve-complete g.D.Disk g.A.Air g.C.Clock.given c.args.disk.now ran.new.disk c.args.air.now ran.new.air c.args.clock.now ran.new.clock asked ran.result words asks only determined over;
@@ -202,6 +221,11 @@ returns-in-File g c =
       serve = λ asked is. absurd (serve-file words only (asked, is) file);
       serve_alone = λ serve. absurd (serve-file words only serve file);
       clock_unasked = λ _. refl;
+      send = λ asked name is. absurd (file-client words only file (inl (asked, name, is)));
+      fetch = λ asked number name is. absurd (file-client words only file (inr (inl (asked, number, name, is))));
+      list = λ asked tokens is. absurd (file-client words only file (inr (inr (asked, tokens, is))));
+      list_alone = λ asks. absurd (file-client words only file (inr (inr asks)));
+      led = led-laws g.D.Disk g.A.Air g.C.Clock.given g.S.Shelf g.O.Out c.one_run_law.ensures c.one_step_law.ensures;
       acknowledged = c.acknowledged_stands_law.ensures;
       acknowledged_since = c.acknowledged_since_law.ensures;
       disk_alone = λ _. refl;
@@ -218,23 +242,24 @@ returns-in-File g c =
       files_done = file-shown g.O.Out.shown g.O.Out.faults command held name c.args.out.now ran.new.out ran.result ran.ensures.shown words one;
       made = λ body kept asked is. absurd (file-make words only file (body, kept, asked, is));
       made_alone = λ make. absurd (file-make words only file make);
-      air_read = record { rose = λ e. absurd (isnt status.AirRead refl e); same = λ _. refl };
-      air_write = record { rose = λ e. absurd (isnt status.AirWrite refl e); same = λ _ _ _. refl };
-      disk = record { asked = λ e. absurd (isnt status.Disk refl e); rose = λ e. absurd (isnt status.Disk refl e); same = λ _. refl; same_reads = λ _. refl; no_less = (omega arith, omega arith) };
+      air_read = record { rose = λ e. absurd (isnt status.AirRead refl e); same = λ _ _. refl };
+      air_write = record { rose = λ e. absurd (isnt status.AirWrite refl e); same = λ _ _ _ _. refl };
+      disk = record { asked = λ e. absurd (isnt status.Disk refl e); rose = λ e. absurd (isnt status.Disk refl e); same = λ _. refl; same_reads = λ _ _. refl; no_less = (omega arith, omega arith) };
       shelf = ran.ensures.shelf;
       out = file-rose g.O.Out.shown g.O.Out.faults command held name c.args.out.now ran.new.out ran.result ran.ensures.shown c.show_line-in-File.new.out line.no_fewer_faults;
       bad_store = record {
         asked = λ bad e. absurd (isnt (status.BadStore bad) refl e);
         exact = λ asked is named disk_not memory_not. absurd (session-file words only (asked, is) file);
         exact_served = λ asked is disk_not memory_not. absurd (serve-file words only (asked, is) file);
+        exact_notes = λ client. absurd (file-client words only file client);
       };
       node_done = λ node. absurd (node-file words only node file);
       done = λ e. (
         ran.ensures.shelf.same (λ f. let other = sym e in cc) (λ f. let other = sym e in cc),
         file-done g.O.Out.shown g.O.Out.faults command held name c.args.out.now ran.new.out ran.result ran.ensures.shown c.show_line-in-File.new.out (λ d. line.no_line (ap line_of d)) e,
       );
-      unshown = λ _ others. absurd (others file);
-      shown = λ others. absurd (others file);
+      unshown = λ _ others. absurd (others (inl file));
+      shown = λ others. absurd (others (inl file));
     }
 
 pub run_make-status-requires : goal.run_make-status-requires
@@ -264,12 +289,17 @@ returns-in-Make g c =
       unbuilt_words = λ unbuilt. absurd (unbuilt-make words only unbuilt make);
       unread = λ refused. absurd (elim refused [ inl usage ↦ usage-make words only usage make | inr unbuilt ↦ unbuilt-make words only unbuilt make ]);
       untouched = λ refused. absurd (elim refused [ inl usage ↦ usage-make words only usage make | inr unbuilt ↦ unbuilt-make words only unbuilt make ]);
-      held = λ others. absurd (others make);
+      held = λ others. absurd (others (inl make));
       session = λ session is. absurd (session-make words only (session, is) make);
       session_alone = λ session. absurd (session-make words only session make);
       serve = λ asked is. absurd (serve-make words only (asked, is) make);
       serve_alone = λ serve. absurd (serve-make words only serve make);
       clock_unasked = λ _. refl;
+      send = λ asked name is. absurd (make-client words only make (inl (asked, name, is)));
+      fetch = λ asked number name is. absurd (make-client words only make (inr (inl (asked, number, name, is))));
+      list = λ asked tokens is. absurd (make-client words only make (inr (inr (asked, tokens, is))));
+      list_alone = λ asks. absurd (make-client words only make (inr (inr asks)));
+      led = led-laws g.D.Disk g.A.Air g.C.Clock.given g.S.Shelf g.O.Out c.one_run_law.ensures c.one_step_law.ensures;
       acknowledged = c.acknowledged_stands_law.ensures;
       acknowledged_since = c.acknowledged_since_law.ensures;
       disk_alone = λ _. refl;
@@ -284,15 +314,16 @@ returns-in-Make g c =
       files_done = λ command name shelf is. absurd (file-make words only (command, name, is) make);
       made = make-runs words g.S.Shelf.held c.args.shelf.now ran.new.shelf body kept asked ran.result asks determined made;
       made_alone = λ _. (refl, refl);
-      air_read = record { rose = λ e. absurd (isnt status.AirRead refl e); same = λ _. refl };
-      air_write = record { rose = λ e. absurd (isnt status.AirWrite refl e); same = λ _ _ _. refl };
-      disk = record { asked = λ e. absurd (isnt status.Disk refl e); rose = λ e. absurd (isnt status.Disk refl e); same = λ _. refl; same_reads = λ _. refl; no_less = (omega arith, omega arith) };
+      air_read = record { rose = λ e. absurd (isnt status.AirRead refl e); same = λ _ _. refl };
+      air_write = record { rose = λ e. absurd (isnt status.AirWrite refl e); same = λ _ _ _ _. refl };
+      disk = record { asked = λ e. absurd (isnt status.Disk refl e); rose = λ e. absurd (isnt status.Disk refl e); same = λ _. refl; same_reads = λ _ _. refl; no_less = (omega arith, omega arith) };
       shelf = ran.ensures.shelf;
       out = λ e. absurd (isnt status.Out refl e);
       bad_store = record {
         asked = λ bad e. absurd (isnt (status.BadStore bad) refl e);
         exact = λ asked is named disk_not memory_not. absurd (session-make words only (asked, is) make);
         exact_served = λ asked is disk_not memory_not. absurd (serve-make words only (asked, is) make);
+        exact_notes = λ client. absurd (make-client words only make client);
       };
       node_done = λ node. absurd (node-make words only node make);
       done = λ e. (
@@ -301,4 +332,63 @@ returns-in-Make g c =
       );
       unshown = λ e _. line.no_line (ap line_of e);
       shown = λ _. line.shown;
+    }
+
+pub run_client-status-requires : goal.run_client-status-requires
+run_client-status-requires g c = may-run c.args.words.now c.in-Client.request.now (c.in-Client.ensures c.args.words.now c.in-Ok.ensures.asks)
+
+pub returns-in-Client : goal.returns-in-Client
+returns-in-Client g c =
+    let words = c.args.words.now in
+    let request = c.in-Client.request.now in
+    let asks = c.in-Client.ensures words c.in-Ok.ensures.asks in
+    let client : AsksClient words = asks-client words request asks in
+    let only = c.one_meaning.ensures.only_one words in
+    let determined = c.one_meaning.ensures.determined words in
+    let ran = c.run_client-status in
+    let line = c.show_line-in-Client.ensures in
+    let did = client-did g.D.Disk g.A.Air g.C.Clock.given g.S.Shelf g.O.Out (setting c.args.disk.now c.args.air.now c.args.clock.now) (setting ran.new.disk ran.new.air ran.new.clock) c.args.shelf.now ran.new.shelf c.args.out.now ran.new.out c.show_line-in-Client.new.out words ran.result request asks ran.ensures in
+    let isnt = client-not g.D.Disk g.A.Air g.C.Clock.given g.S.Shelf g.O.Out (setting c.args.disk.now c.args.air.now c.args.clock.now) (setting ran.new.disk ran.new.air ran.new.clock) c.args.shelf.now ran.new.shelf c.args.out.now ran.new.out c.show_line-in-Client.new.out words ran.result did in
+    record {
+      usage = λ e. absurd (isnt status.Usage refl e);
+      usage_told = λ usage. absurd (only.usage_client usage client);
+      unbuilt = λ e. absurd (isnt status.NotBuilt refl e);
+      unbuilt_words = λ unbuilt. absurd (only.unbuilt_client unbuilt client);
+      unread = λ refused. absurd (refused-client words only refused client);
+      untouched = λ refused. absurd (refused-client words only refused client);
+      held = client-held g.D.Disk g.A.Air g.C.Clock.given g.S.Shelf g.O.Out (setting c.args.disk.now c.args.air.now c.args.clock.now) (setting ran.new.disk ran.new.air ran.new.clock) c.args.shelf.now ran.new.shelf c.args.out.now ran.new.out c.show_line-in-Client.new.out words ran.result request asks ran.ensures;
+      session = λ other is. absurd (only.session_client (other, is) client);
+      session_alone = λ session. absurd (only.session_client session client);
+      serve = λ other is. absurd (only.serve_client (other, is) client);
+      serve_alone = λ serve. absurd (only.serve_client serve client);
+      clock_unasked = λ given. absurd (only.session_client (given.0, given.1) client);
+      send = client-sends g.D.Disk g.A.Air g.C.Clock.given g.S.Shelf g.O.Out (setting c.args.disk.now c.args.air.now c.args.clock.now) (setting ran.new.disk ran.new.air ran.new.clock) c.args.shelf.now ran.new.shelf c.args.out.now ran.new.out c.show_line-in-Client.new.out words ran.result only determined line.shown line.no_line request asks ran.ensures;
+      fetch = client-fetches g.D.Disk g.A.Air g.C.Clock.given g.S.Shelf g.O.Out (setting c.args.disk.now c.args.air.now c.args.clock.now) (setting ran.new.disk ran.new.air ran.new.clock) c.args.shelf.now ran.new.shelf c.args.out.now ran.new.out c.show_line-in-Client.new.out words ran.result only determined line.shown line.no_line request asks ran.ensures;
+      list = client-lists g.D.Disk g.A.Air g.C.Clock.given g.S.Shelf g.O.Out (setting c.args.disk.now c.args.air.now c.args.clock.now) (setting ran.new.disk ran.new.air ran.new.clock) c.args.shelf.now ran.new.shelf c.args.out.now ran.new.out c.show_line-in-Client.new.out words ran.result only determined line.shown line.no_line request asks ran.ensures;
+      list_alone = client-alone g.D.Disk g.A.Air g.C.Clock.given g.S.Shelf g.O.Out (setting c.args.disk.now c.args.air.now c.args.clock.now) (setting ran.new.disk ran.new.air ran.new.clock) c.args.shelf.now ran.new.shelf c.args.out.now ran.new.out c.show_line-in-Client.new.out words ran.result only request asks ran.ensures;
+      led = led-laws g.D.Disk g.A.Air g.C.Clock.given g.S.Shelf g.O.Out c.one_run_law.ensures c.one_step_law.ensures;
+      acknowledged = c.acknowledged_stands_law.ensures;
+      acknowledged_since = c.acknowledged_since_law.ensures;
+      disk_alone = λ none. absurd (none (inr client));
+      complete = λ told. absurd (only.session_client (told.asked, told.asks) client);
+      spent = λ told. absurd (only.session_client (told.asked, told.asks) client);
+      serve_complete = λ told. absurd (only.serve_client (told.asked, told.asks) client);
+      serve_spent = λ told. absurd (only.serve_client (told.asked, told.asks) client);
+      files = λ command file is. absurd (file-client words only (command, file, is) client);
+      files_alone = λ file. absurd (file-client words only file client);
+      no_such = λ command file shelf is. absurd (file-client words only (command, file, is) client);
+      too_long = λ command file shelf is. absurd (file-client words only (command, file, is) client);
+      files_done = λ command file shelf is. absurd (file-client words only (command, file, is) client);
+      made = λ body kept spec is. absurd (make-client words only (body, kept, spec, is) client);
+      made_alone = λ make. absurd (make-client words only make client);
+      air_read = did.read;
+      air_write = did.write;
+      disk = did.disk;
+      shelf = did.of_shelf;
+      out = client-rose g.D.Disk g.A.Air g.C.Clock.given g.S.Shelf g.O.Out (setting c.args.disk.now c.args.air.now c.args.clock.now) (setting ran.new.disk ran.new.air ran.new.clock) c.args.shelf.now ran.new.shelf c.args.out.now ran.new.out c.show_line-in-Client.new.out words ran.result did line.no_fewer_faults;
+      bad_store = client-store g.D.Disk g.A.Air g.C.Clock.given g.S.Shelf g.O.Out (setting c.args.disk.now c.args.air.now c.args.clock.now) (setting ran.new.disk ran.new.air ran.new.clock) c.args.shelf.now ran.new.shelf c.args.out.now ran.new.out c.show_line-in-Client.new.out words ran.result did client only;
+      node_done = λ node. absurd (node-client words only node client);
+      done = client-done g.D.Disk g.A.Air g.C.Clock.given g.S.Shelf g.O.Out (setting c.args.disk.now c.args.air.now c.args.clock.now) (setting ran.new.disk ran.new.air ran.new.clock) c.args.shelf.now ran.new.shelf c.args.out.now ran.new.out c.show_line-in-Client.new.out words ran.result did line.no_line;
+      unshown = λ _ others. absurd (others (inr client));
+      shown = λ others. absurd (others (inr client));
     }

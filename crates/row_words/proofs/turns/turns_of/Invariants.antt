@@ -2,7 +2,7 @@
 use Rattle.std.proofs.Common.{◌≡◌, ◌++◌, length}
 use Rattle.std.specs.List.{AllByRecursion}
 use Rattle.px_base.specs.Polling.{IsTurn, octets_heard}
-use Rattle.run_rows.proofs.turns.turns_of.Given as goal
+use Rattle.row_words.proofs.turns.turns_of.Given as goal
 
 abbrev pub invariant-loop-rest : goal.invariant-loop-rest
 invariant-loop-rest l = AllByRecursion IsTurn l.turns.items × (octets_heard l.turns.items ++ l.rest ≡ l.fn.octets)

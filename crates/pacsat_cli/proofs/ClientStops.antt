@@ -1,0 +1,306 @@
+-- How a client's command is stopped, and which status that is.
+use Rattle.std.proofs.Common.{◌≡◌, ℕ, refl, ap, sym, ◌∙◌, inl, inr, Bool, true, false}
+use Rattle.std.specs.Prelude.{◌⊎◌, Option, None, Some, IsTrue, Result, Ok, Err, if◌then◌else◌, ⊤}
+use Rattle.px_base.specs.Outside.{Rose}
+use Rattle.client_notes.specs.declared.refusals.NotesRefusal.{NotesRefusal}
+use Rattle.client_notes.specs.declared.refusals.NotesRefusal.TheVariants as refusal
+use Rattle.client_notes.specs.declared.refusals.StoreFault.{StoreFault}
+use Rattle.client_notes.specs.declared.refusals.StoreFault.TheVariants as fault
+use Rattle.ftl0_client.specs.declared.outcome.Outcome.{Outcome}
+use Rattle.ftl0_client.specs.declared.outcome.Outcome.TheVariants as outcome
+use Rattle.client_node.specs.Carried.{CountsBy, answer_of, is_working}
+use Rattle.client_node.specs.declared.stop.NodeStop.{NodeStop}
+use Rattle.client_node.specs.declared.stop.NodeStop.TheVariants as node
+use Rattle.uploader.specs.declared.stop.SendStop.{SendStop}
+use Rattle.uploader.specs.declared.stop.SendStop.TheVariants as stop
+use Rattle.uploader.specs.declared.sum.FileSum.{FileSum}
+use Rattle.uploader.specs.Loading.{IsPastFile, is_of_file as is_stop_of_file}
+use Rattle.uploader.specs.Stops.{by_node, by_outcome, stop_of_fault, stop_of_node, stop_of_start}
+use Rattle.pacsat_cli.specs.declared.status.BadStore.TheVariants as bad
+use Rattle.pacsat_cli.specs.declared.status.RefusedBy.TheVariants as by
+use Rattle.pacsat_cli.specs.declared.status.Status.{Status}
+use Rattle.pacsat_cli.specs.declared.status.Status.TheVariants as status
+use Rattle.pacsat_cli.specs.Sessions.{is_of_file, may_have_outcome}
+use Rattle.pacsat_cli.specs.Stops.{status_of_stop}
+
+-- the stop that a status is of, where it is of one
+abbrev pub stop_of_status : Status → Option SendStop
+stop_of_status (status.Refused (by.Server code)) = Some (stop.Refused code)
+stop_of_status (status.Refused (by.Fault code)) = Some (stop.BadFile code)
+stop_of_status status.AirRead = Some stop.AirRead
+stop_of_status status.AirWrite = Some stop.AirWrite
+stop_of_status status.Disk = Some stop.Disk
+stop_of_status status.NoSuch = Some stop.NoSuch
+stop_of_status (status.FileChanged kept given) = Some (stop.Changed kept given)
+stop_of_status (status.BadStore (bad.NotAStore found)) = Some (stop.NotAStore found)
+stop_of_status (status.BadStore (bad.Damaged at)) = Some (stop.Damaged at)
+stop_of_status status.OutOfMemory = Some stop.OutOfMemory
+stop_of_status status.Spent = Some stop.Spent
+stop_of_status status.Out = Some stop.Out
+stop_of_status status.Shelf = Some stop.Shelf
+stop_of_status status.LinkDown = Some stop.LinkDown
+stop_of_status (status.Strange kind) = Some (stop.Strange kind)
+stop_of_status status.NotesFull = Some stop.NotesFull
+stop_of_status status.TooLong = Some stop.TooLong
+stop_of_status s = None
+
+pub stop-back : (why : SendStop) → stop_of_status (status_of_stop why) ≡ Some why
+stop-back (stop.Refused code) = refl
+stop-back (stop.BadFile code) = refl
+stop-back stop.AirRead = refl
+stop-back stop.AirWrite = refl
+stop-back stop.Disk = refl
+stop-back stop.NoSuch = refl
+stop-back (stop.Changed kept given) = refl
+stop-back (stop.NotAStore found) = refl
+stop-back (stop.Damaged at) = refl
+stop-back stop.OutOfMemory = refl
+stop-back stop.Spent = refl
+stop-back stop.Out = refl
+stop-back stop.Shelf = refl
+stop-back stop.LinkDown = refl
+stop-back (stop.Strange kind) = refl
+stop-back stop.NotesFull = refl
+stop-back stop.TooLong = refl
+
+-- whether a client's command can end with this status: with what is of a stop, or done
+abbrev pub is_client_status : Status → Bool
+is_client_status status.Usage = false
+is_client_status status.NotBuilt = false
+is_client_status (status.Refused by.Shown) = false
+is_client_status s = true
+
+pub stop-client : (why : SendStop) → is_client_status (status_of_stop why) ≡ true
+stop-client (stop.Refused code) = refl
+stop-client (stop.BadFile code) = refl
+stop-client stop.AirRead = refl
+stop-client stop.AirWrite = refl
+stop-client stop.Disk = refl
+stop-client stop.NoSuch = refl
+stop-client (stop.Changed kept given) = refl
+stop-client (stop.NotAStore found) = refl
+stop-client (stop.Damaged at) = refl
+stop-client stop.OutOfMemory = refl
+stop-client stop.Spent = refl
+stop-client stop.Out = refl
+stop-client stop.Shelf = refl
+stop-client stop.LinkDown = refl
+stop-client (stop.Strange kind) = refl
+stop-client stop.NotesFull = refl
+stop-client stop.TooLong = refl
+
+-- where the status isn't one of the file, nor is the stop
+pub stop-past : (why : SendStop) → (IsTrue (is_of_file (status_of_stop why)) → ⊥) → is_stop_of_file why ≡ false
+stop-past (stop.Refused code) h = refl
+stop-past (stop.BadFile code) h = absurd (h refl)
+stop-past stop.AirRead h = refl
+stop-past stop.AirWrite h = refl
+stop-past stop.Disk h = refl
+stop-past stop.NoSuch h = absurd (h refl)
+stop-past (stop.Changed kept given) h = refl
+stop-past (stop.NotAStore found) h = refl
+stop-past (stop.Damaged at) h = refl
+stop-past stop.OutOfMemory h = refl
+stop-past stop.Spent h = refl
+stop-past stop.Out h = refl
+stop-past stop.Shelf h = absurd (h refl)
+stop-past stop.LinkDown h = refl
+stop-past (stop.Strange kind) h = refl
+stop-past stop.NotesFull h = refl
+stop-past stop.TooLong h = absurd (h refl)
+
+-- The status is the one of the end of a command; once it is done its line may have failed.
+pub record StatusBy {T : Type 0} (ended : Result T SendStop) (s : Status) : Type 0 where
+  pub stopped : (why : SendStop) → ended ≡ Err why → s ≡ status_of_stop why
+  pub done : (value : T) → ended ≡ Ok value → (s ≡ status.Done) ⊎ (s ≡ status.Out)
+
+-- whether it is the stop by the output
+abbrev pub is_out : SendStop → Bool
+is_out stop.Out = true
+is_out why = false
+
+module _ {T : Type 0} where
+  -- a status but Out is of one stop alone
+  pub stopped-by : (ended : Result T SendStop) (s : Status) → StatusBy ended s → (other : SendStop) → is_out other ≡ false → s ≡ status_of_stop other → ended ≡ Err other
+  stopped-by (Ok value) s h other isnt is =
+      let back : stop_of_status s ≡ Some other = ap stop_of_status is ∙ stop-back other in
+      absurd (elim (h.done value refl) [
+        | inl done ↦ (let e = sym back ∙ ap stop_of_status done in cc)
+        | inr out ↦
+            (let e = sym back ∙ ap stop_of_status out in
+            let same : other ≡ stop.Out = cc in
+            let both = sym isnt ∙ ap is_out same in cc)
+      ])
+  stopped-by (Err why) s h other isnt is =
+      let back : Some why ≡ Some other = sym (stop-back why) ∙ ap stop_of_status (sym (h.stopped why refl) ∙ is) ∙ stop-back other in
+      let same : why ≡ other = cc in
+      ap Err same
+
+  -- nor is it Done where there is a stop
+  pub done-ok : (ended : Result T SendStop) (s : Status) → StatusBy ended s → s ≡ status.Done → (why : SendStop) → ended ≡ Err why → ⊥
+  done-ok ended s h is why e =
+      let back : Some why ≡ None = sym (stop-back why) ∙ ap stop_of_status (sym (h.stopped why e) ∙ is) in cc
+
+  pub client-status : (ended : Result T SendStop) (s : Status) → StatusBy ended s → is_client_status s ≡ true
+  client-status (Ok value) s h = elim (h.done value refl) [ inl done ↦ ap is_client_status done | inr out ↦ ap is_client_status out ]
+  client-status (Err why) s h = ap is_client_status (h.stopped why refl) ∙ stop-client why
+
+  pub past-file : (ended : Result T SendStop) (s : Status) → StatusBy ended s → (IsTrue (is_of_file s) → ⊥) → IsPastFile ended
+  past-file (Ok value) s h isnt = tt
+  past-file (Err why) s h isnt = stop-past why (λ is. isnt (ap is_of_file (h.stopped why refl) ∙ is))
+
+-- ---- which stops the parts of a command have
+
+-- whether the notes' recovery or a job's carrying out can stop a command so
+abbrev pub is_carried : SendStop → Bool
+is_carried (stop.Refused code) = true
+is_carried (stop.BadFile code) = true
+is_carried stop.AirRead = true
+is_carried stop.AirWrite = true
+is_carried stop.Disk = true
+is_carried (stop.NotAStore found) = true
+is_carried (stop.Damaged at) = true
+is_carried stop.OutOfMemory = true
+is_carried stop.Spent = true
+is_carried stop.LinkDown = true
+is_carried (stop.Strange kind) = true
+is_carried why = false
+
+pub node-carried : (came : Result Outcome NodeStop) (why : SendStop) → by_node came ≡ Err why → is_carried why ≡ true
+node-carried (Ok outcome.Idle) why e = absurd (cc)
+node-carried (Ok outcome.Working) why e = absurd (cc)
+node-carried (Ok (outcome.Acked number)) why e = absurd (cc)
+node-carried (Ok (outcome.Refused code)) why e = (let same : why ≡ stop.Refused code = cc in ap is_carried same)
+node-carried (Ok (outcome.BadFile code)) why e = (let same : why ≡ stop.BadFile code = cc in ap is_carried same)
+node-carried (Ok (outcome.Fetched number)) why e = absurd (cc)
+node-carried (Ok outcome.Listed) why e = absurd (cc)
+node-carried (Ok (outcome.LinkDown reason)) why e = (let same : why ≡ stop.LinkDown = cc in ap is_carried same)
+node-carried (Ok (outcome.Strange kind)) why e = (let same : why ≡ stop.Strange kind = cc in ap is_carried same)
+node-carried (Err node.AirRead) why e = (let same : why ≡ stop.AirRead = cc in ap is_carried same)
+node-carried (Err node.AirWrite) why e = (let same : why ≡ stop.AirWrite = cc in ap is_carried same)
+node-carried (Err node.Disk) why e = (let same : why ≡ stop.Disk = cc in ap is_carried same)
+node-carried (Err node.Ended) why e = (let same : why ≡ stop.LinkDown = cc in ap is_carried same)
+node-carried (Err node.Spent) why e = (let same : why ≡ stop.Spent = cc in ap is_carried same)
+node-carried (Err node.OutOfMemory) why e = (let same : why ≡ stop.OutOfMemory = cc in ap is_carried same)
+
+pub fault-carried : (why : StoreFault) → is_carried (stop_of_fault why) ≡ true
+fault-carried (fault.NotAStore found) = refl
+fault-carried (fault.Damaged at) = refl
+fault-carried fault.Disk = refl
+fault-carried fault.OutOfMemory = refl
+
+-- whether it is a stop by the air
+abbrev pub is_of_air : SendStop → Bool
+is_of_air stop.AirRead = true
+is_of_air stop.AirWrite = true
+is_of_air why = false
+
+pub fault-not_air : (why : StoreFault) → is_of_air (stop_of_fault why) ≡ false
+fault-not_air (fault.NotAStore found) = refl
+fault-not_air (fault.Damaged at) = refl
+fault-not_air fault.Disk = refl
+fault-not_air fault.OutOfMemory = refl
+
+pub start-not_air : (sum : FileSum) (why : NotesRefusal) → is_of_air (stop_of_start sum why) ≡ false
+start-not_air sum (refusal.Changed kept digest) = refl
+start-not_air sum refusal.Full = refl
+start-not_air sum refusal.Disk = refl
+start-not_air sum refusal.Failed = refl
+start-not_air sum refusal.OutOfMemory = refl
+
+pub start-not_out : (sum : FileSum) (why : NotesRefusal) → is_out (stop_of_start sum why) ≡ false
+start-not_out sum (refusal.Changed kept digest) = refl
+start-not_out sum refusal.Full = refl
+start-not_out sum refusal.Disk = refl
+start-not_out sum refusal.Failed = refl
+start-not_out sum refusal.OutOfMemory = refl
+
+-- ---- what the air counts
+
+-- The air's counts by the stop, if there is one: where it is by the air that count rose, and each other stayed, but once
+-- there may have been an outcome.
+pub record AirBy {T : Type 0} (reads reads_now writes writes_now : ℕ) (ended : Result T SendStop) : Type 0 where
+  pub rose_read : ended ≡ Err stop.AirRead → Rose reads reads_now
+  pub rose_write : ended ≡ Err stop.AirWrite → Rose writes writes_now
+  pub same_read :
+      (why : SendStop) → ended ≡ Err why → (why ≡ stop.AirRead → ⊥) → may_have_outcome (status_of_stop why) ≡ false
+      → reads_now ≡ reads
+  pub same_write :
+      (why : SendStop) → ended ≡ Err why → (why ≡ stop.AirWrite → ⊥) → may_have_outcome (status_of_stop why) ≡ false
+      → writes_now ≡ writes
+
+module _ (reads reads_now writes writes_now : ℕ) where
+  -- neither count rose, and the stop isn't by the air
+  pub air-stayed :
+      {T : Type 0} (ended : Result T SendStop) → reads_now ≡ reads → writes_now ≡ writes
+      → ((why : SendStop) → ended ≡ Err why → is_of_air why ≡ false) → AirBy reads reads_now writes writes_now ended
+  air-stayed ended same_reads same_writes isnt = record {
+    rose_read = λ e. absurd (let no = isnt stop.AirRead e in cc);
+    rose_write = λ e. absurd (let no = isnt stop.AirWrite e in cc);
+    same_read = λ _ _ _ _. same_reads;
+    same_write = λ _ _ _ _. same_writes;
+  }
+
+  -- an outcome came: the air may have failed behind it
+  outcome-may : (reached : Outcome) (why : SendStop) → by_outcome reached ≡ Err why → (may_have_outcome (status_of_stop why) ≡ true) × (is_of_air why ≡ false)
+  outcome-may outcome.Idle why e = absurd (cc)
+  outcome-may outcome.Working why e = absurd (cc)
+  outcome-may (outcome.Acked number) why e = absurd (cc)
+  outcome-may (outcome.Refused code) why e = (let same : why ≡ stop.Refused code = cc in (ap (λ (w : SendStop). may_have_outcome (status_of_stop w)) same, ap is_of_air same))
+  outcome-may (outcome.BadFile code) why e = (let same : why ≡ stop.BadFile code = cc in (ap (λ (w : SendStop). may_have_outcome (status_of_stop w)) same, ap is_of_air same))
+  outcome-may (outcome.Fetched number) why e = absurd (cc)
+  outcome-may outcome.Listed why e = absurd (cc)
+  outcome-may (outcome.LinkDown reason) why e = (let same : why ≡ stop.LinkDown = cc in (ap (λ (w : SendStop). may_have_outcome (status_of_stop w)) same, ap is_of_air same))
+  outcome-may (outcome.Strange kind) why e = (let same : why ≡ stop.Strange kind = cc in (ap (λ (w : SendStop). may_have_outcome (status_of_stop w)) same, ap is_of_air same))
+
+  pub air-free :
+      {T : Type 0} (ended : Result T SendStop)
+      → ((why : SendStop) → ended ≡ Err why → (may_have_outcome (status_of_stop why) ≡ true) × (is_of_air why ≡ false))
+      → AirBy reads reads_now writes writes_now ended
+  air-free ended may = record {
+    rose_read = λ e. absurd (let no = (may stop.AirRead e).1 in cc);
+    rose_write = λ e. absurd (let no = (may stop.AirWrite e).1 in cc);
+    same_read = λ why e _ isnt. absurd (let yes = (may why e).0 in let both = sym yes ∙ isnt in cc);
+    same_write = λ why e _ isnt. absurd (let yes = (may why e).0 in let both = sym yes ∙ isnt in cc);
+  }
+
+  air-outcome : (reached : Outcome) → AirBy reads reads_now writes writes_now (by_outcome reached)
+  air-outcome reached = air-free (by_outcome reached) (outcome-may reached)
+
+  -- what holds of one end holds of another with the same stop
+  pub air-along :
+      {T U : Type 0} (came : Result T SendStop) (ended : Result U SendStop)
+      → ((why : SendStop) → ended ≡ Err why → came ≡ Err why) → AirBy reads reads_now writes writes_now came
+      → AirBy reads reads_now writes writes_now ended
+  air-along came ended along h = record {
+    rose_read = λ e. h.rose_read (along stop.AirRead e);
+    rose_write = λ e. h.rose_write (along stop.AirWrite e);
+    same_read = λ why e. h.same_read why (along why e);
+    same_write = λ why e. h.same_write why (along why e);
+  }
+
+  -- what became of the job, or the stop
+  air-reached :
+      (working : Bool) (why : NodeStop) (reached : Outcome) → AirBy {T = Outcome} reads reads_now writes writes_now (Err (stop_of_node why))
+      → AirBy reads reads_now writes writes_now (by_node (if working then Err why else Ok reached))
+  air-reached true why reached h = h
+  air-reached false why reached h = air-outcome reached
+
+  pub air-carried : (ended : Result ⊤ NodeStop) (reached : Outcome) → CountsBy ended reads reads_now writes writes_now → AirBy reads reads_now writes writes_now (by_node (answer_of ended reached))
+  air-carried (Ok closed) reached h = air-outcome reached
+  air-carried (Err node.AirRead) reached h = air-reached (is_working reached) node.AirRead reached (record {
+    rose_read = λ _. h.0;
+    rose_write = λ e. absurd (cc);
+    same_read = λ why e isnt _. absurd (let same : why ≡ stop.AirRead = cc in isnt same);
+    same_write = λ _ _ _ _. h.1;
+  })
+  air-carried (Err node.AirWrite) reached h = air-reached (is_working reached) node.AirWrite reached (record {
+    rose_read = λ e. absurd (cc);
+    rose_write = λ _. h.1;
+    same_read = λ _ _ _ _. h.0;
+    same_write = λ why e isnt _. absurd (let same : why ≡ stop.AirWrite = cc in isnt same);
+  })
+  air-carried (Err node.Ended) reached h = air-reached (is_working reached) node.Ended reached (air-stayed (Err stop.LinkDown) h.0 h.1 (λ why e. let same : why ≡ stop.LinkDown = cc in ap is_of_air same))
+  air-carried (Err node.Spent) reached h = air-reached (is_working reached) node.Spent reached (air-stayed (Err stop.Spent) h.0 h.1 (λ why e. let same : why ≡ stop.Spent = cc in ap is_of_air same))
+  air-carried (Err node.Disk) reached h = air-stayed (Err stop.Disk) h.0 h.1 (λ why e. let same : why ≡ stop.Disk = cc in ap is_of_air same)
+  air-carried (Err node.OutOfMemory) reached h = air-stayed (Err stop.OutOfMemory) h.0 h.1 (λ why e. let same : why ≡ stop.OutOfMemory = cc in ap is_of_air same)

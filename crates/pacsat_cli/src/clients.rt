@@ -1,0 +1,165 @@
+//! The commands `send`, `fetch` and `list`.
+
+ghost use Rattle.std.specs.Prelude.{◌≡◌, ◌≤◌, length};
+ghost use Rattle.command_words.specs.Asked.{fetch_terms, send_terms};
+ghost use Rattle.uploader.specs.Carried.{setting};
+ghost use Rattle.pacsat_cli.specs.Clients.{ClientRan, FetchRan, IsListed, MayFetch, MayList, MayRun, MaySend, PutsLine};
+ghost use Rattle.pacsat_cli.specs.Clients.{SendRan, client_terms};
+ghost use Rattle.pacsat_cli.specs.Status.{numbered_line};
+ghost use Rattle.pacsat_cli.specs.Stops.{status_of_stop as stop_status};
+
+use crate::status::numbered;
+use crate::{BadStore, RefusedBy, Status};
+use command_words::{ClientRequest, FetchRequest, ListRequest, SendRequest};
+use disk_model::Disk;
+use px_base::{Air, Clock, Out, Shelf};
+use std::alloc::Global;
+use uploader::{ClientTerms, SendStop, fetch, list, send};
+
+/// Carries out a client's command. Takes memory.
+pub(crate) fn run_client<D: Disk, A: Air, S: Shelf, O: Out, C: Clock>(
+    alloc: Global,
+    request: &ClientRequest<'_>,
+    disk: &mut D,
+    air: &mut A,
+    shelf: &mut S,
+    out: &mut O,
+    clock: &mut C,
+) -> Status
+    requires { MayRun request.now }
+    ensures { ClientRan D.Disk A.Air C.given S.Shelf O.Out (setting disk.old air.old clock.old)
+        (setting disk.new air.new clock.new) shelf.old shelf.new out.old out.new request.now result }
+{
+    match request {
+        ClientRequest::Send(send) => run_send(alloc, send, disk, air, shelf, out, clock),
+        ClientRequest::Fetch(fetch) => run_fetch(alloc, fetch, disk, air, shelf, out, clock),
+        ClientRequest::List(list) => run_list(alloc, list, disk, air, out, clock),
+    }
+}
+
+/// Sends the file of the shelf that is asked for, and shows its number on the server. Takes memory.
+fn run_send<D: Disk, A: Air, S: Shelf, O: Out, C: Clock>(
+    alloc: Global,
+    request: &SendRequest<'_>,
+    disk: &mut D,
+    air: &mut A,
+    shelf: &mut S,
+    out: &mut O,
+    clock: &mut C,
+) -> Status
+    requires { MaySend request.now }
+    ensures ran { SendRan D.Disk A.Air C.given S.Shelf O.Out (setting disk.old air.old clock.old)
+        (setting disk.new air.new clock.new) shelf.old shelf.new out.old out.new (client_terms (send_terms request.now))
+        request.now.name.now result }
+{
+    let terms = ClientTerms {
+        server: request.server,
+        me: request.me,
+        k: request.k,
+        polls: request.polls,
+    };
+    match send(alloc, disk, air, shelf, clock, &terms, request.name) {
+        Ok(sent) => show_numbered("acked ", sent.number, out),
+        Err(why) => status_of_stop(why),
+    }
+}
+
+/// Fetches the file that is asked for, keeps it on the shelf, and shows its number. Takes memory.
+fn run_fetch<D: Disk, A: Air, S: Shelf, O: Out, C: Clock>(
+    alloc: Global,
+    request: &FetchRequest<'_>,
+    disk: &mut D,
+    air: &mut A,
+    shelf: &mut S,
+    out: &mut O,
+    clock: &mut C,
+) -> Status
+    requires { MayFetch request.now }
+    ensures ran { FetchRan D.Disk A.Air C.given S.Shelf O.Out (setting disk.old air.old clock.old)
+        (setting disk.new air.new clock.new) shelf.old shelf.new out.old out.new (client_terms (fetch_terms request.now))
+        request.now.number request.now.name.now result }
+{
+    let terms = ClientTerms {
+        server: request.server,
+        me: request.me,
+        k: request.k,
+        polls: request.polls,
+    };
+    match fetch(
+        alloc,
+        disk,
+        air,
+        shelf,
+        clock,
+        &terms,
+        request.number,
+        request.name,
+    ) {
+        Ok(()) => show_numbered("fetched ", request.number, out),
+        Err(why) => status_of_stop(why),
+    }
+}
+
+/// Lists the files that are asked for. Where there is no memory for the tokens, nothing is touched. Takes memory.
+fn run_list<D: Disk, A: Air, O: Out, C: Clock>(
+    alloc: Global,
+    request: &ListRequest<'_>,
+    disk: &mut D,
+    air: &mut A,
+    out: &mut O,
+    clock: &mut C,
+) -> Status
+    requires { MayList request.now }
+    ensures ran { IsListed D.Disk A.Air C.given O.Out (setting disk.old air.old clock.old)
+        (setting disk.new air.new clock.new) out.old out.new request.now result }
+{
+    let Ok(tokens) = request.tokens(alloc) else {
+        return Status::OutOfMemory;
+    };
+    let terms = ClientTerms {
+        server: request.server,
+        me: request.me,
+        k: request.k,
+        polls: request.polls,
+    };
+    match list(alloc, disk, air, out, clock, &terms, tokens.as_slice()) {
+        Ok(()) => Status::Done,
+        Err(why) => status_of_stop(why),
+    }
+}
+
+/// Shows the line of these words and a number, by one put; the status that a command has which is done with that.
+fn show_numbered<O: Out>(words: &str, number: u32, out: &mut O) -> Status
+    requires { length words.now ≤ 20 }
+    ensures { PutsLine O.Out (numbered_line words.now number) out.old out.new result }
+{
+    match out.put(numbered(words, number).as_slice()) {
+        Ok(()) => Status::Done,
+        Err(_down) => Status::Out,
+    }
+}
+
+/// The status of a client's command that was stopped so.
+fn status_of_stop(why: SendStop) -> Status
+    ensures { result ≡ stop_status why }
+{
+    match why {
+        SendStop::Refused { code } => Status::Refused(RefusedBy::Server { code }),
+        SendStop::BadFile { code } => Status::Refused(RefusedBy::Fault { code }),
+        SendStop::AirRead => Status::AirRead,
+        SendStop::AirWrite => Status::AirWrite,
+        SendStop::Disk => Status::Disk,
+        SendStop::NoSuch => Status::NoSuch,
+        SendStop::Changed { kept, given } => Status::FileChanged { kept, given },
+        SendStop::NotAStore { found } => Status::BadStore(BadStore::NotAStore { found }),
+        SendStop::Damaged { at } => Status::BadStore(BadStore::Damaged { at }),
+        SendStop::OutOfMemory => Status::OutOfMemory,
+        SendStop::Spent => Status::Spent,
+        SendStop::Out => Status::Out,
+        SendStop::Shelf => Status::Shelf,
+        SendStop::LinkDown => Status::LinkDown,
+        SendStop::Strange { kind } => Status::Strange { kind },
+        SendStop::NotesFull => Status::NotesFull,
+        SendStop::TooLong => Status::TooLong,
+    }
+}
