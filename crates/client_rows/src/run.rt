@@ -1,0 +1,122 @@
+//! A run: its outside, but for the disk, and what is told of it.
+
+use anyhow::{Context, Result};
+use disk_model::Disk;
+use pacsat_cli::{Words, run};
+use px_base::{FileBytes, MemoryAir, MemoryClock, MemoryOut, MemoryShelf, Shelf};
+use row_words::{OverDisk, Script, read_numbers};
+use std::alloc::Global;
+
+/// The parts of a row, but for its words, the shelf's content and the disk.
+#[derive(Clone, Copy)]
+pub struct Outside<'a> {
+    /// The numbers of the air's calls that fail.
+    pub failing_air: &'a str,
+    /// The most octets of a poll.
+    pub poll: &'a str,
+    /// The turns.
+    pub turns: &'a str,
+    /// The numbers of the shelf's calls that fail.
+    pub failing_shelf: &'a str,
+    /// The numbers of the output's calls that fail.
+    pub failing_out: &'a str,
+}
+
+/// A run over what is in memory.
+#[derive(Drop)]
+pub struct Run<'a> {
+    words: &'a Words,
+    air: MemoryAir,
+    clock: MemoryClock,
+    shelf: MemoryShelf,
+    out: MemoryOut,
+}
+
+impl<'a> Run<'a> {
+    /// A run of these words, where the shelf has the content under the name, if both are there. Takes memory.
+    pub fn open(
+        alloc: Global,
+        words: &'a Words,
+        outside: &Outside<'_>,
+        name: Option<&str>,
+        content: Option<FileBytes>,
+    ) -> Result<Run<'a>> {
+        let shelf = open_shelf(alloc, outside.failing_shelf, name, content)?;
+        let (air, clock) = open_air(alloc, outside)?;
+        let out = open_out(alloc, outside.failing_out)?;
+        Ok(Run {
+            words,
+            air,
+            clock,
+            shelf,
+            out,
+        })
+    }
+
+    /// The lines that were shown, each ended by `|` in place of its line feed, and how many polls were made.
+    pub fn shown_text(&self, alloc: Global) -> Result<String> {
+        let shown = std::str::from_utf8(self.out.shown())?;
+        let shown = shown.replace(alloc, "\n", "|")?;
+        let polls = self.air.heard().len();
+        Ok(format!(in alloc; "{shown};{polls}")?)
+    }
+
+    /// The octets said, in hexadecimal.
+    pub fn said_text(&self, alloc: Global) -> Result<String> {
+        Ok(hex::encode(alloc, self.air.said())?)
+    }
+
+    /// What the shelf has under the name, if there is one.
+    pub fn kept(&self, alloc: Global, name: Option<&str>) -> Result<Option<FileBytes>> {
+        match name.and_then(|name| self.shelf.content(name)) {
+            Some(content) => Ok(Some(FileBytes::copy_of(alloc, content.as_slice())?)),
+            None => Ok(None),
+        }
+    }
+}
+
+/// The air and the clock of a row.
+fn open_air(alloc: Global, outside: &Outside<'_>) -> Result<(MemoryAir, MemoryClock)> {
+    let failing = read_numbers(alloc, outside.failing_air)?;
+    let script = Script::read(alloc, outside.turns, outside.poll.parse::<usize>()?)?;
+    Ok(script.open(alloc, failing.as_slice())?)
+}
+
+/// A shelf whose calls with these numbers fail, and which has the content under the name; keeping it is its first call.
+fn open_shelf(
+    alloc: Global,
+    failing: &str,
+    name: Option<&str>,
+    content: Option<FileBytes>,
+) -> Result<MemoryShelf> {
+    let failing = read_numbers(alloc, failing)?;
+    let mut shelf = MemoryShelf::new(alloc, failing.as_slice())?;
+    if let Some(content) = content {
+        shelf.keep(name.context("no name")?, content.as_slice())?;
+    }
+    Ok(shelf)
+}
+
+/// An output whose calls with these numbers fail.
+fn open_out(alloc: Global, failing: &str) -> Result<MemoryOut> {
+    let failing = read_numbers(alloc, failing)?;
+    Ok(MemoryOut::new(alloc, failing.as_slice())?)
+}
+
+impl OverDisk for Run<'_> {
+    type Told = u8;
+
+    /// Runs the words over this disk, and gives the status's number.
+    fn over<D: Disk>(&mut self, alloc: Global, disk: &mut D) -> Result<u8> {
+        let status = run(
+            alloc,
+            self.words,
+            disk,
+            &mut self.air,
+            &mut self.shelf,
+            &mut self.out,
+            &mut self.clock,
+        );
+        Ok(status.number())
+    }
+}
