@@ -27,7 +27,7 @@ use Rattle.client_node.proofs.CarriedLemmas.{same-answer, told-outcome}
 use Rattle.client_node.proofs.GoesLemmas.{goes-append}
 
 -- what a node hears and counts asks nothing
-nothing-asked : (events : List NodeEvent) → AllByRecursion AsksNothing (events_of events)
+pub nothing-asked : (events : List NodeEvent) → AllByRecursion AsksNothing (events_of events)
 nothing-asked [] = tt
 nothing-asked (node.hears frame moment ∷ events) = (tt, nothing-asked events)
 nothing-asked (node.ticks moment ∷ events) = (tt, nothing-asked events)

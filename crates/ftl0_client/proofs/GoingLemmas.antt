@@ -35,8 +35,8 @@ use Rattle.ftl0_client.specs.Client.{Client, ClientEvent, ClientSends, Refused, 
 use Rattle.ftl0_client.specs.Client.{sends_of_attempt, sends_of_link, ticking_by, ticks, with_attempt}
 use Rattle.ftl0_client.specs.ClientStep.{ClientStep, Empties, happening}
 use Rattle.ftl0_client.specs.declared.outcome.Outcome.TheVariants as outcome
-use Rattle.ftl0_client.specs.Going.{AsksNothing, GoesLaw, GoesOver, Promises, SettledLaw, Stands, is_over_at}
-use Rattle.ftl0_client.specs.Laws.{IsToldDownOf}
+use Rattle.ftl0_client.specs.Going.{AsksNothing, GoesLaw, GoesOver, Promises, SettledLaw, Stands, StaysLaw, is_over_at}
+use Rattle.ftl0_client.specs.Laws.{IsToldDownOf, KeepsOutcome}
 use Rattle.ftl0_client.specs.Outcomes.{outcome_as, outcome_by, outcome_of_job}
 use Rattle.ftl0_client.proofs.OutcomeLemmas.{outcome-stays, stranger-attempt}
 
@@ -133,6 +133,7 @@ module _ (w : Window) (end : LinkEnd) where
 pub record Kept (client now : Client) : Type 0 where
   pub lists : now.lists ≡ client.lists
   pub outcome : outcome_by now.attempt ≡ outcome_by client.attempt
+  pub told : IsToldDownOf client.attempt → IsToldDownOf now.attempt
   pub stands : (asked : Work) → Stands asked client → Stands asked now
 
 -- the end with which the frame was sent
@@ -153,6 +154,7 @@ module _ (client : Client) where
       let kept : Kept client now = record {
         lists = refl;
         outcome = ap outcome_by (sym was);
+        told = λ down why is. state ∙ subst IsToldDownOf was down why is;
         stands = λ asked stands.
             let mine : stands.a ≡ a = same_Some stands.a a (sym stands.is_attempt ∙ was) in
             of-attempt asked now (with_end a sending.after) refl
@@ -169,17 +171,22 @@ module _ (client : Client) where
   stray-kept None = attempt-kept client.attempt refl
   stray-kept (Some refused) = λ sends is.
       let now : Client = record client { stray = None } in
-      let kept : Kept client now = record { lists = refl; outcome = refl; stands = λ asked stands. same-stands asked client now refl refl stands } in
+      let kept : Kept client now = record { lists = refl; outcome = refl; told = λ down. down; stands = λ asked stands. same-stands asked client now refl refl stands } in
       let same : record { frame = refusal_frame client.me refused; after = now } ≡ sends = same_Some _ _ is in
       subst (λ (s : ClientSends). Kept client s.after) same kept
 
 empties-kept : (client : Client) (frames : List FrameValue) (last : Client) → Empties client frames last → Kept client last
 empties-kept client [] last h =
-    subst (λ (c : Client). Kept client c) (sym h.1) (record { lists = refl; outcome = refl; stands = λ asked stands. stands })
+    subst (λ (c : Client). Kept client c) (sym h.1) (record { lists = refl; outcome = refl; told = λ down. down; stands = λ asked stands. stands })
 empties-kept client (frame ∷ frames) last h =
     let first : Kept client h.0.after = stray-kept client client.stray h.0 h.1 in
     let rest : Kept h.0.after last = empties-kept h.0.after frames last h.3 in
-    record { lists = rest.lists ∙ first.lists; outcome = rest.outcome ∙ first.outcome; stands = λ asked stands. rest.stands asked (first.stands asked stands) }
+    record {
+      lists = rest.lists ∙ first.lists;
+      outcome = rest.outcome ∙ first.outcome;
+      told = λ down. rest.told (first.told down);
+      stands = λ asked stands. rest.stands asked (first.stands asked stands);
+    }
 
 -- ---- an event
 
@@ -350,3 +357,32 @@ settled-law law quiet stays asked old (event ∷ events) frames commands now sta
     let rest =
     settled-law law quiet stays asked next events h.4 others now (kept.stands asked (event-stands law asked old stands event nothing.0)) (λ working. done (sym same ∙ working)) nothing.1 h.8 in
     (h.7 ∙ ap₂ (λ (one other : List NotesCommand). one ++ other) none rest.0, rest.1 ∙ same)
+
+-- ---- and it stays, whatever was asked
+
+module _ (law : of_attempts.OutcomeLaw) where
+  event-keeps : (client : Client) (event : ClientEvent) → AsksNothing event → IsToldDownOf client.attempt → KeepsOutcome client (happening client event).after
+  event-keeps client (asks job) nothing down = absurd nothing
+  event-keeps client (hears frame) nothing down = (outcome-stays law client frame down).0
+  event-keeps client ticks nothing down = (outcome-stays law client (some_frame client) down).1
+
+  goes-keep : (client : Client) (events : List ClientEvent) (frames : List FrameValue) (commands : List NotesCommand) (now : Client) → IsToldDownOf client.attempt → AllByRecursion AsksNothing events
+      → GoesOver client events frames commands now → KeepsOutcome client now
+  goes-keep client [] frames commands now down nothing h = subst (KeepsOutcome client) (sym h.2) (record { down = down; stays = λ done. refl })
+  goes-keep client (event ∷ events) frames commands now down nothing h =
+      let one : KeepsOutcome client (happening client event).after = event-keeps client event nothing.0 down in
+      let sent : Kept (happening client event).after h.2 = empties-kept (happening client event).after h.1 h.2 h.5.sent in
+      let rest : KeepsOutcome h.2 now = goes-keep h.2 events h.4 h.3 now (sent.told one.down) nothing.1 h.8 in
+      record {
+        down = rest.down;
+        stays = λ done.
+            let same : outcome_by h.2.attempt ≡ outcome_by client.attempt = sent.outcome ∙ one.stays done in
+            rest.stays (λ working. done (sym same ∙ working)) ∙ same;
+      }
+
+  pub stays-law : StaysLaw
+  stays-law base job events others frames more commands further mid now nothing none h k =
+      let sent : Kept (asking base job) h.2 = empties-kept (asking base job) h.1 h.2 h.5.sent in
+      let asked : IsToldDownOf h.2.attempt = sent.told (λ why is. absurd (cc is)) in
+      let reached : KeepsOutcome h.2 mid = goes-keep h.2 events h.4 h.3 mid asked nothing h.8 in
+      (goes-keep mid others more further now reached.down none k).stays

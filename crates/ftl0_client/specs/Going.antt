@@ -91,3 +91,12 @@ SettledLaw =
     (commands : List NotesCommand) (now : Client) → Stands asked old → outcome_by old.attempt ≢ outcome.Working
     → AllByRecursion AsksNothing events → GoesOver old events frames commands now
     → (commands ≡ []) × (outcome_by now.attempt ≡ outcome_by old.attempt)
+
+-- What became of what was asked stays, once anything did, over all frames and ticks behind that, whatever the notes are.
+abbrev pub StaysLaw : Type 0
+StaysLaw =
+    (base : Client) (job : JobState) (events others : List ClientEvent) (frames more : List FrameValue)
+    (commands further : List NotesCommand) (mid now : Client)
+    → AllByRecursion AsksNothing events → AllByRecursion AsksNothing others
+    → GoesOver base (asks job ∷ events) frames commands mid → GoesOver mid others more further now
+    → outcome_by mid.attempt ≢ outcome.Working → outcome_by now.attempt ≡ outcome_by mid.attempt

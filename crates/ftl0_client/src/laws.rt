@@ -5,7 +5,7 @@ ghost use Rattle.ax25_frames.specs.FrameText.{FrameValue};
 ghost use Rattle.ftl0_client.specs.Client.{Client as ClientValue};
 ghost use Rattle.ftl0_client.specs.ClientState.{IsClient};
 ghost use Rattle.ftl0_client.specs.ClientStep.{Empties};
-ghost use Rattle.ftl0_client.specs.Going.{GoesLaw, SettledLaw};
+ghost use Rattle.ftl0_client.specs.Going.{GoesLaw, SettledLaw, StaysLaw};
 ghost use Rattle.ftl0_client.specs.Laws.{AckedLaw, FetchedLaw, OneStepLaw, OutcomeLaw, SomeStepLaw, StrangerLaw};
 
 use crate::Client;
@@ -66,6 +66,13 @@ pub fn settled_law()
 {
     ftl0_attempt::laws::stands_law();
     ftl0_attempt::laws::quiet_law();
+    ftl0_attempt::laws::outcome_law();
+}
+
+/// Once something became of what was asked it stays over all frames and ticks, whatever the notes are.
+pub fn stays_law()
+    ensures { StaysLaw }
+{
     ftl0_attempt::laws::outcome_law();
 }
 

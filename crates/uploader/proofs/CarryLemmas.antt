@@ -276,7 +276,7 @@ module _ {A C D : Type 0} (g : Ghosts D) (air : AirGhosts A) (given : C → Opti
 
   pub stands : (through : StandsThrough g (IsErrOf h.carries.ended node.Disk) made.notes.lists (first ++ h.carries.done) h.carries.cut disk now) × (through.ready ≡ g.moment mid)
   stands = stands_through g on (IsErrOf h.carries.ended node.Disk) disk mid now made.notes end.notes (first ++ h.carries.done) h.carries.cut ready.runs.told ready.recovers.stood ready.since_start ready.since_sync cuts
-      ready.magic
+      ready.magic ready.runs
 
   pub came : (r : Result Outcome NodeStop) → r ≡ answer_of h.carries.ended h.carries.reached
       → OnOk r (CameTo end (client_from terms (after_all made.notes.lists first)) (asked_first job h.carries.ran.events) h.carries.reached)

@@ -1,5 +1,6 @@
 pub mod CarryLemmas
 pub mod FetchLemmas
+pub mod LedLemmas
 pub mod LineLemmas
 pub mod ListLemmas
 pub mod OutcomeLemmas

@@ -187,18 +187,21 @@ module _ {D : Type 0} (g : Ghosts D) (lasts : (disk : D) → g.lasts disk disk) 
     unstarted : (result : Result Sent SendStop) (cut : List NotesCommand) → CutsOff g (IsErrOf result stop.Disk) made.notes asked.notes mid now [] cut
         → EndsAtStart made.notes.lists (first_command terms made.notes.lists name (sum_of file)) (sum_of file) (last_answer terms made.notes.lists name (sum_of file)) result cut
         → IfOk result (λ sent. IsLastAcked g now terms made.notes.lists name sent.number) → IsUnstarted g (setting disk before clock) (setting now before clock) terms name file result
-    unstarted result cut cuts ends acked = record {
-      start = made.notes.lists;
-      recovered = mid;
-      recovers = ready.recovers;
-      air = refl;
-      clock = refl;
-      cut = cut;
-      ends = ends;
-      stands = (stands_through g on (IsErrOf result stop.Disk) disk mid now made.notes asked.notes [] cut ready.runs.told ready.recovers.stood ready.since_start ready.since_sync cuts ready.magic).0;
-      none = none_moves g on (IsErrOf result stop.Disk) disk mid now made.notes asked.notes [] cut ready.runs.told ready.recovers.stood ready.since_start ready.since_sync cuts;
-      acked = acked;
-    }
+    unstarted result cut cuts ends acked =
+        let through = stands_through g on (IsErrOf result stop.Disk) disk mid now made.notes asked.notes [] cut ready.runs.told ready.recovers.stood ready.since_start ready.since_sync cuts ready.magic ready.runs in
+        record {
+          start = made.notes.lists;
+          recovered = mid;
+          recovers = ready.recovers;
+          air = refl;
+          clock = refl;
+          cut = cut;
+          ends = ends;
+          stands = through.0;
+          ready = through.1;
+          none = none_moves g on (IsErrOf result stop.Disk) disk mid now made.notes asked.notes [] cut ready.runs.told ready.recovers.stood ready.since_start ready.since_sync cuts;
+          acked = acked;
+        }
 
     unstarted_runs : (result : Result Sent SendStop) (cut : List NotesCommand) → CutsOff g (IsErrOf result stop.Disk) made.notes asked.notes mid now [] cut → Runs g (IsErrOf result stop.Disk) disk now
     unstarted_runs result cut cuts =

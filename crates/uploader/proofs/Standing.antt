@@ -2,7 +2,7 @@
 use Rattle.std.proofs.Common.{◌≡◌, inr, ⊎_elim, ℕ, ◌+◌, ◌*◌, ◌≤◌, List, [], ◌++◌, length, refl, ◌∙◌, subst, arith, Some, IfSome, length-append}
 use Rattle.px_base.specs.Outside.{Rose}
 use Rattle.disk_model.specs.declared.disk.Disk.{Ghosts}
-use Rattle.file_journal.specs.Calls.{Leaves, Runs, TellsAlike}
+use Rattle.file_journal.specs.Calls.{CountsFault, Leaves, Runs, TellsAlike}
 use Rattle.file_journal.specs.Recovery.{IsSyncedFirst}
 use Rattle.file_journal.specs.Walk.{state}
 use Rattle.file_journal.proofs.CallLemmas.{stops_on}
@@ -40,8 +40,8 @@ module _ {D : Type 0} (g : Ghosts D) (on : (first second third : D) → g.lasts 
   last_told octets told = told_before (g.content cuts.disk_then) (g.content mid) octets (cuts.first.puts.told.1, cuts.first.puts.told.0) told
 
   -- what stands through the command, from the moment on at which the recovery was done
-  pub stands_through : start.journal.magic ≡ notes_magic → (stands : StandsThrough g failed start.lists done cut old now) × (stands.ready ≡ g.moment mid)
-  stands_through magic = (
+  pub stands_through : start.journal.magic ≡ notes_magic → Runs g ⊥ old mid → (stands : StandsThrough g failed start.lists done cut old now) × (stands.ready ≡ g.moment mid)
+  stands_through magic first = (
     record {
       allowed = all_does.allowed;
       since_sync = if_told (g.content old) _ (λ before told.
@@ -96,6 +96,12 @@ module _ {D : Type 0} (g : Ghosts D) (on : (first second third : D) → g.lasts 
                 let first : g.moment cuts.disk_then ≡ g.moment mid + 4 * length done = at_told (λ (_ : List ℕ). _) middle.0 middle.1 (cuts.first.calls (λ never. never)) in
                 let second : g.moment now ≤ g.moment cuts.disk_then + 4 * (end.count + 1) = at_told (λ (_ : List ℕ). _) last.0 last.1 end.at_most in
                 omega arith);
+          };
+      counts =
+          let same = first.faults.same (λ never. never) in
+          record {
+            reads = all_does.puts.reads ∙ same.0;
+            writes = subst (λ (n : ℕ). CountsFault n (g.write_faults now) failed) same.1 all_does.puts.faults;
           };
     },
     refl,

@@ -21,7 +21,7 @@ use Rattle.uploader.specs.Stops.{stop_of_start}
 -- ---- what is answered of a task
 
 -- never a fresh one, and no refusal but that the file changed
-abbrev IsOfTask : Result (Option Begun) NotesRefusal → Type 0
+abbrev pub IsOfTask : Result (Option Begun) NotesRefusal → Type 0
 IsOfTask (Ok None) = ⊤
 IsOfTask (Ok (Some (begun.Already number))) = ⊤
 IsOfTask (Ok (Some (begun.Going task number))) = ⊤

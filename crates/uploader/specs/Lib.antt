@@ -1,6 +1,7 @@
 pub mod Carried
 pub mod Causes
 pub mod Fetching
+pub mod Led
 pub mod Lines
 pub mod Listing
 pub mod Loading

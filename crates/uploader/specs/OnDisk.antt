@@ -2,7 +2,7 @@
 use Rattle.std.specs.Prelude.{◌≡◌, ◌↔◌, ℕ, ◌+◌, ◌*◌, ◌<◌, ◌≤◌, List, ◌++◌, length, Option, IfSome, Result, Err}
 use Rattle.std.specs.Prelude.{IsErrOf, ⊤}
 use Rattle.disk_model.specs.declared.disk.Disk.{Ghosts}
-use Rattle.file_journal.specs.Calls.{Becomes, Leaves, Runs, TakesStep}
+use Rattle.file_journal.specs.Calls.{Becomes, CountsFault, Leaves, Runs, TakesStep}
 use Rattle.file_journal.specs.Journal.{after_recovery}
 use Rattle.file_journal.specs.Recovery.{IsSyncedFirst}
 use Rattle.file_journal.specs.Walk.{Stands, damaged_at, no_store, state}
@@ -62,6 +62,12 @@ RefusesNotes content result =
 
 -- ---- from the recovery on
 
+-- No read of the disk fails behind the recovery: its count of failed reads is as it was before the command. That of
+-- failed writes and syncs rose where the disk failed in a command of the notes, and nowhere else.
+pub record CountsWrites {D : Type 0} (g : Ghosts D) (failed : Type 0) (disk disk_now : D) : Type 0 where
+  pub reads : g.read_faults disk_now ≡ g.read_faults disk
+  pub writes : CountsFault (g.write_faults disk) (g.write_faults disk_now) failed
+
 -- The disk failed behind at least the first so many of these commands and before the end of the last one: each image
 -- stands for the notes after some number of them, or with one more. Each of that number took four calls of the disk
 -- since the first began at the moment `ready`, and the next one four at most; since they are done, no crash leaves
@@ -95,3 +101,4 @@ pub record StandsThrough {D : Type 0} (g : Ghosts D) (failed : Type 0) (start : 
   pub calls : ¬ failed → IfSome (g.content disk) (λ _. g.moment disk_now ≡ ready + 4 * length (done ++ cut))
   pub all_done : ¬ failed → EachImage g disk_now (λ image. StandsFor image (after_all start (done ++ cut)))
   pub interrupted : failed → IsInterrupted g start (done ++ cut) (length done) ready disk disk_now
+  pub counts : CountsWrites g failed disk disk_now

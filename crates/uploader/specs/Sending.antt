@@ -82,6 +82,7 @@ pub record IsUnstarted {A C D : Type 0} (g : Ghosts D) (old new : Setting D A C)
       EndsAtStart start (first_command terms start name (sum_of file)) (sum_of file)
       (last_answer terms start name (sum_of file)) result cut
   pub stands : StandsThrough g (IsErrOf result stop.Disk) start [] cut old.disk new.disk
+  pub ready : stands.ready ≡ g.moment recovered
   pub none : cut ≡ [] → new.disk ≡ recovered
   pub acked : IfOk result (λ sent. IsLastAcked g new.disk terms start name sent.number)
 

@@ -1,0 +1,92 @@
+-- What the definition makes of a job over all that was heard, and that a command comes to exactly that.
+use Rattle.std.specs.Prelude.{◌≡◌, ◌≢◌, ◌⊎◌, ℕ, List, ◌++◌, Bool, true, false, Option, Some, Result, Err}
+use Rattle.px_base.specs.declared.air.Air.{Ghosts as AirGhosts}
+use Rattle.px_base.specs.declared.air.Turn.{Turn}
+use Rattle.disk_model.specs.declared.disk.Disk.{Ghosts}
+use Rattle.ax25_frames.specs.FrameText.{FrameValue}
+use Rattle.node_events.specs.Events.{NodeEvent, NodeEvents}
+use Rattle.client_notes.specs.Command.{NotesCommand}
+use Rattle.client_notes.specs.Laws.{after_all}
+use Rattle.client_notes.specs.Notes.{Lists}
+use Rattle.ftl0_job.specs.Table.{JobState}
+use Rattle.ftl0_client.specs.Client.{Client}
+use Rattle.ftl0_client.specs.Going.{GoesOver}
+use Rattle.ftl0_client.specs.Outcomes.{outcome_by}
+use Rattle.ftl0_client.specs.declared.outcome.Outcome.{Outcome}
+use Rattle.ftl0_client.specs.declared.outcome.Outcome.TheVariants as outcome
+use Rattle.client_node.specs.Carried.{TurnsBy, asked_first}
+use Rattle.client_node.specs.declared.stop.NodeStop.{NodeStop}
+use Rattle.client_node.specs.declared.stop.NodeStop.TheVariants as node
+use Rattle.uploader.specs.declared.stop.SendStop.{SendStop}
+use Rattle.uploader.specs.declared.stop.SendStop.TheVariants as stop
+use Rattle.uploader.specs.declared.terms.ClientTerms.{ClientTerms}
+use Rattle.uploader.specs.Carried.{Carries, Setting, client_from}
+use Rattle.uploader.specs.Stops.{by_outcome, stop_of_node}
+
+-- The definition leads this client that is asked for this job to this outcome, over all that these turns bring at these
+-- moments.
+pub record LeadsTo (client : Client) (job : JobState) (turns : List Turn) (moments : List ℕ)
+    (reached : Outcome) : Type 0 where
+  pub events : List NodeEvent
+  pub brings : NodeEvents client.me turns moments events
+  pub frames : List FrameValue
+  pub commands : List NotesCommand
+  pub now : Client
+  pub goes : GoesOver client (asked_first job events) frames commands now
+  pub reached_is : outcome_by now.attempt ≡ reached
+
+-- What is told of a command: what its air heard, and at which moments.
+pub record IsToldOf {A C D : Type 0} (air : AirGhosts A) (given : C → Option (List ℕ)) (old new : Setting D A C)
+    (turns : List Turn) (moments : List ℕ) : Type 0 where
+  pub before : List Turn
+  pub heard : air.heard old.air ≡ Some before
+  pub heard_now : air.heard new.air ≡ Some (before ++ turns)
+  pub earlier : List ℕ
+  pub told : given old.clock ≡ Some earlier
+  pub told_now : given new.clock ≡ Some (earlier ++ moments)
+
+-- What is told leads this client that is asked for this job, by the definition, to this outcome.
+pub record IsLedTo {A C D : Type 0} (air : AirGhosts A) (given : C → Option (List ℕ)) (old new : Setting D A C)
+    (client : Client) (job : JobState) (turns : List Turn) (reached : Outcome) : Type 0 where
+  pub moments : List ℕ
+  pub told : IsToldOf air given old new turns moments
+  pub leads : LeadsTo client job turns moments reached
+
+-- whether the turns themselves end a command so: a poll failed, the end of the air was read, or as many polls were made
+-- as may be
+abbrev pub is_of_turns : NodeStop → Bool
+is_of_turns node.AirRead = true
+is_of_turns node.Ended = true
+is_of_turns node.Spent = true
+is_of_turns node.AirWrite = false
+is_of_turns node.Disk = false
+is_of_turns node.OutOfMemory = false
+
+-- Nothing became of the job, and the turns, of which there are at most so many, ended so.
+pub record EndsWithTurns (polls : ℕ) (turns : List Turn) (reached : Outcome) (came : Result Outcome SendStop)
+    : Type 0 where
+  pub why : NodeStop
+  pub of_turns : is_of_turns why ≡ true
+  pub working : reached ≡ outcome.Working
+  pub ends : TurnsBy (Err why) polls turns
+  pub came_is : came ≡ Err (stop_of_node why)
+
+-- A put failed, or the disk did, or there was no memory.
+abbrev pub IsCutShort : Result Outcome SendStop → Type 0
+IsCutShort came = (came ≡ Err stop.AirWrite) ⊎ ((came ≡ Err stop.Disk) ⊎ (came ≡ Err stop.OutOfMemory))
+
+-- What a command comes to, over these turns, of which there are at most so many, where the definition leads it to this
+-- outcome: that, if something became of the job by it; else it ended with its turns. Or it was cut short.
+abbrev pub ComesBy : ℕ → List Turn → Outcome → Result Outcome SendStop → Type 0
+ComesBy polls turns reached came =
+    ((reached ≢ outcome.Working) × (came ≡ by_outcome reached))
+    ⊎ (EndsWithTurns polls turns reached came ⊎ IsCutShort came)
+
+-- A command that carried out a job comes to what the definition makes of it over what is told.
+abbrev pub LedLaw : {A C D : Type 0} → Ghosts D → AirGhosts A → (C → Option (List ℕ)) → Type 0
+LedLaw {A} {C} {D} g air given =
+    (old new : Setting D A C) (terms : ClientTerms) (start : Lists) (first : List NotesCommand) (job : JobState)
+    (came : Result Outcome SendStop) (turns : List Turn) (reached : Outcome)
+    → Carries g air given old new terms start first job came
+    → IsLedTo air given old new (client_from terms (after_all start first)) job turns reached
+    → ComesBy terms.polls turns reached came
