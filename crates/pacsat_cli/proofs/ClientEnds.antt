@@ -1,6 +1,7 @@
 -- What the end of a client's command says of its counts, its disk's content and its output.
 use Rattle.std.proofs.Common.{◌≡◌, ℕ, List, arith, refl, ap, sym, subst, ◌∙◌, inl, inr, Bool, true, false}
-use Rattle.std.specs.Prelude.{Option, None, Some, IfSome, IsTrue, Result, Ok, Err, IsErrAnd, IsErrOf, MatchResult, ⊤}
+use Rattle.std.proofs.lemmas.Result.{err_from_is_err_and}
+use Rattle.std.specs.Prelude.{◌⊎◌, Option, None, Some, IfSome, IsTrue, Result, Ok, Err, IsErrAnd, IsErrOf, MatchResult, ⊤}
 use Rattle.px_base.specs.Outside.{Rose}
 use Rattle.px_base.specs.Shelves.{Holding}
 use Rattle.px_base.specs.declared.air.Air.{Ghosts as AirGhosts}
@@ -28,6 +29,7 @@ use Rattle.uploader.specs.Loading.{IsUnfit, sum_of}
 use Rattle.uploader.specs.OnDisk.{EndsExactly, RefusesNotes}
 use Rattle.uploader.specs.Sending.{EndsAtStart, IsUnloaded, IsUnnoted, IsUnstarted, SendEnds, first_command, last_answer}
 use Rattle.uploader.specs.Stops.{stop_of_start}
+use Rattle.uploader.proofs.CarryLemmas.{disk-back}
 use Rattle.command_words.specs.Words.{AsksClient, AsksFetch, AsksList, AsksSend}
 use Rattle.pacsat_cli.specs.declared.status.Status.{Status}
 use Rattle.pacsat_cli.specs.declared.status.Status.TheVariants as status
@@ -85,7 +87,7 @@ module _ {A C D : Type 0} (g : Ghosts D) (air : AirGhosts A) (given : C → Opti
       let P : Result Outcome SendStop → Type 0 = λ r. AirBy (air.read_faults old.air) (air.read_faults new.air) (air.write_faults old.air) (air.write_faults new.air) r in
       subst P (sym h.answer) (air-carried _ _ _ _ h.ended h.reached h.counts)
 
-  carries-kind : {terms : ClientTerms} {start : Lists} {first : List NotesCommand} {job : JobState} {came : Result Outcome SendStop} → Carries g air given old new terms start first job came → (why : SendStop) → came ≡ Err why → is_carried why ≡ true
+  pub carries-kind : {terms : ClientTerms} {start : Lists} {first : List NotesCommand} {job : JobState} {came : Result Outcome SendStop} → Carries g air given old new terms start first job came → (why : SendStop) → came ≡ Err why → is_carried why ≡ true
   carries-kind h why e = node-carried _ why (sym h.answer ∙ e)
 
   -- notes that weren't recovered
@@ -103,6 +105,17 @@ module _ {A C D : Type 0} (g : Ghosts D) (air : AirGhosts A) (given : C → Opti
 pub match-err : {T U : Type 0} (ended : Result T SendStop) (P : T → Type 0) (came : Result U SendStop) → MatchResult ended P (λ why. came ≡ Err why) → (why : SendStop) → ended ≡ Err why → came ≡ Err why
 match-err (Ok value) P came h why e = absurd (cc)
 match-err (Err other) P came h why e = h ∙ sym (ap Err (let same : why ≡ other = cc in same))
+
+-- what is kept, or shown, may fail behind the outcome
+pub keeps-along : {S : Type 0} (held : S → Option Holding) (shelf shelf_now : S) (name octets : List ℕ) (came : Result Outcome SendStop) (ended : Result ⊤ SendStop) → KeepsBy held shelf shelf_now name octets came ended → (why : SendStop) → ended ≡ Err why → (came ≡ Err why) ⊎ (why ≡ stop.Shelf)
+keeps-along held shelf shelf_now name octets (Ok reached) (Ok value) h why e = absurd (cc)
+keeps-along held shelf shelf_now name octets (Ok reached) (Err other) h why e = inr (let same : why ≡ other = cc in same ∙ h.0)
+keeps-along held shelf shelf_now name octets (Err other) ended h why e = inl (ap Err (let both = sym h.0 ∙ e in cc))
+
+pub shows-along : {O : Type 0} (shown : O → Option (List ℕ)) (out out_now : O) (listing : List ℕ) (came : Result Outcome SendStop) (ended : Result ⊤ SendStop) → ShowsBy shown out out_now listing came ended → (why : SendStop) → ended ≡ Err why → (came ≡ Err why) ⊎ (why ≡ stop.Out)
+shows-along shown out out_now listing (Ok reached) (Ok value) h why e = absurd (cc)
+shows-along shown out out_now listing (Ok reached) (Err other) h why e = inr (let same : why ≡ other = cc in same ∙ h.0)
+shows-along shown out out_now listing (Err other) ended h why e = inl (ap Err (let both = sym h.0 ∙ e in cc))
 
 -- a stop that is handed on
 err-along : {T : Type 0} (other : SendStop) (ended : Result T SendStop) → ended ≡ Err other → (why : SendStop) → ended ≡ Err why → other ≡ why
@@ -257,6 +270,49 @@ module _ {A C D : Type 0} (g : Ghosts D) (air : AirGhosts A) (given : C → Opti
   list-not_shelf shown out out_now tokens ended (inl h) e = carried-not_shelf stop.Shelf (unrecovered-kind g air given old new ended h.0 stop.Shelf e) refl
   list-not_shelf shown out out_now tokens ended (inr h) e = shows-kind shown out out_now h.carries.listing h.came ended h.shows (carries-kind g air given old new h.carries) e
 
+-- ---- the disk, by how each command ended
+
+-- A write or a sync failed; or a read, before anything was heard or said.
+abbrev FailedDisk : {A C D : Type 0} → Ghosts D → Setting D A C → Setting D A C → Type 0
+FailedDisk g old new =
+    Rose (g.write_faults old.disk) (g.write_faults new.disk) ⊎ (Rose (g.read_faults old.disk) (g.read_faults new.disk) × (new.air ≡ old.air))
+
+module _ {A C D : Type 0} (g : Ghosts D) (air : AirGhosts A) (given : C → Option (List ℕ)) (old new : Setting D A C) where
+  -- behind the recovery it is a write or a sync
+  carries-disk : {terms : ClientTerms} {start : Lists} {first : List NotesCommand} {job : JobState} {came : Result Outcome SendStop} → Carries g air given old new terms start first job came → came ≡ Err stop.Disk → FailedDisk g old new
+  carries-disk h e = inl (h.stands.counts.writes.rose (disk-back h.ended h.reached (sym h.answer ∙ e)))
+
+  -- in the recovery nothing was heard or said
+  unrecovered-disk : {T : Type 0} (ended : Result T SendStop) → Runs g (IsErrOf ended stop.Disk) old.disk new.disk → IsErrAnd ended (IsUnrecovered g old new) → ended ≡ Err stop.Disk → FailedDisk g old new
+  unrecovered-disk ended runs h e =
+      elim (runs.faults.rose e) [ inl reads ↦ inr (reads, (err_from_is_err_and ended h).2.air) | inr writes ↦ inl writes ]
+
+  module _ (terms : ClientTerms) where
+    send-disk : (held : Option Holding) (name : List ℕ) (ended : Result Sent SendStop) → Runs g (IsErrOf ended stop.Disk) old.disk new.disk → SendEnds g air given old new held terms name ended → ended ≡ Err stop.Disk → FailedDisk g old new
+    send-disk held name ended runs (inl h) e =
+        let u = err_from_is_err_and ended h in
+        let same : u.0 ≡ stop.Disk = (let both = sym u.1 ∙ e in cc) in
+        absurd (subst (λ (why : SendStop). IsUnfit held name why) same u.2.cause)
+    send-disk held name ended runs (inr h) e = elim h.ends [
+      | inl unrecovered ↦ unrecovered-disk ended runs unrecovered e
+      | inr begun ↦ elim begun [
+        | inl start ↦ inl (start.stands.counts.writes.rose e)
+        | inr up ↦ carries-disk up.carries (match-err ended _ up.came up.answer stop.Disk e)
+      ]
+    ]
+
+    fetch-disk : {S : Type 0} (held : S → Option Holding) (shelf shelf_now : S) (number : ℕ) (name : List ℕ) (ended : Result ⊤ SendStop) → Runs g (IsErrOf ended stop.Disk) old.disk new.disk
+        → FetchEnds g air given held old new shelf shelf_now terms number name ended → ended ≡ Err stop.Disk → FailedDisk g old new
+    fetch-disk held shelf shelf_now number name ended runs (inl h) e = unrecovered-disk ended runs h.0 e
+    fetch-disk held shelf shelf_now number name ended runs (inr h) e =
+        elim (keeps-along held shelf shelf_now name h.octets h.came ended h.keeps stop.Disk e) [ inl same ↦ carries-disk h.carries same | inr other ↦ absurd (cc other) ]
+
+    list-disk : {O : Type 0} (shown : O → Option (List ℕ)) (out out_now : O) (tokens : List ℕ) (ended : Result ⊤ SendStop) → Runs g (IsErrOf ended stop.Disk) old.disk new.disk
+        → ListEnds g air given shown old new out out_now terms tokens ended → ended ≡ Err stop.Disk → FailedDisk g old new
+    list-disk shown out out_now tokens ended runs (inl h) e = unrecovered-disk ended runs h.0 e
+    list-disk shown out out_now tokens ended runs (inr h) e =
+        elim (shows-along shown out out_now h.carries.listing h.came ended h.shows stop.Disk e) [ inl same ↦ carries-disk h.carries same | inr other ↦ absurd (cc other) ]
+
 -- ---- what the clauses of a run say of any of the three
 
 module _ {A C D T : Type 0} (g : Ghosts D) (air : AirGhosts A) (old new : Setting D A C) (words : List (List ℕ)) (client : AsksClient words) (ended : Result T SendStop) (s : Status) (is : StatusBy ended s) where
@@ -288,10 +344,10 @@ module _ {A C D T : Type 0} (g : Ghosts D) (air : AirGhosts A) (old new : Settin
       same = λ isnt _ _ pass. stayed writes writes_now status.AirWrite stop.AirWrite h.same_write refl isnt pass;
     }
 
-  pub client-disk : Runs g (IsErrOf ended stop.Disk) old.disk new.disk → HasDiskCause words g.read_faults g.write_faults old.disk new.disk old.air new.air s
-  client-disk runs = record {
+  pub client-disk : Runs g (IsErrOf ended stop.Disk) old.disk new.disk → (ended ≡ Err stop.Disk → FailedDisk g old new) → HasDiskCause words g.read_faults g.write_faults old.disk new.disk old.air new.air s
+  client-disk runs failed = record {
     asked = λ _. inr client;
-    rose = λ e. elim (runs.faults.rose (stopped-by ended s is stop.Disk refl e)) [ inl reads ↦ inr (reads, inr client) | inr writes ↦ inl writes ];
+    rose = λ e. failed (stopped-by ended s is stop.Disk refl e);
     same = λ isnt. (runs.faults.same (λ failed. isnt (is.stopped stop.Disk failed))).1;
     same_reads = λ isnt _. (runs.faults.same (λ failed. isnt (is.stopped stop.Disk failed))).0;
     no_less = (runs.faults.reads, runs.faults.writes);
@@ -346,7 +402,7 @@ module _ {A C D S O : Type 0} (g : Ghosts D) (air : AirGhosts A) (given : C → 
         kind = client-status h.ended s is;
         read = client-read g air old new words client h.ended s is _ _ _ _ by_air;
         write = client-write g air old new words client h.ended s is _ _ _ _ by_air;
-        disk = client-disk g air old new words client h.ended s is h.causes.runs;
+        disk = client-disk g air old new words client h.ended s is h.causes.runs (send-disk g air given old new terms (sh.held shelf) name h.ended h.causes.runs h.ends);
         of_shelf = client-shelf g air old new words client h.ended s is _ _ h.of_shelf.rose h.of_shelf.same;
         exact = λ disk_not memory_not file_not.
             client-exact g air old new words client h.ended s is (g.content old.disk) (h.notes (past-file h.ended s is (file_not asks))) disk_not memory_not;
@@ -364,7 +420,7 @@ module _ {A C D S O : Type 0} (g : Ghosts D) (air : AirGhosts A) (given : C → 
         kind = client-status h.ended s is;
         read = client-read g air old new words client h.ended s is _ _ _ _ by_air;
         write = client-write g air old new words client h.ended s is _ _ _ _ by_air;
-        disk = client-disk g air old new words client h.ended s is h.causes.runs;
+        disk = client-disk g air old new words client h.ended s is h.causes.runs (fetch-disk g air given old new terms sh.held shelf shelf_now number name h.ended h.causes.runs h.ends);
         of_shelf = client-shelf g air old new words client h.ended s is _ _ h.of_shelf.rose (λ isnt _. h.of_shelf.same isnt);
         exact = λ disk_not memory_not _. client-exact g air old new words client h.ended s is (g.content old.disk) h.notes disk_not memory_not;
         out_rose = closes-out o line out mid h.ended s h.closes (fetch-not_out g air given old new terms sh.held shelf shelf_now number name h.ended h.ends);
@@ -380,7 +436,7 @@ module _ {A C D S O : Type 0} (g : Ghosts D) (air : AirGhosts A) (given : C → 
         kind = client-status h.ended s is;
         read = client-read g air old new words client h.ended s is _ _ _ _ by_air;
         write = client-write g air old new words client h.ended s is _ _ _ _ by_air;
-        disk = client-disk g air old new words client h.ended s is h.causes.runs;
+        disk = client-disk g air old new words client h.ended s is h.causes.runs (list-disk g air given old new terms o.shown out mid tokens h.ended h.causes.runs h.ends);
         of_shelf = client-shelf g air old new words client h.ended s is _ _ (λ e. absurd (list-not_shelf g air given old new terms o.shown out mid tokens h.ended h.ends e)) (λ _ _. ap sh.faults stayed_shelf);
         exact = λ disk_not memory_not _. client-exact g air old new words client h.ended s is (g.content old.disk) h.notes disk_not memory_not;
         out_rose = λ e. h.of_out.rose (list-out h.ended s h.status_is e);

@@ -1,8 +1,6 @@
 -- How a session or a service ended, as its status says.
-use Rattle.std.proofs.Common.{◌≡◌, ℕ, List, ◌++◌, refl, ap, sym, subst, ◌∙◌, inl, inr, Bool, true, false, arith}
-use Rattle.std.proofs.lemmas.List.{append_cancel_left}
-use Rattle.std.specs.Prelude.{Option, Some, Result, Ok, Err, if◌then◌else◌}
-use Rattle.px_base.specs.Outside.{Grows}
+use Rattle.std.proofs.Common.{◌≡◌, ℕ, List, refl, ap, subst, inl, inr, Bool, true, false, arith}
+use Rattle.std.specs.Prelude.{Result, Ok, Err, if◌then◌else◌}
 use Rattle.px_base.specs.Polling.{EndsWith, HasEnd}
 use Rattle.px_base.specs.declared.air.Turn.{Turn}
 use Rattle.px_base.specs.declared.air.Turn.TheVariants as turn
@@ -166,11 +164,3 @@ heard-not_bad memory (Err (stop.NotAStore found)) polls turns why h e = h
 heard-not_bad memory (Err (stop.Damaged at)) polls turns why h e = h
 heard-not_bad memory (Err stop.Spent) polls turns why h e = absurd (cc)
 heard-not_bad memory (Err stop.OutOfMemory) polls turns why h e = absurd (cc)
-
--- what is told to have come since is what came
-pub told-same : {X : Type 0} (before now : Option (List X)) (earlier xs ys : List X) → before ≡ Some earlier → now ≡ Some (earlier ++ xs) → Grows before now ys → ys ≡ xs
-told-same {X} before now earlier xs ys e f h =
-    let P : Option (List X) → Type 0 = λ o. Grows before o ys in
-    let told = subst P f h in
-    let first : earlier ≡ told.0 = (let same = sym e ∙ told.1 in cc) in
-    sym (append_cancel_left told.0 xs ys (ap (λ x. x ++ xs) (sym first) ∙ told.2))

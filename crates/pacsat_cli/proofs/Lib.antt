@@ -1,10 +1,11 @@
-pub mod CarriedAll
 pub mod ClientEnds
 pub mod ClientStops
 pub mod Ended
+pub mod ExactCarried
+pub mod ExactJob
+pub mod ExactSend
 pub mod FileEnds
 pub mod FilesShown
-pub mod LedAll
 pub mod Loading
 pub mod MakeEnds
 pub mod MemorySession

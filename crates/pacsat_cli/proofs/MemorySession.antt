@@ -1,5 +1,5 @@
 -- A session over a fresh disk in memory.
-use Rattle.std.proofs.Common.{◌≡◌, ℕ, List, [], true, refl, ap, sym, subst, ◌∙◌, inl, inr}
+use Rattle.std.proofs.Common.{◌≡◌, ℕ, List, [], refl, ap, sym, subst, ◌∙◌, inl, inr}
 use Rattle.std.specs.Prelude.{Option, Some, IfSome, Result, Err}
 use Rattle.px_base.specs.declared.air.Air.{Ghosts as AirGhosts}
 use Rattle.disk_model.specs.Calls.{new_state}

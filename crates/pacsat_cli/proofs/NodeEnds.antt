@@ -22,7 +22,8 @@ use Rattle.pacsat_cli.specs.declared.status.Status.TheVariants as status
 use Rattle.pacsat_cli.specs.Run.{HasStatusCause}
 use Rattle.pacsat_cli.specs.Sessions.{AsksFresh, AsksStore, HasDiskCause, HasReadCause, HasWriteCause, IsDoneAtEnd, IsSpentBy, RefusesExactly}
 use Rattle.pacsat_cli.specs.Stops.{status_of}
-use Rattle.pacsat_cli.proofs.Ended.{damaged-end, disk-end, done_by, mended, not_a_store-end, read_cause, reads_end, spent_by, told-same, write_cause}
+use Rattle.uploader.proofs.LedLemmas.{told-same}
+use Rattle.pacsat_cli.proofs.Ended.{damaged-end, disk-end, done_by, mended, not_a_store-end, read_cause, reads_end, spent_by, write_cause}
 
 -- whether a session or a service can end with this status
 abbrev pub is_node_status : Status → Bool
@@ -205,7 +206,7 @@ module _ {A D : Type 0} (g : Ghosts D) (air : AirGhosts A) (blocks polls : ℕ) 
     rose = λ e.
         let failed = disk-end over.ended (sym over.status_is ∙ e) in
         elim over.goes [
-          | inl refused ↦ elim (over.runs.rose failed) [ inl reads ↦ inr (reads, inl refused.2) | inr writes ↦ inl writes ]
+          | inl refused ↦ elim (over.runs.rose failed) [ inl reads ↦ inr (reads, refused.2) | inr writes ↦ inl writes ]
           | inr went ↦ inl (went.0.faults.rose failed)
         ];
     same = λ isnt. over.runs.same (λ failed. isnt (over.status_is ∙ ap status_of failed));

@@ -1,6 +1,6 @@
 pub mod Clients
+pub mod Exactly
 pub mod Files
-pub mod Led
 pub mod Making
 pub mod Run
 pub mod Servers

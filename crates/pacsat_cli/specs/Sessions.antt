@@ -150,16 +150,16 @@ abbrev pub MayPassOver : List (List ℕ) → Status → Type 0
 MayPassOver words status = AsksClient words × IsTrue (may_have_outcome status)
 
 -- The disk's counts of faults by the status; neither falls. Disk comes only in a session or a service over the disk that
--- DISK names, and where the count of failed writes and syncs rose; or, in the recovery, before anything was heard or said,
--- where that of failed reads did; or in a client's command, where either rose. Where it doesn't come, the count of failed
--- writes and syncs is as it was. That of failed reads is, but in a session or a service over that disk, where a read that
--- failed is told by code 3.
+-- DISK names, or in a client's command, and where the count of failed writes and syncs rose; or, in the recovery, before
+-- anything was heard or said, where that of failed reads did. Where it doesn't come, the count of failed writes and syncs is
+-- as it was. That of failed reads is, but in a session or a service over that disk, where a read that failed is told by
+-- code 3.
 pub record HasDiskCause {A D : Type 0} (words : List (List ℕ)) (reads writes : D → ℕ) (disk disk_now : D) (before now : A)
     (status : Status) : Type 0 where
   pub asked : status ≡ Disk → AsksDisk words
   pub rose :
       status ≡ Disk
-      → Rose (writes disk) (writes disk_now) ⊎ (Rose (reads disk) (reads disk_now) × ((now ≡ before) ⊎ AsksClient words))
+      → Rose (writes disk) (writes disk_now) ⊎ (Rose (reads disk) (reads disk_now) × (now ≡ before))
   pub same : (status ≡ Disk → ⊥) → writes disk_now ≡ writes disk
   pub same_reads : (status ≡ Disk → ⊥) → (AsksStore words → ⊥) → reads disk_now ≡ reads disk
   pub no_less : (reads disk ≤ reads disk_now) × (writes disk ≤ writes disk_now)

@@ -8,8 +8,8 @@ ghost use Rattle.px_base.specs.Outside.{Rose};
 ghost use Rattle.session_node.specs.Laws.{AcknowledgedSinceLaw};
 ghost use Rattle.uploader.specs.Carried.{setting};
 ghost use Rattle.pacsat_cli.specs.Clients.{RunsFetch, RunsList, RunsSend};
+ghost use Rattle.pacsat_cli.specs.Exactly.{FetchEndsExactly, ListEndsExactly, SendEndsExactly, SendStarts};
 ghost use Rattle.pacsat_cli.specs.Files.{IsNoSuchBy, IsShownBy, IsTooLongBy};
-ghost use Rattle.pacsat_cli.specs.Led.{LedLaws};
 ghost use Rattle.pacsat_cli.specs.Run.{AreRefused, HasShelfCause, IsUnless, Shows, Stays};
 ghost use Rattle.pacsat_cli.specs.Servers.{RunsServe, WhereServed};
 ghost use Rattle.pacsat_cli.specs.Sessions.{AsksDisk, AsksMoment, AsksNode, HasDiskCause, HasReadCause, HasStoreCause};
@@ -28,7 +28,7 @@ use crate::{Status, Words};
 use command_words::Refusal;
 use command_words::laws::one_meaning;
 use disk_model::Disk;
-use ftl0_client::laws::one_step_law;
+use ftl0_client::laws::{one_step_law, stays_law};
 use ftl0_session::laws::acknowledged_stands_law;
 use node_events::laws::one_run_law;
 use px_base::{Air, Clock, Out, Shelf};
@@ -92,9 +92,17 @@ pub fn run<D: Disk, A: Air, S: Shelf, O: Out, C: Clock>(
         (setting disk.new air.new clock.new) shelf.old shelf.new out.old out.new result }
     ensures list_alone { AsksList words.now → shelf.new ≡ shelf.old }
 
-    // Where what was heard leads a client to what its command asks for, by the definition, the command came to that, and is
-    // done, unless a put failed, or there was no memory, or disk, shelf or output failed.
-    ensures led { LedLaws D.Disk A.Air C.given S.Shelf O.Out }
+    // Where it is told what shelf and disk had, and what air and clock gave, each status of a client's command but those of a
+    // put that failed, of a fault of disk, output or shelf, and of want of memory comes exactly where its cause is: by the
+    // last task of the name, and by what the definition makes of the job over all that was heard. So a command is done
+    // exactly where that leads to what it asks for.
+    ensures send_starts { SendStarts words.now D.Disk S.Shelf (setting disk.old air.old clock.old) shelf.old result }
+    ensures send_exactly { SendEndsExactly words.now D.Disk A.Air C.given S.Shelf (setting disk.old air.old clock.old)
+        (setting disk.new air.new clock.new) shelf.old result }
+    ensures fetch_exactly { FetchEndsExactly words.now D.Disk A.Air C.given (setting disk.old air.old clock.old)
+        (setting disk.new air.new clock.new) result }
+    ensures list_exactly { ListEndsExactly words.now D.Disk A.Air C.given (setting disk.old air.old clock.old)
+        (setting disk.new air.new clock.new) result }
 
     // So what was acknowledged stands: once DATA_END's row replied UL_ACK_RESP, the file's entry is complete, with exactly the
     // octets that came, stamped, in every image in which its commands are done, whatever comes behind them; and so in every
@@ -152,12 +160,14 @@ pub fn run<D: Disk, A: Air, S: Shelf, O: Out, C: Clock>(
     ensures unshown { result ≡ Status.Done → (AsksShown words.now → ⊥) → out.new ≡ out.old }
     ensures shown { (AsksShown words.now → ⊥) → Shows O.shown O.faults out.old out.new (line_of result) }
 {
-    // The words ask for one thing, what was acknowledged stands, and a client has one run over what is heard.
+    // The words ask for one thing, what was acknowledged stands, and a client has one run over what is heard, in which what
+    // became of its job stays.
     one_meaning();
     acknowledged_stands_law();
     acknowledged_since_law::<D>();
     one_run_law();
     one_step_law();
+    stays_law();
     let request = match command_words::read(alloc, words) {
         Ok(request) => request,
         Err(refusal) => {

@@ -6,9 +6,11 @@ use Rattle.header_tool.specs.Made.{make_value}
 use Rattle.pacsat_cli.specs.declared.files.FileCommand.{FileCommand}
 use Rattle.pacsat_cli.specs.declared.status.Status.TheVariants as status
 use Rattle.pacsat_cli.specs.Status.{line_of}
+use Rattle.pacsat_cli.specs.Stops.{status_of_refusal}
 use Rattle.pacsat_cli.specs.Tasks.{AsksFile, AsksMake, AsksText}
 use Rattle.uploader.specs.Carried.{setting}
-use Rattle.pacsat_cli.proofs.LedAll.{led-laws}
+use Rattle.pacsat_cli.proofs.ExactCarried.{fetch-exactly, list-exactly}
+use Rattle.pacsat_cli.proofs.ExactSend.{send-exactly, send-starts}
 use Rattle.pacsat_cli.proofs.OneTask.{file-client, file-make, make-client, node-client, refused-client, node-file, node-make, one-text, serve-file, serve-make, session-file, session-make, unbuilt-file, unbuilt-make, usage-file, usage-make}
 use Rattle.pacsat_cli.proofs.RunClient.{asks-client, client-alone, client-did, client-done, client-fetches, client-held, client-lists, client-not, client-rose, client-sends, client-store, may-run}
 use Rattle.pacsat_cli.proofs.RunFile.{file-done, file-no_such, file-not, file-rose, file-runs, file-shown, file-too_long}
@@ -27,6 +29,9 @@ returns-in-Err g c =
     let h = means words why (Err why) refl refused.usage refused.unbuilt refused.memory in
     let line = rw c.status_of_refused-status.ensures at c.show_line.ensures in
     let held = g.S.Shelf.held c.args.shelf.now in
+    let send = refused-send words only why h g.D.Disk g.A.Air g.C.Clock.given g.S.Shelf g.O.Out (setting c.args.disk.now c.args.air.now c.args.clock.now) c.args.shelf.now c.args.out.now c.show_line.new.out line.shown line.no_line in
+    let fetch = refused-fetch words only why h g.D.Disk g.A.Air g.C.Clock.given g.S.Shelf g.O.Out (setting c.args.disk.now c.args.air.now c.args.clock.now) c.args.shelf.now c.args.out.now c.show_line.new.out line.shown line.no_line in
+    let list = refused-list words only why h g.D.Disk g.A.Air g.C.Clock.given g.S.Shelf g.O.Out (setting c.args.disk.now c.args.air.now c.args.clock.now) c.args.shelf.now c.args.out.now c.show_line.new.out line.shown line.no_line in
     rw c.status_of_refused-status.ensures
     (record {
       usage = refused-usage words only why h;
@@ -41,11 +46,14 @@ returns-in-Err g c =
       serve = refused-serve words only why h g.A.Air c.args.air.now g.D.Disk g.C.Clock.given c.args.disk.now c.args.clock.now;
       serve_alone = λ _. refl;
       clock_unasked = λ _. refl;
-      send = refused-send words only why h g.D.Disk g.A.Air g.C.Clock.given g.S.Shelf g.O.Out (setting c.args.disk.now c.args.air.now c.args.clock.now) c.args.shelf.now c.args.out.now c.show_line.new.out line.shown line.no_line;
-      fetch = refused-fetch words only why h g.D.Disk g.A.Air g.C.Clock.given g.S.Shelf g.O.Out (setting c.args.disk.now c.args.air.now c.args.clock.now) c.args.shelf.now c.args.out.now c.show_line.new.out line.shown line.no_line;
-      list = refused-list words only why h g.D.Disk g.A.Air g.C.Clock.given g.S.Shelf g.O.Out (setting c.args.disk.now c.args.air.now c.args.clock.now) c.args.shelf.now c.args.out.now c.show_line.new.out line.shown line.no_line;
+      send = send;
+      fetch = fetch;
+      list = list;
       list_alone = λ _. refl;
-      led = led-laws g.D.Disk g.A.Air g.C.Clock.given g.S.Shelf g.O.Out c.one_run_law.ensures c.one_step_law.ensures;
+      send_starts = send-starts g.D.Disk g.A.Air g.C.Clock.given g.S.Shelf g.O.Out words (setting c.args.disk.now c.args.air.now c.args.clock.now) (setting c.args.disk.now c.args.air.now c.args.clock.now) c.args.shelf.now c.args.shelf.now (status_of_refusal why) c.args.out.now c.show_line.new.out send;
+      send_exactly = send-exactly g.D.Disk g.A.Air g.C.Clock.given g.S.Shelf g.O.Out words (setting c.args.disk.now c.args.air.now c.args.clock.now) (setting c.args.disk.now c.args.air.now c.args.clock.now) c.args.shelf.now c.args.shelf.now (status_of_refusal why) c.args.out.now c.show_line.new.out send c.one_run_law.ensures c.one_step_law.ensures c.stays_law.ensures;
+      fetch_exactly = fetch-exactly g.D.Disk g.A.Air g.C.Clock.given c.one_run_law.ensures c.one_step_law.ensures c.stays_law.ensures (setting c.args.disk.now c.args.air.now c.args.clock.now) (setting c.args.disk.now c.args.air.now c.args.clock.now) g.S.Shelf g.O.Out words c.args.shelf.now c.args.shelf.now c.args.out.now c.show_line.new.out (status_of_refusal why) fetch;
+      list_exactly = list-exactly g.D.Disk g.A.Air g.C.Clock.given c.one_run_law.ensures c.one_step_law.ensures c.stays_law.ensures (setting c.args.disk.now c.args.air.now c.args.clock.now) (setting c.args.disk.now c.args.air.now c.args.clock.now) g.S.Shelf g.O.Out words c.args.shelf.now c.args.shelf.now c.args.out.now c.show_line.new.out (status_of_refusal why) list;
       acknowledged = c.acknowledged_stands_law.ensures;
       acknowledged_since = c.acknowledged_since_law.ensures;
       disk_alone = λ _. refl;
@@ -107,7 +115,10 @@ returns-in-Session g c =
       fetch = λ asked number name is. absurd (only.session_client session (inr (inl (asked, number, name, is))));
       list = λ asked tokens is. absurd (only.session_client session (inr (inr (asked, tokens, is))));
       list_alone = λ _. refl;
-      led = led-laws g.D.Disk g.A.Air g.C.Clock.given g.S.Shelf g.O.Out c.one_run_law.ensures c.one_step_law.ensures;
+      send_starts = λ of. absurd (only.session_client session (inl (of.asked, of.name, of.asks)));
+      send_exactly = λ of. absurd (only.session_client session (inl (of.asked, of.name, of.asks)));
+      fetch_exactly = λ led. absurd (only.session_client session (inr (inl (led.asked, led.number, led.name, led.asks))));
+      list_exactly = λ led. absurd (only.session_client session (inr (inr (led.asked, led.tokens, led.asks))));
       acknowledged = c.acknowledged_stands_law.ensures;
       acknowledged_since = c.acknowledged_since_law.ensures;
       disk_alone = session-alone g.D.Disk g.A.Air g.C.Clock.given c.args.disk.now ran.new.disk c.args.air.now ran.new.air c.args.clock.now ran.new.clock asked ran.result words asks only determined over;
@@ -168,7 +179,10 @@ returns-in-Serve g c =
       fetch = λ asked number name is. absurd (only.serve_client serve (inr (inl (asked, number, name, is))));
       list = λ asked tokens is. absurd (only.serve_client serve (inr (inr (asked, tokens, is))));
       list_alone = λ _. refl;
-      led = led-laws g.D.Disk g.A.Air g.C.Clock.given g.S.Shelf g.O.Out c.one_run_law.ensures c.one_step_law.ensures;
+      send_starts = λ of. absurd (only.serve_client serve (inl (of.asked, of.name, of.asks)));
+      send_exactly = λ of. absurd (only.serve_client serve (inl (of.asked, of.name, of.asks)));
+      fetch_exactly = λ led. absurd (only.serve_client serve (inr (inl (led.asked, led.number, led.name, led.asks))));
+      list_exactly = λ led. absurd (only.serve_client serve (inr (inr (led.asked, led.tokens, led.asks))));
       acknowledged = c.acknowledged_stands_law.ensures;
       acknowledged_since = c.acknowledged_since_law.ensures;
       disk_alone = λ none. absurd (none (inl (inr serve)));
@@ -225,7 +239,10 @@ returns-in-File g c =
       fetch = λ asked number name is. absurd (file-client words only file (inr (inl (asked, number, name, is))));
       list = λ asked tokens is. absurd (file-client words only file (inr (inr (asked, tokens, is))));
       list_alone = λ asks. absurd (file-client words only file (inr (inr asks)));
-      led = led-laws g.D.Disk g.A.Air g.C.Clock.given g.S.Shelf g.O.Out c.one_run_law.ensures c.one_step_law.ensures;
+      send_starts = λ of. absurd (file-client words only file (inl (of.asked, of.name, of.asks)));
+      send_exactly = λ of. absurd (file-client words only file (inl (of.asked, of.name, of.asks)));
+      fetch_exactly = λ led. absurd (file-client words only file (inr (inl (led.asked, led.number, led.name, led.asks))));
+      list_exactly = λ led. absurd (file-client words only file (inr (inr (led.asked, led.tokens, led.asks))));
       acknowledged = c.acknowledged_stands_law.ensures;
       acknowledged_since = c.acknowledged_since_law.ensures;
       disk_alone = λ _. refl;
@@ -299,7 +316,10 @@ returns-in-Make g c =
       fetch = λ asked number name is. absurd (make-client words only make (inr (inl (asked, number, name, is))));
       list = λ asked tokens is. absurd (make-client words only make (inr (inr (asked, tokens, is))));
       list_alone = λ asks. absurd (make-client words only make (inr (inr asks)));
-      led = led-laws g.D.Disk g.A.Air g.C.Clock.given g.S.Shelf g.O.Out c.one_run_law.ensures c.one_step_law.ensures;
+      send_starts = λ of. absurd (make-client words only make (inl (of.asked, of.name, of.asks)));
+      send_exactly = λ of. absurd (make-client words only make (inl (of.asked, of.name, of.asks)));
+      fetch_exactly = λ led. absurd (make-client words only make (inr (inl (led.asked, led.number, led.name, led.asks))));
+      list_exactly = λ led. absurd (make-client words only make (inr (inr (led.asked, led.tokens, led.asks))));
       acknowledged = c.acknowledged_stands_law.ensures;
       acknowledged_since = c.acknowledged_since_law.ensures;
       disk_alone = λ _. refl;
@@ -349,6 +369,9 @@ returns-in-Client g c =
     let line = c.show_line-in-Client.ensures in
     let did = client-did g.D.Disk g.A.Air g.C.Clock.given g.S.Shelf g.O.Out (setting c.args.disk.now c.args.air.now c.args.clock.now) (setting ran.new.disk ran.new.air ran.new.clock) c.args.shelf.now ran.new.shelf c.args.out.now ran.new.out c.show_line-in-Client.new.out words ran.result request asks ran.ensures in
     let isnt = client-not g.D.Disk g.A.Air g.C.Clock.given g.S.Shelf g.O.Out (setting c.args.disk.now c.args.air.now c.args.clock.now) (setting ran.new.disk ran.new.air ran.new.clock) c.args.shelf.now ran.new.shelf c.args.out.now ran.new.out c.show_line-in-Client.new.out words ran.result did in
+    let sends = client-sends g.D.Disk g.A.Air g.C.Clock.given g.S.Shelf g.O.Out (setting c.args.disk.now c.args.air.now c.args.clock.now) (setting ran.new.disk ran.new.air ran.new.clock) c.args.shelf.now ran.new.shelf c.args.out.now ran.new.out c.show_line-in-Client.new.out words ran.result only determined line.shown line.no_line request asks ran.ensures in
+    let fetches = client-fetches g.D.Disk g.A.Air g.C.Clock.given g.S.Shelf g.O.Out (setting c.args.disk.now c.args.air.now c.args.clock.now) (setting ran.new.disk ran.new.air ran.new.clock) c.args.shelf.now ran.new.shelf c.args.out.now ran.new.out c.show_line-in-Client.new.out words ran.result only determined line.shown line.no_line request asks ran.ensures in
+    let lists = client-lists g.D.Disk g.A.Air g.C.Clock.given g.S.Shelf g.O.Out (setting c.args.disk.now c.args.air.now c.args.clock.now) (setting ran.new.disk ran.new.air ran.new.clock) c.args.shelf.now ran.new.shelf c.args.out.now ran.new.out c.show_line-in-Client.new.out words ran.result only determined line.shown line.no_line request asks ran.ensures in
     record {
       usage = λ e. absurd (isnt status.Usage refl e);
       usage_told = λ usage. absurd (only.usage_client usage client);
@@ -362,11 +385,14 @@ returns-in-Client g c =
       serve = λ other is. absurd (only.serve_client (other, is) client);
       serve_alone = λ serve. absurd (only.serve_client serve client);
       clock_unasked = λ given. absurd (only.session_client (given.0, given.1) client);
-      send = client-sends g.D.Disk g.A.Air g.C.Clock.given g.S.Shelf g.O.Out (setting c.args.disk.now c.args.air.now c.args.clock.now) (setting ran.new.disk ran.new.air ran.new.clock) c.args.shelf.now ran.new.shelf c.args.out.now ran.new.out c.show_line-in-Client.new.out words ran.result only determined line.shown line.no_line request asks ran.ensures;
-      fetch = client-fetches g.D.Disk g.A.Air g.C.Clock.given g.S.Shelf g.O.Out (setting c.args.disk.now c.args.air.now c.args.clock.now) (setting ran.new.disk ran.new.air ran.new.clock) c.args.shelf.now ran.new.shelf c.args.out.now ran.new.out c.show_line-in-Client.new.out words ran.result only determined line.shown line.no_line request asks ran.ensures;
-      list = client-lists g.D.Disk g.A.Air g.C.Clock.given g.S.Shelf g.O.Out (setting c.args.disk.now c.args.air.now c.args.clock.now) (setting ran.new.disk ran.new.air ran.new.clock) c.args.shelf.now ran.new.shelf c.args.out.now ran.new.out c.show_line-in-Client.new.out words ran.result only determined line.shown line.no_line request asks ran.ensures;
+      send = sends;
+      fetch = fetches;
+      list = lists;
       list_alone = client-alone g.D.Disk g.A.Air g.C.Clock.given g.S.Shelf g.O.Out (setting c.args.disk.now c.args.air.now c.args.clock.now) (setting ran.new.disk ran.new.air ran.new.clock) c.args.shelf.now ran.new.shelf c.args.out.now ran.new.out c.show_line-in-Client.new.out words ran.result only request asks ran.ensures;
-      led = led-laws g.D.Disk g.A.Air g.C.Clock.given g.S.Shelf g.O.Out c.one_run_law.ensures c.one_step_law.ensures;
+      send_starts = send-starts g.D.Disk g.A.Air g.C.Clock.given g.S.Shelf g.O.Out words (setting c.args.disk.now c.args.air.now c.args.clock.now) (setting ran.new.disk ran.new.air ran.new.clock) c.args.shelf.now ran.new.shelf ran.result c.args.out.now c.show_line-in-Client.new.out sends;
+      send_exactly = send-exactly g.D.Disk g.A.Air g.C.Clock.given g.S.Shelf g.O.Out words (setting c.args.disk.now c.args.air.now c.args.clock.now) (setting ran.new.disk ran.new.air ran.new.clock) c.args.shelf.now ran.new.shelf ran.result c.args.out.now c.show_line-in-Client.new.out sends c.one_run_law.ensures c.one_step_law.ensures c.stays_law.ensures;
+      fetch_exactly = fetch-exactly g.D.Disk g.A.Air g.C.Clock.given c.one_run_law.ensures c.one_step_law.ensures c.stays_law.ensures (setting c.args.disk.now c.args.air.now c.args.clock.now) (setting ran.new.disk ran.new.air ran.new.clock) g.S.Shelf g.O.Out words c.args.shelf.now ran.new.shelf c.args.out.now c.show_line-in-Client.new.out ran.result fetches;
+      list_exactly = list-exactly g.D.Disk g.A.Air g.C.Clock.given c.one_run_law.ensures c.one_step_law.ensures c.stays_law.ensures (setting c.args.disk.now c.args.air.now c.args.clock.now) (setting ran.new.disk ran.new.air ran.new.clock) g.S.Shelf g.O.Out words c.args.shelf.now ran.new.shelf c.args.out.now c.show_line-in-Client.new.out ran.result lists;
       acknowledged = c.acknowledged_stands_law.ensures;
       acknowledged_since = c.acknowledged_since_law.ensures;
       disk_alone = λ none. absurd (none (inr client));

@@ -1,0 +1,210 @@
+-- The status of a client's command that came to its job, by what the definition makes of that.
+use Rattle.std.proofs.Common.{◌≡◌, ℕ, List, [], ◌∷◌, ◌++◌, refl, ap, sym, subst, ◌∙◌, inl, inr, arith, true}
+use Rattle.std.specs.Prelude.{◌≢◌, ◌⊎◌, Contains, Result, Ok, Err}
+use Rattle.px_base.specs.Polling.{EndsWith, HasEnd}
+use Rattle.px_base.specs.declared.air.Turn.{Turn}
+use Rattle.px_base.specs.declared.air.Turn.TheVariants as turn
+use Rattle.ftl0_client.specs.declared.outcome.Outcome.{Outcome}
+use Rattle.ftl0_client.specs.declared.outcome.Outcome.TheVariants as outcome
+use Rattle.client_node.specs.Carried.{TurnsBy}
+use Rattle.client_node.specs.declared.stop.NodeStop.{NodeStop}
+use Rattle.client_node.specs.declared.stop.NodeStop.TheVariants as node
+use Rattle.uploader.specs.declared.stop.SendStop.{SendStop}
+use Rattle.uploader.specs.declared.stop.SendStop.TheVariants as stop
+use Rattle.uploader.specs.Led.{ComesBy, IsCutShort, is_of_turns}
+use Rattle.uploader.specs.Stops.{by_outcome, stop_of_node}
+use Rattle.pacsat_cli.specs.declared.status.RefusedBy.TheVariants as by_whom
+use Rattle.pacsat_cli.specs.declared.status.Status.{Status}
+use Rattle.pacsat_cli.specs.declared.status.Status.TheVariants as status
+use Rattle.pacsat_cli.specs.Exactly.{IsCause, IsLinkDown, IsNoFault, IsWanted, faults}
+use Rattle.pacsat_cli.specs.Stops.{status_of_stop}
+use Rattle.pacsat_cli.proofs.ClientStops.{StatusBy}
+use Rattle.pacsat_cli.proofs.OpenTurns.{ends_with-not_open, failed-no_end}
+
+-- ---- the statuses of faults
+
+pub at-write : Contains faults status.AirWrite
+at-write = (0, omega arith, refl)
+
+pub at-disk : Contains faults status.Disk
+at-disk = (1, omega arith, refl)
+
+pub at-out : Contains faults status.Out
+at-out = (2, omega arith, refl)
+
+pub at-shelf : Contains faults status.Shelf
+at-shelf = (3, omega arith, refl)
+
+pub at-memory : Contains faults status.OutOfMemory
+at-memory = (4, omega arith, refl)
+
+-- a status that is one of these isn't none of them
+pub no-fault : {X : Type 0} (s other : Status) → IsNoFault s → s ≡ other → Contains faults other → X
+no-fault s other fine is fault = absurd (fine (subst (λ (t : Status). Contains faults t) (sym is) fault))
+
+-- ---- turns end in one way
+
+ends-have : (earlier : List Turn) → HasEnd (earlier ++ turn.End ∷ [])
+ends-have [] = tt
+ends-have ((turn.Bytes octets) ∷ earlier) = ends-have earlier
+ends-have (turn.Quiet ∷ earlier) = ends-have earlier
+ends-have (turn.Fail ∷ earlier) = ends-have earlier
+ends-have (turn.End ∷ earlier) = tt
+
+fail-or-end : {X : Type 0} (turns : List Turn) → EndsWith turns turn.Fail → EndsWith turns turn.End → X
+fail-or-end turns fail end =
+    let P : List Turn → Type 0 = λ x. HasEnd x in
+    absurd (failed-no_end fail.0 fail.2 (subst P (sym end.1 ∙ fail.1) (ends-have end.0)))
+
+same-turns : (polls : ℕ) (turns : List Turn) (a b : NodeStop) → is_of_turns a ≡ true → is_of_turns b ≡ true → TurnsBy (Err a) polls turns → TurnsBy (Err b) polls turns → a ≡ b
+same-turns polls turns node.AirRead node.AirRead of too h k = refl
+same-turns polls turns node.AirRead node.Ended of too h k = fail-or-end turns h k
+same-turns polls turns node.AirRead node.Spent of too h k = absurd (ends_with-not_open turns turn.Fail h k.1)
+same-turns polls turns node.Ended node.AirRead of too h k = fail-or-end turns k h
+same-turns polls turns node.Ended node.Ended of too h k = refl
+same-turns polls turns node.Ended node.Spent of too h k = absurd (ends_with-not_open turns turn.End h k.1)
+same-turns polls turns node.Spent node.AirRead of too h k = absurd (ends_with-not_open turns turn.Fail k h.1)
+same-turns polls turns node.Spent node.Ended of too h k = absurd (ends_with-not_open turns turn.End k h.1)
+same-turns polls turns node.Spent node.Spent of too h k = refl
+same-turns polls turns node.AirWrite b of too h k = absurd (cc of)
+same-turns polls turns node.Disk b of too h k = absurd (cc of)
+same-turns polls turns node.OutOfMemory b of too h k = absurd (cc of)
+same-turns polls turns node.AirRead node.AirWrite of too h k = absurd (cc too)
+same-turns polls turns node.AirRead node.Disk of too h k = absurd (cc too)
+same-turns polls turns node.AirRead node.OutOfMemory of too h k = absurd (cc too)
+same-turns polls turns node.Ended node.AirWrite of too h k = absurd (cc too)
+same-turns polls turns node.Ended node.Disk of too h k = absurd (cc too)
+same-turns polls turns node.Ended node.OutOfMemory of too h k = absurd (cc too)
+same-turns polls turns node.Spent node.AirWrite of too h k = absurd (cc too)
+same-turns polls turns node.Spent node.Disk of too h k = absurd (cc too)
+same-turns polls turns node.Spent node.OutOfMemory of too h k = absurd (cc too)
+
+-- ---- outcomes
+
+wanted-ok : (reached : Outcome) → IsWanted reached → by_outcome reached ≡ Ok reached
+wanted-ok (outcome.Acked number) h = refl
+wanted-ok (outcome.Fetched number) h = refl
+wanted-ok outcome.Listed h = refl
+wanted-ok outcome.Idle h = absurd h
+wanted-ok outcome.Working h = absurd h
+wanted-ok (outcome.Refused code) h = absurd h
+wanted-ok (outcome.BadFile code) h = absurd h
+wanted-ok (outcome.LinkDown why) h = absurd h
+wanted-ok (outcome.Strange kind) h = absurd h
+
+down-either : (turns : List Turn) (reached : Outcome) → IsLinkDown turns reached → ((reached ≢ outcome.Working) × (by_outcome reached ≡ Err stop.LinkDown)) ⊎ ((reached ≡ outcome.Working) × EndsWith turns turn.End)
+down-either turns (outcome.LinkDown why) h = inl ((λ e. cc e), refl)
+down-either turns outcome.Working h = inr (refl, h)
+down-either turns (outcome.Acked number) h = absurd h
+down-either turns (outcome.Fetched number) h = absurd h
+down-either turns outcome.Listed h = absurd h
+down-either turns outcome.Idle h = absurd h
+down-either turns (outcome.Refused code) h = absurd h
+down-either turns (outcome.BadFile code) h = absurd h
+down-either turns (outcome.Strange kind) h = absurd h
+
+-- ---- a command and its job
+
+-- How a command ended by what came of its job: it stopped as that did, or by a fault behind it; and it is done only where
+-- that came which it asks for.
+pub record EndsAs {T : Type 0} (came : Result Outcome SendStop) (ended : Result T SendStop) : Type 0 where
+  pub along : (why : SendStop) → ended ≡ Err why → (came ≡ Err why) ⊎ Contains faults (status_of_stop why)
+  pub some : (value : T) → ended ≡ Ok value → (reached : Outcome) × (came ≡ Ok reached) × IsWanted reached
+
+module _ {T : Type 0} (came : Result Outcome SendStop) (ended : Result T SendStop) (s : Status) (is : StatusBy ended s) (ends_as : EndsAs came ended) (fine : IsNoFault s) where
+  -- it stopped as its job did
+  came-err : (why : SendStop) → came ≡ Err why → s ≡ status_of_stop why
+  came-err why e = by_end ended refl
+    where
+      by_end : (r : Result T SendStop) → ended ≡ r → s ≡ status_of_stop why
+      by_end (Ok value) it = let h = ends_as.some value it in absurd (let both = sym h.1 ∙ e in cc)
+      by_end (Err other) it = elim (ends_as.along other it) [
+        | inl same ↦ (let both : other ≡ why = (let x = sym same ∙ e in cc) in is.stopped other it ∙ ap status_of_stop both)
+        | inr fault ↦ no-fault s (status_of_stop other) fine (is.stopped other it) fault
+      ]
+
+  -- or is done with it
+  came-ok : (reached : Outcome) → came ≡ Ok reached → (s ≡ status.Done) × IsWanted reached
+  came-ok reached e = by_end ended refl
+    where
+      by_end : (r : Result T SendStop) → ended ≡ r → (s ≡ status.Done) × IsWanted reached
+      by_end (Ok value) it =
+          let h = ends_as.some value it in
+          let same : h.0 ≡ reached = (let x = sym h.1 ∙ e in cc) in
+          (elim (is.done value it) [ inl done ↦ done | inr out ↦ no-fault s status.Out fine out at-out ], subst (λ (r : Outcome). IsWanted r) same h.2)
+      by_end (Err other) it = elim (ends_as.along other it) [
+        | inl same ↦ absurd (let x = sym same ∙ e in cc)
+        | inr fault ↦ no-fault s (status_of_stop other) fine (is.stopped other it) fault
+      ]
+
+  cut-never : {X : Type 0} → IsCutShort came → X
+  cut-never (inl e) = no-fault s status.AirWrite fine (came-err stop.AirWrite e) at-write
+  cut-never (inr (inl e)) = no-fault s status.Disk fine (came-err stop.Disk e) at-disk
+  cut-never (inr (inr e)) = no-fault s status.OutOfMemory fine (came-err stop.OutOfMemory e) at-memory
+
+  -- the status has its cause
+  outcome-cause : (polls : ℕ) (turns : List Turn) (reached : Outcome) → reached ≢ outcome.Working → came ≡ by_outcome reached → IsCause polls turns reached s
+  outcome-cause polls turns (outcome.Acked number) some e = subst (λ (t : Status). IsCause polls turns (outcome.Acked number) t) (sym (came-ok (outcome.Acked number) e).0) tt
+  outcome-cause polls turns (outcome.Fetched number) some e = subst (λ (t : Status). IsCause polls turns (outcome.Fetched number) t) (sym (came-ok (outcome.Fetched number) e).0) tt
+  outcome-cause polls turns outcome.Listed some e = subst (λ (t : Status). IsCause polls turns outcome.Listed t) (sym (came-ok outcome.Listed e).0) tt
+  outcome-cause polls turns (outcome.Refused code) some e = subst (λ (t : Status). IsCause polls turns (outcome.Refused code) t) (sym (came-err (stop.Refused code) e)) refl
+  outcome-cause polls turns (outcome.BadFile code) some e = subst (λ (t : Status). IsCause polls turns (outcome.BadFile code) t) (sym (came-err (stop.BadFile code) e)) refl
+  outcome-cause polls turns (outcome.LinkDown why) some e = subst (λ (t : Status). IsCause polls turns (outcome.LinkDown why) t) (sym (came-err stop.LinkDown e)) tt
+  outcome-cause polls turns (outcome.Strange kind) some e = subst (λ (t : Status). IsCause polls turns (outcome.Strange kind) t) (sym (came-err (stop.Strange kind) e)) refl
+  outcome-cause polls turns outcome.Idle some e = absurd (came-ok outcome.Idle e).1
+  outcome-cause polls turns outcome.Working some e = absurd (some refl)
+
+  turns-cause : (polls : ℕ) (turns : List Turn) (reached : Outcome) (why : NodeStop) → is_of_turns why ≡ true → reached ≡ outcome.Working → TurnsBy (Err why) polls turns → came ≡ Err (stop_of_node why) → IsCause polls turns reached s
+  turns-cause polls turns reached node.AirRead of working ends e = subst (λ (t : Status). IsCause polls turns reached t) (sym (came-err stop.AirRead e)) (working, ends)
+  turns-cause polls turns reached node.Ended of working ends e =
+      subst (λ (t : Status). IsCause polls turns reached t) (sym (came-err stop.LinkDown e)) (subst (λ (r : Outcome). IsLinkDown turns r) (sym working) ends)
+  turns-cause polls turns reached node.Spent of working ends e = subst (λ (t : Status). IsCause polls turns reached t) (sym (came-err stop.Spent e)) (working, ends.0, ends.1)
+  turns-cause polls turns reached node.AirWrite of working ends e = absurd (cc of)
+  turns-cause polls turns reached node.Disk of working ends e = absurd (cc of)
+  turns-cause polls turns reached node.OutOfMemory of working ends e = absurd (cc of)
+
+  module _ (polls : ℕ) (turns : List Turn) (reached : Outcome) (comes : ComesBy polls turns reached came) where
+    to-cause : IsCause polls turns reached s
+    to-cause = elim comes [
+      | inl became ↦ outcome-cause polls turns reached became.0 became.1
+      | inr others ↦ elim others [
+        | inl t ↦ turns-cause polls turns reached t.why t.of_turns t.working t.ends t.came_is
+        | inr cut ↦ cut-never cut
+      ]
+    ]
+
+    -- something became of the job
+    became : (result : Result Outcome SendStop) → reached ≢ outcome.Working → by_outcome reached ≡ result → came ≡ result
+    became result some e = elim comes [
+      | inl there ↦ there.1 ∙ e
+      | inr others ↦ elim others [ inl t ↦ absurd (some t.working) | inr cut ↦ cut-never cut ]
+    ]
+
+    -- nothing did
+    turned : (why : NodeStop) → is_of_turns why ≡ true → reached ≡ outcome.Working → TurnsBy (Err why) polls turns → s ≡ status_of_stop (stop_of_node why)
+    turned why of working ends = elim comes [
+      | inl there ↦ absurd (there.0 working)
+      | inr others ↦ elim others [
+        | inl t ↦ (let same : t.why ≡ why = same-turns polls turns t.why why t.of_turns of t.ends ends in came-err (stop_of_node why) (t.came_is ∙ ap (λ (w : NodeStop). Err (stop_of_node w)) same))
+        | inr cut ↦ cut-never cut
+      ]
+    ]
+
+    from-cause : (other : Status) → IsCause polls turns reached other → s ≡ other
+    from-cause status.Done h =
+        (came-ok reached (became (Ok reached) (λ working. subst (λ (r : Outcome). IsWanted r) working h) (wanted-ok reached h))).0
+    from-cause (status.Refused (by_whom.Server code)) h = came-err (stop.Refused code) (became (Err (stop.Refused code)) (λ working. let x = sym h ∙ working in cc) (ap by_outcome h))
+    from-cause (status.Refused (by_whom.Fault code)) h = came-err (stop.BadFile code) (became (Err (stop.BadFile code)) (λ working. let x = sym h ∙ working in cc) (ap by_outcome h))
+    from-cause (status.Strange kind) h = came-err (stop.Strange kind) (became (Err (stop.Strange kind)) (λ working. let x = sym h ∙ working in cc) (ap by_outcome h))
+    from-cause status.LinkDown h = elim (down-either turns reached h) [
+      | inl down ↦ came-err stop.LinkDown (became (Err stop.LinkDown) down.0 down.1)
+      | inr ended_ ↦ turned node.Ended refl ended_.0 ended_.1
+    ]
+    from-cause status.AirRead h = turned node.AirRead refl h.0 h.1
+    from-cause status.Spent h = turned node.Spent refl h.0 (h.1, h.2)
+    from-cause (status.Refused by_whom.Shown) h = absurd h
+    from-cause other h = absurd h
+
+  pub comes-exactly : (polls : ℕ) (turns : List Turn) (reached : Outcome) → ComesBy polls turns reached came → (other : Status) → ((s ≡ other) → IsCause polls turns reached other) × (IsCause polls turns reached other → s ≡ other)
+  comes-exactly polls turns reached comes other =
+      (λ e. subst (λ (t : Status). IsCause polls turns reached t) e (to-cause polls turns reached comes), from-cause polls turns reached comes other)

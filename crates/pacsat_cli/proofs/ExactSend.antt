@@ -1,0 +1,303 @@
+-- The status of `send`, exactly.
+use Rattle.std.proofs.Common.{◌≡◌, ℕ, List, length, refl, ap, sym, subst, ◌∙◌, inl, inr, arith, true, false}
+use Rattle.std.proofs.lemmas.Result.{err_from_is_err_and}
+use Rattle.std.specs.Prelude.{◌⊎◌, Option, None, Some, IfSome, Result, Ok, Err, MatchResult}
+use Rattle.px_base.specs.Shelves.{Holding, content_of}
+use Rattle.px_base.specs.declared.air.Air.{Ghosts as AirGhosts}
+use Rattle.px_base.specs.declared.out.Out.{Ghosts as OutGhosts}
+use Rattle.px_base.specs.declared.shelf.Shelf.{Ghosts as ShelfGhosts}
+use Rattle.disk_model.specs.declared.disk.Disk.{Ghosts}
+use Rattle.node_events.specs.Laws.{OneRunLaw}
+use Rattle.pfh_items.specs.Faults.{fault_code}
+use Rattle.client_notes.specs.Answers.{IsFull}
+use Rattle.client_notes.specs.Command.{NotesCommand}
+use Rattle.client_notes.specs.Laws.{after_all}
+use Rattle.client_notes.specs.Notes.{Lists}
+use Rattle.client_notes.specs.declared.answers.Begun.{Begun}
+use Rattle.client_notes.specs.declared.answers.Begun.TheVariants as begun
+use Rattle.client_notes.specs.declared.refusals.NotesRefusal.{NotesRefusal}
+use Rattle.client_notes.specs.declared.refusals.NotesRefusal.TheVariants as refusal
+use Rattle.ftl0_job.specs.declared.work.Work.TheVariants as work
+use Rattle.ftl0_job.specs.Table.{new_job}
+use Rattle.ftl0_job.specs.Upload.{new_upload}
+use Rattle.ftl0_client.specs.Going.{StaysLaw}
+use Rattle.ftl0_client.specs.Laws.{OneStepLaw}
+use Rattle.ftl0_client.specs.declared.outcome.Outcome.{Outcome}
+use Rattle.ftl0_client.specs.declared.outcome.Outcome.TheVariants as outcome
+use Rattle.uploader.specs.declared.stop.SendStop.{SendStop}
+use Rattle.uploader.specs.declared.stop.SendStop.TheVariants as stop
+use Rattle.uploader.specs.declared.sum.FileSum.{FileSum}
+use Rattle.uploader.specs.declared.terms.ClientTerms.{ClientTerms}
+use Rattle.uploader.specs.declared.terms.Sent.{Sent}
+use Rattle.uploader.specs.Carried.{Setting, client_from}
+use Rattle.uploader.specs.Led.{ComesBy, IsLedTo}
+use Rattle.uploader.specs.Loading.{IsSendable, IsUnfit, sum_of}
+use Rattle.uploader.specs.Sending.{EndsAtStart, IsTaskFor, IsUnloaded, IsUnnoted, IsUnstarted, Uploads, first_command, last_answer}
+use Rattle.uploader.proofs.LedLemmas.{led-law}
+use Rattle.uploader.proofs.StartLemmas.{IsOfTask, of_task}
+use Rattle.pacsat_cli.specs.declared.status.Status.{Status}
+use Rattle.pacsat_cli.specs.declared.status.Status.TheVariants as status
+use Rattle.pacsat_cli.specs.Clients.{RunsSend, SendRan, acked_line, client_terms}
+use Rattle.pacsat_cli.specs.Exactly.{IsNoFault, SendEndsExactly, SendStarts, SendTold, StartsExactly, UploadLed}
+use Rattle.pacsat_cli.specs.Stops.{status_of_stop}
+use Rattle.pacsat_cli.proofs.ClientEnds.{carries-kind, closes-status, match-err}
+use Rattle.pacsat_cli.proofs.ClientStops.{StatusBy, is_carried, stopped-by}
+use Rattle.pacsat_cli.proofs.ExactCarried.{recovered-start, unrecovered-never}
+use Rattle.pacsat_cli.proofs.ExactJob.{EndsAs, at-disk, at-memory, at-out, at-shelf, comes-exactly, no-fault}
+
+-- ---- a file that is told and may be sent stops nothing
+
+unfit-never : (holding : Holding) (name file : List ℕ) → content_of holding name ≡ Some file → IsSendable file → (why : SendStop) → IsUnfit (Some holding) name why → (why ≡ stop.Shelf) ⊎ (why ≡ stop.OutOfMemory)
+unfit-never holding name file there sendable stop.Shelf h = inl refl
+unfit-never holding name file there sendable stop.OutOfMemory h = inr refl
+unfit-never holding name file there sendable stop.NoSuch h = absurd (let both = sym there ∙ h in cc)
+unfit-never holding name file there sendable stop.TooLong h =
+    let same : h.0 ≡ file = (let both = sym h.1 ∙ there in cc) in
+    let size : length h.0 ≡ length file = ap length same in
+    absurd (omega (arith, size, h.2, sendable.most))
+unfit-never holding name file there sendable (stop.BadFile code) h =
+    let same : h.0 ≡ file = (let both = sym h.1 ∙ there in cc) in
+    absurd (let both = sym sendable.faultless ∙ sym (ap fault_code same) ∙ h.3 in cc)
+unfit-never holding name file there sendable (stop.Refused code) h = absurd h
+unfit-never holding name file there sendable stop.AirRead h = absurd h
+unfit-never holding name file there sendable stop.AirWrite h = absurd h
+unfit-never holding name file there sendable stop.Disk h = absurd h
+unfit-never holding name file there sendable (stop.Changed kept given) h = absurd h
+unfit-never holding name file there sendable (stop.NotAStore found) h = absurd h
+unfit-never holding name file there sendable (stop.Damaged at) h = absurd h
+unfit-never holding name file there sendable stop.Spent h = absurd h
+unfit-never holding name file there sendable stop.Out h = absurd h
+unfit-never holding name file there sendable stop.LinkDown h = absurd h
+unfit-never holding name file there sendable (stop.Strange kind) h = absurd h
+unfit-never holding name file there sendable stop.NotesFull h = absurd h
+
+-- ---- by the last task
+
+-- which answers of the last task end the command so, and how each does
+module _ (start : Lists) (command : NotesCommand) (sum : FileSum) (cut : List NotesCommand) where
+  at-changed : (answer : Result (Option Begun) NotesRefusal) (kept given : FileSum) → IsOfTask answer → EndsAtStart start command sum answer (Err (stop.Changed kept given)) cut
+      → (given ≡ sum) × (answer ≡ Err (refusal.Changed kept.length kept.digest))
+  at-changed (Ok None) kept given of h = absurd h
+  at-changed (Ok (Some (begun.Already number))) kept given of h = absurd (let x = h.0 in cc)
+  at-changed (Ok (Some (begun.Fresh task))) kept given of h = absurd h
+  at-changed (Ok (Some (begun.Going task number))) kept given of h = absurd h
+  at-changed (Err (refusal.Changed size digest)) kept given of h =
+      let x = h.0 in
+      let mine : record { length = size; digest = digest } ≡ kept = cc in
+      let same : given ≡ sum = cc in
+      (same, ap (λ (k : FileSum). Err (refusal.Changed k.length k.digest)) mine)
+  at-changed (Err refusal.Full) kept given of h = absurd of
+  at-changed (Err refusal.Disk) kept given of h = absurd of
+  at-changed (Err refusal.Failed) kept given of h = absurd of
+  at-changed (Err refusal.OutOfMemory) kept given of h = absurd of
+
+  at-full : (answer : Result (Option Begun) NotesRefusal) → IsOfTask answer → EndsAtStart start command sum answer (Err stop.NotesFull) cut → (answer ≡ Ok None) × IsFull start
+  at-full (Ok None) of h = (refl, h.0)
+  at-full (Ok (Some (begun.Already number))) of h = absurd (let x = h.0 in cc)
+  at-full (Ok (Some (begun.Fresh task))) of h = absurd h
+  at-full (Ok (Some (begun.Going task number))) of h = absurd h
+  at-full (Err (refusal.Changed size digest)) of h = absurd (let x = h.0 in cc)
+  at-full (Err refusal.Full) of h = absurd of
+  at-full (Err refusal.Disk) of h = absurd of
+  at-full (Err refusal.Failed) of h = absurd of
+  at-full (Err refusal.OutOfMemory) of h = absurd of
+
+  -- a fresh task isn't noted
+  unnoted : (why : SendStop) → IsUnnoted start command why cut → ((why ≡ stop.NotesFull) × IsFull start) ⊎ ((why ≡ stop.Disk) ⊎ (why ≡ stop.OutOfMemory))
+  unnoted stop.NotesFull h = inl (refl, h.0)
+  unnoted stop.Disk h = inr (inl refl)
+  unnoted stop.OutOfMemory h = inr (inr refl)
+  unnoted stop.NoSuch h = absurd h
+  unnoted stop.TooLong h = absurd h
+  unnoted (stop.BadFile code) h = absurd h
+  unnoted stop.Shelf h = absurd h
+  unnoted (stop.Refused code) h = absurd h
+  unnoted stop.AirRead h = absurd h
+  unnoted stop.AirWrite h = absurd h
+  unnoted (stop.Changed kept given) h = absurd h
+  unnoted (stop.NotAStore found) h = absurd h
+  unnoted (stop.Damaged at) h = absurd h
+  unnoted stop.Spent h = absurd h
+  unnoted stop.Out h = absurd h
+  unnoted stop.LinkDown h = absurd h
+  unnoted (stop.Strange kind) h = absurd h
+
+-- a file has one task to be uploaded by
+same-task :
+    (terms : ClientTerms) (lists : Lists) (name : List ℕ) (sum : FileSum) (task other number another : ℕ) (first second : List NotesCommand) → IsTaskFor terms lists name sum task number first
+    → IsTaskFor terms lists name sum other another second → (task ≡ other) × (number ≡ another) × (first ≡ second)
+same-task terms lists name sum task other number another first second (inl h) (inl k) = (h.2 ∙ sym k.2, h.3 ∙ sym k.3, h.4 ∙ sym k.4)
+same-task terms lists name sum task other number another first second (inl h) (inr k) = absurd (let both = sym h.0 ∙ k.0 in cc)
+same-task terms lists name sum task other number another first second (inr h) (inl k) = absurd (let both = sym h.0 ∙ k.0 in cc)
+same-task terms lists name sum task other number another first second (inr h) (inr k) =
+    let both = sym h.0 ∙ k.0 in
+    let one : task ≡ other = cc in
+    let two : number ≡ another = cc in
+    (one, two, h.1 ∙ sym k.1)
+
+-- where the file was acknowledged the number is the one that came
+match-ok : (ended : Result Sent SendStop) (came : Result Outcome SendStop) → MatchResult ended (λ sent. came ≡ Ok (outcome.Acked sent.number)) (λ why. came ≡ Err why) → (value : Sent) → ended ≡ Ok value
+    → came ≡ Ok (outcome.Acked value.number)
+match-ok (Ok sent) came h value e = (let same : sent ≡ value = cc in h ∙ ap (λ (v : Sent). Ok (outcome.Acked v.number)) same)
+match-ok (Err why) came h value e = absurd (cc)
+
+module _ {A C D S O : Type 0} (g : Ghosts D) (air : AirGhosts A) (given : C → Option (List ℕ)) (sh : ShelfGhosts S) (o : OutGhosts O) (words : List (List ℕ)) (old new : Setting D A C) (shelf shelf_now : S) (s : Status) where
+  module _ (of : SendTold words g sh old shelf) (fine : IsNoFault s) (mid out : O) (ran : SendRan g air given sh o old new shelf shelf_now out mid (client_terms of.asked) of.name s) where
+    abbrev terms : ClientTerms
+    terms = client_terms of.asked
+
+    is : StatusBy ran.ended s
+    is = closes-status o acked_line out mid ran.ended s ran.closes
+
+    -- the file was loaded, and the notes were recovered
+    past : IsUnstarted g old new terms of.name of.file ran.ended ⊎ Uploads g air given old new terms of.name of.file ran.ended
+    past = elim ran.ends [
+      | inl unloaded ↦ (let e = err_from_is_err_and ran.ended unloaded in never e.0 e.1 e.2)
+      | inr sends ↦
+          (let there : content_of of.holding of.name ≡ Some sends.file = subst (λ (h : Option Holding). IfSome h (λ x. content_of x of.name ≡ Some sends.file)) of.held sends.there in
+          let both : Some sends.file ≡ Some of.file = sym there ∙ of.there in
+          let same : sends.file ≡ of.file = cc in
+          elim sends.ends [
+            | inl unrecovered ↦ unrecovered-never g old new of.start ran.ended s is fine of.notes unrecovered
+            | inr h ↦ subst (λ (f : List ℕ). IsUnstarted g old new terms of.name f ran.ended ⊎ Uploads g air given old new terms of.name f ran.ended) same h
+          ])
+    ]
+      where
+        never : {X : Type 0} (why : SendStop) → ran.ended ≡ Err why → IsUnloaded old new (sh.held shelf) of.name why → X
+        never why e u =
+            let unfit : IsUnfit (Some of.holding) of.name why = subst (λ (h : Option Holding). IsUnfit h of.name why) of.held u.cause in
+            elim (unfit-never of.holding of.name of.file of.there of.sendable why unfit) [
+              | inl same ↦ no-fault s status.Shelf fine (is.stopped why e ∙ ap status_of_stop same) at-shelf
+              | inr same ↦ no-fault s status.OutOfMemory fine (is.stopped why e ∙ ap status_of_stop same) at-memory
+            ]
+
+    abbrev answer : Result (Option Begun) NotesRefusal
+    answer = last_answer terms of.start of.name (sum_of of.file)
+
+    of-one : IsOfTask answer
+    of-one = of_task of.start terms.server terms.me of.name (length of.file) (sum_of of.file).digest
+
+    -- how it ended, where no job was asked
+    at-start : (h : IsUnstarted g old new terms of.name of.file ran.ended) → EndsAtStart of.start (first_command terms of.start of.name (sum_of of.file)) (sum_of of.file) answer ran.ended h.cut
+    at-start h =
+        subst (λ (l : Lists). EndsAtStart l (first_command terms l of.name (sum_of of.file)) (sum_of of.file) (last_answer terms l of.name (sum_of of.file)) ran.ended h.cut)
+        (recovered-start g old.disk h.recovered h.start of.start h.recovers of.notes) h.ends
+
+    of-task : (h : Uploads g air given old new terms of.name of.file ran.ended) → IsTaskFor terms of.start of.name (sum_of of.file) h.task h.number h.first
+    of-task h =
+        subst (λ (l : Lists). IsTaskFor terms l of.name (sum_of of.file) h.task h.number h.first)
+        (recovered-start g old.disk h.carries.recovered h.start of.start h.carries.recovers of.notes) h.task_for
+
+    -- no upload stops so
+    upload-not : {X : Type 0} (h : Uploads g air given old new terms of.name of.file ran.ended) (why : SendStop) → is_carried why ≡ false → ran.ended ≡ Err why → X
+    upload-not h why isnt e =
+        let kind : is_carried why ≡ true = carries-kind g air given old new h.carries why (match-err ran.ended _ h.came h.answer why e) in
+        absurd (let both = sym isnt ∙ kind in cc)
+
+    -- a fresh task that is wanted isn't noted
+    not-noted : (h : IsUnstarted g old new terms of.name of.file ran.ended) → answer ≡ Ok None → (s ≡ status.NotesFull) × IsFull of.start
+    not-noted h is_none =
+        let command = first_command terms of.start of.name (sum_of of.file) in
+        let ends = subst (λ (a : Result (Option Begun) NotesRefusal). EndsAtStart of.start command (sum_of of.file) a ran.ended h.cut) is_none (at-start h) in
+        let e = err_from_is_err_and ran.ended ends in
+        elim (unnoted of.start command (sum_of of.file) h.cut e.0 e.2) [
+          | inl full ↦ (is.stopped e.0 e.1 ∙ ap status_of_stop full.0, full.1)
+          | inr others ↦ elim others [
+            | inl disk ↦ no-fault s status.Disk fine (is.stopped e.0 e.1 ∙ ap status_of_stop disk) at-disk
+            | inr memory ↦ no-fault s status.OutOfMemory fine (is.stopped e.0 e.1 ∙ ap status_of_stop memory) at-memory
+          ]
+        ]
+
+    changed-there : (kept given_sum : FileSum) → s ≡ status.FileChanged kept given_sum → (given_sum ≡ sum_of of.file) × (answer ≡ Err (refusal.Changed kept.length kept.digest))
+    changed-there kept given_sum e =
+        let why : SendStop = stop.Changed kept given_sum in
+        let stopped : ran.ended ≡ Err why = stopped-by ran.ended s is why refl e in
+        elim past [
+          | inl h ↦
+              at-changed of.start (first_command terms of.start of.name (sum_of of.file)) (sum_of of.file) h.cut answer kept given_sum of-one
+              (subst (λ (r : Result Sent SendStop). EndsAtStart of.start (first_command terms of.start of.name (sum_of of.file)) (sum_of of.file) answer r h.cut) stopped (at-start h))
+          | inr h ↦ upload-not h why refl stopped
+        ]
+
+    changed-back : (kept given_sum : FileSum) → (given_sum ≡ sum_of of.file) × (answer ≡ Err (refusal.Changed kept.length kept.digest)) → s ≡ status.FileChanged kept given_sum
+    changed-back kept given_sum both = elim past [
+      | inl h ↦
+          (let ends = subst (λ (a : Result (Option Begun) NotesRefusal). EndsAtStart of.start (first_command terms of.start of.name (sum_of of.file)) (sum_of of.file) a ran.ended h.cut) both.1 (at-start h) in
+          is.stopped (stop.Changed kept (sum_of of.file)) ends.0 ∙ ap (λ (f : FileSum). status.FileChanged kept f) (sym both.0))
+      | inr h ↦ elim (of-task h) [ inl fresh ↦ absurd (let x = sym fresh.0 ∙ both.1 in cc) | inr going ↦ absurd (let x = sym going.0 ∙ both.1 in cc) ]
+    ]
+
+    full-there : s ≡ status.NotesFull → (answer ≡ Ok None) × IsFull of.start
+    full-there e =
+        let stopped : ran.ended ≡ Err stop.NotesFull = stopped-by ran.ended s is stop.NotesFull refl e in
+        elim past [
+          | inl h ↦
+              at-full of.start (first_command terms of.start of.name (sum_of of.file)) (sum_of of.file) h.cut answer of-one
+              (subst (λ (r : Result Sent SendStop). EndsAtStart of.start (first_command terms of.start of.name (sum_of of.file)) (sum_of of.file) answer r h.cut) stopped (at-start h))
+          | inr h ↦ upload-not h stop.NotesFull refl stopped
+        ]
+
+    full-back : (answer ≡ Ok None) × IsFull of.start → s ≡ status.NotesFull
+    full-back both = elim past [
+      | inl h ↦ (not-noted h both.0).0
+      | inr h ↦ elim (of-task h) [ inl fresh ↦ absurd (fresh.1 both.1) | inr going ↦ absurd (let x = sym going.0 ∙ both.0 in cc) ]
+    ]
+
+    already-done : (number : ℕ) → answer ≡ Ok (Some (begun.Already number)) → s ≡ status.Done
+    already-done number e = elim past [
+      | inl h ↦
+          (let ends = subst (λ (a : Result (Option Begun) NotesRefusal). EndsAtStart of.start (first_command terms of.start of.name (sum_of of.file)) (sum_of of.file) a ran.ended h.cut) e (at-start h) in
+          elim (is.done _ ends.0) [ inl done ↦ done | inr out_ ↦ no-fault s status.Out fine out_ at-out ])
+      | inr h ↦ elim (of-task h) [ inl fresh ↦ absurd (let x = sym fresh.0 ∙ e in cc) | inr going ↦ absurd (let x = sym going.0 ∙ e in cc) ]
+    ]
+
+    starts : StartsExactly terms of.start of.name (sum_of of.file) s
+    starts = record {
+      changed = λ kept given_sum. (changed-there kept given_sum, changed-back kept given_sum);
+      full = (full-there, full-back);
+      already = already-done;
+    }
+
+    module _ (led : UploadLed words g air given sh old new shelf of) where
+      -- a task by which the file is uploaded is begun
+      uploads : Uploads g air given old new terms of.name of.file ran.ended
+      uploads = elim past [
+        | inr h ↦ h
+        | inl h ↦ elim led.task_for [
+          | inl fresh ↦ absurd (fresh.1 (not-noted h fresh.0).1)
+          | inr going ↦
+              absurd (subst (λ (a : Result (Option Begun) NotesRefusal). EndsAtStart of.start (first_command terms of.start of.name (sum_of of.file)) (sum_of of.file) a ran.ended h.cut) going.0 (at-start h))
+        ]
+      ]
+
+      uploads-as : EndsAs uploads.came ran.ended
+      uploads-as = record {
+        along = λ why e. inl (match-err ran.ended _ uploads.came uploads.answer why e);
+        some = λ value e. (outcome.Acked value.number, match-ok ran.ended uploads.came uploads.answer value e, tt);
+      }
+
+      comes : OneRunLaw → OneStepLaw → StaysLaw → ComesBy terms.polls led.turns led.reached uploads.came
+      comes runs steps stays =
+          let start_is : uploads.start ≡ of.start = recovered-start g old.disk uploads.carries.recovered uploads.start of.start uploads.carries.recovers of.notes in
+          let same = same-task terms of.start of.name (sum_of of.file) uploads.task led.task uploads.number led.number uploads.first led.first (of-task uploads) led.task_for in
+          let at_first = subst (λ (f : List NotesCommand). IsLedTo air given old new (client_from terms (after_all of.start f)) (new_job (work.Upload (new_upload led.task led.number of.file))) led.turns led.reached) (sym same.2) led.led in
+          let at_start = subst (λ (l : Lists). IsLedTo air given old new (client_from terms (after_all l uploads.first)) (new_job (work.Upload (new_upload led.task led.number of.file))) led.turns led.reached) (sym start_is) at_first in
+          let at_task = subst (λ (t : ℕ). IsLedTo air given old new (client_from terms (after_all uploads.start uploads.first)) (new_job (work.Upload (new_upload t led.number of.file))) led.turns led.reached) (sym same.0) at_start in
+          let at_number = subst (λ (n : ℕ). IsLedTo air given old new (client_from terms (after_all uploads.start uploads.first)) (new_job (work.Upload (new_upload uploads.task n of.file))) led.turns led.reached) (sym same.1) at_task in
+          led-law g air given runs steps stays old new terms uploads.start uploads.first (new_job (work.Upload (new_upload uploads.task uploads.number of.file))) uploads.came led.turns led.reached uploads.carries at_number
+
+  module _ (out now : O) (all : RunsSend words g air given sh o old new shelf shelf_now out now s) where
+    pub send-starts : SendStarts words g sh old shelf s
+    send-starts of fine =
+        let went = all of.asked of.name of.asks in
+        elim went.ran [ inl unread ↦ no-fault s status.OutOfMemory fine unread.0 at-memory | inr ran ↦ starts of fine went.mid out ran ]
+
+    pub send-exactly : OneRunLaw → OneStepLaw → StaysLaw → SendEndsExactly words g air given sh old new shelf s
+    send-exactly runs steps stays of led fine other =
+        let went = all of.asked of.name of.asks in
+        elim went.ran [
+          | inl unread ↦ no-fault s status.OutOfMemory fine unread.0 at-memory
+          | inr ran ↦
+              comes-exactly (uploads of fine went.mid out ran led).came ran.ended s (is of fine went.mid out ran) (uploads-as of fine went.mid out ran led) fine of.asked.polls led.turns led.reached
+              (comes of fine went.mid out ran led runs steps stays) other
+        ]
