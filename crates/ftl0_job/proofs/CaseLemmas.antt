@@ -7,7 +7,6 @@ use Rattle.pfh_items.specs.Faults.{fault_code}
 use Rattle.client_notes.specs.Command.{acked}
 use Rattle.client_notes.specs.declared.limits.TheConstants.{LONGEST_FILE}
 use Rattle.ftl0_job.specs.declared.ending.Outcome.TheVariants as outcome
-use Rattle.ftl0_job.specs.declared.limits.TheConstants.{LONGEST_LISTING}
 use Rattle.ftl0_job.specs.declared.phases.DirectoryPhase.{DirectoryPhase}
 use Rattle.ftl0_job.specs.declared.phases.DirectoryPhase.TheVariants as directory_phase
 use Rattle.ftl0_job.specs.declared.phases.DownloadPhase.{DownloadPhase}
@@ -15,7 +14,7 @@ use Rattle.ftl0_job.specs.declared.phases.DownloadPhase.TheVariants as download_
 use Rattle.ftl0_job.specs.declared.phases.UploadPhase.{UploadPhase}
 use Rattle.ftl0_job.specs.declared.phases.UploadPhase.TheVariants as upload_phase
 use Rattle.ftl0_job.specs.Directory as directory
-use Rattle.ftl0_job.specs.Directory.{Directory, directory_row, is_empty_code, with_octets}
+use Rattle.ftl0_job.specs.Directory.{Directory, directory_row, is_empty_code, longest_listing, with_octets}
 use Rattle.ftl0_job.specs.Download as download
 use Rattle.ftl0_job.specs.Download.{Download, download_row, error_row, unnoted, whole_gots, whole_row, with_rest}
 use Rattle.ftl0_job.specs.Row.{Row, ends, ends_later, goes_on, strange}
@@ -120,7 +119,7 @@ module _ (P : Row Directory → Type 0) (at : Directory) (each : DirectoryRows P
   list-selecting packet is = each.strange_rows (kind_of packet)
 
   list-listing : (packet : PacketValue) → at.phase ≡ directory_phase.Listing → P (directory.listing_row at packet)
-  list-listing (data_part octets) is = data-by (nat_lt LONGEST_LISTING (length (at.listing ++ octets))) octets is
+  list-listing (data_part octets) is = data-by (nat_lt longest_listing (length (at.listing ++ octets))) octets is
   list-listing data_end is = next-by (are_short_headers at.listing)
   list-listing (dl_error_resp code) is = code-by (is_empty_code code) code
   list-listing packet is = each.strange_rows (kind_of packet)

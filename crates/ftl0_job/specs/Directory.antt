@@ -3,7 +3,6 @@
 use Rattle.std.specs.Prelude.{ℕ, ◌==◌, List, [], ◌∷◌, ◌++◌, length, nat_lt, Bool, ◌||◌, if◌then◌else◌}
 use Rattle.ftl0_packets.specs.Layout.{PacketValue, data_end, data_part, dir_short_cmd, dl_error_resp, kind_of}
 use Rattle.ftl0_packets.specs.Layout.{login_resp, select_cmd, select_resp}
-use Rattle.ftl0_job.specs.declared.limits.TheConstants.{LONGEST_LISTING}
 use Rattle.ftl0_job.specs.declared.ending.Outcome.TheVariants as outcome
 use Rattle.ftl0_job.specs.declared.phases.DirectoryPhase.{DirectoryPhase}
 use Rattle.ftl0_job.specs.declared.phases.DirectoryPhase.TheVariants as phase
@@ -42,10 +41,14 @@ selecting_row directory (select_resp count) = select_resp_row directory count
 selecting_row directory (dl_error_resp code) = ends directory [] (outcome.Refused code)
 selecting_row directory packet = strange directory (kind_of packet)
 
--- Listing, DATA: its octets come behind the others, up to 74,752 of them.
+-- how many octets a list has at most: 1,024 short headers of 73
+abbrev pub longest_listing : ℕ
+longest_listing = 74752
+
+-- Listing, DATA: its octets come behind the others, up to so many of them.
 abbrev pub data_row : Directory → List ℕ → Row Directory
 data_row directory octets =
-    if nat_lt LONGEST_LISTING (length (directory.listing ++ octets)) then strange directory 0
+    if nat_lt longest_listing (length (directory.listing ++ octets)) then strange directory 0
     else goes_on (with_octets directory octets) [] []
 
 -- Listing, DATA_END: the next headers are asked for. What isn't whole short headers is strange.

@@ -90,8 +90,8 @@ impl Job {
     /// nothing. Takes memory, but for an upload.
     ///
     /// A stop leaves the job as it was, and gives no reply. After `Disk` the commands before the one in which the disk
-    /// failed are noted, and that one may be. After `OutOfMemory`, which only DATA and DATA_END of a list or a download
-    /// meet, the commands before the one for which there was no memory are noted.
+    /// failed are noted, and that one may be. After `OutOfMemory`, which an upload never meets, the commands before the
+    /// one for which there was no memory are noted.
     pub fn take<D: Disk>(
         &mut self,
         disk: &mut D,
