@@ -166,6 +166,7 @@ impl Client {
         ensures hears { (client : ClientValue) → IsClient self.old client →
             Hears D.Disk client (value_of frame.now) self.old self.new disk.old disk.new result }
         ensures puts { PutsBy D.Disk disk.old disk.new result }
+        ensures stray { OnErr result (self.new.stray ≡ self.old.stray) }
 
         // What the next event needs.
         ensures may { OnOk result (MayHear D.Disk self.new disk.new) }
