@@ -7,6 +7,7 @@ use Rattle.px_base.specs.declared.air.Air.{Ghosts as AirGhosts}
 use Rattle.px_base.specs.declared.out.Out.{Ghosts as OutGhosts}
 use Rattle.px_base.specs.declared.shelf.Shelf.{Ghosts as ShelfGhosts}
 use Rattle.disk_model.specs.declared.disk.Disk.{Ghosts}
+use Rattle.file_journal.proofs.ToldLemmas.{told_weaker}
 use Rattle.node_events.specs.Laws.{OneRunLaw}
 use Rattle.pfh_items.specs.Faults.{fault_code}
 use Rattle.client_notes.specs.Answers.{IsFull}
@@ -35,10 +36,11 @@ use Rattle.uploader.specs.Loading.{IsSendable, IsUnfit, sum_of}
 use Rattle.uploader.specs.Sending.{EndsAtStart, IsTaskFor, IsUnloaded, IsUnnoted, IsUnstarted, Uploads, first_command, last_answer}
 use Rattle.uploader.proofs.LedLemmas.{led-law}
 use Rattle.uploader.proofs.StartLemmas.{IsOfTask, of_task}
+use Rattle.command_words.specs.Clients.{ClientTerms as AskedTerms}
 use Rattle.pacsat_cli.specs.declared.status.Status.{Status}
 use Rattle.pacsat_cli.specs.declared.status.Status.TheVariants as status
 use Rattle.pacsat_cli.specs.Clients.{RunsSend, SendRan, acked_line, client_terms}
-use Rattle.pacsat_cli.specs.Exactly.{IsNoFault, SendEndsExactly, SendStarts, SendTold, StartsExactly, UploadLed}
+use Rattle.pacsat_cli.specs.Exactly.{FileRefusedExactly, IsNoFault, SendEndsExactly, SendRefuses, SendStarts, SendTold, StartsExactly, UploadLed}
 use Rattle.pacsat_cli.specs.Stops.{status_of_stop}
 use Rattle.pacsat_cli.proofs.ClientEnds.{carries-kind, closes-status, match-err}
 use Rattle.pacsat_cli.proofs.ClientStops.{StatusBy, is_carried, stopped-by}
@@ -291,6 +293,24 @@ module _ {A C D S O : Type 0} (g : Ghosts D) (air : AirGhosts A) (given : C → 
     send-starts of fine =
         let went = all of.asked of.name of.asks in
         elim went.ran [ inl unread ↦ no-fault s status.OutOfMemory fine unread.0 at-memory | inr ran ↦ starts of fine went.mid out ran ]
+
+    pub send-refuses : SendRefuses words sh shelf s
+    send-refuses asked name asks no_shelf no_memory =
+        let went = all asked name asks in
+        elim went.ran [ inl unread ↦ absurd (no_memory unread.0) | inr ran ↦ refuses asked name no_shelf no_memory went.mid ran ]
+      where
+        refuses : (asked : AskedTerms) (name : List ℕ) → ¬ (s ≡ status.Shelf) → ¬ (s ≡ status.OutOfMemory) → (mid : O) → SendRan g air given sh o old new shelf shelf_now out mid (client_terms asked) name s
+            → IfSome (sh.held shelf) (λ holding. FileRefusedExactly (content_of holding name) s)
+        refuses asked name no_shelf no_memory mid ran =
+            let is : StatusBy ran.ended s = closes-status o acked_line out mid ran.ended s ran.closes in
+            told_weaker (sh.held shelf) _ _ (λ holding told exact. record {
+              no_such = (λ e. exact.no_such.0 (stopped-by ran.ended s is stop.NoSuch refl e), λ c. is.stopped stop.NoSuch (exact.no_such.1 c));
+              too_long = (λ e. exact.too_long.0 (stopped-by ran.ended s is stop.TooLong refl e), λ c. is.stopped stop.TooLong (exact.too_long.1 c));
+              bad_file = λ code. (
+                λ e. (exact.bad_file code).0 (stopped-by ran.ended s is (stop.BadFile code) refl e),
+                λ c. is.stopped (stop.BadFile code) ((exact.bad_file code).1 c),
+              );
+            }) (ran.file (λ failed. no_shelf (is.stopped stop.Shelf failed)) (λ none. no_memory (is.stopped stop.OutOfMemory none)))
 
     pub send-exactly : OneRunLaw → OneStepLaw → StaysLaw → SendEndsExactly words g air given sh old new shelf s
     send-exactly runs steps stays of led fine other =

@@ -1,6 +1,6 @@
 -- Which status a client's command ends with, where it is told what its shelf and its disk had, and what its air and its
 -- clock gave: each status but those of a fault and of want of memory comes exactly where its cause is there.
-use Rattle.std.specs.Prelude.{◌≡◌, ◌↔◌, ℕ, List, [], ◌∷◌, length, Contains, Option, None, Some, Ok, Err, ⊤}
+use Rattle.std.specs.Prelude.{◌≡◌, ◌↔◌, ℕ, List, [], ◌∷◌, length, Contains, Option, None, Some, IfSome, Ok, Err, ⊤}
 use Rattle.std.specs.List.{AllByRecursion}
 use Rattle.px_base.specs.Polling.{EndsWith, IsOpen}
 use Rattle.px_base.specs.Shelves.{Holding, content_of}
@@ -28,17 +28,18 @@ use Rattle.uploader.specs.declared.sum.FileSum.{FileSum}
 use Rattle.uploader.specs.declared.terms.ClientTerms.{ClientTerms}
 use Rattle.uploader.specs.Carried.{Setting, client_from}
 use Rattle.uploader.specs.Led.{IsLedTo}
-use Rattle.uploader.specs.Loading.{IsSendable, sum_of}
+use Rattle.uploader.specs.Loading.{IsBad, IsLong, IsSendable, sum_of}
 use Rattle.uploader.specs.Sending.{IsTaskFor, last_answer}
 use Rattle.command_words.specs.Clients.{ClientTerms as AskedTerms}
 use Rattle.command_words.specs.Words.{IsFetch, IsList, IsSend}
 use Rattle.pacsat_cli.specs.declared.status.RefusedBy.TheVariants.{Fault, Server}
 use Rattle.pacsat_cli.specs.declared.status.Status.{Status}
-use Rattle.pacsat_cli.specs.declared.status.Status.TheVariants.{AirRead, AirWrite, Disk, Done, FileChanged, LinkDown, NotesFull, Out, OutOfMemory, Refused, Shelf, Spent, Strange}
+use Rattle.pacsat_cli.specs.declared.status.Status.TheVariants.{AirRead, AirWrite, Disk, Done, FileChanged, LinkDown, NoSuch, NotesFull, Out, OutOfMemory, Refused, Shelf, Spent, Strange, TooLong}
 use Rattle.pacsat_cli.specs.Clients.{client_terms}
 
--- The statuses of a put that failed, of a fault of the disk, of the output or of the shelf, and of want of memory. Each has
--- a cause of its own, which comes earlier.
+-- The statuses of a put that failed, of a fault of the disk, of the output or of the shelf, and of want of memory. That of a
+-- fault comes only where its count rose: before an outcome, or, of output and shelf, behind it too. Want of memory has no
+-- cause.
 abbrev pub faults : List Status
 faults = AirWrite ∷ Disk ∷ Out ∷ Shelf ∷ OutOfMemory ∷ []
 
@@ -148,6 +149,18 @@ pub record ListLed {A C D : Type 0} (words : List (List ℕ)) (g : Ghosts D) (ai
       (new_job (work.Directory (new_directory tokens))) turns reached
 
 -- ---- what comes
+
+-- By what the shelf has under the name: it isn't there, is too long, or has that first fault; each exactly there.
+pub record FileRefusedExactly (content : Option (List ℕ)) (status : Status) : Type 0 where
+  pub no_such : (status ≡ NoSuch) ↔ (content ≡ None)
+  pub too_long : (status ≡ TooLong) ↔ IsLong content
+  pub bad_file : (code : ℕ) → (status ≡ Refused (Fault code)) ↔ IsBad content code
+
+-- but for a fault of the shelf and want of memory, and where it is told what the shelf holds
+abbrev pub SendRefuses : {S : Type 0} → List (List ℕ) → ShelfGhosts S → S → Status → Type 0
+SendRefuses words s shelf status =
+    (asked : AskedTerms) (name : List ℕ) → IsSend words asked name → ¬ (status ≡ Shelf) → ¬ (status ≡ OutOfMemory)
+    → IfSome (s.held shelf) (λ holding. FileRefusedExactly (content_of holding name) status)
 
 -- By the last task of the name: the file isn't the one of a task that is unfinished, with both as they are; a fresh task is
 -- wanted, and 65,536 stand; each exactly there. Where the file was acknowledged before, the command is done.

@@ -8,7 +8,8 @@ ghost use Rattle.px_base.specs.Outside.{Rose};
 ghost use Rattle.session_node.specs.Laws.{AcknowledgedSinceLaw};
 ghost use Rattle.uploader.specs.Carried.{setting};
 ghost use Rattle.pacsat_cli.specs.Clients.{RunsFetch, RunsList, RunsSend};
-ghost use Rattle.pacsat_cli.specs.Exactly.{FetchEndsExactly, ListEndsExactly, SendEndsExactly, SendStarts};
+ghost use Rattle.pacsat_cli.specs.Exactly.{FetchEndsExactly, ListEndsExactly, SendEndsExactly, SendRefuses};
+ghost use Rattle.pacsat_cli.specs.Exactly.{SendStarts};
 ghost use Rattle.pacsat_cli.specs.Files.{IsNoSuchBy, IsShownBy, IsTooLongBy};
 ghost use Rattle.pacsat_cli.specs.Run.{AreRefused, HasShelfCause, IsUnless, Shows, Stays};
 ghost use Rattle.pacsat_cli.specs.Servers.{RunsServe, WhereServed};
@@ -94,8 +95,9 @@ pub fn run<D: Disk, A: Air, S: Shelf, O: Out, C: Clock>(
 
     // Where it is told what shelf and disk had, and what air and clock gave, each status of a client's command but those of a
     // put that failed, of a fault of disk, output or shelf, and of want of memory comes exactly where its cause is: by the
-    // last task of the name, and by what the definition makes of the job over all that was heard. So a command is done
-    // exactly where that leads to what it asks for.
+    // file under the name, by the last task of the name, and by what the definition makes of the job over all that was
+    // heard. So a command is done exactly where that leads to what it asks for, or where the file was acknowledged before.
+    ensures send_refuses { SendRefuses words.now S.Shelf shelf.old result }
     ensures send_starts { SendStarts words.now D.Disk S.Shelf (setting disk.old air.old clock.old) shelf.old result }
     ensures send_exactly { SendEndsExactly words.now D.Disk A.Air C.given S.Shelf (setting disk.old air.old clock.old)
         (setting disk.new air.new clock.new) shelf.old result }

@@ -10,7 +10,7 @@ use Rattle.pacsat_cli.specs.Stops.{status_of_refusal}
 use Rattle.pacsat_cli.specs.Tasks.{AsksFile, AsksMake, AsksText}
 use Rattle.uploader.specs.Carried.{setting}
 use Rattle.pacsat_cli.proofs.ExactCarried.{fetch-exactly, list-exactly}
-use Rattle.pacsat_cli.proofs.ExactSend.{send-exactly, send-starts}
+use Rattle.pacsat_cli.proofs.ExactSend.{send-exactly, send-refuses, send-starts}
 use Rattle.pacsat_cli.proofs.OneTask.{file-client, file-make, make-client, node-client, refused-client, node-file, node-make, one-text, serve-file, serve-make, session-file, session-make, unbuilt-file, unbuilt-make, usage-file, usage-make}
 use Rattle.pacsat_cli.proofs.RunClient.{asks-client, client-alone, client-did, client-done, client-fetches, client-held, client-lists, client-not, client-rose, client-sends, client-store, may-run}
 use Rattle.pacsat_cli.proofs.RunFile.{file-done, file-no_such, file-not, file-rose, file-runs, file-shown, file-too_long}
@@ -50,6 +50,7 @@ returns-in-Err g c =
       fetch = fetch;
       list = list;
       list_alone = λ _. refl;
+      send_refuses = send-refuses g.D.Disk g.A.Air g.C.Clock.given g.S.Shelf g.O.Out words (setting c.args.disk.now c.args.air.now c.args.clock.now) (setting c.args.disk.now c.args.air.now c.args.clock.now) c.args.shelf.now c.args.shelf.now (status_of_refusal why) c.args.out.now c.show_line.new.out send;
       send_starts = send-starts g.D.Disk g.A.Air g.C.Clock.given g.S.Shelf g.O.Out words (setting c.args.disk.now c.args.air.now c.args.clock.now) (setting c.args.disk.now c.args.air.now c.args.clock.now) c.args.shelf.now c.args.shelf.now (status_of_refusal why) c.args.out.now c.show_line.new.out send;
       send_exactly = send-exactly g.D.Disk g.A.Air g.C.Clock.given g.S.Shelf g.O.Out words (setting c.args.disk.now c.args.air.now c.args.clock.now) (setting c.args.disk.now c.args.air.now c.args.clock.now) c.args.shelf.now c.args.shelf.now (status_of_refusal why) c.args.out.now c.show_line.new.out send c.one_run_law.ensures c.one_step_law.ensures c.stays_law.ensures;
       fetch_exactly = fetch-exactly g.D.Disk g.A.Air g.C.Clock.given c.one_run_law.ensures c.one_step_law.ensures c.stays_law.ensures (setting c.args.disk.now c.args.air.now c.args.clock.now) (setting c.args.disk.now c.args.air.now c.args.clock.now) g.S.Shelf g.O.Out words c.args.shelf.now c.args.shelf.now c.args.out.now c.show_line.new.out (status_of_refusal why) fetch;
@@ -115,6 +116,7 @@ returns-in-Session g c =
       fetch = λ asked number name is. absurd (only.session_client session (inr (inl (asked, number, name, is))));
       list = λ asked tokens is. absurd (only.session_client session (inr (inr (asked, tokens, is))));
       list_alone = λ _. refl;
+      send_refuses = λ asked name is. absurd (only.session_client session (inl (asked, name, is)));
       send_starts = λ of. absurd (only.session_client session (inl (of.asked, of.name, of.asks)));
       send_exactly = λ of. absurd (only.session_client session (inl (of.asked, of.name, of.asks)));
       fetch_exactly = λ led. absurd (only.session_client session (inr (inl (led.asked, led.number, led.name, led.asks))));
@@ -179,6 +181,7 @@ returns-in-Serve g c =
       fetch = λ asked number name is. absurd (only.serve_client serve (inr (inl (asked, number, name, is))));
       list = λ asked tokens is. absurd (only.serve_client serve (inr (inr (asked, tokens, is))));
       list_alone = λ _. refl;
+      send_refuses = λ asked name is. absurd (only.serve_client serve (inl (asked, name, is)));
       send_starts = λ of. absurd (only.serve_client serve (inl (of.asked, of.name, of.asks)));
       send_exactly = λ of. absurd (only.serve_client serve (inl (of.asked, of.name, of.asks)));
       fetch_exactly = λ led. absurd (only.serve_client serve (inr (inl (led.asked, led.number, led.name, led.asks))));
@@ -239,6 +242,7 @@ returns-in-File g c =
       fetch = λ asked number name is. absurd (file-client words only file (inr (inl (asked, number, name, is))));
       list = λ asked tokens is. absurd (file-client words only file (inr (inr (asked, tokens, is))));
       list_alone = λ asks. absurd (file-client words only file (inr (inr asks)));
+      send_refuses = λ asked name is. absurd (file-client words only file (inl (asked, name, is)));
       send_starts = λ of. absurd (file-client words only file (inl (of.asked, of.name, of.asks)));
       send_exactly = λ of. absurd (file-client words only file (inl (of.asked, of.name, of.asks)));
       fetch_exactly = λ led. absurd (file-client words only file (inr (inl (led.asked, led.number, led.name, led.asks))));
@@ -316,6 +320,7 @@ returns-in-Make g c =
       fetch = λ asked number name is. absurd (make-client words only make (inr (inl (asked, number, name, is))));
       list = λ asked tokens is. absurd (make-client words only make (inr (inr (asked, tokens, is))));
       list_alone = λ asks. absurd (make-client words only make (inr (inr asks)));
+      send_refuses = λ asked name is. absurd (make-client words only make (inl (asked, name, is)));
       send_starts = λ of. absurd (make-client words only make (inl (of.asked, of.name, of.asks)));
       send_exactly = λ of. absurd (make-client words only make (inl (of.asked, of.name, of.asks)));
       fetch_exactly = λ led. absurd (make-client words only make (inr (inl (led.asked, led.number, led.name, led.asks))));
@@ -389,6 +394,7 @@ returns-in-Client g c =
       fetch = fetches;
       list = lists;
       list_alone = client-alone g.D.Disk g.A.Air g.C.Clock.given g.S.Shelf g.O.Out (setting c.args.disk.now c.args.air.now c.args.clock.now) (setting ran.new.disk ran.new.air ran.new.clock) c.args.shelf.now ran.new.shelf c.args.out.now ran.new.out c.show_line-in-Client.new.out words ran.result only request asks ran.ensures;
+      send_refuses = send-refuses g.D.Disk g.A.Air g.C.Clock.given g.S.Shelf g.O.Out words (setting c.args.disk.now c.args.air.now c.args.clock.now) (setting ran.new.disk ran.new.air ran.new.clock) c.args.shelf.now ran.new.shelf ran.result c.args.out.now c.show_line-in-Client.new.out sends;
       send_starts = send-starts g.D.Disk g.A.Air g.C.Clock.given g.S.Shelf g.O.Out words (setting c.args.disk.now c.args.air.now c.args.clock.now) (setting ran.new.disk ran.new.air ran.new.clock) c.args.shelf.now ran.new.shelf ran.result c.args.out.now c.show_line-in-Client.new.out sends;
       send_exactly = send-exactly g.D.Disk g.A.Air g.C.Clock.given g.S.Shelf g.O.Out words (setting c.args.disk.now c.args.air.now c.args.clock.now) (setting ran.new.disk ran.new.air ran.new.clock) c.args.shelf.now ran.new.shelf ran.result c.args.out.now c.show_line-in-Client.new.out sends c.one_run_law.ensures c.one_step_law.ensures c.stays_law.ensures;
       fetch_exactly = fetch-exactly g.D.Disk g.A.Air g.C.Clock.given c.one_run_law.ensures c.one_step_law.ensures c.stays_law.ensures (setting c.args.disk.now c.args.air.now c.args.clock.now) (setting ran.new.disk ran.new.air ran.new.clock) g.S.Shelf g.O.Out words c.args.shelf.now ran.new.shelf c.args.out.now c.show_line-in-Client.new.out ran.result fetches;
