@@ -9,8 +9,8 @@ use Rattle.std.proofs.lemmas.List.Elements.{All-append, All-cons, All-drop, All-
 use Rattle.px_base.specs.CallSign.{CallSign, IsCall, is_call_char}
 use Rattle.px_base.specs.Numbers.{le32, le32_octets}
 use Rattle.px_base.specs.Octets.{IsOctets}
-use Rattle.call_octets.specs.CallOctets.{call_in, call_octets, call_of}
-use Rattle.call_octets.proofs.Spelled.{law, length-IsSpelled}
+use Rattle.px_base.specs.CallOctets.{call_in, call_octets, call_of}
+use Rattle.px_base.proofs.Spelled.{law, length-IsSpelled}
 use Rattle.file_journal.specs.Records.{IsRecord, Record, record_of}
 use Rattle.client_notes.specs.Command.{NotesCommand, acked, forgot, got, numbered, refused, start}
 use Rattle.client_notes.specs.Records.{IsWritable, Writes, acked_in, command_of, forgot_by, forgot_in, got_by, got_in, is_start_len, numbered_in, record_of_command, refused_in, start_by, start_content, start_in}

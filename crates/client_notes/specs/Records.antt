@@ -4,7 +4,7 @@ use Rattle.std.specs.Option.{option_and_then, option_map}
 use Rattle.px_base.specs.CallSign.{CallSign, IsCall}
 use Rattle.px_base.specs.Numbers.{le32, le32_octets}
 use Rattle.px_base.specs.Octets.{IsOctets}
-use Rattle.call_octets.specs.CallOctets.{call_in, call_octets}
+use Rattle.px_base.specs.CallOctets.{call_in, call_octets}
 use Rattle.file_journal.specs.Records.{Record, record_of}
 use Rattle.client_notes.specs.Command.{NotesCommand, acked, after, forgot, got, is_allowed, numbered, refused, start}
 use Rattle.client_notes.specs.Notes.{Lists}

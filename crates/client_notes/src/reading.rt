@@ -6,8 +6,7 @@ ghost use Rattle.client_notes.specs.Commands.{command_value};
 ghost use Rattle.client_notes.specs.Records.{IsWritable, acked_in, forgot_in, got_in, is_start_len as has_start_len, numbered_in, refused_in, start_in};
 
 use crate::command::Command;
-use call_octets::read_call;
-use px_base::le32;
+use px_base::{le32, read_call};
 
 /// Whether a content has the length of a Start, with a name of 1 to 64 octets.
 fn is_start_len(content: &[u8]) -> bool

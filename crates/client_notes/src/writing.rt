@@ -3,15 +3,14 @@
 ghost use Rattle.std.specs.Prelude.{◌≡◌, ◌+◌, ◌≤◌, ◌∷◌, ◌++◌, [], length};
 ghost use Rattle.arrayvec.specs.ArrayVec.{array_vec_len};
 ghost use Rattle.px_base.specs.Numbers.{le32_octets};
-ghost use Rattle.call_octets.specs.CallOctets.{call_octets as octets_of_call};
+ghost use Rattle.px_base.specs.CallOctets.{call_octets as octets_of_call};
 ghost use Rattle.file_journal.specs.Records.{record_of};
 ghost use Rattle.client_notes.specs.Command.{acked, forgot, got, numbered, refused, start};
 ghost use Rattle.client_notes.specs.Records.{record_of_command};
 
 use arrayvec::ArrayVec;
 use byteorder::{ByteOrder, LittleEndian};
-use call_octets::write_call;
-use px_base::Call;
+use px_base::{Call, write_call};
 
 /// The content of a record.
 type Content = ArrayVec<u8, 600>;

@@ -9,8 +9,8 @@ use Rattle.std.proofs.lemmas.List.Elements.{All-append, All-cons, All-drop, All-
 use Rattle.px_base.specs.CallSign.{CallSign, IsCall}
 use Rattle.px_base.specs.Numbers.{le32, le32_octets}
 use Rattle.px_base.specs.Octets.{IsOctets}
-use Rattle.call_octets.specs.CallOctets.{call_in, call_octets, call_of}
-use Rattle.call_octets.proofs.Spelled.{law, length-IsSpelled}
+use Rattle.px_base.specs.CallOctets.{call_in, call_octets, call_of}
+use Rattle.px_base.proofs.Spelled.{law, length-IsSpelled}
 use Rattle.pfh_items.proofs.StampLemmas.{IsOctets-chars, IsOctets-le32}
 use Rattle.file_journal.specs.Records.{IsRecord, Record, record_of}
 use Rattle.file_entries.specs.Command.{Command, begin, drop_entry, grow, seal}

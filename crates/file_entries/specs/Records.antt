@@ -4,7 +4,7 @@ use Rattle.std.specs.Option.{option_and_then, option_map}
 use Rattle.px_base.specs.CallSign.{CallSign, IsCall}
 use Rattle.px_base.specs.Numbers.{le32, le32_octets}
 use Rattle.px_base.specs.Octets.{IsOctets}
-use Rattle.call_octets.specs.CallOctets.{call_octets, call_in}
+use Rattle.px_base.specs.CallOctets.{call_octets, call_in}
 use Rattle.file_journal.specs.Records.{Record, record_of}
 use Rattle.file_entries.specs.Command.{Command, begin, grow, seal, drop_entry, after, is_allowed}
 use Rattle.file_entries.specs.Store.{Store}

@@ -6,8 +6,7 @@ ghost use Rattle.file_entries.specs.Commands.{command_value};
 ghost use Rattle.file_entries.specs.Records.{IsWritable, begin_in, drop_in, grow_in, seal_in};
 
 use crate::command::Command;
-use call_octets::read_call;
-use px_base::le32;
+use px_base::{le32, read_call};
 
 /// The Begin that a content is.
 pub(crate) fn read_begin(content: &[u8]) -> Option<Command<'_>>

@@ -9,8 +9,7 @@ ghost use Rattle.px_base.specs.Numbers.{le32_octets};
 
 use arrayvec::ArrayVec;
 use byteorder::{ByteOrder, LittleEndian};
-use call_octets::write_call;
-use px_base::Call;
+use px_base::{Call, write_call};
 
 /// The content of a record.
 pub(crate) type Content = ArrayVec<u8, 600>;

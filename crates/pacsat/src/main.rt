@@ -4,7 +4,8 @@
 use command_words::{AirWord, read_air};
 use disk_devices::FileDisk;
 use pacsat_cli::{Status, Words, end_with, run};
-use px_base::{Air, FolderShelf, Out, StdAir, StdOut, SystemClock};
+use px_base::{Air, Out};
+use real_outside::{FolderShelf, StdAir, StdOut, SystemClock};
 use std::env;
 use std::io::ErrorKind;
 use std::process::ExitCode;

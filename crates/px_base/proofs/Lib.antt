@@ -3,4 +3,4 @@ pub mod Ssid
 pub mod Calls
 pub mod ShelfStates
 pub mod Told
-pub mod Wholes
+pub mod Spelled

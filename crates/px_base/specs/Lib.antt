@@ -1,6 +1,6 @@
+pub mod CallOctets
 pub mod CallSign
 pub mod Counter
-pub mod Folder
 pub mod Forms
 pub mod Moments
 pub mod Numbers
@@ -9,5 +9,4 @@ pub mod Outside
 pub mod Polling
 pub mod ShelfForms
 pub mod Shelves
-pub mod Streams
 pub mod Views

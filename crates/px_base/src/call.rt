@@ -85,7 +85,7 @@ impl fmt::Display for Call {
 }
 
 /// Whether a call may have this character: an upper-case letter or a digit.
-fn is_call_char(c: u8) -> bool
+pub(crate) fn is_call_char(c: u8) -> bool
     ensures { result ≡ is_char_of_call c }
 {
     matches!(c, b'A'..=b'Z' | b'0'..=b'9')

@@ -1,14 +1,11 @@
 //! Tests of what no clause says: worked rows, texts, and each form once.
 
-use crate::folder_shelf::read_whole;
 use crate::{
-    Air, AirDown, BadCall, Call, Clock, FileBytes, FolderShelf, MemoryAir, MemoryClock, MemoryOut,
-    MemoryShelf, Out, OutDown, OutOfMemory, Polled, Shelf, ShelfDown, ShelfRefusal, StdAir, StdOut,
-    SystemClock, Turn, le16, le32,
+    Air, AirDown, BadCall, Call, Clock, FileBytes, MemoryAir, MemoryClock, MemoryOut, MemoryShelf,
+    Out, OutDown, OutOfMemory, Polled, Shelf, ShelfDown, ShelfRefusal, Turn, le16, le32, read_call,
+    write_call,
 };
-use std::io::{ErrorKind, Read, Write};
 use std::test::Fail;
-use std::{fs, io};
 
 #[test]
 fn calls(rt: HostRuntime) -> Result<(), Fail> {
@@ -142,85 +139,6 @@ fn output_in_memory(rt: HostRuntime) -> Result<(), Fail> {
     Ok(())
 }
 
-/// A stream whose call of this number fails for this reason.
-#[derive(Drop)]
-struct Failing<T> {
-    inner: T,
-    failing: u8,
-    reason: ErrorKind,
-}
-
-impl<T> Failing<T> {
-    fn new(inner: T, failing: u8, reason: ErrorKind) -> Failing<T> {
-        Failing {
-            inner,
-            failing,
-            reason,
-        }
-    }
-
-    fn count(&mut self) -> io::Result<()> {
-        self.failing = self.failing.wrapping_sub(1);
-        if self.failing == 0 {
-            return Err(io::Error::from(self.reason));
-        }
-        Ok(())
-    }
-}
-
-impl<T: Read> Read for Failing<T> {
-    fn read(&mut self, buf: &mut [u8]) -> io::Result<usize> {
-        self.count()?;
-        self.inner.read(buf)
-    }
-}
-
-impl<T: Write> Write for Failing<T> {
-    fn write(&mut self, buf: &[u8]) -> io::Result<usize> {
-        self.count()?;
-        self.inner.write(buf)
-    }
-
-    fn flush(&mut self) -> io::Result<()> {
-        self.count()
-    }
-}
-
-#[test]
-fn air_over_streams(rt: HostRuntime) -> Result<(), Fail> {
-    let long = [7; 600];
-    let mut input = Failing::new(long.as_slice(), 2, ErrorKind::BrokenPipe);
-    // each saying writes once and flushes once, and the second fails to write
-    let mut output = Failing::new(Vec::new(rt.alloc()), 3, ErrorKind::BrokenPipe);
-    let mut air = StdAir::new(&mut input, &mut output);
-    let mut room = [0; 512];
-    let answers = [
-        Ok(Polled::Bytes(512)),
-        Err(AirDown),
-        Ok(Polled::Bytes(88)),
-        Ok(Polled::End),
-    ];
-    for wanted in answers {
-        assert_eq!(rt; air.poll(&mut room), wanted);
-    }
-    assert_eq!(rt; room, [7; 512]);
-    assert_eq!(rt; air.put(b"one"), Ok(()));
-    assert_eq!(rt; air.put(b"two"), Err(AirDown));
-    assert_eq!(rt; output.inner.as_slice(), b"one".as_slice());
-    Ok(())
-}
-
-#[test]
-fn output_over_a_stream(rt: HostRuntime) -> Result<(), Fail> {
-    let mut output = Failing::new(Vec::new(rt.alloc()), 4, ErrorKind::BrokenPipe);
-    let mut out = StdOut::new(&mut output);
-    assert_eq!(rt; out.put(b"one"), Ok(()));
-    assert_eq!(rt; out.put(b"two"), Err(OutDown), "the flush fails");
-    assert_eq!(rt; out.put(b"three"), Ok(()));
-    assert_eq!(rt; output.inner.as_slice(), b"onetwothree".as_slice());
-    Ok(())
-}
-
 /// The octets of what was loaded.
 fn octets_of(loaded: &Result<FileBytes, ShelfRefusal>) -> Result<&[u8], ShelfRefusal> {
     match loaded {
@@ -273,52 +191,27 @@ fn clock_in_memory(rt: HostRuntime) -> Result<(), Fail> {
 }
 
 #[test]
-fn shelf_over_a_folder(rt: HostRuntime) -> Result<(), Fail> {
-    let mut shelf = FolderShelf::new(&rt);
-    let name = "px_base.shelf.test";
-    assert_eq!(rt; shelf.keep(name, b"longer"), Ok(()));
-    assert_eq!(rt; shelf.keep(name, b"long"), Ok(()));
-    // the name, the most octets, and what is loaded; the folder itself can be opened, and not read, and a path through a
-    // file is none, which isn't that nothing is there
-    let loaded = [
-        (name, 4, Ok(b"long".as_slice())),
-        (name, 3, Err(ShelfRefusal::TooLong)),
-        (name, usize::MAX, Ok(b"long".as_slice())),
-        ("px_base.no.such.test", 4, Err(ShelfRefusal::NoSuch)),
-        ("px_base.no.such.test/name", 4, Err(ShelfRefusal::NoSuch)),
-        ("px_base.shelf.test/name", 4, Err(ShelfRefusal::Fault)),
-        (".", 4, Err(ShelfRefusal::Fault)),
-    ];
-    for (name, most, wanted) in loaded {
-        let content = shelf.load(rt.alloc(), name, most);
-        assert_eq!(rt; octets_of(&content), wanted, "{name}");
-    }
-    for name in [".", "px_base.shelf.test/name"] {
-        assert_eq!(rt; shelf.keep(name, b"no file"), Err(ShelfDown), "{name}");
-    }
-    fs::remove_file(&rt, name)?;
+fn octets_of_a_call(rt: HostRuntime) -> Result<(), Fail> {
+    let call = Call::read("K1A-15")?;
+    assert_eq!(rt; write_call(&call), [b'K', b'1', b'A', b' ', b' ', b' ', 15]);
+    assert_eq!(rt; read_call(b"K1A   \x0F"), Some(call));
     Ok(())
 }
 
 #[test]
-fn whole_readers(rt: HostRuntime) {
-    let endless = read_whole(io::repeat(7), rt.alloc(), 600);
-    assert_eq!(rt; octets_of(&endless), Err(ShelfRefusal::TooLong));
-    // why the second read fails, and what is loaded: a name that is gone by then isn't none
-    let cut = [
-        (ErrorKind::BrokenPipe, ShelfRefusal::Fault),
-        (ErrorKind::NotFound, ShelfRefusal::Fault),
-        (ErrorKind::OutOfMemory, ShelfRefusal::OutOfMemory),
+fn octets_of_no_call(rt: HostRuntime) {
+    let none: [&[u8]; 9] = [
+        b"",
+        b"NOCALL",
+        b"NOCALL\0\0",
+        b"nOCALL\0",
+        b"NOCALL\x10",
+        b"NO ALL\0",
+        b" OCALL\0",
+        b"      \0",
+        b"NOCAL-\0",
     ];
-    for (reason, wanted) in cut {
-        let reader = Failing::new([7; 600].as_slice(), 2, reason);
-        let loaded = read_whole(reader, rt.alloc(), 600);
-        assert_eq!(rt; octets_of(&loaded), Err(wanted));
+    for octets in none {
+        assert_eq!(rt; read_call(octets), None);
     }
-}
-
-#[test]
-fn clock_of_the_system(rt: HostRuntime) {
-    // 1 January 2024
-    assert!(rt; SystemClock::new(&rt).now() > 1_704_067_200);
 }

@@ -1,17 +1,10 @@
 //! A call as seven octets, as records of a disk keep it: six characters, then the SSID (AX.25 2.0, 2.2.13).
-#![tactic(auto)]
 
-ghost use Rattle.std.specs.Prelude.{◌≡◌, IfSome};
+ghost use Rattle.std.specs.Prelude.{◌≡◌, ◌≤◌, length, IfSome};
 ghost use Rattle.px_base.specs.CallSign.{IsCall};
-ghost use Rattle.call_octets.specs.CallOctets.{call_in, call_octets};
+ghost use Rattle.px_base.specs.CallOctets.{are_blanks as all_blanks, base_count as count_of_base, call_in, call_octets, is_spelled as are_spelled};
 
-pub mod laws;
-mod spelling;
-#[cfg(test)]
-mod tests;
-
-use px_base::Call;
-use spelling::is_spelled;
+use crate::call::{Call, is_call_char};
 
 /// The octets of a call.
 pub const CALL_OCTETS: usize = 7;
@@ -43,4 +36,27 @@ pub fn read_call(octets: &[u8]) -> Option<Call>
     } else {
         None
     }
+}
+
+/// Whether these are the characters of a call: at least one upper-case letter or digit, and then blanks alone.
+fn is_spelled(chars: &[u8; 6]) -> bool
+    ensures { result ≡ are_spelled chars.now }
+{
+    let count = base_count(chars);
+    count >= 1 && are_blanks(&chars[count..])
+}
+
+/// Whether all of these are blanks.
+fn are_blanks(chars: &[u8]) -> bool
+    ensures { result ≡ all_blanks chars.now }
+{
+    chars.iter().all(|c| *c == b' ')
+}
+
+/// How many upper-case letters and digits these characters begin with.
+fn base_count(chars: &[u8]) -> usize
+    ensures count { result ≡ count_of_base chars.now }
+    ensures within { result ≤ length chars.now }
+{
+    chars.iter().take_while(|c| is_call_char(**c)).count()
 }

@@ -2,13 +2,11 @@
 
 ghost use Rattle.std.specs.Prelude.{◌≡◌, ◌↔◌, None, IfOk, IfErr, IsErr, IsOk, OnErr};
 ghost use Rattle.std.specs.IoError.{error_kind};
-ghost use Rattle.px_base.specs.Folder.{IsReadingAnswer, RefusesOpening, RefusesReading, counted_after_load};
+ghost use Rattle.real_outside.specs.Folder.{IsReadingAnswer, RefusesOpening, RefusesReading, counted_after_load};
 ghost use Rattle.px_base.specs.Outside.{HasCause, counted_after};
 ghost use Rattle.px_base.specs.Shelves.{AnswersOfAll, HasLoadCause, IsWithin};
 
-use crate::FileBytes;
-use crate::fault_count::FaultCount;
-use crate::shelf::{Shelf, ShelfDown, ShelfRefusal};
+use px_base::{FaultCount, FileBytes, Shelf, ShelfDown, ShelfRefusal};
 use std::alloc::Global;
 use std::fs::{self, File};
 use std::io::{self, ErrorKind, Read};
@@ -23,7 +21,7 @@ pub struct FolderShelf<R> {
 }
 
 impl<R> Model for FolderShelf<R> {
-    ghost use Rattle.px_base.specs.Folder.{Folder};
+    ghost use Rattle.real_outside.specs.Folder.{Folder};
 
     ghost Value = { Folder R };
 

@@ -3,7 +3,7 @@
 ghost use Rattle.std.specs.Prelude.{◌≡◌, ◌/◌, min, None, IfOk, OnErr};
 ghost use Rattle.std.specs.Duration.{as_nanos};
 
-use crate::clock::Clock;
+use px_base::Clock;
 use std::marker::Model;
 use std::time::Duration;
 use std::{io, rt};

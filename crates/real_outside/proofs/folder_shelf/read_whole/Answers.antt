@@ -1,6 +1,6 @@
 use Rattle.std.proofs.Common.{◌<◌, ◌∙◌, length, arith}
-use Rattle.px_base.proofs.Wholes.{whole_answer}
-use Rattle.px_base.proofs.folder_shelf.read_whole.Goals as goal
+use Rattle.real_outside.proofs.Wholes.{whole_answer}
+use Rattle.real_outside.proofs.folder_shelf.read_whole.Goals as goal
 
 pub returns-clause-answer : goal.returns-clause-answer
 returns-clause-answer g c =

@@ -1,7 +1,7 @@
 use Rattle.std.proofs.Common.{sym, ◌∙◌, arith}
-use Rattle.call_octets.proofs.Spelled.{IsCall-of_chars, none_at_chars, none_at_length, none_at_ssid, read_of_chars}
-use Rattle.call_octets.proofs.read_call.Goals as goal
-use Rattle.call_octets.proofs.read_call.Goals.{else-is_spelled-via-then-is_spelled+else-ssid-le-LAST_SSID, else-is_spelled-via-else-is_spelled}
+use Rattle.px_base.proofs.Spelled.{IsCall-of_chars, none_at_chars, none_at_length, none_at_ssid, read_of_chars}
+use Rattle.px_base.proofs.call_octets.read_call.Goals as goal
+use Rattle.px_base.proofs.call_octets.read_call.Goals.{else-is_spelled-via-then-is_spelled+else-ssid-le-LAST_SSID, else-is_spelled-via-else-is_spelled}
 
 pub returns-then-octets-ne-CALL_OCTETS-clause-call : goal.returns-then-octets-ne-CALL_OCTETS-clause-call
 returns-then-octets-ne-CALL_OCTETS-clause-call c = none_at_length _ c.if-octets-ne-CALL_OCTETS.true

@@ -4,11 +4,9 @@ ghost use Rattle.std.specs.Prelude.{◌≡◌, ◌==◌, ◌↔◌, None, IfOk, 
 ghost use Rattle.std.specs.Io.KnownBytes.{Appends};
 ghost use Rattle.px_base.specs.Outside.{HasCause, counted_after};
 ghost use Rattle.px_base.specs.Polling.{IsPolled, turn_of};
-ghost use Rattle.px_base.specs.Streams.{HearsFrom};
+ghost use Rattle.real_outside.specs.Streams.{HearsFrom};
 
-use crate::air::{Air, AirDown, Polled};
-use crate::fault_count::FaultCount;
-use crate::out::{Out, OutDown};
+use px_base::{Air, AirDown, FaultCount, Out, OutDown, Polled};
 use std::io::{self, Read, Write};
 use std::marker::Model;
 
@@ -22,7 +20,7 @@ pub struct StdAir<R, W> {
 }
 
 impl<R, W> Model for StdAir<R, W> {
-    ghost use Rattle.px_base.specs.Streams.{AirStreams};
+    ghost use Rattle.real_outside.specs.Streams.{AirStreams};
 
     ghost Value = { AirStreams R W };
 
@@ -89,7 +87,7 @@ pub struct StdOut<W> {
 }
 
 impl<W> Model for StdOut<W> {
-    ghost use Rattle.px_base.specs.Streams.{OutStream};
+    ghost use Rattle.real_outside.specs.Streams.{OutStream};
 
     ghost Value = { OutStream W };
 

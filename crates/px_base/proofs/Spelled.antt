@@ -8,7 +8,7 @@ use Rattle.std.proofs.lemmas.List.{length-replicate}
 use Rattle.std.proofs.lemmas.List.Elements.{All-from_recursion, recursion_from_All}
 use Rattle.std.proofs.lemmas.List.Sums.{prefix_len-le-length}
 use Rattle.px_base.specs.CallSign.{CallSign, IsBase, IsCall, IsSpelled, is_call_char, padded}
-use Rattle.call_octets.specs.CallOctets.{are_blanks, base_count, call_in, call_octets, call_of, is_spelled}
+use Rattle.px_base.specs.CallOctets.{are_blanks, base_count, call_in, call_octets, call_of, is_spelled}
 
 -- each of these characters may stand in a call
 abbrev AllChars : List ℕ → Type 0
