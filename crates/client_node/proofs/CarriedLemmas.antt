@@ -16,7 +16,7 @@ use Rattle.node_events.specs.Events.{NodeEvent, NodeEvents}
 use Rattle.ftl0_job.specs.declared.ending.Ending.{Ending}
 use Rattle.ftl0_job.specs.JobState.{IsNew}
 use Rattle.ftl0_job.specs.Table.{JobState}
-use Rattle.ftl0_attempt.specs.Attempted as attempted
+use Rattle.ftl0_client.specs.Attempt.Attempted as attempted
 use Rattle.ftl0_client.specs.Calls.{HasAsked, SameButFrames}
 use Rattle.ftl0_client.specs.Client.{Client, ClientEvent, asking, asks}
 use Rattle.ftl0_client.specs.ClientState.{ClientState, IsClient, MayHear, outcome_in}
@@ -24,7 +24,8 @@ use Rattle.ftl0_client.specs.Laws.{OneStepLaw}
 use Rattle.ftl0_client.specs.declared.outcome.Outcome.{Outcome}
 use Rattle.ftl0_client.specs.declared.outcome.Outcome.TheVariants as outcome
 use Rattle.ftl0_client.specs.Outcomes.{outcome_as}
-use Rattle.client_node.specs.Carried.{CarriesOut, ClientRan, EndsOver, HasAirCause, IsOpenBeforeEach, MayCarryOut, TurnsBy, answer_of, asked_first, before_last, reached_or}
+use Rattle.client_node.specs.Carried.{CarriesOut, ClientRan, EndsOver, HasAirCause, IsOpenBeforeEach, MayCarryOut}
+use Rattle.client_node.specs.Carried.{TurnsBy, answer_of, asked_first, before_last, reached_or}
 use Rattle.client_node.specs.Carrying.{StopsBehind, TakesAll, text_of}
 use Rattle.ftl0_client.specs.Going.{GoesOver}
 use Rattle.client_node.specs.Came.{CameTo}

@@ -16,14 +16,14 @@ use Rattle.ftl0_packets.specs.Layout.{Item}
 use Rattle.ftl0_job.specs.declared.ending.Ending.{Ending}
 use Rattle.ftl0_job.specs.declared.stop.JobStop.{JobStop}
 use Rattle.ftl0_job.specs.Table.{JobState}
-use Rattle.ftl0_attempt.specs.Attempted as attempted
-use Rattle.ftl0_attempt.specs.Attempted.{Attempted}
-use Rattle.ftl0_attempt.specs.AttemptState.{AttemptState, IsAttempt, StopsAmong}
-use Rattle.ftl0_attempt.specs.Hearing.{after_hearing, packets_heard, packets_told, with_end}
-use Rattle.ftl0_attempt.specs.Laws.{IsToldDown}
-use Rattle.ftl0_attempt.specs.Taking.{Happened, taking}
-use Rattle.ftl0_attempt.proofs.DownLemmas.{outcome-law, still-silent}
-use Rattle.ftl0_attempt.proofs.EndedLemmas.{taking-ended, told-job}
+use Rattle.ftl0_client.specs.Attempt.Attempted as attempted
+use Rattle.ftl0_client.specs.Attempt.Attempted.{Attempted}
+use Rattle.ftl0_client.specs.Attempt.AttemptState.{AttemptState, IsAttempt, StopsAmong}
+use Rattle.ftl0_client.specs.Attempt.Hearing.{after_hearing, packets_heard, packets_told, with_end}
+use Rattle.ftl0_client.specs.Attempt.Laws.{IsToldDown}
+use Rattle.ftl0_client.specs.Attempt.Taking.{Happened, taking}
+use Rattle.ftl0_client.proofs.Attempt.DownLemmas.{outcome-law, still-silent}
+use Rattle.ftl0_client.proofs.Attempt.EndedLemmas.{taking-ended, told-job}
 use Rattle.ftl0_client.specs.Calls.{SameAttempt, SameButFrames, SameJob}
 use Rattle.ftl0_client.specs.Client.{Client, asking, attempt_for, client_hearing, client_ticking, refusal_frame}
 use Rattle.ftl0_client.specs.ClientState.{ClientState, IsAttemptOf, IsClient}

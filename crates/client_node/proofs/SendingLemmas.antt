@@ -1,5 +1,6 @@
 -- How the frames of a client are put, one after another.
-use Rattle.std.proofs.Common.{◌≡◌, ℕ, List, [], ◌∷◌, ◌++◌, Bool, true, false, Option, None, Some, Ok, Err, refl, ap, sym, subst, ◌∙◌, append_assoc, append-nil, true≢false}
+use Rattle.std.proofs.Common.{◌≡◌, ℕ, List, [], ◌∷◌, ◌++◌, Bool, true, false, Option, None, Some, Ok, Err, refl, ap}
+use Rattle.std.proofs.Common.{sym, subst, ◌∙◌, append_assoc, append-nil, true≢false}
 use Rattle.std.proofs.lemmas.List.Concat.{flat_map-append}
 use Rattle.kiss.specs.KissText.{kiss_text}
 use Rattle.std.specs.Prelude.{Result, ⊤}
@@ -7,7 +8,7 @@ use Rattle.px_base.specs.Outside.{Gains, GainsPrefix, HasCause}
 use Rattle.px_base.specs.declared.air.AirDown.{AirDown}
 use Rattle.px_base.proofs.Told.{Gains-front, Gains-none, Gains-trans}
 use Rattle.ax25_frames.specs.FrameText.{FrameValue, canonical}
-use Rattle.ftl0_attempt.specs.AttemptState.{AttemptState}
+use Rattle.ftl0_client.specs.Attempt.AttemptState.{AttemptState}
 use Rattle.ftl0_client.specs.Calls.{HandsOut, HandsOutNext, SameAttempt, SameButFrames, SameClient, SameJob}
 use Rattle.ftl0_client.specs.Client.{Client, ClientSends, IsSilent, client_next}
 use Rattle.ftl0_client.specs.ClientState.{ClientState, IsClient, client_pending}

@@ -1,5 +1,6 @@
 -- How a node takes events.
-use Rattle.std.proofs.Common.{◌≡◌, ℕ, Bool, List, [], ◌∷◌, ◌++◌, length, take, Option, refl, ap, sym, ◌∙◌, subst, append_assoc, arith, take-append-drop, drop}
+use Rattle.std.proofs.Common.{◌≡◌, ℕ, Bool, List, [], ◌∷◌, ◌++◌, length, take, Option, refl, ap, sym, ◌∙◌, subst}
+use Rattle.std.proofs.Common.{append_assoc, arith, take-append-drop, drop}
 use Rattle.std.proofs.lemmas.Bool.{eq-eqb, ne_eqb}
 use Rattle.std.proofs.lemmas.List.{map-append}
 use Rattle.std.specs.Prelude.{if◌then◌else◌, false, Result, Ok, Err, ⊤, None, Some}
@@ -22,13 +23,14 @@ use Rattle.node_events.specs.Events.{NodeEvent, tick_since}
 use Rattle.ftl0_job.specs.declared.stop.JobStop.{JobStop}
 use Rattle.ftl0_job.specs.declared.stop.JobStop.TheVariants as job_stop
 use Rattle.ftl0_job.specs.Table.{job_row}
-use Rattle.ftl0_attempt.specs.Attempted.{Attempted}
-use Rattle.ftl0_attempt.specs.AttemptState.{AttemptState, StopsAmong}
-use Rattle.ftl0_attempt.specs.Hearing.{after_hearing, packets_heard}
-use Rattle.ftl0_attempt.specs.Taking.{taking}
-use Rattle.ftl0_attempt.proofs.TakingLemmas.{noted-front}
+use Rattle.ftl0_client.specs.Attempt.Attempted.{Attempted}
+use Rattle.ftl0_client.specs.Attempt.AttemptState.{AttemptState, StopsAmong}
+use Rattle.ftl0_client.specs.Attempt.Hearing.{after_hearing, packets_heard}
+use Rattle.ftl0_client.specs.Attempt.Taking.{taking}
+use Rattle.ftl0_client.proofs.Attempt.TakingLemmas.{noted-front}
 use Rattle.ftl0_client.specs.Calls.{SameButFrames, StopsBy}
-use Rattle.ftl0_client.specs.Client.{Client, ClientEvent, ClientHappened, IsSilent, attempt_for, client_hearing, hearing_by, hears}
+use Rattle.ftl0_client.specs.Client.{Client, ClientEvent, ClientHappened, IsSilent, attempt_for, client_hearing}
+use Rattle.ftl0_client.specs.Client.{hearing_by, hears}
 use Rattle.ftl0_client.specs.ClientState.{ClientState, IsClient, MayHear}
 use Rattle.ftl0_client.specs.ClientStep.{ClientStep, Empties, happening}
 use Rattle.ftl0_client.specs.Laws.{IsToldDownOf}
@@ -40,7 +42,8 @@ use Rattle.client_node.specs.Carrying.{text_of}
 use Rattle.client_node.specs.Node.{IsUp, RunsOn, SaysFrames, Settles, StopsOn, Takes, TakesEach, events_of, stop_of_job}
 use Rattle.client_node.specs.declared.stop.NodeStop.{NodeStop}
 use Rattle.client_node.specs.declared.stop.NodeStop.TheVariants as stop
-use Rattle.client_node.proofs.GoesLemmas.{came-behind, came-longer, goes-append, goes-one, stops-at, stops-behind, stops-longer}
+use Rattle.client_node.proofs.GoesLemmas.{came-behind, came-longer, goes-append, goes-one, stops-at, stops-behind}
+use Rattle.client_node.proofs.GoesLemmas.{stops-longer}
 use Rattle.client_node.proofs.MemoryLemmas.{stopped-working, told-sent}
 use Rattle.client_node.proofs.QuietLemmas.{gains-same, settled-quiet, tells-of, tells-sent, tells-still}
 use Rattle.client_node.proofs.SendingLemmas.{text-append}

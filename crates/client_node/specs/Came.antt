@@ -3,7 +3,7 @@ use Rattle.std.specs.Prelude.{◌≡◌, ℕ, List, [], ◌++◌, Option, None, 
 use Rattle.ax25_frames.specs.FrameText.{FrameValue}
 use Rattle.client_notes.specs.Command.{NotesCommand}
 use Rattle.ftl0_job.specs.Table.{listing_of}
-use Rattle.ftl0_attempt.specs.Attempted.{Attempted}
+use Rattle.ftl0_client.specs.Attempt.Attempted.{Attempted}
 use Rattle.ftl0_client.specs.Client.{Client, ClientEvent}
 use Rattle.ftl0_client.specs.ClientState.{ClientState, listing_in, outcome_in}
 use Rattle.ftl0_client.specs.declared.outcome.Outcome.{Outcome}

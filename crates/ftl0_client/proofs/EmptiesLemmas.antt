@@ -1,14 +1,15 @@
 -- Each client comes to send nothing, by one list of frames; so each event has one step.
-use Rattle.std.proofs.Common.{◌≡◌, ◌⊎◌, ℕ, zero, suc, ◌<◌, ◌≤◌, List, [], ◌∷◌, Option, None, Some, refl, sym, ◌∙◌, ap, subst, inl, inr, arith}
+use Rattle.std.proofs.Common.{◌≡◌, ◌⊎◌, ℕ, zero, suc, ◌<◌, ◌≤◌, List, [], ◌∷◌, Option, None, Some, refl, sym, ◌∙◌, ap}
+use Rattle.std.proofs.Common.{subst, inl, inr, arith}
 use Rattle.std.proofs.lemmas.Option.{same_Some}
 use Rattle.ax25_frames.specs.FrameText.{FrameValue}
 use Rattle.ax25_link.specs.Ends.{IsEnd}
 use Rattle.ax25_link.specs.Sending.{Sending, next_sending}
 use Rattle.ax25_link.specs.Window.{Window}
 use Rattle.ax25_link.proofs.SendLemmas.{left_to_send, next_sending-Sends}
-use Rattle.ftl0_attempt.specs.Attempted.{Attempted}
-use Rattle.ftl0_attempt.specs.AttemptState.{AttemptState}
-use Rattle.ftl0_attempt.specs.Hearing.{with_end}
+use Rattle.ftl0_client.specs.Attempt.Attempted.{Attempted}
+use Rattle.ftl0_client.specs.Attempt.AttemptState.{AttemptState}
+use Rattle.ftl0_client.specs.Attempt.Hearing.{with_end}
 use Rattle.ftl0_client.specs.Client.{Client, ClientHappened, ClientSends, Refused, refusal_frame, sends_of_link}
 use Rattle.ftl0_client.specs.ClientState.{ClientState, IsAttemptOf, IsClient, LinkFits}
 use Rattle.ftl0_client.specs.ClientStep.{Empties, happening}

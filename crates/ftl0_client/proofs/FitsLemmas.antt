@@ -12,7 +12,8 @@ use Rattle.ax25_link.specs.Timer.{after_tick, is_up, told_of_tick}
 use Rattle.ax25_link.specs.Window.{Window}
 use Rattle.ax25_link.specs.declared.state.Heard.{Heard}
 use Rattle.ax25_link.specs.declared.state.Heard.TheVariants.{Nothing, Opened, Reopened, Bytes, Closed}
-use Rattle.ax25_link.proofs.EndKept.{after_frame-IsEnd, after_hang_up-IsEnd, after_push-IsEnd, after_tick-IsEnd, calling_end-IsEnd}
+use Rattle.ax25_link.proofs.EndKept.{after_frame-IsEnd, after_hang_up-IsEnd, after_push-IsEnd, after_tick-IsEnd}
+use Rattle.ax25_link.proofs.EndKept.{calling_end-IsEnd}
 use Rattle.ftl0_packets.specs.Items.{kind_of_item, texts}
 use Rattle.ftl0_packets.specs.Layout.{Item, packet_text}
 use Rattle.client_notes.specs.Laws.{after_all}
@@ -22,12 +23,15 @@ use Rattle.ftl0_job.specs.declared.work.Work.{Work}
 use Rattle.ftl0_job.specs.Due.{DuePacket, next_due}
 use Rattle.ftl0_job.specs.Row.{Row}
 use Rattle.ftl0_job.specs.Table.{JobState, job_after, job_row}
-use Rattle.ftl0_attempt.specs.Attempted.{Attempted}
-use Rattle.ftl0_attempt.specs.Hearing.{after_hearing, after_told, packets_heard, with_end}
-use Rattle.ftl0_attempt.specs.Settling.{after_due, enough_free, is_all_free, is_later, on_due, parting_later, queuing, settled}
-use Rattle.ftl0_attempt.specs.Taking.{Happened, after_replies, fits, parting, replied, taking, taking_by, taking_one}
+use Rattle.ftl0_client.specs.Attempt.Attempted.{Attempted}
+use Rattle.ftl0_client.specs.Attempt.Hearing.{after_hearing, after_told, packets_heard, with_end}
+use Rattle.ftl0_client.specs.Attempt.Settling.{after_due, enough_free, is_all_free, is_later, on_due, parting_later}
+use Rattle.ftl0_client.specs.Attempt.Settling.{queuing, settled}
+use Rattle.ftl0_client.specs.Attempt.Taking.{Happened, after_replies, fits, parting, replied, taking, taking_by}
+use Rattle.ftl0_client.specs.Attempt.Taking.{taking_one}
 use Rattle.ftl0_client.specs.Client.{Client, ClientEvent, IsSilent, Refused, asks, attempt_for, hearing_by}
-use Rattle.ftl0_client.specs.Client.{hears, is_answered, refusing, sends_by, sends_of_attempt, sends_of_link, ticking_by, ticks}
+use Rattle.ftl0_client.specs.Client.{hears, is_answered, refusing, sends_by, sends_of_attempt, sends_of_link}
+use Rattle.ftl0_client.specs.Client.{ticking_by, ticks}
 use Rattle.ftl0_client.specs.ClientStep.{happening}
 use Rattle.ftl0_client.specs.Laws.{EndFits}
 

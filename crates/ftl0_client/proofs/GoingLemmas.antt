@@ -11,7 +11,8 @@ use Rattle.ax25_link.specs.declared.state.LinkState.TheVariants.{Down}
 use Rattle.ax25_link.specs.declared.state.Why.{Why}
 use Rattle.ax25_link.specs.Acknowledging.{with_timer_anew}
 use Rattle.ax25_link.specs.Ends.{Farewell, LinkEnd, Reply, outstanding}
-use Rattle.ax25_link.specs.Sending.{Sending, has_new, last_sending, later_sending, next_sending, sending_after, sends_again, sends_farewell, sends_new, sends_reply, with_piece}
+use Rattle.ax25_link.specs.Sending.{Sending, has_new, last_sending, later_sending, next_sending, sending_after}
+use Rattle.ax25_link.specs.Sending.{sends_again, sends_farewell, sends_new, sends_reply, with_piece}
 use Rattle.ax25_link.specs.Timer.{is_down}
 use Rattle.ax25_link.specs.Window.{Window}
 use Rattle.client_notes.specs.Command.{NotesCommand}
@@ -24,14 +25,15 @@ use Rattle.ftl0_job.specs.declared.ending.Outcome.TheVariants as reached
 use Rattle.ftl0_job.specs.declared.work.Work.{Work}
 use Rattle.ftl0_job.specs.Promises.{EndPromises, WorkPromises}
 use Rattle.ftl0_job.specs.Table.{listing_of}
-use Rattle.ftl0_attempt.specs.Attempted as attempted
-use Rattle.ftl0_attempt.specs.Attempted.{Attempted, calling, outcome_of}
-use Rattle.ftl0_attempt.specs.Hearing.{ticking, with_end}
-use Rattle.ftl0_attempt.specs.Laws as of_attempts
-use Rattle.ftl0_attempt.specs.Laws.{AttemptStands, CallingLaw, QuietLaw, StandsLaw}
-use Rattle.ftl0_attempt.specs.declared.outcome.AttemptOutcome.{AttemptOutcome}
-use Rattle.ftl0_attempt.specs.declared.outcome.AttemptOutcome.TheVariants.{Reached, LinkDown}
-use Rattle.ftl0_client.specs.Client.{Client, ClientEvent, ClientSends, Refused, asking, asks, hearing_by, hearing_stranger, hears, is_answered, refusal_frame, refusing, sends_by}
+use Rattle.ftl0_client.specs.Attempt.Attempted as attempted
+use Rattle.ftl0_client.specs.Attempt.Attempted.{Attempted, calling, outcome_of}
+use Rattle.ftl0_client.specs.Attempt.Hearing.{ticking, with_end}
+use Rattle.ftl0_client.specs.Attempt.Laws as of_attempts
+use Rattle.ftl0_client.specs.Attempt.Laws.{AttemptStands, CallingLaw, QuietLaw, StandsLaw}
+use Rattle.ftl0_client.specs.declared.attempt.outcome.AttemptOutcome.{AttemptOutcome}
+use Rattle.ftl0_client.specs.declared.attempt.outcome.AttemptOutcome.TheVariants.{Reached, LinkDown}
+use Rattle.ftl0_client.specs.Client.{Client, ClientEvent, ClientSends, Refused, asking, asks, hearing_by}
+use Rattle.ftl0_client.specs.Client.{hearing_stranger, hears, is_answered, refusal_frame, refusing, sends_by}
 use Rattle.ftl0_client.specs.Client.{sends_of_attempt, sends_of_link, ticking_by, ticks, with_attempt}
 use Rattle.ftl0_client.specs.ClientStep.{ClientStep, Empties, happening}
 use Rattle.ftl0_client.specs.declared.outcome.Outcome.TheVariants as outcome

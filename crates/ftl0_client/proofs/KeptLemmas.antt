@@ -16,7 +16,7 @@ use Rattle.ftl0_job.specs.declared.ending.Ending.{Ending}
 use Rattle.ftl0_job.specs.declared.work.Work.{Work}
 use Rattle.ftl0_job.specs.declared.work.Work.TheVariants as work
 use Rattle.ftl0_job.specs.JobState.{GoBy, GoWith}
-use Rattle.ftl0_attempt.specs.AttemptState.{AttemptState}
+use Rattle.ftl0_client.specs.Attempt.AttemptState.{AttemptState}
 use Rattle.ftl0_client.specs.Calls.{KeepsNotes}
 use Rattle.ftl0_client.specs.ClientState.{ClientState, GoWithAttempt, MayHear}
 

@@ -1,3 +1,4 @@
+pub mod Attempt
 pub mod EmptiesLemmas
 pub mod FitsLemmas
 pub mod GoingLemmas

@@ -10,13 +10,13 @@ use Rattle.ftl0_job.specs.declared.ending.Outcome.TheVariants as reached
 use Rattle.ftl0_job.specs.declared.work.Work.{Work}
 use Rattle.ftl0_job.specs.declared.work.Work.TheVariants as work
 use Rattle.ftl0_job.specs.Table.{JobState, new_job}
-use Rattle.ftl0_attempt.specs.Attempted as attempted
-use Rattle.ftl0_attempt.specs.Attempted.{Attempted, outcome_of}
-use Rattle.ftl0_attempt.specs.Hearing.{hearing}
-use Rattle.ftl0_attempt.specs.Laws as of_attempts
-use Rattle.ftl0_attempt.specs.Laws.{AcknowledgesIn, IsFetchedBy}
-use Rattle.ftl0_attempt.specs.declared.outcome.AttemptOutcome.{AttemptOutcome}
-use Rattle.ftl0_attempt.specs.declared.outcome.AttemptOutcome.TheVariants.{Reached, LinkDown}
+use Rattle.ftl0_client.specs.Attempt.Attempted as attempted
+use Rattle.ftl0_client.specs.Attempt.Attempted.{Attempted, outcome_of}
+use Rattle.ftl0_client.specs.Attempt.Hearing.{hearing}
+use Rattle.ftl0_client.specs.Attempt.Laws as of_attempts
+use Rattle.ftl0_client.specs.Attempt.Laws.{AcknowledgesIn, IsFetchedBy}
+use Rattle.ftl0_client.specs.declared.attempt.outcome.AttemptOutcome.{AttemptOutcome}
+use Rattle.ftl0_client.specs.declared.attempt.outcome.AttemptOutcome.TheVariants.{Reached, LinkDown}
 use Rattle.ftl0_client.specs.Client.{Client, hearing_by, hearing_stranger, is_answered, refusing, ticking_by}
 use Rattle.ftl0_client.specs.declared.outcome.Outcome.TheVariants as outcome
 use Rattle.ftl0_client.specs.Laws.{AckedLaw, FetchedLaw, IsToldDownOf, KeepsOutcome, OutcomeLaw}

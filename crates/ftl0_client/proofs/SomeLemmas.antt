@@ -2,8 +2,8 @@
 use Rattle.std.proofs.Common.{◌≡◌, ℕ, refl, sym, subst}
 use Rattle.std.specs.Prelude.{Option, None, Some}
 use Rattle.ax25_link.specs.Window.{window_of}
-use Rattle.ftl0_attempt.specs.Attempted.{Attempted}
-use Rattle.ftl0_attempt.specs.AttemptState.{AttemptState, IsAttempt, IsSomeAttempt}
+use Rattle.ftl0_client.specs.Attempt.Attempted.{Attempted}
+use Rattle.ftl0_client.specs.Attempt.AttemptState.{AttemptState, IsAttempt, IsSomeAttempt}
 use Rattle.ftl0_client.specs.Client.{Client}
 use Rattle.ftl0_client.specs.ClientState.{ClientState, HasLink, IsAttemptOf, IsClient}
 

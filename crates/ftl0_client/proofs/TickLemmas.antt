@@ -2,10 +2,10 @@
 use Rattle.std.proofs.Common.{◌≡◌, refl, sym, subst}
 use Rattle.std.specs.Prelude.{Option, None, Some}
 use Rattle.ax25_link.specs.Window.{Window}
-use Rattle.ftl0_attempt.specs.Attempted.{Attempted}
-use Rattle.ftl0_attempt.specs.AttemptState as attempted
-use Rattle.ftl0_attempt.specs.AttemptState.{AttemptState, IsAttempt}
-use Rattle.ftl0_attempt.specs.Hearing.{ticking}
+use Rattle.ftl0_client.specs.Attempt.Attempted.{Attempted}
+use Rattle.ftl0_client.specs.Attempt.AttemptState as attempted
+use Rattle.ftl0_client.specs.Attempt.AttemptState.{AttemptState, IsAttempt}
+use Rattle.ftl0_client.specs.Attempt.Hearing.{ticking}
 use Rattle.ftl0_client.specs.Client.{Client, client_ticking, ticking_by}
 use Rattle.ftl0_client.specs.ClientState.{ClientState, IsAttemptOf, IsClient}
 

@@ -8,9 +8,9 @@ use Rattle.file_journal.specs.Calls.{Leaves}
 use Rattle.client_notes.specs.Notes.{Lists}
 use Rattle.client_notes.specs.Several.{DoesSeveral, MakesFirst}
 use Rattle.ftl0_job.specs.declared.stop.JobStop.{JobStop}
-use Rattle.ftl0_attempt.specs.Attempted.{Attempted}
-use Rattle.ftl0_attempt.specs.AttemptState.{AttemptState, StopsAmong}
-use Rattle.ftl0_attempt.specs.Hearing.{after_hearing, packets_heard}
+use Rattle.ftl0_client.specs.Attempt.Attempted.{Attempted}
+use Rattle.ftl0_client.specs.Attempt.AttemptState.{AttemptState, StopsAmong}
+use Rattle.ftl0_client.specs.Attempt.Hearing.{after_hearing, packets_heard}
 use Rattle.ftl0_client.specs.Client.{Client, ClientSends, attempt_for, client_hearing, client_next}
 use Rattle.ftl0_client.specs.ClientState.{ClientState, GoWithAttempt, IsClient}
 

@@ -12,9 +12,9 @@ use Rattle.client_notes.specs.Command.{NotesCommand}
 use Rattle.client_notes.specs.Laws.{after_all}
 use Rattle.client_notes.specs.Notes.{Lists, is_same_call}
 use Rattle.ftl0_job.specs.Table.{JobState}
-use Rattle.ftl0_attempt.specs.Attempted.{Attempted, calling}
-use Rattle.ftl0_attempt.specs.Hearing.{hearing, ticking, with_end}
-use Rattle.ftl0_attempt.specs.Taking.{Happened}
+use Rattle.ftl0_client.specs.Attempt.Attempted.{Attempted, calling}
+use Rattle.ftl0_client.specs.Attempt.Hearing.{hearing, ticking, with_end}
+use Rattle.ftl0_client.specs.Attempt.Taking.{Happened}
 
 -- the DM to be sent to a station with which there is no link: to whom, and its F bit
 pub record Refused : Type 0 where

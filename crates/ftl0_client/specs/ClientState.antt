@@ -11,9 +11,9 @@ use Rattle.ftl0_job.specs.declared.work.Work.{Work}
 use Rattle.ftl0_job.specs.declared.work.Work.TheVariants as work
 use Rattle.ftl0_job.specs.JobState.{IsTaskOf, NotesGoWith}
 use Rattle.ftl0_job.specs.Table.{listing_of}
-use Rattle.ftl0_attempt.specs.Attempted.{Attempted}
-use Rattle.ftl0_attempt.specs.Attempted as attempted
-use Rattle.ftl0_attempt.specs.AttemptState.{AttemptState, IsAttempt, is_closed}
+use Rattle.ftl0_client.specs.Attempt.Attempted.{Attempted}
+use Rattle.ftl0_client.specs.Attempt.Attempted as attempted
+use Rattle.ftl0_client.specs.Attempt.AttemptState.{AttemptState, IsAttempt, is_closed}
 use Rattle.ftl0_client.specs.Client.{Client, Refused}
 use Rattle.ftl0_client.specs.declared.outcome.Outcome.{Outcome}
 use Rattle.ftl0_client.specs.declared.outcome.Outcome.TheVariants as outcome

@@ -12,8 +12,8 @@ use Rattle.ftl0_job.specs.declared.work.Work.{Work}
 use Rattle.ftl0_job.specs.JobState.{IsNew, NotesGoWith}
 use Rattle.ftl0_job.specs.Promises.{IsFilled, IsOfSame, WorkPromises}
 use Rattle.ftl0_job.specs.Table.{JobState, listing_of}
-use Rattle.ftl0_attempt.specs.Attempted.{Attempted, outcome_of}
-use Rattle.ftl0_attempt.specs.Laws.{IsToldDown}
+use Rattle.ftl0_client.specs.Attempt.Attempted.{Attempted, outcome_of}
+use Rattle.ftl0_client.specs.Attempt.Laws.{IsToldDown}
 use Rattle.ftl0_client.specs.Client.{Client, ClientEvent, asks, hears, ticks}
 use Rattle.ftl0_client.specs.ClientStep.{ClientStep}
 use Rattle.ftl0_client.specs.declared.outcome.Outcome.{Outcome}

@@ -13,8 +13,8 @@ use Rattle.ftl0_job.specs.Download.{Download}
 use Rattle.ftl0_job.specs.JobState.{HasGot, HasTask}
 use Rattle.ftl0_job.specs.Table.{new_job}
 use Rattle.ftl0_job.specs.Upload.{Upload}
-use Rattle.ftl0_attempt.specs.Attempted.{Attempted}
-use Rattle.ftl0_attempt.specs.Laws.{AcknowledgesIn, IsFetchedBy, IsToldDown}
+use Rattle.ftl0_client.specs.Attempt.Attempted.{Attempted}
+use Rattle.ftl0_client.specs.Attempt.Laws.{AcknowledgesIn, IsFetchedBy, IsToldDown}
 use Rattle.ftl0_client.specs.Client.{Client, ClientEvent, ClientSends, IsSilent, client_hearing, client_next}
 use Rattle.ftl0_client.specs.Client.{client_ticking, hearing_stranger}
 use Rattle.ftl0_client.specs.ClientStep.{ClientStep}

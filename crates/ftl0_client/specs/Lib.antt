@@ -1,3 +1,4 @@
+pub mod Attempt
 pub mod Calls
 pub mod Client
 pub mod ClientState

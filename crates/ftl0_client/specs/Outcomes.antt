@@ -2,9 +2,9 @@
 use Rattle.std.specs.Prelude.{Option, None, Some}
 use Rattle.ftl0_job.specs.declared.ending.Outcome as job
 use Rattle.ftl0_job.specs.declared.ending.Outcome.TheVariants as reached
-use Rattle.ftl0_attempt.specs.Attempted.{Attempted, outcome_of}
-use Rattle.ftl0_attempt.specs.declared.outcome.AttemptOutcome.{AttemptOutcome}
-use Rattle.ftl0_attempt.specs.declared.outcome.AttemptOutcome.TheVariants.{Reached, LinkDown}
+use Rattle.ftl0_client.specs.Attempt.Attempted.{Attempted, outcome_of}
+use Rattle.ftl0_client.specs.declared.attempt.outcome.AttemptOutcome.{AttemptOutcome}
+use Rattle.ftl0_client.specs.declared.attempt.outcome.AttemptOutcome.TheVariants.{Reached, LinkDown}
 use Rattle.ftl0_client.specs.declared.outcome.Outcome.{Outcome}
 use Rattle.ftl0_client.specs.declared.outcome.Outcome.TheVariants as outcome
 

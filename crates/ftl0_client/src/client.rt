@@ -14,7 +14,7 @@ ghost use Rattle.client_notes.specs.OnDisk.{Does, Untouched};
 ghost use Rattle.client_notes.specs.State.{StandsOn};
 ghost use Rattle.ftl0_job.specs.JobState.{IsNew, NotesGoWith};
 ghost use Rattle.ftl0_job.specs.Laws.{IsOwned, IsStarted};
-ghost use Rattle.ftl0_attempt.specs.AttemptState.{PutsBy};
+ghost use Rattle.ftl0_client.specs.Attempt.AttemptState.{PutsBy};
 ghost use Rattle.ftl0_client.specs.Calls.{Becomes, HandsOutNext, HasAsked, Hears, KeepsNotes, SameButFrames};
 ghost use Rattle.ftl0_client.specs.Calls.{SameClient};
 ghost use Rattle.ftl0_client.specs.Client.{Client as ClientValue, asking, client_ticking, hearing_stranger, new_client};
@@ -25,12 +25,12 @@ ghost use Rattle.ftl0_client.specs.ClientState.{client_closed, client_most, clie
 ghost use Rattle.ftl0_client.specs.ClientState.{outcome_in};
 
 use crate::Outcome;
+use crate::attempt::Attempt;
 use crate::stray::Stray;
 use arrayvec::ArrayVec;
 use ax25_frames::{Frame, Kind};
 use client_notes::{Begun, Notes, NotesRefusal};
 use disk_model::Disk;
-use ftl0_attempt::Attempt;
 use ftl0_job::laws::{owned_law, started_law};
 use ftl0_job::{Job, JobStop};
 use px_base::{Call, OutOfMemory};

@@ -33,7 +33,7 @@ pub fn some_step_law()
 pub fn outcome_law()
     ensures { OutcomeLaw }
 {
-    ftl0_attempt::laws::outcome_law();
+    crate::attempt::laws::outcome_law();
 }
 
 /// An upload comes to the outcome that its file was acknowledged only by a frame of which that is noted, in every image
@@ -41,7 +41,7 @@ pub fn outcome_law()
 pub fn acked_law()
     ensures { AckedLaw }
 {
-    ftl0_attempt::laws::acked_law();
+    crate::attempt::laws::acked_law();
 }
 
 /// A download comes to the outcome that its file was fetched only by a frame after which the file's octets are noted,
@@ -49,7 +49,7 @@ pub fn acked_law()
 pub fn fetched_law()
     ensures { FetchedLaw }
 {
-    ftl0_attempt::laws::fetched_law();
+    crate::attempt::laws::fetched_law();
 }
 
 /// What a client comes to that was asked for a job, over frames and ticks: what stands of it, and what its outcome
@@ -57,23 +57,23 @@ pub fn fetched_law()
 pub fn goes_law()
     ensures { GoesLaw }
 {
-    ftl0_attempt::laws::stands_law();
+    crate::attempt::laws::stands_law();
 }
 
 /// Once something became of what was asked, whichever it is, nothing more is noted, and it stays.
 pub fn settled_law()
     ensures { SettledLaw }
 {
-    ftl0_attempt::laws::stands_law();
-    ftl0_attempt::laws::quiet_law();
-    ftl0_attempt::laws::outcome_law();
+    crate::attempt::laws::stands_law();
+    crate::attempt::laws::quiet_law();
+    crate::attempt::laws::outcome_law();
 }
 
 /// Once something became of what was asked it stays over all frames and ticks, whatever the notes are.
 pub fn stays_law()
     ensures { StaysLaw }
 {
-    ftl0_attempt::laws::outcome_law();
+    crate::attempt::laws::outcome_law();
 }
 
 /// What a client says to a station with which it has no link is what an end of a link that is down says (AX.25 2.0,

@@ -1,7 +1,9 @@
 //! The client of a server of files on the air: what is asked of it, one after another, over its notes on a disk and one
-//! link at a time (AX.25 2.0, 2.4; FTL0 1990). Frames and ticks go in, frames come out. It knows no modem and no clock.
+//! link at a time ([`attempt`]; AX.25 2.0, 2.4; FTL0 1990). Frames and ticks go in, frames come out. It knows no modem
+//! and no clock.
 #![tactic(auto)]
 
+pub mod attempt;
 mod client;
 pub mod laws;
 mod outcome;

@@ -3,8 +3,8 @@
 ghost use Rattle.std.specs.Prelude.{◌≡◌};
 ghost use Rattle.ftl0_client.specs.Outcomes.{outcome_as, outcome_of_job};
 
+use crate::attempt::AttemptOutcome;
 use ax25_link::Why;
-use ftl0_attempt::AttemptOutcome;
 
 /// What became of what was asked last.
 #[derive(Clone, Copy, Debug, PartialEq, Eq)]

@@ -1,5 +1,6 @@
 -- Each server comes to send nothing, by one list of frames.
-use Rattle.std.proofs.Common.{◌≡◌, ◌⊎◌, ℕ, zero, suc, ◌+◌, ◌<◌, ◌≤◌, List, [], ◌∷◌, Option, None, Some, refl, sym, ◌∙◌, ap, subst, inl, inr, arith}
+use Rattle.std.proofs.Common.{◌≡◌, ◌⊎◌, ℕ, zero, suc, ◌+◌, ◌<◌, ◌≤◌, List, [], ◌∷◌, Option, None, Some, refl, sym, ◌∙◌}
+use Rattle.std.proofs.Common.{ap, subst, inl, inr, arith}
 use Rattle.std.specs.Option.{option_map}
 use Rattle.std.proofs.lemmas.Option.{same_Some}
 use Rattle.ax25_frames.specs.FrameText.{FrameValue}
@@ -8,8 +9,8 @@ use Rattle.ax25_link.specs.Kept.{count_of}
 use Rattle.ax25_link.specs.Sending.{Sending, next_sending}
 use Rattle.ax25_link.specs.Window.{Window}
 use Rattle.ax25_link.proofs.SendLemmas.{left_to_send, next_sending-Sends}
-use Rattle.ftl0_connection.specs.Connected.{Connected}
-use Rattle.ftl0_connection.specs.Hearing.{with_end}
+use Rattle.ftl0_server.specs.Connection.Connected.{Connected}
+use Rattle.ftl0_server.specs.Connection.Hearing.{with_end}
 use Rattle.ftl0_server.specs.AtPlace.{AllFit, PlaceFits}
 use Rattle.ftl0_server.specs.declared.place.Place.{Place}
 use Rattle.ftl0_server.specs.declared.place.Place.TheVariants.{Free, Talking, Leaving}
@@ -17,7 +18,8 @@ use Rattle.ftl0_server.specs.Laws.{OneStepLaw, SlotFits, SlotsFit}
 use Rattle.ftl0_server.specs.Server.{Refused, Server, ServerSends, sends_by, sends_of_places, server_next, settled}
 use Rattle.ftl0_server.specs.ServerState.{AllPlaces, SendsAs, SendsFor, ServerState}
 use Rattle.ftl0_server.specs.ServerStep.{Empties}
-use Rattle.ftl0_server.specs.Slots.{PlacesSend, Slot, SlotSends, connected, first_of, free, leaving, places_next, slot_next, slot_sends}
+use Rattle.ftl0_server.specs.Slots.{PlacesSend, Slot, SlotSends, connected, first_of, free, leaving, places_next}
+use Rattle.ftl0_server.specs.Slots.{slot_next, slot_sends}
 use Rattle.ftl0_server.proofs.AllPlaces.{never}
 
 -- ---- one list of frames

@@ -1,5 +1,6 @@
 -- Each event of a server has a step: the ends of its links stay such as frames and ticks bring about.
-use Rattle.std.proofs.Common.{◌≡◌, ℕ, zero, suc, List, [], ◌∷◌, ◌++◌, set, map, Bool, true, false, Option, None, Some, refl, sym, ap, ap₂, subst, inl, arith}
+use Rattle.std.proofs.Common.{◌≡◌, ℕ, zero, suc, List, [], ◌∷◌, ◌++◌, set, map, Bool, true, false, Option, None, Some}
+use Rattle.std.proofs.Common.{refl, sym, ap, ap₂, subst, inl, arith}
 use Rattle.std.specs.Prelude.{if◌then◌else◌, ◌&&◌, nat_le, slice_get}
 use Rattle.std.specs.Option.{option_map}
 use Rattle.std.proofs.lemmas.Option.{same_Some}
@@ -12,29 +13,34 @@ use Rattle.ax25_link.specs.Sending.{Sending, next_sending}
 use Rattle.ax25_link.specs.Window.{Window}
 use Rattle.ax25_link.specs.declared.state.Heard.{Heard}
 use Rattle.ax25_link.specs.declared.state.Heard.TheVariants.{Nothing, Opened, Reopened, Bytes, Closed}
-use Rattle.ax25_link.proofs.EndKept.{after_abandon-IsEnd, after_frame-IsEnd, after_push-IsEnd, after_tick-IsEnd, answering_end-IsEnd}
+use Rattle.ax25_link.proofs.EndKept.{after_abandon-IsEnd, after_frame-IsEnd, after_push-IsEnd, after_tick-IsEnd}
+use Rattle.ax25_link.proofs.EndKept.{answering_end-IsEnd}
 use Rattle.ftl0_packets.specs.Layout.{Item, packet_text}
 use Rattle.ftl0_packets.specs.Reading.{packets_of}
-use Rattle.selection_lists.specs.Lists.{CallerList, has_left}
+use Rattle.ftl0_session.specs.Lists.Lists.{CallerList, has_left}
 use Rattle.file_entries.specs.Command.{after_all}
 use Rattle.file_entries.specs.Store.{Store}
 use Rattle.node_events.specs.Events.{NodeEvent, hears, ticks}
-use Rattle.ftl0_uploads.specs.Failures.{Failure, write_fails}
+use Rattle.ftl0_session.specs.Uploads.Failures.{Failure, write_fails}
 use Rattle.ftl0_packets.specs.Items.{texts}
 use Rattle.ftl0_session.specs.Table.{DuePacket, Row, State, due_at, fault_reply, greeting, row_at}
-use Rattle.ftl0_connection.specs.Connected.{Connected, answering, caller_of}
-use Rattle.ftl0_connection.specs.Hearing.{Happened, hearing, parts_as, parts_of_frame, ticking, with_end}
-use Rattle.ftl0_connection.specs.Laws.{QueuedLaw}
-use Rattle.ftl0_connection.specs.Taking.{Progress, after_due, after_row, enough_free, failing_at, fits, giving_up, on_due, queued, queuing, taking}
+use Rattle.ftl0_server.specs.Connection.Connected.{Connected, answering, caller_of}
+use Rattle.ftl0_server.specs.Connection.Hearing.{Happened, hearing, parts_as, parts_of_frame, ticking, with_end}
+use Rattle.ftl0_server.specs.Connection.Laws.{QueuedLaw}
+use Rattle.ftl0_server.specs.Connection.Taking.{Progress, after_due, after_row, enough_free, failing_at, fits}
+use Rattle.ftl0_server.specs.Connection.Taking.{giving_up, on_due, queued, queuing, taking}
 use Rattle.ftl0_server.specs.Laws.{AreQueued, SlotFits, SlotsFit, SomeStepLaw}
-use Rattle.ftl0_server.specs.Server.{IsSilent, Refused, Server, ServerHappened, ServerSends, called_by, hearing_at, hearing_by, hearing_stranger, refusing, sends_by}
+use Rattle.ftl0_server.specs.Server.{IsSilent, Refused, Server, ServerHappened, ServerSends, called_by, hearing_at}
+use Rattle.ftl0_server.specs.Server.{hearing_by, hearing_stranger, refusing, sends_by}
 use Rattle.ftl0_server.specs.Server.{sends_of_places, settled}
 use Rattle.ftl0_server.specs.ServerStep.{Empties, happening}
-use Rattle.ftl0_server.specs.Slots.{PlacesSend, Slot, SlotSends, all_freed, connected, first_empty, first_of, free, freed, leaving, left_by, place_of}
+use Rattle.ftl0_server.specs.Slots.{PlacesSend, Slot, SlotSends, all_freed, connected, first_empty, first_of, free}
+use Rattle.ftl0_server.specs.Slots.{freed, leaving, left_by, place_of}
 use Rattle.ftl0_server.specs.Slots.{places_next, slot_after, slot_next, slot_sends, slot_ticking}
 use Rattle.ftl0_server.proofs.AllPlaces.{never}
 use Rattle.ftl0_server.proofs.EmptiesLemmas.{by_stray, emptied, server_left}
-use Rattle.ftl0_server.proofs.QueuedLemmas.{all-stay, freed-queued, heard-queued, left-queued, places-sent, queued-set, ticked-queued}
+use Rattle.ftl0_server.proofs.QueuedLemmas.{all-stay, freed-queued, heard-queued, left-queued, places-sent, queued-set}
+use Rattle.ftl0_server.proofs.QueuedLemmas.{ticked-queued}
 
 -- ---- what has nothing to send has nothing to send once its places are settled
 

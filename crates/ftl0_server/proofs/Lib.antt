@@ -1,4 +1,5 @@
 pub mod AllPlaces
+pub mod Connection
 pub mod EmptiesLemmas
 pub mod EndLemmas
 pub mod FitsLemmas

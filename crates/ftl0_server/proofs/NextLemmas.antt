@@ -1,20 +1,23 @@
 -- What the places of a server send next.
-use Rattle.std.proofs.Common.{◌≡◌, ℕ, zero, suc, ◌-◌, ◌<◌, List, [], ◌∷◌, length, set, take, drop, Bool, true, false, not, Option, None, Some, refl, sym, ◌∙◌, ap, subst, arith, length-drop}
+use Rattle.std.proofs.Common.{◌≡◌, ℕ, zero, suc, ◌-◌, ◌<◌, List, [], ◌∷◌, length, set, take, drop, Bool, true, false}
+use Rattle.std.proofs.Common.{not, Option, None, Some, refl, sym, ◌∙◌, ap, subst, arith, length-drop}
 use Rattle.std.specs.Prelude.{slice_get, nat_lt, if◌then◌else◌, ◌||◌, ◌&&◌}
 use Rattle.std.specs.Option.{option_map}
 use Rattle.std.proofs.lemmas.Option.{same_Some}
 use Rattle.ax25_link.specs.Ends.{Farewell, LinkEnd, Reply}
 use Rattle.ax25_link.specs.Kept.{Kept, StandsFor, has_new_in, is_pending, is_there, kept_of}
-use Rattle.ax25_link.specs.Sending.{Sending, has_new, is_empty, last_sending, later_sending, next_sending, sending_after, sends_again, sends_new}
+use Rattle.ax25_link.specs.Sending.{Sending, has_new, is_empty, last_sending, later_sending, next_sending}
+use Rattle.ax25_link.specs.Sending.{sending_after, sends_again, sends_new}
 use Rattle.ax25_link.specs.Timer.{is_up}
 use Rattle.ax25_link.specs.Window.{Window}
-use Rattle.ftl0_connection.specs.Hearing.{with_end}
+use Rattle.ftl0_server.specs.Connection.Hearing.{with_end}
 use Rattle.ftl0_server.specs.Calls.{SamePlaces}
 use Rattle.ftl0_server.specs.Places.{GivesOut, PlacesGive, SamePlace}
 use Rattle.ftl0_server.specs.declared.place.Place.{Place}
 use Rattle.ftl0_server.specs.declared.place.Place.TheVariants.{Free, Talking, Leaving}
 use Rattle.ftl0_server.specs.ServerState.{AllPlaces, SendsAs, any_pending, place_most, place_pending, places_most}
-use Rattle.ftl0_server.specs.Slots.{PlacesSend, Slot, SlotSends, connected, first_of, free, leaving, places_next, slot_next, slot_sends}
+use Rattle.ftl0_server.specs.Slots.{PlacesSend, Slot, SlotSends, connected, first_of, free, leaving, places_next}
+use Rattle.ftl0_server.specs.Slots.{slot_next, slot_sends}
 use Rattle.ftl0_server.proofs.AllPlaces.{never}
 
 pub true_no : {X : Type 0} → true ≡ false → X

@@ -1,5 +1,6 @@
 -- Frames are given out, and then nothing is pending.
-use Rattle.std.proofs.Common.{◌≡◌, ℕ, zero, suc, List, [], ◌∷◌, map, Bool, true, false, Option, None, Some, refl, sym, ◌∙◌, ap, subst}
+use Rattle.std.proofs.Common.{◌≡◌, ℕ, zero, suc, List, [], ◌∷◌, map, Bool, true, false, Option, None, Some, refl, sym}
+use Rattle.std.proofs.Common.{◌∙◌, ap, subst}
 use Rattle.std.specs.Prelude.{⊤}
 use Rattle.std.specs.Option.{option_map}
 use Rattle.std.proofs.lemmas.Option.{same_Some}
@@ -8,20 +9,22 @@ use Rattle.ax25_frames.specs.FrameText.{FrameText, canonical}
 use Rattle.ax25_link.specs.Sending.{Sending, next_sending}
 use Rattle.ax25_link.specs.Window.{Window, window_of}
 use Rattle.file_store.specs.State.{StoreState, store_in}
-use Rattle.ftl0_uploads.specs.SessionState.{IsHeld, number_of}
-use Rattle.ftl0_downloads.specs.Needs.{IsDueIn}
+use Rattle.ftl0_session.specs.Uploads.SessionState.{IsHeld, number_of}
+use Rattle.ftl0_session.specs.Downloads.Needs.{IsDueIn}
 use Rattle.ftl0_session.specs.SessionState.{SessionState, caller_of, state_in}
-use Rattle.ftl0_connection.specs.Connected.{Connected}
-use Rattle.ftl0_connection.specs.ConnectionState.{ConnectionState}
-use Rattle.ftl0_connection.specs.Hearing.{with_end}
+use Rattle.ftl0_server.specs.Connection.Connected.{Connected}
+use Rattle.ftl0_server.specs.Connection.ConnectionState.{ConnectionState}
+use Rattle.ftl0_server.specs.Connection.Hearing.{with_end}
 use Rattle.ftl0_server.specs.declared.place.Place.{Place}
 use Rattle.ftl0_server.specs.declared.place.Place.TheVariants.{Free, Talking, Leaving}
 use Rattle.ftl0_server.specs.Calls.{HandsOut, SamePlaces}
 use Rattle.ftl0_server.specs.Kept.{IsAt, IsSettled}
 use Rattle.ftl0_server.specs.Places.{PlacesGive, SamePlace, SameTalk}
 use Rattle.ftl0_server.specs.Server.{Refused, Server, refusal_frame, sends_by, sends_of_places, server_next, settled}
-use Rattle.ftl0_server.specs.ServerState.{AllPlaces, IsServer, SaysAs, SendsAs, SendsFor, ServerState, any_pending, place_pending}
-use Rattle.ftl0_server.specs.Slots.{PlacesSend, Slot, SlotSends, connected, first_of, free, freed, leaving, places_next, slot_next, slot_sends}
+use Rattle.ftl0_server.specs.ServerState.{AllPlaces, IsServer, SaysAs, SendsAs, SendsFor, ServerState, any_pending}
+use Rattle.ftl0_server.specs.ServerState.{place_pending}
+use Rattle.ftl0_server.specs.Slots.{PlacesSend, Slot, SlotSends, connected, first_of, free, freed, leaving, places_next}
+use Rattle.ftl0_server.specs.Slots.{slot_next, slot_sends}
 use Rattle.ftl0_server.proofs.AllPlaces.{never}
 use Rattle.ftl0_server.proofs.NextLemmas.{none_first}
 

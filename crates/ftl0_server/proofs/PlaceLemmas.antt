@@ -8,18 +8,18 @@ use Rattle.ax25_link.specs.Window.{Window}
 use Rattle.file_store.specs.State.{StoreState, store_in}
 use Rattle.file_store.proofs.DoesLemmas.{Does-moved}
 use Rattle.file_store.proofs.WorkingLemmas.{among-parked}
-use Rattle.selection_lists.specs.Lists.{CallerList}
-use Rattle.ftl0_uploads.specs.Failures.{Failure, failed_write}
-use Rattle.ftl0_uploads.specs.Others.{KeepsOtherCallers}
-use Rattle.ftl0_uploads.specs.SessionState.{IsOnlyOut, NoOtherOut, Parks}
-use Rattle.ftl0_uploads.specs.declared.phase.Phase.{Phase}
-use Rattle.ftl0_uploads.specs.declared.phase.Phase.TheVariants as phase
+use Rattle.ftl0_session.specs.Lists.Lists.{CallerList}
+use Rattle.ftl0_session.specs.Uploads.Failures.{Failure, failed_write}
+use Rattle.ftl0_session.specs.Uploads.Others.{KeepsOtherCallers}
+use Rattle.ftl0_session.specs.Uploads.SessionState.{IsOnlyOut, NoOtherOut, Parks}
+use Rattle.ftl0_session.specs.declared.uploads.phase.Phase.{Phase}
+use Rattle.ftl0_session.specs.declared.uploads.phase.Phase.TheVariants as phase
 use Rattle.ftl0_session.specs.SessionState.{caller_of}
 use Rattle.ftl0_session.specs.declared.stop.ServerStop.{ServerStop}
 use Rattle.ftl0_session.specs.declared.stop.ServerStop.TheVariants as stop
-use Rattle.ftl0_connection.specs.ConnectionState.{ConnectionState, HearsBy, IsConnection}
-use Rattle.ftl0_connection.specs.declared.fate.Fate.TheVariants.{Ends, Stays}
-use Rattle.ftl0_connection.specs.Hearing.{Happened}
+use Rattle.ftl0_server.specs.Connection.ConnectionState.{ConnectionState, HearsBy, IsConnection}
+use Rattle.ftl0_server.specs.declared.connection.fate.Fate.TheVariants.{Ends, Stays}
+use Rattle.ftl0_server.specs.Connection.Hearing.{Happened}
 use Rattle.ftl0_server.specs.AtPlace.{IsOver, IsPlace, PlaceHearsBy, Works}
 use Rattle.ftl0_server.specs.declared.place.Place.TheVariants.{Leaving, Talking}
 use Rattle.ftl0_server.specs.ServerState.{SendsAs}

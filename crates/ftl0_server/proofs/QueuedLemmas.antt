@@ -1,5 +1,7 @@
 -- Between the events of a server all that is due was queued, as far as there was room.
-use Rattle.std.proofs.Common.{◌≡◌, ℕ, zero, suc, ◌+◌, ◌-◌, ◌<◌, List, [], ◌∷◌, ◌++◌, length, set, take, drop, map, Bool, true, false, Option, None, Some, refl, sym, ◌∙◌, ap, subst, inl, inr, append_assoc, take-append-drop}
+use Rattle.std.proofs.Common.{◌≡◌, ℕ, zero, suc, ◌+◌, ◌-◌, ◌<◌, List, [], ◌∷◌, ◌++◌, length, set, take, drop, map, Bool}
+use Rattle.std.proofs.Common.{true, false, Option, None, Some, refl, sym, ◌∙◌, ap, subst, inl, inr, append_assoc}
+use Rattle.std.proofs.Common.{take-append-drop}
 use Rattle.std.specs.Prelude.{if◌then◌else◌, ◌&&◌, ◌==◌, nat_le, slice_get}
 use Rattle.std.specs.List.{concat}
 use Rattle.std.specs.Option.{option_map}
@@ -9,7 +11,8 @@ use Rattle.ax25_frames.specs.FrameText.{FrameValue}
 use Rattle.ax25_link.specs.Ends.{Farewell, IsEnd, LinkEnd, Reply, free_octets, held, most_held}
 use Rattle.ax25_link.specs.Kept.{is_there}
 use Rattle.ax25_link.specs.Rows.{entering}
-use Rattle.ax25_link.specs.Sending.{Sending, after_new, has_new, last_sending, later_sending, most_information, next_piece, next_sending, sending_after, sends_again, sends_new, sends_reply}
+use Rattle.ax25_link.specs.Sending.{Sending, after_new, has_new, last_sending, later_sending, most_information}
+use Rattle.ax25_link.specs.Sending.{next_piece, next_sending, sending_after, sends_again, sends_new, sends_reply}
 use Rattle.ax25_link.specs.Timer.{after_tick, is_down, is_spent, runs_out, told_of_tick, trying}
 use Rattle.ax25_link.specs.Window.{Window}
 use Rattle.ax25_link.specs.declared.state.LinkState.TheVariants.{Down}
@@ -17,15 +20,16 @@ use Rattle.ax25_link.specs.declared.state.Why.TheVariants.{NoAnswer}
 use Rattle.ax25_link.proofs.SendLemmas.{after_new-HasPiece, concat-append_one}
 use Rattle.file_entries.specs.Command.{Command, after_all}
 use Rattle.file_entries.specs.Store.{Store}
-use Rattle.ftl0_uploads.specs.Failures.{Failure, read_fails}
-use Rattle.ftl0_downloads.specs.Sending.{DuePacket as Download, due_packet, is_due}
+use Rattle.ftl0_session.specs.Uploads.Failures.{Failure, read_fails}
+use Rattle.ftl0_session.specs.Downloads.Sending.{DuePacket as Download, due_packet, is_due}
 use Rattle.ftl0_session.specs.Table.{DuePacket, State, download_part, due_at, in_session}
-use Rattle.ftl0_connection.specs.Connected.{Connected}
-use Rattle.ftl0_connection.specs.Hearing.{hearing, parts_of_frame, ticking, with_end}
-use Rattle.ftl0_connection.specs.Laws.{IsQueued, QueuedLaw}
-use Rattle.ftl0_connection.specs.Taking.{Progress, after_due, enough_free, on_due, queued, queuing}
+use Rattle.ftl0_server.specs.Connection.Connected.{Connected}
+use Rattle.ftl0_server.specs.Connection.Hearing.{hearing, parts_of_frame, ticking, with_end}
+use Rattle.ftl0_server.specs.Connection.Laws.{IsQueued, QueuedLaw}
+use Rattle.ftl0_server.specs.Connection.Taking.{Progress, after_due, enough_free, on_due, queued, queuing}
 use Rattle.ftl0_server.specs.Laws.{AreQueued, SlotFits, SlotIsQueued, SlotsFit}
-use Rattle.ftl0_server.specs.Slots.{PlacesSend, Slot, SlotSends, all_freed, connected, first_of, free, leaving, left_by, places_next, slot_after, slot_next, slot_sends, slot_ticking}
+use Rattle.ftl0_server.specs.Slots.{PlacesSend, Slot, SlotSends, all_freed, connected, first_of, free, leaving, left_by}
+use Rattle.ftl0_server.specs.Slots.{places_next, slot_after, slot_next, slot_sends, slot_ticking}
 use Rattle.ftl0_server.proofs.AllPlaces.{never}
 
 -- ---- whether anything is due is the state's to tell

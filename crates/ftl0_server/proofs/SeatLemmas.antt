@@ -1,5 +1,6 @@
 -- A connection is seated at a place that has no session.
-use Rattle.std.proofs.Common.{◌≡◌, ◌≢◌, ℕ, zero, suc, ◌+◌, ◌<◌, List, [], ◌∷◌, length, set, cond, Bool, true, false, not, Option, None, Some, refl, sym, ◌∙◌, ap, subst, inl, inr, arith}
+use Rattle.std.proofs.Common.{◌≡◌, ◌≢◌, ℕ, zero, suc, ◌+◌, ◌<◌, List, [], ◌∷◌, length, set, cond, Bool, true, false}
+use Rattle.std.proofs.Common.{not, Option, None, Some, refl, sym, ◌∙◌, ap, subst, inl, inr, arith}
 use Rattle.std.specs.Prelude.{slice_get, nat_lt}
 use Rattle.std.specs.List.{position, prefix_len}
 use Rattle.std.proofs.lemmas.Bool.{lt-ltb}
@@ -7,12 +8,12 @@ use Rattle.std.proofs.lemmas.Option.{same_Some}
 use Rattle.px_base.specs.CallSign.{CallSign}
 use Rattle.ax25_link.proofs.Places.{slice_get-set_other, slice_get-set_same}
 use Rattle.file_store.specs.State.{StoreState, store_in}
-use Rattle.ftl0_uploads.specs.SessionState.{IsHeld, NoOtherOut, number_of}
-use Rattle.ftl0_uploads.proofs.UploadRows.{same_call-decides}
-use Rattle.ftl0_downloads.specs.Needs.{IsDueIn}
+use Rattle.ftl0_session.specs.Uploads.SessionState.{IsHeld, NoOtherOut, number_of}
+use Rattle.ftl0_session.proofs.Uploads.UploadRows.{same_call-decides}
+use Rattle.ftl0_session.specs.Downloads.Needs.{IsDueIn}
 use Rattle.ftl0_session.specs.SessionState.{SessionState, caller_of}
-use Rattle.ftl0_connection.specs.Connected.{Connected}
-use Rattle.ftl0_connection.specs.ConnectionState.{ConnectionState, IsConnection}
+use Rattle.ftl0_server.specs.Connection.Connected.{Connected}
+use Rattle.ftl0_server.specs.Connection.ConnectionState.{ConnectionState, IsConnection}
 use Rattle.ftl0_server.specs.declared.place.Place.{Place}
 use Rattle.ftl0_server.specs.declared.place.Place.TheVariants.{Free, Talking, Leaving}
 use Rattle.ftl0_server.specs.Calls.{IsNew}

@@ -1,5 +1,6 @@
 -- What holds of each server stays so, whatever happens at one place.
-use Rattle.std.proofs.Common.{◌≡◌, ◌≢◌, ◌⊎◌, ℕ, zero, suc, ◌<◌, List, [], ◌∷◌, length, set, Bool, true, false, Option, None, Some, refl, sym, ◌∙◌, ap, subst, inl, inr}
+use Rattle.std.proofs.Common.{◌≡◌, ◌≢◌, ◌⊎◌, ℕ, zero, suc, ◌<◌, List, [], ◌∷◌, length, set, Bool, true, false, Option}
+use Rattle.std.proofs.Common.{None, Some, refl, sym, ◌∙◌, ap, subst, inl, inr}
 use Rattle.std.specs.Prelude.{slice_get}
 use Rattle.std.proofs.lemmas.Bool.Decides.{eqb_tells}
 use Rattle.std.proofs.lemmas.Option.{same_Some, slice_get_within}
@@ -11,16 +12,16 @@ use Rattle.file_entries.specs.Kept.{KeepsComplete}
 use Rattle.file_entries.specs.Store.{partial}
 use Rattle.file_store.specs.State.{StoreState, store_in}
 use Rattle.file_store.specs.Upload.{entry_for}
-use Rattle.ftl0_uploads.specs.Others.{KeepsOtherCallers}
-use Rattle.ftl0_uploads.specs.Session.{State as Uploading, is_same_call, receiving}
-use Rattle.ftl0_uploads.specs.SessionState.{NoOtherOut, PhaseIsHeld, number_of, state_of}
-use Rattle.ftl0_uploads.specs.declared.phase.Phase.{Phase}
-use Rattle.ftl0_uploads.specs.declared.phase.Phase.TheVariants as phase
-use Rattle.ftl0_uploads.proofs.UploadRows.{same_call-decides}
-use Rattle.ftl0_downloads.proofs.DueLemmas.{due-kept}
+use Rattle.ftl0_session.specs.Uploads.Others.{KeepsOtherCallers}
+use Rattle.ftl0_session.specs.Uploads.Session.{State as Uploading, is_same_call, receiving}
+use Rattle.ftl0_session.specs.Uploads.SessionState.{NoOtherOut, PhaseIsHeld, number_of, state_of}
+use Rattle.ftl0_session.specs.declared.uploads.phase.Phase.{Phase}
+use Rattle.ftl0_session.specs.declared.uploads.phase.Phase.TheVariants as phase
+use Rattle.ftl0_session.proofs.Uploads.UploadRows.{same_call-decides}
+use Rattle.ftl0_session.proofs.Downloads.DueLemmas.{due-kept}
 use Rattle.ftl0_session.specs.SessionState.{caller_of}
 use Rattle.ftl0_session.specs.Table.{state_by}
-use Rattle.ftl0_connection.specs.ConnectionState.{ConnectionState}
+use Rattle.ftl0_server.specs.Connection.ConnectionState.{ConnectionState}
 use Rattle.ftl0_server.specs.AtPlace.{GoesOn, Works}
 use Rattle.ftl0_server.specs.declared.place.Place.{Place}
 use Rattle.ftl0_server.specs.declared.place.Place.TheVariants.{Free, Talking, Leaving}

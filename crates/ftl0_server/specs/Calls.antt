@@ -9,12 +9,12 @@ use Rattle.file_journal.specs.Calls.{Leaves}
 use Rattle.file_store.specs.OnDisk.{MakesFirst}
 use Rattle.file_store.specs.State.{store_in}
 use Rattle.file_store.specs.Working.{CutsOffAmongReads, DoesAmongReads}
-use Rattle.ftl0_uploads.specs.Failures.{Failure, failed_write}
+use Rattle.ftl0_session.specs.Uploads.Failures.{Failure, failed_write}
 use Rattle.ftl0_session.specs.SessionState.{caller_of, new_session}
 use Rattle.ftl0_session.specs.declared.stop.ServerStop.{ServerStop}
 use Rattle.ftl0_session.specs.declared.stop.ServerStop.TheVariants as stop
-use Rattle.ftl0_connection.specs.ConnectionState.{ConnectionState, with_reads}
-use Rattle.ftl0_connection.specs.Taking.{fails, goes_on}
+use Rattle.ftl0_server.specs.Connection.ConnectionState.{ConnectionState, with_reads}
+use Rattle.ftl0_server.specs.Connection.Taking.{fails, goes_on}
 use Rattle.ftl0_server.specs.declared.place.Place.{Place}
 use Rattle.ftl0_server.specs.declared.place.Place.TheVariants.{Talking}
 use Rattle.ftl0_server.specs.Places.{SamePlace}

@@ -5,9 +5,9 @@ use Rattle.ax25_link.specs.Ends.{IsEnd}
 use Rattle.ax25_link.specs.Window.{Window}
 use Rattle.file_entries.specs.Command.{Command}
 use Rattle.file_entries.specs.Store.{Store}
-use Rattle.ftl0_uploads.specs.Failures.{Failure}
-use Rattle.ftl0_connection.specs.Laws.{IsQueued}
-use Rattle.ftl0_connection.specs.Taking.{Halt}
+use Rattle.ftl0_session.specs.Uploads.Failures.{Failure}
+use Rattle.ftl0_server.specs.Connection.Laws.{IsQueued}
+use Rattle.ftl0_server.specs.Connection.Taking.{Halt}
 use Rattle.node_events.specs.Events.{NodeEvent}
 use Rattle.ftl0_server.specs.Server.{IsSilent, Server}
 use Rattle.ftl0_server.specs.ServerStep.{ServerStep}

@@ -1,5 +1,6 @@
 pub mod AtPlace
 pub mod Calls
+pub mod Connection
 pub mod Kept
 pub mod Laws
 pub mod Places

@@ -8,13 +8,13 @@ use Rattle.ax25_frames.specs.declared.control.Control.TheVariants as control
 use Rattle.ax25_frames.specs.Values.{bare_value}
 use Rattle.ax25_link.specs.Rows.{is_call}
 use Rattle.ax25_link.specs.Window.{Window}
-use Rattle.selection_lists.specs.Lists.{CallerList, has_left}
+use Rattle.ftl0_session.specs.Lists.Lists.{CallerList, has_left}
 use Rattle.file_entries.specs.Command.{Command, after_all}
 use Rattle.file_entries.specs.Store.{Store}
-use Rattle.ftl0_uploads.specs.Failures.{Failure}
-use Rattle.ftl0_connection.specs.Connected.{answering}
-use Rattle.ftl0_connection.specs.Hearing.{Happened, hearing}
-use Rattle.ftl0_connection.specs.Taking.{Halt, goes_on}
+use Rattle.ftl0_session.specs.Uploads.Failures.{Failure}
+use Rattle.ftl0_server.specs.Connection.Connected.{answering}
+use Rattle.ftl0_server.specs.Connection.Hearing.{Happened, hearing}
+use Rattle.ftl0_server.specs.Connection.Taking.{Halt, goes_on}
 use Rattle.ftl0_server.specs.Slots.{PlacesSend, Slot, all_freed, connected, first_empty, free, leaving, place_of}
 use Rattle.ftl0_server.specs.Slots.{places_next, slot_after, slot_ticking}
 

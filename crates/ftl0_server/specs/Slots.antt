@@ -8,9 +8,9 @@ use Rattle.ax25_frames.specs.FrameText.{FrameValue}
 use Rattle.ax25_link.specs.Ends.{LinkEnd}
 use Rattle.ax25_link.specs.Sending.{Sending, next_sending}
 use Rattle.ax25_link.specs.Window.{Window}
-use Rattle.ftl0_connection.specs.Connected.{Connected, caller_of}
-use Rattle.ftl0_connection.specs.Hearing.{Happened, ticking, with_end}
-use Rattle.ftl0_uploads.specs.Session.{is_same_call}
+use Rattle.ftl0_server.specs.Connection.Connected.{Connected, caller_of}
+use Rattle.ftl0_server.specs.Connection.Hearing.{Happened, ticking, with_end}
+use Rattle.ftl0_session.specs.Uploads.Session.{is_same_call}
 
 pub data Slot : Type 0 where
   free : Slot

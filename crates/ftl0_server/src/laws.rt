@@ -8,7 +8,7 @@ ghost use Rattle.ftl0_server.specs.ServerState.{SendsFor};
 ghost use Rattle.ftl0_server.specs.ServerStep.{Empties};
 
 use crate::Server;
-use ftl0_connection::laws::queued_law;
+use crate::connection::laws::queued_law;
 
 /// A server comes to send nothing, after some list of frames, whatever was pushed and heard. Takes no memory.
 pub fn empties_law(server: &Server)

@@ -6,24 +6,24 @@ ghost use Rattle.ax25_link.specs.Window.{Window};
 ghost use Rattle.file_entries.specs.Kept.{KeepsComplete};
 ghost use Rattle.file_store.specs.State.{StandsOn, store_in};
 ghost use Rattle.file_store.specs.Working.{PutsAmongReads};
-ghost use Rattle.ftl0_downloads.specs.Needs.{AreComplete};
-ghost use Rattle.ftl0_connection.specs.Connected.{Connected};
-ghost use Rattle.ftl0_connection.specs.Hearing.{hearing};
+ghost use Rattle.ftl0_session.specs.Downloads.Needs.{AreComplete};
+ghost use Rattle.ftl0_server.specs.Connection.Connected.{Connected};
+ghost use Rattle.ftl0_server.specs.Connection.Hearing.{hearing};
 ghost use Rattle.ftl0_server.specs.AtPlace.{HasEnded, HasLeft, IsPlace, MayEnd, MayHear, MayLeave, MayTick, PlaceFits};
 ghost use Rattle.ftl0_server.specs.AtPlace.{PlaceHears, Works};
 ghost use Rattle.ftl0_server.specs.Slots.{Slot, connected, slot_ticking};
 ghost use Rattle.ftl0_server.specs.Places.{PlaceGives, SamePlace};
 ghost use Rattle.ftl0_server.specs.ServerState.{has_caller, is_empty_place, place_most, place_pending};
 
+use crate::connection::{Connection, Fate};
 use arrayvec::ArrayVec;
 use ax25_frames::Frame;
 use ax25_link::Link;
 use disk_model::Disk;
 use file_store::FileStore;
-use ftl0_connection::{Connection, Fate};
 use ftl0_session::ServerStop;
+use ftl0_session::lists::Lists;
 use px_base::Call;
-use selection_lists::Lists;
 use std::mem;
 
 /// A place of a server.

@@ -25,6 +25,7 @@ ghost use Rattle.ftl0_server.specs.ServerState.{IsServer, SendsFor, has_caller, 
 ghost use Rattle.ftl0_server.specs.ServerState.{server_pending, sessions_in};
 ghost use Rattle.ftl0_server.specs.Slots.{first_empty};
 
+use crate::connection::Connection;
 use crate::place::Place;
 use crate::places::{
     all_fit_law, any_is_pending, count_sessions, empty_place, end_all, next_of, place_of, tick_all,
@@ -35,10 +36,9 @@ use ax25_frames::{Frame, Kind};
 use disk_model::Disk;
 use file_store::laws::state_law;
 use file_store::{FileStore, Limits, StoreFault};
-use ftl0_connection::Connection;
 use ftl0_session::ServerStop;
+use ftl0_session::lists::Lists;
 use px_base::{Call, OutOfMemory};
-use selection_lists::Lists;
 use std::alloc::Global;
 use std::marker::Model;
 

@@ -1,5 +1,6 @@
 -- Laws of downloads and directories over the whole table and over an event, by those of downloading.
-use Rattle.std.proofs.Common.{◌≡◌, ℕ, suc, ◌-◌, ◌==◌, ◌≤◌, List, [], ◌∷◌, ◌++◌, length, map, take, drop, Bool, true, false, not, Option, None, Some, refl, ap, sym, ◌∙◌, subst, arith, length-drop, append-nil}
+use Rattle.std.proofs.Common.{◌≡◌, ℕ, suc, ◌-◌, ◌==◌, ◌≤◌, List, [], ◌∷◌, ◌++◌, length, map, take, drop, Bool, true}
+use Rattle.std.proofs.Common.{false, not, Option, None, Some, refl, ap, sym, ◌∙◌, subst, arith, length-drop, append-nil}
 use Rattle.std.specs.Prelude.{Ok, if◌then◌else◌, is_some, nat_lt}
 use Rattle.std.specs.List.{flat_map, list_all}
 use Rattle.std.specs.Option.{option_map}
@@ -8,23 +9,27 @@ use Rattle.std.proofs.lemmas.List.Elements.{All-weaker}
 use Rattle.std.proofs.lemmas.List.Sums.{list_all-from_AllPass}
 use Rattle.std.proofs.lemmas.Option.{none-some}
 use Rattle.px_base.specs.CallSign.{CallSign}
-use Rattle.ftl0_packets.specs.Layout.{Item, PacketValue, data_end, data_part, dir_long_cmd, dir_short_cmd, download_cmd, kind_of, upload_cmd}
-use Rattle.selection_lists.specs.Lists.{CallerList}
+use Rattle.ftl0_packets.specs.Layout.{Item, PacketValue, data_end, data_part, dir_long_cmd, dir_short_cmd, download_cmd}
+use Rattle.ftl0_packets.specs.Layout.{kind_of, upload_cmd}
+use Rattle.ftl0_session.specs.Lists.Lists.{CallerList}
 use Rattle.file_entries.specs.Headers.{header_octets}
 use Rattle.file_entries.specs.Info.{IsCompleteIn}
 use Rattle.file_entries.specs.Store.{Store}
-use Rattle.ftl0_uploads.specs.Failures.{Failure, NoReadFails, read_fails}
-use Rattle.ftl0_uploads.specs.Session.{is_upload_kind}
-use Rattle.ftl0_downloads.specs.Laws.{Sends as DownloadSends, SendsAll as DownloadSendsAll}
-use Rattle.ftl0_downloads.specs.Needs.{AreFiles, LiesIn}
-use Rattle.ftl0_downloads.specs.Sending as due
-use Rattle.ftl0_downloads.specs.Sending.{due_octets, octets_due, state_at_end}
-use Rattle.ftl0_downloads.specs.Table as download
-use Rattle.ftl0_downloads.specs.Table.{DownloadRow, DownloadState, Due, asked_file, asked_row, directory_row, file_of, file_row, files_row, has_file, listed_files, lists_after, long_due, octets_in, refused_row, short_due, short_octets, stored}
-use Rattle.ftl0_downloads.proofs.DueLemmas.{take-all}
-use Rattle.ftl0_downloads.proofs.FileLemmas.{complete-file, file-complete}
-use Rattle.ftl0_downloads.proofs.SentLemmas.{long-listed, sent-all, short-listed}
-use Rattle.ftl0_session.specs.DownloadLaws.{DownloadedLaw, DownloadsLaw, LongListedLaw, SaysAll, SentLaw, ShortListedLaw}
+use Rattle.ftl0_session.specs.Uploads.Failures.{Failure, NoReadFails, read_fails}
+use Rattle.ftl0_session.specs.Uploads.Session.{is_upload_kind}
+use Rattle.ftl0_session.specs.Downloads.Laws.{Sends as DownloadSends, SendsAll as DownloadSendsAll}
+use Rattle.ftl0_session.specs.Downloads.Needs.{AreFiles, LiesIn}
+use Rattle.ftl0_session.specs.Downloads.Sending as due
+use Rattle.ftl0_session.specs.Downloads.Sending.{due_octets, octets_due, state_at_end}
+use Rattle.ftl0_session.specs.Downloads.Table as download
+use Rattle.ftl0_session.specs.Downloads.Table.{DownloadRow, DownloadState, Due, asked_file, asked_row, directory_row}
+use Rattle.ftl0_session.specs.Downloads.Table.{file_of, file_row, files_row, has_file, listed_files, lists_after}
+use Rattle.ftl0_session.specs.Downloads.Table.{long_due, octets_in, refused_row, short_due, short_octets, stored}
+use Rattle.ftl0_session.proofs.Downloads.DueLemmas.{take-all}
+use Rattle.ftl0_session.proofs.Downloads.FileLemmas.{complete-file, file-complete}
+use Rattle.ftl0_session.proofs.Downloads.SentLemmas.{long-listed, sent-all, short-listed}
+use Rattle.ftl0_session.specs.DownloadLaws.{DownloadedLaw, DownloadsLaw, LongListedLaw, SaysAll, SentLaw}
+use Rattle.ftl0_session.specs.DownloadLaws.{ShortListedLaw}
 use Rattle.ftl0_session.specs.Run.{Event, Sends, event_row}
 use Rattle.ftl0_session.specs.Table.{by_download, command, downloading, due_at, in_session, next_due, session_row}
 use Rattle.ftl0_session.proofs.RowLemmas.{download-free, download_part-is, none-in, row-download}

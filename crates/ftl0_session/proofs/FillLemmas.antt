@@ -3,12 +3,12 @@ use Rattle.std.proofs.Common.{◌≡◌, ℕ, List, refl, ap, sym, subst, Bool, 
 use Rattle.std.specs.Option.{option_map}
 use Rattle.file_entries.specs.Store.{Store}
 use Rattle.file_store.specs.State.{StoreState, store_in}
-use Rattle.ftl0_uploads.specs.declared.phase.Phase.{Phase}
-use Rattle.ftl0_uploads.specs.declared.phase.Phase.TheVariants as phase
-use Rattle.ftl0_uploads.specs.SessionState.{state_of}
-use Rattle.ftl0_downloads.specs.Filling.{IsDue as IsDownloadDue}
-use Rattle.ftl0_downloads.specs.Sending.{DuePacket as DownloadDue, next_due as next_download}
-use Rattle.ftl0_downloads.specs.Table.{DownloadState, ready}
+use Rattle.ftl0_session.specs.declared.uploads.phase.Phase.{Phase}
+use Rattle.ftl0_session.specs.declared.uploads.phase.Phase.TheVariants as phase
+use Rattle.ftl0_session.specs.Uploads.SessionState.{state_of}
+use Rattle.ftl0_session.specs.Downloads.Filling.{IsDue as IsDownloadDue}
+use Rattle.ftl0_session.specs.Downloads.Sending.{DuePacket as DownloadDue, next_due as next_download}
+use Rattle.ftl0_session.specs.Downloads.Table.{DownloadState, ready}
 use Rattle.ftl0_session.specs.Filling.{IsDue}
 use Rattle.ftl0_session.specs.SessionState.{DoesOne}
 use Rattle.ftl0_session.specs.Table.{downloading, in_session, next_due, state_by}

@@ -1,9 +1,12 @@
 pub mod DownloadLemmas
+pub mod Downloads
 pub mod FaultLemmas
 pub mod FillLemmas
 pub mod LawLemmas
+pub mod Lists
 pub mod RowLemmas
 pub mod RunLemmas
 pub mod TakenLemmas
 pub mod UploadLemmas
+pub mod Uploads
 pub mod WorkingLemmas

@@ -5,19 +5,21 @@ use Rattle.px_base.specs.CallSign.{CallSign}
 use Rattle.ftl0_packets.specs.Items.{kind_of_item}
 use Rattle.ftl0_packets.specs.Layout.{Item, PacketValue}
 use Rattle.ftl0_packets.specs.declared.packet.Malformed.{Malformed}
-use Rattle.selection_lists.specs.Lists.{CallerList}
+use Rattle.ftl0_session.specs.Lists.Lists.{CallerList}
 use Rattle.file_entries.specs.Store.{Store}
 use Rattle.file_store.specs.State.{StoreState, store_in}
-use Rattle.ftl0_uploads.specs.declared.phase.Phase.{Phase}
-use Rattle.ftl0_uploads.specs.declared.phase.Phase.TheVariants as phase
-use Rattle.ftl0_uploads.specs.Session as upload
-use Rattle.ftl0_uploads.specs.Session.{is_upload_kind, session_row as upload_session_row}
-use Rattle.ftl0_uploads.specs.SessionState.{state_of}
-use Rattle.ftl0_uploads.proofs.Rows.{row-none as upload_none}
-use Rattle.ftl0_downloads.specs.Table as download
-use Rattle.ftl0_downloads.specs.Table.{DownloadRow, DownloadState, ready}
+use Rattle.ftl0_session.specs.declared.uploads.phase.Phase.{Phase}
+use Rattle.ftl0_session.specs.declared.uploads.phase.Phase.TheVariants as phase
+use Rattle.ftl0_session.specs.Uploads.Session as upload
+use Rattle.ftl0_session.specs.Uploads.Session.{is_upload_kind, session_row as upload_session_row}
+use Rattle.ftl0_session.specs.Uploads.SessionState.{state_of}
+use Rattle.ftl0_session.proofs.Uploads.Rows.{row-none as upload_none}
+use Rattle.ftl0_session.specs.Downloads.Table as download
+use Rattle.ftl0_session.specs.Downloads.Table.{DownloadRow, DownloadState, ready}
 use Rattle.ftl0_session.specs.SessionState.{DoesOne}
-use Rattle.ftl0_session.specs.Table.{State, aborting, by_download, by_upload, command, download_part, download_row, downloading, error_row, listing, receiving, row_among, sending, session_row, state_by, upload_part, upload_row, waiting}
+use Rattle.ftl0_session.specs.Table.{State, aborting, by_download, by_upload, command, download_part, download_row}
+use Rattle.ftl0_session.specs.Table.{downloading, error_row, listing, receiving, row_among, sending, session_row}
+use Rattle.ftl0_session.specs.Table.{state_by, upload_part, upload_row, waiting}
 
 -- ---- the parts of a state
 

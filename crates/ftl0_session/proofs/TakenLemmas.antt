@@ -1,29 +1,31 @@
 -- What a packet does whose row has no command of the store: one of downloading, or error 1.
-use Rattle.std.proofs.Common.{◌≡◌, ℕ, List, [], ◌∷◌, refl, ap, sym, ◌∙◌, subst, append-nil, Bool, true, false, Option, None, Some}
+use Rattle.std.proofs.Common.{◌≡◌, ℕ, List, [], ◌∷◌, refl, ap, sym, ◌∙◌, subst, append-nil, Bool, true, false, Option}
+use Rattle.std.proofs.Common.{None, Some}
 use Rattle.std.specs.Prelude.{⊤, Result, Ok, IsErrOf, IsSomeAnd, IsTrue}
 use Rattle.px_base.specs.CallSign.{CallSign}
 use Rattle.disk_model.specs.declared.disk.Disk.{Ghosts}
 use Rattle.ftl0_packets.specs.Items.{kind_of_item, texts}
 use Rattle.ftl0_packets.specs.Layout.{Item, dl_error_resp, packet_text}
-use Rattle.selection_lists.specs.Lists.{CallerList}
+use Rattle.ftl0_session.specs.Lists.Lists.{CallerList}
 use Rattle.file_journal.specs.Calls.{Reads}
 use Rattle.file_journal.proofs.CallLemmas.{puts_none}
 use Rattle.file_entries.specs.Command.{Command, DoesAll}
 use Rattle.file_store.specs.OnDisk.{Does}
 use Rattle.file_store.specs.State.{StandsOn, StoreState, store_in}
 use Rattle.file_store.proofs.DoesLemmas.{Does-none}
-use Rattle.ftl0_uploads.specs.declared.phase.Phase.{Phase}
-use Rattle.ftl0_uploads.specs.declared.phase.Phase.TheVariants as phase
-use Rattle.ftl0_uploads.specs.Session.{is_upload_kind}
-use Rattle.ftl0_uploads.specs.SessionState.{SessionState as Uploading, state_of}
-use Rattle.ftl0_uploads.proofs.Rows.{others-same}
-use Rattle.ftl0_downloads.specs.Needs.{AreComplete, IsDueIn}
-use Rattle.ftl0_downloads.specs.Table.{DownloadRow, DownloadState}
-use Rattle.ftl0_downloads.specs.Taking.{IsRow, Made, made, made_by}
+use Rattle.ftl0_session.specs.declared.uploads.phase.Phase.{Phase}
+use Rattle.ftl0_session.specs.declared.uploads.phase.Phase.TheVariants as phase
+use Rattle.ftl0_session.specs.Uploads.Session.{is_upload_kind}
+use Rattle.ftl0_session.specs.Uploads.SessionState.{SessionState as Uploading, state_of}
+use Rattle.ftl0_session.proofs.Uploads.Rows.{others-same}
+use Rattle.ftl0_session.specs.Downloads.Needs.{AreComplete, IsDueIn}
+use Rattle.ftl0_session.specs.Downloads.Table.{DownloadRow, DownloadState}
+use Rattle.ftl0_session.specs.Downloads.Taking.{IsRow, Made, made, made_by}
 use Rattle.ftl0_session.specs.declared.stop.ServerStop.{ServerStop}
 use Rattle.ftl0_session.specs.declared.stop.ServerStop.TheVariants as stop
 use Rattle.ftl0_session.specs.SessionState.{DoesOne, MayTake, SessionState, caller_of, session_of, state_in}
-use Rattle.ftl0_session.specs.Table.{Row, by_download, download_row, downloading, error_by, error_row, state_by, upload_row}
+use Rattle.ftl0_session.specs.Table.{Row, by_download, download_row, downloading, error_by, error_row, state_by}
+use Rattle.ftl0_session.specs.Table.{upload_row}
 use Rattle.ftl0_session.specs.Taking.{Taken, TakesDownload, row_over, working}
 use Rattle.ftl0_session.proofs.RowLemmas.{download-command, row-download, row-error}
 

@@ -1,10 +1,11 @@
 -- What a packet of uploading does, while the session does nothing of downloading.
-use Rattle.std.proofs.Common.{◌≡◌, ℕ, List, [], ◌∷◌, refl, ap, ap₂, sym, ◌∙◌, subst, true≢false, Bool, true, false, Some}
+use Rattle.std.proofs.Common.{◌≡◌, ℕ, List, [], ◌∷◌, refl, ap, ap₂, sym, ◌∙◌, subst, true≢false, Bool, true, false}
+use Rattle.std.proofs.Common.{Some}
 use Rattle.std.specs.Prelude.{⊤, Result, Ok, Err, IsErrOf, IsTrue}
 use Rattle.disk_model.specs.declared.disk.Disk.{Ghosts}
 use Rattle.ftl0_packets.specs.Items.{kind_of_item, texts}
 use Rattle.ftl0_packets.specs.Layout.{Item}
-use Rattle.selection_lists.specs.Lists.{CallerList}
+use Rattle.ftl0_session.specs.Lists.Lists.{CallerList}
 use Rattle.file_journal.specs.Calls.{ChangesReads, Puts}
 use Rattle.file_journal.proofs.CallLemmas.{puts_same, reads_none}
 use Rattle.file_journal.proofs.ToldLemmas.{at_told}
@@ -13,16 +14,16 @@ use Rattle.file_entries.specs.Kept.{KeepsComplete}
 use Rattle.file_store.specs.OnDisk.{Does}
 use Rattle.file_store.specs.State.{StandsOn, StoreState, store_in}
 use Rattle.file_store.proofs.RecoveryLemmas.{reads-none}
-use Rattle.ftl0_uploads.specs.declared.stop.ServerStop.{ServerStop as UploadStop}
-use Rattle.ftl0_uploads.specs.declared.stop.ServerStop.TheVariants as upload_stop
-use Rattle.ftl0_uploads.specs.Others.{KeepsOtherCallers}
-use Rattle.ftl0_uploads.specs.Session as upload
-use Rattle.ftl0_uploads.specs.Session.{is_upload_kind, session_row as upload_session_row}
-use Rattle.ftl0_uploads.specs.SessionState.{IsHeld, IsOnlyOut, SessionState as Uploading, state_of}
-use Rattle.ftl0_uploads.specs.Taking.{Answers as UploadAnswers, LeavesDisk, PutsRow as UploadPuts, row_of}
-use Rattle.ftl0_uploads.proofs.Rows.{row-some}
-use Rattle.ftl0_downloads.specs.Needs.{AreComplete}
-use Rattle.ftl0_downloads.specs.Table.{ready}
+use Rattle.ftl0_session.specs.declared.uploads.stop.ServerStop.{ServerStop as UploadStop}
+use Rattle.ftl0_session.specs.declared.uploads.stop.ServerStop.TheVariants as upload_stop
+use Rattle.ftl0_session.specs.Uploads.Others.{KeepsOtherCallers}
+use Rattle.ftl0_session.specs.Uploads.Session as upload
+use Rattle.ftl0_session.specs.Uploads.Session.{is_upload_kind, session_row as upload_session_row}
+use Rattle.ftl0_session.specs.Uploads.SessionState.{IsHeld, IsOnlyOut, SessionState as Uploading, state_of}
+use Rattle.ftl0_session.specs.Uploads.Taking.{Answers as UploadAnswers, LeavesDisk, PutsRow as UploadPuts, row_of}
+use Rattle.ftl0_session.proofs.Uploads.Rows.{row-some}
+use Rattle.ftl0_session.specs.Downloads.Needs.{AreComplete}
+use Rattle.ftl0_session.specs.Downloads.Table.{ready}
 use Rattle.ftl0_session.specs.declared.stop.ServerStop.TheVariants as stop
 use Rattle.ftl0_session.specs.SessionState.{session_of}
 use Rattle.ftl0_session.specs.Table.{Row, State, by_upload, state_by, takes_memory}

@@ -1,5 +1,6 @@
 -- What a packet that is taken, or one that is sent, does to the disk, with the reads that were made for it.
-use Rattle.std.proofs.Common.{◌≡◌, ℕ, ◌+◌, List, [], ◌∷◌, ◌++◌, ◌==◌, refl, ap, ap₂, sym, ◌∙◌, subst, Bool, true, false, ◌&&◌, ◌||◌, Option, None, Some, IfSome}
+use Rattle.std.proofs.Common.{◌≡◌, ℕ, ◌+◌, List, [], ◌∷◌, ◌++◌, ◌==◌, refl, ap, ap₂, sym, ◌∙◌, subst, Bool, true, false}
+use Rattle.std.proofs.Common.{◌&&◌, ◌||◌, Option, None, Some, IfSome}
 use Rattle.std.specs.Prelude.{⊤, Result, Ok, Err, if◌then◌else◌}
 use Rattle.std.specs.List.{list_any}
 use Rattle.std.specs.Option.{option_map}
@@ -14,12 +15,14 @@ use Rattle.file_entries.specs.Store.{Store}
 use Rattle.file_store.specs.State.{StandsOn, StoreState, store_in}
 use Rattle.file_store.specs.Working.{CutsOffAmongReads, DoesAmongReads, one_if}
 use Rattle.file_store.proofs.WorkingLemmas.{among-same, among-then, cuts-among-cut, does-among, reads-only}
-use Rattle.ftl0_uploads.specs.Failures.{Failure, failed_reads, failed_write, is_read_fault, is_write_fault, read_fails, write_fails}
-use Rattle.ftl0_downloads.specs.Sending as due
+use Rattle.ftl0_session.specs.Uploads.Failures.{Failure, failed_reads, failed_write, is_read_fault, is_write_fault}
+use Rattle.ftl0_session.specs.Uploads.Failures.{read_fails, write_fails}
+use Rattle.ftl0_session.specs.Downloads.Sending as due
 use Rattle.ftl0_session.specs.declared.stop.ServerStop.{ServerStop}
 use Rattle.ftl0_session.specs.declared.stop.ServerStop.TheVariants as stop
 use Rattle.ftl0_session.specs.Filling.{IsDue, PutsDue}
-use Rattle.ftl0_session.specs.Table.{DuePacket, Row, State, download_part, due_at, in_session, next_due, row_at, failed_reads_told, tells_failed_read}
+use Rattle.ftl0_session.specs.Table.{DuePacket, Row, State, download_part, due_at, in_session, next_due, row_at}
+use Rattle.ftl0_session.specs.Table.{failed_reads_told, tells_failed_read}
 use Rattle.ftl0_session.specs.Taking.{TakesPacket, Working, row_over}
 use Rattle.ftl0_session.proofs.FaultLemmas.{due_codes, fault_codes}
 

@@ -3,15 +3,16 @@ use Rattle.std.specs.Prelude.{◌≡◌, ℕ, ◌≤◌, List, [], ◌∷◌, �
 use Rattle.std.specs.Prelude.{Some, Ok}
 use Rattle.px_base.specs.CallSign.{CallSign}
 use Rattle.ftl0_packets.specs.Layout.{PacketValue, data_end, data_part, dir_long_cmd, dir_short_cmd, download_cmd}
-use Rattle.selection_lists.specs.Lists.{CallerList}
+use Rattle.ftl0_session.specs.Lists.Lists.{CallerList}
 use Rattle.file_entries.specs.Headers.{header_octets}
 use Rattle.file_entries.specs.Store.{Store}
-use Rattle.ftl0_uploads.specs.Failures.{Failure, NoReadFails}
-use Rattle.ftl0_downloads.specs.Laws.{BeginWithHeaders}
-use Rattle.ftl0_downloads.specs.Needs.{AreFiles, IsDueIn}
-use Rattle.ftl0_downloads.specs.Sending.{is_due, octets_due, state_at_end}
-use Rattle.ftl0_downloads.specs.Table.{DownloadRow, DownloadState, asked_file, download_row, file_of, listed_files}
-use Rattle.ftl0_downloads.specs.Table.{lists_after, octets_in, short_octets}
+use Rattle.ftl0_session.specs.Uploads.Failures.{Failure, NoReadFails}
+use Rattle.ftl0_session.specs.Downloads.Laws.{BeginWithHeaders}
+use Rattle.ftl0_session.specs.Downloads.Needs.{AreFiles, IsDueIn}
+use Rattle.ftl0_session.specs.Downloads.Sending.{is_due, octets_due, state_at_end}
+use Rattle.ftl0_session.specs.Downloads.Table.{DownloadRow, DownloadState, asked_file, download_row, file_of}
+use Rattle.ftl0_session.specs.Downloads.Table.{listed_files}
+use Rattle.ftl0_session.specs.Downloads.Table.{lists_after, octets_in, short_octets}
 use Rattle.ftl0_session.specs.Run.{Event, RunsOver, Sends}
 use Rattle.ftl0_session.specs.Table.{State, by_download, command, downloading, session_row, waiting}
 

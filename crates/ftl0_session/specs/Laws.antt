@@ -1,5 +1,6 @@
 -- Laws of the whole table: that it has the rows of uploading, and what these promise.
-use Rattle.std.specs.Prelude.{◌≡◌, ◌≢◌, ℕ, ◌+◌, ◌≤◌, List, [], ◌∷◌, ◌++◌, length, Bool, true, false, None, Some, IfSome, Ok}
+use Rattle.std.specs.Prelude.{◌≡◌, ◌≢◌, ℕ, ◌+◌, ◌≤◌, List, [], ◌∷◌, ◌++◌, length, Bool, true, false, None, Some, IfSome}
+use Rattle.std.specs.Prelude.{Ok}
 use Rattle.std.specs.List.{AllByRecursion}
 use Rattle.px_base.specs.CallSign.{CallSign, IsCall}
 use Rattle.px_base.specs.Octets.{IsOctets}
@@ -7,13 +8,13 @@ use Rattle.ftl0_packets.specs.Layout.{Item, data_end, ul_ack_resp, upload_cmd}
 use Rattle.pfh_items.specs.Faults.{fault_code}
 use Rattle.pfh_items.specs.Stamp.{stamped}
 use Rattle.pfh_writer.specs.KeptFile.{KeepsClient}
-use Rattle.selection_lists.specs.Lists.{CallerList}
+use Rattle.ftl0_session.specs.Lists.Lists.{CallerList}
 use Rattle.file_entries.specs.Command.{AreAllowed, Command, after_all, can_begin, stamp_of}
 use Rattle.file_entries.specs.Store.{Entry, Store, entry_of}
 use Rattle.file_store.specs.OnDisk.{MakesBetween}
-use Rattle.ftl0_uploads.specs.Laws.{HasEntry, IsNoFault, IsUnderWay, IsWhole, kept}
-use Rattle.ftl0_uploads.specs.Session as upload
-use Rattle.ftl0_downloads.specs.Table.{ready}
+use Rattle.ftl0_session.specs.Uploads.Laws.{HasEntry, IsNoFault, IsUnderWay, IsWhole, kept}
+use Rattle.ftl0_session.specs.Uploads.Session as upload
+use Rattle.ftl0_session.specs.Downloads.Table.{ready}
 use Rattle.ftl0_session.specs.Table.{Row, State, by_upload, command, next_due, receiving, session_row, state_by}
 use Rattle.ftl0_session.specs.Table.{failed_reads_told, tells_failed_read}
 

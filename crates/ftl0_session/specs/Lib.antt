@@ -1,7 +1,10 @@
 pub mod DownloadLaws
+pub mod Downloads
 pub mod Filling
 pub mod Laws
+pub mod Lists
 pub mod Run
 pub mod SessionState
 pub mod Table
 pub mod Taking
+pub mod Uploads

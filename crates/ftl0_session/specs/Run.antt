@@ -5,14 +5,14 @@ use Rattle.std.specs.List.{AllByRecursion}
 use Rattle.px_base.specs.CallSign.{CallSign}
 use Rattle.ftl0_packets.specs.Items.{kind_of_item}
 use Rattle.ftl0_packets.specs.Layout.{Item, PacketValue}
-use Rattle.selection_lists.specs.Lists.{CallerList}
+use Rattle.ftl0_session.specs.Lists.Lists.{CallerList}
 use Rattle.file_entries.specs.Command.{Command, after_all}
 use Rattle.file_entries.specs.Store.{Store}
-use Rattle.ftl0_uploads.specs.Events.{Event as UploadEvent}
-use Rattle.ftl0_uploads.specs.Failures.{Failure}
-use Rattle.ftl0_uploads.specs.Run.{commands_of, replies_to, state_after, store_after}
-use Rattle.ftl0_uploads.specs.Session as upload
-use Rattle.ftl0_downloads.specs.Table.{ready}
+use Rattle.ftl0_session.specs.Uploads.Events.{Event as UploadEvent}
+use Rattle.ftl0_session.specs.Uploads.Failures.{Failure}
+use Rattle.ftl0_session.specs.Uploads.Run.{commands_of, replies_to, state_after, store_after}
+use Rattle.ftl0_session.specs.Uploads.Session as upload
+use Rattle.ftl0_session.specs.Downloads.Table.{ready}
 use Rattle.ftl0_session.specs.Table.{Row, State, due_at, row_at, state_by}
 
 -- a packet, malformed or not, the moment in which it is taken, and the disk faults of its event

@@ -2,13 +2,13 @@
 use Rattle.std.specs.Prelude.{◌≡◌, List, false, ⊤}
 use Rattle.px_base.specs.CallSign.{CallSign}
 use Rattle.disk_model.specs.declared.disk.Disk.{Ghosts}
-use Rattle.selection_lists.specs.Lists.{CallerList}
+use Rattle.ftl0_session.specs.Lists.Lists.{CallerList}
 use Rattle.file_store.specs.State.{StandsOn, StoreState, store_in}
-use Rattle.ftl0_uploads.specs.declared.phase.Phase.{Phase}
-use Rattle.ftl0_uploads.specs.declared.phase.Phase.TheVariants as phase
-use Rattle.ftl0_uploads.specs.SessionState as upload
-use Rattle.ftl0_downloads.specs.Needs.{AreComplete, IsDueIn}
-use Rattle.ftl0_downloads.specs.Table.{DownloadState, ready}
+use Rattle.ftl0_session.specs.declared.uploads.phase.Phase.{Phase}
+use Rattle.ftl0_session.specs.declared.uploads.phase.Phase.TheVariants as phase
+use Rattle.ftl0_session.specs.Uploads.SessionState as upload
+use Rattle.ftl0_session.specs.Downloads.Needs.{AreComplete, IsDueIn}
+use Rattle.ftl0_session.specs.Downloads.Table.{DownloadState, ready}
 use Rattle.ftl0_session.specs.Table.{State, state_by}
 
 -- whose session it is and what it does of uploading, and what it does of downloading

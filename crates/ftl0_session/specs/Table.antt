@@ -4,15 +4,15 @@ use Rattle.std.specs.Option.{option_map}
 use Rattle.px_base.specs.CallSign.{CallSign}
 use Rattle.ftl0_packets.specs.Items.{kind_of_item}
 use Rattle.ftl0_packets.specs.Layout.{Item, PacketValue, dl_error_resp, login_resp, ul_error_resp}
-use Rattle.selection_lists.specs.Lists.{CallerList}
+use Rattle.ftl0_session.specs.Lists.Lists.{CallerList}
 use Rattle.file_entries.specs.Command.{Command}
 use Rattle.file_entries.specs.Store.{Store}
 use Rattle.file_store.specs.Working.{one_if}
-use Rattle.ftl0_uploads.specs.Failures.{Failure, read_fails}
-use Rattle.ftl0_uploads.specs.Session as upload
-use Rattle.ftl0_downloads.specs.Sending as due
-use Rattle.ftl0_downloads.specs.Table as download
-use Rattle.ftl0_downloads.specs.Table.{DownloadRow, DownloadState, Due}
+use Rattle.ftl0_session.specs.Uploads.Failures.{Failure, read_fails}
+use Rattle.ftl0_session.specs.Uploads.Session as upload
+use Rattle.ftl0_session.specs.Downloads.Sending as due
+use Rattle.ftl0_session.specs.Downloads.Table as download
+use Rattle.ftl0_session.specs.Downloads.Table.{DownloadRow, DownloadState, Due}
 
 -- A session waits for a command; or receives the file of this number, of which these octets aren't held yet; or waits
 -- for the end of a file that it refused; or sends the file of this number from one place up to another; or waits for

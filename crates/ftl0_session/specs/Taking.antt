@@ -4,19 +4,19 @@ use Rattle.px_base.specs.CallSign.{CallSign}
 use Rattle.disk_model.specs.declared.disk.Disk.{Ghosts}
 use Rattle.ftl0_packets.specs.Items.{texts}
 use Rattle.ftl0_packets.specs.Layout.{Item, dl_error_resp}
-use Rattle.selection_lists.specs.Lists.{CallerList}
+use Rattle.ftl0_session.specs.Lists.Lists.{CallerList}
 use Rattle.file_entries.specs.Command.{DoesAll}
 use Rattle.file_entries.specs.Kept.{KeepsComplete}
 use Rattle.file_journal.specs.Calls.{ChangesReads, Puts, Reads}
 use Rattle.file_store.specs.OnDisk.{Does}
 use Rattle.file_store.specs.State.{StandsOn, StoreState, store_in}
-use Rattle.ftl0_uploads.specs.declared.stop.ServerStop.{ServerStop as UploadStop}
-use Rattle.ftl0_uploads.specs.declared.stop.ServerStop.TheVariants as upload_stop
-use Rattle.ftl0_uploads.specs.Others.{KeepsOtherCallers}
-use Rattle.ftl0_uploads.specs.SessionState.{IsHeld, IsOnlyOut, SessionState as Uploading}
-use Rattle.ftl0_downloads.specs.Needs.{AreComplete, IsDueIn}
-use Rattle.ftl0_downloads.specs.Table.{DownloadState}
-use Rattle.ftl0_downloads.specs.Taking.{IsRow, made}
+use Rattle.ftl0_session.specs.declared.uploads.stop.ServerStop.{ServerStop as UploadStop}
+use Rattle.ftl0_session.specs.declared.uploads.stop.ServerStop.TheVariants as upload_stop
+use Rattle.ftl0_session.specs.Uploads.Others.{KeepsOtherCallers}
+use Rattle.ftl0_session.specs.Uploads.SessionState.{IsHeld, IsOnlyOut, SessionState as Uploading}
+use Rattle.ftl0_session.specs.Downloads.Needs.{AreComplete, IsDueIn}
+use Rattle.ftl0_session.specs.Downloads.Table.{DownloadState}
+use Rattle.ftl0_session.specs.Downloads.Taking.{IsRow, made}
 use Rattle.ftl0_session.specs.declared.stop.ServerStop.{ServerStop}
 use Rattle.ftl0_session.specs.declared.stop.ServerStop.TheVariants as stop
 use Rattle.ftl0_session.specs.SessionState.{SessionState, caller_of, session_of, state_in}

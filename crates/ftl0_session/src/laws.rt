@@ -5,7 +5,7 @@ ghost use Rattle.ftl0_session.specs.Laws.{AcknowledgedLaw, AcknowledgedStandsLaw
 ghost use Rattle.ftl0_session.specs.Laws.{GrantedLaw, ResumedLaw, UploadsLaw};
 ghost use Rattle.ftl0_session.specs.Run.{CommandsLaw, UploadRunLaw};
 
-/// Each row of uploading is a row of the whole table: what holds of the rows of `ftl0_uploads` holds of it.
+/// Each row of uploading is a row of the whole table: what holds of the rows of `uploads` holds of it.
 pub fn uploads_law()
     ensures { UploadsLaw }
 {}
@@ -41,7 +41,7 @@ pub fn fault_code_law()
 {}
 
 /// Each row of downloading is a row of the whole table, while nothing is done of uploading: what holds of the rows of
-/// `ftl0_downloads` holds of it.
+/// `downloads` holds of it.
 pub fn downloads_law()
     ensures { DownloadsLaw }
 {}

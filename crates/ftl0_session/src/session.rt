@@ -4,14 +4,14 @@ ghost use Rattle.std.specs.Prelude.{◌≡◌, ◌≢◌, ℕ, [], false, true, 
 ghost use Rattle.ftl0_packets.specs.Items.{kind_of_item};
 ghost use Rattle.ftl0_packets.specs.Layout.{packet_text};
 ghost use Rattle.ftl0_packets.specs.Values.{item_of};
-ghost use Rattle.selection_lists.specs.Lists.{has_left};
+ghost use Rattle.ftl0_session.specs.Lists.Lists.{has_left};
 ghost use Rattle.file_entries.specs.Kept.{KeepsComplete};
 ghost use Rattle.file_store.specs.State.{StandsOn, store_in};
-ghost use Rattle.ftl0_uploads.specs.Others.{KeepsOtherCallers};
-ghost use Rattle.ftl0_uploads.specs.Session.{is_upload_kind};
-ghost use Rattle.ftl0_uploads.specs.SessionState.{IsHeld, IsOnlyOut, NoOtherOut, Parks};
-ghost use Rattle.ftl0_downloads.specs.Needs.{AreComplete, IsDueIn};
-ghost use Rattle.ftl0_downloads.specs.Table.{ready};
+ghost use Rattle.ftl0_session.specs.Uploads.Others.{KeepsOtherCallers};
+ghost use Rattle.ftl0_session.specs.Uploads.Session.{is_upload_kind};
+ghost use Rattle.ftl0_session.specs.Uploads.SessionState.{IsHeld, IsOnlyOut, NoOtherOut, Parks};
+ghost use Rattle.ftl0_session.specs.Downloads.Needs.{AreComplete, IsDueIn};
+ghost use Rattle.ftl0_session.specs.Downloads.Table.{ready};
 ghost use Rattle.ftl0_session.specs.Filling.{PutsDue};
 ghost use Rattle.ftl0_session.specs.SessionState.{DoesOne, MayTake, caller_of, new_session, session_of, state_in};
 ghost use Rattle.ftl0_session.specs.Table.{error_by, flags, greeting};
@@ -19,15 +19,15 @@ ghost use Rattle.ftl0_session.specs.Taking.{ReadsAlone, Taken, TakesDownload, Ta
 ghost use Rattle.ftl0_session.specs.Taking.{working};
 
 use crate::ServerStop;
+use crate::downloads::Downloads;
+use crate::downloads::laws::stays_law;
+use crate::lists::Lists;
+use crate::uploads::{Replies, ServerStop as UploadStop, Session as Uploads};
 use arrayvec::ArrayVec;
 use disk_model::Disk;
 use file_store::FileStore;
-use ftl0_downloads::Downloads;
-use ftl0_downloads::laws::stays_law;
 use ftl0_packets::{Malformed, Packet, write_packet};
-use ftl0_uploads::{Replies, ServerStop as UploadStop, Session as Uploads};
 use px_base::Call;
-use selection_lists::Lists;
 use std::marker::Model;
 
 /// LOGIN_RESP's flags: bit 2, file headers are in use. Bits 1 and 0 are the version, 0.

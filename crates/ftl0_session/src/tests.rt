@@ -4,12 +4,12 @@ ghost use Rattle.std.specs.Prelude.{◌≡◌, []};
 ghost use Rattle.ftl0_session.specs.SessionState.{MayTake};
 
 use super::*;
+use crate::lists::Lists;
 use arrayvec::ArrayVec;
 use disk_model::{Disk, MemoryDisk};
 use file_store::{FileStore, Limits};
 use ftl0_packets::{PacketFed, PacketReader};
 use px_base::Call;
-use selection_lists::Lists;
 use std::process::Abort;
 use std::test::Fail;
 

@@ -1,9 +1,10 @@
-//! The header tool: a file is made of a body and of what its PACSAT file header says (PFH 1990), and a file's header is
-//! shown or checked, as text.
+//! The texts of files: a header's, and recorded frames'. A file is made of a body and of what its PACSAT file header says
+//! (PFH 1990), a file's header is shown or checked, and the frames of recorded KISS text are listed ([`frames`]).
 //!
 //! [`make`] makes the file, [`show`] gives the text of each item and of the check, [`check_line`] that of the check alone.
 #![tactic(auto)]
 
+pub mod frames;
 pub mod laws;
 mod line;
 mod making;

@@ -1,5 +1,6 @@
 -- What the commands that show a file of the shelf show, and why they end.
-use Rattle.std.specs.Prelude.{◌≡◌, ◌⊎◌, ℕ, ◌<◌, ◌≤◌, ◌==◌, List, [], ◌∷◌, length, Bool, true, false, Option, None, Some, IfSome, IsTrue, Result, Ok, Err, if◌then◌else◌}
+use Rattle.std.specs.Prelude.{◌≡◌, ◌⊎◌, ℕ, ◌<◌, ◌≤◌, ◌==◌, List, [], ◌∷◌, length, Bool, true, false, Option, None, Some}
+use Rattle.std.specs.Prelude.{IfSome, IsTrue, Result, Ok, Err, if◌then◌else◌}
 use Rattle.px_base.specs.Octets.{IsFront}
 use Rattle.px_base.specs.Outside.{Gains, GainsPrefix, Rose}
 use Rattle.px_base.specs.Shelves.{Holding, content_of}
@@ -7,7 +8,7 @@ use Rattle.px_base.specs.declared.memory.OutOfMemory.{OutOfMemory as NoMemory}
 use Rattle.pfh_items.specs.Faults.{fault_code}
 use Rattle.header_tool.specs.declared.shown.Shown.{Shown}
 use Rattle.header_tool.specs.Lines.{check_text, header_lines}
-use Rattle.frame_lines.specs.FramesText.{FramesText}
+use Rattle.header_tool.specs.Frames.FramesText.{FramesText}
 use Rattle.pacsat_cli.specs.declared.files.FileCommand.{FileCommand}
 use Rattle.pacsat_cli.specs.declared.files.FileCommand.TheVariants.{Frames, Show, Check}
 use Rattle.pacsat_cli.specs.declared.status.RefusedBy.TheVariants.{Shown as by_shown}

@@ -6,7 +6,7 @@ ghost use Rattle.pacsat_cli.specs.Run.{HasShelfCause, Stays};
 
 use crate::status::status_of_load;
 use crate::{RefusedBy, Status};
-use frame_lines::show_frames;
+use header_tool::frames::show_frames;
 use header_tool::{Shown, check_line, show};
 use px_base::{Out, OutOfMemory, Shelf};
 use std::alloc::Global;

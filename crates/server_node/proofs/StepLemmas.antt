@@ -1,5 +1,6 @@
 -- The steps of a server.
-use Rattle.std.proofs.Common.{◌≡◌, ℕ, suc, List, [], ◌∷◌, ◌++◌, Bool, true, false, Option, None, Some, refl, sym, ◌∙◌, subst}
+use Rattle.std.proofs.Common.{◌≡◌, ℕ, suc, List, [], ◌∷◌, ◌++◌, Bool, true, false, Option, None, Some, refl, sym, ◌∙◌}
+use Rattle.std.proofs.Common.{subst}
 use Rattle.std.specs.Prelude.{if◌then◌else◌, slice_get}
 use Rattle.px_base.specs.CallSign.{CallSign}
 use Rattle.ax25_frames.specs.FrameText.{FrameValue}
@@ -11,16 +12,16 @@ use Rattle.ax25_link.specs.declared.state.Heard.TheVariants.{Nothing, Opened, Re
 use Rattle.ftl0_packets.specs.Items.{texts}
 use Rattle.ftl0_packets.specs.Layout.{Item}
 use Rattle.ftl0_packets.specs.Reading.{packets_of}
-use Rattle.selection_lists.specs.Lists.{CallerList}
+use Rattle.ftl0_session.specs.Lists.Lists.{CallerList}
 use Rattle.file_entries.specs.Command.{after_all}
 use Rattle.file_entries.specs.Store.{Store}
-use Rattle.ftl0_uploads.specs.Failures.{failed_reads}
+use Rattle.ftl0_session.specs.Uploads.Failures.{failed_reads}
 use Rattle.ftl0_session.specs.Table.{Row, State, row_at}
 use Rattle.ftl0_session.proofs.WorkingLemmas.{writes-unlisted}
 use Rattle.node_events.specs.Events.{NodeEvent, hears, ticks}
-use Rattle.ftl0_connection.specs.Connected.{Connected, caller_of}
-use Rattle.ftl0_connection.specs.Hearing.{parts_as, parts_of_frame}
-use Rattle.ftl0_connection.specs.Taking.{Progress, after_row, fits, giving_up, taking, taking_row}
+use Rattle.ftl0_server.specs.Connection.Connected.{Connected, caller_of}
+use Rattle.ftl0_server.specs.Connection.Hearing.{parts_as, parts_of_frame}
+use Rattle.ftl0_server.specs.Connection.Taking.{Progress, after_row, fits, giving_up, taking, taking_row}
 use Rattle.ftl0_server.specs.Server.{Server, hearing_at, hearing_by}
 use Rattle.ftl0_server.specs.ServerStep.{happening}
 use Rattle.ftl0_server.specs.Slots.{Slot, connected, free, leaving, place_of}

@@ -12,12 +12,13 @@ use Rattle.ax25_frames.specs.FrameText.{FrameValue}
 use Rattle.file_store.specs.State.{StoreState}
 use Rattle.file_store.specs.Working.{CutsOffAmongReads, DoesAmongReads}
 use Rattle.file_store.proofs.DoesLemmas.{Does-none}
-use Rattle.file_store.proofs.WorkingLemmas.{among-healthy, among-then, cuts-among-none, cuts-among-same, cuts-among-then, does-among}
+use Rattle.file_store.proofs.WorkingLemmas.{among-healthy, among-then, cuts-among-none, cuts-among-same}
+use Rattle.file_store.proofs.WorkingLemmas.{cuts-among-then, does-among}
 use Rattle.node_events.specs.Events.{NodeEvent, tick_since, ticks}
-use Rattle.ftl0_uploads.specs.Failures.{failed_reads, failed_write}
+use Rattle.ftl0_session.specs.Uploads.Failures.{failed_reads, failed_write}
 use Rattle.ftl0_session.specs.declared.stop.ServerStop.{ServerStop}
 use Rattle.ftl0_session.specs.declared.stop.ServerStop.TheVariants as server_stop
-use Rattle.ftl0_connection.specs.ConnectionState.{with_reads}
+use Rattle.ftl0_server.specs.Connection.ConnectionState.{with_reads}
 use Rattle.ftl0_server.specs.Calls.{HearsBy}
 use Rattle.ftl0_server.specs.Server.{Server, ServerHappened, settled}
 use Rattle.ftl0_server.specs.ServerState.{ServerState}

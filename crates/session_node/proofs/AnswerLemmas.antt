@@ -1,5 +1,6 @@
 -- How a packet is answered: its replies, and what is due behind them; or a stop at it.
-use Rattle.std.proofs.Common.{◌≡◌, ℕ, ◌+◌, ◌==◌, ◌<◌, ◌≤◌, List, [], ◌∷◌, ◌++◌, Bool, true, false, Option, refl, sym, ap, ap₂, ◌∙◌, subst, append-nil, append_assoc, inl, inr, arith}
+use Rattle.std.proofs.Common.{◌≡◌, ℕ, ◌+◌, ◌==◌, ◌<◌, ◌≤◌, List, [], ◌∷◌, ◌++◌, Bool, true, false, Option, refl, sym}
+use Rattle.std.proofs.Common.{ap, ap₂, ◌∙◌, subst, append-nil, append_assoc, inl, inr, arith}
 use Rattle.std.specs.Prelude.{Result, Ok, Err, MatchResult, IsTrue, ⊤}
 use Rattle.std.proofs.Math.Nat.{zero-add}
 use Rattle.std.proofs.lemmas.Bool.Decides.{nat_tests}
@@ -11,19 +12,20 @@ use Rattle.px_base.proofs.Told.{Gains-front, Gains-none, Gains-trans}
 use Rattle.disk_model.specs.declared.disk.Disk.{Ghosts}
 use Rattle.ftl0_packets.specs.Items.{texts}
 use Rattle.ftl0_packets.specs.Layout.{Item, PacketValue}
-use Rattle.selection_lists.specs.Lists.{CallerList}
+use Rattle.ftl0_session.specs.Lists.Lists.{CallerList}
 use Rattle.file_entries.specs.Command.{Command, after_all}
 use Rattle.file_entries.specs.Store.{Store}
 use Rattle.file_store.specs.State.{StandsOn, StoreState, store_in}
 use Rattle.file_store.specs.Working.{CutsOffAmongReads, DoesAmongReads}
-use Rattle.file_store.proofs.WorkingLemmas.{among-at, among-same, among-store, among-then, cuts-among-none, cuts-among-same}
-use Rattle.ftl0_uploads.specs.Events.{Event}
-use Rattle.ftl0_uploads.specs.Failures.{Failure, failed_reads, read_fails}
+use Rattle.file_store.proofs.WorkingLemmas.{among-at, among-same, among-store, among-then, cuts-among-none}
+use Rattle.file_store.proofs.WorkingLemmas.{cuts-among-same}
+use Rattle.ftl0_session.specs.Uploads.Events.{Event}
+use Rattle.ftl0_session.specs.Uploads.Failures.{Failure, failed_reads, read_fails}
 use Rattle.ftl0_session.specs.declared.stop.ServerStop.{ServerStop}
 use Rattle.ftl0_session.specs.declared.stop.ServerStop.TheVariants as session_stop
 use Rattle.ftl0_session.specs.Run.{Event as MetEvent, Sends, event_row}
-use Rattle.ftl0_uploads.specs.SessionState.{IsHeld, IsOnlyOut}
-use Rattle.ftl0_downloads.specs.Needs.{AreComplete, IsDueIn}
+use Rattle.ftl0_session.specs.Uploads.SessionState.{IsHeld, IsOnlyOut}
+use Rattle.ftl0_session.specs.Downloads.Needs.{AreComplete, IsDueIn}
 use Rattle.ftl0_session.specs.SessionState.{IsFit, SessionState, caller_of, state_in}
 use Rattle.ftl0_session.specs.Table.{Row, State, failed_reads_told}
 use Rattle.ftl0_session.specs.Taking.{TakesPacket, Working, row_over, working}

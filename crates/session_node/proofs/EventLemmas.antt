@@ -1,5 +1,6 @@
 -- The events that turns bring.
-use Rattle.std.proofs.Common.{◌≡◌, ℕ, List, [], ◌∷◌, ◌++◌, length, refl, ap, sym, subst, ◌∙◌, append_assoc, append-nil, arith}
+use Rattle.std.proofs.Common.{◌≡◌, ℕ, List, [], ◌∷◌, ◌++◌, length, refl, ap, sym, subst, ◌∙◌, append_assoc, append-nil}
+use Rattle.std.proofs.Common.{arith}
 use Rattle.std.specs.List.{AllByRecursion}
 use Rattle.px_base.specs.declared.air.Turn.{Turn}
 use Rattle.px_base.specs.Polling.{octets_heard, octets_of_turn}
@@ -7,7 +8,7 @@ use Rattle.ftl0_packets.specs.Laws.{IsOneStream}
 use Rattle.px_base.specs.Octets.{IsOctets}
 use Rattle.ftl0_packets.specs.Layout.{Item}
 use Rattle.ftl0_packets.specs.Stream.{IsPartial, Stream}
-use Rattle.ftl0_uploads.specs.Events.{Brings, Event, at_moment, packets_in}
+use Rattle.ftl0_session.specs.Uploads.Events.{Brings, Event, at_moment, packets_in}
 use Rattle.session_node.proofs.OctetLemmas.{octets_back}
 
 -- the rest of a stream is less than a whole packet

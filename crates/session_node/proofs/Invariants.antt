@@ -12,9 +12,9 @@ use Rattle.ftl0_packets.specs.Items.{texts}
 use Rattle.ftl0_packets.specs.Layout.{PacketValue}
 use Rattle.file_store.specs.State.{StandsOn, StoreState, store_in}
 use Rattle.file_store.specs.Working.{DoesAmongReads}
-use Rattle.ftl0_uploads.specs.Events.{Brings, Event}
-use Rattle.ftl0_uploads.specs.Failures.{failed_reads, read_fails}
-use Rattle.ftl0_downloads.specs.Needs.{IsDueIn}
+use Rattle.ftl0_session.specs.Uploads.Events.{Brings, Event}
+use Rattle.ftl0_session.specs.Uploads.Failures.{failed_reads, read_fails}
+use Rattle.ftl0_session.specs.Downloads.Needs.{IsDueIn}
 use Rattle.ftl0_session.specs.SessionState.{SessionState, state_in}
 use Rattle.ftl0_session.specs.Table.{command, failed_reads_told}
 use Rattle.session_node.specs.declared.terms.SessionTerms.{SessionTerms}

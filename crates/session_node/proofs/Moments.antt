@@ -1,5 +1,6 @@
 -- The moments of turns, and what turns bring at them.
-use Rattle.std.proofs.Common.{◌≡◌, ℕ, zero, suc, ◌+◌, ◌<◌, max, List, [], ◌∷◌, ◌++◌, length, refl, ap, sym, subst, ◌∙◌, append-nil, length-append, arith}
+use Rattle.std.proofs.Common.{◌≡◌, ℕ, zero, suc, ◌+◌, ◌<◌, max, List, [], ◌∷◌, ◌++◌, length, refl, ap, sym, subst, ◌∙◌}
+use Rattle.std.proofs.Common.{append-nil, length-append, arith}
 use Rattle.std.specs.List.{AllByRecursion}
 use Rattle.std.specs.Prelude.{Option, Some, None}
 use Rattle.px_base.specs.Moments.{MomentsOf}
@@ -8,7 +9,7 @@ use Rattle.px_base.specs.declared.air.Turn.{Turn}
 use Rattle.px_base.proofs.Told.{Grows-none, Grows-trans}
 use Rattle.ftl0_packets.specs.Layout.{Item}
 use Rattle.ftl0_packets.specs.Stream.{Stream}
-use Rattle.ftl0_uploads.specs.Events.{Brings, Event, at_moment}
+use Rattle.ftl0_session.specs.Uploads.Events.{Brings, Event, at_moment}
 use Rattle.session_node.proofs.EventLemmas.{brings-more, brings-turn}
 
 -- each of the moments is the one given

@@ -5,11 +5,11 @@ use Rattle.px_base.specs.CallSign.{CallSign}
 use Rattle.disk_model.specs.declared.disk.Disk.{Ghosts}
 use Rattle.ftl0_packets.specs.Layout.{Item}
 use Rattle.ftl0_packets.specs.Reading.{packets_of, rest_of}
-use Rattle.selection_lists.specs.Lists.{CallerList}
+use Rattle.ftl0_session.specs.Lists.Lists.{CallerList}
 use Rattle.file_store.specs.State.{StandsOn, StoreState, store_in}
 use Rattle.file_store.proofs.DoesLemmas.{Does-none}
 use Rattle.file_store.proofs.WorkingLemmas.{does-among}
-use Rattle.ftl0_uploads.specs.Events.{Event, at_moment}
+use Rattle.ftl0_session.specs.Uploads.Events.{Event, at_moment}
 use Rattle.ftl0_session.specs.Table.{State}
 use Rattle.session_node.specs.declared.stop.NodeStop.{NodeStop}
 use Rattle.session_node.specs.Node.{GoesOn, Stops, event_of, events_at}

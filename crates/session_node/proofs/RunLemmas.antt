@@ -1,18 +1,19 @@
 -- How a session goes on over events, and how it stops.
-use Rattle.std.proofs.Common.{◌≡◌, ℕ, List, [], ◌∷◌, ◌+◌, ◌++◌, map, refl, ap, ap₂, sym, ◌∙◌, subst, append_assoc, append-nil}
+use Rattle.std.proofs.Common.{◌≡◌, ℕ, List, [], ◌∷◌, ◌+◌, ◌++◌, map, refl, ap, ap₂, sym, ◌∙◌, subst, append_assoc}
+use Rattle.std.proofs.Common.{append-nil}
 use Rattle.std.proofs.Math.Nat.{add_assoc}
 use Rattle.std.proofs.lemmas.List.{map-append}
 use Rattle.px_base.specs.CallSign.{CallSign}
 use Rattle.disk_model.specs.declared.disk.Disk.{Ghosts}
 use Rattle.ftl0_packets.specs.Items.{texts}
 use Rattle.ftl0_packets.specs.Layout.{Item, PacketValue, packet_text}
-use Rattle.selection_lists.specs.Lists.{CallerList}
+use Rattle.ftl0_session.specs.Lists.Lists.{CallerList}
 use Rattle.file_entries.specs.Command.{Command, after_all}
 use Rattle.file_entries.specs.Store.{Store}
 use Rattle.file_store.specs.State.{StoreState, store_in}
 use Rattle.file_store.specs.Working.{CutsOffAmongReads}
 use Rattle.file_store.proofs.WorkingLemmas.{among-same, among-then, cuts-among-then}
-use Rattle.ftl0_uploads.specs.Events.{Event, at_moment}
+use Rattle.ftl0_session.specs.Uploads.Events.{Event, at_moment}
 use Rattle.ftl0_session.specs.Run.{Event as MetEvent, RunsOver, event_row, heard_of}
 use Rattle.ftl0_session.specs.Table.{Row, State, failed_reads_told}
 use Rattle.ftl0_session.proofs.WorkingLemmas.{told-append}

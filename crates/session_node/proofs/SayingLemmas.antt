@@ -1,5 +1,6 @@
 -- The loop over what is due.
-use Rattle.std.proofs.Common.{◌≡◌, ℕ, suc, ◌+◌, ◌==◌, ◌<◌, ◌≤◌, List, [], ◌∷◌, ◌++◌, length, Bool, true, false, None, Some, refl, sym, ap, ◌∙◌, subst, append-nil, append_assoc, length-append, arith}
+use Rattle.std.proofs.Common.{◌≡◌, ℕ, suc, ◌+◌, ◌==◌, ◌<◌, ◌≤◌, List, [], ◌∷◌, ◌++◌, length, Bool, true, false, None}
+use Rattle.std.proofs.Common.{Some, refl, sym, ap, ◌∙◌, subst, append-nil, append_assoc, length-append, arith}
 use Rattle.std.specs.Prelude.{Result, Ok, Err, ⊤}
 use Rattle.std.proofs.Math.Nat.{add-zero}
 use Rattle.std.proofs.lemmas.Bool.Decides.{nat_tests}
@@ -15,8 +16,8 @@ use Rattle.file_store.specs.State.{StandsOn, StoreState, store_in}
 use Rattle.file_store.specs.Working.{DoesAmongReads, one_if}
 use Rattle.file_store.proofs.DoesLemmas.{Does-none}
 use Rattle.file_store.proofs.WorkingLemmas.{among-same, among-then, does-among}
-use Rattle.ftl0_uploads.specs.Failures.{failed_reads, read_fails}
-use Rattle.ftl0_downloads.specs.Needs.{IsDueIn}
+use Rattle.ftl0_session.specs.Uploads.Failures.{failed_reads, read_fails}
+use Rattle.ftl0_session.specs.Downloads.Needs.{IsDueIn}
 use Rattle.ftl0_session.specs.Filling.{PutsDue}
 use Rattle.ftl0_session.specs.SessionState.{SessionState, state_in}
 use Rattle.ftl0_session.specs.Table.{DuePacket, State, due_at, next_due, failed_reads_told, tells_failed_read}
@@ -26,7 +27,8 @@ use Rattle.session_node.specs.declared.stop.NodeStop.TheVariants as stop
 use Rattle.session_node.specs.Node.{SaysDue, SaysText}
 use Rattle.session_node.proofs.Invariants.{IsSaying}
 use Rattle.session_node.proofs.RunLemmas.{texts-append}
-use Rattle.session_node.proofs.SendingLemmas.{SendsTo, left_in, smaller, to-all, to-more, to-same, to-some, with-here, with-other, with_part}
+use Rattle.session_node.proofs.SendingLemmas.{SendsTo, left_in, smaller, to-all, to-more, to-same, to-some, with-here}
+use Rattle.session_node.proofs.SendingLemmas.{with-other, with_part}
 
 -- the last of some packets tells of a read that failed, or of none, beside those before
 tells-last : (sent : List PacketValue) (packet : PacketValue) → failed_reads_told (sent ++ packet ∷ []) ≡ failed_reads_told sent + one_if (tells_failed_read packet)

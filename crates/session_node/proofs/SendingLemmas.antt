@@ -1,5 +1,7 @@
 -- What is due is said behind a packet's replies, part by part, and how much is left of it.
-use Rattle.std.proofs.Common.{◌≡◌, ℕ, suc, ◌+◌, ◌-◌, ◌==◌, ◌<◌, ◌≤◌, List, [], ◌∷◌, ◌++◌, length, take, drop, Bool, true, false, ◌&&◌, ◌||◌, Option, None, Some, refl, sym, ap, ap₂, ◌∙◌, subst, append-nil, append_assoc, length-drop, arith, inl, inr}
+use Rattle.std.proofs.Common.{◌≡◌, ℕ, suc, ◌+◌, ◌-◌, ◌==◌, ◌<◌, ◌≤◌, List, [], ◌∷◌, ◌++◌, length, take, drop, Bool}
+use Rattle.std.proofs.Common.{true, false, ◌&&◌, ◌||◌, Option, None, Some, refl, sym, ap, ap₂, ◌∙◌, subst, append-nil}
+use Rattle.std.proofs.Common.{append_assoc, length-drop, arith, inl, inr}
 use Rattle.std.specs.Prelude.{if◌then◌else◌}
 use Rattle.std.specs.Option.{option_map}
 use Rattle.std.proofs.Math.Bool.{or-false}
@@ -7,16 +9,16 @@ use Rattle.std.proofs.lemmas.Bool.Decides.{nat_tests}
 use Rattle.ftl0_packets.specs.Layout.{PacketValue, data_end, data_part, dl_error_resp}
 use Rattle.file_entries.specs.Store.{Store}
 use Rattle.file_store.specs.State.{StoreState, store_in}
-use Rattle.ftl0_uploads.specs.declared.phase.Phase.{Phase}
-use Rattle.ftl0_uploads.specs.declared.phase.Phase.TheVariants as phase
-use Rattle.ftl0_uploads.specs.Failures.{Failure, failed_reads, read_fails}
-use Rattle.ftl0_uploads.specs.SessionState.{state_of}
-use Rattle.ftl0_downloads.specs.Needs.{IsDueIn}
-use Rattle.ftl0_downloads.specs.Sending as due
-use Rattle.ftl0_downloads.specs.Sending.{is_due, is_read, octets_due, state_after, state_at_end}
-use Rattle.ftl0_downloads.specs.Table.{DownloadState, listing, ready, sending, waiting}
-use Rattle.ftl0_downloads.proofs.DueLemmas.{octets_due-after}
-use Rattle.ftl0_downloads.proofs.SentLemmas.{is_due-after}
+use Rattle.ftl0_session.specs.declared.uploads.phase.Phase.{Phase}
+use Rattle.ftl0_session.specs.declared.uploads.phase.Phase.TheVariants as phase
+use Rattle.ftl0_session.specs.Uploads.Failures.{Failure, failed_reads, read_fails}
+use Rattle.ftl0_session.specs.Uploads.SessionState.{state_of}
+use Rattle.ftl0_session.specs.Downloads.Needs.{IsDueIn}
+use Rattle.ftl0_session.specs.Downloads.Sending as due
+use Rattle.ftl0_session.specs.Downloads.Sending.{is_due, is_read, octets_due, state_after, state_at_end}
+use Rattle.ftl0_session.specs.Downloads.Table.{DownloadState, listing, ready, sending, waiting}
+use Rattle.ftl0_session.proofs.Downloads.DueLemmas.{octets_due-after}
+use Rattle.ftl0_session.proofs.Downloads.SentLemmas.{is_due-after}
 use Rattle.ftl0_session.specs.Run.{Sends}
 use Rattle.ftl0_session.specs.SessionState.{SessionState, state_in}
 use Rattle.ftl0_session.specs.Table.{DuePacket, State, download_part, due_at, in_session, next_due, state_by}

@@ -1,5 +1,6 @@
 -- How a session's server goes on: what it takes and says, packet by packet and turn by turn.
-use Rattle.std.specs.Prelude.{◌≡◌, ◌≢◌, ℕ, ◌<◌, ◌≤◌, List, [], ◌∷◌, ◌++◌, drop, length, false, Result, Ok, Err, MatchResult, OnErr, OnOk, Option, ⊤}
+use Rattle.std.specs.Prelude.{◌≡◌, ◌≢◌, ℕ, ◌<◌, ◌≤◌, List, [], ◌∷◌, ◌++◌, drop, length, false, Result, Ok, Err}
+use Rattle.std.specs.Prelude.{MatchResult, OnErr, OnOk, Option, ⊤}
 use Rattle.px_base.specs.CallSign.{CallSign}
 use Rattle.px_base.specs.Octets.{IsFront}
 use Rattle.px_base.specs.Outside.{Gains, GainsPrefix, HasCause}
@@ -16,8 +17,8 @@ use Rattle.ftl0_packets.specs.Reading.{packets_of, read_item, rest_of}
 use Rattle.ftl0_packets.specs.Stream.{Stream}
 use Rattle.file_store.specs.State.{StoreState, store_in}
 use Rattle.file_store.specs.Working.{DoesAmongReads}
-use Rattle.ftl0_uploads.specs.Events.{Event, at_moment}
-use Rattle.ftl0_uploads.specs.Failures.{failed_reads, read_fails}
+use Rattle.ftl0_session.specs.Uploads.Events.{Event, at_moment}
+use Rattle.ftl0_session.specs.Uploads.Failures.{failed_reads, read_fails}
 use Rattle.ftl0_session.specs.Run.{Sends}
 use Rattle.ftl0_session.specs.Table.{State, failed_reads_told}
 use Rattle.ftl0_session.specs.Taking.{Working}

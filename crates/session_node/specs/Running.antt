@@ -6,13 +6,13 @@ use Rattle.px_base.specs.Outside.{Rose}
 use Rattle.disk_model.specs.declared.disk.Disk.{Ghosts}
 use Rattle.ftl0_packets.specs.Items.{texts}
 use Rattle.ftl0_packets.specs.Layout.{PacketValue}
-use Rattle.selection_lists.specs.Lists.{CallerList}
+use Rattle.ftl0_session.specs.Lists.Lists.{CallerList}
 use Rattle.file_entries.specs.Command.{Command, after_all}
 use Rattle.file_entries.specs.Store.{Store}
 use Rattle.file_store.specs.State.{StoreState, store_in}
 use Rattle.file_store.specs.Working.{CutsOffAmongReads, DoesAmongReads}
-use Rattle.ftl0_uploads.specs.Events.{Event}
-use Rattle.ftl0_uploads.specs.Failures.{Failure}
+use Rattle.ftl0_session.specs.Uploads.Events.{Event}
+use Rattle.ftl0_session.specs.Uploads.Failures.{Failure}
 use Rattle.ftl0_session.specs.Run.{Event as MetEvent, RunsOver, event_row, heard_of}
 use Rattle.ftl0_session.specs.Table.{Row, State, due_at, fault_reply, takes_memory, failed_reads_told}
 use Rattle.session_node.specs.declared.stop.NodeStop.{NodeStop}

@@ -3,8 +3,8 @@ use Rattle.std.specs.Prelude.{◌≡◌, ℕ, List, []}
 use Rattle.px_base.specs.Octets.{IsOctets}
 use Rattle.ftl0_packets.specs.Reading.{packets_of, rest_of, under_way}
 use Rattle.file_store.specs.State.{store_in}
-use Rattle.ftl0_uploads.specs.SessionState.{IsHeld, IsOnlyOut}
-use Rattle.ftl0_downloads.specs.Needs.{AreComplete, IsDueIn}
+use Rattle.ftl0_session.specs.Uploads.SessionState.{IsHeld, IsOnlyOut}
+use Rattle.ftl0_session.specs.Downloads.Needs.{AreComplete, IsDueIn}
 use Rattle.ftl0_session.specs.SessionState.{caller_of, state_in}
 use Rattle.session_node.specs.declared.server.SessionServer.TheInside.{Inside}
 use Rattle.session_node.specs.ServerState.{ServerState}

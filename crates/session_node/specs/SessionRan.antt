@@ -17,7 +17,7 @@ use Rattle.file_journal.specs.Walk.{state}
 use Rattle.ftl0_packets.specs.Items.{texts}
 use Rattle.ftl0_packets.specs.Layout.{PacketValue, packet_text}
 use Rattle.ftl0_packets.specs.Stream.{Stream}
-use Rattle.selection_lists.specs.Lists.{CallerList}
+use Rattle.ftl0_session.specs.Lists.Lists.{CallerList}
 use Rattle.file_entries.specs.Command.{Command}
 use Rattle.file_entries.specs.IsStore.{IsStore}
 use Rattle.file_entries.specs.Records.{store_magic}
@@ -25,7 +25,7 @@ use Rattle.file_entries.specs.Store.{Store}
 use Rattle.file_store.specs.State.{StoreState, standing_of, store_in}
 use Rattle.file_store.specs.Working.{CountsSome, CutsOffAmongReads, PutsAmongReads}
 use Rattle.file_store.specs.declared.refusals.StoreFault.{StoreFault}
-use Rattle.ftl0_uploads.specs.Events.{Brings, Event, packets_in}
+use Rattle.ftl0_session.specs.Uploads.Events.{Brings, Event, packets_in}
 use Rattle.ftl0_session.specs.Run.{Event as MetEvent, RunsOver, heard_of}
 use Rattle.ftl0_session.specs.Table.{State, command, greeting, failed_reads_told}
 use Rattle.session_node.specs.declared.stop.NodeStop.{NodeStop}

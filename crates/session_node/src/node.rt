@@ -11,8 +11,8 @@ use disk_model::Disk;
 use file_store::FileStore;
 use file_store::laws::state_law;
 use ftl0_session::Replies;
+use ftl0_session::lists::Lists;
 use px_base::{Air, Clock};
-use selection_lists::Lists;
 use std::alloc::Global;
 
 /// Serves one session over FTL0 octets without a link. The store is recovered from the disk first, and the lists are made;

@@ -6,7 +6,7 @@ ghost use Rattle.ftl0_packets.specs.Reading.{is_whole};
 ghost use Rattle.file_entries.specs.Files.{NothingOut};
 ghost use Rattle.file_entries.specs.IsStore.{IsStore};
 ghost use Rattle.file_store.specs.State.{StandsFor, StandsOn, store_in};
-ghost use Rattle.ftl0_downloads.specs.Needs.{IsDueIn};
+ghost use Rattle.ftl0_session.specs.Downloads.Needs.{IsDueIn};
 ghost use Rattle.ftl0_session.specs.SessionState.{IsFit, MayTake, caller_of, state_in};
 ghost use Rattle.ftl0_session.specs.Taking.{working};
 ghost use Rattle.session_node.specs.Node.{FeedsPiece, Replied, SaysDue, SaysText, ServesOctets, TakesTurn};
@@ -22,9 +22,9 @@ use file_store::FileStore;
 use file_store::laws::state_law;
 use ftl0_packets::laws::stream_law;
 use ftl0_packets::{PacketFed, PacketReader};
+use ftl0_session::lists::Lists;
 use ftl0_session::{Replies, ServerStop, Session};
 use px_base::{Air, AirDown, Call, Clock, Polled, ROOM};
-use selection_lists::Lists;
 use std::marker::Model;
 
 /// The moment of a turn: the one that is given, or the clock's.

@@ -3,7 +3,7 @@ use Rattle.std.proofs.Common.{sym, subst}
 use Rattle.std.specs.Prelude.{⊤, Result}
 use Rattle.ftl0_packets.specs.Values.{item_of}
 use Rattle.file_store.specs.State.{store_in}
-use Rattle.ftl0_downloads.specs.Table.{ready}
+use Rattle.ftl0_session.specs.Downloads.Table.{ready}
 use Rattle.ftl0_session.specs.declared.stop.ServerStop.{ServerStop}
 use Rattle.ftl0_session.specs.SessionState.{session_of}
 use Rattle.ftl0_session.specs.Taking.{Taken}

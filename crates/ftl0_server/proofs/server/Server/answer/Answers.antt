@@ -2,9 +2,9 @@
 use Rattle.std.proofs.Common.{ℕ, List, Option, subst, sym, ◌∙◌}
 use Rattle.px_base.specs.CallSign.{CallSign}
 use Rattle.ax25_link.specs.Window.{Window}
-use Rattle.selection_lists.specs.Lists.{CallerList, has_left}
-use Rattle.ftl0_connection.specs.Connected.{answering}
-use Rattle.ftl0_connection.specs.ConnectionState.{IsConnection}
+use Rattle.ftl0_session.specs.Lists.Lists.{CallerList, has_left}
+use Rattle.ftl0_server.specs.Connection.Connected.{answering}
+use Rattle.ftl0_server.specs.Connection.ConnectionState.{IsConnection}
 use Rattle.ftl0_server.specs.Kept.{server_state}
 use Rattle.ftl0_server.specs.Server.{called_by, with_slot}
 use Rattle.ftl0_server.specs.ServerState.{IsServer, ServerState}

@@ -2,7 +2,7 @@
 use Rattle.std.proofs.Common.{◌≡◌, get_or, None, Some, subst, sym, ◌∙◌, ap}
 use Rattle.std.specs.List.{position}
 use Rattle.std.proofs.lemmas.Option.{same_Some, slice_get-get_or}
-use Rattle.ftl0_uploads.specs.SessionState.{number_of}
+use Rattle.ftl0_session.specs.Uploads.SessionState.{number_of}
 use Rattle.ftl0_session.specs.SessionState.{SessionState, caller_of}
 use Rattle.ftl0_server.specs.Calls.{IsNew}
 use Rattle.ftl0_server.specs.declared.place.Place.TheVariants.{Talking}

@@ -1,8 +1,0 @@
-use Rattle.std.proofs.Common.{subst}
-use Rattle.ftl0_attempt.specs.AttemptState.{IsSomeAttempt}
-use Rattle.ftl0_attempt.specs.Inside.{attempt_state}
-use Rattle.ftl0_attempt.proofs.SomeLemmas.{some-attempt}
-use Rattle.ftl0_attempt.proofs.attempt.Attempt.some_law.Goals as goal
-
-pub returns : goal.returns
-returns c = subst IsSomeAttempt c.self.view_is (some-attempt (attempt_state c.self.inside) c.self.invariant.some)

@@ -1,0 +1,44 @@
+-- A frame is heard, and the event ends.
+use Rattle.std.proofs.Common.{◌≡◌, Err, rules, refl, sym, subst}
+use Rattle.std.specs.Prelude.{Result, ⊤}
+use Rattle.ax25_frames.specs.Values.{value_of}
+use Rattle.ftl0_job.specs.declared.stop.JobStop.{JobStop}
+use Rattle.ftl0_client.specs.Attempt.AttemptState.{Hears, PutsBy}
+use Rattle.ftl0_client.specs.Attempt.Hearing.{after_hearing, packets_heard}
+use Rattle.ftl0_client.specs.Attempt.Taking.{taking}
+use Rattle.ftl0_client.proofs.Attempt.HearLemmas.{hears-since}
+use Rattle.ftl0_client.proofs.attempt.attempt.Attempt.hear.Goals as goal
+
+pub returns-in_err-take_frame-clause-hears : goal.returns-in_err-take_frame-clause-hears
+returns-in_err-take_frame-clause-hears g c w a is =
+    let frame = value_of c.args.frame.now in
+    let why = c.in_err-take_frame.field-0.0 in
+    let stops : c.from_residual.result ≡ Err why = search rules in
+    let at_result : Result ⊤ JobStop → Type 0 =
+    λ r. Hears g.D.Disk w a frame c.args.notes.now c.take_frame.new.notes c.args.disk.now c.take_frame.new.disk c.take_frame.new.self r in
+    let by = c.in_err-take_frame.ensures.hears w a is in
+    subst at_result (sym stops)
+    (record {
+      by = by;
+      since =
+          hears-since g.D.Disk g.met.D.Disk.lasts_on (after_hearing w a frame) (packets_heard w a frame) c.args.notes.now c.take_frame.new.notes c.args.disk.now c.take_frame.new.disk
+          c.take_frame.new.self w (taking c.args.notes.now.lists (after_hearing w a frame) (packets_heard w a frame)) (Err why) refl by;
+    })
+
+pub returns-in_err-take_frame-clause-puts : goal.returns-in_err-take_frame-clause-puts
+returns-in_err-take_frame-clause-puts g c =
+    let stops : c.from_residual.result ≡ Err c.in_err-take_frame.field-0.0 = search rules in
+    let at_result : Result ⊤ JobStop → Type 0 = λ r. PutsBy g.D.Disk c.args.disk.now c.take_frame.new.disk r in
+    subst at_result (sym stops) c.in_err-take_frame.ensures.puts
+
+pub returns-clause-hears : goal.returns-clause-hears
+returns-clause-hears g c w a is =
+    let frame = value_of c.args.frame.now in
+    let made = c.in_ok-take_frame.ensures.hears w a is in
+    record {
+      by = (c.settle.ensures.settles w (taking c.args.notes.now.lists (after_hearing w a frame) (packets_heard w a frame)).after made.0, made.1);
+      since = made.1.since;
+    }
+
+pub returns-clause-puts : goal.returns-clause-puts
+returns-clause-puts g c = c.in_ok-take_frame.ensures.puts

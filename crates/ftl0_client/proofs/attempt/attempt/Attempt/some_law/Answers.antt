@@ -1,0 +1,8 @@
+use Rattle.std.proofs.Common.{subst}
+use Rattle.ftl0_client.specs.Attempt.AttemptState.{IsSomeAttempt}
+use Rattle.ftl0_client.specs.Attempt.Inside.{attempt_state}
+use Rattle.ftl0_client.proofs.Attempt.SomeLemmas.{some-attempt}
+use Rattle.ftl0_client.proofs.attempt.attempt.Attempt.some_law.Goals as goal
+
+pub returns : goal.returns
+returns c = subst IsSomeAttempt c.self.view_is (some-attempt (attempt_state c.self.inside) c.self.invariant.some)

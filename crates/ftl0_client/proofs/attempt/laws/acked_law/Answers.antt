@@ -1,0 +1,5 @@
+use Rattle.ftl0_client.proofs.Attempt.AckedLemmas.{acked-law}
+use Rattle.ftl0_client.proofs.attempt.laws.acked_law.Goals as goal
+
+pub returns : goal.returns
+returns c = acked-law

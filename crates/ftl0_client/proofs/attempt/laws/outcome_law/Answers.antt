@@ -1,0 +1,5 @@
+use Rattle.ftl0_client.proofs.Attempt.DownLemmas.{outcome-law}
+use Rattle.ftl0_client.proofs.attempt.laws.outcome_law.Goals as goal
+
+pub returns : goal.returns
+returns c = outcome-law

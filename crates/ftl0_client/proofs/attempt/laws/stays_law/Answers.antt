@@ -1,0 +1,5 @@
+use Rattle.ftl0_client.proofs.Attempt.EndedLemmas.{stays-law}
+use Rattle.ftl0_client.proofs.attempt.laws.stays_law.Goals as goal
+
+pub returns : goal.returns
+returns c = stays-law

@@ -1,0 +1,121 @@
+-- An attempt as contracts see it, which of the definitions' it stands for, and what its calls do.
+use Rattle.std.specs.Prelude.{◌≡◌, ℕ, List, [], ◌∷◌, ◌++◌, Bool, not, ◌&&◌, Option, None}
+use Rattle.std.specs.Prelude.{OnOk, Result, Ok, Err, IsErrOf, ⊤}
+use Rattle.px_base.specs.Octets.{IsOctets}
+use Rattle.ax25_frames.specs.FrameText.{FrameValue}
+use Rattle.disk_model.specs.declared.disk.Disk.{Ghosts}
+use Rattle.ax25_link.specs.declared.state.Why.{Why}
+use Rattle.ax25_link.specs.Ends.{LinkEnd}
+use Rattle.ax25_link.specs.Kept.{Kept, SameStations, StandsFor, is_pending}
+use Rattle.ax25_link.specs.Timer.{is_down}
+use Rattle.ax25_link.specs.Window.{Window, window_of}
+use Rattle.ftl0_packets.specs.Layout.{Item}
+use Rattle.ftl0_packets.specs.Reading.{packets_of, rest_of}
+use Rattle.file_journal.specs.Calls.{Leaves, Puts}
+use Rattle.client_notes.specs.Several.{DoesSeveral, MakesFirst}
+use Rattle.client_notes.specs.State.{NotesState, StandsOn}
+use Rattle.ftl0_job.specs.declared.stop.JobStop.{JobStop}
+use Rattle.ftl0_job.specs.declared.stop.JobStop.TheVariants as stop
+use Rattle.ftl0_job.specs.JobState.{MayTake}
+use Rattle.ftl0_job.specs.Noting.{HasNoted}
+use Rattle.ftl0_job.specs.Table.{JobState, job_row}
+use Rattle.ftl0_job.specs.Taking.{StopsAt}
+use Rattle.ftl0_client.specs.Attempt.Attempted.{Attempted}
+use Rattle.ftl0_client.specs.Attempt.Hearing.{after_hearing, hearing, packets_heard}
+use Rattle.ftl0_client.specs.Attempt.Taking.{Happened, taking}
+
+-- the link, the octets that were accepted and of which no packet was taken yet, the job, and why the link went down
+-- before an outcome
+pub record AttemptState : Type 0 where
+  pub link : Kept
+  pub octets : List ℕ
+  pub job : JobState
+  pub down : Option Why
+
+-- The link stands for some end.
+pub record StandsForSome (link : Kept) : Type 0 where
+  pub w : Window
+  pub end : LinkEnd
+  pub stands : StandsFor w link end
+
+-- The attempt stands for this one.
+pub record IsAttempt (w : Window) (attempt : AttemptState) (a : Attempted) : Type 0 where
+  pub link : StandsFor w attempt.link a.end
+  pub rest : attempt.octets ≡ a.rest
+  pub job : attempt.job ≡ a.job
+  pub down : attempt.down ≡ a.down
+
+-- It stands for some attempt, with the window of its link.
+abbrev pub IsSomeAttempt : AttemptState → Type 0
+IsSomeAttempt attempt = (a : Attempted) × IsAttempt (window_of attempt.link.k) attempt a
+
+-- Whatever attempt it stood for, it stands for what this makes of that now.
+abbrev pub Becomes : AttemptState → AttemptState → (Window → Attempted → Attempted) → Type 0
+Becomes before now made = (w : Window) (a : Attempted) → IsAttempt w before a → IsAttempt w now (made w a)
+
+-- whether the attempt is over: the link is down, and nothing is to be sent
+abbrev pub is_closed : Kept → Bool
+is_closed link = is_down link.state && not (is_pending link)
+
+-- A packet was to be taken by a job without an outcome. The disk failed in one of its row's commands; or there was no
+-- memory for one of them, or none for the octets of a list, and the commands before are done. The job is as it was.
+pub record StopsAtPacket {D : Type 0} (g : Ghosts D) (item : Item) (job job_now : JobState)
+    (notes notes_now : NotesState) (disk disk_now : D) (why : JobStop) : Type 0 where
+  pub no_outcome : job.ending ≡ None
+  pub same : job_now ≡ job
+  pub noted : HasNoted {T = ⊤} g notes notes_now disk disk_now (job_row notes.lists job item).commands (Err why)
+  pub memory : StopsAt {T = ⊤} job.work (Err why)
+
+-- Of these packets of an event those before one were taken, from this attempt on, and their commands are done. At that
+-- one it stopped, over the notes then.
+pub record StopsAmong {D : Type 0} (g : Ghosts D) (a : Attempted) (items : List Item) (notes notes_now : NotesState)
+    (disk disk_now : D) (attempt : AttemptState) (why : JobStop) : Type 0 where
+  pub before : List Item
+  pub item : Item
+  pub behind : List Item
+  pub is_part : items ≡ before ++ item ∷ behind
+  pub notes_then : NotesState
+  pub disk_then : D
+  pub done : DoesSeveral g ⊥ notes notes_then disk disk_then (taking notes.lists a before).noted
+  pub stops :
+      StopsAtPacket g item (taking notes.lists a before).after.job attempt.job notes_then notes_now disk_then disk_now
+      why
+  pub down : attempt.down ≡ a.down
+
+-- What an event that makes this, by packets that are taken from this attempt on, does: all of it, and its commands are
+-- done; or it stops at one of the packets.
+abbrev pub HearsBy :
+    {D : Type 0} → Ghosts D → Window → Happened → Attempted → List Item → NotesState → NotesState → D → D
+    → AttemptState → Result ⊤ JobStop → Type 0
+HearsBy g w event a items notes notes_now disk disk_now attempt (Ok done) =
+    IsAttempt w attempt event.after × DoesSeveral g ⊥ notes notes_now disk disk_now event.noted
+HearsBy g w event a items notes notes_now disk disk_now attempt (Err why) =
+    StopsAmong g a items notes notes_now disk disk_now attempt why
+
+-- This frame was heard by an attempt that stands for this one. Since it came each image stands for the notes after the
+-- first of the commands that the event has where nothing stops it, for some number of them.
+pub record Hears {D : Type 0} (g : Ghosts D) (w : Window) (a : Attempted) (frame : FrameValue)
+    (notes notes_now : NotesState) (disk disk_now : D) (attempt : AttemptState) (result : Result ⊤ JobStop)
+    : Type 0 where
+  pub by :
+      HearsBy g w (hearing w notes.lists a frame) (after_hearing w a frame) (packets_heard w a frame) notes notes_now
+      disk disk_now attempt result
+  pub since : Leaves g disk disk_now (λ _. MakesFirst notes.lists (hearing w notes.lists a frame).noted)
+
+-- What an event leaves of a link, a job, the notes and the disk: what the next event needs, where nothing stopped it.
+pub record LeavesFit {D T : Type 0} (g : Ghosts D) (notes_now : NotesState) (disk_now : D) (link link_now : Kept)
+    (job_now : JobState) (result : Result T JobStop) : Type 0 where
+  pub may : OnOk result (MayTake g notes_now disk_now job_now)
+  pub stands_on : StandsOn g notes_now disk_now
+  pub stations : SameStations link link_now
+  pub some : StandsForSome link_now
+
+-- what is said of the disk's counts
+abbrev pub PutsBy : {D : Type 0} → Ghosts D → D → D → Result ⊤ JobStop → Type 0
+PutsBy g disk disk_now result = Puts g (IsErrOf result stop.Disk) disk disk_now
+
+-- No packet is whole of these octets: they wait for the end of the one under way.
+pub record IsWaiting (octets : List ℕ) : Type 0 where
+  pub none : packets_of octets ≡ []
+  pub left : rest_of octets ≡ octets
+  pub are_octets : IsOctets octets

@@ -1,7 +1,0 @@
-use Rattle.std.proofs.Common.{length, arith}
-use Rattle.ftl0_downloads.specs.Sending.{octets_due}
-use Rattle.ftl0_downloads.proofs.SentLemmas.{sent-all}
-use Rattle.ftl0_downloads.proofs.laws.sent_law.Goals as goal
-
-pub returns : goal.returns
-returns c store state is due = sent-all (length (octets_due store state)) store state is due (omega arith)

@@ -1,7 +1,0 @@
--- What the code's spans stand for.
-use Rattle.ftl0_downloads.specs.declared.span.Span.{Span}
-use Rattle.ftl0_downloads.specs.Table.{Due, stored}
-
--- what is due of the file
-abbrev pub due_of : Span → Due
-due_of span = stored span.number span.place span.last

@@ -1,0 +1,98 @@
+-- A packet that is taken is answered by its replies, and one that stops the server by code 3, or not at all.
+use Rattle.std.proofs.Common.{Ok, Err, refl}
+use Rattle.ftl0_packets.specs.Reading.{read_item}
+use Rattle.ftl0_packets.specs.Values.{item_of}
+use Rattle.ftl0_session.specs.declared.stop.ServerStop.TheVariants as stop
+use Rattle.ftl0_session.specs.SessionState.{caller_of}
+use Rattle.ftl0_session.specs.Taking.{working}
+use Rattle.ftl0_server.specs.declared.connection.fate.Fate.TheVariants.{Stays, Ends}
+use Rattle.ftl0_server.proofs.Connection.AnswerLemmas.{said-done, said-fault, said-none, some-replied, taken-puts}
+use Rattle.ftl0_server.proofs.Connection.AnswerLemmas.{takes-read, up-replied}
+use Rattle.ftl0_server.proofs.Connection.StationLemmas.{stations-same}
+use Rattle.ftl0_server.proofs.connection.connection.answer.Goals as goal
+
+pub returns-in-Ok-clause-takes : goal.returns-in-Ok-clause-takes
+returns-in-Ok-clause-takes g c w end first stands =
+    takes-read g.D.Disk w end c.args.moment c.args.session.now c.take.new.self c.args.store.now c.take.new.store c.args.lists.now c.take.new.lists c.args.disk.now c.take.new.disk c.reply.new.link first
+    (c.reply.result, Ok tt) (item_of c.packet.result) (read_item c.args.reader.now) c.packet.ensures.item
+    (said-done g.D.Disk g.met.D.Disk.lasts_on w end c.args.moment c.args.session.now c.take.new.self c.args.store.now c.take.new.store c.args.lists.now c.take.new.lists c.args.disk.now c.take.new.disk
+    c.reply.new.link (item_of c.packet.result) first c.requires.may.may.healthy c.requires.may.may.stands_on c.reply.result c.as_slice.result.now c.take.new.replies.items c.as_slice.ensures.value
+    (c.reply.ensures.over w end stands) (c.reply.ensures.queued w end stands) c.in-Ok.ensures.takes)
+
+pub returns-in-Ok-clause-fit : goal.returns-in-Ok-clause-fit
+returns-in-Ok-clause-fit g c =
+    record {
+      puts =
+          taken-puts g.D.Disk g.met.D.Disk.lasts_on (caller_of c.args.session.now) c.args.moment (item_of c.packet.result) (working c.args.session.now c.args.store.now c.args.lists.now)
+          (working c.take.new.self c.take.new.store c.take.new.lists) c.args.disk.now c.take.new.disk c.take.new.replies.items (Ok tt) c.in-Ok.ensures.takes;
+      kept = c.in-Ok.ensures.kept;
+      others = c.in-Ok.ensures.others;
+      healthy = c.in-Ok.ensures.healthy;
+      fit = record { stands_on = c.in-Ok.ensures.stands_on; held = c.in-Ok.ensures.held; only = c.in-Ok.ensures.only; due = c.in-Ok.ensures.due; complete = c.in-Ok.ensures.complete };
+      up = up-replied c.args.link.now c.reply.new.link c.as_slice.result.now c.requires.may.some c.reply.ensures.queued c.reply.result c.requires.may.up c.reply.ensures.over;
+      caller = c.in-Ok.ensures.caller;
+      stations = c.reply.ensures.stations;
+      some = some-replied c.args.link.now c.reply.new.link c.as_slice.result.now c.requires.may.some c.reply.ensures.queued;
+    }
+
+pub returns-in-Err-Disk-clause-takes : goal.returns-in-Err-Disk-clause-takes
+returns-in-Err-Disk-clause-takes g c w end first stands =
+    takes-read g.D.Disk w end c.args.moment c.args.session.now c.take.new.self c.args.store.now c.take.new.store c.args.lists.now c.take.new.lists c.args.disk.now c.take.new.disk
+    c.reply-in-Err-Disk.new.link first (Ends, Err stop.Disk) (item_of c.packet.result) (read_item c.args.reader.now) c.packet.ensures.item
+    (said-fault g.D.Disk g.met.D.Disk.lasts_on w end c.args.moment c.args.session.now c.take.new.self c.args.store.now c.take.new.store c.args.lists.now c.take.new.lists c.args.disk.now c.take.new.disk
+    c.reply-in-Err-Disk.new.link (item_of c.packet.result) first c.requires.may.may.healthy c.requires.may.may.stands_on c.as_slice-in-Err-Disk.result.now c.take.new.replies.items
+    c.as_slice-in-Err-Disk.ensures.value (c.reply-in-Err-Disk.ensures.queued w end stands) (rw c.in-Err-Disk.field-0-is at c.in-Err-Disk.ensures.takes))
+
+pub returns-in-Err-Disk-clause-fit : goal.returns-in-Err-Disk-clause-fit
+returns-in-Err-Disk-clause-fit g c =
+    record {
+      puts =
+          taken-puts g.D.Disk g.met.D.Disk.lasts_on (caller_of c.args.session.now) c.args.moment (item_of c.packet.result) (working c.args.session.now c.args.store.now c.args.lists.now)
+          (working c.take.new.self c.take.new.store c.take.new.lists) c.args.disk.now c.take.new.disk c.take.new.replies.items (Err stop.Disk) (rw c.in-Err-Disk.field-0-is at c.in-Err-Disk.ensures.takes);
+      kept = c.in-Err-Disk.ensures.kept;
+      others = c.in-Err-Disk.ensures.others;
+      healthy = λ fine. absurd (fine refl);
+      fit =
+          record {
+            stands_on = c.in-Err-Disk.ensures.stands_on;
+            held = c.in-Err-Disk.ensures.held;
+            only = c.in-Err-Disk.ensures.only;
+            due = c.in-Err-Disk.ensures.due;
+            complete = c.in-Err-Disk.ensures.complete;
+          };
+      up = λ stays. absurd cc;
+      caller = c.in-Err-Disk.ensures.caller;
+      stations = c.reply-in-Err-Disk.ensures.stations;
+      some = some-replied c.args.link.now c.reply-in-Err-Disk.new.link c.as_slice-in-Err-Disk.result.now c.requires.may.some c.reply-in-Err-Disk.ensures.queued;
+    }
+
+pub returns-in-Err-OutOfMemory-clause-takes : goal.returns-in-Err-OutOfMemory-clause-takes
+returns-in-Err-OutOfMemory-clause-takes g c w end first stands =
+    takes-read g.D.Disk w end c.args.moment c.args.session.now c.take.new.self c.args.store.now c.take.new.store c.args.lists.now c.take.new.lists c.args.disk.now c.take.new.disk c.args.link.now first
+    (Stays, Err stop.OutOfMemory) (item_of c.packet.result) (read_item c.args.reader.now) c.packet.ensures.item
+    (said-none g.D.Disk g.met.D.Disk.lasts_on w end c.args.moment c.args.session.now c.take.new.self c.args.store.now c.take.new.store c.args.lists.now c.take.new.lists c.args.disk.now c.take.new.disk
+    c.args.link.now (item_of c.packet.result) first c.requires.may.may.healthy c.requires.may.may.stands_on c.take.new.replies.items (rw c.in-Err-OutOfMemory.field-0-is at c.in-Err-OutOfMemory.ensures.takes))
+
+pub returns-in-Err-OutOfMemory-clause-fit : goal.returns-in-Err-OutOfMemory-clause-fit
+returns-in-Err-OutOfMemory-clause-fit g c =
+    record {
+      puts =
+          taken-puts g.D.Disk g.met.D.Disk.lasts_on (caller_of c.args.session.now) c.args.moment (item_of c.packet.result) (working c.args.session.now c.args.store.now c.args.lists.now)
+          (working c.take.new.self c.take.new.store c.take.new.lists) c.args.disk.now c.take.new.disk c.take.new.replies.items (Err stop.OutOfMemory)
+          (rw c.in-Err-OutOfMemory.field-0-is at c.in-Err-OutOfMemory.ensures.takes);
+      kept = c.in-Err-OutOfMemory.ensures.kept;
+      others = c.in-Err-OutOfMemory.ensures.others;
+      healthy = rw c.in-Err-OutOfMemory.field-0-is at c.in-Err-OutOfMemory.ensures.healthy;
+      fit =
+          record {
+            stands_on = c.in-Err-OutOfMemory.ensures.stands_on;
+            held = c.in-Err-OutOfMemory.ensures.held;
+            only = c.in-Err-OutOfMemory.ensures.only;
+            due = c.in-Err-OutOfMemory.ensures.due;
+            complete = c.in-Err-OutOfMemory.ensures.complete;
+          };
+      up = λ stays. c.requires.may.up;
+      caller = c.in-Err-OutOfMemory.ensures.caller;
+      stations = stations-same c.args.link.now;
+      some = c.requires.may.some;
+    }

@@ -1,0 +1,101 @@
+-- A connection as contracts see it, which of the definitions' it stands for, and what its calls do.
+use Rattle.std.specs.Prelude.{◌≡◌, ℕ, List, [], ◌++◌, Bool, true, false, Result, Ok, Err, ⊤}
+use Rattle.px_base.specs.Octets.{IsOctets}
+use Rattle.disk_model.specs.declared.disk.Disk.{Ghosts}
+use Rattle.ax25_link.specs.Ends.{LinkEnd}
+use Rattle.ax25_link.specs.Kept.{Kept, StandsFor}
+use Rattle.ax25_link.specs.Window.{Window}
+use Rattle.ftl0_packets.specs.Reading.{packets_of, rest_of}
+use Rattle.ftl0_session.specs.Lists.Lists.{CallerList}
+use Rattle.file_journal.specs.Calls.{Leaves}
+use Rattle.file_store.specs.OnDisk.{MakesFirst}
+use Rattle.file_store.specs.State.{StoreState, store_in}
+use Rattle.file_store.specs.Working.{CutsOffAmongReads, DoesAmongReads}
+use Rattle.ftl0_session.specs.Uploads.Failures.{Failure, failed_reads, failed_write}
+use Rattle.ftl0_session.specs.declared.stop.ServerStop.{ServerStop}
+use Rattle.ftl0_session.specs.declared.stop.ServerStop.TheVariants as stop
+use Rattle.ftl0_session.specs.SessionState.{SessionState, state_in}
+use Rattle.ftl0_server.specs.declared.connection.fate.Fate.{Fate}
+use Rattle.ftl0_server.specs.declared.connection.fate.Fate.TheVariants.{Stays, Ends}
+use Rattle.ftl0_server.specs.Connection.Connected.{Connected}
+use Rattle.ftl0_server.specs.Connection.Hearing.{Happened}
+use Rattle.ftl0_server.specs.Connection.Taking.{fails, goes_on}
+
+-- the link, the octets that were accepted and of which no packet was taken yet, and the session
+pub record ConnectionState : Type 0 where
+  pub link : Kept
+  pub octets : List ℕ
+  pub session : SessionState
+
+-- The link stands for some end.
+pub record StandsForSome (link : Kept) : Type 0 where
+  pub w : Window
+  pub end : LinkEnd
+  pub stands : StandsFor w link end
+
+-- The connection stands for this one, whose session's octets that wait are the store's to tell.
+pub record IsConnection (w : Window) (store : StoreState) (connection : ConnectionState) (c : Connected) : Type 0 where
+  pub link : StandsFor w connection.link c.end
+  pub rest : connection.octets ≡ c.rest
+  pub state : state_in store connection.session ≡ c.state
+
+-- whether the session is over, as the code says it
+abbrev pub is_over : Fate → Bool
+is_over Stays = false
+is_over Ends = true
+
+-- what the connection stands for now: where its session is over, for what its link has still to send
+abbrev pub StandsAfter : Window → StoreState → ConnectionState → Bool → Connected → Fate → Type 0
+StandsAfter w store connection over after Stays = (over ≡ false) × IsConnection w store connection after
+StandsAfter w store connection over after Ends = (over ≡ true) × StandsFor w connection.link after.end
+
+-- the same of what an event makes, and the lists are those that it makes too
+abbrev pub IsAfter : Window → StoreState → List CallerList → ConnectionState → Happened → Fate → Type 0
+IsAfter w store lists connection happened fate =
+    (lists ≡ happened.lists) × StandsAfter w store connection happened.over happened.after fate
+
+-- What a frame that is heard does, where `event` gives what it makes of the connection by the writes and syncs that
+-- fail in it. Where all was taken none failed, and its commands are done. Where the disk failed, at a write or a sync
+-- of some packet and nowhere else, the commands before it are done, and it failed in one of that packet's; the replies
+-- before it and code 3 are left to be sent. Where there was no memory for some packet, the commands of the packets
+-- before it are done, and its own aren't begun. The count of failed reads rose by at least as many as the parts told of.
+abbrev pub HearsBy :
+    {D : Type 0} → Ghosts D → Window → (List Failure → Happened) → StoreState → StoreState → List CallerList → D → D
+    → ConnectionState → Fate → Result ⊤ ServerStop → Type 0
+HearsBy g w event store store_now lists_now disk disk_now connection fate (Ok done) =
+    ((event []).halt ≡ goes_on) × IsAfter w store_now lists_now connection (event []) fate
+    × DoesAmongReads g ⊥ (event []).missed store store_now disk disk_now (event []).done
+HearsBy g w event store store_now lists_now disk disk_now connection fate (Err stop.Disk) =
+    (part : ℕ) × ((event (failed_write part)).halt ≡ fails)
+    × IsAfter w store_now lists_now connection (event (failed_write part)) fate
+    × CutsOffAmongReads g ⊤ (event (failed_write part)).missed store store_now disk disk_now
+    (event (failed_write part)).done (event (failed_write part)).cut
+HearsBy g w event store store_now lists_now disk disk_now connection fate (Err stop.OutOfMemory) =
+    (part : ℕ) × ((event (failed_write part)).halt ≡ fails) × (fate ≡ Stays)
+    × DoesAmongReads g ⊥ (event (failed_write part)).missed store store_now disk disk_now
+    (event (failed_write part)).done
+
+-- what an event makes by the writes and syncs that fail in it, where reads fail at these parts
+abbrev pub with_reads : {X : Type 0} → (List Failure → X) → List ℕ → List Failure → X
+with_reads event parts writes = event (writes ++ failed_reads parts)
+
+-- A frame was heard, of which this is what it makes of the connection by the failures of the disk; reads failed at
+-- these parts of it. Since it came each image stands for the store after the first of the commands that it has where no
+-- write and no sync fails, for some number of them.
+pub record Hears {D : Type 0} (g : Ghosts D) (w : Window) (event : List Failure → Happened)
+    (store store_now : StoreState) (lists_now : List CallerList) (disk disk_now : D) (connection : ConnectionState)
+    (heard : Fate × Result ⊤ ServerStop) : Type 0 where
+  pub parts : List ℕ
+  pub by :
+      HearsBy g w (with_reads event parts) store store_now lists_now disk disk_now connection heard.0 heard.1
+  pub since : Leaves g disk disk_now (λ _. MakesFirst (store_in store) (with_reads event parts []).done)
+
+-- the connection of this link and session, with no octets left
+abbrev pub with_nothing_left : Kept → SessionState → ConnectionState
+with_nothing_left link session = record { link = link; octets = []; session = session }
+
+-- No packet is whole of these octets: they wait for the end of the one under way.
+pub record IsWaiting (octets : List ℕ) : Type 0 where
+  pub none : packets_of octets ≡ []
+  pub left : rest_of octets ≡ octets
+  pub are_octets : IsOctets octets

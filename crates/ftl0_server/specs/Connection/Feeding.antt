@@ -1,0 +1,173 @@
+-- How a connection takes packets, and then queues what is due, part by part; and what each part leaves for the next
+-- one.
+use Rattle.std.specs.Prelude.{◌≡◌, ◌⊎◌, ℕ, ◌+◌, ◌<◌, ◌≤◌, List, [], ◌++◌, length, All, Bool, true, false}
+use Rattle.std.specs.Prelude.{None, Some, Result, Ok, IsErrOf, ⊤}
+use Rattle.disk_model.specs.declared.disk.Disk.{Ghosts}
+use Rattle.ax25_link.specs.declared.state.LinkState.TheVariants.{Up}
+use Rattle.ax25_link.specs.Calls.{after_push}
+use Rattle.ax25_link.specs.Ends.{LinkEnd, free_octets}
+use Rattle.ax25_link.specs.Kept.{Kept, SameStations, StandsFor, Steps}
+use Rattle.ax25_link.specs.Queue.{room_of}
+use Rattle.ax25_link.specs.Window.{Window}
+use Rattle.ftl0_packets.specs.Layout.{Item, packet_text}
+use Rattle.ftl0_packets.specs.Reading.{packets_of, rest_of}
+use Rattle.file_entries.specs.Kept.{KeepsComplete}
+use Rattle.file_entries.specs.Store.{Store}
+use Rattle.ftl0_session.specs.Lists.Lists.{CallerList}
+use Rattle.file_store.specs.State.{StandsOn, StoreState, store_in}
+use Rattle.file_store.specs.Working.{DoesAmongReads, PutsAmongReads, one_if}
+use Rattle.ftl0_session.specs.Uploads.Failures.{Failure, failed_reads}
+use Rattle.ftl0_session.specs.Uploads.Others.{KeepsOtherCallers}
+use Rattle.ftl0_session.specs.Downloads.Needs.{IsDueIn}
+use Rattle.ftl0_session.specs.declared.stop.ServerStop.{ServerStop}
+use Rattle.ftl0_session.specs.declared.stop.ServerStop.TheVariants as stop
+use Rattle.ftl0_session.specs.SessionState.{MayTake as SessionMayTake, SessionState, IsFit, caller_of, state_in}
+use Rattle.ftl0_session.specs.Table.{DuePacket, State, next_due, tells_failed_read}
+use Rattle.ftl0_server.specs.declared.connection.fate.Fate.{Fate}
+use Rattle.ftl0_server.specs.declared.connection.fate.Fate.TheVariants.{Stays}
+use Rattle.ftl0_server.specs.Connection.ConnectionState.{ConnectionState, Hears, HearsBy, StandsForSome}
+use Rattle.ftl0_server.specs.Connection.ConnectionState.{with_nothing_left}
+use Rattle.ftl0_server.specs.Connection.ConnectionState.{with_reads}
+use Rattle.ftl0_server.specs.Connection.Hearing.{Happened, progressed}
+use Rattle.ftl0_server.specs.Connection.Taking.{Progress, enough_free, fails, queuing, taking}
+
+-- what a link and a session need to take packets: the link is up, and stands for some end; and the session may take one
+pub record MayTake {D : Type 0} (g : Ghosts D) (store : StoreState) (disk : D) (lists : List CallerList) (link : Kept)
+    (session : SessionState) : Type 0 where
+  pub up : link.state ≡ Up
+  pub some : StandsForSome link
+  pub may : SessionMayTake g store disk lists session
+
+-- What packets leave of a link, a session, the store, the lists and the disk, whatever they were.
+pub record LeavesFit {D : Type 0} (g : Ghosts D) (store store_now : StoreState) (lists_now : List CallerList)
+    (disk disk_now : D) (link link_now : Kept) (session session_now : SessionState) (told : Fate × Result ⊤ ServerStop)
+    : Type 0 where
+  pub puts : PutsAmongReads g (IsErrOf told.1 stop.Disk) disk disk_now
+  pub kept : KeepsComplete (store_in store) (store_in store_now)
+  pub others : KeepsOtherCallers store store_now (caller_of session)
+  pub healthy : ¬ IsErrOf told.1 stop.Disk → store_now.journal.failed ≡ false
+  pub fit : IsFit g store_now disk_now lists_now session_now
+  pub up : told.0 ≡ Stays → link_now.state ≡ Up
+  pub caller : caller_of session_now ≡ caller_of session
+  pub stations : SameStations link link_now
+  pub some : StandsForSome link_now
+
+-- nothing stopped the connection or the server
+abbrev pub IsGoing : Fate × Result ⊤ ServerStop → Type 0
+IsGoing told = told ≡ (Stays, Ok tt)
+
+-- with these octets accepted, or left, too
+abbrev pub with_octets : ConnectionState → List ℕ → ConnectionState
+with_octets connection octets = record connection { octets = connection.octets ++ octets }
+
+-- the part is one of so many, the first of which has this number
+abbrev pub IsAmong : ℕ → ℕ → ℕ → Type 0
+IsAmong first count part = (first ≤ part) × (part < first + count)
+
+-- what these packets make of a connection with this session, where the first of them is the event's part of this number
+abbrev pub taking_some :
+    ℕ → SessionState → State → Store → List CallerList → LinkEnd → List Item → ℕ → List Failure → Happened
+taking_some moment session state store lists end items first failures =
+    progressed [] (taking (caller_of session) moment store lists state end items failures first)
+
+-- Packets were taken as the parts of an event from this one on, and reads failed at these of them.
+pub record TakesPackets {D : Type 0} (g : Ghosts D) (w : Window) (moment : ℕ) (session : SessionState)
+    (store store_now : StoreState) (lists lists_now : List CallerList) (end : LinkEnd) (items : List Item) (first : ℕ)
+    (disk disk_now : D) (link_now : Kept) (session_now : SessionState) (told : Fate × Result ⊤ ServerStop)
+    : Type 0 where
+  pub parts : List ℕ
+  pub among : All (IsAmong first (length items)) parts
+  pub by :
+      HearsBy g w
+      (with_reads (taking_some moment session (state_in store session) (store_in store) lists end items first) parts)
+      store store_now lists_now disk disk_now (with_nothing_left link_now session_now) told.0 told.1
+
+-- Packets at the front of the octets were taken, up to one that stops the connection, if one does: the rest are those
+-- of the octets that are left now.
+pub record Feeds {D : Type 0} (g : Ghosts D) (moment : ℕ) (before now : ConnectionState) (store store_now : StoreState)
+    (lists lists_now : List CallerList) (disk disk_now : D) (told : Fate × Result ⊤ ServerStop) : Type 0 where
+  pub items : List Item
+  pub packets : packets_of before.octets ≡ items ++ packets_of now.octets
+  pub rest : rest_of before.octets ≡ rest_of now.octets
+  pub takes :
+      (w : Window) (end : LinkEnd) (first : ℕ) → StandsFor w before.link end
+      → TakesPackets g w moment before.session store store_now lists lists_now end items first disk disk_now now.link
+      now.session told
+
+-- The parts at which reads failed are parts of the event, and whatever reads fail at later parts changes nothing of it.
+pub record IsSettled (event : List Failure → Progress) (parts : List ℕ) : Type 0 where
+  pub before : All (λ part. part < (event (failed_reads parts)).part) parts
+  pub later :
+      (more : List ℕ) → All (λ part. (event (failed_reads parts)).part ≤ part) more
+      → event (failed_reads (parts ++ more)) ≡ event (failed_reads parts)
+
+-- A frame was heard, of which this event is what its packets make, and these octets were left; what is due behind them
+-- isn't queued yet. Where a write or a sync fails the session is over.
+pub record HearsParts {D : Type 0} (g : Ghosts D) (w : Window) (left : List ℕ) (event : List Failure → Progress)
+    (store store_now : StoreState) (lists_now : List CallerList) (disk disk_now : D) (connection : ConnectionState)
+    (told : Fate × Result ⊤ ServerStop) : Type 0 where
+  pub hears :
+      Hears g w (λ failures. progressed left (event failures)) store store_now lists_now disk disk_now connection told
+  pub over : (failures : List Failure) → (event failures).halt ≡ fails → (event failures).over ≡ true
+  pub settled : IsGoing told → IsSettled event hears.parts
+
+-- nothing is due, whatever reads fail
+abbrev pub IsNothingDue : StoreState → SessionState → Type 0
+IsNothingDue store session = (fails : Bool) → next_due (store_in store) (state_in store session) fails ≡ None
+
+-- whatever end the link stands for, this is so of how many octets are free
+abbrev pub AreFree : Kept → (ℕ → Type 0) → Type 0
+AreFree link P = (w : Window) (end : LinkEnd) → StandsFor w link end → P (free_octets end)
+
+-- What is due next was queued, where enough octets were free.
+pub record QueuesPacket {D : Type 0} (g : Ghosts D) (store : StoreState) (disk disk_now : D) (old new : ConnectionState)
+    : Type 0 where
+  pub fails : Bool
+  pub due : DuePacket
+  pub is_due : next_due (store_in store) (state_in store old.session) fails ≡ Some due
+  pub enough : AreFree old.link (λ free. enough_free ≤ free)
+  pub queued : Steps old.link new.link (λ w end. after_push end (packet_text due.packet))
+  pub state : state_in store new.session ≡ due.state
+  pub reads : DoesAmongReads g ⊥ (one_if (tells_failed_read due.packet)) store store disk disk_now []
+  pub fewer : room_of new.link.queue < room_of old.link.queue
+
+-- the same; or nothing is due, or fewer octets are free, and it stands as it stood
+abbrev pub QueuesNext :
+    {D : Type 0} → Ghosts D → StoreState → D → D → ConnectionState → ConnectionState → Bool → Type 0
+QueuesNext g store disk disk_now old new true = QueuesPacket g store disk disk_now old new
+QueuesNext g store disk disk_now old new false =
+    (new.link ≡ old.link) × (state_in store new.session ≡ state_in store old.session) × (disk_now ≡ disk)
+    × (IsNothingDue store old.session ⊎ AreFree old.link (λ free. free < enough_free))
+
+-- Behind these parts of an event, at which the session goes on, what is due was queued: reads failed at these later
+-- parts, and the count of failed reads rose by at least as many as the packets tell of, and not where they tell of none.
+pub record Queued {D : Type 0} (g : Ghosts D) (w : Window) (store : StoreState) (disk disk_now : D)
+    (new : ConnectionState) (progress : Progress) : Type 0 where
+  pub parts : List ℕ
+  pub behind : All (λ part. progress.part ≤ part) parts
+  pub now : Progress
+  pub is_now : now ≡ queuing (free_octets progress.end) (store_in store) (failed_reads parts) progress
+  pub link : StandsFor w new.link now.end
+  pub state : state_in store new.session ≡ now.state
+  pub missed : ℕ
+  pub missed_is : now.missed ≡ (progress.missed + missed)
+  pub reads : DoesAmongReads g ⊥ missed store store disk disk_now []
+
+-- the same behind whichever parts
+abbrev pub QueuesDue : {D : Type 0} → Ghosts D → StoreState → D → D → ConnectionState → ConnectionState → Type 0
+QueuesDue g store disk disk_now old new =
+    (w : Window) (progress : Progress) → StandsFor w old.link progress.end → state_in store old.session ≡ progress.state
+    → Queued g w store disk disk_now new progress
+
+-- What queuing what is due leaves for the next event.
+pub record KeepsFit {D : Type 0} (g : Ghosts D) (store store_now : StoreState) (disk disk_now : D)
+    (old new : ConnectionState) : Type 0 where
+  pub same : store_now ≡ store
+  pub puts : PutsAmongReads g ⊥ disk disk_now
+  pub stands_on : StandsOn g store disk_now
+  pub due : IsDueIn (store_in store) new.session.downloads
+  pub uploads : new.session.uploads ≡ old.session.uploads
+  pub octets : new.octets ≡ old.octets
+  pub up : new.link.state ≡ Up
+  pub stations : SameStations old.link new.link
+  pub some : StandsForSome new.link

@@ -1,0 +1,53 @@
+-- Laws of taking packets, and of queuing what is due.
+use Rattle.std.specs.Prelude.{◌≡◌, ◌⊎◌, ℕ, ◌<◌, List, ◌∷◌, ◌++◌, length, false, None}
+use Rattle.px_base.specs.CallSign.{CallSign}
+use Rattle.ax25_link.specs.Ends.{LinkEnd, free_octets}
+use Rattle.ftl0_packets.specs.Layout.{Item}
+use Rattle.ftl0_session.specs.Lists.Lists.{CallerList}
+use Rattle.file_entries.specs.Command.{Command, after_all}
+use Rattle.file_entries.specs.Store.{Store}
+use Rattle.ftl0_session.specs.Uploads.Failures.{Failure, write_fails}
+use Rattle.ftl0_session.specs.Table.{Row, State, due_at, row_at}
+use Rattle.ftl0_server.specs.Connection.Taking.{Progress, enough_free, goes_on, queued, taking}
+
+-- The commands of a packet's row are done behind those of the packets before it, whatever packets come behind.
+pub record TakesUpTo (caller : CallSign) (moment : ℕ) (store : Store) (lists : List CallerList) (state : State)
+    (end : LinkEnd) (items : List Item) (item : Item) (more : List Item) (failures : List Failure) (row : Row) :
+    Type 0 where
+  pub others : List Command
+  pub done_is :
+      (taking caller moment store lists state end (items ++ item ∷ more) failures 0).done
+      ≡ (taking caller moment store lists state end items failures 0).done ++ (row.commands ++ others)
+
+-- the row of the packet behind these, over the store after their commands, with the lists and in the state after them
+abbrev pub row_behind :
+    CallSign → ℕ → Store → List CallerList → State → LinkEnd → List Item → List Failure → Item → Row
+row_behind caller moment store lists state end items failures item =
+    let progress : Progress = taking caller moment store lists state end items failures 0 in
+    row_at caller moment (after_all store progress.done) progress.lists progress.state item failures (length items)
+
+-- Where packets before one were all taken, the session goes on after them, and no write or sync fails at that packet,
+-- it is taken over the store after their commands, with the lists and in the state after them, and its row's commands
+-- are done behind theirs.
+abbrev pub TakingLaw : Type 0
+TakingLaw =
+    (caller : CallSign) (moment : ℕ) (store : Store) (lists : List CallerList) (state : State) (end : LinkEnd)
+    (items : List Item) (item : Item) (more : List Item) (failures : List Failure)
+    → (taking caller moment store lists state end items failures 0).halt ≡ goes_on
+    → (taking caller moment store lists state end items failures 0).over ≡ false
+    → write_fails failures (length items) ≡ false
+    → TakesUpTo caller moment store lists state end items item more failures
+    (row_behind caller moment store lists state end items failures item)
+
+-- nothing is due, whatever fails, or fewer octets are free than are needed
+abbrev pub IsQueued : Store → State → LinkEnd → Type 0
+IsQueued store state end =
+    ((failures : List Failure) (part : ℕ) → due_at store state failures part ≡ None)
+    ⊎ (free_octets end < enough_free)
+
+-- After each event at which the session goes on, all that is due was queued, as far as there was room.
+abbrev pub QueuedLaw : Type 0
+QueuedLaw =
+    (store : Store) (failures : List Failure) (progress : Progress) → progress.over ≡ false
+    → IsQueued (after_all store progress.done) (queued store failures progress).state
+    (queued store failures progress).end

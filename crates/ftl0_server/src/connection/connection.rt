@@ -1,0 +1,438 @@
+//! One caller's connection.
+
+ghost use Rattle.std.specs.Prelude.{◌≡◌, ◌<◌, ◌≤◌, ◌↔◌, ℕ, [], ◌∷◌, ◌++◌, drop, length, false, true, not};
+ghost use Rattle.std.specs.Prelude.{IfOk, IsTrue, None};
+ghost use Rattle.ax25_frames.specs.Values.{value_of};
+ghost use Rattle.ax25_link.specs.Air.{is_information};
+ghost use Rattle.ax25_link.specs.Ends.{LinkEnd};
+ghost use Rattle.ax25_link.specs.Kept.{Fits, GivesNext, HasStations, IsFromPeer, SameStations, StandsFor, Steps};
+ghost use Rattle.ax25_link.specs.Kept.{Tells, is_pending, most_pending};
+ghost use Rattle.ax25_link.specs.declared.state.LinkState.{LinkState};
+ghost use Rattle.ax25_link.specs.Window.{IsGoodK, Window, window_of};
+ghost use Rattle.ftl0_packets.specs.Reading.{is_whole, read_item, rest_of};
+ghost use Rattle.ftl0_session.specs.Lists.Lists.{has_left};
+ghost use Rattle.file_store.specs.State.{StandsOn, StoreState, store_in};
+ghost use Rattle.ftl0_session.specs.Uploads.Others.{KeepsOtherCallers};
+ghost use Rattle.ftl0_session.specs.Uploads.SessionState.{IsHeld, IsOnlyOut, NoOtherOut, Parks};
+ghost use Rattle.ftl0_session.specs.Downloads.Needs.{IsDueIn};
+ghost use Rattle.ftl0_session.specs.SessionState.{MayTake as SessionMayTake, caller_of, new_session, state_in};
+ghost use Rattle.ftl0_server.specs.Connection.Connected.{Connected, answering, beginning, greeted};
+ghost use Rattle.ftl0_server.specs.Connection.ConnectionState.{Hears, IsConnection, StandsAfter, StandsForSome};
+ghost use Rattle.ftl0_server.specs.Connection.ConnectionState.{is_over};
+ghost use Rattle.ftl0_server.specs.Connection.Feeding.{Feeds, HearsParts, IsGoing, KeepsFit, LeavesFit, MayTake};
+ghost use Rattle.ftl0_server.specs.Connection.Feeding.{QueuesDue};
+ghost use Rattle.ftl0_server.specs.Connection.Feeding.{QueuesNext, TakesPackets, with_octets};
+ghost use Rattle.ftl0_server.specs.Connection.Hearing.{hearing, parts_of_frame, rest_of_frame, taking_octets, ticking};
+ghost use Rattle.ftl0_server.specs.Connection.Taking.{fits, replied};
+
+use crate::connection::Fate;
+use arrayvec::ArrayVec;
+use ax25_frames::{Frame, Kind};
+use ax25_link::{Heard, Link};
+use disk_model::Disk;
+use file_store::FileStore;
+use ftl0_packets::laws::stream_law;
+use ftl0_packets::{PacketFed, PacketReader};
+use ftl0_session::lists::Lists;
+use ftl0_session::{Replies, ServerStop, Session};
+use px_base::{Call, OutOfMemory};
+use std::alloc::Global;
+use std::marker::Model;
+use std::mem;
+
+/// How many octets are free on the link at least where DATA or DATA_END is queued.
+const ENOUGH_FREE: usize = 1280;
+
+/// What a frame that was heard did: what becomes of the session, and whether the server goes on.
+pub type Told = (Fate, Result<(), ServerStop>);
+
+/// A caller's connection. It must be ended, which parks the session's upload. Contracts see it as a `ConnectionState`,
+/// and speak of the connections of the definitions that it stands for, whose links have all that was pushed, sent and
+/// taken.
+pub struct Connection {
+    link: Link,
+    reader: PacketReader,
+    session: Session,
+}
+
+impl Model for Connection {
+    ghost use Rattle.ftl0_server.specs.Connection.ConnectionState.{ConnectionState};
+
+    ghost Value = { ConnectionState };
+
+    ghost use Rattle.ftl0_server.specs.Connection.Inside.{IsInside, connection_state};
+
+    ghost view = { connection_state };
+
+    ghost invariant = { IsInside };
+}
+
+impl Connection {
+    /// The connection of a station whose SABM with this P bit is answered at this moment: UA is pending, and LOGIN_RESP
+    /// queued, which says whether numbers are left in the caller's list (AX.25 2.0, 2.4.3.1; FTL0 1990, LOGIN_RESP). At
+    /// most k I frames are outstanding at a time; `good_k(k)` holds. Takes memory, and fails only where there is none.
+    pub fn answer(
+        alloc: Global,
+        me: Call,
+        caller: Call,
+        k: u8,
+        poll: bool,
+        moment: u32,
+        lists: &Lists,
+    ) -> Result<Connection, OutOfMemory>
+        requires { IsGoodK k }
+        ensures connection { IfOk result (λ connection. (store : StoreState) →
+            IsConnection (window_of k) store connection
+            (answering me caller poll moment (has_left lists.now caller))) }
+        ensures stations { IfOk result (λ connection. HasStations connection.link false me caller k) }
+        ensures session { IfOk result (λ connection. connection.session ≡ new_session caller) }
+        ensures up { IfOk result (λ connection. connection.link.state ≡ LinkState.Up) }
+    {
+        let mut link = Link::answer(alloc, me, caller, k, poll)?;
+        let session = greet(&mut link, caller, moment, lists);
+        Ok(Connection {
+            link,
+            reader: PacketReader::new(),
+            session,
+        })
+    }
+
+    /// Hears a frame of the caller at this moment, while nothing is pending (AX.25 2.0, 2.4; FTL0 1990): the frame's
+    /// row of the link's table, and for information that is next in the stream the packets' rows of the session's
+    /// table. Their commands are on the disk before any frame of the event is given out. A reply for which the link has
+    /// no room ends the session by DM. Then DATA and DATA_END that are due are queued while at least 1,280 octets are
+    /// free. A read of the disk that fails is told by code 3, and the session goes on. After a stop nothing more is
+    /// queued, and the server goes on no further: after `Disk` the frames that are pending are given out first, code 3
+    /// among them; after want of memory none is. Takes memory, before a packet touches the disk.
+    pub fn hear<D: Disk>(
+        &mut self,
+        disk: &mut D,
+        store: &mut FileStore,
+        lists: &mut Lists,
+        frame: &Frame<'_>,
+        moment: u32,
+    ) -> Told
+        requires frame { IsFromPeer self.old.link (value_of frame.now) }
+        requires quiet { is_pending self.old.link ≡ false }
+        requires up { self.old.link.state ≡ LinkState.Up }
+        requires may { SessionMayTake D.Disk store.old disk.old lists.old self.old.session }
+
+        // Of whichever connection it stands for, it is what the frame makes of that, or the server stops.
+        ensures hears { (w : Window) (c : Connected) → IsConnection w store.old self.old c →
+            Hears D.Disk w (hearing w moment (store_in store.old) lists.old c (value_of frame.now))
+            store.old store.new lists.new disk.old disk.new self.new result }
+
+        // What the next event needs.
+        ensures fit { LeavesFit D.Disk store.old store.new lists.new disk.old disk.new self.old.link self.new.link
+            self.old.session self.new.session result }
+    {
+        let told = self.take_frame(disk, store, lists, frame, moment);
+        if goes_on(&told) {
+            self.queue_due(disk, store);
+        }
+        told
+    }
+
+    /// Counts a tick, while nothing is pending (AX.25 2.0, 2.4.7): the session is over where the caller doesn't answer
+    /// any more. Takes no memory.
+    pub fn tick(&mut self) -> Fate
+        requires quiet { is_pending self.old.link ≡ false }
+        requires up { self.old.link.state ≡ LinkState.Up }
+        ensures ticks { (w : Window) (store : StoreState) (c : Connected) → IsConnection w store self.old c →
+            StandsAfter w store self.new (ticking c).over (ticking c).after result }
+        ensures session { self.new.session ≡ self.old.session }
+        ensures octets { self.new.octets ≡ self.old.octets }
+        ensures up { result ≡ Fate.Stays → self.new.link.state ≡ LinkState.Up }
+        ensures stations { SameStations self.old.link self.new.link }
+    {
+        match self.link.tick() {
+            None => Fate::Stays,
+            Some(_why) => Fate::Ends,
+        }
+    }
+
+    /// Replaces `out` by the octets of the next pending frame, which is then sent. It is false, and changes nothing,
+    /// exactly where nothing is pending. Takes no memory.
+    pub fn next_out(&mut self, out: &mut ArrayVec<u8, 400>) -> bool
+        ensures pending { result ≡ is_pending self.old.link }
+        ensures none { result ≡ false → (self.new ≡ self.old) × (out.new.items ≡ out.old.items) }
+        ensures fewer { result ≡ true → most_pending self.new.link < most_pending self.old.link }
+        ensures next { GivesNext self.old.link self.new.link out.old.items out.new.items result }
+        ensures session { self.new.session ≡ self.old.session }
+        ensures octets { self.new.octets ≡ self.old.octets }
+        ensures state { self.new.link.state ≡ self.old.link.state }
+        ensures stations { SameStations self.old.link self.new.link }
+    {
+        self.link.next_out(out)
+    }
+
+    /// Whether a frame is to be given out. Takes no memory.
+    pub fn pending(&self) -> bool
+        ensures { result ≡ is_pending self.now.link }
+    {
+        self.link.pending()
+    }
+
+    /// Whose connection it is. Takes no memory.
+    pub fn caller(&self) -> Call
+        ensures { result ≡ caller_of self.now.session }
+    {
+        self.session.caller()
+    }
+
+    /// A law, which does nothing: whatever end the link stands for is one that frames and ticks can bring about.
+    pub fn fits_law(&self)
+        ensures { Fits self.now.link }
+    {
+        let _ = self.link.state();
+    }
+
+    /// Ends the session, which parks its upload, and gives the link, which may have frames to give out still. Takes no
+    /// memory.
+    pub fn end(self, store: &mut FileStore) -> Link
+        requires { IsHeld store.old self.session.uploads }
+        ensures link { result ≡ self.link }
+        ensures parks { Parks store.old store.new self.session.uploads.phase }
+        ensures only { IsOnlyOut store.old self.session.uploads → NoOtherOut store.new (caller_of self.session) None }
+        ensures others { KeepsOtherCallers store.old store.new (caller_of self.session) }
+    {
+        let Connection {
+            link,
+            reader: _,
+            session,
+        } = self;
+        session.end(store);
+        link
+    }
+
+    /// Hears a frame, but that what is due isn't queued yet.
+    fn take_frame<D: Disk>(
+        &mut self,
+        disk: &mut D,
+        store: &mut FileStore,
+        lists: &mut Lists,
+        frame: &Frame<'_>,
+        moment: u32,
+    ) -> Told
+        requires frame { IsFromPeer self.old.link (value_of frame.now) }
+        requires quiet { is_pending self.old.link ≡ false }
+        requires up { self.old.link.state ≡ LinkState.Up }
+        requires may { SessionMayTake D.Disk store.old disk.old lists.old self.old.session }
+        ensures hears { (w : Window) (c : Connected) → IsConnection w store.old self.old c →
+            HearsParts D.Disk w (rest_of_frame w c (value_of frame.now))
+            (parts_of_frame w moment (store_in store.old) lists.old c (value_of frame.now))
+            store.old store.new lists.new disk.old disk.new self.new result }
+        ensures fit { LeavesFit D.Disk store.old store.new lists.new disk.old disk.new self.old.link self.new.link
+            self.old.session self.new.session result }
+    {
+        match self.link.take(frame) {
+            Heard::Nothing | Heard::Opened => (Fate::Stays, Ok(())),
+            Heard::Reopened => {
+                self.begin_anew(store, lists, moment);
+                (Fate::Stays, Ok(()))
+            }
+            Heard::Bytes => self.take_octets(disk, store, lists, information(frame), moment),
+            Heard::Closed(_why) => (Fate::Ends, Ok(())),
+        }
+    }
+
+    /// Queues DATA and DATA_END that are due, one after another, while enough octets are free.
+    fn queue_due<D: Disk>(&mut self, disk: &mut D, store: &mut FileStore)
+        requires some { StandsForSome self.old.link }
+        requires up { self.old.link.state ≡ LinkState.Up }
+        requires healthy { store.old.journal.failed ≡ false }
+        requires stands_on { StandsOn D.Disk store.old disk.old }
+        requires due { IsDueIn (store_in store.old) self.old.session.downloads }
+        ensures queues { QueuesDue D.Disk store.old disk.old disk.new self.old self.new }
+        ensures keeps { KeepsFit D.Disk store.old store.new disk.old disk.new self.old self.new }
+    {
+        while self.queue_next(disk, store) {}
+    }
+
+    /// Queues what is due next, where enough octets are free. It answers false, and nothing changed, where nothing is
+    /// due, or fewer are free.
+    fn queue_next<D: Disk>(&mut self, disk: &mut D, store: &mut FileStore) -> bool
+        requires up { self.old.link.state ≡ LinkState.Up }
+        requires healthy { store.old.journal.failed ≡ false }
+        requires stands_on { StandsOn D.Disk store.old disk.old }
+        requires due { IsDueIn (store_in store.old) self.old.session.downloads }
+        ensures next { QueuesNext D.Disk store.old disk.old disk.new self.old self.new result }
+        ensures keeps { KeepsFit D.Disk store.old store.new disk.old disk.new self.old self.new }
+    {
+        if self.link.free() < ENOUGH_FREE {
+            return false;
+        }
+        let mut packet = ArrayVec::new();
+        if !self.session.fill(disk, store, &mut packet) {
+            return false;
+        }
+        self.link.push(&packet);
+        true
+    }
+
+    /// Ends the session, which parks its upload, and begins a new one over the link, which begins anew.
+    fn begin_anew(&mut self, store: &mut FileStore, lists: &Lists, moment: u32)
+        requires up { self.old.link.state ≡ LinkState.Up }
+        requires held { IsHeld store.old self.old.session.uploads }
+        requires only { IsOnlyOut store.old self.old.session.uploads }
+        ensures begins { (w : Window) (end : _) → StandsFor w self.old.link end →
+            IsConnection w store.new self.new
+            (beginning end moment (has_left lists.now (caller_of self.old.session))) }
+        ensures parks { Parks store.old store.new self.old.session.uploads.phase }
+        ensures session { self.new.session ≡ new_session (caller_of self.old.session) }
+        ensures only { NoOtherOut store.new (caller_of self.old.session) None }
+        ensures others { KeepsOtherCallers store.old store.new (caller_of self.old.session) }
+        ensures up { self.new.link.state ≡ LinkState.Up }
+        ensures stations { SameStations self.old.link self.new.link }
+    {
+        let session = greet(&mut self.link, self.session.caller(), moment, lists);
+        mem::replace(&mut self.session, session).end(store);
+        self.reader = PacketReader::new();
+    }
+
+    /// Takes the packets that these octets, next in the stream, finish, and queues the replies to them.
+    fn take_octets<D: Disk>(
+        &mut self,
+        disk: &mut D,
+        store: &mut FileStore,
+        lists: &mut Lists,
+        octets: &[u8],
+        moment: u32,
+    ) -> Told
+        requires { MayTake D.Disk store.old disk.old lists.old self.old.link self.old.session }
+        ensures hears { (w : Window) (c : Connected) → IsConnection w store.old self.old c →
+            HearsParts D.Disk w (rest_of (c.rest ++ octets.now))
+            (taking_octets moment (store_in store.old) lists.old c c.end octets.now)
+            store.old store.new lists.new disk.old disk.new self.new result }
+        ensures fit { LeavesFit D.Disk store.old store.new lists.new disk.old disk.new self.old.link self.new.link
+            self.old.session self.new.session result }
+    {
+        // Whatever is accepted is a stream of packets, and no packet is whole of what waits before and after it.
+        stream_law();
+        let _ = &self.reader;
+        let mut piece = octets;
+        while !piece.is_empty() {
+            let (taken, told) = self.feed(disk, store, lists, piece, moment);
+            if !goes_on(&told) {
+                return told;
+            }
+            piece = piece.split_at(taken).1;
+        }
+        let _ = &self.reader;
+        (Fate::Stays, Ok(()))
+    }
+
+    /// Takes octets up to the end of the packet under way, and the packet where it is whole, and tells how many they
+    /// are.
+    fn feed<D: Disk>(
+        &mut self,
+        disk: &mut D,
+        store: &mut FileStore,
+        lists: &mut Lists,
+        piece: &[u8],
+        moment: u32,
+    ) -> (usize, Told)
+        requires some { 0 < length piece.now }
+        requires may { MayTake D.Disk store.old disk.old lists.old self.old.link self.old.session }
+        ensures some { 0 < result.0 }
+        ensures taken { result.0 ≤ length piece.now }
+        ensures feeds { Feeds D.Disk moment (with_octets self.old piece.now)
+            (with_octets self.new (drop result.0 piece.now)) store.old store.new lists.old lists.new disk.old disk.new
+            result.1 }
+        ensures fit { LeavesFit D.Disk store.old store.new lists.new disk.old disk.new self.old.link self.new.link
+            self.old.session self.new.session result.1 }
+    {
+        let (taken, fed) = self.reader.feed(piece);
+        match fed {
+            PacketFed::More => (taken, (Fate::Stays, Ok(()))),
+            PacketFed::Whole => {
+                let told = answer(
+                    &self.reader,
+                    &mut self.link,
+                    &mut self.session,
+                    disk,
+                    store,
+                    lists,
+                    moment,
+                );
+                (taken, told)
+            }
+        }
+    }
+}
+
+/// Takes the packet that is whole, and queues the replies to it. After a fault of the disk that is the reply with code
+/// 3, and the session is over.
+fn answer<D: Disk>(
+    reader: &PacketReader,
+    link: &mut Link,
+    session: &mut Session,
+    disk: &mut D,
+    store: &mut FileStore,
+    lists: &mut Lists,
+    moment: u32,
+) -> Told
+    requires whole { IsTrue (is_whole reader.now) }
+    requires may { MayTake D.Disk store.old disk.old lists.old link.old session.old }
+    ensures takes { (w : Window) (end : LinkEnd) (first : ℕ) → StandsFor w link.old end →
+        TakesPackets D.Disk w moment session.old store.old store.new lists.old lists.new end
+        (read_item reader.now ∷ []) first disk.old disk.new link.new session.new result }
+    ensures fit { LeavesFit D.Disk store.old store.new lists.new disk.old disk.new link.old link.new session.old
+        session.new result }
+{
+    let mut replies = Replies::new();
+    match session.take(disk, reader.packet(), moment, store, lists, &mut replies) {
+        Ok(()) => (reply(link, replies.as_slice()), Ok(())),
+        Err(ServerStop::Disk) => {
+            reply(link, replies.as_slice());
+            (Fate::Ends, Err(ServerStop::Disk))
+        }
+        Err(ServerStop::OutOfMemory) => (Fate::Stays, Err(ServerStop::OutOfMemory)),
+    }
+}
+
+/// Whether neither the connection nor the server is stopped.
+fn goes_on(told: &Told) -> bool
+    ensures { IsTrue result ↔ IsGoing told.now }
+{
+    matches!(told, (Fate::Stays, Ok(())))
+}
+
+/// The session of this caller, whose LOGIN_RESP at this moment is queued on the link.
+fn greet(link: &mut Link, caller: Call, moment: u32, lists: &Lists) -> Session
+    requires { link.old.state ≡ LinkState.Up }
+    ensures session { result ≡ new_session caller }
+    ensures queued { Steps link.old link.new (λ w end. greeted end moment (has_left lists.now caller)) }
+    ensures stations { SameStations link.old link.new }
+{
+    let mut replies = Replies::new();
+    let session = Session::new(caller, moment, lists, &mut replies);
+    link.push(replies.as_slice());
+    session
+}
+
+/// Queues replies, where the link has room for them; else gives it up by DM, and the session is over.
+fn reply(link: &mut Link, text: &[u8]) -> Fate
+    requires { link.old.state ≡ LinkState.Up }
+    ensures queued { Steps link.old link.new (λ w end. replied end text.now) }
+    ensures over { Tells link.old (λ w end. not (fits end text.now)) (is_over result) }
+    ensures stations { SameStations link.old link.new }
+{
+    if text.len() > link.free() {
+        link.abandon();
+        return Fate::Ends;
+    }
+    link.push(text);
+    Fate::Stays
+}
+
+/// The information of an I frame.
+fn information<'a>(frame: &Frame<'a>) -> &'a [u8]
+    ensures { IsTrue (is_information (value_of frame.now).kind.control)
+        → result.now ≡ (value_of frame.now).kind.information }
+{
+    match frame.kind {
+        Kind::I { info, .. } => info,
+        _ => &[],
+    }
+}

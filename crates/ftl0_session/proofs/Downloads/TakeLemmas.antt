@@ -1,0 +1,132 @@
+-- What is taken, by its row.
+use Rattle.std.proofs.Common.{◌≡◌, ℕ, List, [], ◌∷◌, Bool, true, false, Option, None, Some, refl, sym, ◌∙◌, ap, subst}
+use Rattle.std.proofs.Common.{Bor}
+use Rattle.std.proofs.lemmas.List.{append-nil}
+use Rattle.px_base.specs.CallSign.{CallSign}
+use Rattle.disk_model.specs.declared.disk.Disk.{Ghosts}
+use Rattle.std.specs.Prelude.{IfNone, IfSome, IsSomeAnd}
+use Rattle.std.specs.Option.{option_map}
+use Rattle.ftl0_packets.specs.Layout.{PacketValue, dir_long_cmd, dir_short_cmd, dl_error_resp, download_cmd}
+use Rattle.ftl0_packets.specs.Layout.{packet_text, select_cmd}
+use Rattle.ftl0_packets.specs.Values.{value_of}
+use Rattle.ftl0_packets.specs.declared.packet.Packet.{Packet}
+use Rattle.ftl0_packets.specs.declared.packet.Packet.TheVariants as packet
+use Rattle.ftl0_session.specs.Lists.Lists.{CallerList}
+use Rattle.file_journal.proofs.CallLemmas.{reads_none}
+use Rattle.file_entries.specs.Store.{Store}
+use Rattle.ftl0_session.specs.Downloads.Table.{DownloadRow, DownloadState, Due, command_row, directory_row}
+use Rattle.ftl0_session.specs.Downloads.Table.{download_cmd_row, download_row, ended_row, listing, long_due, ready}
+use Rattle.ftl0_session.specs.Downloads.Table.{reply_sending, reply_waiting, select_row, sending, short_due, waiting}
+use Rattle.ftl0_session.specs.Downloads.Taking.{IsRow, Made, MakesRow, TakesPacket, made, made_by}
+
+-- a packet without a row in Ready
+pub no_row : (caller : CallSign) (store : Store) (lists : List CallerList) (p : Packet) (fails : Bool)
+    → ((number offset lock : ℕ) → p ≡ packet.DownloadCmd number offset lock → ⊥) → ((number : ℕ) → p ≡ packet.DirShortCmd number → ⊥)
+    → ((number : ℕ) → p ≡ packet.DirLongCmd number → ⊥) → ((tokens : Bor (List ℕ)) → p ≡ packet.SelectCmd tokens → ⊥)
+    → command_row caller store lists (value_of p) fails ≡ None
+unfolding command_row
+no_row caller store lists (packet.DataPart octets) fails a b c d = refl
+no_row caller store lists packet.DataEnd fails a b c d = refl
+no_row caller store lists (packet.LoginResp moment flags) fails a b c d = refl
+no_row caller store lists (packet.UploadCmd number len) fails a b c d = refl
+no_row caller store lists (packet.UlGoResp number offset) fails a b c d = refl
+no_row caller store lists (packet.UlErrorResp code) fails a b c d = refl
+no_row caller store lists packet.UlAckResp fails a b c d = refl
+no_row caller store lists (packet.UlNakResp code) fails a b c d = refl
+no_row caller store lists (packet.DownloadCmd number offset lock) fails a b c d = absurd (a number offset lock refl)
+no_row caller store lists (packet.DlErrorResp code) fails a b c d = refl
+no_row caller store lists packet.DlAbortedResp fails a b c d = refl
+no_row caller store lists packet.DlCompletedResp fails a b c d = refl
+no_row caller store lists packet.DlAckCmd fails a b c d = refl
+no_row caller store lists packet.DlNakCmd fails a b c d = refl
+no_row caller store lists (packet.DirShortCmd number) fails a b c d = absurd (b number refl)
+no_row caller store lists (packet.DirLongCmd number) fails a b c d = absurd (c number refl)
+no_row caller store lists (packet.SelectCmd tokens) fails a b c d = absurd (d tokens refl)
+no_row caller store lists (packet.SelectResp count) fails a b c d = refl
+
+-- the rows in Ready
+pub download-is : (caller : CallSign) (store : Store) (lists : List CallerList) (number offset lock : ℕ) (fails : Bool)
+    → command_row caller store lists (download_cmd number offset lock) fails ≡ Some (download_cmd_row caller store lists number offset lock)
+unfolding command_row
+download-is caller store lists number offset lock fails = refl
+
+pub short-is : (caller : CallSign) (store : Store) (lists : List CallerList) (number : ℕ) (fails : Bool) → command_row caller store lists (dir_short_cmd number) fails ≡ Some (directory_row caller store lists number short_due fails)
+unfolding command_row
+short-is caller store lists number fails = refl
+
+pub long-is : (caller : CallSign) (store : Store) (lists : List CallerList) (number : ℕ) (fails : Bool) → command_row caller store lists (dir_long_cmd number) fails ≡ Some (directory_row caller store lists number long_due fails)
+unfolding command_row
+long-is caller store lists number fails = refl
+
+pub select-is : (caller : CallSign) (store : Store) (lists : List CallerList) (tokens : List ℕ) (fails : Bool) → command_row caller store lists (select_cmd tokens) fails ≡ Some (select_row caller store lists tokens fails)
+unfolding command_row
+select-is caller store lists tokens fails = refl
+
+-- in Ready a command's row is the table's
+pub row_in_ready : (caller : CallSign) (store : Store) (lists : List CallerList) (state : DownloadState) (p : PacketValue) (fails : Bool) → state ≡ ready
+    → download_row caller store lists state p fails ≡ command_row caller store lists p fails
+unfolding download_row
+row_in_ready caller store lists state p fails is = rw is refl
+
+-- the rows in the other states
+pub row_in_sending : (caller : CallSign) (store : Store) (lists : List CallerList) (state : DownloadState) (number place last : ℕ) (p : PacketValue) → state ≡ sending number place last
+    → download_row caller store lists state p false ≡ option_map (ended_row lists) (reply_sending p)
+unfolding download_row
+row_in_sending caller store lists state number place last p is = rw is refl
+
+pub row_in_waiting : (caller : CallSign) (store : Store) (lists : List CallerList) (state : DownloadState) (p : PacketValue) → state ≡ waiting
+    → download_row caller store lists state p false ≡ option_map (ended_row lists) (reply_waiting p)
+unfolding download_row
+row_in_waiting caller store lists state p is = rw is refl
+
+pub row_in_listing : (caller : CallSign) (store : Store) (lists : List CallerList) (state : DownloadState) (dues : List Due) (p : PacketValue) → state ≡ listing dues → download_row caller store lists state p false ≡ None
+unfolding download_row
+row_in_listing caller store lists state dues p is = rw is refl
+
+module _ {D : Type 0} (g : Ghosts D) (caller : CallSign) (store : Store) (lists : List CallerList) (state : DownloadState) (p : PacketValue) (disk : D) (same : g.lasts disk disk) where
+  -- it has this row, for reads that failed or didn't
+  pub taken_reading : (disk_now : D) (now : Made) (row : Bool → DownloadRow) → ((fails : Bool) → download_row caller store lists state p fails ≡ Some (row fails))
+      → MakesRow g disk disk_now row now → TakesPacket g caller p store disk disk_now (made state lists []) now true
+  taken_reading disk_now now row is makes = record {
+    fails = makes.fails;
+    reads = makes.reads;
+    told = λ failed. subst (λ (o : Option DownloadRow). IsSomeAnd o (λ r. r.replies ≡ dl_error_resp 3 ∷ [])) (sym (is makes.fails)) (makes.told failed);
+    is_row = subst (λ (o : Option DownloadRow). IsRow o true disk disk_now (made state lists []) now) (sym (is makes.fails)) (refl, makes.is_row);
+  }
+
+  -- it has this row, and nothing is read
+  pub taken_alone : (now : Made) (row : DownloadRow) → download_row caller store lists state p false ≡ Some row → now ≡ made_by row
+      → TakesPacket g caller p store disk disk (made state lists []) now true
+  taken_alone now row is makes = record {
+    fails = false;
+    reads = reads_none g disk (false ≡ true) (λ e. cc e) same;
+    told = λ failed. absurd (cc failed);
+    is_row = subst (λ (o : Option DownloadRow). IsRow o true disk disk (made state lists []) now) (sym is) (refl, makes);
+  }
+
+  -- it has none
+  pub not_taken : download_row caller store lists state p false ≡ None → TakesPacket g caller p store disk disk (made state lists []) (made state lists []) false
+  not_taken is = record {
+    fails = false;
+    reads = reads_none g disk (false ≡ true) (λ e. cc e) same;
+    told = λ failed. absurd (cc failed);
+    is_row = subst (λ (o : Option DownloadRow). IsRow o false disk disk (made state lists []) (made state lists [])) (sym is) (refl, refl, refl);
+  }
+
+  -- a download ends by this reply, if there is one
+  pub ended_by : (reply : Option Packet) (now : DownloadState) (replies_before replies : List ℕ) (result : Bool)
+      → download_row caller store lists state p false ≡ option_map (ended_row lists) (option_map value_of reply) → replies_before ≡ []
+      → IfNone reply ((result ≡ false) × (now ≡ state) × (replies ≡ replies_before))
+      → IfSome reply (λ packet. (result ≡ true) × (now ≡ ready) × (replies ≡ packet_text (value_of packet)))
+      → TakesPacket g caller p store disk disk (made state lists []) (made now lists replies) result
+  ended_by None now replies_before replies result is empty none some =
+      let P : Bool → DownloadState → List ℕ → Type 0 = λ r n l. TakesPacket g caller p store disk disk (made state lists []) (made n lists l) r in
+      subst (λ (r : Bool). P r now replies) (sym none.0)
+      (subst (λ (n : DownloadState). P false n replies) (sym none.1)
+      (subst (λ (l : List ℕ). P false state l) (sym (none.2 ∙ empty)) (not_taken is)))
+  ended_by (Some packet) now replies_before replies result is empty none some =
+      let P : Bool → DownloadState → List ℕ → Type 0 = λ r n l. TakesPacket g caller p store disk disk (made state lists []) (made n lists l) r in
+      subst (λ (r : Bool). P r now replies) (sym some.0)
+      (subst (λ (n : DownloadState). P true n replies) (sym some.1)
+      (taken_alone (made ready lists replies) (ended_row lists (value_of packet)) is
+      (ap (λ (l : List ℕ). made ready lists l) (some.2 ∙ sym (append-nil (packet_text (value_of packet)))))))

@@ -1,0 +1,114 @@
+-- What a packet does to the store's disk.
+use Rattle.std.proofs.Common.{◌≡◌, ℕ, List, [], ◌∷◌, ◌++◌, refl, ap, sym, ◌∙◌, subst, Option, Some, IfSome, true, false}
+use Rattle.std.specs.Prelude.{⊤, Result, Ok, Err, IsErrOf}
+use Rattle.px_base.specs.CallSign.{CallSign}
+use Rattle.disk_model.specs.declared.disk.Disk.{Ghosts}
+use Rattle.ftl0_packets.specs.Layout.{Item}
+use Rattle.file_journal.specs.Calls.{Puts}
+use Rattle.file_journal.proofs.CallLemmas.{puts_none, puts_same}
+use Rattle.file_journal.proofs.ToldLemmas.{at_told, told_weaker}
+use Rattle.file_entries.specs.Command.{Command}
+use Rattle.file_entries.specs.Kept.{KeepsComplete}
+use Rattle.file_entries.specs.Store.{Store}
+use Rattle.file_store.specs.OnDisk.{Does}
+use Rattle.file_store.specs.State.{StandsOn, StoreState, store_in}
+use Rattle.file_store.proofs.DoesLemmas.{Does-moved, Does-none, Does-same}
+use Rattle.ftl0_session.specs.declared.uploads.phase.Phase.{Phase}
+use Rattle.ftl0_session.specs.declared.uploads.stop.ServerStop.{ServerStop}
+use Rattle.ftl0_session.specs.declared.uploads.stop.ServerStop.TheVariants as stop
+use Rattle.ftl0_session.specs.Uploads.Session.{Row, State, session_row}
+use Rattle.ftl0_session.specs.Uploads.Taking.{Answered, AnsweredAlone, Answers, DoesRow, LeavesDisk, PutsRow, row_of}
+
+-- the answer that is this stop
+abbrev stopped : ServerStop → Result ⊤ ServerStop
+stopped stop = Err stop
+
+module _ {D : Type 0} (g : Ghosts D) where
+  -- no commands
+  pub does-none : (before now : StoreState) (disk : D) → before.journal.failed ≡ false → StandsOn g before disk → store_in now ≡ store_in before
+      → now.journal ≡ before.journal → g.lasts disk disk → Does g ⊥ before now disk disk []
+  does-none before now disk healthy stands same journal lasts =
+      Does-moved g ⊥ before before before now disk disk [] refl refl same journal (Does-none g ⊥ before disk (λ never. never) stands healthy lasts)
+
+  -- the same commands, said otherwise
+  pub does-at : (P : Type 0) (before now : StoreState) (disk disk_now : D) (these those : List Command) → these ≡ those
+      → Does g P before now disk disk_now these → Does g P before now disk disk_now those
+  does-at P before now disk disk_now these those same does = subst (λ (cs : List Command). Does g P before now disk disk_now cs) same does
+
+  -- by its row
+  pub does-row : (caller : CallSign) (moment : ℕ) (state : State) (item : Item) (before now : StoreState) (disk disk_now : D) (P Q : Type 0) (row : Row)
+      → session_row caller moment (store_in before) state item ≡ Some row → (P → Q) → (Q → P) → Does g P before now disk disk_now row.commands
+      → DoesRow g Q before now disk disk_now (row_of caller moment before state item)
+  does-row caller moment state item before now disk disk_now P Q row is there back does =
+      subst (λ (o : Option Row). IfSome o (λ r. Does g Q before now disk disk_now r.commands)) (sym is) (Does-same g P Q before now disk disk_now row.commands there back does)
+
+  on_disk-alone : (caller : CallSign) (moment : ℕ) (state : State) (item : Item) (before now : StoreState) (disk : D) (result : Result ⊤ ServerStop)
+      → ¬ IsErrOf result stop.Disk → IfSome (session_row caller moment (store_in before) state item) (λ row. row.commands ≡ [])
+      → Does g ⊥ before now disk disk [] → PutsRow g before now disk disk (row_of caller moment before state item) result
+  on_disk-alone caller moment state item before now disk (Ok done) no_fault none does =
+      told_weaker (session_row caller moment (store_in before) state item) _ _ (λ row is no_commands. subst (λ (cs : List Command). Does g ⊥ before now disk disk cs) (sym no_commands) does) none
+  on_disk-alone caller moment state item before now disk (Err stop.Disk) no_fault none does = absurd (no_fault refl)
+  on_disk-alone caller moment state item before now disk (Err stop.OutOfMemory) no_fault none does = refl
+
+  -- a packet that leaves the disk alone
+  pub answered-alone : (caller : CallSign) (moment : ℕ) (state : State) (item : Item) (before now : StoreState) (disk : D) (replies : List ℕ) (taken : Phase × Result ⊤ ServerStop)
+      → before.journal.failed ≡ false → StandsOn g before disk → g.lasts disk disk → AnsweredAlone caller moment state item before now replies taken
+      → Answered g caller moment state item before now disk disk replies taken
+  answered-alone caller moment state item before now disk replies taken healthy stands lasts alone = record {
+    answers = alone.answers;
+    on_disk =
+        on_disk-alone caller moment state item before now disk taken.1 alone.no_fault alone.no_commands
+        (does-none before now disk healthy stands alone.store alone.journal lasts);
+    untouched = told_weaker (session_row caller moment (store_in before) state item) _ _ (λ row is no_commands. λ none. refl) alone.no_commands;
+    held = alone.held;
+    only = alone.only;
+    others = alone.others;
+    kept = subst (λ (s : Store). KeepsComplete (store_in before) s) (sym alone.store) (λ number entry found whole. found);
+  }
+
+  -- What stands after a packet, whatever the answer.
+  module _ (caller : CallSign) (moment : ℕ) (state : State) (item : Item) (before now : StoreState) (disk disk_now : D) (next : State) (replies : List ℕ) where
+    pub after-puts : (result : Result ⊤ ServerStop) → g.lasts disk disk → Answers caller moment before state item now next replies result
+        → PutsRow g before now disk disk_now (row_of caller moment before state item) result → Puts g (IsErrOf result stop.Disk) disk disk_now
+    after-puts (Ok done) lasts answers on_disk =
+        puts_same g disk disk_now ⊥ _ (λ never. absurd never) (λ e. cc e) (at_told (λ row. Does g ⊥ before now disk disk_now row.commands) answers.0 answers.1 on_disk).puts
+    after-puts (Err stop.Disk) lasts answers on_disk =
+        puts_same g disk disk_now ⊤ _ (λ failed. refl) (λ failed. tt) (at_told (λ row. Does g ⊤ before now disk disk_now row.commands) answers.0 answers.1 on_disk).puts
+    after-puts (Err stop.OutOfMemory) lasts answers on_disk =
+        let fine : ¬ IsErrOf (stopped stop.OutOfMemory) stop.Disk = λ e. cc e in
+        subst (λ (d : D). Puts g (IsErrOf (stopped stop.OutOfMemory) stop.Disk) disk d) (sym on_disk) (puts_none g disk (IsErrOf (stopped stop.OutOfMemory) stop.Disk) fine lasts)
+
+    pub after-failed : (result : Result ⊤ ServerStop) → Answers caller moment before state item now next replies result
+        → PutsRow g before now disk disk_now (row_of caller moment before state item) result → IsErrOf result stop.Disk → now.journal.failed ≡ true
+    after-failed (Ok done) answers on_disk e = absurd (cc e)
+    after-failed (Err stop.Disk) answers on_disk e = ((at_told (λ row. Does g ⊤ before now disk disk_now row.commands) answers.0 answers.1 on_disk).cut tt).failed
+    after-failed (Err stop.OutOfMemory) answers on_disk e = absurd (cc e)
+
+    pub after-healthy : (result : Result ⊤ ServerStop) → before.journal.failed ≡ false → Answers caller moment before state item now next replies result
+        → PutsRow g before now disk disk_now (row_of caller moment before state item) result → ¬ IsErrOf result stop.Disk → now.journal.failed ≡ false
+    after-healthy (Ok done) healthy answers on_disk fine = ((at_told (λ row. Does g ⊥ before now disk disk_now row.commands) answers.0 answers.1 on_disk).done (λ never. never)).1
+    after-healthy (Err stop.Disk) healthy answers on_disk fine = absurd (fine refl)
+    after-healthy (Err stop.OutOfMemory) healthy answers on_disk fine = ap (λ (s : StoreState). s.journal.failed) answers.3.0 ∙ healthy
+
+    pub after-stands : (result : Result ⊤ ServerStop) → StandsOn g before disk → Answers caller moment before state item now next replies result
+        → PutsRow g before now disk disk_now (row_of caller moment before state item) result → StandsOn g now disk_now
+    after-stands (Ok done) stands answers on_disk = (at_told (λ row. Does g ⊥ before now disk disk_now row.commands) answers.0 answers.1 on_disk).stands_on
+    after-stands (Err stop.Disk) stands answers on_disk = (at_told (λ row. Does g ⊤ before now disk disk_now row.commands) answers.0 answers.1 on_disk).stands_on
+    after-stands (Err stop.OutOfMemory) stands answers on_disk =
+        subst (λ (s : StoreState). StandsOn g s disk_now) (sym answers.3.0) (subst (λ (d : D). StandsOn g before d) (sym on_disk) stands)
+
+-- a row with commands may touch the disk
+pub touched : {D : Type 0} (disk disk_now : D) (o : Option Row) (row : Row) → o ≡ Some row → (row.commands ≡ [] → ⊥) → LeavesDisk disk disk_now o
+touched disk disk_now o row is some = subst (λ (p : Option Row). LeavesDisk disk disk_now p) (sym is) (λ none. absurd (some none))
+
+-- and one without doesn't
+pub untouched : {D : Type 0} (disk disk_now : D) (o : Option Row) (row : Row) → o ≡ Some row → (row.commands ≡ [] → disk_now ≡ disk) → LeavesDisk disk disk_now o
+untouched disk disk_now o row is same = subst (λ (p : Option Row). LeavesDisk disk disk_now p) (sym is) same
+
+-- a list with one at its front or at its end isn't empty
+pub some-at_front : (command : Command) (commands : List Command) → command ∷ commands ≡ [] → ⊥
+some-at_front command commands none = cc
+
+pub some-at_end : (commands : List Command) (last : Command) → commands ++ last ∷ [] ≡ [] → ⊥
+some-at_end [] last none = cc
+some-at_end (command ∷ commands) last none = cc

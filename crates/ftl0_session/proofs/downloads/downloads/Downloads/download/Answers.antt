@@ -1,0 +1,12 @@
+use Rattle.std.proofs.Common.{List, sym, subst}
+use Rattle.ftl0_session.specs.Lists.Lists.{CallerList}
+use Rattle.file_store.specs.State.{store_in}
+use Rattle.ftl0_session.specs.Downloads.Needs.{AreComplete}
+use Rattle.ftl0_session.proofs.Downloads.ListLemmas.{after-files}
+use Rattle.ftl0_session.proofs.downloads.downloads.Downloads.download.Goals as goal
+
+pub returns-in-Ok-clause-complete : goal.returns-in-Ok-clause-complete
+returns-in-Ok-clause-complete c =
+    let store = store_in c.args.store.now in
+    subst (λ (lists : List CallerList). AreComplete store lists) (sym c.take_numbers.ensures)
+    (after-files store c.args.lists.now c.args.caller c.args.number 1 c.requires.complete)

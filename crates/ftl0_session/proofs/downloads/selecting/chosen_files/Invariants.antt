@@ -1,0 +1,23 @@
+use Rattle.std.proofs.Common.{◌≡◌, ◌-◌, ◌++◌}
+use Rattle.file_journal.specs.Calls.{Reads}
+use Rattle.file_entries.specs.IsStore.{IsStore}
+use Rattle.file_store.specs.State.{StandsOn, store_in}
+use Rattle.selection.specs.Values.{tree_of}
+use Rattle.ftl0_session.specs.Downloads.Table.{chosen}
+use Rattle.ftl0_session.proofs.Downloads.ChosenLemmas.{above_of}
+use Rattle.ftl0_session.proofs.downloads.selecting.chosen_files.Given as goal
+
+abbrev pub invariant-loop-numbers : goal.invariant-loop-numbers
+invariant-loop-numbers g l = record {
+  numbers :
+      l.numbers.items ++ chosen (tree_of l.selection) (above_of l.above (store_in l.fn.store).entries)
+      ≡ chosen (tree_of l.selection) (store_in l.fn.store).entries;
+  rules : IsStore (store_in l.fn.store);
+  reads : Reads g.D.Disk ⊥ l.fn.disk l.disk;
+  store : l.store ≡ l.fn.store;
+  selection : l.selection ≡ l.fn.selection;
+  stands_on : StandsOn g.D.Disk l.fn.store l.disk;
+}
+
+abbrev pub decreases-loop-numbers : goal.decreases-loop-numbers
+decreases-loop-numbers g l = (store_in l.fn.store).next - l.above

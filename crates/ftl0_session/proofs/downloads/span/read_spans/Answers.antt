@@ -1,0 +1,54 @@
+use Rattle.std.proofs.Common.{◌≡◌, ◌++◌, ◌∷◌, [], ◌-◌, ◌+◌, get_or, length, min, take, sym, ◌∙◌, ap, subst, arith}
+use Rattle.std.proofs.Common.{length-append}
+use Rattle.file_store.specs.State.{StandsOn, StoreState, store_in}
+use Rattle.ftl0_session.specs.Downloads.Needs.{IsStored, LiesIn}
+use Rattle.ftl0_session.specs.Downloads.Sending.{after_octets, due_octets}
+use Rattle.ftl0_session.specs.Downloads.Spans.{due_of}
+use Rattle.ftl0_session.specs.declared.downloads.span.Span.{Span}
+use Rattle.ftl0_session.proofs.Downloads.DueLemmas.{at-map, some-at, step-few, step-left, step-octets}
+use Rattle.ftl0_session.proofs.Downloads.ReadsLemmas.{at_error, one-more}
+use Rattle.ftl0_session.proofs.downloads.span.read_spans.Goals as goal
+
+none : Span
+none = record { number = 0; place = 0; last = 0 }
+
+pub read-requires-clause-within : goal.read-requires-clause-within
+unfolding none
+read-requires-clause-within g c =
+    let spans = c.args.spans.now in
+    let i = c.loop-span.span-index in
+    let lies = at-map (IsStored (store_in c.args.store.now)) due_of spans i none c.loop-span-test.true c.requires.within in
+    subst (λ (s : StoreState). LiesIn (store_in s) (get_or spans i none).number (get_or spans i none).place (get_or spans i none).last) (sym c.loop-span.invariant.store) lies
+
+pub returns-in_err-read-clause-some : goal.returns-in_err-read-clause-some
+unfolding none
+returns-in_err-read-clause-some g c =
+    let spans = c.args.spans.now in
+    let i = c.loop-span.span-index in
+    let lies = at-map (IsStored (store_in c.args.store.now)) due_of spans i none c.loop-span-test.true c.requires.within in
+    at_error c.from_residual.result (some-at (store_in c.args.store.now) due_of spans i none c.loop-span-test.true lies c.in_err-read.ensures.some)
+
+pub loop-span-preserved : goal.loop-span-preserved
+unfolding none
+loop-span-preserved g c =
+    let inv = c.loop-span.invariant in
+    let spans = c.args.spans.now in
+    let i = c.loop-span.span-index in
+    let store = store_in c.args.store.now in
+    let lt = c.loop-span-test.true in
+    let part = c.loop-span.part.items in
+    let octets = c.read.new.part.items in
+    let lies = at-map (IsStored store) due_of spans i none lt c.requires.within in
+    let is : octets ≡ part ++ take (254 - length part) (due_octets store (due_of (get_or spans i none))) =
+    c.in_ok-read.ensures.octets ∙ ap (λ (s : StoreState). part ++ take (254 - length part) (due_octets (store_in s) (due_of (get_or spans i none)))) inv.store in
+    record {
+      octets = step-octets store due_of spans i none lt part octets inv.few is _ inv.octets;
+      left =
+          ap (λ l. Rattle.std.proofs.Common.map due_of l ++ after_octets (254 - length octets) (Rattle.std.proofs.Common.map due_of (Rattle.std.proofs.Common.drop (i + 1) spans))) c.push.ensures.items
+          ∙ step-left store due_of spans i none lt part octets inv.few is lies c.loop-span.left.items c.read.new.self _ c.in_ok-read.ensures.moved inv.left;
+      few = step-few store due_of spans i none lt part octets inv.few is;
+      count = omega (arith, inv.count, ap (λ l. length l) c.push.ensures.items, length-append c.loop-span.left.items (c.read.new.self ∷ []));
+      reads = one-more g.D.Disk g.met.D.Disk.lasts_on c.args.disk.now c.loop-span.disk c.read.new.disk inv.reads c.in_ok-read.ensures.reads;
+      store = c.in_ok-read.ensures.store ∙ inv.store;
+      stands_on = subst (λ (s : StoreState). StandsOn g.D.Disk s c.read.new.disk) (c.in_ok-read.ensures.store ∙ inv.store) c.in_ok-read.ensures.stands_on;
+    }

@@ -1,0 +1,23 @@
+use Rattle.std.proofs.Common.{◌≡◌, ◌-◌, ◌≤◌, ◌++◌, length, map, take, drop}
+use Rattle.file_journal.specs.Calls.{Reads}
+use Rattle.file_store.specs.State.{StandsOn, store_in}
+use Rattle.ftl0_session.specs.Downloads.Sending.{after_octets, joined}
+use Rattle.ftl0_session.specs.Downloads.Spans.{due_of}
+use Rattle.ftl0_session.proofs.downloads.span.read_spans.Given as goal
+
+abbrev pub invariant-loop-span : goal.invariant-loop-span
+invariant-loop-span g l = record {
+  octets :
+      l.part.items
+      ++ take (254 - length l.part.items) (joined (store_in l.fn.store) (map due_of (drop l.span-index l.spans)))
+      ≡ take 254 (joined (store_in l.fn.store) (map due_of l.spans));
+  left :
+      map due_of l.left.items
+      ++ after_octets (254 - length l.part.items) (map due_of (drop l.span-index l.spans))
+      ≡ after_octets 254 (map due_of l.spans);
+  few : length l.part.items ≤ 254;
+  count : length l.left.items ≡ l.span-index;
+  reads : Reads g.D.Disk ⊥ l.fn.disk l.disk;
+  store : l.store ≡ l.fn.store;
+  stands_on : StandsOn g.D.Disk l.fn.store l.disk;
+}

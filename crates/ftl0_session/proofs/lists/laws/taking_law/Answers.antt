@@ -1,0 +1,5 @@
+use Rattle.ftl0_session.proofs.Lists.LawLemmas.{taking}
+use Rattle.ftl0_session.proofs.lists.laws.taking_law.Goals as goal
+
+pub returns : goal.returns
+returns c = taking

@@ -1,0 +1,24 @@
+-- What is asked in each phase, by what is asked in its state.
+use Rattle.std.proofs.Common.{◌≡◌, ap, subst}
+use Rattle.px_base.specs.CallSign.{CallSign}
+use Rattle.ftl0_session.specs.Uploads.Asked.{AnswersAsked}
+use Rattle.ftl0_session.specs.Uploads.Session.{aborting}
+use Rattle.ftl0_session.specs.Uploads.SessionState.{SessionState, state_of}
+use Rattle.ftl0_session.proofs.Uploads.DoesLemmas.{answered-alone}
+use Rattle.ftl0_session.proofs.uploads.session.Session.take_asked.Goals as goal
+
+pub returns-in-Command-clause-answered : goal.returns-in-Command-clause-answered
+returns-in-Command-clause-answered g c =
+    let by : c.self.inside.caller ≡ c.args.self.now.caller = ap (λ (s : SessionState). s.caller) c.self.view_is in
+    let P : CallSign → Type 0 = λ caller. AnswersAsked g.D.Disk caller c.args.moment (state_of c.args.store.now c.args.phase) c.args.asked c.args.store.now c.take_command.new.store c.args.disk.now c.take_command.new.disk c.take_command.new.replies.items c.take_command.result in
+    subst P by (rw c.in-Command.is c.take_command.ensures)
+
+pub returns-in-Receiving-clause-answered : goal.returns-in-Receiving-clause-answered
+returns-in-Receiving-clause-answered g c = rw c.in-Receiving.is c.take_receiving.ensures.answered
+
+pub returns-in-Aborting-clause-answered : goal.returns-in-Aborting-clause-answered
+returns-in-Aborting-clause-answered g c = λ item is.
+    let only = rw c.in-Aborting.is at c.requires.ready.only in
+    rw c.in-Aborting.is
+    (answered-alone g.D.Disk c.args.self.now.caller c.args.moment aborting item c.args.store.now c.args.store.now c.args.disk.now _ _ c.requires.ready.healthy c.requires.ready.stands_on
+    (g.met.D.Disk.lasts_same c.args.disk.now) (c.take_aborting.ensures c.args.self.now.caller c.args.moment c.args.store.now item only is))

@@ -1,0 +1,126 @@
+-- DATA_END: its row, or code 3.
+use Rattle.std.proofs.Common.{◌≡◌, ◌⊎◌, ℕ, [], ◌∷◌, refl, sym, inl, inr, Option, None, Some, true, false, true≢false}
+use Rattle.std.specs.Prelude.{Ok, ⊤}
+use Rattle.pfh_items.specs.Faults.{fault_code}
+use Rattle.ftl0_packets.specs.Layout.{data_end, ul_nak_resp}
+use Rattle.file_store.specs.State.{store_in}
+use Rattle.file_store.specs.Upload.{octets_come, waiting}
+use Rattle.ftl0_session.specs.declared.uploads.phase.Phase.TheVariants as phase
+use Rattle.ftl0_session.specs.Uploads.Session.{command, whole_row}
+use Rattle.ftl0_session.specs.Uploads.SessionState.{receiving_of}
+use Rattle.ftl0_session.proofs.Uploads.DoesLemmas.{answered-alone, does-at, does-row, touched}
+use Rattle.ftl0_session.proofs.Uploads.HoldLemmas.{are-whole, own-entry, parked, short, touches-cut, touches-done}
+use Rattle.ftl0_session.proofs.Uploads.HoldLemmas.{whole, whole-sealing, whole-some}
+use Rattle.ftl0_session.proofs.Uploads.OtherLemmas.{only-none, others-kept}
+use Rattle.ftl0_session.proofs.uploads.session.Session.take_end.Goals as goal
+
+pub returns-in-Ok-clause-answered : goal.returns-in-Ok-clause-answered
+returns-in-Ok-clause-answered g c =
+    let holds = c.requires.ready.held.0 in
+    let commands = whole-sealing c.args.store.now c.args.up c.args.moment None c.in-Ok.ensures.good in
+    let does = does-at g.D.Disk _ _ _ _ _ _ _ commands (c.in-Ok.ensures.does refl) in
+    let made = (does.done (λ e. cc e)).0 in
+    let row = whole c.args.self.now.caller c.args.store.now c.args.up holds c.args.moment None c.in-Ok.ensures.can.0 c.in-Ok.ensures.good in
+    let touches = touches-done c.args.up.number (store_in c.args.store.now) (store_in c.seal.new.self) _
+    (are-whole c.args.up.number c.args.moment (waiting c.args.store.now c.args.up) None) made in
+    record {
+      answers = (whole_row c.args.moment c.args.up.number (waiting c.args.store.now c.args.up) None, row, ((does.allowed, made), refl, c.ack.ensures.text));
+      on_disk =
+          does-row g.D.Disk c.args.self.now.caller c.args.moment (receiving_of c.args.store.now c.args.up) (Ok data_end) c.args.store.now c.seal.new.self c.args.disk.now c.seal.new.disk _ ⊥
+          (whole_row c.args.moment c.args.up.number (waiting c.args.store.now c.args.up) None) row (λ e. cc e) (λ never. absurd never) does;
+      untouched =
+          touched c.args.disk.now c.seal.new.disk _ (whole_row c.args.moment c.args.up.number (waiting c.args.store.now c.args.up) None) row
+          (whole-some c.args.moment c.args.up.number (waiting c.args.store.now c.args.up) None);
+      held = tt;
+      only = only-none c.args.store.now c.seal.new.self c.args.up.number c.args.self.now.caller touches c.in-Ok.ensures.rests c.requires.ready.only c.in-Ok.ensures.ended;
+      others =
+          others-kept c.args.store.now c.seal.new.self c.args.up.number c.args.self.now.caller touches c.in-Ok.ensures.rests
+          (own-entry c.args.self.now.caller c.args.store.now c.args.up holds c.requires.ready.held.1) c.in-Ok.ensures.uploads;
+      kept = c.in-Ok.ensures.kept;
+    }
+
+untouched : {P : Type 0} → (false ≡ true) ⊎ P → P
+untouched (inl never) = absurd (true≢false (sym never))
+untouched (inr p) = p
+
+pub returns-in-Err-Short-clause-answered : goal.returns-in-Err-Short-clause-answered
+returns-in-Err-Short-clause-answered g c =
+    let holds = c.requires.ready.held.0 in
+    let refused = rw c.in-Err-Short.field-0-is at c.in-Err-Short.ensures.refused in
+    let same = rw c.in-Err-Short.field-0-is at c.in-Err-Short.ensures.back in
+    let still : c.seal.new.disk ≡ c.args.disk.now = untouched (rw c.in-Err-Short.field-0-is at c.in-Err-Short.ensures.untouched) in
+    let changes = rw (same, refused.1) at c.park.ensures.rest in
+    let journal = rw same at c.park.ensures.journal in
+    let uploads = rw (same, refused.1) at c.park.ensures.uploads in
+    let row = short c.args.self.now.caller c.args.store.now c.args.up holds c.args.moment refused.0 in
+    rw still
+    (answered-alone g.D.Disk c.args.self.now.caller c.args.moment (receiving_of c.args.store.now c.args.up) (Ok data_end) c.args.store.now c.park.new.self c.args.disk.now _ (phase.Command, Ok tt)
+    c.requires.ready.healthy c.requires.ready.stands_on (g.met.D.Disk.lasts_same c.args.disk.now)
+    (parked c.args.self.now.caller c.args.store.now c.args.up holds c.args.moment (Ok data_end) c.park.new.self phase.Command
+    (record { state = command; commands = []; replies = ul_nak_resp 16 ∷ [] }) _ row refl refl c.write_packet.ensures.text refl tt c.requires.ready.held.1 changes journal uploads c.requires.ready.only))
+
+pub returns-in-Err-Header-clause-answered : goal.returns-in-Err-Header-clause-answered
+returns-in-Err-Header-clause-answered g c =
+    let holds = c.requires.ready.held.0 in
+    let fault : Option ℕ = Some c.in-Err-Header.code in
+    let refused = rw c.in-Err-Header.field-0-is at c.in-Err-Header.ensures.refused in
+    let reached = rw c.in-Err-Header.field-0-is at c.in-Err-Header.ensures.does in
+    let spent = rw c.in-Err-Header.field-0-is at c.in-Err-Header.ensures.spent in
+    let commands = whole-sealing c.args.store.now c.args.up c.args.moment (Some c.in-Err-Header.code) refused.2 in
+    let does = does-at g.D.Disk _ _ _ _ _ _ _ commands (reached refl) in
+    let made = (does.done (λ e. cc e)).0 in
+    let row = whole c.args.self.now.caller c.args.store.now c.args.up holds c.args.moment (Some c.in-Err-Header.code) refused.0 refused.2 in
+    let touches = touches-done c.args.up.number (store_in c.args.store.now) (store_in c.seal.new.self) _
+    (are-whole c.args.up.number c.args.moment (waiting c.args.store.now c.args.up) (Some c.in-Err-Header.code)) made in
+    record {
+      answers = (
+        whole_row c.args.moment c.args.up.number (waiting c.args.store.now c.args.up) (Some c.in-Err-Header.code),
+        row,
+        ((does.allowed, made), refl, c.write_packet-in-Err-Header.ensures.text),
+      );
+      on_disk =
+          does-row g.D.Disk c.args.self.now.caller c.args.moment (receiving_of c.args.store.now c.args.up) (Ok data_end) c.args.store.now c.seal.new.self c.args.disk.now c.seal.new.disk _ ⊥
+          (whole_row c.args.moment c.args.up.number (waiting c.args.store.now c.args.up) (Some c.in-Err-Header.code)) row (λ e. cc e) (λ never. absurd never) does;
+      untouched =
+          touched c.args.disk.now c.seal.new.disk _ (whole_row c.args.moment c.args.up.number (waiting c.args.store.now c.args.up) (Some c.in-Err-Header.code)) row
+          (whole-some c.args.moment c.args.up.number (waiting c.args.store.now c.args.up) (Some c.in-Err-Header.code));
+      held = tt;
+      only = only-none c.args.store.now c.seal.new.self c.args.up.number c.args.self.now.caller touches c.in-Err-Header.ensures.rests c.requires.ready.only (spent refl);
+      others =
+          others-kept c.args.store.now c.seal.new.self c.args.up.number c.args.self.now.caller touches c.in-Err-Header.ensures.rests
+          (own-entry c.args.self.now.caller c.args.store.now c.args.up holds c.requires.ready.held.1) c.in-Err-Header.ensures.uploads;
+      kept = c.in-Err-Header.ensures.kept;
+    }
+
+pub returns-in-Err-Disk-clause-answered : goal.returns-in-Err-Disk-clause-answered
+returns-in-Err-Disk-clause-answered g c =
+    let holds = c.requires.ready.held.0 in
+    let refused = rw c.in-Err-Disk.field-0-is at c.in-Err-Disk.ensures.refused in
+    let reached = rw c.in-Err-Disk.field-0-is at c.in-Err-Disk.ensures.does in
+    let spent = rw c.in-Err-Disk.field-0-is at c.in-Err-Disk.ensures.spent in
+    let commands = whole-sealing c.args.store.now c.args.up c.args.moment (fault_code (octets_come c.args.store.now c.args.up)) refl in
+    let does = does-at g.D.Disk _ _ _ _ _ _ _ commands (reached refl) in
+    let cut = does.cut refl in
+    let row = whole c.args.self.now.caller c.args.store.now c.args.up holds c.args.moment (fault_code (octets_come c.args.store.now c.args.up)) refused.0 refl in
+    let touches = touches-cut c.args.up.number cut.count (store_in c.args.store.now) (store_in c.seal.new.self) _
+    (are-whole c.args.up.number c.args.moment (waiting c.args.store.now c.args.up) (fault_code (octets_come c.args.store.now c.args.up))) cut.store in
+    record {
+      answers = (
+        whole_row c.args.moment c.args.up.number (waiting c.args.store.now c.args.up) (fault_code (octets_come c.args.store.now c.args.up)),
+        row,
+        refl,
+        c.write_packet-in-Err-Disk.ensures.text,
+      );
+      on_disk =
+          does-row g.D.Disk c.args.self.now.caller c.args.moment (receiving_of c.args.store.now c.args.up) (Ok data_end) c.args.store.now c.seal.new.self c.args.disk.now c.seal.new.disk _ ⊤
+          (whole_row c.args.moment c.args.up.number (waiting c.args.store.now c.args.up) (fault_code (octets_come c.args.store.now c.args.up))) row (λ failed. tt) (λ failed. refl) does;
+      untouched =
+          touched c.args.disk.now c.seal.new.disk _ (whole_row c.args.moment c.args.up.number (waiting c.args.store.now c.args.up) (fault_code (octets_come c.args.store.now c.args.up))) row
+          (whole-some c.args.moment c.args.up.number (waiting c.args.store.now c.args.up) (fault_code (octets_come c.args.store.now c.args.up)));
+      held = tt;
+      only = only-none c.args.store.now c.seal.new.self c.args.up.number c.args.self.now.caller touches c.in-Err-Disk.ensures.rests c.requires.ready.only (spent refl);
+      others =
+          others-kept c.args.store.now c.seal.new.self c.args.up.number c.args.self.now.caller touches c.in-Err-Disk.ensures.rests
+          (own-entry c.args.self.now.caller c.args.store.now c.args.up holds c.requires.ready.held.1) c.in-Err-Disk.ensures.uploads;
+      kept = c.in-Err-Disk.ensures.kept;
+    }

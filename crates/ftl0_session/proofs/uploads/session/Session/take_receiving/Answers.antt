@@ -1,0 +1,28 @@
+-- Each packet in Receiving, by its row.
+use Rattle.std.proofs.Common.{◌≡◌, refl, ap, sym, subst}
+use Rattle.std.specs.Prelude.{Ok}
+use Rattle.px_base.specs.CallSign.{CallSign}
+use Rattle.ftl0_packets.specs.Layout.{Item, data_part}
+use Rattle.file_store.specs.State.{store_in}
+use Rattle.file_store.specs.Upload.{waiting}
+use Rattle.ftl0_session.specs.declared.uploads.phase.Phase.TheVariants as phase
+use Rattle.ftl0_session.specs.Uploads.SessionState.{SessionState, receiving_of}
+use Rattle.ftl0_session.specs.Uploads.Taking.{Answered}
+use Rattle.ftl0_session.proofs.Uploads.DoesLemmas.{answered-alone}
+use Rattle.ftl0_session.proofs.Uploads.Rows.{alone-refused, error-receiving}
+use Rattle.ftl0_session.proofs.uploads.session.Session.take_receiving.Goals as goal
+
+pub returns-in-Part-clause-answered : goal.returns-in-Part-clause-answered
+returns-in-Part-clause-answered g c = λ item is.
+    let same = rw c.in-Part.is at is in
+    let by : c.self.inside.caller ≡ c.args.self.now.caller = ap (λ (s : SessionState). s.caller) c.self.view_is in
+    let P : CallSign → Item → Type 0 = λ caller i. Answered g.D.Disk caller c.args.moment (receiving_of c.args.store.now c.args.up) i c.args.store.now c.take_data.new.store c.args.disk.now c.take_data.new.disk c.take_data.new.replies.items c.take_data.result in
+    subst (λ (i : Item). P c.args.self.now.caller i) (sym same) (subst (λ (caller : CallSign). P caller (Ok (data_part c.in-Part.octets.now))) by (c.take_data.ensures c.args.moment))
+
+pub returns-in_default-clause-answered : goal.returns-in_default-clause-answered
+returns-in_default-clause-answered g c = λ item is.
+    let row = error-receiving c.args.self.now.caller c.args.moment (store_in c.args.store.now) c.args.up.number (waiting c.args.store.now c.args.up) item _ c.in_default.not-Part c.in_default.not-End is in
+    answered-alone g.D.Disk c.args.self.now.caller c.args.moment (receiving_of c.args.store.now c.args.up) item c.args.store.now c.args.store.now c.args.disk.now _ _
+    c.requires.ready.healthy c.requires.ready.stands_on (g.met.D.Disk.lasts_same c.args.disk.now)
+    (alone-refused c.args.self.now.caller c.args.moment (receiving_of c.args.store.now c.args.up) item c.args.store.now (phase.Receiving c.args.up) 1 _ _ row refl c.refuse.ensures.taken
+    c.refuse.ensures.text c.requires.ready.held c.requires.ready.only)

@@ -1,0 +1,25 @@
+-- How the code sends what is due.
+use Rattle.std.specs.Prelude.{◌≡◌, List, ℕ, Bool, true, false, IsTrue, Option, None, Some, IfSome}
+use Rattle.disk_model.specs.declared.disk.Disk.{Ghosts}
+use Rattle.ftl0_packets.specs.Layout.{dl_error_resp, packet_text}
+use Rattle.file_journal.specs.Calls.{Reads}
+use Rattle.file_entries.specs.Store.{Store}
+use Rattle.ftl0_session.specs.Downloads.Sending.{DuePacket, next_due}
+use Rattle.ftl0_session.specs.Downloads.Table.{DownloadState}
+
+-- this packet is due, and its octets were put; or none is, and nothing changed
+abbrev pub IsDue :
+    {D : Type 0} → Option DuePacket → Bool → D → D → DownloadState → DownloadState → List ℕ → List ℕ → Type 0
+IsDue None put disk disk_now state state_now out out_now =
+    (put ≡ false) × (disk_now ≡ disk) × (state_now ≡ state) × (out_now ≡ out)
+IsDue (Some due) put disk disk_now state state_now out out_now =
+    (put ≡ true) × (state_now ≡ due.state) × (out_now ≡ packet_text due.packet)
+
+-- A packet is put exactly where one is due. The disk is as reads leave it, of which one failed or none; and what was
+-- put is what is due for that, code 3 where a read failed.
+pub record PutsDue {D : Type 0} (g : Ghosts D) (store : Store) (disk disk_now : D) (state state_now : DownloadState)
+    (out out_now : List ℕ) (put : Bool) : Type 0 where
+  pub fails : Bool
+  pub reads : Reads g (IsTrue fails) disk disk_now
+  pub told : fails ≡ true → IfSome (next_due store state fails) (λ due. due.packet ≡ dl_error_resp 3)
+  pub is_due : IsDue (next_due store state fails) put disk disk_now state state_now out out_now

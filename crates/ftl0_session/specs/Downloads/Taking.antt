@@ -1,0 +1,84 @@
+-- How the code answers a packet.
+use Rattle.std.specs.Prelude.{◌≡◌, List, ℕ, [], ◌∷◌, flat_map, Bool, true, false, IsTrue, Option, None, Some, IsSomeAnd}
+use Rattle.std.specs.Prelude.{Result, Ok, Err}
+use Rattle.px_base.specs.CallSign.{CallSign}
+use Rattle.disk_model.specs.declared.disk.Disk.{Ghosts}
+use Rattle.ftl0_packets.specs.Layout.{PacketValue, dl_error_resp, packet_text}
+use Rattle.ftl0_session.specs.Lists.Lists.{CallerList}
+use Rattle.file_journal.specs.Calls.{Reads}
+use Rattle.file_entries.specs.Store.{Store}
+use Rattle.selection.specs.Layout.{Tree}
+use Rattle.ftl0_session.specs.declared.downloads.downloads.Form.{Form}
+use Rattle.ftl0_session.specs.declared.downloads.downloads.Form.TheVariants as form
+use Rattle.ftl0_session.specs.declared.downloads.span.Span.{Span}
+use Rattle.ftl0_session.specs.Downloads.Table.{DownloadRow, DownloadState, Due, download_row, lists_after, long_due}
+use Rattle.ftl0_session.specs.Downloads.Table.{refused_row}
+use Rattle.ftl0_session.specs.Downloads.Table.{select_row, sending, short_due, tree_row}
+
+-- what a packet made: the state, the lists of all callers and the octets of the replies
+pub record Made : Type 0 where
+  pub state : DownloadState
+  pub lists : List CallerList
+  pub replies : List ℕ
+
+-- by its parts
+abbrev pub made : DownloadState → List CallerList → List ℕ → Made
+made state lists replies = record { state = state; lists = lists; replies = replies }
+
+-- what a row makes
+abbrev pub made_by : DownloadRow → Made
+made_by row = made row.state row.lists (flat_map packet_text row.replies)
+
+-- The disk is as reads leave it, of which one failed or none; and what was made is the row for that, which tells of a
+-- read that failed by code 3.
+pub record MakesRow {D : Type 0} (g : Ghosts D) (disk disk_now : D) (row : Bool → DownloadRow) (now : Made) :
+    Type 0 where
+  pub fails : Bool
+  pub reads : Reads g (IsTrue fails) disk disk_now
+  pub told : fails ≡ true → (row fails).replies ≡ dl_error_resp 3 ∷ []
+  pub is_row : now ≡ made_by (row fails)
+
+-- the packet has this row, and it was made; or it has none, was not taken, and nothing changed
+abbrev pub IsRow : {D : Type 0} → Option DownloadRow → Bool → D → D → Made → Made → Type 0
+IsRow None taken disk disk_now before now = (taken ≡ false) × (disk_now ≡ disk) × (now ≡ before)
+IsRow (Some row) taken disk disk_now before now = (taken ≡ true) × (now ≡ made_by row)
+
+-- A packet is taken exactly where it has a row. The disk is as reads leave it, of which one failed or none; and what
+-- was made is the packet's row for that. Where a read failed it has one, which tells of it by code 3.
+pub record TakesPacket {D : Type 0} (g : Ghosts D) (caller : CallSign) (packet : PacketValue) (store : Store)
+    (disk disk_now : D) (before now : Made) (taken : Bool) : Type 0 where
+  pub fails : Bool
+  pub reads : Reads g (IsTrue fails) disk disk_now
+  pub told :
+      fails ≡ true
+      → IsSomeAnd (download_row caller store before.lists before.state packet fails)
+      (λ row. row.replies ≡ dl_error_resp 3 ∷ [])
+  pub is_row :
+      IsRow (download_row caller store before.lists before.state packet fails) taken disk disk_now before now
+
+-- what a directory command of this form lists
+abbrev pub due_by : Form → Store → List ℕ → List Due
+due_by form.Short = short_due
+due_by form.Long = long_due
+
+-- the row of a DOWNLOAD_CMD with this number that asks for these octets, or is refused with this code
+abbrev pub answer_row : CallSign → List CallerList → ℕ → Result Span ℕ → DownloadRow
+answer_row caller lists number (Ok span) =
+    record {
+      state = sending span.number span.place span.last;
+      lists = lists_after lists caller number 1;
+      replies = [];
+    }
+answer_row caller lists number (Err code) = refused_row lists code
+
+-- the tokens are those of this tree, whoever sends them
+abbrev pub SelectsBy : List ℕ → Tree → Type 0
+SelectsBy tokens tree =
+    (caller : CallSign) (store : Store) (lists : List CallerList) (fails : Bool)
+    → select_row caller store lists tokens fails ≡ tree_row caller store lists fails (Ok tree)
+
+-- the tokens have a fault, whoever sends them
+abbrev pub SelectsNone : List ℕ → Type 0
+SelectsNone tokens =
+    (caller : CallSign) (store : Store) (lists : List CallerList) (fails : Bool)
+    → select_row caller store lists tokens fails ≡ refused_row lists 8

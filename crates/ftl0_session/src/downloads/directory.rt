@@ -1,0 +1,109 @@
+//! The headers of files that a directory command lists.
+
+ghost use Rattle.std.specs.Prelude.{◌≡◌, ◌+◌, ◌*◌, ◌≤◌, ◌++◌, [], length, map, flat_map, IsErr, IfOk, OnOk, false};
+ghost use Rattle.file_journal.specs.Calls.{Reads};
+ghost use Rattle.file_entries.specs.Headers.{header_octets};
+ghost use Rattle.file_entries.specs.Info.{IsCompleteIn};
+ghost use Rattle.file_store.specs.State.{StandsOn, store_in};
+ghost use Rattle.ftl0_session.specs.Downloads.Needs.{AreFiles, AreStored, LiesIn};
+ghost use Rattle.ftl0_session.specs.Downloads.Spans.{due_of};
+ghost use Rattle.ftl0_session.specs.Downloads.Table.{header_due, long_due, octets_in, short_octets};
+
+use crate::downloads::span::{MOST_LISTED, Span, Spans};
+use arrayvec::ArrayVec;
+use disk_model::{Disk, DiskFault};
+use file_store::{FileStore, header_in};
+use pfh_writer::short_form;
+
+/// The length of a short form in octets.
+pub(crate) const SHORT_LEN: usize = 73;
+
+/// The short forms of as many files as a directory command lists.
+pub(crate) type ShortForms = ArrayVec<u8, 730>;
+
+/// Reads the headers of complete files, at most ten, and puts their short forms in place of what is there, one after
+/// another. The fault comes only where a read of the disk failed, and leaves any octets there. Takes no memory.
+pub(crate) fn read_short_forms<D: Disk>(
+    disk: &mut D,
+    store: &mut FileStore,
+    numbers: &[u32],
+    forms: &mut ShortForms,
+) -> Result<(), DiskFault>
+    requires healthy { store.old.journal.failed ≡ false }
+    requires stands_on { StandsOn D.Disk store.old disk.old }
+    requires few { length numbers.now ≤ MOST_LISTED }
+    requires complete { AreFiles (store_in store.old) numbers.now }
+    ensures forms { OnOk result (forms.new.items
+        ≡ flat_map (λ number. short_octets (octets_in (store_in store.old) number)) numbers.now) }
+    ensures reads { Reads D.Disk (IsErr result) disk.old disk.new }
+    ensures store { store.new ≡ store.old }
+    ensures stands_on { StandsOn D.Disk store.new disk.new }
+{
+    forms.clear();
+    for number in numbers {
+        let form = read_short_form(disk, store, *number)?;
+        forms.try_extend_from_slice(&form).unwrap();
+    }
+    Ok(())
+}
+
+/// Reads the header of a complete file, and gives its short form.
+fn read_short_form<D: Disk>(
+    disk: &mut D,
+    store: &mut FileStore,
+    number: u32,
+) -> Result<[u8; SHORT_LEN], DiskFault>
+    requires healthy { store.old.journal.failed ≡ false }
+    requires stands_on { StandsOn D.Disk store.old disk.old }
+    requires complete { IsCompleteIn (store_in store.old) number }
+    ensures form { IfOk result (λ form. form ≡ short_octets (octets_in (store_in store.old) number)) }
+    ensures reads { Reads D.Disk (IsErr result) disk.old disk.new }
+    ensures store { store.new ≡ store.old }
+    ensures stands_on { StandsOn D.Disk store.new disk.new }
+{
+    let header = store.header(disk, number)?;
+    Ok(short_form(&header_in(header)))
+}
+
+/// Reads the headers of complete files, at most ten, and gives where they lie. The fault comes only where a read of the
+/// disk failed. Takes no memory.
+pub(crate) fn read_spans_of_headers<D: Disk>(
+    disk: &mut D,
+    store: &mut FileStore,
+    numbers: &[u32],
+) -> Result<Spans, DiskFault>
+    requires healthy { store.old.journal.failed ≡ false }
+    requires stands_on { StandsOn D.Disk store.old disk.old }
+    requires few { length numbers.now ≤ MOST_LISTED }
+    requires complete { AreFiles (store_in store.old) numbers.now }
+    ensures spans { IfOk result (λ spans. map due_of spans.items ≡ long_due (store_in store.old) numbers.now) }
+    ensures within { OnOk result (AreStored (store_in store.old) (long_due (store_in store.old) numbers.now)) }
+    ensures reads { Reads D.Disk (IsErr result) disk.old disk.new }
+    ensures store { store.new ≡ store.old }
+    ensures stands_on { StandsOn D.Disk store.new disk.new }
+{
+    let mut spans = ArrayVec::new();
+    for number in numbers {
+        spans.push(read_span(disk, store, *number)?);
+    }
+    Ok(spans)
+}
+
+/// Reads the header of a complete file, and gives where it lies.
+fn read_span<D: Disk>(disk: &mut D, store: &mut FileStore, number: u32) -> Result<Span, DiskFault>
+    requires healthy { store.old.journal.failed ≡ false }
+    requires stands_on { StandsOn D.Disk store.old disk.old }
+    requires complete { IsCompleteIn (store_in store.old) number }
+    ensures span { IfOk result (λ span. due_of span ≡ header_due (store_in store.old) number) }
+    ensures within { IfOk result (λ span. LiesIn (store_in store.old) span.number span.place span.last) }
+    ensures reads { Reads D.Disk (IsErr result) disk.old disk.new }
+    ensures store { store.new ≡ store.old }
+    ensures stands_on { StandsOn D.Disk store.new disk.new }
+{
+    let header = store.header(disk, number)?;
+    Ok(Span {
+        number,
+        place: 0,
+        last: header.len() as u32,
+    })
+}

@@ -1,0 +1,572 @@
+//! Downloads, directories and selections of one session: what each packet gives, and what is sent next.
+
+ghost use Rattle.std.specs.Prelude.{◌≡◌, ◌↔◌, ◌<◌, ◌≤◌, [], length, take as front, IfNone, IfOk, IfSome, IsErr};
+ghost use Rattle.std.specs.Prelude.{IsTrue, OnErr};
+ghost use Rattle.std.specs.Prelude.{OnOk, Some, false, true};
+ghost use Rattle.std.specs.List.{list_all};
+ghost use Rattle.std.specs.Option.{ForSome, option_map};
+ghost use Rattle.ftl0_packets.specs.Layout.{dl_error_resp, information, packet_text};
+ghost use Rattle.ftl0_packets.specs.Values.{value_of};
+ghost use Rattle.file_journal.specs.Calls.{Reads};
+ghost use Rattle.file_store.specs.State.{StandsOn, store_in};
+ghost use Rattle.selection.specs.Values.{tree_of};
+ghost use Rattle.ftl0_session.specs.Lists.Lists.{left_of};
+ghost use Rattle.ftl0_session.specs.Downloads.Filling.{PutsDue};
+ghost use Rattle.ftl0_session.specs.Downloads.Needs.{AreComplete, AreFiles, IsDueIn, LiesIn};
+ghost use Rattle.ftl0_session.specs.Downloads.Sending.{is_due as is_due_in, is_read, octets_due, state_after};
+ghost use Rattle.ftl0_session.specs.Downloads.Sending.{state_at_end};
+ghost use Rattle.ftl0_session.specs.Downloads.Table.{asked_file, directory_row, download_cmd_row, file_of, has_file};
+ghost use Rattle.ftl0_session.specs.Downloads.Table.{listed_files};
+ghost use Rattle.ftl0_session.specs.Downloads.Table.{listing, lists_after, ready, reply_sending, reply_waiting};
+ghost use Rattle.ftl0_session.specs.Downloads.Table.{select_row};
+ghost use Rattle.ftl0_session.specs.Downloads.Taking.{MakesRow, SelectsBy, SelectsNone, TakesPacket, answer_row};
+ghost use Rattle.ftl0_session.specs.Downloads.Taking.{due_by};
+ghost use Rattle.ftl0_session.specs.Downloads.Taking.{made, made_by};
+
+use crate::downloads::directory::{ShortForms, read_short_forms, read_spans_of_headers};
+use crate::downloads::selecting::chosen_files;
+use crate::downloads::span::{MOST_DATA, MOST_LISTED, Part, Span, Spans, read_spans};
+use crate::lists::Lists;
+use arrayvec::ArrayVec;
+use disk_model::{Disk, DiskFault};
+use file_store::FileStore;
+use ftl0_packets::{Packet, write_packet};
+use px_base::Call;
+use selection::Selection;
+use std::marker::Model;
+
+/// The code of an offset above the file's length.
+const BAD_CONTINUE: u8 = 2;
+
+/// The code of a read of the server's disk that failed.
+const FILE_SYSTEM: u8 = 3;
+
+/// The code of a number of which there is no complete file.
+const NO_SUCH_FILE: u8 = 4;
+
+/// The code of tokens that are no selection.
+const BAD_SELECTION: u8 = 8;
+
+/// The code of a lock, which isn't granted.
+const NO_DESTINATION: u8 = 10;
+
+/// The code of a command with number 0 where no number is left in the caller's list.
+const SELECTION_EMPTY: u8 = 11;
+
+/// The most octets of tokens in a packet.
+const MOST_TOKENS: usize = 2047;
+
+/// The octets of the replies to one packet.
+type Replies = ArrayVec<u8, 32>;
+
+/// What a session does beside uploading.
+#[derive(Clone, Copy)]
+enum Phase {
+    /// It is ready for a command.
+    Ready,
+    /// It sends these octets of a file.
+    Sending(Span),
+    /// The file was sent, and it waits for the word that the file came.
+    Waiting,
+    /// It sends short forms of headers.
+    ListingShort,
+    /// It sends headers.
+    ListingLong,
+}
+
+/// How headers are listed.
+#[derive(Clone, Copy)]
+enum Form {
+    /// DIR_SHORT_CMD: their short forms.
+    Short,
+    /// DIR_LONG_CMD: as they are stored.
+    Long,
+}
+
+/// The downloads, directories and selections of one session: what is due to its caller. Contracts see it as a
+/// `DownloadState`.
+#[derive(Drop)]
+pub struct Downloads {
+    phase: Phase,
+    /// The short forms that are listed, one after another.
+    short_forms: ShortForms,
+    /// How many octets of them were sent.
+    sent: usize,
+    /// Where the headers lie that are listed, and how much of them is due.
+    headers: Spans,
+}
+
+impl Model for Downloads {
+    ghost use Rattle.ftl0_session.specs.Downloads.Table.{DownloadState};
+
+    ghost Value = { DownloadState };
+
+    ghost use Rattle.ftl0_session.specs.Downloads.View.{IsSent, state_in};
+
+    ghost view = { state_in };
+
+    ghost invariant = { IsSent };
+}
+
+impl Downloads {
+    /// Nothing is due: the session is ready for a command. Takes no memory.
+    pub fn new() -> Downloads
+        ensures { result ≡ ready }
+    {
+        Downloads {
+            phase: Phase::Ready,
+            short_forms: ArrayVec::new(),
+            sent: 0,
+            headers: ArrayVec::new(),
+        }
+    }
+
+    /// Whether the session is ready for a command: it sends nothing, and waits for no word. Takes no memory.
+    pub fn is_ready(&self) -> bool
+        ensures { IsTrue result ↔ (self.now ≡ ready) }
+    {
+        matches!(self.phase, Phase::Ready)
+    }
+
+    /// Takes a packet: one row of the session's table. It answers false, and nothing changed, exactly where the
+    /// packet has no row in the state. A directory command reads the headers of its files, and SELECT_CMD those of
+    /// all complete files; a read that fails gives code 3. Takes no memory.
+    pub fn take<D: Disk>(
+        &mut self,
+        disk: &mut D,
+        packet: &Packet<'_>,
+        caller: Call,
+        store: &mut FileStore,
+        lists: &mut Lists,
+        replies: &mut Replies,
+    ) -> bool
+        requires empty { replies.old.items ≡ [] }
+        requires healthy { store.old.journal.failed ≡ false }
+        requires stands_on { StandsOn D.Disk store.old disk.old }
+        requires due { IsDueIn (store_in store.old) self.old }
+        requires complete { AreComplete (store_in store.old) lists.old }
+
+        // The answer is the packet's row, if it has one.
+        ensures takes { TakesPacket D.Disk caller (value_of packet.now) (store_in store.old) disk.old disk.new
+            (made self.old lists.old []) (made self.new lists.new replies.new.items) result }
+        ensures store { store.new ≡ store.old }
+
+        // What the next call needs.
+        ensures stands_on { StandsOn D.Disk store.new disk.new }
+        ensures due { IsDueIn (store_in store.new) self.new }
+        ensures complete { AreComplete (store_in store.new) lists.new }
+    {
+        match self.phase {
+            Phase::Ready => self.take_command(disk, packet, caller, store, lists, replies),
+            Phase::Sending(_) => self.end_by(reply_in_sending(packet), replies),
+            Phase::Waiting => self.end_by(reply_in_waiting(packet), replies),
+            Phase::ListingShort | Phase::ListingLong => false,
+        }
+    }
+
+    /// Puts what is due next in place of what `out` holds: DATA of the next 254 octets, the last one shorter, or
+    /// DATA_END where none is left; or code 3 in the place of a DATA whose octets can't be read. It answers false,
+    /// and nothing changed, exactly where nothing is due. It reads what it sends. Takes no memory.
+    pub fn fill<D: Disk>(
+        &mut self,
+        disk: &mut D,
+        store: &mut FileStore,
+        out: &mut ArrayVec<u8, 256>,
+    ) -> bool
+        requires healthy { store.old.journal.failed ≡ false }
+        requires stands_on { StandsOn D.Disk store.old disk.old }
+        requires due { IsDueIn (store_in store.old) self.old }
+        ensures puts { PutsDue D.Disk (store_in store.old) disk.old disk.new self.old self.new
+            out.old.items out.new.items result }
+        ensures store { store.new ≡ store.old }
+        ensures stands_on { StandsOn D.Disk store.new disk.new }
+        ensures due { IsDueIn (store_in store.new) self.new }
+    {
+        if !self.is_due() {
+            return false;
+        }
+        let mut part = ArrayVec::new();
+        match self.read_part(disk, store, &mut part) {
+            Err(DiskFault) => {
+                self.phase = Phase::Ready;
+                write_packet(&Packet::DlErrorResp(FILE_SYSTEM), out);
+            }
+            Ok(()) if part.is_empty() => {
+                self.end();
+                write_packet(&Packet::DataEnd, out);
+            }
+            Ok(()) => write_packet(&Packet::DataPart(&part), out),
+        }
+        true
+    }
+
+    /// Whether anything is due.
+    fn is_due(&self) -> bool
+        ensures { result ≡ is_due_in self.now }
+    {
+        !matches!(self.phase, Phase::Ready | Phase::Waiting)
+    }
+
+    /// All that was due was sent.
+    fn end(&mut self)
+        ensures { self.new ≡ state_at_end self.old }
+    {
+        self.phase = match self.phase {
+            Phase::Ready | Phase::ListingShort | Phase::ListingLong => Phase::Ready,
+            Phase::Sending(_) | Phase::Waiting => Phase::Waiting,
+        };
+    }
+
+    /// Reads the octets of the next DATA, and moves on behind them. After a fault what is due is open.
+    fn read_part<D: Disk>(
+        &mut self,
+        disk: &mut D,
+        store: &mut FileStore,
+        part: &mut Part,
+    ) -> Result<(), DiskFault>
+        requires healthy { store.old.journal.failed ≡ false }
+        requires stands_on { StandsOn D.Disk store.old disk.old }
+        requires due { IsDueIn (store_in store.old) self.old }
+        requires empty { part.old.items ≡ [] }
+        ensures octets { OnOk result (part.new.items ≡ front MOST_DATA (octets_due (store_in store.old) self.old)) }
+        ensures state { OnOk result (self.new ≡ state_after MOST_DATA self.old) }
+        ensures some { OnErr result (0 < length (octets_due (store_in store.old) self.old)) }
+        ensures read { OnErr result (IsTrue (is_read self.old)) }
+        ensures reads { Reads D.Disk (IsErr result) disk.old disk.new }
+        ensures store { store.new ≡ store.old }
+        ensures stands_on { StandsOn D.Disk store.new disk.new }
+    {
+        match self.phase {
+            Phase::Ready | Phase::Waiting => {}
+            Phase::Sending(span) => {
+                let mut span = span;
+                span.read(disk, store, part)?;
+                self.phase = Phase::Sending(span);
+            }
+            Phase::ListingShort => {
+                let left = &self.short_forms[self.sent..];
+                let count = left.len().min(MOST_DATA);
+                part.try_extend_from_slice(&left[..count]).unwrap();
+                self.sent += count;
+            }
+            Phase::ListingLong => self.headers = read_spans(disk, store, &self.headers, part)?,
+        }
+        Ok(())
+    }
+
+    /// Ready: DOWNLOAD_CMD, the directory commands and SELECT_CMD.
+    fn take_command<D: Disk>(
+        &mut self,
+        disk: &mut D,
+        packet: &Packet<'_>,
+        caller: Call,
+        store: &mut FileStore,
+        lists: &mut Lists,
+        replies: &mut Replies,
+    ) -> bool
+        requires empty { replies.old.items ≡ [] }
+        requires healthy { store.old.journal.failed ≡ false }
+        requires stands_on { StandsOn D.Disk store.old disk.old }
+        requires ready { self.old ≡ ready }
+        requires complete { AreComplete (store_in store.old) lists.old }
+        ensures takes { TakesPacket D.Disk caller (value_of packet.now) (store_in store.old) disk.old disk.new
+            (made self.old lists.old []) (made self.new lists.new replies.new.items) result }
+        ensures store { store.new ≡ store.old }
+        ensures stands_on { StandsOn D.Disk store.new disk.new }
+        ensures due { IsDueIn (store_in store.new) self.new }
+        ensures complete { AreComplete (store_in store.new) lists.new }
+    {
+        match *packet {
+            Packet::DownloadCmd {
+                number,
+                offset,
+                lock,
+            } => self.download(number, offset, lock, caller, store, lists, replies),
+            Packet::DirShortCmd(number) => {
+                self.list(disk, Form::Short, number, caller, store, lists, replies)
+            }
+            Packet::DirLongCmd(number) => {
+                self.list(disk, Form::Long, number, caller, store, lists, replies)
+            }
+            Packet::SelectCmd(tokens) => select(disk, tokens, caller, store, lists, replies),
+            _ => return false,
+        }
+        true
+    }
+
+    /// Ready, DOWNLOAD_CMD: the file is sent from the offset on, or the command is refused.
+    fn download(
+        &mut self,
+        number: u32,
+        offset: u32,
+        lock: u8,
+        caller: Call,
+        store: &FileStore,
+        lists: &mut Lists,
+        replies: &mut Replies,
+    )
+        requires empty { replies.old.items ≡ [] }
+        requires ready { self.old ≡ ready }
+        requires complete { AreComplete (store_in store.now) lists.old }
+        ensures row { made self.new lists.new replies.new.items ≡ made_by
+            (download_cmd_row caller (store_in store.now) lists.old number offset lock) }
+        ensures due { IsDueIn (store_in store.now) self.new }
+        ensures complete { AreComplete (store_in store.now) lists.new }
+    {
+        match asked_span(number, offset, lock, caller, store, lists) {
+            Ok(span) => {
+                take_numbers(number, 1, caller, lists);
+                self.phase = Phase::Sending(span);
+            }
+            Err(code) => refuse(code, replies),
+        }
+    }
+
+    /// Ready, DIR_SHORT_CMD or DIR_LONG_CMD: the headers of the files are listed, or the command is refused.
+    fn list<D: Disk>(
+        &mut self,
+        disk: &mut D,
+        form: Form,
+        number: u32,
+        caller: Call,
+        store: &mut FileStore,
+        lists: &mut Lists,
+        replies: &mut Replies,
+    )
+        requires empty { replies.old.items ≡ [] }
+        requires healthy { store.old.journal.failed ≡ false }
+        requires stands_on { StandsOn D.Disk store.old disk.old }
+        requires ready { self.old ≡ ready }
+        requires complete { AreComplete (store_in store.old) lists.old }
+        ensures row { MakesRow D.Disk disk.old disk.new
+            (directory_row caller (store_in store.old) lists.old number (due_by form))
+            (made self.new lists.new replies.new.items) }
+        ensures store { store.new ≡ store.old }
+        ensures stands_on { StandsOn D.Disk store.new disk.new }
+        ensures due { IsDueIn (store_in store.new) self.new }
+        ensures complete { AreComplete (store_in store.new) lists.new }
+    {
+        let numbers = files_to_list(number, caller, lists);
+        if numbers.is_empty() {
+            return refuse(SELECTION_EMPTY, replies);
+        }
+        if !are_files(store, &numbers) {
+            return refuse(NO_SUCH_FILE, replies);
+        }
+        match self.read_headers(disk, form, &numbers, store) {
+            Ok(()) => take_numbers(number, numbers.len(), caller, lists),
+            Err(DiskFault) => refuse(FILE_SYSTEM, replies),
+        }
+    }
+
+    /// Reads the headers of complete files, which are listed then. After a fault the session is ready as before.
+    fn read_headers<D: Disk>(
+        &mut self,
+        disk: &mut D,
+        form: Form,
+        numbers: &[u32],
+        store: &mut FileStore,
+    ) -> Result<(), DiskFault>
+        requires healthy { store.old.journal.failed ≡ false }
+        requires stands_on { StandsOn D.Disk store.old disk.old }
+        requires ready { self.old ≡ ready }
+        requires few { length numbers.now ≤ MOST_LISTED }
+        requires complete { AreFiles (store_in store.old) numbers.now }
+        ensures listing { OnOk result (self.new ≡ listing (due_by form (store_in store.old) numbers.now)) }
+        ensures ready { OnErr result (self.new ≡ ready) }
+        ensures due { IsDueIn (store_in store.new) self.new }
+        ensures reads { Reads D.Disk (IsErr result) disk.old disk.new }
+        ensures store { store.new ≡ store.old }
+        ensures stands_on { StandsOn D.Disk store.new disk.new }
+    {
+        match form {
+            Form::Short => {
+                self.sent = 0;
+                read_short_forms(disk, store, numbers, &mut self.short_forms)?;
+                self.phase = Phase::ListingShort;
+            }
+            Form::Long => {
+                self.headers = read_spans_of_headers(disk, store, numbers)?;
+                self.phase = Phase::ListingLong;
+            }
+        }
+        Ok(())
+    }
+
+    /// A download ends with this reply, if there is one.
+    fn end_by(&mut self, reply: Option<Packet<'static>>, replies: &mut Replies) -> bool
+        requires { ForSome reply (λ packet. information (value_of packet) ≡ []) }
+        ensures none { IfNone reply.entry ((result ≡ false) × (self.new ≡ self.old)
+            × (replies.new.items ≡ replies.old.items)) }
+        ensures some { IfSome reply.entry (λ packet. (result ≡ true) × (self.new ≡ ready)
+            × (replies.new.items ≡ packet_text (value_of packet))) }
+    {
+        let Some(packet) = reply else {
+            return false;
+        };
+        self.phase = Phase::Ready;
+        write_packet(&packet, replies);
+        true
+    }
+}
+
+/// The reply to a packet while a file is sent, if it has one.
+fn reply_in_sending(packet: &Packet<'_>) -> Option<Packet<'static>>
+    ensures reply { option_map value_of result ≡ reply_sending (value_of packet.now) }
+    ensures bare { IfSome result (λ reply. information (value_of reply) ≡ []) }
+{
+    match packet {
+        Packet::DlNakCmd => Some(Packet::DlAbortedResp),
+        _ => None,
+    }
+}
+
+/// The reply to a packet while the word is waited for that a file came, if it has one.
+fn reply_in_waiting(packet: &Packet<'_>) -> Option<Packet<'static>>
+    ensures reply { option_map value_of result ≡ reply_waiting (value_of packet.now) }
+    ensures bare { IfSome result (λ reply. information (value_of reply) ≡ []) }
+{
+    match packet {
+        Packet::DlAckCmd => Some(Packet::DlCompletedResp),
+        Packet::DlNakCmd => Some(Packet::DlAbortedResp),
+        _ => None,
+    }
+}
+
+/// The octets of a file that a DOWNLOAD_CMD asks for, or the code of its refusal.
+fn asked_span(
+    number: u32,
+    offset: u32,
+    lock: u8,
+    caller: Call,
+    store: &FileStore,
+    lists: &Lists,
+) -> Result<Span, u8>
+    ensures row { download_cmd_row caller (store_in store.now) lists.now number offset lock
+        ≡ answer_row caller lists.now number result }
+    ensures within { IfOk result (λ span. LiesIn (store_in store.now) span.number span.place span.last) }
+    ensures left { OnOk result (number ≡ 0 → 1 ≤ length (left_of lists.now caller)) }
+{
+    if lock != 0 {
+        return Err(NO_DESTINATION);
+    }
+    let asked = first_asked(number, caller, lists).ok_or(SELECTION_EMPTY)?;
+    let last = length_of(store, asked).ok_or(NO_SUCH_FILE)?;
+    if offset > last {
+        return Err(BAD_CONTINUE);
+    }
+    Ok(Span {
+        number: asked,
+        place: offset,
+        last,
+    })
+}
+
+/// The file that a DOWNLOAD_CMD with this number asks for: for number 0 the first one that is left in the caller's
+/// list.
+fn first_asked(number: u32, caller: Call, lists: &Lists) -> Option<u32>
+    ensures { result ≡ asked_file lists.now caller number }
+{
+    if number == 0 {
+        lists.numbers(caller).first().copied()
+    } else {
+        Some(number)
+    }
+}
+
+/// The files that a directory command with this number lists: for number 0 the next ones that are left in the caller's
+/// list, at most ten.
+fn files_to_list(number: u32, caller: Call, lists: &Lists) -> ArrayVec<u32, MOST_LISTED>
+    ensures { result.items ≡ listed_files lists.now caller number }
+{
+    let mut files = ArrayVec::new();
+    if number == 0 {
+        let left = lists.numbers(caller);
+        files
+            .try_extend_from_slice(&left[..left.len().min(MOST_LISTED)])
+            .unwrap();
+    } else {
+        files.push(number);
+    }
+    files
+}
+
+/// The length of the complete file of this number, if there is one.
+fn length_of(store: &FileStore, number: u32) -> Option<u32>
+    ensures { result ≡ option_map length (file_of (store_in store.now) number) }
+{
+    match store.info(number) {
+        Some(info) if info.complete => Some(info.held),
+        _ => None,
+    }
+}
+
+/// Whether each of these numbers is that of a complete file.
+fn are_files(store: &FileStore, numbers: &[u32]) -> bool
+    ensures { result ≡ list_all (has_file (store_in store.now)) numbers.now }
+{
+    numbers
+        .iter()
+        .all(|number| length_of(store, *number).is_some())
+}
+
+/// A command with this number takes so many numbers from the front of the caller's list: only one with number 0 does.
+fn take_numbers(number: u32, count: usize, caller: Call, lists: &mut Lists)
+    requires { number ≡ 0 → count ≤ length (left_of lists.old caller) }
+    ensures { lists.new ≡ lists_after lists.old caller number count }
+{
+    if number == 0 {
+        lists.take(caller, count);
+    }
+}
+
+/// Ready, SELECT_CMD: the caller's list becomes the complete files that the selection holds of, or the command is
+/// refused.
+fn select<D: Disk>(
+    disk: &mut D,
+    tokens: &[u8],
+    caller: Call,
+    store: &mut FileStore,
+    lists: &mut Lists,
+    replies: &mut Replies,
+)
+    requires empty { replies.old.items ≡ [] }
+    requires healthy { store.old.journal.failed ≡ false }
+    requires stands_on { StandsOn D.Disk store.old disk.old }
+    requires complete { AreComplete (store_in store.old) lists.old }
+    ensures row { MakesRow D.Disk disk.old disk.new (select_row caller (store_in store.old) lists.old tokens.now)
+        (made ready lists.new replies.new.items) }
+    ensures store { store.new ≡ store.old }
+    ensures stands_on { StandsOn D.Disk store.new disk.new }
+    ensures complete { AreComplete (store_in store.new) lists.new }
+{
+    let Some(selection) = selection_of(tokens) else {
+        return refuse(BAD_SELECTION, replies);
+    };
+    match chosen_files(disk, store, &selection) {
+        Ok(numbers) => {
+            lists.select(caller, &numbers);
+            write_packet(&Packet::SelectResp(numbers.len() as u16), replies);
+        }
+        Err(DiskFault) => refuse(FILE_SYSTEM, replies),
+    }
+}
+
+/// The selection of these tokens; none where they have a fault, or are more than a packet has.
+fn selection_of(tokens: &[u8]) -> Option<Selection>
+    ensures some { IfSome result (λ selection. SelectsBy tokens.now (tree_of selection)) }
+    ensures none { IfNone result (SelectsNone tokens.now) }
+{
+    if tokens.len() > MOST_TOKENS {
+        return None;
+    }
+    Selection::read(tokens).ok()
+}
+
+/// Refuses a command with this code.
+fn refuse(code: u8, replies: &mut Replies)
+    requires { replies.old.items ≡ [] }
+    ensures { replies.new.items ≡ packet_text (dl_error_resp code) }
+{
+    write_packet(&Packet::DlErrorResp(code), replies);
+}

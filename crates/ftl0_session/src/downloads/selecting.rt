@@ -1,0 +1,71 @@
+//! The files of which a selection holds.
+
+ghost use Rattle.std.specs.Prelude.{◌≡◌, ◌≤◌, [], length, IsErr, IfOk, OnOk, false};
+ghost use Rattle.file_journal.specs.Calls.{Reads};
+ghost use Rattle.file_entries.specs.Headers.{header_items};
+ghost use Rattle.file_entries.specs.Info.{IsCompleteIn};
+ghost use Rattle.file_store.specs.State.{StandsOn, store_in};
+ghost use Rattle.selection.specs.Meaning.{holds as holds_of};
+ghost use Rattle.selection.specs.Values.{tree_of};
+ghost use Rattle.ftl0_session.specs.Downloads.Needs.{AreFiles};
+ghost use Rattle.ftl0_session.specs.Downloads.Table.{chosen, octets_in};
+
+use crate::lists::MOST_NUMBERS;
+use arrayvec::ArrayVec;
+use disk_model::{Disk, DiskFault};
+use file_store::laws::state_law;
+use file_store::{FileStore, header_in};
+use selection::Selection;
+
+/// The numbers of a caller's list.
+pub(crate) type Numbers = ArrayVec<u32, MOST_NUMBERS>;
+
+/// The numbers of the complete files of which the selection holds, rising. It reads the header of each complete file.
+/// The fault comes only where a read of the disk failed. Takes no memory.
+pub(crate) fn chosen_files<D: Disk>(
+    disk: &mut D,
+    store: &mut FileStore,
+    selection: &Selection,
+) -> Result<Numbers, DiskFault>
+    requires healthy { store.old.journal.failed ≡ false }
+    requires stands_on { StandsOn D.Disk store.old disk.old }
+    ensures numbers { IfOk result (λ numbers.
+        numbers.items ≡ chosen (tree_of selection.now) (store_in store.old).entries) }
+    ensures complete { IfOk result (λ numbers. AreFiles (store_in store.old) numbers.items) }
+    ensures reads { Reads D.Disk (IsErr result) disk.old disk.new }
+    ensures store { store.new ≡ store.old }
+    ensures stands_on { StandsOn D.Disk store.new disk.new }
+{
+    // The entries' numbers rise, and there are at most 1,024.
+    state_law(store);
+    let mut numbers = ArrayVec::new();
+    let mut above = 0;
+    while let Some(number) = store.numbers(above) {
+        let holds = is_chosen(disk, store, number, selection)?;
+        if holds {
+            numbers.push(number);
+        }
+        above = number;
+    }
+    Ok(numbers)
+}
+
+/// Whether the selection holds of the header of a complete file.
+fn is_chosen<D: Disk>(
+    disk: &mut D,
+    store: &mut FileStore,
+    number: u32,
+    selection: &Selection,
+) -> Result<bool, DiskFault>
+    requires healthy { store.old.journal.failed ≡ false }
+    requires stands_on { StandsOn D.Disk store.old disk.old }
+    requires complete { IsCompleteIn (store_in store.old) number }
+    ensures holds { IfOk result (λ holds.
+        holds ≡ holds_of (tree_of selection.now) (header_items (octets_in (store_in store.old) number))) }
+    ensures reads { Reads D.Disk (IsErr result) disk.old disk.new }
+    ensures store { store.new ≡ store.old }
+    ensures stands_on { StandsOn D.Disk store.new disk.new }
+{
+    let header = store.header(disk, number)?;
+    Ok(selection.holds(&header_in(header)))
+}

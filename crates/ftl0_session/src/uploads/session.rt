@@ -1,0 +1,408 @@
+//! The uploads of one caller's session: what each packet of uploading gives (FTL0 1990, uploading).
+
+ghost use Rattle.std.specs.Prelude.{◌≡◌, ◌≢◌, ◌↔◌, ℕ, [], ◌∷◌, false, true, IsErrOf, IsTrue, None, Ok};
+ghost use Rattle.ftl0_packets.specs.Items.{kind_of_item, texts};
+ghost use Rattle.ftl0_packets.specs.Layout.{data_end, data_part, packet_text, ul_ack_resp, ul_error_resp};
+ghost use Rattle.ftl0_packets.specs.Layout.{ul_go_resp, upload_cmd};
+ghost use Rattle.ftl0_packets.specs.Values.{item_of};
+ghost use Rattle.file_entries.specs.Kept.{KeepsComplete};
+ghost use Rattle.file_journal.specs.Calls.{Puts};
+ghost use Rattle.file_store.specs.State.{StandsOn, store_in};
+ghost use Rattle.ftl0_session.specs.Uploads.Asked.{AnswersAborting, AnswersAsked};
+ghost use Rattle.ftl0_session.specs.Uploads.Others.{KeepsOtherCallers};
+ghost use Rattle.ftl0_session.specs.Uploads.Session.{command as in_command, is_upload_kind};
+ghost use Rattle.ftl0_session.specs.Uploads.SessionState.{IsHeld, IsOnlyOut, IsReady, NoOtherOut, Parks};
+ghost use Rattle.ftl0_session.specs.Uploads.SessionState.{new_session, receiving_of, state_of};
+ghost use Rattle.ftl0_session.specs.Uploads.Taking.{Answered, AnsweredAlone, AnswersRefusal, LeavesDisk, PutsPacket};
+ghost use Rattle.ftl0_session.specs.Uploads.Taking.{TakesPacket, row_for};
+ghost use Rattle.ftl0_session.specs.declared.uploads.phase.Phase.TheVariants.{Command as command_phase};
+ghost use Rattle.ftl0_session.specs.declared.uploads.phase.Phase.TheVariants.{Receiving as receiving_phase};
+
+use crate::uploads::asked::Asked;
+use crate::uploads::{Phase, ServerStop};
+use arrayvec::ArrayVec;
+use disk_model::Disk;
+use file_store::laws::state_law;
+use file_store::{
+    AppendRefusal, BeginRefusal, FileStore, OpenUpload, Receipt, ResumeRefusal, SealRefusal,
+};
+use ftl0_packets::{Malformed, Packet, write_packet};
+use px_base::Call;
+use std::marker::Model;
+use std::mem;
+
+/// The code of an ill-formed command, or of a packet that has no place in the state.
+const ILL_FORMED: u8 = 1;
+
+/// The code of a file that is another caller's, or of another length than is said.
+const BAD_CONTINUE: u8 = 2;
+
+/// The code of a fault of the server's disk.
+const FILE_SYSTEM: u8 = 3;
+
+/// The code of a number of which no file is there.
+const NO_SUCH_FILE: u8 = 4;
+
+/// The code of a file that is whole already.
+const FILE_COMPLETE: u8 = 12;
+
+/// The code of a file for which there is no room.
+const NO_ROOM: u8 = 13;
+
+/// The code of a file that ended before its last octet, or whose body isn't what its checksum says.
+const BODY_CHECK: u8 = 16;
+
+/// The octets of the replies to one packet.
+pub type Replies = ArrayVec<u8, 32>;
+
+/// The session of one caller. It must be ended, which parks its upload. Contracts see it as a `SessionState`.
+pub struct Session {
+    caller: Call,
+    phase: Phase,
+}
+
+impl Model for Session {
+    ghost use Rattle.ftl0_session.specs.Uploads.SessionState.{SessionState};
+
+    ghost Value = { SessionState };
+
+    ghost view = { λ a. record { caller = a.caller; phase = a.phase } };
+}
+
+/// What a packet gives in a phase: the phase after it, and the answer.
+type Taken = (Phase, Result<(), ServerStop>);
+
+impl Session {
+    /// The session of this caller, in the state Command; nothing is replied. Takes no memory.
+    pub fn new(caller: Call) -> Session
+        ensures { result ≡ new_session caller }
+    {
+        Session {
+            caller,
+            phase: Phase::Command,
+        }
+    }
+
+    /// Whether it waits for a command: it receives no file, and waits for the end of none. Takes no memory.
+    pub fn is_ready(&self) -> bool
+        ensures { IsTrue result ↔ (self.now.phase ≡ command_phase) }
+    {
+        matches!(self.phase, Phase::Command)
+    }
+
+    /// Whose session it is. Takes no memory.
+    pub fn caller(&self) -> Call
+        ensures { result ≡ self.now.caller }
+    {
+        self.caller
+    }
+
+    /// Takes a packet of uploading: its row of the session's table, or code 3 where the disk fails. The row's commands
+    /// are on the disk before its replies are given. Takes memory, before it touches the disk.
+    pub fn take<D: Disk>(
+        &mut self,
+        disk: &mut D,
+        packet: Result<Packet<'_>, Malformed>,
+        moment: u32,
+        store: &mut FileStore,
+        replies: &mut Replies,
+    ) -> Result<(), ServerStop>
+        requires empty { replies.old.items ≡ [] }
+        requires kind { is_upload_kind (kind_of_item (item_of packet)) ≡ true }
+        requires healthy { store.old.journal.failed ≡ false }
+        requires stands_on { StandsOn D.Disk store.old disk.old }
+        requires held { IsHeld store.old self.old }
+        requires only { IsOnlyOut store.old self.old }
+
+        // The answer is the packet's row, and the row's commands are on the disk; or the disk failed in one of them.
+        ensures takes { TakesPacket moment self.old store.old packet.entry self.new store.new replies.new.items result }
+        ensures on_disk { PutsPacket D.Disk moment self.old store.old disk.old packet.entry store.new disk.new result }
+        ensures untouched { LeavesDisk disk.old disk.new (row_for moment self.old store.old packet.entry) }
+        ensures puts { Puts D.Disk (IsErrOf result ServerStop.Disk) disk.old disk.new }
+        ensures failed { IsErrOf result ServerStop.Disk → store.new.journal.failed ≡ true }
+        ensures kept { KeepsComplete (store_in store.old) (store_in store.new) }
+        ensures others { KeepsOtherCallers store.old store.new self.old.caller }
+
+        // What the next packet needs.
+        ensures caller { self.new.caller ≡ self.old.caller }
+        ensures healthy { ¬ IsErrOf result ServerStop.Disk → store.new.journal.failed ≡ false }
+        ensures stands_on { StandsOn D.Disk store.new disk.new }
+        ensures held { IsHeld store.new self.new }
+        ensures only { IsOnlyOut store.new self.new }
+    {
+        let phase = mem::replace(&mut self.phase, Phase::Command);
+        let asked = Asked::of(packet);
+        let (phase, answer) = self.take_asked(disk, phase, asked, moment, store, replies);
+        match mem::replace(&mut self.phase, phase) {
+            Phase::Command | Phase::Aborting => answer,
+            Phase::Receiving(_up) => unreachable!(),
+        }
+    }
+
+    /// Acknowledges a file: no other call replies UL_ACK_RESP, and none does without a receipt, which it spends. Takes
+    /// no memory.
+    pub fn ack(&mut self, receipt: Receipt, replies: &mut Replies)
+        requires { replies.old.items ≡ [] }
+        ensures text { replies.new.items ≡ packet_text ul_ack_resp }
+        ensures session { self.new ≡ self.old }
+    {
+        receipt.spend();
+        write_packet(&Packet::UlAckResp, replies);
+    }
+
+    /// Ends the session, and parks its upload. No upload of an entry of its caller is out then, if none was but the
+    /// session's own. Takes no memory.
+    pub fn end(self, store: &mut FileStore)
+        requires { IsHeld store.old self }
+        ensures parks { Parks store.old store.new self.phase }
+        ensures only { IsOnlyOut store.old self → NoOtherOut store.new self.caller None }
+        ensures others { KeepsOtherCallers store.old store.new self.caller }
+    {
+        let Session { caller: _, phase } = self;
+        match phase {
+            Phase::Receiving(up) => store.park(up),
+            Phase::Command | Phase::Aborting => {}
+        }
+    }
+
+    /// What is asked of the session in this phase, which was taken from it: one row of its table.
+    fn take_asked<D: Disk>(
+        &mut self,
+        disk: &mut D,
+        phase: Phase,
+        asked: Asked<'_>,
+        moment: u32,
+        store: &mut FileStore,
+        replies: &mut Replies,
+    ) -> Taken
+        requires empty { replies.old.items ≡ [] }
+        requires ready { IsReady D.Disk store.old disk.old self.old.caller phase }
+        ensures session { self.new ≡ self.old }
+        ensures answered { AnswersAsked D.Disk self.old.caller moment (state_of store.old phase) asked.entry
+            store.old store.new disk.old disk.new replies.new.items result }
+    {
+        match phase {
+            Phase::Command => take_command(disk, self.caller, asked, moment, store, replies),
+            Phase::Receiving(up) => self.take_receiving(disk, up, asked, moment, store, replies),
+            Phase::Aborting => take_aborting(asked, replies),
+        }
+    }
+
+    /// Receiving: DATA and DATA_END.
+    fn take_receiving<D: Disk>(
+        &mut self,
+        disk: &mut D,
+        up: OpenUpload,
+        asked: Asked<'_>,
+        moment: u32,
+        store: &mut FileStore,
+        replies: &mut Replies,
+    ) -> Taken
+        requires empty { replies.old.items ≡ [] }
+        requires ready { IsReady D.Disk store.old disk.old self.old.caller (receiving_phase up) }
+        ensures session { self.new ≡ self.old }
+        ensures answered { AnswersAsked D.Disk self.old.caller moment (receiving_of store.old up) asked.entry
+            store.old store.new disk.old disk.new replies.new.items result }
+    {
+        match asked {
+            Asked::Part(octets) => take_data(disk, self.caller, up, octets, store, replies),
+            Asked::End => self.take_end(disk, up, moment, store, replies),
+            _ => refuse(Phase::Receiving(up), ILL_FORMED, replies),
+        }
+    }
+
+    /// Receiving, DATA_END: the file is sealed and acknowledged, or refused.
+    fn take_end<D: Disk>(
+        &mut self,
+        disk: &mut D,
+        up: OpenUpload,
+        moment: u32,
+        store: &mut FileStore,
+        replies: &mut Replies,
+    ) -> Taken
+        requires empty { replies.old.items ≡ [] }
+        requires ready { IsReady D.Disk store.old disk.old self.old.caller (receiving_phase up) }
+        ensures session { self.new ≡ self.old }
+        ensures answered { Answered D.Disk self.old.caller moment (receiving_of store.old up) (Ok data_end)
+            store.old store.new disk.old disk.new replies.new.items result }
+    {
+        match store.seal(disk, up, moment) {
+            Ok(receipt) => {
+                self.ack(receipt, replies);
+                (Phase::Command, Ok(()))
+            }
+            Err(SealRefusal::Short(up)) => {
+                store.park(up);
+                write_packet(&Packet::UlNakResp(BODY_CHECK), replies);
+                (Phase::Command, Ok(()))
+            }
+            Err(SealRefusal::Header { code }) => {
+                write_packet(&Packet::UlNakResp(code), replies);
+                (Phase::Command, Ok(()))
+            }
+            Err(SealRefusal::Disk) => {
+                write_packet(&Packet::UlNakResp(FILE_SYSTEM), replies);
+                (Phase::Command, Err(ServerStop::Disk))
+            }
+            Err(SealRefusal::Failed) => unreachable!(),
+        }
+    }
+}
+
+/// Command: UPLOAD_CMD, for a new file or for one that goes on.
+fn take_command<D: Disk>(
+    disk: &mut D,
+    caller: Call,
+    asked: Asked<'_>,
+    moment: u32,
+    store: &mut FileStore,
+    replies: &mut Replies,
+) -> Taken
+    requires empty { replies.old.items ≡ [] }
+    requires ready { IsReady D.Disk store.old disk.old caller command_phase }
+    ensures { AnswersAsked D.Disk caller moment in_command asked.entry
+        store.old store.new disk.old disk.new replies.new.items result }
+{
+    match asked {
+        Asked::Upload { number: 0, length } => begin(disk, caller, length, moment, store, replies),
+        Asked::Upload { number, length } => resume(caller, number, length, store, replies),
+        _ => refuse(Phase::Command, ILL_FORMED, replies),
+    }
+}
+
+/// Begins a new file.
+fn begin<D: Disk>(
+    disk: &mut D,
+    caller: Call,
+    length: u32,
+    moment: u32,
+    store: &mut FileStore,
+    replies: &mut Replies,
+) -> Taken
+    requires empty { replies.old.items ≡ [] }
+    requires ready { IsReady D.Disk store.old disk.old caller command_phase }
+    ensures { Answered D.Disk caller moment in_command (Ok (upload_cmd 0 length))
+        store.old store.new disk.old disk.new replies.new.items result }
+{
+    // No entry has the number that comes next.
+    state_law(store);
+    match store.begin(disk, caller, length, moment) {
+        Ok(up) => {
+            go_on(up.number(), 0, replies);
+            (Phase::Receiving(up), Ok(()))
+        }
+        Err(refusal) => (Phase::Command, refuse_begin(refusal, replies)),
+    }
+}
+
+/// Answers a refusal to begin a file. The store hadn't failed before.
+fn refuse_begin(refusal: BeginRefusal, replies: &mut Replies) -> Result<(), ServerStop>
+    requires empty { replies.old.items ≡ [] }
+    requires healthy { refusal ≢ BeginRefusal.Failed }
+    ensures { AnswersRefusal refusal replies.new.items result }
+{
+    match refusal {
+        BeginRefusal::TooLong
+        | BeginRefusal::TooMany
+        | BeginRefusal::NumbersGone
+        | BeginRefusal::NoRoom { .. } => {
+            write_packet(&Packet::UlErrorResp(NO_ROOM), replies);
+            Ok(())
+        }
+        BeginRefusal::Disk => {
+            write_packet(&Packet::UlErrorResp(FILE_SYSTEM), replies);
+            Err(ServerStop::Disk)
+        }
+        BeginRefusal::OutOfMemory => Err(ServerStop::OutOfMemory),
+        BeginRefusal::Failed => unreachable!(),
+    }
+}
+
+/// Goes on with a file that was begun before.
+fn resume(
+    caller: Call,
+    number: u32,
+    length: u32,
+    store: &mut FileStore,
+    replies: &mut Replies,
+) -> Taken
+    requires empty { replies.old.items ≡ [] }
+    requires healthy { store.old.journal.failed ≡ false }
+    requires only { NoOtherOut store.old caller None }
+    requires number { number ≢ 0 }
+    ensures { (moment : ℕ) → AnsweredAlone caller moment in_command (Ok (upload_cmd number length))
+        store.old store.new replies.new.items result }
+{
+    match store.resume(number, caller, length) {
+        Ok(up) => {
+            go_on(number, up.held(), replies);
+            (Phase::Receiving(up), Ok(()))
+        }
+        Err(ResumeRefusal::NoSuch) => refuse(Phase::Command, NO_SUCH_FILE, replies),
+        Err(ResumeRefusal::Bad) => refuse(Phase::Command, BAD_CONTINUE, replies),
+        Err(ResumeRefusal::Complete) => refuse(Phase::Command, FILE_COMPLETE, replies),
+        Err(ResumeRefusal::Failed) => unreachable!(),
+    }
+}
+
+/// Lets the octets of the file of this number come, from this place on.
+fn go_on(number: u32, offset: u32, replies: &mut Replies)
+    requires { replies.old.items ≡ [] }
+    ensures { replies.new.items ≡ texts (ul_go_resp number offset ∷ []) }
+{
+    write_packet(&Packet::UlGoResp { number, offset }, replies);
+}
+
+/// Refuses a packet with this code. The phase stays.
+fn refuse(phase: Phase, code: u8, replies: &mut Replies) -> Taken
+    requires { replies.old.items ≡ [] }
+    ensures text { replies.new.items ≡ texts (ul_error_resp code ∷ []) }
+    ensures taken { result ≡ (phase, Ok tt) }
+{
+    write_packet(&Packet::UlErrorResp(code), replies);
+    (phase, Ok(()))
+}
+
+/// Receiving, DATA: the octets become the file's, unless they are more than it has.
+fn take_data<D: Disk>(
+    disk: &mut D,
+    caller: Call,
+    up: OpenUpload,
+    octets: &[u8],
+    store: &mut FileStore,
+    replies: &mut Replies,
+) -> Taken
+    requires empty { replies.old.items ≡ [] }
+    requires ready { IsReady D.Disk store.old disk.old caller (receiving_phase up) }
+    ensures { (moment : ℕ) → Answered D.Disk caller moment (receiving_of store.old up) (Ok (data_part octets.entry.now))
+        store.old store.new disk.old disk.new replies.new.items result }
+{
+    match store.append(disk, up, octets) {
+        Ok(up) => (Phase::Receiving(up), Ok(())),
+        Err(AppendRefusal::TooMuch(up)) => {
+            store.park(up);
+            write_packet(&Packet::UlNakResp(ILL_FORMED), replies);
+            (Phase::Aborting, Ok(()))
+        }
+        Err(AppendRefusal::Disk) => {
+            write_packet(&Packet::UlNakResp(FILE_SYSTEM), replies);
+            (Phase::Command, Err(ServerStop::Disk))
+        }
+        Err(AppendRefusal::OutOfMemory(up)) => {
+            (Phase::Receiving(up), Err(ServerStop::OutOfMemory))
+        }
+        Err(AppendRefusal::Failed) => unreachable!(),
+    }
+}
+
+/// Aborting: what is left of the refused file is passed over, up to its end.
+fn take_aborting(asked: Asked<'_>, replies: &mut Replies) -> Taken
+    requires { replies.old.items ≡ [] }
+    ensures { AnswersAborting asked.entry replies.new.items result }
+{
+    match asked {
+        Asked::Part(_) => (Phase::Aborting, Ok(())),
+        Asked::End => (Phase::Command, Ok(())),
+        _ => refuse(Phase::Aborting, ILL_FORMED, replies),
+    }
+}

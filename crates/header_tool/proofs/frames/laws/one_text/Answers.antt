@@ -1,0 +1,10 @@
+use Rattle.header_tool.proofs.Frames.EachText.{each_text}
+use Rattle.header_tool.proofs.Frames.Lines.{text_one}
+use Rattle.header_tool.proofs.frames.laws.one_text.Goals as goal
+use Rattle.kiss.specs.KissText.{kiss_parts}
+
+pub returns-clause-at_most : goal.returns-clause-at_most
+returns-clause-at_most c = λ recorded. text_one c.one_frame.ensures c.one_fault.ensures c.no_frame_at_a_fault.ensures (kiss_parts recorded)
+
+pub returns-clause-some : goal.returns-clause-some
+returns-clause-some c = each_text c.frame_or_fault.ensures c.frames_have_octets.ensures
