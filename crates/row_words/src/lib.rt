@@ -26,7 +26,9 @@ pub use disk::{OverDisk, disk_after, octets_before};
 pub use octets::read_octets;
 pub use script::Script;
 use std::alloc::Global;
+use std::fs;
 use std::io::{Input, Print};
+use std::rt::Files;
 
 #[cfg(test)]
 mod tests;
@@ -40,17 +42,37 @@ pub trait Player {
 /// Plays each row of standard input, and prints what the player gives for it. A line that is no row is printed as it is.
 pub fn play_rows<R: AllocGlobal + Input + Print, P: Player>(rt: &R, player: &mut P) -> Result<()> {
     for line in rt.lines(rt.alloc()) {
-        let line = line?;
-        let text = line.as_str();
-        if !is_row(text) {
-            println!(rt; "{text}")?;
-            continue;
-        }
-        let shown = player
-            .play(rt.alloc(), text)
-            .context(format_args!("in the row {text}"))?;
-        println!(rt; "{shown}")?;
+        play_line(rt, line?.as_str(), player)?;
     }
+    Ok(())
+}
+
+/// Prints a family's name behind `==`, and then plays each row of the file of that name with `.rows` behind it, as
+/// `play_rows` does those of standard input.
+pub fn play_family<R: AllocGlobal + Files + Print, P: Player>(
+    rt: &R,
+    family: &str,
+    player: &mut P,
+) -> Result<()> {
+    println!(rt; "== {family}")?;
+    let name = format!(in rt.alloc(); "{family}.rows")?;
+    let rows = fs::read_to_string(rt, name.as_str()).context(format_args!("in the file {name}"))?;
+    for line in rows.lines() {
+        play_line(rt, line, player)?;
+    }
+    Ok(())
+}
+
+/// Prints what the player gives for a row; a line that is none, as it is.
+fn play_line<R: AllocGlobal + Print, P: Player>(rt: &R, line: &str, player: &mut P) -> Result<()> {
+    if !is_row(line) {
+        println!(rt; "{line}")?;
+        return Ok(());
+    }
+    let shown = player
+        .play(rt.alloc(), line)
+        .context(format_args!("in the row {line}"))?;
+    println!(rt; "{shown}")?;
     Ok(())
 }
 

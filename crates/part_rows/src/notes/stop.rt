@@ -1,6 +1,6 @@
 //! A row of a disk that stops, and of what is recovered from it.
 
-use crate::calls::play_calls;
+use crate::notes::calls::play_calls;
 use anyhow::{Context, Result};
 use disk_model::{FuseDisk, MemoryDisk};
 use row_words::read_octets;

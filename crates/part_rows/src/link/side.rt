@@ -1,6 +1,6 @@
 //! One of the two stations of an air's row.
 
-use crate::frames::{MOST_PENDING, take};
+use crate::link::frames::{MOST_PENDING, take};
 use anyhow::{Context, Result, bail};
 use arrayvec::ArrayVec;
 use ax25_frames::{Kind, read_frame};

@@ -1,5 +1,4 @@
-//! Plays rows of a link through its public calls alone. Each line of standard input is a row, and its outcome is
-//! printed. An empty line and one that begins with `#` are printed as they are.
+//! Rows of a link, played through its public calls alone.
 //!
 //! A row of one link has what happens to it, parted by `;`. First it is made: `call K`, or `answer K P`, K being the
 //! window and P the P bit of the SABM. Then come `c` or `r` and octets in hexadecimal, a command or a response of the
@@ -10,7 +9,6 @@
 //!
 //! A row `air SEED K LATE` has two links over an air that loses, repeats and displaces frames as the seed draws it.
 //! A frame is delivered after a later one only while at most 7 - K + LATE later ones have been sent.
-#![tactic(auto)]
 
 mod air;
 mod draws;
@@ -19,27 +17,19 @@ mod row;
 mod shown;
 mod side;
 
-use anyhow::{Context, Result};
+use anyhow::Result;
+use row_words::Player;
 use std::alloc::Global;
 
-fn main(rt: HostRuntime) -> Result<()> {
-    for line in rt.lines(rt.alloc()) {
-        let line = line?;
-        let text = line.as_str();
-        if matches!(text.as_bytes(), [] | [b'#', ..]) {
-            println!(rt; "{text}")?;
-            continue;
-        }
-        let outcome = play(rt.alloc(), text).context(format_args!("in the row {text}"))?;
-        println!(rt; "{outcome}")?;
-    }
-    Ok(())
-}
+/// Plays rows of links, each on its own.
+#[derive(Drop)]
+pub struct LinkRows;
 
-/// Plays a row, and gives its outcome.
-fn play(alloc: Global, row: &str) -> Result<String> {
-    match row.strip_prefix("air ") {
-        Some(numbers) => air::play(alloc, numbers),
-        None => row::play(alloc, row),
+impl Player for LinkRows {
+    fn play(&mut self, alloc: Global, row: &str) -> Result<String> {
+        match row.strip_prefix("air ") {
+            Some(numbers) => air::play(alloc, numbers),
+            None => row::play(alloc, row),
+        }
     }
 }

@@ -1,12 +1,24 @@
-//! One row: what a disk with these octets stands for.
+//! Rows of disks, each in hexadecimal: a store of 8 blocks is recovered from its octets, and the files that it holds are
+//! printed, or why the octets are none.
 
 use anyhow::Result;
 use disk_model::MemoryDisk;
 use file_store::{FileStore, Limits};
+use row_words::Player;
 use std::alloc::Global;
 
+/// Plays rows of disks, each on its own.
+#[derive(Drop)]
+pub struct ImageRows;
+
+impl Player for ImageRows {
+    fn play(&mut self, alloc: Global, row: &str) -> Result<String> {
+        recovered(alloc, row)
+    }
+}
+
 /// Recovers a store from the octets of a row, and shows it, or why it isn't recovered. Takes memory.
-pub fn play(alloc: Global, row: &str) -> Result<String> {
+fn recovered(alloc: Global, row: &str) -> Result<String> {
     let octets = hex::decode(alloc, row)?;
     let mut disk = MemoryDisk::new(alloc, octets.as_slice(), &[])?;
     match FileStore::recover(alloc, &mut disk, Limits { blocks: 8 }) {

@@ -2,7 +2,7 @@
 
 ghost use Rattle.client_notes.specs.State.{StandsOn};
 
-use crate::task::unfinished;
+use crate::notes::task::unfinished;
 use anyhow::{Context, Result, bail, ensure};
 use client_notes::{LONGEST_FILE, LONGEST_NAME, MOST_GOT, Notes};
 use disk_model::Disk;

@@ -2,10 +2,10 @@
 
 ghost use Rattle.ax25_link.specs.Window.{IsGoodK};
 
-use crate::draws::Draws;
-use crate::frames;
-use crate::row::window;
-use crate::side::{Found, Side};
+use crate::link::draws::Draws;
+use crate::link::frames;
+use crate::link::row::window;
+use crate::link::side::{Found, Side};
 use anyhow::{Context, Result};
 use ax25_link::Link;
 use std::alloc::Global;

@@ -3,8 +3,8 @@
 ghost use Rattle.std.specs.Prelude.{IfOk};
 ghost use Rattle.ax25_link.specs.Window.{IsGoodK};
 
-use crate::frames::{MOST_PENDING, called, caller, octets_of, shown, take};
-use crate::shown::Shown;
+use crate::link::frames::{MOST_PENDING, called, caller, octets_of, shown, take};
+use crate::link::shown::Shown;
 use anyhow::{Context, Result, bail, ensure};
 use arrayvec::ArrayVec;
 use ax25_link::{Link, LinkState, good_k};
@@ -12,7 +12,7 @@ use std::alloc::Global;
 
 /// The link of a row, and what it printed so far.
 #[derive(Drop)]
-struct Player {
+struct OneLink {
     alloc: Global,
     link: Link,
     /// How many octets were pushed.
@@ -24,7 +24,7 @@ struct Player {
 pub fn play(alloc: Global, row: &str) -> Result<String> {
     let (made, events) = row.split_once(';').unwrap_or((row, ""));
     let (made, is_held) = held(made);
-    let mut player = Player::new(alloc, make(alloc, made)?);
+    let mut player = OneLink::new(alloc, make(alloc, made)?);
     player.end_event(is_held)?;
     for event in events.split_terminator(';') {
         player.play_event(event.trim())?;
@@ -61,10 +61,10 @@ pub fn window(text: &str) -> Result<u8>
     Ok(k)
 }
 
-impl Player {
+impl OneLink {
     /// Nothing happened so far.
-    fn new(alloc: Global, link: Link) -> Player {
-        Player {
+    fn new(alloc: Global, link: Link) -> OneLink {
+        OneLink {
             alloc,
             link,
             pushed: 0,
@@ -176,7 +176,7 @@ impl Player {
 
     /// Ends the row by the state.
     fn end(self) -> Result<String> {
-        let Player {
+        let OneLink {
             alloc,
             link,
             pushed: _,

@@ -1,7 +1,7 @@
 //! One row: a disk, and what is done with the notes on it.
 
-use crate::calls::play_calls;
-use crate::stop;
+use crate::notes::calls::play_calls;
+use crate::notes::stop;
 use anyhow::{Context, Result, bail};
 use disk_model::{FuseDisk, MemoryDisk};
 use row_words::read_octets;

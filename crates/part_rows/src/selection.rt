@@ -1,8 +1,13 @@
-//! The headers of the rows so far, and the selections that are played over them.
+//! Rows of headers, and of selections that are played over those so far.
+//!
+//! A row `header` and octets in hexadecimal is one header more: its place, counted from 0, is printed, or `no header`
+//! where the octets aren't one. A row `select` and tokens in hexadecimal is a selection: a digit is printed for each
+//! header so far, 1 where it holds of it and else 0, and then the tokens that it writes; or the tokens' first fault.
 
 use anyhow::{Result, bail, ensure};
 use arrayvec::ArrayVec;
 use pfh_items::Header;
+use row_words::Player;
 use selection::Selection;
 use std::alloc::Global;
 
@@ -26,17 +31,6 @@ impl SelectionRows {
             alloc,
             headers: Vec::new(alloc),
             written: ArrayVec::new(),
-        }
-    }
-
-    /// Plays a row, and gives what is printed for it. Takes memory.
-    pub fn play(&mut self, row: &str) -> Result<String> {
-        let (kind, octets) = row.split_once(' ').unwrap_or((row, ""));
-        let octets = hex::decode(self.alloc, octets)?;
-        match kind {
-            "header" => self.add_header(octets),
-            "select" => self.select(octets.as_slice()),
-            _ => bail!("no row"),
         }
     }
 
@@ -68,6 +62,18 @@ impl SelectionRows {
         selection.write(&mut self.written);
         let written = hex::encode(self.alloc, self.written.as_slice())?;
         Ok(format!(in self.alloc; "{text} {written}")?)
+    }
+}
+
+impl Player for SelectionRows {
+    fn play(&mut self, alloc: Global, row: &str) -> Result<String> {
+        let (kind, octets) = row.split_once(' ').unwrap_or((row, ""));
+        let octets = hex::decode(alloc, octets)?;
+        match kind {
+            "header" => self.add_header(octets),
+            "select" => self.select(octets.as_slice()),
+            _ => bail!("no row"),
+        }
     }
 }
 

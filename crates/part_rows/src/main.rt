@@ -1,0 +1,36 @@
+//! Plays rows of the parts that `pacsat` is made of, family by family: a test, in data. Each line of standard input names a
+//! family. Its rows are the lines of the file of that name with `.rows` behind it, in `data`, which lies where the program
+//! runs. For each family a heading is printed, and then for each row what its player gives; an empty line and one that
+//! begins with `#` are printed as they are.
+//!
+//! A family more is a module with a struct that is a `Player`, and says above what its rows are; a line in `play_family`;
+//! the file of its rows in `data`; its name in `stdin`; and what is wanted, worked out by hand, at its place in `stdout`.
+#![tactic(auto)]
+
+mod image;
+mod link;
+mod notes;
+mod selection;
+
+use anyhow::{Result, bail};
+use row_words::play_family;
+use std::io::{Input, Print};
+use std::rt::Files;
+
+fn main(rt: HostRuntime) -> Result<()> {
+    for family in rt.lines(rt.alloc()) {
+        play(&rt, family?.as_str())?;
+    }
+    Ok(())
+}
+
+/// Plays the family of this name.
+fn play<R: AllocGlobal + Files + Print>(rt: &R, family: &str) -> Result<()> {
+    match family {
+        "image" => play_family(rt, family, &mut image::ImageRows),
+        "link" => play_family(rt, family, &mut link::LinkRows),
+        "notes" => play_family(rt, family, &mut notes::NotesRows),
+        "selection" => play_family(rt, family, &mut selection::SelectionRows::new(rt.alloc())),
+        _ => bail!("no family {family}"),
+    }
+}
