@@ -1,2 +1,3 @@
 pub mod Folder
 pub mod Streams
+pub mod Systems

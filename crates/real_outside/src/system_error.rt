@@ -1,0 +1,39 @@
+//! Why the system refused a call.
+
+ghost use Rattle.std.specs.Prelude.{◌≡◌, IfOk, IfErr};
+ghost use Rattle.real_outside.specs.Systems.{system_error};
+
+use std::io::{self, ErrorKind};
+use thiserror::Error;
+
+/// Why the system refused a call: the kind of its error, and the error's number where the system gave one.
+#[derive(Clone, Copy, Debug, PartialEq, Eq, Error)]
+#[error("the system refused a call: {kind}")]
+pub struct SystemError {
+    /// What sort of failure it is.
+    pub kind: ErrorKind,
+    /// The number that the system has for it.
+    pub number: Option<i32>,
+}
+
+impl From<io::Error> for SystemError {
+    ghost from_gives = { λ refused error. error ≡ system_error refused };
+
+    /// The kind and the number of the error.
+    fn from(refused: io::Error) -> SystemError
+        ensures { result ≡ system_error refused }
+    {
+        SystemError {
+            kind: refused.kind(),
+            number: refused.raw_os_error(),
+        }
+    }
+}
+
+/// The answer of a call of the system, of whose error the kind and the number are kept.
+pub(crate) fn system_answer<T: Drop>(answer: io::Result<T>) -> Result<T, SystemError>
+    ensures ok { IfOk answer (λ value. result ≡ Ok value) }
+    ensures err { IfErr answer (λ refused. result ≡ Err (system_error refused)) }
+{
+    Ok(answer?)
+}
