@@ -1,3 +1,5 @@
+pub mod Calls
+pub mod Clocks
 pub mod Folder
 pub mod Streams
 pub mod Systems

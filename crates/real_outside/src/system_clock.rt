@@ -1,49 +1,69 @@
 //! The system's clock. It tells nothing of the moments that it gives.
 
-ghost use Rattle.std.specs.Prelude.{◌≡◌, ◌/◌, min, None, IfOk, OnErr};
-ghost use Rattle.std.specs.Duration.{as_nanos};
+ghost use Rattle.std.specs.Prelude.{◌≡◌, None};
+ghost use Rattle.real_outside.specs.Clocks.{ReadsOnce, moment_of as moment_of_reading};
 
+use crate::system_error::SystemError;
+use crate::time_source::{SystemTime, TimeSource};
 use px_base::Clock;
 use std::marker::Model;
+use std::rt;
 use std::time::Duration;
-use std::{io, rt};
 
-/// The system's clock, which is read at each call. A moment before 1970 is 0, and so is that of a clock that can't be
+/// The system's clock, whose time is read at each call. A moment before 1970 is 0, and so is that of a time that can't be
 /// read; one past the last `u32` is that.
 #[derive(Drop)]
-pub struct SystemClock<R> {
-    clock: R,
+pub struct SystemClock<T> {
+    source: T,
 }
 
-impl<R> Model for SystemClock<R> {
-    ghost Value = { R };
+impl<T> Model for SystemClock<T> {
+    ghost Value = { T };
 
-    ghost view = { λ a. a.clock };
+    ghost view = { λ a. a.source };
 }
 
-impl<R: rt::Clock> SystemClock<R> {
-    /// A clock that reads this one.
-    pub fn new(clock: R) -> SystemClock<R>
+impl<R: rt::Clock> SystemClock<SystemTime<R>> {
+    /// A clock that reads the time of this one.
+    pub fn new(clock: R) -> SystemClock<SystemTime<R>>
         ensures { result ≡ clock }
     {
-        SystemClock { clock }
+        SystemClock::over(SystemTime::new(clock))
     }
 }
 
-impl<R: rt::Clock> Clock for SystemClock<R> {
+impl<T: TimeSource> SystemClock<T> {
+    /// A clock that reads this time.
+    pub fn over(source: T) -> SystemClock<T>
+        ensures { result ≡ source }
+    {
+        SystemClock { source }
+    }
+
+    /// The time that it reads.
+    pub fn source(&self) -> &T
+        ensures { result.now ≡ self.now }
+    {
+        &self.source
+    }
+}
+
+impl<T: TimeSource> Clock for SystemClock<T> {
     ghost given = { λ _. None };
 
-    fn now(&mut self) -> u32 {
-        moment_of(self.clock.since_1970())
+    /// The moment of one reading.
+    fn now(&mut self) -> u32
+        ensures reads { ReadsOnce (T.readings self.old) (T.readings self.new) result }
+    {
+        moment_of(self.source.since_1970())
     }
 }
 
-/// The moment, where the system's clock answered so: whole seconds, up to 2^32 - 1, and 0 where it can't be read.
-fn moment_of(since_1970: io::Result<Duration>) -> u32
-    ensures read { IfOk since_1970 (λ since. result ≡ min (as_nanos since / 1000000000) 4294967295) }
-    ensures unread { OnErr since_1970 (result ≡ 0) }
+/// The moment of this reading: whole seconds, up to 2^32 - 1, and 0 where the time can't be read.
+fn moment_of(reading: Result<Duration, SystemError>) -> u32
+    ensures { result ≡ moment_of_reading reading }
 {
-    match since_1970 {
+    match reading {
         Ok(since) => u32::try_from(since.as_secs()).unwrap_or(u32::MAX),
         Err(_) => 0,
     }

@@ -1,0 +1,15 @@
+-- The calls that forms in memory record.
+use Rattle.std.specs.Prelude.{List, [], Bool, false, Option, None, Some, if◌then◌else◌}
+
+-- the calls so far, and whether one of them found no memory to be recorded
+pub record CallRecordState (C : Type 0) : Type 0 where
+  pub calls : List C
+  pub untold : Bool
+
+-- before the first call
+abbrev pub no_calls : {C : Type 0} → CallRecordState C
+no_calls = record { calls = []; untold = false }
+
+-- they are told until one found no memory to be recorded
+abbrev pub told : {C : Type 0} → CallRecordState C → Option (List C)
+told state = if state.untold then None else Some state.calls

@@ -1,0 +1,50 @@
+//! What the system's clock reads: the time since 1970.
+
+ghost use Rattle.std.specs.Prelude.{◌≡◌, ◌∷◌, [], List, None, Option};
+ghost use Rattle.px_base.specs.Outside.{Grows};
+ghost use Rattle.real_outside.specs.Clocks.{Reading};
+
+use crate::system_error::{SystemError, system_answer};
+use std::marker::Model;
+use std::rt::Clock;
+use std::time::Duration;
+
+/// What gives the time since 1 January 1970. It may tell the readings of it; the form in memory does, the real one
+/// doesn't.
+pub trait TimeSource {
+    /// The readings so far, where they are told.
+    ghost readings: { Self → Option (List Reading) };
+
+    /// Reads the time since 1 January 1970.
+    fn since_1970(&mut self) -> Result<Duration, SystemError>
+        ensures { Grows (readings self.old) (readings self.new) (result ∷ []) };
+}
+
+/// The system's own time. It tells none of its readings.
+#[derive(Drop)]
+pub struct SystemTime<R> {
+    clock: R,
+}
+
+impl<R> Model for SystemTime<R> {
+    ghost Value = { R };
+
+    ghost view = { λ a. a.clock };
+}
+
+impl<R: Clock> SystemTime<R> {
+    /// The time of this clock.
+    pub fn new(clock: R) -> SystemTime<R>
+        ensures { result ≡ clock }
+    {
+        SystemTime { clock }
+    }
+}
+
+impl<R: Clock> TimeSource for SystemTime<R> {
+    ghost readings = { λ _. None };
+
+    fn since_1970(&mut self) -> Result<Duration, SystemError> {
+        system_answer(self.clock.since_1970())
+    }
+}
