@@ -1,4 +1,4 @@
-pub mod Calls
+pub mod CallRecords
 pub mod Clocks
 pub mod Folder
 pub mod Streams

@@ -2,7 +2,7 @@
 
 ghost use Rattle.std.specs.Prelude.{◌≡◌, ◌∷◌, ◌++◌, [], None, false, not, IfOk, IsTrue, OnErr};
 ghost use Rattle.px_base.specs.Outside.{Grows};
-ghost use Rattle.real_outside.specs.Calls.{no_calls, told};
+ghost use Rattle.real_outside.specs.CallRecords.{no_calls, told};
 
 use px_base::OutOfMemory;
 use std::alloc::Global;
@@ -16,7 +16,7 @@ pub struct CallRecord<C> {
 }
 
 impl<C> Model for CallRecord<C> {
-    ghost use Rattle.real_outside.specs.Calls.{CallRecordState};
+    ghost use Rattle.real_outside.specs.CallRecords.{CallRecordState};
 
     ghost Value = { CallRecordState C };
 

@@ -2,7 +2,7 @@
 
 ghost use Rattle.std.specs.Prelude.{◌≡◌, ◌∷◌, [], drop};
 ghost use Rattle.px_base.specs.Outside.{Grows};
-ghost use Rattle.real_outside.specs.Calls.{no_calls, told};
+ghost use Rattle.real_outside.specs.CallRecords.{no_calls, told};
 ghost use Rattle.real_outside.specs.Clocks.{first_reading};
 
 use crate::call_record::CallRecord;

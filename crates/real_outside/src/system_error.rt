@@ -1,12 +1,12 @@
-//! Why the system refused a call.
+//! Why a call of the system failed.
 
-ghost use Rattle.std.specs.Prelude.{◌≡◌, IfOk, IfErr};
+ghost use Rattle.std.specs.Prelude.{◌≡◌, None, IfOk, IfErr};
 ghost use Rattle.real_outside.specs.Systems.{system_error};
 
 use std::io::{self, ErrorKind};
 use thiserror::Error;
 
-/// Why the system refused a call: the kind of its error, and the error's number where the system gave one.
+/// Why the system refused a call: the kind of its error, and its number where the system gave one.
 #[derive(Clone, Copy, Debug, PartialEq, Eq, Error)]
 #[error("the system refused a call: {kind}")]
 pub struct SystemError {
@@ -27,6 +27,17 @@ impl From<io::Error> for SystemError {
             kind: refused.kind(),
             number: refused.raw_os_error(),
         }
+    }
+}
+
+impl From<ErrorKind> for SystemError {
+    ghost from_gives = { λ kind error. error ≡ record { kind = kind; number = None } };
+
+    /// A refusal of this kind, for which there is no number.
+    fn from(kind: ErrorKind) -> SystemError
+        ensures { result ≡ record { kind = kind; number = None } }
+    {
+        SystemError { kind, number: None }
     }
 }
 
