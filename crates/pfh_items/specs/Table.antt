@@ -46,6 +46,19 @@ extended_items =
     ∷ once 0x18 (Some 1) Number  -- priority
     ∷ []
 
+-- the ids of the items that are for people and programs to read; no rule is for them
+abbrev pub optional_ids : List ℕ
+optional_ids =
+    0x19  -- compression_type
+    ∷ 0x20  -- bbs_message_type
+    ∷ 0x21  -- bulletin id
+    ∷ 0x22  -- title
+    ∷ 0x23  -- keywords
+    ∷ 0x24  -- file_description
+    ∷ 0x25  -- compression_description
+    ∷ 0x26  -- user_file_name
+    ∷ []
+
 -- whether every header has an item of this id
 abbrev pub is_mandatory : ℕ → Bool
 is_mandatory id = list_any (λ rule. rule.id == id) mandatory_items
