@@ -1,6 +1,6 @@
 //! The words after the program's name.
 
-ghost use Rattle.std.specs.Prelude.{◌≡◌, [], ◌∷◌, ◌++◌, map, slice_get, string_bytes, OnOk, OnErr};
+ghost use Rattle.std.specs.Prelude.{◌≡◌, [], ◌∷◌, ◌++◌, map, slice_get, string_bytes, IfOk, OnOk, OnErr};
 ghost use Rattle.std.specs.Option.{option_map};
 
 use px_base::OutOfMemory;
@@ -41,6 +41,16 @@ impl Words {
         let text = String::from_str(self.alloc, word)?;
         self.words.push(text)?;
         Ok(())
+    }
+
+    /// The same words again, or nothing where there is no memory. Takes memory.
+    pub fn copy(&self) -> Result<Words, OutOfMemory>
+        ensures { IfOk result (λ words. words ≡ self.now) }
+    {
+        Ok(Words {
+            alloc: self.alloc,
+            words: self.words.clone()?,
+        })
     }
 
     /// The word at this place, counted from 0.

@@ -5,6 +5,7 @@ pub mod Making
 pub mod Run
 pub mod Servers
 pub mod Sessions
+pub mod Start
 pub mod Status
 pub mod Stops
 pub mod Tasks

@@ -1,0 +1,116 @@
+//! The real system: standard streams, files, connections, the clock, and the words of the command line.
+
+ghost use Rattle.std.specs.Prelude.{◌≡◌, ◌↔◌, None};
+ghost use Rattle.std.specs.declared.io.ErrorKind.TheVariants as reason;
+
+use disk_devices::FileDisk;
+use pacsat_cli::{Host, NotHeld, Status, Words, WordsRefusal, end_with, run};
+use px_base::{Air, Out};
+use real_outside::{FolderShelf, StdAir, StdOut, SystemClock};
+use std::env;
+use std::io::ErrorKind;
+use tcp_air::TcpAir;
+
+/// The system that the program runs on. It tells none of its calls.
+#[derive(Drop)]
+pub struct System<'a> {
+    rt: &'a HostRuntime,
+}
+
+impl<'a> System<'a> {
+    /// This system.
+    pub fn new(rt: &'a HostRuntime) -> System<'a> {
+        System { rt }
+    }
+}
+
+impl<'a> Host for System<'a> {
+    ghost calls = { λ _. None };
+
+    fn hold_streams(&mut self) -> Result<(), NotHeld> {
+        Ok(())
+    }
+
+    fn words(&mut self) -> Result<Words, WordsRefusal> {
+        words(self.rt)
+    }
+
+    fn end_with(&mut self, status: Status) {
+        let _ = end_with(status, &mut StdOut::new(self.rt.stderr()));
+    }
+
+    fn run_over_connection(&mut self, words: &Words, disk: &str, at: &str) -> Status {
+        let mut text = StdOut::new(self.rt.stdout());
+        run_over(
+            self.rt,
+            words,
+            disk,
+            &mut TcpAir::new(self.rt, at),
+            &mut text,
+        )
+    }
+
+    fn run_over_streams(&mut self, words: &Words, disk: &str) -> Status {
+        let mut text = StdOut::new(self.rt.stderr());
+        run_over(
+            self.rt,
+            words,
+            disk,
+            &mut StdAir::new(self.rt.stdin(), self.rt.stdout()),
+            &mut text,
+        )
+    }
+
+    fn run_without_air(&mut self, words: &Words, disk: &str) -> Status {
+        let mut text = StdOut::new(self.rt.stdout());
+        run_over(
+            self.rt,
+            words,
+            disk,
+            &mut StdAir::new(self.rt.stdin(), self.rt.stdout()),
+            &mut text,
+        )
+    }
+}
+
+/// Does what the words ask for, over the file `disk`, this air and this output for text, the working folder and the system's
+/// clock. A command that uses no disk doesn't open the file.
+fn run_over<A: Air, O: Out>(
+    rt: &HostRuntime,
+    words: &Words,
+    disk: &str,
+    air: &mut A,
+    text: &mut O,
+) -> Status {
+    run(
+        rt.alloc(),
+        words,
+        &mut FileDisk::new(rt, disk),
+        air,
+        &mut FolderShelf::new(rt),
+        text,
+        &mut SystemClock::new(rt),
+    )
+}
+
+/// The words after the program's name.
+fn words(rt: &HostRuntime) -> Result<Words, WordsRefusal> {
+    let mut words = Words::new(rt.alloc());
+    let args = env::args(rt).map_err(|refused| words_refusal(refused.kind()))?;
+    for word in args.skip(1) {
+        words
+            .add(word.as_str())
+            .map_err(|_| WordsRefusal::OutOfMemory)?;
+    }
+    Ok(words)
+}
+
+/// Why there are no words, where the system gives this reason: want of memory exactly where that is the reason.
+fn words_refusal(kind: ErrorKind) -> WordsRefusal
+    ensures { (result ≡ WordsRefusal.OutOfMemory) ↔ (kind ≡ reason.OutOfMemory) }
+{
+    match kind {
+        ErrorKind::OutOfMemory => WordsRefusal::OutOfMemory,
+        _ => WordsRefusal::NotText,
+    }
+}

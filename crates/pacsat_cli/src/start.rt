@@ -1,0 +1,62 @@
+//! The start of a run: what the program asks of its system by its words, and the number that the process ends with.
+
+ghost use Rattle.std.specs.Prelude.{◌≡◌};
+ghost use Rattle.pacsat_cli.specs.declared.start.host.HostCall.{HostCall};
+ghost use Rattle.pacsat_cli.specs.Start.{Begins, Follows, IsRunOf, Starts, status_of_words as words_status};
+ghost use Rattle.pacsat_cli.specs.Status.{number_of};
+
+mod host;
+mod memory_host;
+
+use crate::Status;
+use command_words::{AirWord, Words, read_air};
+pub use host::{Host, HostCall, NotHeld, WordsRefusal};
+pub use memory_host::MemoryHost;
+
+/// Runs the program on this system, and gives the number that the process is to end with. Before anything else is opened
+/// standard input, output and error are seen to be open; where they can't be, the run ends with `Status::Disk`. Text goes
+/// to standard error exactly where the second word is `-`, and else to standard output; the first word is the path of the
+/// disk.
+pub fn start<H: Host>(host: &mut H) -> u8
+    ensures { Begins (H.calls host.old) (H.calls host.new) (Starts result) }
+{
+    if host.hold_streams().is_err() {
+        return end_with(host, Status::Disk);
+    }
+    match host.words() {
+        Ok(words) => run_by(host, &words).number(),
+        Err(refusal) => end_with(host, status_of_words(refusal)),
+    }
+}
+
+/// Ends a run with this status before anything was done, and gives its number.
+fn end_with<H: Host>(host: &mut H, status: Status) -> u8
+    ensures call { Follows (H.calls host.old) (H.calls host.new) (HostCall.Ends status) }
+    ensures number { result ≡ number_of status }
+{
+    host.end_with(status);
+    status.number()
+}
+
+/// Does what the words ask for, over the disk of the first word and the air of the second.
+fn run_by<H: Host>(host: &mut H, words: &Words) -> Status
+    ensures { (call : HostCall) × Follows (H.calls host.old) (H.calls host.new) call × IsRunOf words.now result call }
+{
+    let disk = words.get(0).unwrap_or("");
+    let air = words.get(1).unwrap_or("");
+    match read_air(air) {
+        Some(AirWord::HostPort) => host.run_over_connection(words, disk, air),
+        Some(AirWord::Standard) => host.run_over_streams(words, disk),
+        Some(AirWord::Nothing) | None => host.run_without_air(words, disk),
+    }
+}
+
+/// The status of a run that has no words for this reason.
+fn status_of_words(refusal: WordsRefusal) -> Status
+    ensures { result ≡ words_status refusal }
+{
+    match refusal {
+        WordsRefusal::NotText => Status::Usage,
+        WordsRefusal::OutOfMemory => Status::OutOfMemory,
+    }
+}
