@@ -1,13 +1,13 @@
-pub mod CarriedLemmas
+mod CarriedLemmas
 pub mod GoesLemmas
-pub mod HearingLemmas
-pub mod Invariants
-pub mod MemoryLemmas
-pub mod OpenLemmas
+mod HearingLemmas
+mod Invariants
+mod MemoryLemmas
+mod OpenLemmas
 pub mod PromiseLemmas
-pub mod QuietLemmas
-pub mod SendingLemmas
-pub mod TakesLemmas
-pub mod TurnEvents
-pub mod TurnLemmas
-pub mod TurnsLemmas
+mod QuietLemmas
+mod SendingLemmas
+mod TakesLemmas
+mod TurnEvents
+mod TurnLemmas
+mod TurnsLemmas

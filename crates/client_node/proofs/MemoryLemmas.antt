@@ -22,8 +22,8 @@ use Rattle.ftl0_client.specs.Attempt.AttemptState.{AttemptState, IsAttempt, Stop
 use Rattle.ftl0_client.specs.Attempt.Hearing.{after_hearing, packets_heard, packets_told, with_end}
 use Rattle.ftl0_client.specs.Attempt.Laws.{IsToldDown}
 use Rattle.ftl0_client.specs.Attempt.Taking.{Happened, taking}
-use Rattle.ftl0_client.proofs.Attempt.DownLemmas.{outcome-law, still-silent}
-use Rattle.ftl0_client.proofs.Attempt.EndedLemmas.{taking-ended, told-job}
+use Rattle.ftl0_client.proofs.attempt.DownLemmas.{outcome-law, still-silent}
+use Rattle.ftl0_client.proofs.attempt.EndedLemmas.{taking-ended, told-job}
 use Rattle.ftl0_client.specs.Calls.{SameAttempt, SameButFrames, SameJob}
 use Rattle.ftl0_client.specs.Client.{Client, asking, attempt_for, client_hearing, client_ticking, refusal_frame}
 use Rattle.ftl0_client.specs.ClientState.{ClientState, IsAttemptOf, IsClient}

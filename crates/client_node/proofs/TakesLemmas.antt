@@ -27,7 +27,7 @@ use Rattle.ftl0_client.specs.Attempt.Attempted.{Attempted}
 use Rattle.ftl0_client.specs.Attempt.AttemptState.{AttemptState, StopsAmong}
 use Rattle.ftl0_client.specs.Attempt.Hearing.{after_hearing, packets_heard}
 use Rattle.ftl0_client.specs.Attempt.Taking.{taking}
-use Rattle.ftl0_client.proofs.Attempt.TakingLemmas.{noted-front}
+use Rattle.ftl0_client.proofs.attempt.TakingLemmas.{noted-front}
 use Rattle.ftl0_client.specs.Calls.{SameButFrames, StopsBy}
 use Rattle.ftl0_client.specs.Client.{Client, ClientEvent, ClientHappened, IsSilent, attempt_for, client_hearing}
 use Rattle.ftl0_client.specs.Client.{hearing_by, hears}

@@ -1,10 +1,9 @@
-pub mod Attempt
-pub mod EmptiesLemmas
-pub mod FitsLemmas
-pub mod GoingLemmas
+mod EmptiesLemmas
+mod FitsLemmas
+mod GoingLemmas
 pub mod KeptLemmas
 pub mod OutcomeLemmas
-pub mod SomeLemmas
-pub mod StartLemmas
-pub mod StrangerLemmas
-pub mod TickLemmas
+mod SomeLemmas
+mod StartLemmas
+mod StrangerLemmas
+mod TickLemmas

@@ -20,7 +20,7 @@ use Rattle.file_store.proofs.DoesLemmas.{Does-none}
 use Rattle.file_store.proofs.WorkingLemmas.{does-among}
 use Rattle.ftl0_session.specs.Uploads.Failures.{Failure, failed_write}
 use Rattle.ftl0_session.specs.Uploads.Session.{is_same_call}
-use Rattle.ftl0_session.proofs.Uploads.UploadRows.{same_call-decides}
+use Rattle.ftl0_session.proofs.uploads.UploadRows.{same_call-decides}
 use Rattle.ftl0_session.specs.SessionState.{caller_of}
 use Rattle.ftl0_session.specs.declared.stop.ServerStop.{ServerStop}
 use Rattle.ftl0_session.specs.declared.stop.ServerStop.TheVariants as stop

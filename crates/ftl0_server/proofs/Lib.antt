@@ -1,15 +1,14 @@
-pub mod AllPlaces
-pub mod Connection
-pub mod EmptiesLemmas
-pub mod EndLemmas
+mod AllPlaces
+mod EmptiesLemmas
+mod EndLemmas
 pub mod FitsLemmas
-pub mod HearLemmas
-pub mod NextLemmas
-pub mod OutLemmas
-pub mod PlaceLemmas
+mod HearLemmas
+mod NextLemmas
+mod OutLemmas
+mod PlaceLemmas
 pub mod QueuedLemmas
-pub mod SeatLemmas
-pub mod SettledLemmas
-pub mod StartLemmas
-pub mod StepLemmas
-pub mod TickLemmas
+mod SeatLemmas
+mod SettledLemmas
+mod StartLemmas
+mod StepLemmas
+mod TickLemmas

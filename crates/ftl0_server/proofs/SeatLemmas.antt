@@ -9,7 +9,7 @@ use Rattle.px_base.specs.CallSign.{CallSign}
 use Rattle.ax25_link.proofs.Places.{slice_get-set_other, slice_get-set_same}
 use Rattle.file_store.specs.State.{StoreState, store_in}
 use Rattle.ftl0_session.specs.Uploads.SessionState.{IsHeld, NoOtherOut, number_of}
-use Rattle.ftl0_session.proofs.Uploads.UploadRows.{same_call-decides}
+use Rattle.ftl0_session.proofs.uploads.UploadRows.{same_call-decides}
 use Rattle.ftl0_session.specs.Downloads.Needs.{IsDueIn}
 use Rattle.ftl0_session.specs.SessionState.{SessionState, caller_of}
 use Rattle.ftl0_server.specs.Connection.Connected.{Connected}

@@ -17,8 +17,8 @@ use Rattle.ftl0_session.specs.Uploads.Session.{State as Uploading, is_same_call,
 use Rattle.ftl0_session.specs.Uploads.SessionState.{NoOtherOut, PhaseIsHeld, number_of, state_of}
 use Rattle.ftl0_session.specs.declared.uploads.phase.Phase.{Phase}
 use Rattle.ftl0_session.specs.declared.uploads.phase.Phase.TheVariants as phase
-use Rattle.ftl0_session.proofs.Uploads.UploadRows.{same_call-decides}
-use Rattle.ftl0_session.proofs.Downloads.DueLemmas.{due-kept}
+use Rattle.ftl0_session.proofs.uploads.UploadRows.{same_call-decides}
+use Rattle.ftl0_session.proofs.downloads.DueLemmas.{due-kept}
 use Rattle.ftl0_session.specs.SessionState.{caller_of}
 use Rattle.ftl0_session.specs.Table.{state_by}
 use Rattle.ftl0_server.specs.Connection.ConnectionState.{ConnectionState}

@@ -25,9 +25,9 @@ use Rattle.ftl0_session.specs.Downloads.Table as download
 use Rattle.ftl0_session.specs.Downloads.Table.{DownloadRow, DownloadState, Due, asked_file, asked_row, directory_row}
 use Rattle.ftl0_session.specs.Downloads.Table.{file_of, file_row, files_row, has_file, listed_files, lists_after}
 use Rattle.ftl0_session.specs.Downloads.Table.{long_due, octets_in, refused_row, short_due, short_octets, stored}
-use Rattle.ftl0_session.proofs.Downloads.DueLemmas.{take-all}
-use Rattle.ftl0_session.proofs.Downloads.FileLemmas.{complete-file, file-complete}
-use Rattle.ftl0_session.proofs.Downloads.SentLemmas.{long-listed, sent-all, short-listed}
+use Rattle.ftl0_session.proofs.downloads.DueLemmas.{take-all}
+use Rattle.ftl0_session.proofs.downloads.FileLemmas.{complete-file, file-complete}
+use Rattle.ftl0_session.proofs.downloads.SentLemmas.{long-listed, sent-all, short-listed}
 use Rattle.ftl0_session.specs.DownloadLaws.{DownloadedLaw, DownloadsLaw, LongListedLaw, SaysAll, SentLaw}
 use Rattle.ftl0_session.specs.DownloadLaws.{ShortListedLaw}
 use Rattle.ftl0_session.specs.Run.{Event, Sends, event_row}

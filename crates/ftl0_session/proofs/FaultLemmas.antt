@@ -18,11 +18,11 @@ use Rattle.file_journal.proofs.ToldLemmas.{told_weaker}
 use Rattle.ftl0_session.specs.Uploads.Laws.{IsNoFault}
 use Rattle.ftl0_session.specs.Uploads.Session as upload
 use Rattle.ftl0_session.specs.Uploads.Session.{is_all, is_theirs, is_upload_kind}
-use Rattle.ftl0_session.proofs.Uploads.FaultCodes.{code_in, fault_codes as upload_codes}
+use Rattle.ftl0_session.proofs.uploads.FaultCodes.{code_in, fault_codes as upload_codes}
 use Rattle.ftl0_session.specs.Downloads.Sending as due
 use Rattle.ftl0_session.specs.Downloads.Table as download
 use Rattle.ftl0_session.specs.Downloads.Table.{DownloadRow, DownloadState}
-use Rattle.ftl0_session.proofs.Downloads.ReplyLemmas.{row_replies}
+use Rattle.ftl0_session.proofs.downloads.ReplyLemmas.{row_replies}
 use Rattle.ftl0_session.specs.Laws.{DueFaultLaw, FaultCodeLaw}
 use Rattle.ftl0_session.specs.Table.{State, aborting, command, download_part, download_row, error_by, in_session}
 use Rattle.ftl0_session.specs.Table.{next_due, listing, receiving, row_among, sending, session_row, failed_reads_told}

@@ -3,9 +3,9 @@ use Rattle.std.proofs.Common.{◌++◌, refl, ap, ◌∙◌, sym, subst}
 use Rattle.std.specs.Prelude.{Ok}
 use Rattle.ftl0_packets.specs.Layout.{data_end}
 use Rattle.ftl0_session.specs.Uploads.Session as upload
-use Rattle.ftl0_session.proofs.Uploads.AckLemmas.{acknowledged_stands as upload_stands}
-use Rattle.ftl0_session.proofs.Uploads.UploadRows.{row-granted as upload_granted}
-use Rattle.ftl0_session.proofs.Uploads.Uploads.{acknowledged as upload_acknowledged, resumed as upload_resumed}
+use Rattle.ftl0_session.proofs.uploads.AckLemmas.{acknowledged_stands as upload_stands}
+use Rattle.ftl0_session.proofs.uploads.UploadRows.{row-granted as upload_granted}
+use Rattle.ftl0_session.proofs.uploads.Uploads.{acknowledged as upload_acknowledged, resumed as upload_resumed}
 use Rattle.ftl0_session.specs.Downloads.Table.{ready}
 use Rattle.ftl0_session.specs.Laws.{Acknowledges, AcknowledgedLaw, AcknowledgedStandsLaw, GrantedLaw, ResumedLaw}
 use Rattle.ftl0_session.specs.Laws.{UploadsLaw}

@@ -1,12 +1,9 @@
-pub mod DownloadLemmas
-pub mod Downloads
-pub mod FaultLemmas
-pub mod FillLemmas
-pub mod LawLemmas
-pub mod Lists
+mod DownloadLemmas
+mod FaultLemmas
+mod FillLemmas
+mod LawLemmas
 pub mod RowLemmas
 pub mod RunLemmas
-pub mod TakenLemmas
-pub mod UploadLemmas
-pub mod Uploads
+mod TakenLemmas
+mod UploadLemmas
 pub mod WorkingLemmas

@@ -13,7 +13,7 @@ use Rattle.ftl0_session.specs.declared.uploads.phase.Phase.TheVariants as phase
 use Rattle.ftl0_session.specs.Uploads.Session as upload
 use Rattle.ftl0_session.specs.Uploads.Session.{is_upload_kind, session_row as upload_session_row}
 use Rattle.ftl0_session.specs.Uploads.SessionState.{state_of}
-use Rattle.ftl0_session.proofs.Uploads.Rows.{row-none as upload_none}
+use Rattle.ftl0_session.proofs.uploads.Rows.{row-none as upload_none}
 use Rattle.ftl0_session.specs.Downloads.Table as download
 use Rattle.ftl0_session.specs.Downloads.Table.{DownloadRow, DownloadState, ready}
 use Rattle.ftl0_session.specs.SessionState.{DoesOne}

@@ -5,7 +5,7 @@ use Rattle.file_entries.specs.Store.{Store}
 use Rattle.ftl0_session.specs.Uploads.Failures.{Failure, read_fails}
 use Rattle.ftl0_session.specs.Uploads.Run.{commands_of, on_row, replies_to, state_after, store_after}
 use Rattle.ftl0_session.specs.Uploads.Session as upload
-use Rattle.ftl0_session.proofs.Uploads.Rows.{row-some}
+use Rattle.ftl0_session.proofs.uploads.Rows.{row-some}
 use Rattle.ftl0_session.specs.Downloads.Table.{ready}
 use Rattle.ftl0_session.specs.Run.{CommandsLaw, RunsOver, UploadRunLaw, as_event, event_row}
 use Rattle.ftl0_session.specs.Table.{by_upload, due_at, state_by}

@@ -17,7 +17,7 @@ use Rattle.ftl0_session.specs.declared.uploads.phase.Phase.{Phase}
 use Rattle.ftl0_session.specs.declared.uploads.phase.Phase.TheVariants as phase
 use Rattle.ftl0_session.specs.Uploads.Session.{is_upload_kind}
 use Rattle.ftl0_session.specs.Uploads.SessionState.{SessionState as Uploading, state_of}
-use Rattle.ftl0_session.proofs.Uploads.Rows.{others-same}
+use Rattle.ftl0_session.proofs.uploads.Rows.{others-same}
 use Rattle.ftl0_session.specs.Downloads.Needs.{AreComplete, IsDueIn}
 use Rattle.ftl0_session.specs.Downloads.Table.{DownloadRow, DownloadState}
 use Rattle.ftl0_session.specs.Downloads.Taking.{IsRow, Made, made, made_by}

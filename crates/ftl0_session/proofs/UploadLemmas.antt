@@ -21,7 +21,7 @@ use Rattle.ftl0_session.specs.Uploads.Session as upload
 use Rattle.ftl0_session.specs.Uploads.Session.{is_upload_kind, session_row as upload_session_row}
 use Rattle.ftl0_session.specs.Uploads.SessionState.{IsHeld, IsOnlyOut, SessionState as Uploading, state_of}
 use Rattle.ftl0_session.specs.Uploads.Taking.{Answers as UploadAnswers, LeavesDisk, PutsRow as UploadPuts, row_of}
-use Rattle.ftl0_session.proofs.Uploads.Rows.{row-some}
+use Rattle.ftl0_session.proofs.uploads.Rows.{row-some}
 use Rattle.ftl0_session.specs.Downloads.Needs.{AreComplete}
 use Rattle.ftl0_session.specs.Downloads.Table.{ready}
 use Rattle.ftl0_session.specs.declared.stop.ServerStop.TheVariants as stop

@@ -1,20 +1,20 @@
-pub mod ClientEnds
-pub mod ClientStops
-pub mod Ended
-pub mod ExactCarried
-pub mod ExactJob
-pub mod ExactSend
-pub mod FileEnds
-pub mod FilesShown
-pub mod Loading
-pub mod MakeEnds
-pub mod MemorySession
-pub mod NodeEnds
-pub mod OneTask
-pub mod OpenTurns
-pub mod RunClient
-pub mod RunFile
-pub mod RunMake
-pub mod RunRefused
-pub mod RunServe
-pub mod RunSession
+mod ClientEnds
+mod ClientStops
+mod Ended
+mod ExactCarried
+mod ExactJob
+mod ExactSend
+mod FileEnds
+mod FilesShown
+mod Loading
+mod MakeEnds
+mod MemorySession
+mod NodeEnds
+mod OneTask
+mod OpenTurns
+mod RunClient
+mod RunFile
+mod RunMake
+mod RunRefused
+mod RunServe
+mod RunSession

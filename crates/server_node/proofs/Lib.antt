@@ -1,11 +1,11 @@
-pub mod HearingLemmas
-pub mod Invariants
-pub mod SendingLemmas
-pub mod ServesLemmas
-pub mod ServingLemmas
-pub mod StepLemmas
-pub mod StoreLemmas
-pub mod TakesLemmas
-pub mod TurnEvents
-pub mod TurnLemmas
-pub mod TurnsLemmas
+mod HearingLemmas
+mod Invariants
+mod SendingLemmas
+mod ServesLemmas
+mod ServingLemmas
+mod StepLemmas
+mod StoreLemmas
+mod TakesLemmas
+mod TurnEvents
+mod TurnLemmas
+mod TurnsLemmas

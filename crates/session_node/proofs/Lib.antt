@@ -1,14 +1,14 @@
-pub mod AckLemmas
+mod AckLemmas
 pub mod AnswerLemmas
-pub mod EventLemmas
-pub mod Invariants
+mod EventLemmas
+mod Invariants
 pub mod Listening
-pub mod Moments
-pub mod NodeLemmas
-pub mod OctetLemmas
-pub mod RunLemmas
-pub mod SayingLemmas
-pub mod SendingLemmas
+mod Moments
+mod NodeLemmas
+mod OctetLemmas
+mod RunLemmas
+mod SayingLemmas
+mod SendingLemmas
 pub mod Serving
 pub mod Sessions
 pub mod Standing

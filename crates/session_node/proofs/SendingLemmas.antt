@@ -17,8 +17,8 @@ use Rattle.ftl0_session.specs.Downloads.Needs.{IsDueIn}
 use Rattle.ftl0_session.specs.Downloads.Sending as due
 use Rattle.ftl0_session.specs.Downloads.Sending.{is_due, is_read, octets_due, state_after, state_at_end}
 use Rattle.ftl0_session.specs.Downloads.Table.{DownloadState, listing, ready, sending, waiting}
-use Rattle.ftl0_session.proofs.Downloads.DueLemmas.{octets_due-after}
-use Rattle.ftl0_session.proofs.Downloads.SentLemmas.{is_due-after}
+use Rattle.ftl0_session.proofs.downloads.DueLemmas.{octets_due-after}
+use Rattle.ftl0_session.proofs.downloads.SentLemmas.{is_due-after}
 use Rattle.ftl0_session.specs.Run.{Sends}
 use Rattle.ftl0_session.specs.SessionState.{SessionState, state_in}
 use Rattle.ftl0_session.specs.Table.{DuePacket, State, download_part, due_at, in_session, next_due, state_by}

@@ -1,10 +1,10 @@
 pub mod CarryLemmas
-pub mod FetchLemmas
+mod FetchLemmas
 pub mod LedLemmas
-pub mod LineLemmas
-pub mod ListLemmas
-pub mod OutcomeLemmas
-pub mod ReadyLemmas
-pub mod SendLemmas
-pub mod Standing
+mod LineLemmas
+mod ListLemmas
+mod OutcomeLemmas
+mod ReadyLemmas
+mod SendLemmas
+mod Standing
 pub mod StartLemmas

@@ -5,7 +5,7 @@ use Rattle.ftl0_packets.specs.Layout.{Item}
 use Rattle.ftl0_packets.specs.Values.{item_of}
 use Rattle.ftl0_job.proofs.JobLemmas.{ending-none}
 use Rattle.ftl0_client.specs.Attempt.Feeding.{Takes}
-use Rattle.ftl0_client.proofs.Attempt.AnswerLemmas.{takes-answered}
+use Rattle.ftl0_client.proofs.attempt.AnswerLemmas.{takes-answered}
 use Rattle.ftl0_client.proofs.attempt.attempt.answer.Goals as goal
 
 pub returns-clause-answers : goal.returns-clause-answers

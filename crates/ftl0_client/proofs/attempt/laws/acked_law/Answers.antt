@@ -1,4 +1,4 @@
-use Rattle.ftl0_client.proofs.Attempt.AckedLemmas.{acked-law}
+use Rattle.ftl0_client.proofs.attempt.AckedLemmas.{acked-law}
 use Rattle.ftl0_client.proofs.attempt.laws.acked_law.Goals as goal
 
 pub returns : goal.returns

@@ -1,4 +1,4 @@
-use Rattle.ftl0_client.proofs.Attempt.FetchedLemmas.{fetched-law}
+use Rattle.ftl0_client.proofs.attempt.FetchedLemmas.{fetched-law}
 use Rattle.ftl0_client.proofs.attempt.laws.fetched_law.Goals as goal
 
 pub returns : goal.returns

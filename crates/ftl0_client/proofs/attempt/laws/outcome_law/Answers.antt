@@ -1,4 +1,4 @@
-use Rattle.ftl0_client.proofs.Attempt.DownLemmas.{outcome-law}
+use Rattle.ftl0_client.proofs.attempt.DownLemmas.{outcome-law}
 use Rattle.ftl0_client.proofs.attempt.laws.outcome_law.Goals as goal
 
 pub returns : goal.returns

@@ -1,4 +1,4 @@
-use Rattle.ftl0_client.proofs.Attempt.SettlingLemmas.{queued-law}
+use Rattle.ftl0_client.proofs.attempt.SettlingLemmas.{queued-law}
 use Rattle.ftl0_client.proofs.attempt.laws.queued_law.Goals as goal
 
 pub returns : goal.returns

@@ -1,4 +1,4 @@
-use Rattle.ftl0_client.proofs.Attempt.StandLemmas.{calling-law, stands-law}
+use Rattle.ftl0_client.proofs.attempt.StandLemmas.{calling-law, stands-law}
 use Rattle.ftl0_client.proofs.attempt.laws.stands_law.Goals as goal
 
 pub returns : goal.returns

@@ -6,9 +6,9 @@ use Rattle.ftl0_session.specs.declared.stop.ServerStop.TheVariants as stop
 use Rattle.ftl0_session.specs.SessionState.{caller_of}
 use Rattle.ftl0_session.specs.Taking.{working}
 use Rattle.ftl0_server.specs.declared.connection.fate.Fate.TheVariants.{Stays, Ends}
-use Rattle.ftl0_server.proofs.Connection.AnswerLemmas.{said-done, said-fault, said-none, some-replied, taken-puts}
-use Rattle.ftl0_server.proofs.Connection.AnswerLemmas.{takes-read, up-replied}
-use Rattle.ftl0_server.proofs.Connection.StationLemmas.{stations-same}
+use Rattle.ftl0_server.proofs.connection.AnswerLemmas.{said-done, said-fault, said-none, some-replied, taken-puts}
+use Rattle.ftl0_server.proofs.connection.AnswerLemmas.{takes-read, up-replied}
+use Rattle.ftl0_server.proofs.connection.StationLemmas.{stations-same}
 use Rattle.ftl0_server.proofs.connection.connection.answer.Goals as goal
 
 pub returns-in-Ok-clause-takes : goal.returns-in-Ok-clause-takes

@@ -1,4 +1,4 @@
-use Rattle.ftl0_server.proofs.Connection.QueuingLemmas.{queued-law}
+use Rattle.ftl0_server.proofs.connection.QueuingLemmas.{queued-law}
 use Rattle.ftl0_server.proofs.connection.laws.queued_law.Goals as goal
 
 pub returns : goal.returns

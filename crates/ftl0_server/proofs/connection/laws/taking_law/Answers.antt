@@ -1,4 +1,4 @@
-use Rattle.ftl0_server.proofs.Connection.TakingLemmas.{taking-law}
+use Rattle.ftl0_server.proofs.connection.TakingLemmas.{taking-law}
 use Rattle.ftl0_server.proofs.connection.laws.taking_law.Goals as goal
 
 pub returns : goal.returns

@@ -1,6 +1,6 @@
 -- A session that was just connected may take a packet.
 use Rattle.std.proofs.Common.{◌∙◌}
-use Rattle.ftl0_server.proofs.Connection.StartLemmas.{may-begin}
+use Rattle.ftl0_server.proofs.connection.StartLemmas.{may-begin}
 use Rattle.ftl0_server.proofs.connection.tests.flooded.Goals as goal
 
 pub hear-told-requires-clause-may : goal.hear-told-requires-clause-may

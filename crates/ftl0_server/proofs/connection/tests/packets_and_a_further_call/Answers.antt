@@ -1,6 +1,6 @@
 -- A session that was just connected may take a packet.
 use Rattle.std.proofs.Common.{◌∙◌}
-use Rattle.ftl0_server.proofs.Connection.StartLemmas.{may-begin}
+use Rattle.ftl0_server.proofs.connection.StartLemmas.{may-begin}
 use Rattle.ftl0_server.proofs.connection.tests.packets_and_a_further_call.Goals as goal
 
 pub play-requires-clause-may : goal.play-requires-clause-may

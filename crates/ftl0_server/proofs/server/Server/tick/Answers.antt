@@ -7,7 +7,7 @@ use Rattle.file_store.specs.State.{StandsOn}
 use Rattle.file_store.specs.Working.{DoesAmongReads}
 use Rattle.file_journal.proofs.CallLemmas.{puts_none}
 use Rattle.file_store.proofs.WorkingLemmas.{does-among, puts-among}
-use Rattle.ftl0_session.proofs.Uploads.DoesLemmas.{does-none}
+use Rattle.ftl0_session.proofs.uploads.DoesLemmas.{does-none}
 use Rattle.ftl0_session.specs.Downloads.Needs.{AreComplete}
 use Rattle.ftl0_server.specs.Calls.{Hears}
 use Rattle.ftl0_server.specs.Kept.{server_state}

@@ -2,8 +2,8 @@ use Rattle.std.proofs.Common.{◌≡◌, ◌++◌, get_or, length, sym, ◌∙�
 use Rattle.file_entries.specs.Info.{IsCompleteIn}
 use Rattle.file_store.specs.State.{StandsOn, StoreState, store_in}
 use Rattle.ftl0_session.specs.Downloads.Table.{octets_in, short_octets}
-use Rattle.ftl0_session.proofs.Downloads.DueLemmas.{flat-more}
-use Rattle.ftl0_session.proofs.Downloads.ReadsLemmas.{one-more}
+use Rattle.ftl0_session.proofs.downloads.DueLemmas.{flat-more}
+use Rattle.ftl0_session.proofs.downloads.ReadsLemmas.{one-more}
 use Rattle.ftl0_session.proofs.downloads.directory.read_short_forms.Goals as goal
 
 pub read_short_form-requires-clause-complete : goal.read_short_form-requires-clause-complete

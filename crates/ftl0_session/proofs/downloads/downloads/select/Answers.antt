@@ -2,7 +2,7 @@ use Rattle.std.proofs.Common.{◌≡◌, List, ℕ, ap, ◌∙◌, sym, subst}
 use Rattle.ftl0_session.specs.Lists.Lists.{CallerList, selected}
 use Rattle.file_store.specs.State.{StoreState, store_in}
 use Rattle.ftl0_session.specs.Downloads.Needs.{AreComplete}
-use Rattle.ftl0_session.proofs.Downloads.ListLemmas.{selected-files}
+use Rattle.ftl0_session.proofs.downloads.ListLemmas.{selected-files}
 use Rattle.ftl0_session.proofs.downloads.downloads.select.Goals as goal
 
 pub returns-in-Ok-clause-complete : goal.returns-in-Ok-clause-complete

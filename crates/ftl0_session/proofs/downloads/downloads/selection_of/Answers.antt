@@ -3,7 +3,7 @@ use Rattle.std.specs.Prelude.{IfNone, IfSome}
 use Rattle.selection.specs.Values.{tree_of}
 use Rattle.selection.proofs.ReadLemmas.{IsOctets-slice}
 use Rattle.ftl0_session.specs.Downloads.Taking.{SelectsBy, SelectsNone}
-use Rattle.ftl0_session.proofs.Downloads.SelectLemmas.{selects-none, selects-some}
+use Rattle.ftl0_session.proofs.downloads.SelectLemmas.{selects-none, selects-some}
 use Rattle.ftl0_session.proofs.downloads.downloads.selection_of.Goals as goal
 
 pub returns-clause-some : goal.returns-clause-some

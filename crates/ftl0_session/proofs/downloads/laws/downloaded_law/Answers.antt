@@ -1,4 +1,4 @@
-use Rattle.ftl0_session.proofs.Downloads.SentLemmas.{downloaded}
+use Rattle.ftl0_session.proofs.downloads.SentLemmas.{downloaded}
 use Rattle.ftl0_session.proofs.downloads.laws.downloaded_law.Goals as goal
 
 pub returns : goal.returns

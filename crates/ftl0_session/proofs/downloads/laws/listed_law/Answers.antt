@@ -1,4 +1,4 @@
-use Rattle.ftl0_session.proofs.Downloads.SentLemmas.{long-listed, short-listed}
+use Rattle.ftl0_session.proofs.downloads.SentLemmas.{long-listed, short-listed}
 use Rattle.ftl0_session.proofs.downloads.laws.listed_law.Goals as goal
 
 pub returns-clause-short : goal.returns-clause-short

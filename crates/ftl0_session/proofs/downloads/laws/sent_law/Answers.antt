@@ -1,6 +1,6 @@
 use Rattle.std.proofs.Common.{length, arith}
 use Rattle.ftl0_session.specs.Downloads.Sending.{octets_due}
-use Rattle.ftl0_session.proofs.Downloads.SentLemmas.{sent-all}
+use Rattle.ftl0_session.proofs.downloads.SentLemmas.{sent-all}
 use Rattle.ftl0_session.proofs.downloads.laws.sent_law.Goals as goal
 
 pub returns : goal.returns

@@ -1,5 +1,5 @@
-use Rattle.ftl0_session.proofs.Downloads.DueLemmas.{due-kept}
-use Rattle.ftl0_session.proofs.Downloads.ListLemmas.{lists-kept}
+use Rattle.ftl0_session.proofs.downloads.DueLemmas.{due-kept}
+use Rattle.ftl0_session.proofs.downloads.ListLemmas.{lists-kept}
 use Rattle.ftl0_session.proofs.downloads.laws.stays_law.Goals as goal
 
 pub returns-clause-due : goal.returns-clause-due

@@ -8,9 +8,9 @@ use Rattle.selection.specs.Meaning.{holds}
 use Rattle.selection.specs.Values.{tree_of}
 use Rattle.ftl0_session.specs.Downloads.Needs.{AreFiles}
 use Rattle.ftl0_session.specs.Downloads.Table.{chosen, octets_in}
-use Rattle.ftl0_session.proofs.Downloads.ChosenLemmas.{above_of, chosen-complete, chosen-end, chosen-room, chosen-start}
-use Rattle.ftl0_session.proofs.Downloads.ChosenLemmas.{chosen-step, next-below}
-use Rattle.ftl0_session.proofs.Downloads.ReadsLemmas.{none-yet, one-more}
+use Rattle.ftl0_session.proofs.downloads.ChosenLemmas.{above_of, chosen-complete, chosen-end, chosen-room, chosen-start}
+use Rattle.ftl0_session.proofs.downloads.ChosenLemmas.{chosen-step, next-below}
+use Rattle.ftl0_session.proofs.downloads.ReadsLemmas.{none-yet, one-more}
 use Rattle.ftl0_session.proofs.downloads.selecting.chosen_files.Goals as goal
 
 -- what isn't a `Some` is `None`

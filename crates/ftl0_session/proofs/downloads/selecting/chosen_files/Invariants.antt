@@ -4,7 +4,7 @@ use Rattle.file_entries.specs.IsStore.{IsStore}
 use Rattle.file_store.specs.State.{StandsOn, store_in}
 use Rattle.selection.specs.Values.{tree_of}
 use Rattle.ftl0_session.specs.Downloads.Table.{chosen}
-use Rattle.ftl0_session.proofs.Downloads.ChosenLemmas.{above_of}
+use Rattle.ftl0_session.proofs.downloads.ChosenLemmas.{above_of}
 use Rattle.ftl0_session.proofs.downloads.selecting.chosen_files.Given as goal
 
 abbrev pub invariant-loop-numbers : goal.invariant-loop-numbers

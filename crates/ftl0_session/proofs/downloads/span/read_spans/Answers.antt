@@ -5,8 +5,8 @@ use Rattle.ftl0_session.specs.Downloads.Needs.{IsStored, LiesIn}
 use Rattle.ftl0_session.specs.Downloads.Sending.{after_octets, due_octets}
 use Rattle.ftl0_session.specs.Downloads.Spans.{due_of}
 use Rattle.ftl0_session.specs.declared.downloads.span.Span.{Span}
-use Rattle.ftl0_session.proofs.Downloads.DueLemmas.{at-map, some-at, step-few, step-left, step-octets}
-use Rattle.ftl0_session.proofs.Downloads.ReadsLemmas.{at_error, one-more}
+use Rattle.ftl0_session.proofs.downloads.DueLemmas.{at-map, some-at, step-few, step-left, step-octets}
+use Rattle.ftl0_session.proofs.downloads.ReadsLemmas.{at_error, one-more}
 use Rattle.ftl0_session.proofs.downloads.span.read_spans.Goals as goal
 
 none : Span

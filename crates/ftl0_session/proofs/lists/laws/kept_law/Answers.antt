@@ -1,4 +1,4 @@
-use Rattle.ftl0_session.proofs.Lists.LawLemmas.{kept}
+use Rattle.ftl0_session.proofs.lists.LawLemmas.{kept}
 use Rattle.ftl0_session.proofs.lists.laws.kept_law.Goals as goal
 
 pub returns : goal.returns

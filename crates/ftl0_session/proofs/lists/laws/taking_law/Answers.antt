@@ -1,4 +1,4 @@
-use Rattle.ftl0_session.proofs.Lists.LawLemmas.{taking}
+use Rattle.ftl0_session.proofs.lists.LawLemmas.{taking}
 use Rattle.ftl0_session.proofs.lists.laws.taking_law.Goals as goal
 
 pub returns : goal.returns

@@ -1,4 +1,4 @@
-use Rattle.ftl0_session.proofs.Uploads.FaultCodes.{fault_codes}
+use Rattle.ftl0_session.proofs.uploads.FaultCodes.{fault_codes}
 use Rattle.ftl0_session.proofs.uploads.laws.fault_code_law.Goals as goal
 
 pub returns : goal.returns

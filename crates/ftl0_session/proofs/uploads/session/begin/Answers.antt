@@ -8,9 +8,9 @@ use Rattle.file_store.specs.Upload.{Upload}
 use Rattle.ftl0_packets.specs.Items.{texts}
 use Rattle.ftl0_session.specs.Uploads.Session.{command, granted_row}
 use Rattle.ftl0_session.specs.Uploads.SessionState.{NoOtherOut}
-use Rattle.ftl0_session.proofs.Uploads.BeginLemmas.{begin-refused, begun-only, begun-others}
-use Rattle.ftl0_session.proofs.Uploads.DoesLemmas.{does-row, some-at_front, touched}
-use Rattle.ftl0_session.proofs.Uploads.UploadRows.{begin-can, receiving-at, row-granted}
+use Rattle.ftl0_session.proofs.uploads.BeginLemmas.{begin-refused, begun-only, begun-others}
+use Rattle.ftl0_session.proofs.uploads.DoesLemmas.{does-row, some-at_front, touched}
+use Rattle.ftl0_session.proofs.uploads.UploadRows.{begin-can, receiving-at, row-granted}
 use Rattle.ftl0_session.proofs.uploads.session.begin.Goals as goal
 
 pub returns-in-Ok : goal.returns-in-Ok

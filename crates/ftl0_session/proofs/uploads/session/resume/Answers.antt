@@ -8,9 +8,9 @@ use Rattle.file_store.specs.Upload.{Upload}
 use Rattle.ftl0_packets.specs.Items.{texts}
 use Rattle.ftl0_session.specs.Uploads.Session.{resumed_row}
 use Rattle.ftl0_session.specs.Uploads.SessionState.{NoOtherOut}
-use Rattle.ftl0_session.proofs.Uploads.OtherLemmas.{only-own, only-wider, others-kept, touches-same}
-use Rattle.ftl0_session.proofs.Uploads.Rows.{none-at, upload-refused}
-use Rattle.ftl0_session.proofs.Uploads.UploadRows.{receiving-at, row-bad, row-no_such, row-resumed, row-whole_already}
+use Rattle.ftl0_session.proofs.uploads.OtherLemmas.{only-own, only-wider, others-kept, touches-same}
+use Rattle.ftl0_session.proofs.uploads.Rows.{none-at, upload-refused}
+use Rattle.ftl0_session.proofs.uploads.UploadRows.{receiving-at, row-bad, row-no_such, row-resumed, row-whole_already}
 use Rattle.ftl0_session.proofs.uploads.session.resume.Goals as goal
 
 pub returns-in-Ok : goal.returns-in-Ok

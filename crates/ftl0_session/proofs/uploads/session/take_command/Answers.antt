@@ -6,8 +6,8 @@ use Rattle.file_store.specs.State.{store_in}
 use Rattle.ftl0_session.specs.declared.uploads.phase.Phase.TheVariants as phase
 use Rattle.ftl0_session.specs.Uploads.Session.{command}
 use Rattle.ftl0_session.specs.Uploads.Taking.{Answered}
-use Rattle.ftl0_session.proofs.Uploads.DoesLemmas.{answered-alone}
-use Rattle.ftl0_session.proofs.Uploads.Rows.{alone-refused, error-command}
+use Rattle.ftl0_session.proofs.uploads.DoesLemmas.{answered-alone}
+use Rattle.ftl0_session.proofs.uploads.Rows.{alone-refused, error-command}
 use Rattle.ftl0_session.proofs.uploads.session.take_command.Goals as goal
 
 pub returns-in-Upload : goal.returns-in-Upload

@@ -8,11 +8,11 @@ use Rattle.file_store.specs.Upload.{Upload, appending, with_bytes}
 use Rattle.ftl0_session.specs.declared.uploads.phase.Phase.TheVariants as phase
 use Rattle.ftl0_session.specs.Uploads.Session.{aborting, taken_row}
 use Rattle.ftl0_session.specs.Uploads.SessionState.{NoOtherOut, receiving_of}
-use Rattle.ftl0_session.proofs.Uploads.DoesLemmas.{answered-alone, does-row, untouched as as-it-was}
-use Rattle.ftl0_session.proofs.Uploads.HoldLemmas.{own-entry, parked, taken, too_much, touches-cut, touches-done}
-use Rattle.ftl0_session.proofs.Uploads.OtherLemmas.{are-grows, only-none, only-own, others-kept}
-use Rattle.ftl0_session.proofs.Uploads.Rows.{others-same}
-use Rattle.ftl0_session.proofs.Uploads.UploadRows.{receiving-at}
+use Rattle.ftl0_session.proofs.uploads.DoesLemmas.{answered-alone, does-row, untouched as as-it-was}
+use Rattle.ftl0_session.proofs.uploads.HoldLemmas.{own-entry, parked, taken, too_much, touches-cut, touches-done}
+use Rattle.ftl0_session.proofs.uploads.OtherLemmas.{are-grows, only-none, only-own, others-kept}
+use Rattle.ftl0_session.proofs.uploads.Rows.{others-same}
+use Rattle.ftl0_session.proofs.uploads.UploadRows.{receiving-at}
 use Rattle.ftl0_session.proofs.uploads.session.take_data.Goals as goal
 
 pub returns-in-Ok : goal.returns-in-Ok

@@ -1,5 +1,5 @@
-use Rattle.header_tool.proofs.Frames.EachText.{each_text}
-use Rattle.header_tool.proofs.Frames.Lines.{text_one}
+use Rattle.header_tool.proofs.frames.EachText.{each_text}
+use Rattle.header_tool.proofs.frames.Lines.{text_one}
 use Rattle.header_tool.proofs.frames.laws.one_text.Goals as goal
 use Rattle.kiss.specs.KissText.{kiss_parts}
 

@@ -3,8 +3,8 @@ use Rattle.std.proofs.Common.{◌+◌, ◌<◌, ℕ, arith, drop, slice_index}
 use Rattle.std.proofs.lemmas.List.{drop_all}
 use Rattle.std.proofs.lemmas.List.Elements.{All-from_get_or}
 use Rattle.kiss.specs.Hearing.{parts_ended}
-use Rattle.header_tool.proofs.Frames.Showing.{left_is, of_fault, showing-more, showing-end, showing-stops}
-use Rattle.header_tool.proofs.Frames.Showing.{untouched-stops}
+use Rattle.header_tool.proofs.frames.Showing.{left_is, of_fault, showing-more, showing-end, showing-stops}
+use Rattle.header_tool.proofs.frames.Showing.{untouched-stops}
 use Rattle.header_tool.proofs.frames.show.show_frames.Goals as goal
 
 pub returns-in_err-gather-clause-shown : goal.returns-in_err-gather-clause-shown

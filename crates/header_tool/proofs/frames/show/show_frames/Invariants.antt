@@ -1,6 +1,6 @@
 -- The parts that the octets so far ended are shown.
 use Rattle.std.proofs.Common.{drop}
-use Rattle.header_tool.proofs.Frames.Showing.{IsShowing}
+use Rattle.header_tool.proofs.frames.Showing.{IsShowing}
 use Rattle.header_tool.proofs.frames.show.show_frames.Given as goal
 
 abbrev pub invariant-loop-octet : goal.invariant-loop-octet

@@ -7,8 +7,8 @@ use Rattle.ftl0_job.specs.declared.stop.JobStop.{JobStop}
 use Rattle.ftl0_client.specs.Attempt.AttemptState.{AttemptState}
 use Rattle.ftl0_client.specs.Attempt.Feeding.{FeedsBy, Feeds, with_octets}
 use Rattle.ftl0_client.specs.Attempt.Inside.{attempt_state}
-use Rattle.ftl0_client.proofs.Attempt.FeedLemmas.{feeds-none}
-use Rattle.ftl0_client.proofs.Attempt.WaitingLemmas.{waits-after, with-none}
+use Rattle.ftl0_client.proofs.attempt.FeedLemmas.{feeds-none}
+use Rattle.ftl0_client.proofs.attempt.WaitingLemmas.{waits-after, with-none}
 use Rattle.ftl0_client.proofs.attempt.attempt.Attempt.feed.Goals as goal
 
 pub invariant_of-self : goal.invariant_of-self

@@ -6,7 +6,7 @@ use Rattle.ftl0_job.specs.declared.stop.JobStop.{JobStop}
 use Rattle.ftl0_client.specs.Attempt.AttemptState.{Hears, PutsBy}
 use Rattle.ftl0_client.specs.Attempt.Hearing.{after_hearing, packets_heard}
 use Rattle.ftl0_client.specs.Attempt.Taking.{taking}
-use Rattle.ftl0_client.proofs.Attempt.HearLemmas.{hears-since}
+use Rattle.ftl0_client.proofs.attempt.HearLemmas.{hears-since}
 use Rattle.ftl0_client.proofs.attempt.attempt.Attempt.hear.Goals as goal
 
 pub returns-in_err-take_frame-clause-hears : goal.returns-in_err-take_frame-clause-hears

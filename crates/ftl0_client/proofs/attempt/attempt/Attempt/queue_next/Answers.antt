@@ -9,7 +9,7 @@ use Rattle.ftl0_client.specs.Attempt.AttemptState.{AttemptState}
 use Rattle.ftl0_client.specs.Attempt.Feeding.{QueuesPacket}
 use Rattle.ftl0_client.specs.Attempt.Inside.{attempt_state}
 use Rattle.ftl0_client.specs.Attempt.Settling.{enough_free}
-use Rattle.ftl0_client.proofs.Attempt.SettlingLemmas.{due-put, room-fewer, room-is}
+use Rattle.ftl0_client.proofs.attempt.SettlingLemmas.{due-put, room-fewer, room-is}
 use Rattle.ftl0_client.proofs.attempt.attempt.Attempt.queue_next.Goals as goal
 
 pub returns-clause-next : goal.returns-clause-next

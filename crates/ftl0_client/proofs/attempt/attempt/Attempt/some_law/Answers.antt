@@ -1,7 +1,7 @@
 use Rattle.std.proofs.Common.{subst}
 use Rattle.ftl0_client.specs.Attempt.AttemptState.{IsSomeAttempt}
 use Rattle.ftl0_client.specs.Attempt.Inside.{attempt_state}
-use Rattle.ftl0_client.proofs.Attempt.SomeLemmas.{some-attempt}
+use Rattle.ftl0_client.proofs.attempt.SomeLemmas.{some-attempt}
 use Rattle.ftl0_client.proofs.attempt.attempt.Attempt.some_law.Goals as goal
 
 pub returns : goal.returns

@@ -10,8 +10,8 @@ use Rattle.ftl0_client.specs.Attempt.AttemptState.{AttemptState, HearsBy, IsAtte
 use Rattle.ftl0_client.specs.Attempt.Hearing.{accepting, after_hearing, packets_heard, with_end}
 use Rattle.ftl0_client.specs.Attempt.Inside.{attempt_state}
 use Rattle.ftl0_client.specs.Attempt.Taking.{taking}
-use Rattle.ftl0_client.proofs.Attempt.HearLemmas.{hears-puts, hears-told}
-use Rattle.ftl0_client.proofs.Attempt.LinkLemmas.{link-information}
+use Rattle.ftl0_client.proofs.attempt.HearLemmas.{hears-puts, hears-told}
+use Rattle.ftl0_client.proofs.attempt.LinkLemmas.{link-information}
 use Rattle.ftl0_client.proofs.attempt.attempt.Attempt.take_frame.Goals as goal
 
 pub returns-in-Bytes-clause-hears : goal.returns-in-Bytes-clause-hears

@@ -6,8 +6,8 @@ use Rattle.ftl0_job.specs.declared.stop.JobStop.{JobStop}
 use Rattle.ftl0_client.specs.Attempt.AttemptState.{AttemptState, HearsBy, IsWaiting}
 use Rattle.ftl0_client.specs.Attempt.Hearing.{accepting}
 use Rattle.ftl0_client.specs.Attempt.Taking.{taking}
-use Rattle.ftl0_client.proofs.Attempt.FeedLemmas.{hears-stopped, hears-whole}
-use Rattle.ftl0_client.proofs.Attempt.OctetsLemmas.{is-nil, taking-next, taking-start}
+use Rattle.ftl0_client.proofs.attempt.FeedLemmas.{hears-stopped, hears-whole}
+use Rattle.ftl0_client.proofs.attempt.OctetsLemmas.{is-nil, taking-next, taking-start}
 use Rattle.ftl0_client.proofs.attempt.attempt.Attempt.take_octets.Goals as goal
 
 pub loop-piece-init : goal.loop-piece-init

@@ -1,6 +1,6 @@
 -- Packets were taken from the octets as they were to those that are left.
 use Rattle.std.proofs.Common.{length}
-use Rattle.ftl0_client.proofs.Attempt.Invariants.{IsTaking}
+use Rattle.ftl0_client.proofs.attempt.Invariants.{IsTaking}
 use Rattle.ftl0_client.proofs.attempt.attempt.Attempt.take_octets.Given as goal
 
 abbrev pub invariant-loop-piece : goal.invariant-loop-piece

@@ -7,7 +7,7 @@ use Rattle.ftl0_packets.specs.Reading.{under_way}
 use Rattle.ftl0_session.specs.Lists.Lists.{has_left}
 use Rattle.ftl0_session.specs.SessionState.{SessionState, caller_of, state_in}
 use Rattle.ftl0_server.specs.Connection.Connected.{answering}
-use Rattle.ftl0_server.proofs.Connection.WaitingLemmas.{waits-none}
+use Rattle.ftl0_server.proofs.connection.WaitingLemmas.{waits-none}
 use Rattle.ftl0_server.proofs.connection.connection.Connection.answer.Goals as goal
 
 pub invariant_of-result : goal.invariant_of-result

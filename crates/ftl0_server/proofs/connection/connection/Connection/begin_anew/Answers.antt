@@ -3,8 +3,8 @@ use Rattle.std.proofs.Common.{ap, sym, ◌∙◌}
 use Rattle.ftl0_session.specs.Lists.Lists.{has_left}
 use Rattle.ftl0_session.specs.SessionState.{SessionState, caller_of}
 use Rattle.ftl0_server.specs.Connection.Connected.{greeted}
-use Rattle.ftl0_server.proofs.Connection.LinkLemmas.{some-after}
-use Rattle.ftl0_server.proofs.Connection.WaitingLemmas.{waits-none}
+use Rattle.ftl0_server.proofs.connection.LinkLemmas.{some-after}
+use Rattle.ftl0_server.proofs.connection.WaitingLemmas.{waits-none}
 use Rattle.ftl0_server.proofs.connection.connection.Connection.begin_anew.Goals as goal
 
 pub invariant_of-self : goal.invariant_of-self

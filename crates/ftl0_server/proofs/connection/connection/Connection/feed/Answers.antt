@@ -6,8 +6,8 @@ use Rattle.ftl0_server.specs.declared.connection.fate.Fate.TheVariants.{Stays}
 use Rattle.ftl0_server.specs.Connection.ConnectionState.{ConnectionState}
 use Rattle.ftl0_server.specs.Connection.Feeding.{Feeds, LeavesFit, MayTake, with_octets}
 use Rattle.ftl0_server.specs.Connection.Inside.{connection_state}
-use Rattle.ftl0_server.proofs.Connection.FeedLemmas.{feeds-none, fit-none}
-use Rattle.ftl0_server.proofs.Connection.WaitingLemmas.{waits-after, with-none}
+use Rattle.ftl0_server.proofs.connection.FeedLemmas.{feeds-none, fit-none}
+use Rattle.ftl0_server.proofs.connection.WaitingLemmas.{waits-after, with-none}
 use Rattle.ftl0_server.proofs.connection.connection.Connection.feed.Goals as goal
 
 pub invariant_of-self : goal.invariant_of-self

@@ -8,8 +8,8 @@ use Rattle.ftl0_server.specs.declared.connection.fate.Fate.{Fate}
 use Rattle.ftl0_server.specs.Connection.ConnectionState.{Hears}
 use Rattle.ftl0_server.specs.Connection.Feeding.{HearsParts, LeavesFit}
 use Rattle.ftl0_server.specs.Connection.Hearing.{hearing, parts_of_frame, rest_of_frame}
-use Rattle.ftl0_server.proofs.Connection.DueLemmas.{hears-going, hears-stop}
-use Rattle.ftl0_server.proofs.Connection.FeedLemmas.{fit-queued}
+use Rattle.ftl0_server.proofs.connection.DueLemmas.{hears-going, hears-stop}
+use Rattle.ftl0_server.proofs.connection.FeedLemmas.{fit-queued}
 use Rattle.ftl0_server.proofs.connection.connection.Connection.hear.Goals as goal
 
 pub returns-then-goes_on-clause-hears : goal.returns-then-goes_on-clause-hears

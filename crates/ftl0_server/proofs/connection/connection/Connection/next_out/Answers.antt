@@ -1,7 +1,7 @@
 -- A frame that is sent leaves the state.
 use Rattle.std.proofs.Common.{ap, ◌∙◌}
 use Rattle.ftl0_server.specs.Connection.ConnectionState.{ConnectionState}
-use Rattle.ftl0_server.proofs.Connection.LinkLemmas.{link-sent}
+use Rattle.ftl0_server.proofs.connection.LinkLemmas.{link-sent}
 use Rattle.ftl0_server.proofs.connection.connection.Connection.next_out.Goals as goal
 
 pub invariant_of-self : goal.invariant_of-self

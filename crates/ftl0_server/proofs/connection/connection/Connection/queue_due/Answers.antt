@@ -2,8 +2,8 @@
 use Rattle.std.proofs.Common.{ap, ◌∙◌, subst, sym}
 use Rattle.file_store.specs.State.{StandsOn, StoreState}
 use Rattle.ftl0_server.specs.Connection.Feeding.{QueuesDue, QueuesPacket}
-use Rattle.ftl0_server.proofs.Connection.DueLemmas.{keeps-then, queues-none, queues-then}
-use Rattle.ftl0_server.proofs.Connection.FeedLemmas.{keeps-none}
+use Rattle.ftl0_server.proofs.connection.DueLemmas.{keeps-then, queues-none, queues-then}
+use Rattle.ftl0_server.proofs.connection.FeedLemmas.{keeps-none}
 use Rattle.ftl0_server.proofs.connection.connection.Connection.queue_due.Goals as goal
 
 pub loop-init : goal.loop-init

@@ -12,10 +12,10 @@ use Rattle.ftl0_server.specs.Connection.ConnectionState.{ConnectionState}
 use Rattle.ftl0_server.specs.Connection.Feeding.{AreFree, IsNothingDue, KeepsFit, QueuesPacket}
 use Rattle.ftl0_server.specs.Connection.Inside.{connection_state}
 use Rattle.ftl0_server.specs.Connection.Taking.{enough_free}
-use Rattle.ftl0_server.proofs.Connection.DueLemmas.{does-none}
-use Rattle.ftl0_server.proofs.Connection.LinkLemmas.{push-up, some-after}
-use Rattle.ftl0_server.proofs.Connection.QueuingLemmas.{packet-some, room-fewer}
-use Rattle.ftl0_server.proofs.Connection.StationLemmas.{stations-same}
+use Rattle.ftl0_server.proofs.connection.DueLemmas.{does-none}
+use Rattle.ftl0_server.proofs.connection.LinkLemmas.{push-up, some-after}
+use Rattle.ftl0_server.proofs.connection.QueuingLemmas.{packet-some, room-fewer}
+use Rattle.ftl0_server.proofs.connection.StationLemmas.{stations-same}
 use Rattle.ftl0_server.proofs.connection.connection.Connection.queue_next.Goals as goal
 
 pub returns-then-not-fill-clause-next : goal.returns-then-not-fill-clause-next

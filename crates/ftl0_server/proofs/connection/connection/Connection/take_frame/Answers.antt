@@ -15,11 +15,11 @@ use Rattle.ftl0_server.specs.Connection.ConnectionState.{ConnectionState, IsConn
 use Rattle.ftl0_server.specs.Connection.Feeding.{HearsParts, LeavesFit}
 use Rattle.ftl0_server.specs.Connection.Hearing.{parts_of_frame, rest_of_frame, with_end}
 use Rattle.ftl0_server.specs.Connection.Inside.{connection_state}
-use Rattle.ftl0_server.proofs.Connection.FeedLemmas.{fit-anew, fit-heard}
-use Rattle.ftl0_server.proofs.Connection.HearLemmas.{anew-at, begun-some, parks-same, parts-bytes, parts-on, parts-over}
-use Rattle.ftl0_server.proofs.Connection.HearLemmas.{parts-quiet, parts-told, same-peer}
-use Rattle.ftl0_server.proofs.Connection.LinkLemmas.{link-bytes, link-up, some-after}
-use Rattle.ftl0_server.proofs.Connection.StationLemmas.{stations-then}
+use Rattle.ftl0_server.proofs.connection.FeedLemmas.{fit-anew, fit-heard}
+use Rattle.ftl0_server.proofs.connection.HearLemmas.{anew-at, begun-some, parks-same, parts-bytes, parts-on, parts-over}
+use Rattle.ftl0_server.proofs.connection.HearLemmas.{parts-quiet, parts-told, same-peer}
+use Rattle.ftl0_server.proofs.connection.LinkLemmas.{link-bytes, link-up, some-after}
+use Rattle.ftl0_server.proofs.connection.StationLemmas.{stations-then}
 use Rattle.ftl0_server.proofs.connection.connection.Connection.take_frame.Goals as goal
 
 pub returns-in-Nothing-clause-hears : goal.returns-in-Nothing-clause-hears

@@ -2,8 +2,8 @@
 use Rattle.std.proofs.Common.{◌≡◌, true, false, sym, subst, ◌∙◌}
 use Rattle.ftl0_session.specs.SessionState.{caller_of}
 use Rattle.ftl0_server.specs.Connection.ConnectionState.{ConnectionState, IsWaiting}
-use Rattle.ftl0_server.proofs.Connection.OctetsLemmas.{fit-all, is-nil, taking-ends, taking-next, taking-start}
-use Rattle.ftl0_server.proofs.Connection.OctetsLemmas.{taking-stops}
+use Rattle.ftl0_server.proofs.connection.OctetsLemmas.{fit-all, is-nil, taking-ends, taking-next, taking-start}
+use Rattle.ftl0_server.proofs.connection.OctetsLemmas.{taking-stops}
 use Rattle.ftl0_server.proofs.connection.connection.Connection.take_octets.Goals as goal
 
 pub loop-piece-init : goal.loop-piece-init

@@ -3,7 +3,7 @@ use Rattle.std.proofs.Common.{◌≡◌, ap, ◌∙◌, sym}
 use Rattle.ax25_link.specs.Timer.{after_tick}
 use Rattle.ftl0_server.specs.declared.connection.fate.Fate.TheVariants.{Stays, Ends}
 use Rattle.ftl0_server.specs.Connection.ConnectionState.{ConnectionState}
-use Rattle.ftl0_server.proofs.Connection.LinkLemmas.{some-after, tick-up}
+use Rattle.ftl0_server.proofs.connection.LinkLemmas.{some-after, tick-up}
 use Rattle.ftl0_server.proofs.connection.connection.Connection.tick.Goals as goal
 use Rattle.ftl0_server.proofs.connection.connection.Connection.tick.Goals.{in-None, in-Some}
 

@@ -2,7 +2,7 @@ use Rattle.std.proofs.Common.{sym, subst}
 use Rattle.file_store.specs.State.{StoreState, store_in}
 use Rattle.ftl0_session.specs.Downloads.Needs.{IsDueIn}
 use Rattle.ftl0_session.specs.Downloads.Table.{DownloadState}
-use Rattle.ftl0_session.proofs.Downloads.DueLemmas.{due-after}
+use Rattle.ftl0_session.proofs.downloads.DueLemmas.{due-after}
 use Rattle.ftl0_session.proofs.downloads.downloads.Downloads.fill.Goals as goal
 
 pub returns-in-Ok-2-clause-due : goal.returns-in-Ok-2-clause-due

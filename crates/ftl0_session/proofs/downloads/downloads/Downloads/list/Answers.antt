@@ -4,8 +4,8 @@ use Rattle.ftl0_session.specs.Lists.Lists.{CallerList}
 use Rattle.file_store.specs.State.{StoreState, store_in}
 use Rattle.ftl0_session.specs.Downloads.Needs.{AreComplete, AreFiles}
 use Rattle.ftl0_session.specs.Downloads.Table.{has_file}
-use Rattle.ftl0_session.proofs.Downloads.FileLemmas.{all-complete}
-use Rattle.ftl0_session.proofs.Downloads.ListLemmas.{after-files, listed-few}
+use Rattle.ftl0_session.proofs.downloads.FileLemmas.{all-complete}
+use Rattle.ftl0_session.proofs.downloads.ListLemmas.{after-files, listed-few}
 use Rattle.ftl0_session.proofs.downloads.downloads.Downloads.list.Goals as goal
 
 pub read_headers-requires-clause-complete : goal.read_headers-requires-clause-complete

@@ -8,8 +8,8 @@ use Rattle.ftl0_session.specs.Downloads.Table.{kept, listing}
 use Rattle.ftl0_session.specs.Downloads.View.{state_of}
 use Rattle.ftl0_session.specs.declared.downloads.downloads.Phase.{Phase}
 use Rattle.ftl0_session.specs.declared.downloads.span.Span.{Span}
-use Rattle.ftl0_session.proofs.Downloads.DueLemmas.{first-left, read-some}
-use Rattle.ftl0_session.proofs.Downloads.ReadsLemmas.{at_error}
+use Rattle.ftl0_session.proofs.downloads.DueLemmas.{first-left, read-some}
+use Rattle.ftl0_session.proofs.downloads.ReadsLemmas.{at_error}
 use Rattle.ftl0_session.proofs.downloads.downloads.Downloads.read_part.Goals as goal
 
 pub returns-in_err-self-inside-in-ListingLong-clause-read : goal.returns-in_err-self-inside-in-ListingLong-clause-read

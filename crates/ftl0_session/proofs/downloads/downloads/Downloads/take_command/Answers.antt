@@ -5,8 +5,8 @@ use Rattle.ftl0_session.specs.Downloads.Needs.{IsDueIn}
 use Rattle.ftl0_session.specs.Downloads.Table.{DownloadState, command_row, directory_row, download_cmd_row, long_due}
 use Rattle.ftl0_session.specs.Downloads.Table.{ready, select_row, short_due}
 use Rattle.ftl0_session.specs.Downloads.Taking.{TakesPacket, made}
-use Rattle.ftl0_session.proofs.Downloads.TakeLemmas.{download-is, long-is, no_row, not_taken, row_in_ready, select-is}
-use Rattle.ftl0_session.proofs.Downloads.TakeLemmas.{short-is, taken_alone, taken_reading}
+use Rattle.ftl0_session.proofs.downloads.TakeLemmas.{download-is, long-is, no_row, not_taken, row_in_ready, select-is}
+use Rattle.ftl0_session.proofs.downloads.TakeLemmas.{short-is, taken_alone, taken_reading}
 use Rattle.ftl0_session.proofs.downloads.downloads.Downloads.take_command.Goals as goal
 
 pub returns-in_default : goal.returns-in_default

@@ -1,6 +1,6 @@
 use Rattle.std.proofs.Common.{◌∙◌, ap, length, List, sym, subst, arith, remove}
 use Rattle.ftl0_session.specs.Lists.Lists.{CallerList, IsLists}
-use Rattle.ftl0_session.proofs.Lists.Selecting.{room-at, room-full, room-left}
+use Rattle.ftl0_session.proofs.lists.Selecting.{room-at, room-full, room-left}
 use Rattle.ftl0_session.proofs.lists.lists.Lists.make_room.Goals as goal
 
 pub returns-in-Some-clause-lists : goal.returns-in-Some-clause-lists

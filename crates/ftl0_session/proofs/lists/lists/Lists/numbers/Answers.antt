@@ -1,6 +1,6 @@
 use Rattle.std.proofs.Common.{◌∙◌, ap, List, sym, subst, get_or}
 use Rattle.ftl0_session.specs.Lists.Lists.{CallerList, IsLists}
-use Rattle.ftl0_session.proofs.Lists.CallerLists.{left-at, left-nowhere}
+use Rattle.ftl0_session.proofs.lists.CallerLists.{left-at, left-nowhere}
 use Rattle.ftl0_session.proofs.lists.lists.Lists.numbers.Goals as goal
 
 pub returns-in-Some-clause-numbers : goal.returns-in-Some-clause-numbers

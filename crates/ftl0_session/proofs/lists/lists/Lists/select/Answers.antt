@@ -1,6 +1,6 @@
 use Rattle.std.proofs.Common.{◌∙◌, ap, Bool, List, [], ◌∷◌, ◌++◌, length, sym, subst, cond, le_trans, arith}
 use Rattle.ftl0_session.specs.Lists.Lists.{CallerList, IsLists, last_of, lists_of_others}
-use Rattle.ftl0_session.proofs.Lists.Selecting.{IsLists-selected, one-more}
+use Rattle.ftl0_session.proofs.lists.Selecting.{IsLists-selected, one-more}
 use Rattle.ftl0_session.proofs.lists.lists.Lists.select.Goals as goal
 
 pub invariant_of-self : goal.invariant_of-self

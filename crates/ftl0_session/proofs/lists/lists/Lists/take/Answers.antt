@@ -1,7 +1,7 @@
 use Rattle.std.proofs.Common.{ℕ, ◌∙◌, ap, List, length, ◌≤◌, sym, subst, get_or, position, set}
 use Rattle.ftl0_session.specs.Lists.Lists.{CallerList, IsLists, is_of}
-use Rattle.ftl0_session.proofs.Lists.CallerLists.{left-at}
-use Rattle.ftl0_session.proofs.Lists.Taking.{IsLists-taken, taken-at, taken-nowhere}
+use Rattle.ftl0_session.proofs.lists.CallerLists.{left-at}
+use Rattle.ftl0_session.proofs.lists.Taking.{IsLists-taken, taken-at, taken-nowhere}
 use Rattle.ftl0_session.proofs.lists.lists.Lists.take.Goals as goal
 
 pub take-requires : goal.take-requires

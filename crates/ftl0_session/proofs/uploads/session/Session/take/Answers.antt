@@ -5,7 +5,7 @@ use Rattle.ftl0_packets.specs.Values.{item_of}
 use Rattle.ftl0_session.specs.declared.uploads.phase.Phase.{Phase}
 use Rattle.ftl0_session.specs.Uploads.SessionState.{IsHeld, IsOnlyOut, SessionState, state_of}
 use Rattle.ftl0_session.specs.Uploads.Taking.{Answered, TakesPacket}
-use Rattle.ftl0_session.proofs.Uploads.DoesLemmas.{after-failed, after-healthy, after-puts, after-stands}
+use Rattle.ftl0_session.proofs.uploads.DoesLemmas.{after-failed, after-healthy, after-puts, after-stands}
 use Rattle.ftl0_session.proofs.uploads.session.Session.take.Goals as goal
 
 -- a session by its parts

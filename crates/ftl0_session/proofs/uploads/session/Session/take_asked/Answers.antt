@@ -4,7 +4,7 @@ use Rattle.px_base.specs.CallSign.{CallSign}
 use Rattle.ftl0_session.specs.Uploads.Asked.{AnswersAsked}
 use Rattle.ftl0_session.specs.Uploads.Session.{aborting}
 use Rattle.ftl0_session.specs.Uploads.SessionState.{SessionState, state_of}
-use Rattle.ftl0_session.proofs.Uploads.DoesLemmas.{answered-alone}
+use Rattle.ftl0_session.proofs.uploads.DoesLemmas.{answered-alone}
 use Rattle.ftl0_session.proofs.uploads.session.Session.take_asked.Goals as goal
 
 pub returns-in-Command-clause-answered : goal.returns-in-Command-clause-answered

@@ -8,8 +8,8 @@ use Rattle.file_store.specs.Upload.{waiting}
 use Rattle.ftl0_session.specs.declared.uploads.phase.Phase.TheVariants as phase
 use Rattle.ftl0_session.specs.Uploads.SessionState.{SessionState, receiving_of}
 use Rattle.ftl0_session.specs.Uploads.Taking.{Answered}
-use Rattle.ftl0_session.proofs.Uploads.DoesLemmas.{answered-alone}
-use Rattle.ftl0_session.proofs.Uploads.Rows.{alone-refused, error-receiving}
+use Rattle.ftl0_session.proofs.uploads.DoesLemmas.{answered-alone}
+use Rattle.ftl0_session.proofs.uploads.Rows.{alone-refused, error-receiving}
 use Rattle.ftl0_session.proofs.uploads.session.Session.take_receiving.Goals as goal
 
 pub returns-in-Part-clause-answered : goal.returns-in-Part-clause-answered

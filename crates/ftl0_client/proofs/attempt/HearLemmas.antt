@@ -1,0 +1,97 @@
+-- How an attempt hears a frame.
+use Rattle.std.proofs.Common.{◌≡◌, ◌+◌, List, ◌++◌, length, take, drop, refl, ap, sym, ◌∙◌, subst, arith, append_assoc}
+use Rattle.std.proofs.Common.{length-append}
+use Rattle.std.specs.Prelude.{Result, Ok, Err, ⊤}
+use Rattle.std.proofs.lemmas.List.{take-append-drop}
+use Rattle.ax25_frames.specs.FrameText.{FrameValue}
+use Rattle.disk_model.specs.declared.disk.Disk.{Ghosts}
+use Rattle.ax25_link.specs.declared.state.Heard.{Heard}
+use Rattle.ax25_link.specs.Kept.{Tells}
+use Rattle.ax25_link.specs.Rows.{after_frame, heard_of}
+use Rattle.ax25_link.specs.Window.{Window}
+use Rattle.ftl0_packets.specs.Layout.{Item}
+use Rattle.file_journal.specs.Calls.{Leaves}
+use Rattle.file_journal.proofs.CallLemmas.{puts_on, puts_same}
+use Rattle.file_journal.proofs.MomentLemmas.{weaker}
+use Rattle.file_journal.proofs.ToldLemmas.{told_weaker}
+use Rattle.client_notes.specs.Command.{NotesCommand}
+use Rattle.client_notes.specs.Laws.{after_all}
+use Rattle.client_notes.specs.Notes.{Lists}
+use Rattle.client_notes.specs.Several.{DoesSeveral, MakesFirst}
+use Rattle.client_notes.specs.State.{NotesState}
+use Rattle.client_notes.proofs.SeveralLemmas.{Several-then, makes-first, makes-within}
+use Rattle.ftl0_job.specs.declared.stop.JobStop.{JobStop}
+use Rattle.ftl0_job.specs.declared.stop.JobStop.TheVariants as stop
+use Rattle.ftl0_job.specs.Noting.{HasNoted}
+use Rattle.ftl0_job.specs.Table.{job_row}
+use Rattle.ftl0_client.specs.Attempt.Attempted.{Attempted}
+use Rattle.ftl0_client.specs.Attempt.AttemptState.{AttemptState, HearsBy, IsAttempt, PutsBy, StopsAmong}
+use Rattle.ftl0_client.specs.Attempt.Hearing.{after_hearing, after_told, packets_heard, packets_told, with_end}
+use Rattle.ftl0_client.specs.Attempt.Taking.{Happened, taking}
+use Rattle.ftl0_client.proofs.attempt.TakingLemmas.{noted-front}
+
+module _ {D : Type 0} (g : Ghosts D) where
+  -- the first of some commands, for some number of them, are the first of more commands
+  leaves-front : (lists : Lists) (disk disk_n : D) (front more : List NotesCommand) → Leaves g disk disk_n (λ _. MakesFirst lists front) → Leaves g disk disk_n (λ _. MakesFirst lists (front ++ more))
+  leaves-front lists disk disk_n front more leaves =
+      let sum : length (front ++ more) ≡ length front + length more = length-append front more in
+      told_weaker (g.content disk) _ _ (λ before told left.
+      weaker g.moment g.images_since disk disk_n (MakesFirst lists front) (MakesFirst lists (front ++ more))
+      (λ image here. makes-within 0 (length front) 0 (length (front ++ more)) lists (front ++ more) image (omega arith) (omega arith) (makes-first 0 (length front) lists front more image (omega arith) here)) left)
+      leaves
+
+  module _ (on : (first second third : D) → g.lasts first second → g.lasts second third → g.lasts first third) (old mid new : NotesState) (disk disk_m disk_n : D) (done commands : List NotesCommand)
+      (first : DoesSeveral g ⊥ old mid disk disk_m done) where
+    -- what stands since commands began, behind which the disk failed or no memory was there
+    noted-since : (more : List NotesCommand) (why : JobStop) → HasNoted {T = ⊤} g mid new disk_m disk_n commands (Err why) → Leaves g disk disk_n (λ _. MakesFirst old.lists (done ++ (commands ++ more)))
+    noted-since more stop.Disk noted =
+        subst (λ (all : List NotesCommand). Leaves g disk disk_n (λ _. MakesFirst old.lists all)) (append_assoc done commands more)
+        (leaves-front old.lists disk disk_n (done ++ commands) more (Several-then g on ⊥ ⊤ old mid new disk disk_m disk_n done commands (λ never. never) first noted).since)
+    noted-since more stop.OutOfMemory noted =
+        let some : List NotesCommand = take noted.0 commands in
+        let others : List NotesCommand = drop noted.0 commands in
+        let same : (done ++ some) ++ (others ++ more) ≡ done ++ (commands ++ more) =
+        append_assoc done some (others ++ more)
+        ∙ ap (λ (cs : List NotesCommand). done ++ cs) (sym (append_assoc some others more) ∙ ap (λ (cs : List NotesCommand). cs ++ more) (take-append-drop noted.0 commands)) in
+        subst (λ (all : List NotesCommand). Leaves g disk disk_n (λ _. MakesFirst old.lists all)) same
+        (leaves-front old.lists disk disk_n (done ++ some) (others ++ more) (Several-then g on ⊥ ⊥ old mid new disk disk_m disk_n done some (λ never. never) first noted.2).since)
+
+    -- and what is said of the counts
+    noted-puts : (why : JobStop) → HasNoted {T = ⊤} g mid new disk_m disk_n commands (Err why) → PutsBy g disk disk_n (Err why)
+    noted-puts stop.Disk noted = puts_same g disk disk_n ⊤ _ (λ all. refl) (λ e. tt) (puts_on g on disk disk_m disk_n ⊥ ⊤ (λ never. never) first.puts noted.puts)
+    noted-puts stop.OutOfMemory noted = puts_same g disk disk_n ⊥ _ (λ never. absurd never) (λ e. cc e) (puts_on g on disk disk_m disk_n ⊥ ⊥ (λ never. never) first.puts noted.2.puts)
+
+  module _ (on : (first second third : D) → g.lasts first second → g.lasts second third → g.lasts first third) (a : Attempted) (items : List Item) (notes notes_n : NotesState) (disk disk_n : D)
+      (attempt : AttemptState) where
+    stopped-since : (why : JobStop) → StopsAmong g a items notes notes_n disk disk_n attempt why → Leaves g disk disk_n (λ _. MakesFirst notes.lists (taking notes.lists a items).noted)
+    stopped-since why h =
+        let p : Happened = taking notes.lists a h.before in
+        let at : h.notes_then.lists ≡ after_all notes.lists p.noted = (h.done.done (λ never. never)).0 in
+        let front = noted-front notes.lists a h.before h.item h.behind h.stops.no_outcome in
+        let all : (taking notes.lists a items).noted ≡ p.noted ++ ((job_row h.notes_then.lists p.after.job h.item).commands ++ front.0) =
+        ap (λ (some : List Item). (taking notes.lists a some).noted) h.is_part ∙ front.1
+        ∙ ap (λ (l : Lists). p.noted ++ ((job_row l p.after.job h.item).commands ++ front.0)) (sym at) in
+        subst (λ (cs : List NotesCommand). Leaves g disk disk_n (λ _. MakesFirst notes.lists cs)) (sym all)
+        (noted-since on notes h.notes_then notes_n disk h.disk_then disk_n p.noted (job_row h.notes_then.lists p.after.job h.item).commands h.done front.0 why h.stops.noted)
+
+    pub hears-since : (w : Window) (event : Happened) (result : Result ⊤ JobStop) → event.noted ≡ (taking notes.lists a items).noted → HearsBy g w event a items notes notes_n disk disk_n attempt result
+        → Leaves g disk disk_n (λ _. MakesFirst notes.lists event.noted)
+    hears-since w event (Ok done) same h = h.1.since
+    hears-since w event (Err why) same h = subst (λ (cs : List NotesCommand). Leaves g disk disk_n (λ _. MakesFirst notes.lists cs)) (sym same) (stopped-since why h)
+
+    pub hears-puts : (w : Window) (event : Happened) (result : Result ⊤ JobStop) → HearsBy g w event a items notes notes_n disk disk_n attempt result → PutsBy g disk disk_n result
+    hears-puts w event (Ok done) h = puts_same g disk disk_n ⊥ _ (λ never. absurd never) (λ e. cc e) h.1.puts
+    hears-puts w event (Err why) h =
+        noted-puts on notes h.notes_then notes_n disk h.disk_then disk_n (taking notes.lists a h.before).noted
+        (job_row h.notes_then.lists (taking notes.lists a h.before).after.job h.item).commands h.done why h.stops.noted
+
+  -- what the link told decides
+  pub hears-told : (w : Window) (frame : FrameValue) (notes notes_n : NotesState) (disk disk_n : D) (old now : AttemptState) (told : Heard) (result : Result ⊤ JobStop)
+      → Tells old.link (λ w end. heard_of w end frame) told → (a : Attempted) → IsAttempt w old a
+      → HearsBy g w (taking notes.lists (after_told told (with_end a (after_frame w a.end frame)) frame.kind.information) (packets_told told a frame.kind.information))
+      (after_told told (with_end a (after_frame w a.end frame)) frame.kind.information) (packets_told told a frame.kind.information) notes notes_n disk disk_n now result
+      → HearsBy g w (taking notes.lists (after_hearing w a frame) (packets_heard w a frame)) (after_hearing w a frame) (packets_heard w a frame) notes notes_n disk disk_n now result
+  hears-told w frame notes notes_n disk disk_n old now told result tells a is h =
+      subst (λ (t : Heard). HearsBy g w (taking notes.lists (after_told t (with_end a (after_frame w a.end frame)) frame.kind.information) (packets_told t a frame.kind.information))
+      (after_told t (with_end a (after_frame w a.end frame)) frame.kind.information) (packets_told t a frame.kind.information) notes notes_n disk disk_n now result)
+      (tells w a.end is.link) h

@@ -1,0 +1,15 @@
+mod AnswerLemmas
+mod DoingLemmas
+mod DueLemmas
+mod FailureLemmas
+mod FeedLemmas
+mod HearLemmas
+mod HearsLemmas
+mod Invariants
+mod LinkLemmas
+mod OctetsLemmas
+mod QueuingLemmas
+mod StartLemmas
+mod StationLemmas
+mod TakingLemmas
+mod WaitingLemmas

@@ -1,0 +1,245 @@
+-- How a connection queues what is due, behind the packets of a frame.
+use Rattle.std.proofs.Common.{◌≡◌, ◌⊎◌, inl, inr, ℕ, zero, suc, ◌+◌, ◌<◌, ◌≤◌, Bool, true, false, List, [], ◌++◌, refl}
+use Rattle.std.proofs.Common.{ap, sym, ◌∙◌, subst, arith, append-nil}
+use Rattle.std.specs.Prelude.{All, Option, None, Some, nat_le, Result, Ok, Err, ⊤}
+use Rattle.std.proofs.Math.Nat.{add-zero, add_assoc}
+use Rattle.std.proofs.lemmas.List.Elements.{All-append, All-nil, All-weaker}
+use Rattle.disk_model.specs.declared.disk.Disk.{Ghosts}
+use Rattle.ax25_link.specs.Ends.{free_octets}
+use Rattle.ax25_link.specs.Kept.{Kept, StandsFor}
+use Rattle.ax25_link.specs.Window.{Window}
+use Rattle.ftl0_session.specs.Lists.Lists.{CallerList}
+use Rattle.file_entries.specs.Command.{Command, after_all}
+use Rattle.file_entries.specs.Store.{Store}
+use Rattle.file_journal.specs.Calls.{Leaves}
+use Rattle.file_store.specs.OnDisk.{MakesFirst}
+use Rattle.file_store.specs.State.{StandsOn, StoreState, store_in}
+use Rattle.file_store.specs.Working.{DoesAmongReads, one_if}
+use Rattle.file_store.proofs.DoesLemmas.{Does-none}
+use Rattle.file_store.proofs.WorkingLemmas.{among-at, among-same, among-then, does-among, puts-among-then}
+use Rattle.ftl0_session.specs.Uploads.Failures.{Failure, failed_reads, failed_write, read_fails}
+use Rattle.ftl0_session.specs.Downloads.Needs.{IsDueIn}
+use Rattle.ftl0_session.specs.declared.stop.ServerStop.{ServerStop}
+use Rattle.ftl0_session.specs.declared.stop.ServerStop.TheVariants as stop
+use Rattle.ftl0_session.specs.SessionState.{state_in}
+use Rattle.ftl0_session.specs.Table.{DuePacket, State, due_at, next_due, tells_failed_read}
+use Rattle.ftl0_server.specs.declared.connection.fate.Fate.{Fate}
+use Rattle.ftl0_server.specs.declared.connection.fate.Fate.TheVariants.{Stays, Ends}
+use Rattle.ftl0_server.specs.Connection.ConnectionState.{ConnectionState, Hears, HearsBy, IsAfter}
+use Rattle.ftl0_server.specs.Connection.Feeding.{AreFree, HearsParts, IsNothingDue, KeepsFit, Queued, QueuesDue}
+use Rattle.ftl0_server.specs.Connection.Feeding.{QueuesPacket}
+use Rattle.ftl0_server.specs.Connection.Hearing.{progressed}
+use Rattle.ftl0_server.specs.Connection.Taking.{Progress, after_due, enough_free, fails, goes_on, on_due, queued}
+use Rattle.ftl0_server.specs.Connection.Taking.{queuing}
+use Rattle.ftl0_server.proofs.connection.FailureLemmas.{All-at, among-at as among-one, among-first, among-second}
+use Rattle.ftl0_server.proofs.connection.FailureLemmas.{at_part, none-writes, reads-among}
+use Rattle.ftl0_server.proofs.connection.StationLemmas.{stations-then}
+use Rattle.ftl0_server.proofs.connection.HearsLemmas.{IsStop}
+use Rattle.ftl0_server.proofs.connection.QueuingLemmas.{KeepsRest, due_by, due-fewer, is-enough, is-fewer, queued-keeps}
+use Rattle.ftl0_server.proofs.connection.QueuingLemmas.{queued-on, queued-over, queuing-alike, queuing-keeps}
+use Rattle.ftl0_server.proofs.connection.QueuingLemmas.{same-count}
+
+-- ---- nothing is queued
+
+module _ (store : Store) (failures : List Failure) (progress : Progress) where
+  by-none : (enough : Bool) (later : DuePacket → Progress) → due_by enough None progress later ≡ progress
+  by-none true later = refl
+  by-none false later = refl
+
+  -- nothing is due
+  pub queuing-none : (count : ℕ) → due_at store progress.state failures progress.part ≡ None → queuing count store failures progress ≡ progress
+  queuing-none zero none = refl
+  queuing-none (suc more) none =
+      ap (λ (next : Option DuePacket). due_by (nat_le enough_free (free_octets progress.end)) next progress (λ due. queuing more store failures (after_due due progress))) none
+      ∙ by-none (nat_le enough_free (free_octets progress.end)) (λ due. queuing more store failures (after_due due progress))
+
+  -- fewer octets are free
+  pub queuing-fewer : (count : ℕ) → free_octets progress.end < enough_free → queuing count store failures progress ≡ progress
+  queuing-fewer zero few = refl
+  queuing-fewer (suc more) few =
+      ap (λ (b : Bool). due_by b (due_at store progress.state failures progress.part) progress (λ due. queuing more store failures (after_due due progress))) (is-fewer progress.end few)
+
+  -- a packet is due, and is queued
+  pub queuing-one : (count : ℕ) (due : DuePacket) → enough_free ≤ free_octets progress.end → due_at store progress.state failures progress.part ≡ Some due
+      → queuing (suc count) store failures progress ≡ queuing count store failures (after_due due progress)
+  queuing-one count due enough is =
+      ap (λ (b : Bool). due_by b (due_at store progress.state failures progress.part) progress (λ d. queuing count store failures (after_due d progress))) (is-enough progress.end enough)
+      ∙ ap (λ (next : Option DuePacket). on_due next progress (λ d. queuing count store failures (after_due d progress))) is
+
+module _ {D : Type 0} (g : Ghosts D) (lasts : (disk : D) → g.lasts disk disk) (on : (first second third : D) → g.lasts first second → g.lasts second third → g.lasts first third) where
+  -- ---- no packet
+
+  pub does-none : (store : StoreState) (disk : D) → store.journal.failed ≡ false → StandsOn g store disk → DoesAmongReads g ⊥ 0 store store disk disk []
+  does-none store disk healthy stands = does-among g ⊥ store store disk disk [] (Does-none g ⊥ store disk (λ never. never) stands healthy (lasts disk))
+
+  module _ (store : StoreState) (disk disk_n : D) (old new : ConnectionState) (healthy : store.journal.failed ≡ false) (stands_on : StandsOn g store disk) (link : new.link ≡ old.link)
+      (state : state_in store new.session ≡ state_in store old.session) (untouched : disk_n ≡ disk) where
+    -- it stands as it stood
+    still : (w : Window) (progress : Progress) → StandsFor w old.link progress.end → state_in store old.session ≡ progress.state
+        → progress ≡ queuing (free_octets progress.end) (store_in store) (failed_reads []) progress → Queued g w store disk disk_n new progress
+    still w progress stands stood is = record {
+      parts = [];
+      behind = All-nil (λ part. progress.part ≤ part);
+      now = progress;
+      is_now = is;
+      link = subst (λ (k : Kept). StandsFor w k progress.end) (sym link) stands;
+      state = state ∙ stood;
+      missed = 0;
+      missed_is = sym (add-zero progress.missed);
+      reads = subst (λ (d : D). DoesAmongReads g ⊥ 0 store store disk d []) (sym untouched) (does-none store disk healthy stands_on);
+    }
+
+    pub queues-none : IsNothingDue store old.session ⊎ AreFree old.link (λ free. free < enough_free) → QueuesDue g store disk disk_n old new
+    queues-none (inl none) w progress stands stood =
+        still w progress stands stood
+        (sym (queuing-none (store_in store) (failed_reads []) progress (free_octets progress.end) (ap (λ (s : State). next_due (store_in store) s false) (sym stood) ∙ none false)))
+    queues-none (inr few) w progress stands stood =
+        still w progress stands stood (sym (queuing-fewer (store_in store) (failed_reads []) progress (free_octets progress.end) (few w progress.end stands)))
+
+  -- ---- one packet, and then the others
+
+  module _ (store : StoreState) (disk disk_m disk_n : D) (old mid new : ConnectionState) (one : QueuesPacket g store disk disk_m old mid) where
+    module _ (w : Window) (progress : Progress) (stands : StandsFor w old.link progress.end) (state : state_in store old.session ≡ progress.state) where
+      -- behind it
+      abbrev next : Progress
+      next = after_due one.due progress
+
+      module _ (more : Queued g w store disk_m disk_n new next) where
+        abbrev parts : List ℕ
+        parts = at_part one.fails progress.part ++ more.parts
+
+        here : All (λ part. part < suc progress.part) (at_part one.fails progress.part)
+        here = All-at (λ part. part < suc progress.part) one.fails progress.part (omega arith)
+
+        fails-here : read_fails (failed_reads parts) progress.part ≡ one.fails
+        fails-here =
+            reads-among [] parts progress.part none-writes
+            ∙ among-first (suc progress.part) progress.part (at_part one.fails progress.part) more.parts more.behind (omega arith) ∙ among-one one.fails progress.part
+
+        is-due : due_at (store_in store) progress.state (failed_reads parts) progress.part ≡ Some one.due
+        is-due = ap (λ (b : Bool). next_due (store_in store) progress.state b) fails-here ∙ ap (λ (s : State). next_due (store_in store) s one.fails) (sym state) ∙ one.is_due
+
+        now-is : more.now ≡ queuing (free_octets progress.end) (store_in store) (failed_reads parts) progress
+        now-is =
+            let free : ℕ = free_octets progress.end in
+            let enough : enough_free ≤ free = one.enough w progress.end stands in
+            let fewer : free_octets next.end < free = due-fewer progress one.due enough in
+            let alike : (part : ℕ) → next.part ≤ part → read_fails (failed_reads more.parts) part ≡ read_fails (failed_reads parts) part =
+            λ part later.
+            reads-among [] more.parts part none-writes ∙ sym (among-second next.part part (at_part one.fails progress.part) more.parts here later) ∙ sym (reads-among [] parts part none-writes) in
+            more.is_now ∙ queuing-alike (store_in store) (free_octets next.end) (failed_reads more.parts) (failed_reads parts) next alike
+            ∙ same-count (store_in store) (free_octets next.end) free (failed_reads parts) next (omega arith) (omega arith)
+            ∙ sym (queuing-one (store_in store) (failed_reads parts) progress free one.due enough is-due)
+            ∙ sym (same-count (store_in store) free (suc free) (failed_reads parts) progress (omega arith) (omega arith))
+
+        queued-one : Queued g w store disk disk_n new progress
+        queued-one = record {
+          parts = parts;
+          behind =
+              All-append (λ part. progress.part ≤ part) (at_part one.fails progress.part) more.parts (All-at (λ part. progress.part ≤ part) one.fails progress.part (omega arith))
+              (All-weaker (λ part. next.part ≤ part) (λ part. progress.part ≤ part) (λ part later. omega arith) more.parts more.behind);
+          now = more.now;
+          is_now = now-is;
+          link = more.link;
+          state = more.state;
+          missed = one_if (tells_failed_read one.due.packet) + more.missed;
+          missed_is = more.missed_is ∙ add_assoc progress.missed (one_if (tells_failed_read one.due.packet)) more.missed;
+          reads = among-then g on ⊥ ⊥ (one_if (tells_failed_read one.due.packet)) more.missed store store store disk disk_m disk_n [] [] (λ never. never) one.reads more.reads;
+        }
+
+    pub queues-then : QueuesDue g store disk_m disk_n mid new → QueuesDue g store disk disk_n old new
+    queues-then more w progress stands state =
+        queued-one w progress stands state (more w (after_due one.due progress) (one.queued w progress.end stands) one.state)
+
+  -- ---- what is left for the next event
+
+  pub keeps-then : (a b c : StoreState) (d e f : D) (old mid new : ConnectionState) → KeepsFit g a b d e old mid → KeepsFit g b c e f mid new → KeepsFit g a c d f old new
+  keeps-then a b c d e f old mid new first second = record {
+    same = second.same ∙ first.same;
+    puts = puts-among-then g on ⊥ ⊥ d e f (λ never. never) first.puts second.puts;
+    stands_on = subst (λ (s : StoreState). StandsOn g s f) first.same second.stands_on;
+    due = subst (λ (s : StoreState). IsDueIn (store_in s) new.session.downloads) first.same second.due;
+    uploads = second.uploads ∙ first.uploads;
+    octets = second.octets ∙ first.octets;
+    up = second.up;
+    stations = stations-then old.link mid.link new.link first.stations second.stations;
+    some = second.some;
+  }
+
+  -- ---- a frame
+
+  module _ (w : Window) (left : List ℕ) (event : List Failure → Progress) (store store_m store_n : StoreState) (lists_n : List CallerList) (disk disk_m disk_n : D) where
+    -- with what is due behind it
+    abbrev whole : List Failure → Progress
+    whole failures = queued (store_in store) failures (event failures)
+
+    -- the connection goes on
+    pub hears-going : (mid now : ConnectionState) → HearsParts g w left event store store_m lists_n disk disk_m mid (Stays, Ok tt) → store_n ≡ store_m → now.octets ≡ mid.octets
+        → QueuesDue g store_m disk_m disk_n mid now → Hears g w (λ failures. progressed left (whole failures)) store store_n lists_n disk disk_n now (Stays, Ok tt)
+    hears-going mid now heard same octets queues =
+        let h = heard.hears.by in
+        let settled = heard.settled refl in
+        let made : Progress = event ([] ++ failed_reads heard.hears.parts) in
+        let is = h.1.1.1 in
+        let q : Queued g w store_m disk_m disk_n now made = queues w made is.link is.state in
+        let all : List Failure = [] ++ failed_reads (heard.hears.parts ++ q.parts) in
+        let stores : after_all (store_in store) made.done ≡ store_in store_m = sym (h.2.done (λ never. never)).0 in
+        let alike : (part : ℕ) → made.part ≤ part → read_fails all part ≡ read_fails (failed_reads q.parts) part =
+        λ part later.
+        reads-among [] (heard.hears.parts ++ q.parts) part none-writes ∙ among-second made.part part heard.hears.parts q.parts settled.before later ∙ sym (reads-among [] q.parts part none-writes) in
+        let now_is : whole all ≡ q.now =
+        ap (queued (store_in store) all) (settled.later q.parts q.behind) ∙ queued-on (store_in store) all made h.1.1.0
+        ∙ ap (λ (s : Store). queuing (free_octets made.end) s all made) stores ∙ queuing-alike (store_in store_m) (free_octets made.end) all (failed_reads q.parts) made alike ∙ sym q.is_now in
+        let rest : KeepsRest made q.now =
+        subst (λ (p : Progress). KeepsRest made p) (sym q.is_now) (queuing-keeps (store_in store_m) (free_octets made.end) (failed_reads q.parts) made) in
+        let joined : DoesAmongReads g ⊥ (made.missed + q.missed) store store_m disk disk_n (made.done ++ []) =
+        among-then g on ⊥ ⊥ made.missed q.missed store store_m store_m disk disk_m disk_n made.done [] (λ never. never) h.2 q.reads in
+        let does : DoesAmongReads g ⊥ q.now.missed store store_n disk disk_n q.now.done =
+        subst (λ (s : StoreState). DoesAmongReads g ⊥ q.now.missed store s disk disk_n q.now.done) (sym same)
+        (among-at g ⊥ q.now.missed store store_m disk disk_n (made.done ++ []) q.now.done (append-nil made.done ∙ sym rest.done)
+        (among-same g ⊥ ⊥ (made.missed + q.missed) q.now.missed store store_m disk disk_n (made.done ++ []) (λ never. never) (λ never. never) (sym q.missed_is) joined)) in
+        let P : Progress → Type 0 = λ p. (p.halt ≡ goes_on) × IsAfter w store_n lists_n now (progressed left p) Stays × DoesAmongReads g ⊥ p.missed store store_n disk disk_n p.done in
+        let by : P (whole all) =
+        subst P (sym now_is) (
+          rest.halt ∙ h.0,
+          (
+            h.1.0 ∙ sym rest.lists,
+            (rest.over ∙ h.1.1.0, record { link = q.link; rest = octets ∙ is.rest; state = ap (λ (s : StoreState). state_in s now.session) same ∙ q.state }),
+          ),
+          does,
+        ) in
+        record { parts = heard.hears.parts ++ q.parts; by = by; since = by.2.since }
+
+    -- it stopped, and nothing is queued
+    module _ (now : ConnectionState) (over : (failures : List Failure) → (event failures).halt ≡ fails → (event failures).over ≡ true) (parts : List ℕ) where
+      stopped : (failures : List Failure) → (event failures).over ≡ true → whole failures ≡ event failures
+      stopped failures is = queued-over (store_in store) failures (event failures) is
+
+      by-stopped : (fate : Fate) (result : Result ⊤ ServerStop) → IsStop (fate, result)
+          → HearsBy g w (λ writes. progressed left (event (writes ++ failed_reads parts))) store store_n lists_n disk disk_n now fate result
+          → HearsBy g w (λ writes. progressed left (whole (writes ++ failed_reads parts))) store store_n lists_n disk disk_n now fate result
+      by-stopped Stays (Ok tt) stops h = absurd (stops refl)
+      by-stopped Ends (Ok tt) stops h =
+          let P : Progress → Type 0 = λ p. (p.halt ≡ goes_on) × IsAfter w store_n lists_n now (progressed left p) Ends × DoesAmongReads g ⊥ p.missed store store_n disk disk_n p.done in
+          subst P (sym (stopped ([] ++ failed_reads parts) h.1.1.0)) h
+      by-stopped fate (Err stop.Disk) stops h =
+          let failures : List Failure = failed_write h.0 ++ failed_reads parts in
+          let P : Progress → Type 0 = λ p. HearsBy g w (λ writes. progressed left p) store store_n lists_n disk disk_n now fate (Err stop.Disk) in
+          let at : P (whole failures) = subst P (sym (stopped failures (over failures h.1))) (h.0, h.1, h.2, h.3) in
+          (h.0, at.1, at.2, at.3)
+      by-stopped fate (Err stop.OutOfMemory) stops h =
+          let failures : List Failure = failed_write h.0 ++ failed_reads parts in
+          let P : Progress → Type 0 = λ p. HearsBy g w (λ writes. progressed left p) store store_n lists_n disk disk_n now fate (Err stop.OutOfMemory) in
+          let at : P (whole failures) = subst P (sym (stopped failures (over failures h.1))) (h.0, h.1, h.2, h.3) in
+          (h.0, at.1, at.2, at.3)
+
+    pub hears-stop : (now : ConnectionState) (told : Fate × Result ⊤ ServerStop) → IsStop told → HearsParts g w left event store store_n lists_n disk disk_n now told
+        → Hears g w (λ failures. progressed left (whole failures)) store store_n lists_n disk disk_n now told
+    hears-stop now told stops heard =
+        let failures : List Failure = [] ++ failed_reads heard.hears.parts in
+        record {
+          parts = heard.hears.parts;
+          by = by-stopped now heard.over heard.hears.parts told.0 told.1 stops heard.hears.by;
+          since =
+              subst (λ (commands : List Command). Leaves g disk disk_n (λ _. MakesFirst (store_in store) commands)) (sym (queued-keeps (store_in store) failures (event failures)).done) heard.hears.since;
+        }

@@ -1,0 +1,219 @@
+-- What packets leave for the next one, and how a connection takes octets, piece by piece.
+use Rattle.std.proofs.Common.{◌≡◌, ℕ, ◌+◌, List, [], ◌++◌, length, refl, ap, sym, ◌∙◌, subst, append_assoc}
+use Rattle.std.specs.Prelude.{false, None, Result, Ok, Err, ⊤}
+use Rattle.std.proofs.lemmas.List.Elements.{All-nil}
+use Rattle.px_base.specs.CallSign.{CallSign}
+use Rattle.disk_model.specs.declared.disk.Disk.{Ghosts}
+use Rattle.ax25_link.specs.declared.state.LinkState.TheVariants.{Up}
+use Rattle.ax25_link.specs.Kept.{Kept, SameStations, StandsFor}
+use Rattle.ftl0_packets.specs.Layout.{Item}
+use Rattle.ftl0_packets.specs.Reading.{packets_of, rest_of}
+use Rattle.ftl0_session.specs.Lists.Lists.{CallerList}
+use Rattle.file_entries.specs.Kept.{KeepsComplete}
+use Rattle.file_entries.specs.Records.{store_step}
+use Rattle.file_entries.specs.Store.{Store, empty_store, entry_of}
+use Rattle.file_journal.specs.Position.{Position}
+use Rattle.file_journal.specs.Walk.{KeepsState}
+use Rattle.file_journal.proofs.CallLemmas.{puts_none}
+use Rattle.file_store.specs.State.{StandsOn, StoreState, store_in}
+use Rattle.file_store.proofs.DoesLemmas.{Does-none}
+use Rattle.file_store.proofs.WorkingLemmas.{does-among, puts-among, puts-among-same, puts-among-then}
+use Rattle.ftl0_session.specs.Uploads.Others.{KeepsOtherCallers}
+use Rattle.ftl0_session.specs.Uploads.SessionState.{IsHeld, IsOnlyOut, NoOtherOut, SessionState as Uploading}
+use Rattle.ftl0_session.specs.Downloads.Needs.{AreComplete, IsDueIn}
+use Rattle.ftl0_session.specs.declared.stop.ServerStop.{ServerStop}
+use Rattle.ftl0_session.specs.declared.stop.ServerStop.TheVariants as stop
+use Rattle.ftl0_session.specs.SessionState.{MayTake as SessionMayTake, SessionState, IsFit, caller_of, new_session}
+use Rattle.ftl0_session.specs.SessionState.{state_in}
+use Rattle.ftl0_server.specs.declared.connection.fate.Fate.{Fate}
+use Rattle.ftl0_server.specs.declared.connection.fate.Fate.TheVariants.{Stays}
+use Rattle.ftl0_server.specs.Connection.ConnectionState.{ConnectionState, StandsForSome}
+use Rattle.ftl0_server.specs.Connection.Feeding.{Feeds, IsAmong, KeepsFit, LeavesFit, MayTake}
+use Rattle.ftl0_server.proofs.connection.HearsLemmas.{takes-then}
+use Rattle.ftl0_server.proofs.connection.StationLemmas.{stations-same, stations-then}
+
+-- ---- what is left for the next packet
+
+others-then : (a b c : StoreState) (caller : CallSign) → KeepsOtherCallers a b caller → KeepsOtherCallers b c caller → KeepsOtherCallers a c caller
+others-then a b c caller first second = record {
+  uploads = λ up ne holds. second.uploads up ne (first.uploads up ne holds);
+  entries = λ number e ne found.
+      let mid = second.entries number e ne found in
+      let was = first.entries number e ne mid.0 in
+      (was.0, mid.1 ∙ was.1);
+}
+
+pub others-same : (store : StoreState) (caller : CallSign) → KeepsOtherCallers store store caller
+others-same store caller = record { uploads = λ up ne holds. holds; entries = λ number e ne found. (found, refl) }
+
+complete-then : (a b c : Store) → KeepsComplete a b → KeepsComplete b c → KeepsComplete a c
+complete-then a b c first second number e found complete = second number e (first number e found complete) complete
+
+-- no stop
+abbrev pub fine : Result ⊤ ServerStop
+fine = Ok tt
+
+pub no-fault : fine ≡ Err stop.Disk → ⊥
+no-fault same = cc
+
+module _ {D : Type 0} (g : Ghosts D) where
+  -- a session that may take a packet leaves what the next one needs, where nothing was taken
+  pub fit-kept : (store : StoreState) (disk : D) (lists : List CallerList) (session : SessionState) → SessionMayTake g store disk lists session → IsFit g store disk lists session
+  fit-kept store disk lists session may = record { stands_on = may.stands_on; held = may.held; only = may.only; due = may.due; complete = may.complete }
+
+  -- and what is left lets it take one
+  pub may-kept : (store : StoreState) (disk : D) (lists : List CallerList) (session : SessionState) → store.journal.failed ≡ false → IsFit g store disk lists session → SessionMayTake g store disk lists session
+  may-kept store disk lists session healthy fit =
+      record { healthy = healthy; stands_on = fit.stands_on; held = fit.held; only = fit.only; due = fit.due; complete = fit.complete }
+
+  -- nothing was taken
+  pub fit-none : (store : StoreState) (disk : D) (lists : List CallerList) (link : Kept) (session : SessionState) → g.lasts disk disk → MayTake g store disk lists link session
+      → LeavesFit g store store lists disk disk link link session session (Stays, Ok tt)
+  fit-none store disk lists link session lasts may = record {
+    puts = puts-among g (fine ≡ Err stop.Disk) disk disk (puts_none g disk (fine ≡ Err stop.Disk) no-fault lasts);
+    kept = λ number e found complete. found;
+    others = others-same store (caller_of session);
+    healthy = λ fine. may.may.healthy;
+    fit = fit-kept store disk lists session may.may;
+    up = λ stays. may.up;
+    caller = refl;
+    stations = stations-same link;
+    some = may.some;
+  }
+
+  -- a frame without packets was heard
+  pub fit-heard : (store : StoreState) (disk : D) (lists : List CallerList) (link link_n : Kept) (session : SessionState) (fate : Fate) → g.lasts disk disk → SessionMayTake g store disk lists session
+      → (fate ≡ Stays → link_n.state ≡ Up) → SameStations link link_n → StandsForSome link_n → LeavesFit g store store lists disk disk link link_n session session (fate, Ok tt)
+  fit-heard store disk lists link link_n session fate lasts may up stations some = record {
+    puts = puts-among g (fine ≡ Err stop.Disk) disk disk (puts_none g disk (fine ≡ Err stop.Disk) no-fault lasts);
+    kept = λ number e found complete. found;
+    others = others-same store (caller_of session);
+    healthy = λ fine. may.healthy;
+    fit = fit-kept store disk lists session may;
+    up = up;
+    caller = refl;
+    stations = stations;
+    some = some;
+  }
+
+  -- a session began anew, over a store that has only given up the upload of the one before
+  pub fit-anew : (store store_n : StoreState) (disk : D) (lists : List CallerList) (link link_n : Kept) (session session_n : SessionState) → g.lasts disk disk → SessionMayTake g store disk lists session
+      → store_in store_n ≡ store_in store → store_n.journal ≡ store.journal → session_n ≡ new_session (caller_of session) → NoOtherOut store_n (caller_of session) None
+      → KeepsOtherCallers store store_n (caller_of session) → link_n.state ≡ Up → SameStations link link_n → StandsForSome link_n
+      → LeavesFit g store store_n lists disk disk link link_n session session_n (Stays, Ok tt)
+  fit-anew store store_n disk lists link link_n session session_n lasts may same journal anew only others up stations some =
+      let P : SessionState → Type 0 = λ s. LeavesFit g store store_n lists disk disk link link_n session s (Stays, Ok tt) in
+      subst P (sym anew) (record {
+        puts = puts-among g (fine ≡ Err stop.Disk) disk disk (puts_none g disk (fine ≡ Err stop.Disk) no-fault lasts);
+        kept = λ number e found complete. ap (λ (s : Store). entry_of s number) same ∙ found;
+        others = others;
+        healthy = λ fine. ap (λ (p : Position). p.failed) journal ∙ may.healthy;
+        fit = record {
+          stands_on = subst (λ (p : Position). KeepsState empty_store store_step g p (store_in store_n) disk) (sym journal)
+              (subst (λ (s : Store). KeepsState empty_store store_step g store.journal s disk) (sym same) may.stands_on);
+          held = tt;
+          only = only;
+          due = tt;
+          complete = subst (λ (s : Store). AreComplete s lists) (sym same) may.complete;
+        };
+        up = λ stays. up;
+        caller = refl;
+        stations = stations;
+        some = some;
+      })
+
+  -- nothing was queued
+  pub keeps-none : (store : StoreState) (disk : D) (now : ConnectionState) → g.lasts disk disk → StandsOn g store disk → IsDueIn (store_in store) now.session.downloads → now.link.state ≡ Up
+      → StandsForSome now.link → KeepsFit g store store disk disk now now
+  keeps-none store disk now lasts stands_on due up some = record {
+    same = refl;
+    puts = puts-among g ⊥ disk disk (puts_none g disk ⊥ (λ never. never) lasts);
+    stands_on = stands_on;
+    due = due;
+    uploads = refl;
+    octets = refl;
+    up = up;
+    stations = stations-same now.link;
+    some = some;
+  }
+
+  -- what the next packet needs
+  pub may-next : (store store_n : StoreState) (disk disk_n : D) (lists_n : List CallerList) (link link_n : Kept) (session session_n : SessionState)
+      → LeavesFit g store store_n lists_n disk disk_n link link_n session session_n (Stays, Ok tt) → MayTake g store_n disk_n lists_n link_n session_n
+  may-next store store_n disk disk_n lists_n link link_n session session_n fit =
+      record { up = fit.up refl; some = fit.some; may = may-kept store_n disk_n lists_n session_n (fit.healthy no-fault) fit.fit }
+
+  module _ (on : (first second third : D) → g.lasts first second → g.lasts second third → g.lasts first third) where
+    -- one part, and then another
+    pub fit-then : (a b c : StoreState) (d e f : D) (lists_m lists_n : List CallerList) (link link_m link_n : Kept) (session session_m session_n : SessionState) (told : Fate × Result ⊤ ServerStop)
+        → LeavesFit g a b lists_m d e link link_m session session_m (Stays, Ok tt) → LeavesFit g b c lists_n e f link_m link_n session_m session_n told
+        → LeavesFit g a c lists_n d f link link_n session session_n told
+    fit-then a b c d e f lists_m lists_n link link_m link_n session session_m session_n told first second = record {
+      puts = puts-among-then g on (fine ≡ Err stop.Disk) (told.1 ≡ Err stop.Disk) d e f no-fault first.puts second.puts;
+      kept = complete-then (store_in a) (store_in b) (store_in c) first.kept second.kept;
+      others = others-then a b c (caller_of session) first.others (subst (λ (call : CallSign). KeepsOtherCallers b c call) first.caller second.others);
+      healthy = second.healthy;
+      fit = second.fit;
+      up = second.up;
+      caller = second.caller ∙ first.caller;
+      stations = stations-then link link_m link_n first.stations second.stations;
+      some = second.some;
+    }
+
+    -- packets, and then what is due behind them
+    pub fit-queued : (a b c : StoreState) (d e f : D) (lists_n : List CallerList) (link : Kept) (session : SessionState) (mid now : ConnectionState)
+        → LeavesFit g a b lists_n d e link mid.link session mid.session (Stays, Ok tt) → KeepsFit g b c e f mid now → LeavesFit g a c lists_n d f link now.link session now.session (Stays, Ok tt)
+    fit-queued a b c d e f lists_n link session mid now first second =
+        let P : StoreState → Type 0 = λ s. LeavesFit g a s lists_n d f link now.link session now.session (Stays, Ok tt) in
+        subst P (sym second.same) (record {
+          puts = puts-among-same g ⊥ (fine ≡ Err stop.Disk) d f (λ never. absurd never) no-fault
+              (puts-among-then g on ⊥ ⊥ d e f (λ never. never) (puts-among-same g (fine ≡ Err stop.Disk) ⊥ d e no-fault (λ never. absurd never) first.puts) second.puts);
+          kept = first.kept;
+          others = first.others;
+          healthy = first.healthy;
+          fit = record {
+            stands_on = second.stands_on;
+            held = subst (λ (u : Uploading). IsHeld b u) (sym second.uploads) first.fit.held;
+            only = subst (λ (u : Uploading). IsOnlyOut b u) (sym second.uploads) first.fit.only;
+            due = second.due;
+            complete = first.fit.complete;
+          };
+          up = λ stays. second.up;
+          caller = ap (λ (u : Uploading). u.caller) second.uploads ∙ first.caller;
+          stations = stations-then link mid.link now.link first.stations second.stations;
+          some = second.some;
+        })
+
+    -- ---- octets
+
+    -- no packet is whole yet
+    pub feeds-none : (moment : ℕ) (a b : ConnectionState) (store : StoreState) (lists : List CallerList) (disk : D) → g.lasts disk disk → store.journal.failed ≡ false → StandsOn g store disk
+        → packets_of a.octets ≡ packets_of b.octets → rest_of a.octets ≡ rest_of b.octets → b.link ≡ a.link → b.session ≡ a.session
+        → Feeds g moment a b store store lists lists disk disk (Stays, Ok tt)
+    feeds-none moment a b store lists disk lasts healthy stands_on packets rest link session = record {
+      items = [];
+      packets = packets;
+      rest = rest;
+      takes = λ w end first stands. record {
+        parts = [];
+        among = All-nil (IsAmong first 0);
+        by = (
+          refl,
+          (refl, (refl, record { link = subst (λ (k : Kept). StandsFor w k end) (sym link) stands; rest = refl; state = ap (state_in store) session })),
+          does-among g ⊥ store store disk disk [] (Does-none g ⊥ store disk (λ never. never) stands_on healthy lasts),
+        );
+      };
+    }
+
+    -- some packets, and then others
+    pub feeds-then : (moment : ℕ) (a b c : ConnectionState) (store store_m store_n : StoreState) (lists lists_m lists_n : List CallerList) (disk disk_m disk_n : D) (told : Fate × Result ⊤ ServerStop)
+        → caller_of b.session ≡ caller_of a.session → Feeds g moment a b store store_m lists lists_m disk disk_m (Stays, Ok tt) → Feeds g moment b c store_m store_n lists_m lists_n disk_m disk_n told
+        → Feeds g moment a c store store_n lists lists_n disk disk_n told
+    feeds-then moment a b c store store_m store_n lists lists_m lists_n disk disk_m disk_n told callers first second = record {
+      items = first.items ++ second.items;
+      packets = first.packets ∙ ap (λ (items : List Item). first.items ++ items) second.packets ∙ sym (append_assoc first.items second.items (packets_of c.octets));
+      rest = first.rest ∙ second.rest;
+      takes = λ w end from stands.
+          takes-then g on w moment a.session b.session c.session store store_m store_n lists lists_m lists_n disk disk_m disk_n b.link c.link end first.items second.items from callers
+          (first.takes w end from stands) told (λ next there. second.takes w next (from + length first.items) there);
+    }

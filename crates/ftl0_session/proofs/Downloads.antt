@@ -1,9 +1,0 @@
-pub mod ChosenLemmas
-pub mod DueLemmas
-pub mod FileLemmas
-pub mod ListLemmas
-pub mod ReadsLemmas
-pub mod ReplyLemmas
-pub mod SelectLemmas
-pub mod SentLemmas
-pub mod TakeLemmas

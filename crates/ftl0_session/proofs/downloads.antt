@@ -1,0 +1,9 @@
+mod ChosenLemmas
+pub mod DueLemmas
+pub mod FileLemmas
+mod ListLemmas
+mod ReadsLemmas
+pub mod ReplyLemmas
+mod SelectLemmas
+pub mod SentLemmas
+mod TakeLemmas

@@ -1,0 +1,5 @@
+mod CallerLists
+mod LawLemmas
+mod OnePasses
+mod Selecting
+mod Taking

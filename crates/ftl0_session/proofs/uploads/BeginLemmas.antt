@@ -1,0 +1,149 @@
+-- A new file: what it leaves of other files, and the answer to a refusal.
+use Rattle.std.proofs.Common.{◌≡◌, ◌⊎◌, ℕ, ◌<◌, List, [], ◌∷◌, refl, ap, sym, ◌∙◌, subst, arith, inl, inr, None, Some}
+use Rattle.std.proofs.Common.{true≢false}
+use Rattle.std.specs.Prelude.{⊤, IsTrue, Result, Ok, Err, IsErr}
+use Rattle.px_base.specs.CallSign.{CallSign}
+use Rattle.disk_model.specs.declared.disk.Disk.{Ghosts}
+use Rattle.ftl0_packets.specs.Layout.{Item, ul_error_resp, upload_cmd}
+use Rattle.file_entries.specs.Command.{after_all, begin}
+use Rattle.file_entries.specs.Files.{KeepsRests}
+use Rattle.file_entries.specs.IsStore.{IsStore}
+use Rattle.file_entries.specs.Kept.{KeepsComplete}
+use Rattle.file_entries.specs.Store.{Entry, Store, entry_of, new_entry}
+use Rattle.file_store.specs.Answers.{RefusesBegin, begin_reaches}
+use Rattle.file_store.specs.Kept.{KeepsUploads}
+use Rattle.file_store.specs.OnDisk.{Does, after_first}
+use Rattle.file_store.specs.State.{StoreState, store_in}
+use Rattle.file_store.specs.Upload.{Upload}
+use Rattle.file_store.specs.declared.refusals.BeginRefusal.{BeginRefusal}
+use Rattle.file_store.specs.declared.refusals.BeginRefusal.TheVariants as refusal
+use Rattle.ftl0_session.specs.declared.uploads.phase.Phase.TheVariants as phase
+use Rattle.ftl0_session.specs.declared.uploads.stop.ServerStop.{ServerStop}
+use Rattle.ftl0_session.specs.declared.uploads.stop.ServerStop.TheVariants as stop
+use Rattle.ftl0_session.specs.Uploads.Others.{KeepsOtherCallers}
+use Rattle.ftl0_packets.specs.Items.{texts}
+use Rattle.ftl0_session.specs.Uploads.Session.{command, granted_row, refused_row, session_row}
+use Rattle.ftl0_session.specs.Uploads.SessionState.{IsReady, NoOtherOut}
+use Rattle.ftl0_session.specs.Uploads.Taking.{Answered, AnswersRefusal}
+use Rattle.ftl0_session.proofs.uploads.DoesLemmas.{answered-alone, does-row, some-at_front, touched}
+use Rattle.ftl0_session.proofs.uploads.DoesLemmas.{untouched as as-it-was}
+use Rattle.ftl0_session.proofs.uploads.OtherLemmas.{never_some}
+use Rattle.ftl0_session.proofs.uploads.Rows.{alone-row, others-same}
+use Rattle.ftl0_session.proofs.uploads.UploadRows.{bars-cannot, begin-can, below-next, may-can, push-back, row-barred}
+use Rattle.ftl0_session.proofs.uploads.UploadRows.{row-granted}
+use Rattle.file_entries.specs.declared.entries.BeginBar.TheVariants as bar
+
+module _ (caller : CallSign) (moment len : ℕ) (before now : StoreState) (is : IsStore (store_in before)) (rests : KeepsRests before.files now.files (store_in before).next) where
+  -- the store after the file was begun
+  module _ (made : store_in now ≡ after_all (store_in before) (begin (store_in before).next caller len moment ∷ [])) where
+    back : (number : ℕ) (e : Entry) → entry_of (store_in now) number ≡ Some e
+        → (entry_of (store_in before) number ≡ Some e) ⊎ ((number ≡ (store_in before).next) × (e ≡ new_entry (store_in before).next caller len moment))
+    back number e found =
+        push-back (store_in before).entries (new_entry (store_in before).next caller len moment) number e (ap (λ (s : Store). entry_of s number) (sym made) ∙ found)
+
+    pub begun-others : KeepsUploads before now → KeepsOtherCallers before now caller
+    begun-others uploads = record {
+      uploads = λ up ne holds. uploads up holds;
+      entries = λ number e ne found.
+          elim (back number e found) [
+            | inl here ↦ (here, rests number (below-next (store_in before) number e is here))
+            | inr new ↦ absurd (ne (ap (λ (x : Entry). x.caller) new.1))
+          ];
+    }
+
+    pub begun-only : NoOtherOut before caller None → NoOtherOut now caller (Some (store_in before).next)
+    begun-only only number e found theirs other =
+        elim (back number e found) [
+          | inl here ↦ rests number (below-next (store_in before) number e is here) ∙ only number e here theirs (never_some number)
+          | inr new ↦ absurd (other (ap Some (sym new.0)))
+        ]
+
+  -- the store as it was
+  module _ (same : store_in now ≡ store_in before) where
+    here : (number : ℕ) (e : Entry) → entry_of (store_in now) number ≡ Some e → entry_of (store_in before) number ≡ Some e
+    here number e found = ap (λ (s : Store). entry_of s number) (sym same) ∙ found
+
+    pub unbegun-others : KeepsUploads before now → KeepsOtherCallers before now caller
+    unbegun-others uploads = record {
+      uploads = λ up ne holds. uploads up holds;
+      entries = λ number e ne found. (here number e found, rests number (below-next (store_in before) number e is (here number e found)));
+    }
+
+    pub unbegun-only : NoOtherOut before caller None → NoOtherOut now caller None
+    unbegun-only only number e found theirs other =
+        rests number (below-next (store_in before) number e is (here number e found)) ∙ only number e (here number e found) theirs other
+
+-- ---- a refusal
+
+abbrev refusing : BeginRefusal → Result Upload BeginRefusal
+refusing r = Err r
+
+module _ {D : Type 0} (g : Ghosts D) (caller : CallSign) (moment len : ℕ) (before now : StoreState) (disk disk_now : D) (is : IsStore (store_in before))
+    (ready : IsReady g before disk caller phase.Command) (lasts : g.lasts disk disk) where
+  abbrev Item-asked : Item
+  Item-asked = Ok (upload_cmd 0 len)
+
+  abbrev Gives-it : StoreState → D → List ℕ → Result ⊤ ServerStop → Type 0
+  Gives-it now disk_now replies result = Answered g caller moment command (Ok (upload_cmd 0 len)) before now disk disk_now replies (phase.Command, result)
+
+  -- nothing was touched
+  untouched : (replies : List ℕ) (result : Result ⊤ ServerStop) → (now ≡ before) × (disk_now ≡ disk) → Gives-it before disk replies result → Gives-it now disk_now replies result
+  untouched replies result same given =
+      subst (λ (s : StoreState). Gives-it s disk_now replies result) (sym same.0) (subst (λ (d : D). Gives-it before d replies result) (sym same.1) given)
+
+  barred : (replies : List ℕ) (result : Result ⊤ ServerStop) → (now ≡ before) × (disk_now ≡ disk)
+      → session_row caller moment (store_in before) command (Ok (upload_cmd 0 len)) ≡ Some (refused_row command 13) → (result ≡ Ok tt) × (replies ≡ texts (ul_error_resp 13 ∷ [])) → Gives-it now disk_now replies result
+  barred replies result same row answer =
+      subst (λ (r : Result ⊤ ServerStop). Gives-it now disk_now replies r) (sym answer.0)
+      (untouched replies (Ok tt) same
+      (answered-alone g caller moment command (Ok (upload_cmd 0 len)) before before disk replies (phase.Command, Ok tt) ready.healthy ready.stands_on lasts
+      (alone-row caller moment command (Ok (upload_cmd 0 len)) before phase.Command (refused_row command 13) replies row refl
+      (refused_row command 13, row, ((tt, refl), refl, answer.1)) tt ready.only)))
+
+  not_reached : {P : Type 0} → IsTrue (begin_reaches (refusing refusal.OutOfMemory)) ⊎ P → P
+  not_reached (inl never) = absurd (true≢false (sym never))
+  not_reached (inr p) = p
+
+  pub begin-refused : (r : BeginRefusal) (replies : List ℕ) (result : Result ⊤ ServerStop) → RefusesBegin before len r
+      → IsTrue (begin_reaches (refusing r)) ⊎ ((now ≡ before) × (disk_now ≡ disk))
+      → (IsTrue (begin_reaches (refusing r)) → Does g (IsErr (refusing r)) before now disk disk_now (begin (store_in before).next caller len moment ∷ []))
+      → KeepsUploads before now → KeepsRests before.files now.files (store_in before).next → KeepsComplete (store_in before) (store_in now)
+      → AnswersRefusal r replies result → Gives-it now disk_now replies result
+  begin-refused refusal.TooLong replies result refused same does uploads rests kept answer =
+      barred replies result (not_reached same) (row-barred caller moment (store_in before) len (bars-cannot (store_in before) len bar.TooLong refused)) answer
+  begin-refused refusal.TooMany replies result refused same does uploads rests kept answer =
+      barred replies result (not_reached same) (row-barred caller moment (store_in before) len (bars-cannot (store_in before) len bar.TooMany refused)) answer
+  begin-refused refusal.NumbersGone replies result refused same does uploads rests kept answer =
+      barred replies result (not_reached same) (row-barred caller moment (store_in before) len (bars-cannot (store_in before) len bar.NumbersGone refused)) answer
+  begin-refused (refusal.NoRoom blocks free) replies result refused same does uploads rests kept answer =
+      barred replies result (not_reached same) (row-barred caller moment (store_in before) len (bars-cannot (store_in before) len (bar.NoRoom blocks free) refused)) answer
+  begin-refused refusal.Failed replies result refused same does uploads rests kept answer = absurd answer
+  begin-refused refusal.OutOfMemory replies result refused same does uploads rests kept answer =
+      let row = row-granted caller moment (store_in before) len (may-can (store_in before) len is refused.0) in
+      subst (λ (r : Result ⊤ ServerStop). Gives-it now disk_now replies r) (sym answer.0)
+      (untouched replies (Err stop.OutOfMemory) (not_reached same)
+      (record {
+        answers = (granted_row caller moment (store_in before).next len, row, refl, (refl, refl, answer.1));
+        on_disk = refl;
+        untouched = as-it-was disk disk _ (granted_row caller moment (store_in before).next len) row (λ none. refl);
+        held = tt;
+        only = ready.only;
+        others = others-same before caller;
+        kept = λ number entry found whole. found;
+      }))
+  begin-refused refusal.Disk replies result refused same does uploads rests kept answer =
+      let done = does refl in
+      let cut = done.cut refl in
+      let none : cut.count ≡ 0 = let few : cut.count < 1 = cut.fewer in omega arith in
+      let row = row-granted caller moment (store_in before) len (begin-can _ _ done.allowed.0) in
+      let still : store_in now ≡ store_in before = cut.store ∙ ap (λ (count : ℕ). after_first count (store_in before) (begin (store_in before).next caller len moment ∷ [])) none in
+      subst (λ (r : Result ⊤ ServerStop). Gives-it now disk_now replies r) (sym answer.0)
+      (record {
+        answers = (granted_row caller moment (store_in before).next len, row, refl, answer.1);
+        on_disk = does-row g caller moment command (Ok (upload_cmd 0 len)) before now disk disk_now _ ⊤ (granted_row caller moment (store_in before).next len) row (λ failed. tt) (λ failed. refl) done;
+        untouched = touched disk disk_now _ (granted_row caller moment (store_in before).next len) row (some-at_front (begin (store_in before).next caller len moment) []);
+        held = tt;
+        only = unbegun-only caller moment len before now is rests still ready.only;
+        others = unbegun-others caller moment len before now is rests still uploads;
+        kept = kept;
+      })

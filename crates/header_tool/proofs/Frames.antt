@@ -1,3 +1,0 @@
-pub mod EachText
-pub mod Lines
-pub mod Showing

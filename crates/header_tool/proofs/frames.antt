@@ -1,0 +1,3 @@
+mod EachText
+mod Lines
+mod Showing
