@@ -1,1 +1,3 @@
+mod Held
+pub mod Reached
 mod Wholes

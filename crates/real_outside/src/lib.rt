@@ -3,6 +3,7 @@
 #![tactic(auto)]
 
 mod call_record;
+mod descriptors;
 mod folder_shelf;
 mod memory_time;
 mod std_air;
@@ -11,6 +12,7 @@ mod system_error;
 mod time_source;
 
 pub use call_record::CallRecord;
+pub use descriptors::{MemoryNull, NullDevice, NullFile, StandardStreams, hold_standard_streams};
 pub use folder_shelf::FolderShelf;
 pub use memory_time::MemoryTime;
 pub use std_air::{StdAir, StdOut};
