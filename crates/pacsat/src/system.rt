@@ -6,8 +6,11 @@ ghost use Rattle.std.specs.declared.io.ErrorKind.TheVariants as reason;
 use disk_devices::FileDisk;
 use pacsat_cli::{Host, NotHeld, Status, Words, WordsRefusal, end_with, run};
 use px_base::{Air, Out};
-use real_outside::{FolderShelf, StdAir, StdOut, SystemClock};
+use real_outside::{
+    FolderShelf, NullFile, StandardStreams, StdAir, StdOut, SystemClock, hold_standard_streams,
+};
 use std::env;
+use std::fs::File;
 use std::io::ErrorKind;
 use tcp_air::TcpAir;
 
@@ -15,12 +18,13 @@ use tcp_air::TcpAir;
 #[derive(Drop)]
 pub struct System<'a> {
     rt: &'a HostRuntime,
+    streams: Option<StandardStreams<File>>,
 }
 
 impl<'a> System<'a> {
     /// This system.
     pub fn new(rt: &'a HostRuntime) -> System<'a> {
-        System { rt }
+        System { rt, streams: None }
     }
 }
 
@@ -28,6 +32,8 @@ impl<'a> Host for System<'a> {
     ghost calls = { λ _. None };
 
     fn hold_streams(&mut self) -> Result<(), NotHeld> {
+        let held = hold_standard_streams(&mut NullFile::new(self.rt)).map_err(|_| NotHeld)?;
+        self.streams = Some(held);
         Ok(())
     }
 
