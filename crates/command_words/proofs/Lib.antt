@@ -14,3 +14,4 @@ pub mod Readings
 pub mod Rules
 pub mod Uses
 pub mod WordKinds
+mod Copies
