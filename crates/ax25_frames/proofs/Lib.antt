@@ -1,9 +1,9 @@
-pub mod ControlCases
-pub mod CharacterLemmas
-pub mod EntryLemmas
-pub mod FaultLaw
-pub mod FaultLemmas
-pub mod FrameCases
-pub mod FrameLemmas
-pub mod KindLemmas
-pub mod ReadLemmas
+mod ControlCases
+mod CharacterLemmas
+mod EntryLemmas
+mod FaultLaw
+mod FaultLemmas
+mod FrameCases
+mod FrameLemmas
+mod KindLemmas
+mod ReadLemmas

@@ -1,19 +1,19 @@
-pub mod AirLemmas
-pub mod BoundLemmas
-pub mod DeliveryLemmas
-pub mod DrainsLemmas
+mod AirLemmas
+mod BoundLemmas
+mod DeliveryLemmas
+mod DrainsLemmas
 pub mod EndKept
 pub mod EndLemmas
-pub mod FrameLemmas
-pub mod HeardLemmas
-pub mod LawLemmas
-pub mod LinkedLemmas
-pub mod MeaningLemmas
-pub mod Modulus
-pub mod NoCallLemmas
-pub mod OneMeaning
+mod FrameLemmas
+mod HeardLemmas
+mod LawLemmas
+mod LinkedLemmas
+mod MeaningLemmas
+mod Modulus
+mod NoCallLemmas
+mod OneMeaning
 pub mod Places
-pub mod QueueLemmas
-pub mod RunLemmas
+mod QueueLemmas
+mod RunLemmas
 pub mod SendLemmas
-pub mod StandLemmas
+mod StandLemmas

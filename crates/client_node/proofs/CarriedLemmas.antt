@@ -13,9 +13,9 @@ use Rattle.client_notes.specs.Command.{NotesCommand}
 use Rattle.client_notes.specs.Several.{DoesSeveral}
 use Rattle.client_notes.specs.State.{NotesState, StandsOn}
 use Rattle.node_events.specs.Events.{NodeEvent, NodeEvents}
-use Rattle.ftl0_job.specs.declared.ending.Ending.{Ending}
-use Rattle.ftl0_job.specs.JobState.{IsNew}
-use Rattle.ftl0_job.specs.Table.{JobState}
+use Rattle.ftl0_client.specs.Ending.{Ending}
+use Rattle.ftl0_client.specs.JobState.{IsNew}
+use Rattle.ftl0_client.specs.Table.{JobState}
 use Rattle.ftl0_client.specs.Attempt.Attempted as attempted
 use Rattle.ftl0_client.specs.Calls.{HasAsked, SameButFrames}
 use Rattle.ftl0_client.specs.Client.{Client, ClientEvent, asking, asks}

@@ -12,10 +12,10 @@ use Rattle.ax25_link.specs.Rows.{after_frame, heard_of}
 use Rattle.ax25_link.specs.Window.{Window}
 use Rattle.client_notes.specs.Notes.{Lists, is_same_call}
 use Rattle.client_notes.specs.State.{NotesState}
-use Rattle.ftl0_packets.specs.Layout.{Item}
-use Rattle.ftl0_job.specs.declared.ending.Ending.{Ending}
-use Rattle.ftl0_job.specs.declared.stop.JobStop.{JobStop}
-use Rattle.ftl0_job.specs.Table.{JobState}
+use Rattle.ftl0_client.specs.Layout.{Item}
+use Rattle.ftl0_client.specs.Ending.{Ending}
+use Rattle.ftl0_client.specs.JobStop.{JobStop}
+use Rattle.ftl0_client.specs.Table.{JobState}
 use Rattle.ftl0_client.specs.Attempt.Attempted as attempted
 use Rattle.ftl0_client.specs.Attempt.Attempted.{Attempted}
 use Rattle.ftl0_client.specs.Attempt.AttemptState.{AttemptState, IsAttempt, StopsAmong}

@@ -9,8 +9,8 @@ use Rattle.client_notes.specs.Command.{NotesCommand}
 use Rattle.client_notes.specs.Notes.{Lists}
 use Rattle.node_events.specs.Events as node
 use Rattle.node_events.specs.Events.{NodeEvent}
-use Rattle.ftl0_job.specs.JobState.{IsNew, NotesGoWith}
-use Rattle.ftl0_job.specs.Table.{JobState, listing_of}
+use Rattle.ftl0_client.specs.JobState.{IsNew, NotesGoWith}
+use Rattle.ftl0_client.specs.Table.{JobState, listing_of}
 use Rattle.ftl0_client.specs.Attempt.Attempted.{Attempted}
 use Rattle.ftl0_client.specs.Client.{Client, ClientEvent, asks}
 use Rattle.ftl0_client.specs.ClientState.{ClientState, IsClient, listing_in, outcome_in}

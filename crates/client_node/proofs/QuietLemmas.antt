@@ -16,8 +16,8 @@ use Rattle.ax25_link.specs.Timer.{is_down, is_up}
 use Rattle.ax25_link.specs.Window.{Window}
 use Rattle.client_notes.specs.Notes.{Lists}
 use Rattle.client_notes.specs.State.{NotesState, StandsOn}
-use Rattle.ftl0_job.specs.JobState.{NotesGoWith}
-use Rattle.ftl0_job.specs.Table.{JobState, listing_of}
+use Rattle.ftl0_client.specs.JobState.{NotesGoWith}
+use Rattle.ftl0_client.specs.Table.{JobState, listing_of}
 use Rattle.ftl0_client.specs.Attempt.Attempted as attempted
 use Rattle.ftl0_client.specs.Attempt.Attempted.{Attempted}
 use Rattle.ftl0_client.specs.Attempt.AttemptState.{AttemptState}

@@ -17,12 +17,12 @@ use Rattle.client_notes.specs.Notes.{Lists}
 use Rattle.client_notes.specs.Several.{DoesSeveral}
 use Rattle.client_notes.specs.State.{NotesState, StandsOn}
 use Rattle.client_notes.proofs.SeveralLemmas.{Several-none, Several-same, Several-then}
-use Rattle.ftl0_packets.specs.Layout.{Item}
+use Rattle.ftl0_client.specs.Layout.{Item}
 use Rattle.node_events.specs.Events as node
 use Rattle.node_events.specs.Events.{NodeEvent, tick_since}
-use Rattle.ftl0_job.specs.declared.stop.JobStop.{JobStop}
-use Rattle.ftl0_job.specs.declared.stop.JobStop.TheVariants as job_stop
-use Rattle.ftl0_job.specs.Table.{job_row}
+use Rattle.ftl0_client.specs.JobStop.{JobStop}
+use Rattle.ftl0_client.specs.JobStop.TheVariants as job_stop
+use Rattle.ftl0_client.specs.Table.{job_row}
 use Rattle.ftl0_client.specs.Attempt.Attempted.{Attempted}
 use Rattle.ftl0_client.specs.Attempt.AttemptState.{AttemptState, StopsAmong}
 use Rattle.ftl0_client.specs.Attempt.Hearing.{after_hearing, packets_heard}

@@ -14,7 +14,7 @@ use Rattle.px_base.proofs.Told.{Gains-trans, Grows-none, Grows-trans}
 use Rattle.disk_model.specs.declared.disk.Disk.{Ghosts}
 use Rattle.ax25_frames.specs.FrameText.{FrameValue}
 use Rattle.client_notes.specs.Command.{NotesCommand}
-use Rattle.ftl0_packets.proofs.OctetLemmas.{IsOctets-append}
+use Rattle.ftl0_client.proofs.OctetLemmas.{IsOctets-append}
 use Rattle.node_events.specs.Events.{Finishes, NodeEvent, NodeEvents}
 use Rattle.node_events.specs.Laws.{OneRunLaw}
 use Rattle.node_events.specs.Reading.{HasHeard}

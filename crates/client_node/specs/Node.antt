@@ -15,8 +15,8 @@ use Rattle.client_notes.specs.Several.{DoesSeveral}
 use Rattle.node_events.specs.Events.{Finishes, NodeEvent, NodeEvents, heard_at, tick_of}
 use Rattle.node_events.specs.Reading.{HasHeard}
 use Rattle.node_events.specs.Station.{StationValue}
-use Rattle.ftl0_job.specs.declared.stop.JobStop.{JobStop}
-use Rattle.ftl0_job.specs.declared.stop.JobStop.TheVariants as job_stop
+use Rattle.ftl0_client.specs.JobStop.{JobStop}
+use Rattle.ftl0_client.specs.JobStop.TheVariants as job_stop
 use Rattle.ftl0_client.specs.Client.{Client, ClientEvent, IsSilent}
 use Rattle.ftl0_client.specs.ClientState.{ClientState, IsClient, MayHear, client_pending}
 use Rattle.ftl0_client.specs.ClientStep.{Empties}

@@ -9,7 +9,7 @@ ghost use Rattle.kiss.specs.KissText.{kiss_text};
 ghost use Rattle.client_notes.specs.State.{StandsOn};
 ghost use Rattle.node_events.specs.Events.{IsFor, hears, tick_since};
 ghost use Rattle.node_events.specs.Reading.{HasHeard};
-ghost use Rattle.ftl0_job.specs.JobState.{IsNew, NotesGoWith};
+ghost use Rattle.ftl0_client.specs.JobState.{IsNew, NotesGoWith};
 ghost use Rattle.ftl0_client.specs.Calls.{SameButFrames, SameClient};
 ghost use Rattle.ftl0_client.specs.Client.{Client as ClientValue};
 ghost use Rattle.ftl0_client.specs.ClientState.{IsClient, IsFree, IsOwn, listing_in};

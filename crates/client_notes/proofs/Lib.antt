@@ -1,9 +1,12 @@
 pub mod GotLemmas
-pub mod ListLemmas
-pub mod NotesLemmas
+mod ListLemmas
+mod NotesLemmas
 pub mod PutLemmas
-pub mod RecordLemmas
-pub mod RecoveryLemmas
+mod RecordLemmas
+mod RecoveryLemmas
 pub mod SeveralLemmas
-pub mod StandingLemmas
+mod StandingLemmas
 pub mod TaskLemmas
+pub use Rattle.file_journal.proofs.CallLemmas
+pub use Rattle.file_journal.proofs.MomentLemmas
+pub use Rattle.file_journal.proofs.ToldLemmas

@@ -10,3 +10,7 @@ pub mod Recovery
 pub mod Refusals
 pub mod Several
 pub mod State
+pub use Rattle.file_journal.specs.Calls
+pub use Rattle.file_journal.specs.Journal
+pub use Rattle.file_journal.specs.Recovery as JournalRecovery
+pub use Rattle.file_journal.specs.Walk

@@ -1,17 +1,17 @@
-pub mod Bytes
-pub mod ClapLine
-pub mod ClapSteps
-pub mod ClapWalk
-pub mod ClientTexts
-pub mod Decided
-pub mod Digits
-pub mod HostPorts
-pub mod LineLemmas
-pub mod Machine
-pub mod Meanings
-pub mod OneMeaning
-pub mod Readings
-pub mod Rules
-pub mod Uses
-pub mod WordKinds
+mod Bytes
+mod ClapLine
+mod ClapSteps
+mod ClapWalk
+mod ClientTexts
+mod Decided
+mod Digits
+mod HostPorts
+mod LineLemmas
+mod Machine
+mod Meanings
+mod OneMeaning
+mod Readings
+mod Rules
+mod Uses
+mod WordKinds
 mod Copies

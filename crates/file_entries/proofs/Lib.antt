@@ -1,11 +1,11 @@
 pub mod AfterLemmas
 pub mod ChangeLemmas
 pub mod EntriesLemmas
-pub mod FilesLemmas
+mod FilesLemmas
 pub mod GrowLemmas
-pub mod HeadersLemmas
+mod HeadersLemmas
 pub mod InfoLemmas
-pub mod LawLemmas
-pub mod PlaceLemmas
+mod LawLemmas
+mod PlaceLemmas
 pub mod RecordLemmas
-pub mod StoredLemmas
+mod StoredLemmas

@@ -11,3 +11,5 @@ pub mod IsStore
 pub mod Laws
 pub mod Records
 pub mod Store
+pub use Rattle.pfh_items.specs.Faults
+pub use Rattle.pfh_items.specs.Stamp

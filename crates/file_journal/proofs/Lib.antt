@@ -1,15 +1,15 @@
-pub mod AppendLemmas
+mod AppendLemmas
 pub mod CallLemmas
-pub mod FormatLemmas
-pub mod JournalLemmas
-pub mod LedgerLemmas
+mod FormatLemmas
+mod JournalLemmas
+mod LedgerLemmas
 pub mod MomentLemmas
-pub mod NextLemmas
-pub mod OctetLemmas
-pub mod PositionLemmas
-pub mod PutLemmas
+mod NextLemmas
+mod OctetLemmas
+mod PositionLemmas
+mod PutLemmas
 pub mod ReadingLemmas
-pub mod RecoverLemmas
+mod RecoverLemmas
 pub mod ToldLemmas
 pub mod WalkLawLemmas
 pub mod WalkLemmas

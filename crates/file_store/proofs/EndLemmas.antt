@@ -2,7 +2,7 @@
 use Rattle.std.proofs.Common.{◌≡◌, ◌==◌, ℕ, ◌+◌, List, [], ◌∷◌, ◌++◌, length, Option, None, Some, refl, sym, ◌∙◌, ap, subst, arith, length-append}
 use Rattle.std.specs.Prelude.{IsTrue, is_none}
 use Rattle.std.proofs.lemmas.Bool.Decides.{nat_tests}
-use Rattle.pfh_items.specs.Faults.{fault_code}
+use Rattle.file_entries.specs.Faults.{fault_code}
 use Rattle.file_entries.specs.Command.{AreAllowed, after_all, fault_at, grown, is_allowed, is_good, is_partial, last_grow, passes, with_more}
 use Rattle.file_entries.specs.Files.{octets_or_none}
 use Rattle.file_entries.specs.Store.{Entry, Holding, Store, entry_of, octets_at, octets_of, partial}

@@ -1,12 +1,18 @@
 pub mod DoesLemmas
-pub mod EndLemmas
-pub mod HoldLemmas
-pub mod PutLemmas
+mod EndLemmas
+mod HoldLemmas
+mod PutLemmas
 pub mod ReceiptLemmas
 pub mod RecoveryLemmas
-pub mod SealedLemmas
-pub mod StandingLemmas
-pub mod ToldLemmas
-pub mod TokenLemmas
-pub mod UploadLemmas
+mod SealedLemmas
+mod StandingLemmas
+mod ToldLemmas
+mod TokenLemmas
+mod UploadLemmas
 pub mod WorkingLemmas
+pub use Rattle.file_entries.proofs.AfterLemmas
+pub use Rattle.file_entries.proofs.EntriesLemmas
+pub use Rattle.file_entries.proofs.GrowLemmas
+pub use Rattle.file_journal.proofs.CallLemmas
+pub use Rattle.file_journal.proofs.MomentLemmas
+pub use Rattle.file_journal.proofs.ToldLemmas as JournalToldLemmas

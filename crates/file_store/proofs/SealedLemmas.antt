@@ -1,8 +1,8 @@
 -- A file that is sealed.
 use Rattle.std.proofs.Common.{◌≡◌, ℕ, List, [], ◌∷◌, ◌++◌, Option, None, Some, refl, sym, ◌∙◌, ap}
 use Rattle.std.specs.Option.{option_map}
-use Rattle.pfh_items.specs.Faults.{fault_code}
-use Rattle.pfh_items.specs.Stamp.{stamped}
+use Rattle.file_entries.specs.Faults.{fault_code}
+use Rattle.file_entries.specs.Stamp.{stamped}
 use Rattle.file_entries.specs.Command.{after, after_all, last_grow, seal, sealed}
 use Rattle.file_entries.specs.Files.{octets_or_none}
 use Rattle.file_entries.specs.Store.{Entry, Store, complete, entry_of, holding_of_number, partial}

@@ -1,7 +1,7 @@
 -- The answers of the store's calls, and where each comes.
 use Rattle.std.specs.Prelude.{◌≡◌, ℕ, ◌+◌, ◌<◌, List, length, Bool, true, false, Option, None, Some, Result, Ok, Err}
 use Rattle.px_base.specs.CallSign.{CallSign}
-use Rattle.pfh_items.specs.Faults.{fault_code}
+use Rattle.file_entries.specs.Faults.{fault_code}
 use Rattle.file_entries.specs.Bars.{Bars}
 use Rattle.file_entries.specs.Command.{MayBegin}
 use Rattle.file_entries.specs.Info.{is_complete}

@@ -8,3 +8,21 @@ pub mod Refusals
 pub mod State
 pub mod Upload
 pub mod Working
+pub use Rattle.file_entries.specs.Bars
+pub use Rattle.file_entries.specs.Command
+pub use Rattle.file_entries.specs.Files
+pub use Rattle.file_entries.specs.Headers
+pub use Rattle.file_entries.specs.Info
+pub use Rattle.file_entries.specs.IsStore
+pub use Rattle.file_entries.specs.Kept as EntriesKept
+pub use Rattle.file_entries.specs.Records
+pub use Rattle.file_entries.specs.Store
+pub use Rattle.file_entries.specs.declared.entries.BeginBar
+pub use Rattle.file_entries.specs.declared.info.Info as EntriesInfo
+pub use Rattle.file_entries.specs.declared.limits.TheConstants as LimitsConstants
+pub use Rattle.file_journal.specs.Calls
+pub use Rattle.file_journal.specs.Journal
+pub use Rattle.file_journal.specs.Position
+pub use Rattle.file_journal.specs.Records as JournalRecords
+pub use Rattle.file_journal.specs.Recovery as JournalRecovery
+pub use Rattle.file_journal.specs.Walk

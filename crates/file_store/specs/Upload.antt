@@ -1,8 +1,8 @@
 -- An upload that is under way: what its holder knows of the entry.
 use Rattle.std.specs.Prelude.{◌≡◌, ℕ, ◌+◌, ◌*◌, ◌/◌, ◌<◌, ◌≤◌, List, [], ◌∷◌, ◌++◌, length, Some, Option, None}
 use Rattle.px_base.specs.CallSign.{CallSign}
-use Rattle.pfh_items.specs.Faults.{fault_code}
-use Rattle.pfh_items.specs.Stamp.{StampValue, stamped}
+use Rattle.file_entries.specs.Faults.{fault_code}
+use Rattle.file_entries.specs.Stamp.{StampValue, stamped}
 use Rattle.file_entries.specs.declared.limits.TheConstants.{LONGEST_FILE}
 use Rattle.file_entries.specs.Command.{Command, seal, drop_entry, last_grow, whole_grows}
 use Rattle.file_entries.specs.Files.{octets_or_none}

@@ -6,7 +6,7 @@ ghost use Rattle.std.specs.Io.BufRead.{Rests};
 ghost use Rattle.std.specs.Option.{option_map};
 ghost use Rattle.px_base.specs.CallSign.{CallSign};
 ghost use Rattle.disk_model.specs.Disk.{FillsRoom};
-ghost use Rattle.pfh_items.specs.Faults.{fault_code};
+ghost use Rattle.file_entries.specs.Faults.{fault_code};
 ghost use Rattle.file_journal.specs.Calls.{Becomes, Leaves, Reads, Runs, TakesStep};
 ghost use Rattle.file_journal.specs.Journal.{after_recovery};
 ghost use Rattle.file_entries.specs.Command.{begin, drop_entry, fault_at, grow, grows, is_allowed, last_grow, seal, unfilled_block};

@@ -7,3 +7,4 @@ mod SomeLemmas
 mod StartLemmas
 mod StrangerLemmas
 mod TickLemmas
+pub use Rattle.ftl0_packets.proofs.OctetLemmas

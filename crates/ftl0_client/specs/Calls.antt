@@ -4,7 +4,7 @@ use Rattle.disk_model.specs.declared.disk.Disk.{Ghosts}
 use Rattle.ax25_frames.specs.FrameText.{FrameText, FrameValue, canonical}
 use Rattle.ax25_link.specs.Kept.{SameStations}
 use Rattle.ax25_link.specs.Window.{Window}
-use Rattle.file_journal.specs.Calls.{Leaves}
+use Rattle.client_notes.specs.Calls.{Leaves}
 use Rattle.client_notes.specs.Notes.{Lists}
 use Rattle.client_notes.specs.Several.{DoesSeveral, MakesFirst}
 use Rattle.ftl0_job.specs.declared.stop.JobStop.{JobStop}

@@ -1,13 +1,13 @@
-pub mod BlockLemmas
+mod BlockLemmas
 pub mod CaseLemmas
-pub mod DueLemmas
-pub mod EndLemmas
-pub mod HeaderLemmas
+mod DueLemmas
+mod EndLemmas
+mod HeaderLemmas
 pub mod JobLemmas
 pub mod LawLemmas
-pub mod NotingLemmas
-pub mod OwnLemmas
-pub mod PromiseLemmas
+mod NotingLemmas
+mod OwnLemmas
+mod PromiseLemmas
 pub mod RowLemmas
-pub mod ShortLemmas
+mod ShortLemmas
 pub mod StaysLemmas

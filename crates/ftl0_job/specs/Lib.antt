@@ -11,3 +11,4 @@ pub mod Stops
 pub mod Table
 pub mod Taking
 pub mod Upload
+pub use Rattle.pfh_items.specs.Faults

@@ -1,5 +1,5 @@
-pub mod InformationLemmas
+mod InformationLemmas
 pub mod OctetLemmas
-pub mod ReaderLemmas
-pub mod StreamLemmas
-pub mod TextLemmas
+mod ReaderLemmas
+mod StreamLemmas
+mod TextLemmas

@@ -18,8 +18,8 @@ use Rattle.ax25_link.proofs.EndKept.{answering_end-IsEnd}
 use Rattle.ftl0_packets.specs.Layout.{Item, packet_text}
 use Rattle.ftl0_packets.specs.Reading.{packets_of}
 use Rattle.ftl0_session.specs.Lists.Lists.{CallerList, has_left}
-use Rattle.file_entries.specs.Command.{after_all}
-use Rattle.file_entries.specs.Store.{Store}
+use Rattle.file_store.specs.Command.{after_all}
+use Rattle.file_store.specs.Store.{Store}
 use Rattle.node_events.specs.Events.{NodeEvent, hears, ticks}
 use Rattle.ftl0_session.specs.Uploads.Failures.{Failure, write_fails}
 use Rattle.ftl0_packets.specs.Items.{texts}

@@ -12,8 +12,8 @@ use Rattle.ax25_frames.specs.Kinds.{FitsControl}
 use Rattle.ax25_link.specs.Kept.{Kept, is_pending}
 use Rattle.ax25_link.specs.Window.{Window, window_of}
 use Rattle.ftl0_session.specs.Lists.Lists.{CallerList}
-use Rattle.file_entries.specs.Command.{after_all}
-use Rattle.file_entries.specs.Store.{Store}
+use Rattle.file_store.specs.Command.{after_all}
+use Rattle.file_store.specs.Store.{Store}
 use Rattle.file_store.specs.State.{StandsOn, StoreState, store_in}
 use Rattle.file_store.specs.Working.{DoesAmongReads}
 use Rattle.file_store.proofs.DoesLemmas.{Does-none}

@@ -12,3 +12,5 @@ mod SettledLemmas
 mod StartLemmas
 mod StepLemmas
 mod TickLemmas
+pub use Rattle.ftl0_packets.proofs.OctetLemmas
+pub use Rattle.ftl0_session.proofs.WorkingLemmas

@@ -18,8 +18,8 @@ use Rattle.ax25_link.specs.Window.{Window}
 use Rattle.ax25_link.specs.declared.state.LinkState.TheVariants.{Down}
 use Rattle.ax25_link.specs.declared.state.Why.TheVariants.{NoAnswer}
 use Rattle.ax25_link.proofs.SendLemmas.{after_new-HasPiece, concat-append_one}
-use Rattle.file_entries.specs.Command.{Command, after_all}
-use Rattle.file_entries.specs.Store.{Store}
+use Rattle.file_store.specs.Command.{Command, after_all}
+use Rattle.file_store.specs.Store.{Store}
 use Rattle.ftl0_session.specs.Uploads.Failures.{Failure, read_fails}
 use Rattle.ftl0_session.specs.Downloads.Sending.{DuePacket as Download, due_packet, is_due}
 use Rattle.ftl0_session.specs.Table.{DuePacket, State, download_part, due_at, in_session}

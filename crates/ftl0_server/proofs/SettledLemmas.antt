@@ -7,9 +7,9 @@ use Rattle.std.proofs.lemmas.Option.{same_Some, slice_get_within}
 use Rattle.px_base.specs.CallSign.{CallSign}
 use Rattle.ax25_link.specs.Kept.{Kept}
 use Rattle.ax25_link.proofs.Places.{slice_get-set_other, slice_get-set_same}
-use Rattle.file_entries.specs.Files.{octets_or_none}
-use Rattle.file_entries.specs.Kept.{KeepsComplete}
-use Rattle.file_entries.specs.Store.{partial}
+use Rattle.file_store.specs.Files.{octets_or_none}
+use Rattle.file_store.specs.EntriesKept.{KeepsComplete}
+use Rattle.file_store.specs.Store.{partial}
 use Rattle.file_store.specs.State.{StoreState, store_in}
 use Rattle.file_store.specs.Upload.{entry_for}
 use Rattle.ftl0_session.specs.Uploads.Others.{KeepsOtherCallers}

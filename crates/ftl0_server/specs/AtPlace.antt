@@ -6,7 +6,7 @@ use Rattle.ax25_link.specs.Kept.{Fits, IsFromPeer, SameStations, is_pending}
 use Rattle.ax25_link.specs.Window.{Window}
 use Rattle.ax25_link.specs.declared.state.LinkState.TheVariants.{Up}
 use Rattle.ftl0_session.specs.Lists.Lists.{CallerList}
-use Rattle.file_journal.specs.Calls.{Leaves}
+use Rattle.file_store.specs.Calls.{Leaves}
 use Rattle.file_store.specs.OnDisk.{MakesFirst}
 use Rattle.file_store.specs.State.{StoreState, store_in}
 use Rattle.file_store.specs.Working.{CutsOffAmongReads, DoesAmongReads}

@@ -8,3 +8,15 @@ pub mod Server
 pub mod ServerState
 pub mod ServerStep
 pub mod Slots
+pub use Rattle.ax25_link.specs.Calls as LinkCalls
+pub use Rattle.ax25_link.specs.Ends
+pub use Rattle.ax25_link.specs.Rows
+pub use Rattle.ax25_link.specs.Window
+pub use Rattle.ax25_link.specs.declared.state.Heard
+pub use Rattle.ftl0_packets.specs.Items
+pub use Rattle.ftl0_packets.specs.Layout
+pub use Rattle.ftl0_packets.specs.Reading
+pub use Rattle.ftl0_session.specs.Lists.Lists
+pub use Rattle.ftl0_session.specs.Table
+pub use Rattle.ftl0_session.specs.Uploads.Failures
+pub use Rattle.ftl0_session.specs.declared.stop.ServerStop

@@ -9,8 +9,8 @@ use Rattle.ax25_frames.specs.Values.{bare_value}
 use Rattle.ax25_link.specs.Rows.{is_call}
 use Rattle.ax25_link.specs.Window.{Window}
 use Rattle.ftl0_session.specs.Lists.Lists.{CallerList, has_left}
-use Rattle.file_entries.specs.Command.{Command, after_all}
-use Rattle.file_entries.specs.Store.{Store}
+use Rattle.file_store.specs.Command.{Command, after_all}
+use Rattle.file_store.specs.Store.{Store}
 use Rattle.ftl0_session.specs.Uploads.Failures.{Failure}
 use Rattle.ftl0_server.specs.Connection.Connected.{answering}
 use Rattle.ftl0_server.specs.Connection.Hearing.{Happened, hearing}

@@ -1,7 +1,7 @@
 -- A step of a server: a frame or a tick comes, and all that it gives is sent.
 use Rattle.std.specs.Prelude.{◌≡◌, ℕ, List, [], ◌∷◌, Some}
 use Rattle.ax25_frames.specs.FrameText.{FrameValue}
-use Rattle.file_entries.specs.Command.{Command}
+use Rattle.file_store.specs.Command.{Command}
 use Rattle.ftl0_session.specs.Uploads.Failures.{Failure}
 use Rattle.ftl0_server.specs.Connection.Taking.{Halt}
 use Rattle.node_events.specs.Events.{NodeEvent, hears, ticks}

@@ -3,7 +3,7 @@
 ghost use Rattle.std.specs.Prelude.{◌≡◌, ◌<◌, [], false, true, IsErrOf};
 ghost use Rattle.ax25_frames.specs.Values.{value_of};
 ghost use Rattle.ax25_link.specs.Window.{Window};
-ghost use Rattle.file_entries.specs.Kept.{KeepsComplete};
+ghost use Rattle.file_store.specs.EntriesKept.{KeepsComplete};
 ghost use Rattle.file_store.specs.State.{StandsOn, store_in};
 ghost use Rattle.file_store.specs.Working.{PutsAmongReads};
 ghost use Rattle.ftl0_session.specs.Downloads.Needs.{AreComplete};

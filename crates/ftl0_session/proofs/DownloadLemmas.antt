@@ -12,9 +12,9 @@ use Rattle.px_base.specs.CallSign.{CallSign}
 use Rattle.ftl0_packets.specs.Layout.{Item, PacketValue, data_end, data_part, dir_long_cmd, dir_short_cmd, download_cmd}
 use Rattle.ftl0_packets.specs.Layout.{kind_of, upload_cmd}
 use Rattle.ftl0_session.specs.Lists.Lists.{CallerList}
-use Rattle.file_entries.specs.Headers.{header_octets}
-use Rattle.file_entries.specs.Info.{IsCompleteIn}
-use Rattle.file_entries.specs.Store.{Store}
+use Rattle.file_store.specs.Headers.{header_octets}
+use Rattle.file_store.specs.Info.{IsCompleteIn}
+use Rattle.file_store.specs.Store.{Store}
 use Rattle.ftl0_session.specs.Uploads.Failures.{Failure, NoReadFails, read_fails}
 use Rattle.ftl0_session.specs.Uploads.Session.{is_upload_kind}
 use Rattle.ftl0_session.specs.Downloads.Laws.{Sends as DownloadSends, SendsAll as DownloadSendsAll}

@@ -1,7 +1,7 @@
 -- What is due of a session is what is due of its downloading.
 use Rattle.std.proofs.Common.{◌≡◌, ℕ, List, refl, ap, sym, subst, Bool, Option, None, Some}
 use Rattle.std.specs.Option.{option_map}
-use Rattle.file_entries.specs.Store.{Store}
+use Rattle.file_store.specs.Store.{Store}
 use Rattle.file_store.specs.State.{StoreState, store_in}
 use Rattle.ftl0_session.specs.declared.uploads.phase.Phase.{Phase}
 use Rattle.ftl0_session.specs.declared.uploads.phase.Phase.TheVariants as phase

@@ -1,7 +1,7 @@
 -- A session over events.
 use Rattle.std.proofs.Common.{◌≡◌, ℕ, List, [], ◌∷◌, ◌++◌, map, refl, ap, sym, ◌∙◌, subst, Option, None}
-use Rattle.file_entries.specs.Command.{Command, after, after_all}
-use Rattle.file_entries.specs.Store.{Store}
+use Rattle.file_store.specs.Command.{Command, after, after_all}
+use Rattle.file_store.specs.Store.{Store}
 use Rattle.ftl0_session.specs.Uploads.Failures.{Failure, read_fails}
 use Rattle.ftl0_session.specs.Uploads.Run.{commands_of, on_row, replies_to, state_after, store_after}
 use Rattle.ftl0_session.specs.Uploads.Session as upload

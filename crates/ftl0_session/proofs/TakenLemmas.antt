@@ -7,9 +7,9 @@ use Rattle.disk_model.specs.declared.disk.Disk.{Ghosts}
 use Rattle.ftl0_packets.specs.Items.{kind_of_item, texts}
 use Rattle.ftl0_packets.specs.Layout.{Item, dl_error_resp, packet_text}
 use Rattle.ftl0_session.specs.Lists.Lists.{CallerList}
-use Rattle.file_journal.specs.Calls.{Reads}
-use Rattle.file_journal.proofs.CallLemmas.{puts_none}
-use Rattle.file_entries.specs.Command.{Command, DoesAll}
+use Rattle.file_store.specs.Calls.{Reads}
+use Rattle.file_store.proofs.CallLemmas.{puts_none}
+use Rattle.file_store.specs.Command.{Command, DoesAll}
 use Rattle.file_store.specs.OnDisk.{Does}
 use Rattle.file_store.specs.State.{StandsOn, StoreState, store_in}
 use Rattle.file_store.proofs.DoesLemmas.{Does-none}

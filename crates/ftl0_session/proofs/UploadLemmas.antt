@@ -6,11 +6,11 @@ use Rattle.disk_model.specs.declared.disk.Disk.{Ghosts}
 use Rattle.ftl0_packets.specs.Items.{kind_of_item, texts}
 use Rattle.ftl0_packets.specs.Layout.{Item}
 use Rattle.ftl0_session.specs.Lists.Lists.{CallerList}
-use Rattle.file_journal.specs.Calls.{ChangesReads, Puts}
-use Rattle.file_journal.proofs.CallLemmas.{puts_same, reads_none}
-use Rattle.file_journal.proofs.ToldLemmas.{at_told}
-use Rattle.file_entries.specs.Command.{Command, DoesAll}
-use Rattle.file_entries.specs.Kept.{KeepsComplete}
+use Rattle.file_store.specs.Calls.{ChangesReads, Puts}
+use Rattle.file_store.proofs.CallLemmas.{puts_same, reads_none}
+use Rattle.file_store.proofs.JournalToldLemmas.{at_told}
+use Rattle.file_store.specs.Command.{Command, DoesAll}
+use Rattle.file_store.specs.EntriesKept.{KeepsComplete}
 use Rattle.file_store.specs.OnDisk.{Does}
 use Rattle.file_store.specs.State.{StandsOn, StoreState, store_in}
 use Rattle.file_store.proofs.RecoveryLemmas.{reads-none}

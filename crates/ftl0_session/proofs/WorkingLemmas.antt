@@ -10,8 +10,8 @@ use Rattle.std.proofs.lemmas.List.Folds.{list_any-append}
 use Rattle.px_base.specs.CallSign.{CallSign}
 use Rattle.disk_model.specs.declared.disk.Disk.{Ghosts}
 use Rattle.ftl0_packets.specs.Layout.{Item, PacketValue, dl_error_resp, packet_text}
-use Rattle.file_journal.proofs.ToldLemmas.{at_told}
-use Rattle.file_entries.specs.Store.{Store}
+use Rattle.file_store.proofs.JournalToldLemmas.{at_told}
+use Rattle.file_store.specs.Store.{Store}
 use Rattle.file_store.specs.State.{StandsOn, StoreState, store_in}
 use Rattle.file_store.specs.Working.{CutsOffAmongReads, DoesAmongReads, one_if}
 use Rattle.file_store.proofs.WorkingLemmas.{among-same, among-then, cuts-among-cut, does-among, reads-only}

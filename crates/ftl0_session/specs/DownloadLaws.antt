@@ -4,8 +4,8 @@ use Rattle.std.specs.Prelude.{Some, Ok}
 use Rattle.px_base.specs.CallSign.{CallSign}
 use Rattle.ftl0_packets.specs.Layout.{PacketValue, data_end, data_part, dir_long_cmd, dir_short_cmd, download_cmd}
 use Rattle.ftl0_session.specs.Lists.Lists.{CallerList}
-use Rattle.file_entries.specs.Headers.{header_octets}
-use Rattle.file_entries.specs.Store.{Store}
+use Rattle.file_store.specs.Headers.{header_octets}
+use Rattle.file_store.specs.Store.{Store}
 use Rattle.ftl0_session.specs.Uploads.Failures.{Failure, NoReadFails}
 use Rattle.ftl0_session.specs.Downloads.Laws.{BeginWithHeaders}
 use Rattle.ftl0_session.specs.Downloads.Needs.{AreFiles, IsDueIn}

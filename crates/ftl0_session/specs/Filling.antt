@@ -2,8 +2,8 @@
 use Rattle.std.specs.Prelude.{◌≡◌, List, ℕ, Bool, true, false, IsTrue, Option, None, Some, IfSome}
 use Rattle.disk_model.specs.declared.disk.Disk.{Ghosts}
 use Rattle.ftl0_packets.specs.Layout.{dl_error_resp, packet_text}
-use Rattle.file_journal.specs.Calls.{Reads}
-use Rattle.file_entries.specs.Store.{Store}
+use Rattle.file_store.specs.Calls.{Reads}
+use Rattle.file_store.specs.Store.{Store}
 use Rattle.ftl0_session.specs.Table.{DuePacket, State, next_due}
 
 -- this packet is due, and its octets were put; or none is, and nothing changed

@@ -9,8 +9,8 @@ use Rattle.pfh_items.specs.Faults.{fault_code}
 use Rattle.pfh_items.specs.Stamp.{stamped}
 use Rattle.pfh_writer.specs.KeptFile.{KeepsClient}
 use Rattle.ftl0_session.specs.Lists.Lists.{CallerList}
-use Rattle.file_entries.specs.Command.{AreAllowed, Command, after_all, can_begin, stamp_of}
-use Rattle.file_entries.specs.Store.{Entry, Store, entry_of}
+use Rattle.file_store.specs.Command.{AreAllowed, Command, after_all, can_begin, stamp_of}
+use Rattle.file_store.specs.Store.{Entry, Store, entry_of}
 use Rattle.file_store.specs.OnDisk.{MakesBetween}
 use Rattle.ftl0_session.specs.Uploads.Laws.{HasEntry, IsNoFault, IsUnderWay, IsWhole, kept}
 use Rattle.ftl0_session.specs.Uploads.Session as upload

@@ -6,8 +6,8 @@ use Rattle.px_base.specs.CallSign.{CallSign}
 use Rattle.ftl0_packets.specs.Items.{kind_of_item}
 use Rattle.ftl0_packets.specs.Layout.{Item, PacketValue}
 use Rattle.ftl0_session.specs.Lists.Lists.{CallerList}
-use Rattle.file_entries.specs.Command.{Command, after_all}
-use Rattle.file_entries.specs.Store.{Store}
+use Rattle.file_store.specs.Command.{Command, after_all}
+use Rattle.file_store.specs.Store.{Store}
 use Rattle.ftl0_session.specs.Uploads.Events.{Event as UploadEvent}
 use Rattle.ftl0_session.specs.Uploads.Failures.{Failure}
 use Rattle.ftl0_session.specs.Uploads.Run.{commands_of, replies_to, state_after, store_after}

@@ -5,9 +5,9 @@ use Rattle.disk_model.specs.declared.disk.Disk.{Ghosts}
 use Rattle.ftl0_packets.specs.Items.{texts}
 use Rattle.ftl0_packets.specs.Layout.{Item, dl_error_resp}
 use Rattle.ftl0_session.specs.Lists.Lists.{CallerList}
-use Rattle.file_entries.specs.Command.{DoesAll}
-use Rattle.file_entries.specs.Kept.{KeepsComplete}
-use Rattle.file_journal.specs.Calls.{ChangesReads, Puts, Reads}
+use Rattle.file_store.specs.Command.{DoesAll}
+use Rattle.file_store.specs.EntriesKept.{KeepsComplete}
+use Rattle.file_store.specs.Calls.{ChangesReads, Puts, Reads}
 use Rattle.file_store.specs.OnDisk.{Does}
 use Rattle.file_store.specs.State.{StandsOn, StoreState, store_in}
 use Rattle.ftl0_session.specs.declared.uploads.stop.ServerStop.{ServerStop as UploadStop}

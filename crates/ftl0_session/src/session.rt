@@ -5,7 +5,7 @@ ghost use Rattle.ftl0_packets.specs.Items.{kind_of_item};
 ghost use Rattle.ftl0_packets.specs.Layout.{packet_text};
 ghost use Rattle.ftl0_packets.specs.Values.{item_of};
 ghost use Rattle.ftl0_session.specs.Lists.Lists.{has_left};
-ghost use Rattle.file_entries.specs.Kept.{KeepsComplete};
+ghost use Rattle.file_store.specs.EntriesKept.{KeepsComplete};
 ghost use Rattle.file_store.specs.State.{StandsOn, store_in};
 ghost use Rattle.ftl0_session.specs.Uploads.Others.{KeepsOtherCallers};
 ghost use Rattle.ftl0_session.specs.Uploads.Session.{is_upload_kind};

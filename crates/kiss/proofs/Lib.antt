@@ -1,5 +1,5 @@
-pub mod Splitting
-pub mod Escapes
-pub mod Steps
-pub mod LawProofs
-pub mod FrameOctets
+mod Splitting
+mod Escapes
+mod Steps
+mod LawProofs
+mod FrameOctets

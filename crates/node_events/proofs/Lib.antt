@@ -1,3 +1,3 @@
-pub mod EventLemmas
-pub mod Found
-pub mod SomeFrames
+mod EventLemmas
+mod Found
+mod SomeFrames

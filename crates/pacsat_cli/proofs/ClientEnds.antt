@@ -8,14 +8,14 @@ use Rattle.px_base.specs.declared.air.Air.{Ghosts as AirGhosts}
 use Rattle.px_base.specs.declared.out.Out.{Ghosts as OutGhosts}
 use Rattle.px_base.specs.declared.shelf.Shelf.{Ghosts as ShelfGhosts}
 use Rattle.disk_model.specs.declared.disk.Disk.{Ghosts}
-use Rattle.file_journal.specs.Calls.{Runs}
-use Rattle.client_notes.specs.Command.{NotesCommand}
-use Rattle.client_notes.specs.Notes.{Lists}
-use Rattle.client_notes.specs.State.{standing_of as notes_standing}
-use Rattle.client_notes.specs.declared.answers.Begun.{Begun}
-use Rattle.client_notes.specs.declared.answers.Begun.TheVariants as begun
-use Rattle.client_notes.specs.declared.refusals.NotesRefusal.{NotesRefusal}
-use Rattle.ftl0_job.specs.Table.{JobState}
+use Rattle.file_store.specs.Calls.{Runs}
+use Rattle.uploader.specs.Command.{NotesCommand}
+use Rattle.uploader.specs.Notes.{Lists}
+use Rattle.uploader.specs.State.{standing_of as notes_standing}
+use Rattle.uploader.specs.Begun.{Begun}
+use Rattle.uploader.specs.Begun.TheVariants as begun
+use Rattle.uploader.specs.NotesRefusal.{NotesRefusal}
+use Rattle.ftl0_client.specs.Table.{JobState}
 use Rattle.ftl0_client.specs.declared.outcome.Outcome.{Outcome}
 use Rattle.uploader.specs.declared.stop.SendStop.{SendStop}
 use Rattle.uploader.specs.declared.stop.SendStop.TheVariants as stop

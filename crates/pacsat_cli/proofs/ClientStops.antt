@@ -2,15 +2,15 @@
 use Rattle.std.proofs.Common.{◌≡◌, ℕ, refl, ap, sym, ◌∙◌, inl, inr, Bool, true, false}
 use Rattle.std.specs.Prelude.{◌⊎◌, Option, None, Some, IsTrue, Result, Ok, Err, if◌then◌else◌, ⊤}
 use Rattle.px_base.specs.Outside.{Rose}
-use Rattle.client_notes.specs.declared.refusals.NotesRefusal.{NotesRefusal}
-use Rattle.client_notes.specs.declared.refusals.NotesRefusal.TheVariants as refusal
-use Rattle.client_notes.specs.declared.refusals.StoreFault.{StoreFault}
-use Rattle.client_notes.specs.declared.refusals.StoreFault.TheVariants as fault
+use Rattle.uploader.specs.NotesRefusal.{NotesRefusal}
+use Rattle.uploader.specs.NotesRefusal.TheVariants as refusal
+use Rattle.uploader.specs.StoreFault.{StoreFault}
+use Rattle.uploader.specs.StoreFault.TheVariants as fault
 use Rattle.ftl0_client.specs.declared.outcome.Outcome.{Outcome}
 use Rattle.ftl0_client.specs.declared.outcome.Outcome.TheVariants as outcome
-use Rattle.client_node.specs.Carried.{CountsBy, answer_of, is_working}
-use Rattle.client_node.specs.declared.stop.NodeStop.{NodeStop}
-use Rattle.client_node.specs.declared.stop.NodeStop.TheVariants as node
+use Rattle.uploader.specs.ClientNodeCarried.{CountsBy, answer_of, is_working}
+use Rattle.uploader.specs.NodeStop.{NodeStop}
+use Rattle.uploader.specs.NodeStop.TheVariants as node
 use Rattle.uploader.specs.declared.stop.SendStop.{SendStop}
 use Rattle.uploader.specs.declared.stop.SendStop.TheVariants as stop
 use Rattle.uploader.specs.declared.sum.FileSum.{FileSum}

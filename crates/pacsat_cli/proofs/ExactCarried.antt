@@ -7,14 +7,14 @@ use Rattle.px_base.specs.declared.air.Air.{Ghosts as AirGhosts}
 use Rattle.px_base.specs.declared.out.Out.{Ghosts as OutGhosts}
 use Rattle.px_base.specs.declared.shelf.Shelf.{Ghosts as ShelfGhosts}
 use Rattle.disk_model.specs.declared.disk.Disk.{Ghosts}
-use Rattle.file_journal.specs.Walk.{Stands, state}
-use Rattle.file_journal.proofs.ToldLemmas.{at_told}
+use Rattle.file_store.specs.Walk.{Stands, state}
+use Rattle.file_store.proofs.JournalToldLemmas.{at_told}
 use Rattle.node_events.specs.Laws.{OneRunLaw}
-use Rattle.client_notes.specs.Notes.{Lists}
-use Rattle.client_notes.specs.State.{standing_of}
-use Rattle.client_notes.specs.declared.refusals.StoreFault.{StoreFault}
-use Rattle.client_notes.specs.declared.refusals.StoreFault.TheVariants as fault
-use Rattle.ftl0_job.specs.Table.{JobState}
+use Rattle.uploader.specs.Notes.{Lists}
+use Rattle.uploader.specs.State.{standing_of}
+use Rattle.uploader.specs.StoreFault.{StoreFault}
+use Rattle.uploader.specs.StoreFault.TheVariants as fault
+use Rattle.ftl0_client.specs.Table.{JobState}
 use Rattle.ftl0_client.specs.Going.{StaysLaw}
 use Rattle.ftl0_client.specs.Laws.{OneStepLaw}
 use Rattle.ftl0_client.specs.declared.outcome.Outcome.{Outcome}

@@ -7,20 +7,20 @@ use Rattle.px_base.specs.declared.air.Air.{Ghosts as AirGhosts}
 use Rattle.px_base.specs.declared.out.Out.{Ghosts as OutGhosts}
 use Rattle.px_base.specs.declared.shelf.Shelf.{Ghosts as ShelfGhosts}
 use Rattle.disk_model.specs.declared.disk.Disk.{Ghosts}
-use Rattle.file_journal.proofs.ToldLemmas.{told_weaker}
+use Rattle.file_store.proofs.JournalToldLemmas.{told_weaker}
 use Rattle.node_events.specs.Laws.{OneRunLaw}
-use Rattle.pfh_items.specs.Faults.{fault_code}
-use Rattle.client_notes.specs.Answers.{IsFull}
-use Rattle.client_notes.specs.Command.{NotesCommand}
-use Rattle.client_notes.specs.Laws.{after_all}
-use Rattle.client_notes.specs.Notes.{Lists}
-use Rattle.client_notes.specs.declared.answers.Begun.{Begun}
-use Rattle.client_notes.specs.declared.answers.Begun.TheVariants as begun
-use Rattle.client_notes.specs.declared.refusals.NotesRefusal.{NotesRefusal}
-use Rattle.client_notes.specs.declared.refusals.NotesRefusal.TheVariants as refusal
-use Rattle.ftl0_job.specs.declared.work.Work.TheVariants as work
-use Rattle.ftl0_job.specs.Table.{new_job}
-use Rattle.ftl0_job.specs.Upload.{new_upload}
+use Rattle.header_tool.specs.Faults.{fault_code}
+use Rattle.uploader.specs.Answers.{IsFull}
+use Rattle.uploader.specs.Command.{NotesCommand}
+use Rattle.uploader.specs.Laws.{after_all}
+use Rattle.uploader.specs.Notes.{Lists}
+use Rattle.uploader.specs.Begun.{Begun}
+use Rattle.uploader.specs.Begun.TheVariants as begun
+use Rattle.uploader.specs.NotesRefusal.{NotesRefusal}
+use Rattle.uploader.specs.NotesRefusal.TheVariants as refusal
+use Rattle.ftl0_client.specs.Work.TheVariants as work
+use Rattle.ftl0_client.specs.Table.{new_job}
+use Rattle.ftl0_client.specs.Upload.{new_upload}
 use Rattle.ftl0_client.specs.Going.{StaysLaw}
 use Rattle.ftl0_client.specs.Laws.{OneStepLaw}
 use Rattle.ftl0_client.specs.declared.outcome.Outcome.{Outcome}

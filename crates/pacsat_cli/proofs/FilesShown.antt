@@ -8,7 +8,7 @@ use Rattle.px_base.specs.declared.shelf.ShelfRefusal.TheVariants as refusal
 use Rattle.px_base.specs.Outside.{Gains, GainsPrefix, Rose}
 use Rattle.px_base.specs.Shelves.{Holding, Loads, content_of}
 use Rattle.px_base.proofs.Told.{Gains-front, Gains-none}
-use Rattle.pfh_items.specs.Faults.{fault_code}
+use Rattle.header_tool.specs.Faults.{fault_code}
 use Rattle.header_tool.specs.declared.shown.Shown.{Shown}
 use Rattle.header_tool.specs.Lines.{IsCodeOf}
 use Rattle.pacsat_cli.specs.declared.files.FileCommand.{FileCommand}

@@ -6,9 +6,9 @@ use Rattle.disk_model.specs.Calls.{new_state}
 use Rattle.disk_model.specs.Memory.{read_faults, state as disk_state}
 use Rattle.disk_model.specs.declared.disk.Disk.{Ghosts}
 use Rattle.disk_model.specs.declared.memory_disk.MemoryDisk.{MemoryDisk}
-use Rattle.file_journal.specs.Journal.{journal_of}
-use Rattle.file_journal.specs.Walk.{state}
-use Rattle.file_entries.specs.Store.{Store, empty_store}
+use Rattle.file_store.specs.Journal.{journal_of}
+use Rattle.file_store.specs.Walk.{state}
+use Rattle.file_store.specs.Store.{Store, empty_store}
 use Rattle.file_store.specs.State.{standing_of}
 use Rattle.file_store.specs.Working.{CountsSome}
 use Rattle.file_store.specs.declared.refusals.StoreFault.{StoreFault}

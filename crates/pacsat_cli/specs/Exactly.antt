@@ -9,19 +9,19 @@ use Rattle.px_base.specs.declared.air.Turn.{Turn}
 use Rattle.px_base.specs.declared.air.Turn.TheVariants as turn
 use Rattle.px_base.specs.declared.shelf.Shelf.{Ghosts as ShelfGhosts}
 use Rattle.disk_model.specs.declared.disk.Disk.{Ghosts}
-use Rattle.file_journal.specs.Walk.{state}
-use Rattle.client_notes.specs.Answers.{IsFull}
-use Rattle.client_notes.specs.Command.{NotesCommand}
-use Rattle.client_notes.specs.Laws.{after_all}
-use Rattle.client_notes.specs.Notes.{Lists}
-use Rattle.client_notes.specs.State.{standing_of as notes_standing}
-use Rattle.client_notes.specs.declared.answers.Begun.TheVariants as begun
-use Rattle.client_notes.specs.declared.refusals.NotesRefusal.TheVariants as refusal
-use Rattle.ftl0_job.specs.declared.work.Work.TheVariants as work
-use Rattle.ftl0_job.specs.Directory.{new_directory}
-use Rattle.ftl0_job.specs.Download.{new_download}
-use Rattle.ftl0_job.specs.Table.{new_job}
-use Rattle.ftl0_job.specs.Upload.{new_upload}
+use Rattle.file_store.specs.Walk.{state}
+use Rattle.uploader.specs.Answers.{IsFull}
+use Rattle.uploader.specs.Command.{NotesCommand}
+use Rattle.uploader.specs.Laws.{after_all}
+use Rattle.uploader.specs.Notes.{Lists}
+use Rattle.uploader.specs.State.{standing_of as notes_standing}
+use Rattle.uploader.specs.Begun.TheVariants as begun
+use Rattle.uploader.specs.NotesRefusal.TheVariants as refusal
+use Rattle.ftl0_client.specs.Work.TheVariants as work
+use Rattle.ftl0_client.specs.Directory.{new_directory}
+use Rattle.ftl0_client.specs.Download.{new_download}
+use Rattle.ftl0_client.specs.Table.{new_job}
+use Rattle.ftl0_client.specs.Upload.{new_upload}
 use Rattle.ftl0_client.specs.declared.outcome.Outcome.{Outcome}
 use Rattle.ftl0_client.specs.declared.outcome.Outcome.TheVariants as outcome
 use Rattle.uploader.specs.declared.sum.FileSum.{FileSum}

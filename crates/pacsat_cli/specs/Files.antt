@@ -5,7 +5,7 @@ use Rattle.px_base.specs.Octets.{IsFront}
 use Rattle.px_base.specs.Outside.{Gains, GainsPrefix, Rose}
 use Rattle.px_base.specs.Shelves.{Holding, content_of}
 use Rattle.px_base.specs.declared.memory.OutOfMemory.{OutOfMemory as NoMemory}
-use Rattle.pfh_items.specs.Faults.{fault_code}
+use Rattle.header_tool.specs.Faults.{fault_code}
 use Rattle.header_tool.specs.declared.shown.Shown.{Shown}
 use Rattle.header_tool.specs.Lines.{check_text, header_lines}
 use Rattle.header_tool.specs.Frames.FramesText.{FramesText}

@@ -1,7 +1,7 @@
 -- What the command `pfh-make` keeps, and why it ends.
 use Rattle.std.specs.Prelude.{◌≡◌, ◌⊎◌, ℕ, ◌≤◌, List, [], ◌∷◌, length, Option, None, Some, IfSome}
 use Rattle.px_base.specs.Shelves.{Holding, Keeps, KeepsOthers, content_of}
-use Rattle.pfh_writer.specs.Built.{passing_len}
+use Rattle.header_tool.specs.Built.{passing_len}
 use Rattle.header_tool.specs.Made.{IsMade, MakeValue, made_builder}
 use Rattle.pacsat_cli.specs.declared.status.Status.{Status}
 use Rattle.pacsat_cli.specs.declared.status.Status.TheVariants.{Done, NoSuch, OutOfMemory, Shelf, TooLong}

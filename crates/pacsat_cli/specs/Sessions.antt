@@ -11,10 +11,10 @@ use Rattle.disk_model.specs.Calls.{new_state}
 use Rattle.disk_model.specs.Memory.{read_faults, state}
 use Rattle.disk_model.specs.declared.disk.Disk.{Ghosts}
 use Rattle.disk_model.specs.declared.memory_disk.MemoryDisk.{MemoryDisk}
-use Rattle.client_notes.specs.State.{standing_of as notes_standing}
-use Rattle.file_journal.specs.Walk.{Stands, damaged_at, no_store}
-use Rattle.file_entries.specs.Command.{Command}
-use Rattle.file_entries.specs.Store.{empty_store}
+use Rattle.uploader.specs.State.{standing_of as notes_standing}
+use Rattle.file_store.specs.Walk.{Stands, damaged_at, no_store}
+use Rattle.file_store.specs.Command.{Command}
+use Rattle.file_store.specs.Store.{empty_store}
 use Rattle.file_store.specs.State.{standing_of}
 use Rattle.file_store.specs.Working.{CountsSome}
 use Rattle.session_node.specs.OnDisk.{NodeRuns}

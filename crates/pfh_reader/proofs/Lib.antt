@@ -1,4 +1,4 @@
 pub mod ClaimsLemmas
 pub mod FaultLemmas
-pub mod FeedLemmas
-pub mod SumLemmas
+mod FeedLemmas
+mod SumLemmas

@@ -1,15 +1,15 @@
-pub mod BuiltLemmas
+mod BuiltLemmas
 pub mod ClientLemmas
-pub mod FaultlessLemmas
-pub mod FilledLemmas
-pub mod FillingLemmas
-pub mod FrontLemmas
-pub mod ItemsLemmas
-pub mod OthersLemmas
-pub mod PieceLemmas
-pub mod ShortLemmas
+mod FaultlessLemmas
+mod FilledLemmas
+mod FillingLemmas
+mod FrontLemmas
+mod ItemsLemmas
+mod OthersLemmas
+mod PieceLemmas
+mod ShortLemmas
 pub mod StampedLemmas
-pub mod StepLemmas
-pub mod SumLemmas
-pub mod TestLemmas
-pub mod WholeLemmas
+mod StepLemmas
+mod SumLemmas
+mod TestLemmas
+mod WholeLemmas

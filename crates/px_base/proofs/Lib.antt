@@ -1,6 +1,6 @@
-pub mod Turns
-pub mod Ssid
+mod Turns
+mod Ssid
 pub mod Calls
-pub mod ShelfStates
+mod ShelfStates
 pub mod Told
 pub mod Spelled

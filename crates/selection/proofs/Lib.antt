@@ -1,5 +1,5 @@
-pub mod NumberLemmas
+mod NumberLemmas
 pub mod ReadLemmas
-pub mod StepLemmas
-pub mod TokenLemmas
-pub mod TruthLemmas
+mod StepLemmas
+mod TokenLemmas
+mod TruthLemmas

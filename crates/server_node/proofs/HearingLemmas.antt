@@ -7,7 +7,7 @@ use Rattle.px_base.specs.Octets.{IsOctets}
 use Rattle.px_base.specs.declared.air.Air.{Ghosts as AirGhosts}
 use Rattle.disk_model.specs.declared.disk.Disk.{Ghosts}
 use Rattle.ax25_frames.specs.FrameText.{FrameValue}
-use Rattle.ftl0_packets.proofs.OctetLemmas.{IsOctets-append}
+use Rattle.ftl0_server.proofs.OctetLemmas.{IsOctets-append}
 use Rattle.kiss.specs.KissText.{kiss_frames}
 use Rattle.node_events.specs.Events.{Finishes, NodeEvent, hears, heard_at}
 use Rattle.node_events.specs.Laws.{SomeFramesLaw}

@@ -4,16 +4,16 @@ use Rattle.std.specs.Prelude.{Result, Ok, Err, IsErrOf}
 use Rattle.px_base.specs.declared.air.Air.{Ghosts as AirGhosts}
 use Rattle.px_base.specs.declared.air.Turn.{Turn}
 use Rattle.disk_model.specs.declared.disk.Disk.{Ghosts}
-use Rattle.file_journal.specs.Calls.{Becomes, ChangesReads, Leaves, Runs, TakesStep, TellsAlike, images_now}
-use Rattle.file_journal.specs.Journal.{after_recovery}
-use Rattle.file_journal.specs.Recovery.{IsFailedSync, IsSyncedFirst}
-use Rattle.file_journal.specs.Walk.{state}
-use Rattle.file_journal.proofs.CallLemmas.{reads_now}
-use Rattle.file_journal.proofs.ToldLemmas.{at_told, if_told, told_before, told_weaker}
-use Rattle.file_entries.specs.Command.{Command}
-use Rattle.file_entries.specs.IsStore.{IsStore}
-use Rattle.file_entries.specs.Records.{store_magic}
-use Rattle.file_entries.specs.Store.{Store}
+use Rattle.file_store.specs.Calls.{Becomes, ChangesReads, Leaves, Runs, TakesStep, TellsAlike, images_now}
+use Rattle.file_store.specs.Journal.{after_recovery}
+use Rattle.file_store.specs.JournalRecovery.{IsFailedSync, IsSyncedFirst}
+use Rattle.file_store.specs.Walk.{state}
+use Rattle.file_store.proofs.CallLemmas.{reads_now}
+use Rattle.file_store.proofs.JournalToldLemmas.{at_told, if_told, told_before, told_weaker}
+use Rattle.file_store.specs.Command.{Command}
+use Rattle.file_store.specs.IsStore.{IsStore}
+use Rattle.file_store.specs.Records.{store_magic}
+use Rattle.file_store.specs.Store.{Store}
 use Rattle.file_store.specs.OnDisk.{StayDone, after_first}
 use Rattle.file_store.specs.Recovery.{IsRecovered, LeavesAlikeSinceSync, RefusesRecovery, StandsAlike}
 use Rattle.file_store.specs.State.{StandsFor, StoreState, standing_of, store_in}
@@ -22,7 +22,7 @@ use Rattle.file_store.specs.declared.refusals.StoreFault.{StoreFault}
 use Rattle.file_store.specs.declared.refusals.StoreFault.TheVariants as fault
 use Rattle.file_store.proofs.DoesLemmas.{after_first-all}
 use Rattle.file_store.proofs.WorkingLemmas.{cuts-among-all, cuts-among-puts}
-use Rattle.ax25_link.specs.Window.{window_of}
+use Rattle.ftl0_server.specs.Window.{window_of}
 use Rattle.ftl0_server.specs.Server.{new_server}
 use Rattle.ftl0_server.specs.ServerState.{IsServer, ServerState, server_pending}
 use Rattle.session_node.specs.declared.stop.NodeStop.{NodeStop}

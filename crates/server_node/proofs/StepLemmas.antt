@@ -4,20 +4,20 @@ use Rattle.std.proofs.Common.{subst}
 use Rattle.std.specs.Prelude.{if◌then◌else◌, slice_get}
 use Rattle.px_base.specs.CallSign.{CallSign}
 use Rattle.ax25_frames.specs.FrameText.{FrameValue}
-use Rattle.ax25_link.specs.Calls.{after_push}
-use Rattle.ax25_link.specs.Ends.{LinkEnd}
-use Rattle.ax25_link.specs.Rows.{after_frame, heard_of}
-use Rattle.ax25_link.specs.declared.state.Heard.{Heard}
-use Rattle.ax25_link.specs.declared.state.Heard.TheVariants.{Nothing, Opened, Reopened, Bytes, Closed}
-use Rattle.ftl0_packets.specs.Items.{texts}
-use Rattle.ftl0_packets.specs.Layout.{Item}
-use Rattle.ftl0_packets.specs.Reading.{packets_of}
-use Rattle.ftl0_session.specs.Lists.Lists.{CallerList}
-use Rattle.file_entries.specs.Command.{after_all}
-use Rattle.file_entries.specs.Store.{Store}
-use Rattle.ftl0_session.specs.Uploads.Failures.{failed_reads}
-use Rattle.ftl0_session.specs.Table.{Row, State, row_at}
-use Rattle.ftl0_session.proofs.WorkingLemmas.{writes-unlisted}
+use Rattle.ftl0_server.specs.LinkCalls.{after_push}
+use Rattle.ftl0_server.specs.Ends.{LinkEnd}
+use Rattle.ftl0_server.specs.Rows.{after_frame, heard_of}
+use Rattle.ftl0_server.specs.Heard.{Heard}
+use Rattle.ftl0_server.specs.Heard.TheVariants.{Nothing, Opened, Reopened, Bytes, Closed}
+use Rattle.ftl0_server.specs.Items.{texts}
+use Rattle.ftl0_server.specs.Layout.{Item}
+use Rattle.ftl0_server.specs.Reading.{packets_of}
+use Rattle.ftl0_server.specs.Lists.{CallerList}
+use Rattle.file_store.specs.Command.{after_all}
+use Rattle.file_store.specs.Store.{Store}
+use Rattle.ftl0_server.specs.Failures.{failed_reads}
+use Rattle.ftl0_server.specs.Table.{Row, State, row_at}
+use Rattle.ftl0_server.proofs.WorkingLemmas.{writes-unlisted}
 use Rattle.node_events.specs.Events.{NodeEvent, hears, ticks}
 use Rattle.ftl0_server.specs.Connection.Connected.{Connected, caller_of}
 use Rattle.ftl0_server.specs.Connection.Hearing.{parts_as, parts_of_frame}

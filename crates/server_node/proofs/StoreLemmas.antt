@@ -3,12 +3,12 @@ use Rattle.std.proofs.Common.{◌≡◌, ℕ, ◌+◌, List, [], ◌∷◌, ◌+
 use Rattle.std.proofs.Common.{◌∙◌, append_assoc}
 use Rattle.std.specs.Prelude.{◌&&◌, ◌||◌, if◌then◌else◌, slice_get}
 use Rattle.ax25_frames.specs.FrameText.{FrameValue}
-use Rattle.ax25_link.specs.Rows.{is_call}
-use Rattle.file_entries.specs.Command.{Command, after_all}
-use Rattle.file_entries.specs.Store.{Store}
-use Rattle.file_entries.proofs.GrowLemmas.{after_all-append}
+use Rattle.ftl0_server.specs.Rows.{is_call}
+use Rattle.file_store.specs.Command.{Command, after_all}
+use Rattle.file_store.specs.Store.{Store}
+use Rattle.file_store.proofs.GrowLemmas.{after_all-append}
 use Rattle.node_events.specs.Events.{NodeEvent, hears, ticks}
-use Rattle.ftl0_session.specs.Uploads.Failures.{Failure, failed_reads}
+use Rattle.ftl0_server.specs.Failures.{Failure, failed_reads}
 use Rattle.ftl0_server.specs.Server.{Refused, Server, ServerSends, called_by, hearing_at, hearing_by, hearing_stranger}
 use Rattle.ftl0_server.specs.Server.{refusing, sends_by, sends_of_places}
 use Rattle.ftl0_server.specs.ServerStep.{Empties, happening}

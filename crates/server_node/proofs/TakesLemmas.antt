@@ -15,9 +15,9 @@ use Rattle.file_store.proofs.DoesLemmas.{Does-none}
 use Rattle.file_store.proofs.WorkingLemmas.{among-healthy, among-then, cuts-among-none, cuts-among-same}
 use Rattle.file_store.proofs.WorkingLemmas.{cuts-among-then, does-among}
 use Rattle.node_events.specs.Events.{NodeEvent, tick_since, ticks}
-use Rattle.ftl0_session.specs.Uploads.Failures.{failed_reads, failed_write}
-use Rattle.ftl0_session.specs.declared.stop.ServerStop.{ServerStop}
-use Rattle.ftl0_session.specs.declared.stop.ServerStop.TheVariants as server_stop
+use Rattle.ftl0_server.specs.Failures.{failed_reads, failed_write}
+use Rattle.ftl0_server.specs.ServerStop.{ServerStop}
+use Rattle.ftl0_server.specs.ServerStop.TheVariants as server_stop
 use Rattle.ftl0_server.specs.Connection.ConnectionState.{with_reads}
 use Rattle.ftl0_server.specs.Calls.{HearsBy}
 use Rattle.ftl0_server.specs.Server.{Server, ServerHappened, settled}

@@ -13,10 +13,10 @@ use Rattle.px_base.specs.declared.air.Polled.TheVariants as polled
 use Rattle.px_base.specs.declared.air.Turn.{Turn}
 use Rattle.px_base.proofs.Told.{Gains-trans, Grows-none, Grows-trans}
 use Rattle.disk_model.specs.declared.disk.Disk.{Ghosts}
-use Rattle.file_entries.specs.Command.{Command}
+use Rattle.file_store.specs.Command.{Command}
 use Rattle.file_store.specs.Working.{CutsOffAmongReads}
 use Rattle.file_store.proofs.WorkingLemmas.{cuts-among-none, cuts-among-same, cuts-among-then}
-use Rattle.ftl0_packets.proofs.OctetLemmas.{IsOctets-append}
+use Rattle.ftl0_server.proofs.OctetLemmas.{IsOctets-append}
 use Rattle.node_events.specs.Events.{Finishes, NodeEvent, NodeEvents}
 use Rattle.node_events.specs.Reading.{HasHeard}
 use Rattle.ftl0_server.specs.Server.{Server}

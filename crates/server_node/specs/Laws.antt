@@ -1,9 +1,9 @@
 -- Laws of a server over the events of its node.
 use Rattle.std.specs.Prelude.{◌≡◌, ℕ, List, ◌∷◌, ◌++◌}
 use Rattle.ax25_frames.specs.FrameText.{FrameValue}
-use Rattle.file_entries.specs.Command.{Command, after_all}
+use Rattle.file_store.specs.Command.{Command, after_all}
 use Rattle.node_events.specs.Events.{NodeEvent}
-use Rattle.ftl0_session.specs.Uploads.Failures.{failed_reads}
+use Rattle.ftl0_server.specs.Failures.{failed_reads}
 use Rattle.ftl0_server.specs.Server.{Server}
 use Rattle.ftl0_server.specs.ServerStep.{happening}
 use Rattle.server_node.specs.Serving.{ServesOver}

@@ -12,7 +12,7 @@ use Rattle.px_base.specs.declared.air.Turn.{Turn}
 use Rattle.px_base.specs.declared.air.Turn.TheVariants as turn
 use Rattle.disk_model.specs.declared.disk.Disk.{Ghosts}
 use Rattle.ax25_frames.specs.FrameText.{FrameValue}
-use Rattle.file_entries.specs.Command.{Command}
+use Rattle.file_store.specs.Command.{Command}
 use Rattle.file_store.specs.State.{StandsOn}
 use Rattle.file_store.specs.Working.{CutsOffAmongReads, DoesAmongReads}
 use Rattle.node_events.specs.Events.{Finishes, NodeEvent, heard_at, tick_of}

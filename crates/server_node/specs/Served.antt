@@ -6,16 +6,16 @@ use Rattle.px_base.specs.Polling.{HearsAll}
 use Rattle.px_base.specs.declared.air.Turn.{Turn}
 use Rattle.px_base.specs.declared.air.Air.{Ghosts as AirGhosts}
 use Rattle.disk_model.specs.declared.disk.Disk.{Ghosts}
-use Rattle.file_journal.specs.Calls.{Becomes, ChangesReads, TakesStep}
-use Rattle.file_journal.specs.Journal.{after_recovery}
-use Rattle.file_journal.specs.Walk.{state}
-use Rattle.file_entries.specs.Command.{Command}
-use Rattle.file_entries.specs.IsStore.{IsStore}
-use Rattle.file_entries.specs.Records.{store_magic}
-use Rattle.file_entries.specs.Store.{Store}
+use Rattle.file_store.specs.Calls.{Becomes, ChangesReads, TakesStep}
+use Rattle.file_store.specs.Journal.{after_recovery}
+use Rattle.file_store.specs.Walk.{state}
+use Rattle.file_store.specs.Command.{Command}
+use Rattle.file_store.specs.IsStore.{IsStore}
+use Rattle.file_store.specs.Records.{store_magic}
+use Rattle.file_store.specs.Store.{Store}
 use Rattle.file_store.specs.State.{standing_of}
 use Rattle.file_store.specs.Working.{CountsSome, PutsAmongReads}
-use Rattle.ax25_link.specs.Window.{window_of}
+use Rattle.ftl0_server.specs.Window.{window_of}
 use Rattle.node_events.specs.Events.{NodeEvent, NodeEvents}
 use Rattle.ftl0_server.specs.Server.{Server, new_server}
 use Rattle.session_node.specs.declared.stop.NodeStop.{NodeStop}

@@ -4,9 +4,9 @@ use Rattle.std.specs.Prelude.{◌≡◌, ◌≢◌, ◌⊎◌, ℕ, ◌+◌, Lis
 use Rattle.px_base.specs.Octets.{IsFront}
 use Rattle.kiss.specs.KissText.{kiss_text}
 use Rattle.ax25_frames.specs.FrameText.{FrameValue, canonical}
-use Rattle.file_entries.specs.Command.{Command}
+use Rattle.file_store.specs.Command.{Command}
 use Rattle.node_events.specs.Events.{NodeEvent}
-use Rattle.ftl0_session.specs.Uploads.Failures.{failed_reads, failed_write}
+use Rattle.ftl0_server.specs.Failures.{failed_reads, failed_write}
 use Rattle.ftl0_server.specs.Connection.Taking.{fails, goes_on}
 use Rattle.ftl0_server.specs.Server.{Server, ServerHappened}
 use Rattle.ftl0_server.specs.ServerStep.{ServerStep, happening}

@@ -1,7 +1,7 @@
 //! The server, from the recovery of its store to its end.
 
 ghost use Rattle.std.specs.Prelude.{◌≤◌, IsErrOf};
-ghost use Rattle.ax25_link.specs.Window.{IsGoodK};
+ghost use Rattle.ftl0_server.specs.Window.{IsGoodK};
 ghost use Rattle.server_node.specs.Served.{ServerEnds};
 ghost use Rattle.session_node.specs.OnDisk.{NodeRuns};
 ghost use Rattle.session_node.specs.Stops.{HasAirCause, RefusesSession};

@@ -2,9 +2,9 @@
 use Rattle.std.proofs.Common.{◌≡◌, ◌⊎◌, inl, inr, ℕ, ◌+◌, ◌≤◌, List, ◌++◌, length, refl, ◌∙◌, ap, subst, arith, append_assoc, length-append, IfSome}
 use Rattle.std.specs.Prelude.{Result, Ok, Err, IsErrOf}
 use Rattle.disk_model.specs.declared.disk.Disk.{Ghosts}
-use Rattle.file_journal.proofs.ToldLemmas.{told_weaker}
-use Rattle.file_entries.specs.Command.{AreAllowed, Command}
-use Rattle.file_entries.specs.Store.{Store}
+use Rattle.file_store.proofs.JournalToldLemmas.{told_weaker}
+use Rattle.file_store.specs.Command.{AreAllowed, Command}
+use Rattle.file_store.specs.Store.{Store}
 use Rattle.file_store.specs.OnDisk.{MakesBetween, StayDone}
 use Rattle.ftl0_session.specs.Laws.{AcknowledgedStandsLaw}
 use Rattle.session_node.specs.declared.stop.NodeStop.{NodeStop}

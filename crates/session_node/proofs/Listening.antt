@@ -20,7 +20,7 @@ use Rattle.ftl0_packets.specs.Layout.{Item}
 use Rattle.ftl0_packets.specs.Reading.{packets_of, rest_of}
 use Rattle.ftl0_packets.specs.Stream.{IsPartial, Stream}
 use Rattle.ftl0_packets.proofs.OctetLemmas.{IsOctets-nil}
-use Rattle.file_entries.specs.Command.{Command}
+use Rattle.file_store.specs.Command.{Command}
 use Rattle.ftl0_session.specs.Lists.Lists.{CallerList}
 use Rattle.file_store.specs.State.{StoreState, store_in}
 use Rattle.file_store.specs.Working.{CutsOffAmongReads}

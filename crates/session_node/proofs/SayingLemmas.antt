@@ -11,7 +11,7 @@ use Rattle.px_base.proofs.Told.{Gains-front, Gains-none, Gains-trans}
 use Rattle.disk_model.specs.declared.disk.Disk.{Ghosts}
 use Rattle.ftl0_packets.specs.Items.{texts}
 use Rattle.ftl0_packets.specs.Layout.{PacketValue, packet_text}
-use Rattle.file_entries.specs.Command.{Command}
+use Rattle.file_store.specs.Command.{Command}
 use Rattle.file_store.specs.State.{StandsOn, StoreState, store_in}
 use Rattle.file_store.specs.Working.{DoesAmongReads, one_if}
 use Rattle.file_store.proofs.DoesLemmas.{Does-none}

@@ -6,13 +6,13 @@ use Rattle.px_base.specs.Moments.{MomentsOf}
 use Rattle.px_base.specs.declared.air.Air.{Ghosts as AirGhosts}
 use Rattle.px_base.specs.declared.air.Turn.{Turn}
 use Rattle.disk_model.specs.declared.disk.Disk.{Ghosts}
-use Rattle.file_journal.specs.Calls.{Becomes, ChangesReads, Leaves, Runs, TakesStep}
-use Rattle.file_journal.specs.Journal.{after_recovery}
-use Rattle.file_journal.specs.Recovery.{IsFailedSync, IsSyncedFirst}
-use Rattle.file_journal.proofs.ToldLemmas.{told_weaker}
-use Rattle.file_entries.specs.Command.{Command}
-use Rattle.file_entries.specs.IsStore.{IsStore}
-use Rattle.file_entries.specs.Records.{store_magic}
+use Rattle.file_store.specs.Calls.{Becomes, ChangesReads, Leaves, Runs, TakesStep}
+use Rattle.file_store.specs.Journal.{after_recovery}
+use Rattle.file_store.specs.JournalRecovery.{IsFailedSync, IsSyncedFirst}
+use Rattle.file_store.proofs.JournalToldLemmas.{told_weaker}
+use Rattle.file_store.specs.Command.{Command}
+use Rattle.file_store.specs.IsStore.{IsStore}
+use Rattle.file_store.specs.Records.{store_magic}
 use Rattle.file_store.specs.Recovery.{IsRecovered, LeavesAlikeSinceSync, RefusesRecovery, StandsAlike}
 use Rattle.file_store.specs.State.{StandsFor, StoreState, store_in}
 use Rattle.file_store.specs.declared.refusals.StoreFault.{StoreFault}

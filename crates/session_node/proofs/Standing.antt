@@ -3,17 +3,17 @@ use Rattle.std.proofs.Common.{◌≡◌, inl, inr, ⊎_elim, ℕ, ◌+◌, ◌*�
 use Rattle.std.specs.Prelude.{if◌then◌else◌}
 use Rattle.std.specs.Option.{option_and_then}
 use Rattle.disk_model.specs.declared.disk.Disk.{Ghosts}
-use Rattle.file_journal.specs.Calls.{CountsFault, Leaves, Runs, TellsAlike}
-use Rattle.file_journal.specs.Journal as journal
-use Rattle.file_journal.specs.Journal.{Standing, journal_of}
-use Rattle.file_journal.specs.Records.{Reading, Record, broken, whole}
-use Rattle.file_journal.specs.Recovery.{IsSyncedFirst}
-use Rattle.file_journal.specs.Walk.{Stands, damaged_at, on_from, stands_for, stands_of, state, walk, walk_over}
-use Rattle.file_journal.proofs.MomentLemmas.{joined, weaker}
-use Rattle.file_journal.proofs.ToldLemmas.{alike_on, at_told, if_told, told_before, told_weaker}
-use Rattle.file_entries.specs.Command.{Command, after, begin, drop_entry, grow, is_allowed, seal}
-use Rattle.file_entries.specs.Records.{command_of, store_after, store_magic, store_step}
-use Rattle.file_entries.specs.Store.{Store, empty_store}
+use Rattle.file_store.specs.Calls.{CountsFault, Leaves, Runs, TellsAlike}
+use Rattle.file_store.specs.Journal as journal
+use Rattle.file_store.specs.Journal.{Standing, journal_of}
+use Rattle.file_store.specs.JournalRecords.{Reading, Record, broken, whole}
+use Rattle.file_store.specs.JournalRecovery.{IsSyncedFirst}
+use Rattle.file_store.specs.Walk.{Stands, damaged_at, on_from, stands_for, stands_of, state, walk, walk_over}
+use Rattle.file_store.proofs.MomentLemmas.{joined, weaker}
+use Rattle.file_store.proofs.JournalToldLemmas.{alike_on, at_told, if_told, told_before, told_weaker}
+use Rattle.file_store.specs.Command.{Command, after, begin, drop_entry, grow, is_allowed, seal}
+use Rattle.file_store.specs.Records.{command_of, store_after, store_magic, store_step}
+use Rattle.file_store.specs.Store.{Store, empty_store}
 use Rattle.file_store.specs.OnDisk.{MakesFirst}
 use Rattle.file_store.specs.Recovery.{StandsAlike}
 use Rattle.file_store.specs.State.{StandsFor, StoreState, standing_of, store_in}

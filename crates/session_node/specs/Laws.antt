@@ -5,8 +5,8 @@ use Rattle.disk_model.specs.Moments.{LeavesSince}
 use Rattle.disk_model.specs.declared.disk.Disk.{Ghosts}
 use Rattle.ftl0_packets.specs.Layout.{PacketValue, data_end, ul_ack_resp}
 use Rattle.ftl0_session.specs.Lists.Lists.{CallerList}
-use Rattle.file_entries.specs.Command.{Command, after_all}
-use Rattle.file_entries.specs.Store.{Entry, Store}
+use Rattle.file_store.specs.Command.{Command, after_all}
+use Rattle.file_store.specs.Store.{Entry, Store}
 use Rattle.ftl0_session.specs.Uploads.Laws.{HasEntry, IsWhole, kept}
 use Rattle.ftl0_session.specs.Run.{Event, RunsOver, event_row}
 use Rattle.ftl0_session.specs.Table.{Row, State, receiving, session_row}

@@ -2,10 +2,10 @@
 use Rattle.std.specs.Prelude.{◌≡◌, ◌⊎◌, ℕ, ◌+◌, ◌*◌, ◌<◌, ◌≤◌, List, ◌++◌, length, IfSome}
 use Rattle.px_base.specs.Outside.{Rose}
 use Rattle.disk_model.specs.declared.disk.Disk.{Ghosts}
-use Rattle.file_journal.specs.Calls.{Leaves, TellsAlike, images_now}
-use Rattle.file_journal.specs.Recovery.{IsFailedSync, IsSyncedFirst}
-use Rattle.file_entries.specs.Command.{AreAllowed, Command, after_all}
-use Rattle.file_entries.specs.Store.{Store}
+use Rattle.file_store.specs.Calls.{Leaves, TellsAlike, images_now}
+use Rattle.file_store.specs.JournalRecovery.{IsFailedSync, IsSyncedFirst}
+use Rattle.file_store.specs.Command.{AreAllowed, Command, after_all}
+use Rattle.file_store.specs.Store.{Store}
 use Rattle.file_store.specs.OnDisk.{MakesBetween, MakesFirst, StayDone}
 use Rattle.file_store.specs.Recovery.{StandsAlike}
 use Rattle.file_store.specs.State.{StandsFor}

@@ -11,17 +11,17 @@ use Rattle.px_base.specs.declared.air.Turn.{Turn}
 use Rattle.px_base.specs.declared.air.Turn.TheVariants as turn
 use Rattle.px_base.specs.declared.air.Air.{Ghosts as AirGhosts}
 use Rattle.disk_model.specs.declared.disk.Disk.{Ghosts}
-use Rattle.file_journal.specs.Calls.{Becomes, ChangesReads, Runs, TakesStep}
-use Rattle.file_journal.specs.Journal.{after_recovery}
-use Rattle.file_journal.specs.Walk.{state}
+use Rattle.file_store.specs.Calls.{Becomes, ChangesReads, Runs, TakesStep}
+use Rattle.file_store.specs.Journal.{after_recovery}
+use Rattle.file_store.specs.Walk.{state}
 use Rattle.ftl0_packets.specs.Items.{texts}
 use Rattle.ftl0_packets.specs.Layout.{PacketValue, packet_text}
 use Rattle.ftl0_packets.specs.Stream.{Stream}
 use Rattle.ftl0_session.specs.Lists.Lists.{CallerList}
-use Rattle.file_entries.specs.Command.{Command}
-use Rattle.file_entries.specs.IsStore.{IsStore}
-use Rattle.file_entries.specs.Records.{store_magic}
-use Rattle.file_entries.specs.Store.{Store}
+use Rattle.file_store.specs.Command.{Command}
+use Rattle.file_store.specs.IsStore.{IsStore}
+use Rattle.file_store.specs.Records.{store_magic}
+use Rattle.file_store.specs.Store.{Store}
 use Rattle.file_store.specs.State.{StoreState, standing_of, store_in}
 use Rattle.file_store.specs.Working.{CountsSome, CutsOffAmongReads, PutsAmongReads}
 use Rattle.file_store.specs.declared.refusals.StoreFault.{StoreFault}

@@ -2,7 +2,7 @@
 use Rattle.std.specs.Prelude.{◌≡◌, ◌↔◌, ℕ, ◌≤◌, List, Option, IfSome, Result, Ok, Err, IsErrOf, ⊤}
 use Rattle.px_base.specs.Outside.{Rose}
 use Rattle.px_base.specs.declared.air.AirDown.{AirDown}
-use Rattle.file_journal.specs.Walk.{damaged_at, no_store}
+use Rattle.file_store.specs.Walk.{damaged_at, no_store}
 use Rattle.file_store.specs.State.{standing_of}
 use Rattle.file_store.specs.declared.refusals.StoreFault.{StoreFault}
 use Rattle.file_store.specs.declared.refusals.StoreFault.TheVariants as fault

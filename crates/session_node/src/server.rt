@@ -3,8 +3,8 @@
 ghost use Rattle.std.specs.Prelude.{◌≡◌, ◌≤◌, ◌<◌, [], ◌∷◌, length, false, IsErrOf, IsSome, IsTrue};
 ghost use Rattle.px_base.specs.Moments.{MomentsOf};
 ghost use Rattle.ftl0_packets.specs.Reading.{is_whole};
-ghost use Rattle.file_entries.specs.Files.{NothingOut};
-ghost use Rattle.file_entries.specs.IsStore.{IsStore};
+ghost use Rattle.file_store.specs.Files.{NothingOut};
+ghost use Rattle.file_store.specs.IsStore.{IsStore};
 ghost use Rattle.file_store.specs.State.{StandsFor, StandsOn, store_in};
 ghost use Rattle.ftl0_session.specs.Downloads.Needs.{IsDueIn};
 ghost use Rattle.ftl0_session.specs.SessionState.{IsFit, MayTake, caller_of, state_in};

@@ -3,9 +3,9 @@ use Rattle.std.proofs.Common.{◌≡◌, ℕ, Bool, true, false, List, [], ◌++
 use Rattle.std.specs.Prelude.{◌≢◌, Result, Ok, Err, IfErr, IfOk, IsErrOf, OnOk, if◌then◌else◌, ⊤}
 use Rattle.px_base.specs.declared.air.Air.{Ghosts as AirGhosts}
 use Rattle.disk_model.specs.declared.disk.Disk.{Ghosts}
-use Rattle.file_journal.specs.Calls.{Runs}
-use Rattle.file_journal.specs.Walk.{state}
-use Rattle.file_journal.proofs.ToldLemmas.{told_weaker}
+use Rattle.client_notes.specs.Calls.{Runs}
+use Rattle.client_notes.specs.Walk.{state}
+use Rattle.client_notes.proofs.ToldLemmas.{told_weaker}
 use Rattle.client_notes.specs.Command.{NotesCommand}
 use Rattle.client_notes.specs.Laws.{after_all}
 use Rattle.client_notes.specs.Notes.{Lists}
@@ -14,7 +14,7 @@ use Rattle.client_notes.specs.Several.{DoesSeveral}
 use Rattle.client_notes.specs.State.{StandsFor, standing_of}
 use Rattle.client_notes.proofs.PutLemmas.{images-here}
 use Rattle.client_notes.proofs.SeveralLemmas.{Several-then}
-use Rattle.ftl0_job.specs.Table.{JobState}
+use Rattle.ftl0_client.specs.Table.{JobState}
 use Rattle.ftl0_client.specs.Client.{Client, ClientEvent}
 use Rattle.ftl0_client.specs.ClientState.{ClientState, listing_in}
 use Rattle.ftl0_client.specs.declared.outcome.Outcome.{Outcome}

@@ -1,21 +1,21 @@
 -- How `fetch` ends.
 use Rattle.std.proofs.Common.{◌≡◌, ℕ, ◌≤◌, true, List, [], length, refl, sym, ap, ◌∙◌, subst, arith, None, Option}
 use Rattle.std.specs.Prelude.{Result, Ok, Err, IsErrOf, ⊤}
-use Rattle.pfh_items.specs.Faults.{fault_code}
+use Rattle.pfh_reader.specs.Faults.{fault_code}
 use Rattle.px_base.specs.CallSign.{CallSign}
 use Rattle.px_base.specs.Shelves.{Holding}
 use Rattle.px_base.specs.declared.air.Air.{Ghosts as AirGhosts}
 use Rattle.disk_model.specs.declared.disk.Disk.{Ghosts}
-use Rattle.file_journal.specs.Calls.{Runs}
+use Rattle.client_notes.specs.Calls.{Runs}
 use Rattle.client_notes.specs.declared.limits.TheConstants.{LONGEST_FILE}
 use Rattle.client_notes.specs.Laws.{after_all}
 use Rattle.client_notes.specs.Notes.{Lists, got_of}
 use Rattle.client_notes.specs.Several.{DoesSeveral}
 use Rattle.client_notes.proofs.SeveralLemmas.{Several-none}
-use Rattle.ftl0_job.specs.declared.work.Work.TheVariants as work
-use Rattle.ftl0_job.specs.Download.{new_download}
-use Rattle.ftl0_job.specs.JobState.{NotesGoWith}
-use Rattle.ftl0_job.specs.Table.{JobState, new_job}
+use Rattle.ftl0_client.specs.Work.TheVariants as work
+use Rattle.ftl0_client.specs.Download.{new_download}
+use Rattle.ftl0_client.specs.JobState.{NotesGoWith}
+use Rattle.ftl0_client.specs.Table.{JobState, new_job}
 use Rattle.ftl0_client.specs.ClientState.{ClientState, listing_in}
 use Rattle.ftl0_client.specs.declared.outcome.Outcome.{Outcome}
 use Rattle.ftl0_client.specs.declared.outcome.Outcome.TheVariants as outcome

@@ -7,14 +7,14 @@ use Rattle.px_base.specs.Outside.{Grows}
 use Rattle.px_base.specs.declared.air.Air.{Ghosts as AirGhosts}
 use Rattle.px_base.specs.declared.air.Turn.{Turn}
 use Rattle.disk_model.specs.declared.disk.Disk.{Ghosts}
-use Rattle.ax25_frames.specs.FrameText.{FrameValue}
-use Rattle.node_events.specs.Events.{NodeEvent, NodeEvents}
-use Rattle.node_events.specs.Laws.{OneRunLaw}
+use Rattle.client_node.specs.FrameText.{FrameValue}
+use Rattle.client_node.specs.Events.{NodeEvent, NodeEvents}
+use Rattle.client_node.specs.Laws.{OneRunLaw}
 use Rattle.client_notes.specs.Command.{NotesCommand}
 use Rattle.client_notes.specs.Laws.{after_all}
 use Rattle.client_notes.specs.Notes.{Lists}
-use Rattle.ftl0_job.specs.declared.work.Work.{Work}
-use Rattle.ftl0_job.specs.Table.{JobState}
+use Rattle.ftl0_client.specs.Work.{Work}
+use Rattle.ftl0_client.specs.Table.{JobState}
 use Rattle.ftl0_client.specs.Client.{Client, ClientEvent, asks}
 use Rattle.ftl0_client.specs.Going.{AsksNothing, GoesOver, StaysLaw}
 use Rattle.ftl0_client.specs.Laws.{OneStepLaw}

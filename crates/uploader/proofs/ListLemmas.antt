@@ -3,13 +3,13 @@ use Rattle.std.proofs.Common.{◌≡◌, ℕ, true, List, [], refl, sym, ◌∙�
 use Rattle.std.specs.Prelude.{Result, Ok, Err, IsErrOf, ⊤}
 use Rattle.px_base.specs.declared.air.Air.{Ghosts as AirGhosts}
 use Rattle.disk_model.specs.declared.disk.Disk.{Ghosts}
-use Rattle.file_journal.specs.Calls.{Runs}
+use Rattle.client_notes.specs.Calls.{Runs}
 use Rattle.client_notes.specs.Several.{DoesSeveral}
 use Rattle.client_notes.proofs.SeveralLemmas.{Several-none}
-use Rattle.ftl0_job.specs.declared.work.Work.TheVariants as work
-use Rattle.ftl0_job.specs.Directory.{new_directory}
-use Rattle.ftl0_job.specs.Short.{are_short_headers}
-use Rattle.ftl0_job.specs.Table.{JobState, new_job}
+use Rattle.ftl0_client.specs.Work.TheVariants as work
+use Rattle.ftl0_client.specs.Directory.{new_directory}
+use Rattle.ftl0_client.specs.Short.{are_short_headers}
+use Rattle.ftl0_client.specs.Table.{JobState, new_job}
 use Rattle.ftl0_client.specs.ClientState.{ClientState, listing_in}
 use Rattle.ftl0_client.specs.declared.outcome.Outcome.{Outcome}
 use Rattle.ftl0_client.specs.declared.outcome.Outcome.TheVariants as outcome

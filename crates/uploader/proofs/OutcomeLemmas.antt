@@ -1,21 +1,21 @@
 -- What a job that was carried out came to, where that is what a command asks for.
 use Rattle.std.proofs.Common.{◌≡◌, ℕ, true, List, refl, sym, ap, ◌∙◌, subst, None, Some}
 use Rattle.std.specs.Prelude.{Result, Ok, Err, IfOk}
-use Rattle.pfh_items.specs.Faults.{fault_code}
+use Rattle.pfh_reader.specs.Faults.{fault_code}
 use Rattle.disk_model.specs.declared.disk.Disk.{Ghosts}
-use Rattle.file_journal.proofs.ToldLemmas.{told_weaker}
+use Rattle.client_notes.proofs.ToldLemmas.{told_weaker}
 use Rattle.client_notes.specs.Answers.{noted_at}
 use Rattle.client_notes.specs.declared.answers.Noted.TheVariants as noted
 use Rattle.client_notes.specs.Notes.{Lists, got_of}
 use Rattle.client_notes.specs.OnDisk.{EachImage}
 use Rattle.client_notes.specs.State.{StandsFor}
-use Rattle.ftl0_job.specs.declared.work.Work.{Work}
-use Rattle.ftl0_job.specs.declared.work.Work.TheVariants as work
-use Rattle.ftl0_job.specs.Directory.{Directory}
-use Rattle.ftl0_job.specs.Download.{Download}
-use Rattle.ftl0_job.specs.Laws.{IsAckedIn}
-use Rattle.ftl0_job.specs.Short.{are_short_headers}
-use Rattle.ftl0_job.specs.Upload.{Upload}
+use Rattle.ftl0_client.specs.Work.{Work}
+use Rattle.ftl0_client.specs.Work.TheVariants as work
+use Rattle.ftl0_client.specs.Directory.{Directory}
+use Rattle.ftl0_client.specs.Download.{Download}
+use Rattle.ftl0_client.specs.JobLaws.{IsAckedIn}
+use Rattle.ftl0_client.specs.Short.{are_short_headers}
+use Rattle.ftl0_client.specs.Upload.{Upload}
 use Rattle.ftl0_client.specs.declared.outcome.Outcome.{Outcome}
 use Rattle.ftl0_client.specs.declared.outcome.Outcome.TheVariants as outcome
 use Rattle.client_node.specs.Carried.{Became}

@@ -4,12 +4,12 @@ use Rattle.std.specs.Prelude.{Result, Ok, Err, IfOk, IsErr, IsErrOf, IsTrue, Mat
 use Rattle.px_base.specs.CallSign.{CallSign}
 use Rattle.px_base.specs.Shelves.{Holding, content_of}
 use Rattle.px_base.specs.declared.air.Air.{Ghosts as AirGhosts}
-use Rattle.pfh_items.specs.Faults.{fault_code}
+use Rattle.pfh_reader.specs.Faults.{fault_code}
 use Rattle.disk_model.specs.declared.disk.Disk.{Ghosts}
-use Rattle.file_journal.specs.Calls.{Runs}
-use Rattle.file_journal.proofs.CallLemmas.{stops_none}
-use Rattle.file_journal.specs.Walk.{state}
-use Rattle.file_journal.proofs.ToldLemmas.{alike_same, told_weaker}
+use Rattle.client_notes.specs.Calls.{Runs}
+use Rattle.client_notes.proofs.CallLemmas.{stops_none}
+use Rattle.client_notes.specs.Walk.{state}
+use Rattle.client_notes.proofs.ToldLemmas.{alike_same, told_weaker}
 use Rattle.client_notes.specs.Answers.{StartsBy, answer_of, fresh_task, noted_at, start_reaches}
 use Rattle.client_notes.specs.Command.{NotesCommand}
 use Rattle.client_notes.specs.declared.answers.Begun.{Begun}
@@ -24,10 +24,10 @@ use Rattle.client_notes.specs.Several.{DoesSeveral}
 use Rattle.client_notes.specs.State.{NotesState, StandsFor, standing_of}
 use Rattle.client_notes.proofs.PutLemmas.{images-here}
 use Rattle.client_notes.proofs.SeveralLemmas.{Several-none, Several-one, Several-same}
-use Rattle.ftl0_job.specs.declared.work.Work.TheVariants as work
-use Rattle.ftl0_job.specs.Laws.{IsAckedIn}
-use Rattle.ftl0_job.specs.Table.{JobState, new_job}
-use Rattle.ftl0_job.specs.Upload.{new_upload}
+use Rattle.ftl0_client.specs.Work.TheVariants as work
+use Rattle.ftl0_client.specs.JobLaws.{IsAckedIn}
+use Rattle.ftl0_client.specs.Table.{JobState, new_job}
+use Rattle.ftl0_client.specs.Upload.{new_upload}
 use Rattle.ftl0_client.specs.Client.{Client}
 use Rattle.ftl0_client.specs.ClientState.{ClientState, GoWithAttempt, IsClient, MayHear, client_pending, listing_in, new_state}
 use Rattle.ftl0_client.specs.declared.outcome.Outcome.{Outcome}

@@ -2,12 +2,12 @@
 use Rattle.std.proofs.Common.{◌≡◌, inr, ⊎_elim, ℕ, ◌+◌, ◌*◌, ◌≤◌, List, [], ◌++◌, length, refl, ◌∙◌, subst, arith, Some, IfSome, length-append}
 use Rattle.px_base.specs.Outside.{Rose}
 use Rattle.disk_model.specs.declared.disk.Disk.{Ghosts}
-use Rattle.file_journal.specs.Calls.{CountsFault, Leaves, Runs, TellsAlike}
-use Rattle.file_journal.specs.Recovery.{IsSyncedFirst}
-use Rattle.file_journal.specs.Walk.{state}
-use Rattle.file_journal.proofs.CallLemmas.{stops_on}
-use Rattle.file_journal.proofs.MomentLemmas.{joined, weaker}
-use Rattle.file_journal.proofs.ToldLemmas.{alike_on, at_told, if_told, told_before, told_weaker}
+use Rattle.client_notes.specs.Calls.{CountsFault, Leaves, Runs, TellsAlike}
+use Rattle.client_notes.specs.JournalRecovery.{IsSyncedFirst}
+use Rattle.client_notes.specs.Walk.{state}
+use Rattle.client_notes.proofs.CallLemmas.{stops_on}
+use Rattle.client_notes.proofs.MomentLemmas.{joined, weaker}
+use Rattle.client_notes.proofs.ToldLemmas.{alike_on, at_told, if_told, told_before, told_weaker}
 use Rattle.client_notes.specs.Command.{NotesCommand}
 use Rattle.client_notes.specs.Notes.{Lists}
 use Rattle.client_notes.specs.Records.{notes_magic}

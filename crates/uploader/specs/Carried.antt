@@ -5,13 +5,13 @@ use Rattle.px_base.specs.Polling.{HearsAll}
 use Rattle.px_base.specs.declared.air.Air.{Ghosts as AirGhosts}
 use Rattle.px_base.specs.declared.air.Turn.{Turn}
 use Rattle.disk_model.specs.declared.disk.Disk.{Ghosts}
-use Rattle.ax25_frames.specs.FrameText.{FrameValue}
-use Rattle.ax25_link.specs.Window.{window_of}
+use Rattle.client_node.specs.FrameText.{FrameValue}
+use Rattle.ftl0_client.specs.Window.{window_of}
 use Rattle.client_notes.specs.Command.{NotesCommand}
 use Rattle.client_notes.specs.Laws.{after_all}
 use Rattle.client_notes.specs.Notes.{Lists}
 use Rattle.client_notes.specs.declared.refusals.StoreFault.{StoreFault}
-use Rattle.ftl0_job.specs.Table.{JobState}
+use Rattle.ftl0_client.specs.Table.{JobState}
 use Rattle.ftl0_client.specs.Client.{Client, ClientEvent, new_client}
 use Rattle.ftl0_client.specs.declared.outcome.Outcome.{Outcome}
 use Rattle.ftl0_client.specs.Going.{GoesOver}

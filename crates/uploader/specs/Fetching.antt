@@ -3,12 +3,12 @@ use Rattle.std.specs.Prelude.{◌≡◌, ◌⊎◌, ℕ, List, [], Option, None,
 use Rattle.px_base.specs.Shelves.{Holding, Keeps, KeepsOthers}
 use Rattle.px_base.specs.declared.air.Air.{Ghosts as AirGhosts}
 use Rattle.disk_model.specs.declared.disk.Disk.{Ghosts}
-use Rattle.pfh_items.specs.Faults.{fault_code}
+use Rattle.pfh_reader.specs.Faults.{fault_code}
 use Rattle.client_notes.specs.Laws.{after_all}
 use Rattle.client_notes.specs.Notes.{Lists, got_of}
-use Rattle.ftl0_job.specs.declared.work.Work.TheVariants as work
-use Rattle.ftl0_job.specs.Download.{new_download}
-use Rattle.ftl0_job.specs.Table.{new_job}
+use Rattle.ftl0_client.specs.Work.TheVariants as work
+use Rattle.ftl0_client.specs.Download.{new_download}
+use Rattle.ftl0_client.specs.Table.{new_job}
 use Rattle.ftl0_client.specs.declared.outcome.Outcome.{Outcome}
 use Rattle.ftl0_client.specs.declared.outcome.Outcome.TheVariants as outcome
 use Rattle.uploader.specs.declared.stop.SendStop.{SendStop}

@@ -3,12 +3,12 @@ use Rattle.std.specs.Prelude.{◌≡◌, ◌≢◌, ◌⊎◌, ℕ, List, ◌++�
 use Rattle.px_base.specs.declared.air.Air.{Ghosts as AirGhosts}
 use Rattle.px_base.specs.declared.air.Turn.{Turn}
 use Rattle.disk_model.specs.declared.disk.Disk.{Ghosts}
-use Rattle.ax25_frames.specs.FrameText.{FrameValue}
-use Rattle.node_events.specs.Events.{NodeEvent, NodeEvents}
+use Rattle.client_node.specs.FrameText.{FrameValue}
+use Rattle.client_node.specs.Events.{NodeEvent, NodeEvents}
 use Rattle.client_notes.specs.Command.{NotesCommand}
 use Rattle.client_notes.specs.Laws.{after_all}
 use Rattle.client_notes.specs.Notes.{Lists}
-use Rattle.ftl0_job.specs.Table.{JobState}
+use Rattle.ftl0_client.specs.Table.{JobState}
 use Rattle.ftl0_client.specs.Client.{Client}
 use Rattle.ftl0_client.specs.Going.{GoesOver}
 use Rattle.ftl0_client.specs.Outcomes.{outcome_by}

@@ -9,3 +9,13 @@ pub mod OnDisk
 pub mod Ready
 pub mod Sending
 pub mod Stops
+pub use Rattle.client_node.specs.Carried as ClientNodeCarried
+pub use Rattle.client_node.specs.declared.stop.NodeStop
+pub use Rattle.client_notes.specs.Answers
+pub use Rattle.client_notes.specs.Command
+pub use Rattle.client_notes.specs.Laws
+pub use Rattle.client_notes.specs.Notes
+pub use Rattle.client_notes.specs.State
+pub use Rattle.client_notes.specs.declared.answers.Begun
+pub use Rattle.client_notes.specs.declared.refusals.NotesRefusal
+pub use Rattle.client_notes.specs.declared.refusals.StoreFault

@@ -4,10 +4,10 @@ use Rattle.px_base.specs.Outside.{Gains, GainsPrefix}
 use Rattle.px_base.specs.declared.air.Air.{Ghosts as AirGhosts}
 use Rattle.disk_model.specs.declared.disk.Disk.{Ghosts}
 use Rattle.client_notes.specs.Notes.{Lists}
-use Rattle.ftl0_job.specs.declared.work.Work.TheVariants as work
-use Rattle.ftl0_job.specs.Directory.{new_directory}
-use Rattle.ftl0_job.specs.Short.{are_short_headers}
-use Rattle.ftl0_job.specs.Table.{new_job}
+use Rattle.ftl0_client.specs.Work.TheVariants as work
+use Rattle.ftl0_client.specs.Directory.{new_directory}
+use Rattle.ftl0_client.specs.Short.{are_short_headers}
+use Rattle.ftl0_client.specs.Table.{new_job}
 use Rattle.ftl0_client.specs.declared.outcome.Outcome.{Outcome}
 use Rattle.ftl0_client.specs.declared.outcome.Outcome.TheVariants as outcome
 use Rattle.uploader.specs.declared.stop.SendStop.{SendStop}

@@ -3,7 +3,7 @@ use Rattle.std.specs.Prelude.{◌≡◌, ◌↔◌, ℕ, ◌<◌, ◌≤◌, Lis
 use Rattle.std.specs.Prelude.{false, IfErr, IsErrOf, MatchResult, ⊤}
 use Rattle.px_base.specs.Outside.{Rose}
 use Rattle.px_base.specs.Shelves.{Holding, content_of}
-use Rattle.pfh_items.specs.Faults.{fault_code}
+use Rattle.pfh_reader.specs.Faults.{fault_code}
 use Rattle.sha2.specs.Sha256.{sha256}
 use Rattle.uploader.specs.declared.stop.SendStop.{SendStop}
 use Rattle.uploader.specs.declared.stop.SendStop.TheVariants as stop

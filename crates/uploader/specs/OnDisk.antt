@@ -2,10 +2,10 @@
 use Rattle.std.specs.Prelude.{◌≡◌, ◌↔◌, ℕ, ◌+◌, ◌*◌, ◌<◌, ◌≤◌, List, ◌++◌, length, Option, IfSome, Result, Err}
 use Rattle.std.specs.Prelude.{IsErrOf, ⊤}
 use Rattle.disk_model.specs.declared.disk.Disk.{Ghosts}
-use Rattle.file_journal.specs.Calls.{Becomes, CountsFault, Leaves, Runs, TakesStep}
-use Rattle.file_journal.specs.Journal.{after_recovery}
-use Rattle.file_journal.specs.Recovery.{IsSyncedFirst}
-use Rattle.file_journal.specs.Walk.{Stands, damaged_at, no_store, state}
+use Rattle.client_notes.specs.Calls.{Becomes, CountsFault, Leaves, Runs, TakesStep}
+use Rattle.client_notes.specs.Journal.{after_recovery}
+use Rattle.client_notes.specs.JournalRecovery.{IsSyncedFirst}
+use Rattle.client_notes.specs.Walk.{Stands, damaged_at, no_store, state}
 use Rattle.client_notes.specs.Command.{NotesCommand}
 use Rattle.client_notes.specs.Laws.{AreAllowed, after_all}
 use Rattle.client_notes.specs.Notes.{Lists}

@@ -2,15 +2,15 @@
 use Rattle.std.specs.Prelude.{◌≡◌, ℕ, List, false, Option, IfOk, IfSome, MatchResult, Result, Ok, Err, ⊤}
 use Rattle.px_base.specs.declared.air.Air.{Ghosts as AirGhosts}
 use Rattle.disk_model.specs.declared.disk.Disk.{Ghosts}
-use Rattle.file_journal.specs.Calls.{Leaves, Runs}
-use Rattle.file_journal.specs.Recovery.{IsSyncedFirst}
+use Rattle.client_notes.specs.Calls.{Leaves, Runs}
+use Rattle.client_notes.specs.JournalRecovery.{IsSyncedFirst}
 use Rattle.client_notes.specs.Records.{notes_magic}
 use Rattle.client_notes.specs.Recovery.{StandsAlike}
 use Rattle.client_notes.specs.State.{StandsOn}
 use Rattle.client_notes.specs.declared.refusals.StoreFault.{StoreFault}
-use Rattle.ftl0_job.specs.declared.work.Work.{Work}
-use Rattle.ftl0_job.specs.declared.work.Work.TheVariants as work
-use Rattle.ftl0_job.specs.Table.{JobState}
+use Rattle.ftl0_client.specs.Work.{Work}
+use Rattle.ftl0_client.specs.Work.TheVariants as work
+use Rattle.ftl0_client.specs.Table.{JobState}
 use Rattle.ftl0_client.specs.Client.{Client}
 use Rattle.ftl0_client.specs.ClientState.{ClientState, IsClient, listing_in, new_state}
 use Rattle.ftl0_client.specs.declared.outcome.Outcome.{Outcome}

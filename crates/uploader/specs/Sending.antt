@@ -11,10 +11,10 @@ use Rattle.client_notes.specs.OnDisk.{EachImage}
 use Rattle.client_notes.specs.declared.answers.Begun.{Begun}
 use Rattle.client_notes.specs.declared.answers.Begun.TheVariants as begun
 use Rattle.client_notes.specs.declared.refusals.NotesRefusal.{NotesRefusal}
-use Rattle.ftl0_job.specs.declared.work.Work.TheVariants as work
-use Rattle.ftl0_job.specs.Laws.{IsAckedIn}
-use Rattle.ftl0_job.specs.Table.{new_job}
-use Rattle.ftl0_job.specs.Upload.{new_upload}
+use Rattle.ftl0_client.specs.Work.TheVariants as work
+use Rattle.ftl0_client.specs.JobLaws.{IsAckedIn}
+use Rattle.ftl0_client.specs.Table.{new_job}
+use Rattle.ftl0_client.specs.Upload.{new_upload}
 use Rattle.ftl0_client.specs.declared.outcome.Outcome.{Outcome}
 use Rattle.ftl0_client.specs.declared.outcome.Outcome.TheVariants as outcome
 use Rattle.uploader.specs.declared.stop.SendStop.{SendStop}

@@ -1,8 +1,8 @@
 //! What the commands share: the notes are recovered, and a job is carried out.
 
 ghost use Rattle.std.specs.Prelude.{◌≡◌, Ok, IfErr, IfOk};
-ghost use Rattle.ax25_link.specs.Window.{IsGoodK};
-ghost use Rattle.ftl0_job.specs.JobState.{IsNew, NotesGoWith};
+ghost use Rattle.ftl0_client.specs.Window.{IsGoodK};
+ghost use Rattle.ftl0_client.specs.JobState.{IsNew, NotesGoWith};
 ghost use Rattle.ftl0_client.specs.Client.{Client as ClientValue};
 ghost use Rattle.ftl0_client.specs.ClientState.{IsClient, IsFree, IsOwn};
 ghost use Rattle.client_node.specs.Carried.{MayCarryOut};

@@ -1,8 +1,8 @@
 //! A file is fetched.
 
 ghost use Rattle.std.specs.Prelude.{◌≡◌, ◌≤◌, IsErrOf};
-ghost use Rattle.ax25_link.specs.Window.{IsGoodK};
-ghost use Rattle.file_journal.specs.Calls.{CountsFault, Runs};
+ghost use Rattle.ftl0_client.specs.Window.{IsGoodK};
+ghost use Rattle.client_notes.specs.Calls.{CountsFault, Runs};
 ghost use Rattle.uploader.specs.Carried.{setting};
 ghost use Rattle.uploader.specs.Causes.{HasAirCauseOf};
 ghost use Rattle.uploader.specs.Fetching.{FetchEnds};

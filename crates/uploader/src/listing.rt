@@ -2,8 +2,8 @@
 
 ghost use Rattle.std.specs.Prelude.{◌≡◌, ◌≤◌, length, IsErrOf, OnErr, OnOk};
 ghost use Rattle.px_base.specs.Outside.{Gains, GainsPrefix, HasCause};
-ghost use Rattle.ax25_link.specs.Window.{IsGoodK};
-ghost use Rattle.file_journal.specs.Calls.{CountsFault, Runs};
+ghost use Rattle.ftl0_client.specs.Window.{IsGoodK};
+ghost use Rattle.client_notes.specs.Calls.{CountsFault, Runs};
 ghost use Rattle.uploader.specs.Carried.{setting};
 ghost use Rattle.uploader.specs.Causes.{HasAirCauseOf};
 ghost use Rattle.uploader.specs.Lines.{listing_lines};

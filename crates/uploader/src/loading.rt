@@ -2,7 +2,7 @@
 
 ghost use Rattle.std.specs.Prelude.{◌≡◌, ◌≤◌, None, length, IfOk};
 ghost use Rattle.px_base.specs.Shelves.{Holding};
-ghost use Rattle.pfh_items.specs.Faults.{fault_code};
+ghost use Rattle.pfh_reader.specs.Faults.{fault_code};
 ghost use Rattle.uploader.specs.Loading.{HasShelfCause, IsSendable, LoadsBy, most_octets};
 
 use crate::SendStop;

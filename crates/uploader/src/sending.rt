@@ -1,14 +1,14 @@
 //! A file is sent.
 
 ghost use Rattle.std.specs.Prelude.{◌≡◌, ◌≤◌, length, IsErrOf};
-ghost use Rattle.ax25_link.specs.Window.{IsGoodK};
-ghost use Rattle.file_journal.specs.Calls.{Runs};
+ghost use Rattle.ftl0_client.specs.Window.{IsGoodK};
+ghost use Rattle.client_notes.specs.Calls.{Runs};
 ghost use Rattle.uploader.specs.Carried.{setting};
 ghost use Rattle.uploader.specs.Causes.{HasAirCauseOf};
 ghost use Rattle.uploader.specs.Loading.{HasShelfCause, IsPastFile, RefusesFile};
 ghost use Rattle.uploader.specs.OnDisk.{RefusesNotes};
 ghost use Rattle.uploader.specs.Sending.{SendEnds};
-ghost use Rattle.ftl0_job.specs.JobState.{IsNew, NotesGoWith};
+ghost use Rattle.ftl0_client.specs.JobState.{IsNew, NotesGoWith};
 ghost use Rattle.ftl0_client.specs.Client.{Client as ClientValue};
 ghost use Rattle.ftl0_client.specs.ClientState.{IsClient, IsFree, IsOwn};
 ghost use Rattle.client_node.specs.Carried.{MayCarryOut};

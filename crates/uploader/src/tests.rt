@@ -2,7 +2,7 @@
 //! and shown.
 
 ghost use Rattle.std.specs.Prelude.{◌<◌};
-ghost use Rattle.ax25_link.specs.Window.{IsGoodK};
+ghost use Rattle.ftl0_client.specs.Window.{IsGoodK};
 
 use super::*;
 use arrayvec::ArrayVec;

@@ -10,10 +10,10 @@ use Rattle.ax25_link.specs.Kept.{Tells}
 use Rattle.ax25_link.specs.Rows.{after_frame, heard_of}
 use Rattle.ax25_link.specs.Window.{Window}
 use Rattle.ftl0_packets.specs.Layout.{Item}
-use Rattle.file_journal.specs.Calls.{Leaves}
-use Rattle.file_journal.proofs.CallLemmas.{puts_on, puts_same}
-use Rattle.file_journal.proofs.MomentLemmas.{weaker}
-use Rattle.file_journal.proofs.ToldLemmas.{told_weaker}
+use Rattle.client_notes.specs.Calls.{Leaves}
+use Rattle.client_notes.proofs.CallLemmas.{puts_on, puts_same}
+use Rattle.client_notes.proofs.MomentLemmas.{weaker}
+use Rattle.client_notes.proofs.ToldLemmas.{told_weaker}
 use Rattle.client_notes.specs.Command.{NotesCommand}
 use Rattle.client_notes.specs.Laws.{after_all}
 use Rattle.client_notes.specs.Notes.{Lists}

@@ -11,7 +11,7 @@ use Rattle.ax25_link.specs.Timer.{is_down}
 use Rattle.ax25_link.specs.Window.{Window, window_of}
 use Rattle.ftl0_packets.specs.Layout.{Item}
 use Rattle.ftl0_packets.specs.Reading.{packets_of, rest_of}
-use Rattle.file_journal.specs.Calls.{Leaves, Puts}
+use Rattle.client_notes.specs.Calls.{Leaves, Puts}
 use Rattle.client_notes.specs.Several.{DoesSeveral, MakesFirst}
 use Rattle.client_notes.specs.State.{NotesState, StandsOn}
 use Rattle.ftl0_job.specs.declared.stop.JobStop.{JobStop}

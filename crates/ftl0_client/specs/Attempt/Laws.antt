@@ -7,7 +7,7 @@ use Rattle.ax25_link.specs.declared.state.Why.{Why}
 use Rattle.ax25_link.specs.Ends.{free_octets}
 use Rattle.ax25_link.specs.Window.{Window}
 use Rattle.client_notes.specs.Command.{NotesCommand, acked}
-use Rattle.pfh_items.specs.Faults.{fault_code}
+use Rattle.ftl0_job.specs.Faults.{fault_code}
 use Rattle.client_notes.specs.Laws.{AreAllowed, after_all}
 use Rattle.client_notes.specs.Notes.{Lists, got_of}
 use Rattle.client_notes.specs.Several.{MakesBetween}

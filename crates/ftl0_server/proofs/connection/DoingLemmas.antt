@@ -1,11 +1,11 @@
 -- What stands since commands began, where they are the first of more.
 use Rattle.std.proofs.Common.{◌≡◌, ◌+◌, List, ◌++◌, length, sym, subst, arith, length-append}
 use Rattle.disk_model.specs.declared.disk.Disk.{Ghosts}
-use Rattle.file_journal.specs.Calls.{Leaves}
-use Rattle.file_journal.proofs.MomentLemmas.{weaker}
-use Rattle.file_journal.proofs.ToldLemmas.{told_weaker}
-use Rattle.file_entries.specs.Command.{Command}
-use Rattle.file_entries.specs.Store.{Store}
+use Rattle.file_store.specs.Calls.{Leaves}
+use Rattle.file_store.proofs.MomentLemmas.{weaker}
+use Rattle.file_store.proofs.JournalToldLemmas.{told_weaker}
+use Rattle.file_store.specs.Command.{Command}
+use Rattle.file_store.specs.Store.{Store}
 use Rattle.file_store.specs.OnDisk.{MakesFirst}
 use Rattle.file_store.proofs.DoesLemmas.{makes-first, makes-within}
 use Rattle.ftl0_server.proofs.connection.TakingLemmas.{IsFront}

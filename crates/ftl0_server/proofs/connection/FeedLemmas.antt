@@ -9,12 +9,12 @@ use Rattle.ax25_link.specs.Kept.{Kept, SameStations, StandsFor}
 use Rattle.ftl0_packets.specs.Layout.{Item}
 use Rattle.ftl0_packets.specs.Reading.{packets_of, rest_of}
 use Rattle.ftl0_session.specs.Lists.Lists.{CallerList}
-use Rattle.file_entries.specs.Kept.{KeepsComplete}
-use Rattle.file_entries.specs.Records.{store_step}
-use Rattle.file_entries.specs.Store.{Store, empty_store, entry_of}
-use Rattle.file_journal.specs.Position.{Position}
-use Rattle.file_journal.specs.Walk.{KeepsState}
-use Rattle.file_journal.proofs.CallLemmas.{puts_none}
+use Rattle.file_store.specs.EntriesKept.{KeepsComplete}
+use Rattle.file_store.specs.Records.{store_step}
+use Rattle.file_store.specs.Store.{Store, empty_store, entry_of}
+use Rattle.file_store.specs.Position.{Position}
+use Rattle.file_store.specs.Walk.{KeepsState}
+use Rattle.file_store.proofs.CallLemmas.{puts_none}
 use Rattle.file_store.specs.State.{StandsOn, StoreState, store_in}
 use Rattle.file_store.proofs.DoesLemmas.{Does-none}
 use Rattle.file_store.proofs.WorkingLemmas.{does-among, puts-among, puts-among-same, puts-among-then}

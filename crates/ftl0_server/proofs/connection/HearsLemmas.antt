@@ -10,9 +10,9 @@ use Rattle.ax25_link.specs.Kept.{Kept, StandsFor}
 use Rattle.ax25_link.specs.Window.{Window}
 use Rattle.ftl0_packets.specs.Layout.{Item}
 use Rattle.ftl0_session.specs.Lists.Lists.{CallerList}
-use Rattle.file_journal.specs.Calls.{Leaves}
-use Rattle.file_entries.specs.Command.{after_all}
-use Rattle.file_entries.specs.Store.{Store}
+use Rattle.file_store.specs.Calls.{Leaves}
+use Rattle.file_store.specs.Command.{after_all}
+use Rattle.file_store.specs.Store.{Store}
 use Rattle.file_store.specs.OnDisk.{MakesFirst}
 use Rattle.file_store.specs.State.{StoreState, store_in}
 use Rattle.file_store.specs.Working.{CutsOffAmongReads, DoesAmongReads}

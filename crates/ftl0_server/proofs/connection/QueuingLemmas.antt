@@ -10,8 +10,8 @@ use Rattle.ax25_link.specs.Ends.{LinkEnd, free_octets}
 use Rattle.ax25_link.specs.Kept.{Kept, Steps}
 use Rattle.ax25_link.specs.Queue.{room_of}
 use Rattle.ftl0_packets.specs.Layout.{PacketValue, packet_text}
-use Rattle.file_entries.specs.Command.{after_all}
-use Rattle.file_entries.specs.Store.{Store}
+use Rattle.file_store.specs.Command.{after_all}
+use Rattle.file_store.specs.Store.{Store}
 use Rattle.ftl0_session.specs.Uploads.Failures.{Failure, read_fails}
 use Rattle.ftl0_session.specs.Table.{DuePacket, due_at, next_due}
 use Rattle.ftl0_session.proofs.WorkingLemmas.{none-whatever}

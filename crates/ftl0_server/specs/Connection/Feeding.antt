@@ -11,8 +11,8 @@ use Rattle.ax25_link.specs.Queue.{room_of}
 use Rattle.ax25_link.specs.Window.{Window}
 use Rattle.ftl0_packets.specs.Layout.{Item, packet_text}
 use Rattle.ftl0_packets.specs.Reading.{packets_of, rest_of}
-use Rattle.file_entries.specs.Kept.{KeepsComplete}
-use Rattle.file_entries.specs.Store.{Store}
+use Rattle.file_store.specs.EntriesKept.{KeepsComplete}
+use Rattle.file_store.specs.Store.{Store}
 use Rattle.ftl0_session.specs.Lists.Lists.{CallerList}
 use Rattle.file_store.specs.State.{StandsOn, StoreState, store_in}
 use Rattle.file_store.specs.Working.{DoesAmongReads, PutsAmongReads, one_if}

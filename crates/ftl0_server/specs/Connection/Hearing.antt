@@ -10,8 +10,8 @@ use Rattle.ax25_link.specs.Timer.{after_tick, told_of_tick}
 use Rattle.ax25_link.specs.Window.{Window}
 use Rattle.ftl0_packets.specs.Reading.{packets_of, rest_of}
 use Rattle.ftl0_session.specs.Lists.Lists.{CallerList, has_left}
-use Rattle.file_entries.specs.Command.{Command}
-use Rattle.file_entries.specs.Store.{Store}
+use Rattle.file_store.specs.Command.{Command}
+use Rattle.file_store.specs.Store.{Store}
 use Rattle.ftl0_session.specs.Uploads.Failures.{Failure}
 use Rattle.ftl0_session.specs.Table.{command}
 use Rattle.ftl0_server.specs.Connection.Connected.{Connected, caller_of, greeted}

@@ -4,8 +4,8 @@ use Rattle.px_base.specs.CallSign.{CallSign}
 use Rattle.ax25_link.specs.Ends.{LinkEnd, free_octets}
 use Rattle.ftl0_packets.specs.Layout.{Item}
 use Rattle.ftl0_session.specs.Lists.Lists.{CallerList}
-use Rattle.file_entries.specs.Command.{Command, after_all}
-use Rattle.file_entries.specs.Store.{Store}
+use Rattle.file_store.specs.Command.{Command, after_all}
+use Rattle.file_store.specs.Store.{Store}
 use Rattle.ftl0_session.specs.Uploads.Failures.{Failure, write_fails}
 use Rattle.ftl0_session.specs.Table.{Row, State, due_at, row_at}
 use Rattle.ftl0_server.specs.Connection.Taking.{Progress, enough_free, goes_on, queued, taking}

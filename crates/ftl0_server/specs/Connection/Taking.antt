@@ -7,8 +7,8 @@ use Rattle.ax25_link.specs.Ends.{LinkEnd, free_octets}
 use Rattle.ftl0_packets.specs.Items.{texts}
 use Rattle.ftl0_packets.specs.Layout.{Item, packet_text}
 use Rattle.ftl0_session.specs.Lists.Lists.{CallerList}
-use Rattle.file_entries.specs.Command.{Command, after_all}
-use Rattle.file_entries.specs.Store.{Store}
+use Rattle.file_store.specs.Command.{Command, after_all}
+use Rattle.file_store.specs.Store.{Store}
 use Rattle.file_store.specs.Working.{one_if}
 use Rattle.ftl0_session.specs.Uploads.Failures.{Failure, write_fails}
 use Rattle.ftl0_session.specs.Table.{DuePacket, Row, State, command, due_at, fault_reply, row_at, failed_reads_told}

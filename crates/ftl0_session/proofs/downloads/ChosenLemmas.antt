@@ -9,11 +9,11 @@ use Rattle.std.proofs.lemmas.List.{append-nil}
 use Rattle.std.proofs.lemmas.List.Elements.{All-cons, All-nil}
 use Rattle.selection.specs.Layout.{Tree}
 use Rattle.selection.specs.Meaning.{holds}
-use Rattle.file_entries.specs.Headers.{header_items}
-use Rattle.file_entries.specs.Info.{IsCompleteIn, IsNextComplete, is_complete}
-use Rattle.file_entries.specs.IsStore.{AreEntries, IsStore}
-use Rattle.file_entries.specs.Store.{Entry, Store, entry_of, octets_at}
-use Rattle.file_entries.proofs.EntriesLemmas.{found-fits, found-number, has_number}
+use Rattle.file_store.specs.Headers.{header_items}
+use Rattle.file_store.specs.Info.{IsCompleteIn, IsNextComplete, is_complete}
+use Rattle.file_store.specs.IsStore.{AreEntries, IsStore}
+use Rattle.file_store.specs.Store.{Entry, Store, entry_of, octets_at}
+use Rattle.file_store.proofs.EntriesLemmas.{found-fits, found-number, has_number}
 use Rattle.ftl0_session.specs.Downloads.Needs.{AreFiles}
 use Rattle.ftl0_session.specs.Downloads.Table.{chosen, is_chosen, octets_in}
 

@@ -8,9 +8,9 @@ use Rattle.std.proofs.lemmas.Grind.{common_steps}
 use Rattle.std.proofs.lemmas.List.{drop-append-le, drop-drop, drop-take, length-take, flat_map_more, map-append}
 use Rattle.std.proofs.lemmas.List.{take-append-le, take_min, take_more}
 use Rattle.std.specs.List.{AllByRecursion, flat_map, list_any}
-use Rattle.file_entries.specs.Info.{IsCompleteIn}
-use Rattle.file_entries.specs.Kept.{KeepsComplete}
-use Rattle.file_entries.specs.Store.{Store, entry_of, octets_at}
+use Rattle.file_store.specs.Info.{IsCompleteIn}
+use Rattle.file_store.specs.EntriesKept.{KeepsComplete}
+use Rattle.file_store.specs.Store.{Store, entry_of, octets_at}
 use Rattle.ftl0_session.specs.Downloads.Needs.{AreStored, IsDueIn, IsStored, LiesIn}
 use Rattle.ftl0_session.specs.Downloads.Sending.{after_octets, due_len, due_octets, is_stored, joined, moved}
 use Rattle.ftl0_session.specs.Downloads.Sending.{octets_due, state_after, state_at_end}

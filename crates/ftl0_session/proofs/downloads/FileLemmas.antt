@@ -5,9 +5,9 @@ use Rattle.std.specs.Prelude.{is_some}
 use Rattle.std.specs.List.{list_all}
 use Rattle.std.specs.Option.{option_and_then, option_map}
 use Rattle.std.proofs.lemmas.List.Elements.{All-cons, All-nil}
-use Rattle.file_entries.specs.declared.info.Info.{Info}
-use Rattle.file_entries.specs.Info.{IsCompleteIn, info_of, is_complete}
-use Rattle.file_entries.specs.Store.{Entry, Holding, Store, complete, entry_of, octets_at, octets_of, partial}
+use Rattle.file_store.specs.EntriesInfo.{Info}
+use Rattle.file_store.specs.Info.{IsCompleteIn, info_of, is_complete}
+use Rattle.file_store.specs.Store.{Entry, Holding, Store, complete, entry_of, octets_at, octets_of, partial}
 use Rattle.ftl0_session.specs.Downloads.Needs.{AreFiles}
 use Rattle.ftl0_session.specs.Downloads.Table.{complete_octets, file_of, has_file, octets_in}
 

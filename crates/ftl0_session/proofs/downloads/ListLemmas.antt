@@ -10,9 +10,9 @@ use Rattle.std.proofs.lemmas.List.Elements.{recursion_from_All}
 use Rattle.px_base.specs.CallSign.{CallSign}
 use Rattle.ftl0_session.specs.Lists.Lists.{CallerList, after_taking, is_of, left_of, lists_of_others, numbers_or_none}
 use Rattle.ftl0_session.specs.Lists.Lists.{selected, shortened}
-use Rattle.file_entries.specs.Info.{IsCompleteIn}
-use Rattle.file_entries.specs.Kept.{KeepsComplete}
-use Rattle.file_entries.specs.Store.{Store}
+use Rattle.file_store.specs.Info.{IsCompleteIn}
+use Rattle.file_store.specs.EntriesKept.{KeepsComplete}
+use Rattle.file_store.specs.Store.{Store}
 use Rattle.ftl0_session.specs.Downloads.Needs.{AreComplete, AreFiles}
 use Rattle.ftl0_session.specs.Downloads.Table.{listed_files, lists_after}
 use Rattle.ftl0_session.proofs.downloads.DueLemmas.{complete-kept}

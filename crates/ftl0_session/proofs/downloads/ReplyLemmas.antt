@@ -11,7 +11,7 @@ use Rattle.selection.specs.Layout.{Tree}
 use Rattle.selection.specs.Reading.{tree_in}
 use Rattle.selection.specs.declared.fault.SelFault.{SelFault}
 use Rattle.ftl0_session.specs.Lists.Lists.{CallerList}
-use Rattle.file_entries.specs.Store.{Store}
+use Rattle.file_store.specs.Store.{Store}
 use Rattle.ftl0_session.specs.Downloads.Table.{DownloadRow, DownloadState, Due, asked_file, asked_row, command_row}
 use Rattle.ftl0_session.specs.Downloads.Table.{directory_row, download_cmd_row, download_row, ended_row, file_of}
 use Rattle.ftl0_session.specs.Downloads.Table.{file_row, files_row, has_file, listed_files, listing, long_due, ready}

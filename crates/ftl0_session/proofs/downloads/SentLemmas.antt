@@ -12,9 +12,9 @@ use Rattle.std.proofs.lemmas.List.Elements.{All-head, All-tail}
 use Rattle.px_base.specs.CallSign.{CallSign}
 use Rattle.ftl0_packets.specs.Layout.{data_end, data_part, download_cmd}
 use Rattle.ftl0_session.specs.Lists.Lists.{CallerList}
-use Rattle.file_entries.specs.Headers.{IsHeaderOf, body_octets, header_octets}
-use Rattle.file_entries.specs.Info.{IsCompleteIn}
-use Rattle.file_entries.specs.Store.{Store}
+use Rattle.file_store.specs.Headers.{IsHeaderOf, body_octets, header_octets}
+use Rattle.file_store.specs.Info.{IsCompleteIn}
+use Rattle.file_store.specs.Store.{Store}
 use Rattle.ftl0_session.specs.Downloads.Laws.{BeginWithHeaders, IsSent, Sends, SendsAll}
 use Rattle.ftl0_session.specs.Downloads.Needs.{AreStored, IsDueIn, LiesIn}
 use Rattle.ftl0_session.specs.Downloads.Sending.{due_octets, is_due, joined, most_data, next_due, octets_due}

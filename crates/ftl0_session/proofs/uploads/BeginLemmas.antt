@@ -5,11 +5,11 @@ use Rattle.std.specs.Prelude.{⊤, IsTrue, Result, Ok, Err, IsErr}
 use Rattle.px_base.specs.CallSign.{CallSign}
 use Rattle.disk_model.specs.declared.disk.Disk.{Ghosts}
 use Rattle.ftl0_packets.specs.Layout.{Item, ul_error_resp, upload_cmd}
-use Rattle.file_entries.specs.Command.{after_all, begin}
-use Rattle.file_entries.specs.Files.{KeepsRests}
-use Rattle.file_entries.specs.IsStore.{IsStore}
-use Rattle.file_entries.specs.Kept.{KeepsComplete}
-use Rattle.file_entries.specs.Store.{Entry, Store, entry_of, new_entry}
+use Rattle.file_store.specs.Command.{after_all, begin}
+use Rattle.file_store.specs.Files.{KeepsRests}
+use Rattle.file_store.specs.IsStore.{IsStore}
+use Rattle.file_store.specs.EntriesKept.{KeepsComplete}
+use Rattle.file_store.specs.Store.{Entry, Store, entry_of, new_entry}
 use Rattle.file_store.specs.Answers.{RefusesBegin, begin_reaches}
 use Rattle.file_store.specs.Kept.{KeepsUploads}
 use Rattle.file_store.specs.OnDisk.{Does, after_first}
@@ -31,7 +31,7 @@ use Rattle.ftl0_session.proofs.uploads.OtherLemmas.{never_some}
 use Rattle.ftl0_session.proofs.uploads.Rows.{alone-row, others-same}
 use Rattle.ftl0_session.proofs.uploads.UploadRows.{bars-cannot, begin-can, below-next, may-can, push-back, row-barred}
 use Rattle.ftl0_session.proofs.uploads.UploadRows.{row-granted}
-use Rattle.file_entries.specs.declared.entries.BeginBar.TheVariants as bar
+use Rattle.file_store.specs.BeginBar.TheVariants as bar
 
 module _ (caller : CallSign) (moment len : ℕ) (before now : StoreState) (is : IsStore (store_in before)) (rests : KeepsRests before.files now.files (store_in before).next) where
   -- the store after the file was begun

@@ -4,12 +4,12 @@ use Rattle.std.specs.Prelude.{⊤, Result, Ok, Err, IsErrOf}
 use Rattle.px_base.specs.CallSign.{CallSign}
 use Rattle.disk_model.specs.declared.disk.Disk.{Ghosts}
 use Rattle.ftl0_packets.specs.Layout.{Item}
-use Rattle.file_journal.specs.Calls.{Puts}
-use Rattle.file_journal.proofs.CallLemmas.{puts_none, puts_same}
-use Rattle.file_journal.proofs.ToldLemmas.{at_told, told_weaker}
-use Rattle.file_entries.specs.Command.{Command}
-use Rattle.file_entries.specs.Kept.{KeepsComplete}
-use Rattle.file_entries.specs.Store.{Store}
+use Rattle.file_store.specs.Calls.{Puts}
+use Rattle.file_store.proofs.CallLemmas.{puts_none, puts_same}
+use Rattle.file_store.proofs.JournalToldLemmas.{at_told, told_weaker}
+use Rattle.file_store.specs.Command.{Command}
+use Rattle.file_store.specs.EntriesKept.{KeepsComplete}
+use Rattle.file_store.specs.Store.{Store}
 use Rattle.file_store.specs.OnDisk.{Does}
 use Rattle.file_store.specs.State.{StandsOn, StoreState, store_in}
 use Rattle.file_store.proofs.DoesLemmas.{Does-moved, Does-none, Does-same}

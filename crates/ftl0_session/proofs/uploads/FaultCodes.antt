@@ -13,9 +13,9 @@ use Rattle.ftl0_packets.specs.Layout.{Item, PacketValue, data_part, data_end, lo
 use Rattle.ftl0_packets.specs.Layout.{ul_error_resp, ul_ack_resp, ul_nak_resp, download_cmd, dl_error_resp}
 use Rattle.ftl0_packets.specs.Layout.{dl_aborted_resp, dl_completed_resp, dl_ack_cmd, dl_nak_cmd, dir_short_cmd}
 use Rattle.ftl0_packets.specs.Layout.{dir_long_cmd, select_cmd, select_resp}
-use Rattle.file_entries.specs.Command.{can_begin, has_room, passes}
-use Rattle.file_entries.specs.Info.{is_complete}
-use Rattle.file_entries.specs.Store.{Entry, Store, entry_of, octets_at, octets_of}
+use Rattle.file_store.specs.Command.{can_begin, has_room, passes}
+use Rattle.file_store.specs.Info.{is_complete}
+use Rattle.file_store.specs.Store.{Entry, Store, entry_of, octets_at, octets_of}
 use Rattle.ftl0_session.specs.Uploads.Laws.{FaultCodeLaw, IsNoFault}
 use Rattle.ftl0_packets.specs.Items.{kind_of_item}
 use Rattle.ftl0_session.specs.Uploads.Session.{Row, State, aborting, begin_row, command, continue_row, data_row}

@@ -6,9 +6,9 @@ use Rattle.std.specs.Prelude.{Ok}
 use Rattle.px_base.specs.CallSign.{CallSign}
 use Rattle.pfh_items.specs.Faults.{fault_code}
 use Rattle.ftl0_packets.specs.Layout.{Item, data_end, data_part, ul_nak_resp}
-use Rattle.file_entries.specs.Command.{Command, DoesAll, after_all, drop_entry, last_grow, seal}
-use Rattle.file_entries.specs.Files.{ChangesRest, octets_or_none}
-use Rattle.file_entries.specs.Store.{Entry, Store, entry_of, partial}
+use Rattle.file_store.specs.Command.{Command, DoesAll, after_all, drop_entry, last_grow, seal}
+use Rattle.file_store.specs.Files.{ChangesRest, octets_or_none}
+use Rattle.file_store.specs.Store.{Entry, Store, entry_of, partial}
 use Rattle.file_store.specs.Answers.{IsShort, IsTooMuch}
 use Rattle.file_store.specs.Kept.{KeepsOthers}
 use Rattle.file_store.specs.OnDisk.{after_first}

@@ -4,11 +4,11 @@ use Rattle.std.proofs.Common.{◌∙◌, subst, Option, None, Some, inl, inr, �
 use Rattle.std.specs.Prelude.{find, ⊤}
 use Rattle.std.proofs.lemmas.Bool.Decides.{eqb_tells}
 use Rattle.px_base.specs.CallSign.{CallSign}
-use Rattle.file_entries.specs.Command.{Command, begin, grow, seal, drop_entry, after, after_all, changed, grown, grows}
-use Rattle.file_entries.specs.Command.{last_grow, sealed, with_holding}
-use Rattle.file_entries.specs.Files.{KeepsRests}
-use Rattle.file_entries.specs.Store.{Entry, Holding, Store, entry_of, partial}
-use Rattle.file_entries.proofs.EntriesLemmas.{has_number, find-filter_other, find-map-changed, find-map-changed_other}
+use Rattle.file_store.specs.Command.{Command, begin, grow, seal, drop_entry, after, after_all, changed, grown, grows}
+use Rattle.file_store.specs.Command.{last_grow, sealed, with_holding}
+use Rattle.file_store.specs.Files.{KeepsRests}
+use Rattle.file_store.specs.Store.{Entry, Holding, Store, entry_of, partial}
+use Rattle.file_store.proofs.EntriesLemmas.{has_number, find-filter_other, find-map-changed, find-map-changed_other}
 use Rattle.file_store.specs.Kept.{KeepsOthers}
 use Rattle.file_store.specs.State.{StoreState, rest_in, store_in}
 use Rattle.file_store.specs.Upload.{entry_for}

@@ -4,7 +4,7 @@ use Rattle.std.proofs.Common.{Option, None, Some}
 use Rattle.std.specs.Prelude.{⊤, Result, Ok, Err, IfSome, IsErr, if◌then◌else◌, is_some}
 use Rattle.px_base.specs.CallSign.{CallSign}
 use Rattle.ftl0_packets.specs.Layout.{Item, data_part, data_end, upload_cmd, ul_error_resp}
-use Rattle.file_entries.specs.Store.{Store}
+use Rattle.file_store.specs.Store.{Store}
 use Rattle.file_store.specs.State.{StoreState, store_in}
 use Rattle.ftl0_session.specs.Uploads.Asked.{IsAsked}
 use Rattle.ftl0_session.specs.declared.uploads.asked.Asked.{Asked}

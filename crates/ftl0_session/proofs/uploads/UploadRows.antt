@@ -8,15 +8,15 @@ use Rattle.std.specs.Prelude.{find, Ok, IsTrue, nat_le, nat_lt, nat_eq, bytes_eq
 use Rattle.px_base.specs.CallSign.{CallSign}
 use Rattle.pfh_items.specs.Faults.{fault_code}
 use Rattle.ftl0_packets.specs.Layout.{data_end, data_part, ul_nak_resp, upload_cmd}
-use Rattle.file_entries.specs.Bars.{Bars}
-use Rattle.file_entries.specs.declared.entries.BeginBar.{BeginBar}
-use Rattle.file_entries.specs.declared.entries.BeginBar.TheVariants as bar
-use Rattle.file_entries.specs.declared.limits.TheConstants.{LAST_NEXT, LONGEST_FILE, MOST_ENTRIES}
-use Rattle.file_entries.specs.Command.{MayBegin, can_begin, has_room, passes}
-use Rattle.file_entries.specs.Info.{is_complete}
-use Rattle.file_entries.specs.IsStore.{IsStore}
-use Rattle.file_entries.specs.Store.{Entry, Store, blocks_for, blocks_of, entry_of, octets_at, octets_of, partial}
-use Rattle.file_entries.proofs.EntriesLemmas.{found-fits, has_number}
+use Rattle.file_store.specs.Bars.{Bars}
+use Rattle.file_store.specs.BeginBar.{BeginBar}
+use Rattle.file_store.specs.BeginBar.TheVariants as bar
+use Rattle.file_store.specs.LimitsConstants.{LAST_NEXT, LONGEST_FILE, MOST_ENTRIES}
+use Rattle.file_store.specs.Command.{MayBegin, can_begin, has_room, passes}
+use Rattle.file_store.specs.Info.{is_complete}
+use Rattle.file_store.specs.IsStore.{IsStore}
+use Rattle.file_store.specs.Store.{Entry, Store, blocks_for, blocks_of, entry_of, octets_at, octets_of, partial}
+use Rattle.file_store.proofs.EntriesLemmas.{found-fits, has_number}
 use Rattle.file_store.specs.State.{StoreState, rest_in}
 use Rattle.file_store.specs.Upload.{Upload}
 use Rattle.ftl0_session.specs.Uploads.Session.{aborting, command, continue_row, granted_row, is_all, is_same_call}

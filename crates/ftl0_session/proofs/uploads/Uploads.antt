@@ -7,13 +7,13 @@ use Rattle.px_base.specs.CallSign.{CallSign}
 use Rattle.ftl0_packets.specs.Layout.{Item, PacketValue, data_end, ul_ack_resp, ul_go_resp}
 use Rattle.pfh_items.specs.Faults.{fault_code}
 use Rattle.pfh_writer.proofs.ClientLemmas.{kept_file}
-use Rattle.file_entries.specs.Command.{after, after_all, begin, grown, last_grow, seal, sealed, stamp_of}
-use Rattle.file_entries.specs.Command.{unfilled_block, whole_grows}
-use Rattle.file_entries.specs.IsStore.{IsStore}
-use Rattle.file_entries.specs.Store.{Entry, Holding, Store, entry_of, new_entry, octets_at, partial}
-use Rattle.file_entries.proofs.AfterLemmas.{find-push}
-use Rattle.file_entries.proofs.EntriesLemmas.{find-map-changed, find_past, has_number}
-use Rattle.file_entries.proofs.GrowLemmas.{after_all-append, grows-after, last_grow-after}
+use Rattle.file_store.specs.Command.{after, after_all, begin, grown, last_grow, seal, sealed, stamp_of}
+use Rattle.file_store.specs.Command.{unfilled_block, whole_grows}
+use Rattle.file_store.specs.IsStore.{IsStore}
+use Rattle.file_store.specs.Store.{Entry, Holding, Store, entry_of, new_entry, octets_at, partial}
+use Rattle.file_store.proofs.AfterLemmas.{find-push}
+use Rattle.file_store.proofs.EntriesLemmas.{find-map-changed, find_past, has_number}
+use Rattle.file_store.proofs.GrowLemmas.{after_all-append, grows-after, last_grow-after}
 use Rattle.ftl0_session.specs.Uploads.Continued.{ContinuedLaw}
 use Rattle.ftl0_session.specs.Uploads.Events.{Event}
 use Rattle.ftl0_session.specs.Uploads.Laws.{AcknowledgedLaw, ResumedLaw, kept}

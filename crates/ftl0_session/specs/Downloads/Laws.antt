@@ -4,9 +4,9 @@ use Rattle.std.specs.Prelude.{None, Some}
 use Rattle.px_base.specs.CallSign.{CallSign}
 use Rattle.ftl0_packets.specs.Layout.{PacketValue, data_end, data_part, download_cmd}
 use Rattle.ftl0_session.specs.Lists.Lists.{CallerList}
-use Rattle.file_entries.specs.Headers.{IsHeaderOf, header_octets}
-use Rattle.file_entries.specs.Kept.{KeepsComplete}
-use Rattle.file_entries.specs.Store.{Store}
+use Rattle.file_store.specs.Headers.{IsHeaderOf, header_octets}
+use Rattle.file_store.specs.EntriesKept.{KeepsComplete}
+use Rattle.file_store.specs.Store.{Store}
 use Rattle.ftl0_session.specs.Downloads.Needs.{AreComplete, AreFiles, IsDueIn}
 use Rattle.ftl0_session.specs.Downloads.Sending.{is_due, next_due, octets_due, state_at_end}
 use Rattle.ftl0_session.specs.Downloads.Table.{DownloadState, download_row, file_of, listing, long_due, octets_in}

@@ -2,8 +2,8 @@
 use Rattle.std.specs.Prelude.{ℕ, ◌≤◌, List, length, All, ⊤}
 use Rattle.std.specs.List.{AllByRecursion}
 use Rattle.ftl0_session.specs.Lists.Lists.{CallerList}
-use Rattle.file_entries.specs.Info.{IsCompleteIn}
-use Rattle.file_entries.specs.Store.{Store}
+use Rattle.file_store.specs.Info.{IsCompleteIn}
+use Rattle.file_store.specs.Store.{Store}
 use Rattle.ftl0_session.specs.Downloads.Table.{DownloadState, Due, kept, listing, octets_in, ready, sending, stored}
 use Rattle.ftl0_session.specs.Downloads.Table.{waiting}
 

@@ -4,7 +4,7 @@ use Rattle.std.specs.Prelude.{ℕ, ◌+◌, ◌-◌, ◌==◌, min, List, [], �
 use Rattle.std.specs.Prelude.{Bool, true, false, ◌&&◌, if◌then◌else◌, Option, None, Some}
 use Rattle.std.specs.List.{list_any}
 use Rattle.ftl0_packets.specs.Layout.{PacketValue, data_end, data_part, dl_error_resp}
-use Rattle.file_entries.specs.Store.{Store}
+use Rattle.file_store.specs.Store.{Store}
 use Rattle.ftl0_session.specs.Downloads.Table.{DownloadState, Due, kept, listing, octets_in, ready, sending, stored}
 use Rattle.ftl0_session.specs.Downloads.Table.{waiting}
 

@@ -15,9 +15,9 @@ use Rattle.selection.specs.Layout.{Tree}
 use Rattle.selection.specs.Meaning.{holds}
 use Rattle.selection.specs.Reading.{tree_in}
 use Rattle.ftl0_session.specs.Lists.Lists.{CallerList, after_taking, left_of, selected}
-use Rattle.file_entries.specs.Headers.{header_items, header_octets}
-use Rattle.file_entries.specs.Info.{is_complete}
-use Rattle.file_entries.specs.Store.{Entry, Holding, Store, complete, entry_of, octets_at, octets_of, partial}
+use Rattle.file_store.specs.Headers.{header_items, header_octets}
+use Rattle.file_store.specs.Info.{is_complete}
+use Rattle.file_store.specs.Store.{Entry, Holding, Store, complete, entry_of, octets_at, octets_of, partial}
 
 -- What is to be sent next: the octets of the complete file of this number from one place up to another; or these
 -- octets, which are kept.

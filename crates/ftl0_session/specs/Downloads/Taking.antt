@@ -5,8 +5,8 @@ use Rattle.px_base.specs.CallSign.{CallSign}
 use Rattle.disk_model.specs.declared.disk.Disk.{Ghosts}
 use Rattle.ftl0_packets.specs.Layout.{PacketValue, dl_error_resp, packet_text}
 use Rattle.ftl0_session.specs.Lists.Lists.{CallerList}
-use Rattle.file_journal.specs.Calls.{Reads}
-use Rattle.file_entries.specs.Store.{Store}
+use Rattle.file_store.specs.Calls.{Reads}
+use Rattle.file_store.specs.Store.{Store}
 use Rattle.selection.specs.Layout.{Tree}
 use Rattle.ftl0_session.specs.declared.downloads.downloads.Form.{Form}
 use Rattle.ftl0_session.specs.declared.downloads.downloads.Form.TheVariants as form

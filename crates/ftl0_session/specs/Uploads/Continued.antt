@@ -3,7 +3,7 @@ use Rattle.std.specs.Prelude.{◌≡◌, ◌≢◌, ℕ, List, [], ◌∷◌, �
 use Rattle.px_base.specs.CallSign.{CallSign}
 use Rattle.ftl0_packets.specs.Layout.{ul_ack_resp, ul_go_resp}
 use Rattle.pfh_items.specs.Faults.{fault_code}
-use Rattle.file_entries.specs.Store.{Entry, Store, entry_of}
+use Rattle.file_store.specs.Store.{Entry, Store, entry_of}
 use Rattle.ftl0_session.specs.Uploads.Events.{Event}
 use Rattle.ftl0_session.specs.Uploads.Laws.{IsUnderWay, kept}
 use Rattle.ftl0_session.specs.Uploads.Run.{replies_to, store_after}

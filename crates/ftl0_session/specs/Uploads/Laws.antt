@@ -10,9 +10,9 @@ use Rattle.ftl0_packets.specs.Layout.{Item, PacketValue, data_end, ul_ack_resp, 
 use Rattle.ftl0_packets.specs.Layout.{ul_nak_resp, upload_cmd}
 use Rattle.pfh_items.specs.Faults.{fault_code}
 use Rattle.pfh_items.specs.Stamp.{stamped}
-use Rattle.file_entries.specs.Command.{AreAllowed, Command, after_all, can_begin, stamp_of}
+use Rattle.file_store.specs.Command.{AreAllowed, Command, after_all, can_begin, stamp_of}
 use Rattle.pfh_writer.specs.KeptFile.{KeepsClient}
-use Rattle.file_entries.specs.Store.{Entry, Store, complete, entry_of, partial}
+use Rattle.file_store.specs.Store.{Entry, Store, complete, entry_of, partial}
 use Rattle.file_store.specs.OnDisk.{MakesBetween}
 use Rattle.file_store.specs.State.{StandsFor}
 use Rattle.ftl0_session.specs.Uploads.Session.{Row, State, command, granted_row, is_upload_kind, receiving, resumed_row}

@@ -1,7 +1,7 @@
 -- What a session leaves of the files of other callers.
 use Rattle.std.specs.Prelude.{◌≡◌, ◌≢◌, ℕ, Some}
 use Rattle.px_base.specs.CallSign.{CallSign}
-use Rattle.file_entries.specs.Store.{Entry, entry_of}
+use Rattle.file_store.specs.Store.{Entry, entry_of}
 use Rattle.file_store.specs.State.{StoreState, rest_in, store_in}
 use Rattle.file_store.specs.Upload.{Holds, Upload}
 

@@ -7,10 +7,10 @@ use Rattle.pfh_items.specs.Faults.{fault_code}
 use Rattle.ftl0_packets.specs.Items.{kind_of_item}
 use Rattle.ftl0_packets.specs.Layout.{Item, PacketValue, data_part, data_end}
 use Rattle.ftl0_packets.specs.Layout.{ul_ack_resp, ul_error_resp, ul_go_resp, ul_nak_resp, upload_cmd}
-use Rattle.file_entries.specs.Command.{Command, begin, drop_entry, seal, can_begin, has_room, passes}
-use Rattle.file_entries.specs.Command.{last_grow, unfilled_block, whole_grows}
-use Rattle.file_entries.specs.Info.{is_complete}
-use Rattle.file_entries.specs.Store.{Entry, Store, entry_of, octets_at, octets_of}
+use Rattle.file_store.specs.Command.{Command, begin, drop_entry, seal, can_begin, has_room, passes}
+use Rattle.file_store.specs.Command.{last_grow, unfilled_block, whole_grows}
+use Rattle.file_store.specs.Info.{is_complete}
+use Rattle.file_store.specs.Store.{Entry, Store, entry_of, octets_at, octets_of}
 
 -- A session waits for a command; or receives the file of this number, of which these octets aren't held yet; or waits
 -- for the end of a file that it refused.

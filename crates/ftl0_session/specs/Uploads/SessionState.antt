@@ -2,8 +2,8 @@
 use Rattle.std.specs.Prelude.{◌≡◌, ◌≢◌, ℕ, false, Option, None, Some, ⊤}
 use Rattle.px_base.specs.CallSign.{CallSign}
 use Rattle.disk_model.specs.declared.disk.Disk.{Ghosts}
-use Rattle.file_entries.specs.Files.{ChangesRest}
-use Rattle.file_entries.specs.Store.{Entry, entry_of}
+use Rattle.file_store.specs.Files.{ChangesRest}
+use Rattle.file_store.specs.Store.{Entry, entry_of}
 use Rattle.file_store.specs.State.{StandsOn, StoreState, rest_in, store_in}
 use Rattle.file_store.specs.Upload.{Holds, Upload, waiting}
 use Rattle.ftl0_session.specs.declared.uploads.phase.Phase.{Phase}

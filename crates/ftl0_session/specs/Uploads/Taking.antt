@@ -6,8 +6,8 @@ use Rattle.ftl0_packets.specs.Layout.{Item, ul_error_resp}
 use Rattle.ftl0_packets.specs.Values.{item_of}
 use Rattle.ftl0_packets.specs.declared.packet.Malformed.{Malformed}
 use Rattle.ftl0_packets.specs.declared.packet.Packet.{Packet}
-use Rattle.file_entries.specs.Command.{DoesAll}
-use Rattle.file_entries.specs.Kept.{KeepsComplete}
+use Rattle.file_store.specs.Command.{DoesAll}
+use Rattle.file_store.specs.EntriesKept.{KeepsComplete}
 use Rattle.file_store.specs.declared.refusals.BeginRefusal.{BeginRefusal}
 use Rattle.file_store.specs.declared.refusals.BeginRefusal.TheVariants as refusal
 use Rattle.file_store.specs.OnDisk.{Does}

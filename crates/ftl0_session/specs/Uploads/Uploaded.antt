@@ -7,9 +7,9 @@ use Rattle.ftl0_packets.specs.Layout.{data_end, data_part, ul_ack_resp, ul_go_re
 use Rattle.pfh_items.specs.Faults.{fault_code}
 use Rattle.pfh_items.specs.Stamp.{stamped}
 use Rattle.pfh_writer.specs.KeptFile.{KeepsClient}
-use Rattle.file_entries.specs.Command.{can_begin, stamp_of}
-use Rattle.file_entries.specs.IsStore.{IsStore}
-use Rattle.file_entries.specs.Store.{Entry, Store, entry_of, new_entry}
+use Rattle.file_store.specs.Command.{can_begin, stamp_of}
+use Rattle.file_store.specs.IsStore.{IsStore}
+use Rattle.file_store.specs.Store.{Entry, Store, entry_of, new_entry}
 use Rattle.ftl0_session.specs.Uploads.Events.{Event}
 use Rattle.ftl0_session.specs.Uploads.Laws.{kept}
 use Rattle.ftl0_session.specs.Uploads.Run.{replies_to, store_after}

@@ -1,9 +1,9 @@
 //! The headers of files that a directory command lists.
 
 ghost use Rattle.std.specs.Prelude.{◌≡◌, ◌+◌, ◌*◌, ◌≤◌, ◌++◌, [], length, map, flat_map, IsErr, IfOk, OnOk, false};
-ghost use Rattle.file_journal.specs.Calls.{Reads};
-ghost use Rattle.file_entries.specs.Headers.{header_octets};
-ghost use Rattle.file_entries.specs.Info.{IsCompleteIn};
+ghost use Rattle.file_store.specs.Calls.{Reads};
+ghost use Rattle.file_store.specs.Headers.{header_octets};
+ghost use Rattle.file_store.specs.Info.{IsCompleteIn};
 ghost use Rattle.file_store.specs.State.{StandsOn, store_in};
 ghost use Rattle.ftl0_session.specs.Downloads.Needs.{AreFiles, AreStored, LiesIn};
 ghost use Rattle.ftl0_session.specs.Downloads.Spans.{due_of};

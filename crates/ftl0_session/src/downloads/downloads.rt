@@ -7,7 +7,7 @@ ghost use Rattle.std.specs.List.{list_all};
 ghost use Rattle.std.specs.Option.{ForSome, option_map};
 ghost use Rattle.ftl0_packets.specs.Layout.{dl_error_resp, information, packet_text};
 ghost use Rattle.ftl0_packets.specs.Values.{value_of};
-ghost use Rattle.file_journal.specs.Calls.{Reads};
+ghost use Rattle.file_store.specs.Calls.{Reads};
 ghost use Rattle.file_store.specs.State.{StandsOn, store_in};
 ghost use Rattle.selection.specs.Values.{tree_of};
 ghost use Rattle.ftl0_session.specs.Lists.Lists.{left_of};

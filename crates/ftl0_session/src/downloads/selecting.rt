@@ -1,9 +1,9 @@
 //! The files of which a selection holds.
 
 ghost use Rattle.std.specs.Prelude.{◌≡◌, ◌≤◌, [], length, IsErr, IfOk, OnOk, false};
-ghost use Rattle.file_journal.specs.Calls.{Reads};
-ghost use Rattle.file_entries.specs.Headers.{header_items};
-ghost use Rattle.file_entries.specs.Info.{IsCompleteIn};
+ghost use Rattle.file_store.specs.Calls.{Reads};
+ghost use Rattle.file_store.specs.Headers.{header_items};
+ghost use Rattle.file_store.specs.Info.{IsCompleteIn};
 ghost use Rattle.file_store.specs.State.{StandsOn, store_in};
 ghost use Rattle.selection.specs.Meaning.{holds as holds_of};
 ghost use Rattle.selection.specs.Values.{tree_of};

@@ -2,7 +2,7 @@
 
 ghost use Rattle.std.specs.Prelude.{◌≡◌, ◌-◌, ◌<◌, ◌≤◌, ◌++◌, [], length, map, min, take, IfOk, IsErr, OnErr, OnOk};
 ghost use Rattle.std.specs.Prelude.{false};
-ghost use Rattle.file_journal.specs.Calls.{Reads};
+ghost use Rattle.file_store.specs.Calls.{Reads};
 ghost use Rattle.file_store.specs.State.{StandsOn, store_in};
 ghost use Rattle.ftl0_session.specs.Downloads.Needs.{AreStored, LiesIn};
 ghost use Rattle.ftl0_session.specs.Downloads.Sending.{after_octets, due_len, due_octets, joined, moved};

@@ -3,7 +3,7 @@ use Rattle.std.proofs.Common.{◌≡◌, ◌+◌, List, ℕ, ◌++◌, take, dro
 use Rattle.std.specs.Prelude.{⊤}
 use Rattle.std.proofs.lemmas.List.{take_more}
 use Rattle.px_base.specs.Octets.{IsOctets}
-use Rattle.ftl0_packets.proofs.OctetLemmas.{IsOctets-drop, IsOctets-take, octets_from}
+use Rattle.ftl0_client.proofs.OctetLemmas.{IsOctets-drop, IsOctets-take, octets_from}
 use Rattle.client_node.specs.Carried.{HasAirCause}
 use Rattle.client_node.specs.Node.{HearsAfter, node_of}
 use Rattle.client_node.specs.declared.stop.NodeStop.{NodeStop}

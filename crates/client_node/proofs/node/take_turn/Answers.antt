@@ -1,7 +1,7 @@
 -- A turn's octets are heard, and then it ticks; or one of the two stops it.
 use Rattle.std.proofs.Common.{take, refl, Result, ◌∙◌}
 use Rattle.std.specs.Prelude.{⊤}
-use Rattle.ftl0_packets.proofs.OctetLemmas.{IsOctets-nil}
+use Rattle.ftl0_client.proofs.OctetLemmas.{IsOctets-nil}
 use Rattle.client_node.specs.Node.{TakesTurn, node_of}
 use Rattle.client_node.specs.declared.stop.NodeStop.{NodeStop}
 use Rattle.client_node.proofs.QuietLemmas.{at_exit}

@@ -1,7 +1,7 @@
 -- The loop over turns.
 use Rattle.std.proofs.Common.{◌≡◌, arith, sym, ◌∙◌, Result, Ok, Err, true, false, unwrap_or}
 use Rattle.std.specs.Prelude.{⊤}
-use Rattle.ftl0_packets.proofs.OctetLemmas.{IsOctets-nil}
+use Rattle.ftl0_client.proofs.OctetLemmas.{IsOctets-nil}
 use Rattle.client_node.specs.Carried.{HasAirCause}
 use Rattle.client_node.specs.Node.{TakesTurns, node_of}
 use Rattle.client_node.specs.declared.stop.NodeStop.{NodeStop}

@@ -2,8 +2,8 @@
 use Rattle.std.proofs.Common.{◌≡◌, ℕ, suc, ◌+◌, ◌<◌, List, length, set, drop, get_or, Some, false, sym, ◌∙◌, ap, subst, arith, add-one}
 use Rattle.std.specs.Prelude.{slice_get}
 use Rattle.std.proofs.lemmas.Option.{slice_get-get_or}
-use Rattle.file_entries.specs.Kept.{KeepsComplete}
-use Rattle.file_entries.specs.Store.{Store}
+use Rattle.file_store.specs.EntriesKept.{KeepsComplete}
+use Rattle.file_store.specs.Store.{Store}
 use Rattle.file_store.specs.State.{store_in}
 use Rattle.ftl0_server.specs.AtPlace.{IsPlace}
 use Rattle.ftl0_server.specs.ServerState.{AllPlaces, any_pending}

@@ -1,8 +1,8 @@
 -- The recovery is refused; or the download stops, or is fetched, and the file is kept.
 use Rattle.std.proofs.Common.{◌≡◌, inr, length, refl, ap, ◌∙◌}
 use Rattle.std.specs.Prelude.{Result, Ok, Err, IsErrOf, ⊤}
-use Rattle.file_journal.specs.Calls.{CountsFault, Runs}
-use Rattle.file_journal.proofs.CallLemmas.{counts_none}
+use Rattle.client_notes.specs.Calls.{CountsFault, Runs}
+use Rattle.client_notes.proofs.CallLemmas.{counts_none}
 use Rattle.client_notes.specs.Notes.{got_of}
 use Rattle.client_notes.specs.State.{NotesState}
 use Rattle.ftl0_client.specs.declared.outcome.Outcome.{Outcome}

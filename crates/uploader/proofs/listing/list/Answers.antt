@@ -2,12 +2,12 @@
 use Rattle.std.proofs.Common.{◌≡◌, inl, inr, ℕ, List, refl, ap, ◌∙◌, subst}
 use Rattle.std.specs.Prelude.{Result, Ok, Err, IsErrOf, ⊤}
 use Rattle.px_base.specs.Outside.{Gains, GainsPrefix}
-use Rattle.file_journal.specs.Calls.{CountsFault, Runs}
-use Rattle.file_journal.proofs.CallLemmas.{counts_none}
+use Rattle.client_notes.specs.Calls.{CountsFault, Runs}
+use Rattle.client_notes.proofs.CallLemmas.{counts_none}
 use Rattle.client_notes.specs.declared.refusals.StoreFault.TheVariants as fault
-use Rattle.ftl0_job.specs.declared.work.Work.TheVariants as work
-use Rattle.ftl0_job.specs.Directory.{new_directory}
-use Rattle.ftl0_job.specs.Table.{new_job}
+use Rattle.ftl0_client.specs.Work.TheVariants as work
+use Rattle.ftl0_client.specs.Directory.{new_directory}
+use Rattle.ftl0_client.specs.Table.{new_job}
 use Rattle.ftl0_client.specs.declared.outcome.Outcome.{Outcome}
 use Rattle.uploader.specs.declared.stop.SendStop.{SendStop}
 use Rattle.uploader.specs.declared.stop.SendStop.TheVariants as stop

@@ -2,7 +2,7 @@
 -- is uploaded.
 use Rattle.std.proofs.Common.{inl, inr, refl, sym, ap, ◌∙◌, subst, ℕ}
 use Rattle.std.specs.Prelude.{Result, Ok, Err, IsErrOf}
-use Rattle.file_journal.specs.Calls.{Runs}
+use Rattle.client_notes.specs.Calls.{Runs}
 use Rattle.client_notes.specs.declared.answers.Begun.TheVariants as begun
 use Rattle.uploader.specs.declared.stop.SendStop.{SendStop}
 use Rattle.uploader.specs.declared.stop.SendStop.TheVariants as stop

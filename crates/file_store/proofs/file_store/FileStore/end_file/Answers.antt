@@ -1,5 +1,5 @@
 use Rattle.std.proofs.Common.{◌≡◌, ℕ, true, false, [], ◌∷◌, ◌++◌, Option, IsErr, IfOk, refl, ◌∙◌, ap, subst, rules}
-use Rattle.pfh_items.specs.Faults.{fault_code}
+use Rattle.file_entries.specs.Faults.{fault_code}
 use Rattle.file_entries.specs.Command.{fault_at, last_grow}
 use Rattle.file_entries.specs.Files.{octets_or_none}
 use Rattle.file_store.specs.OnDisk.{Does}

@@ -1,5 +1,5 @@
 use Rattle.std.proofs.Common.{◌≡◌, true, false, None, refl, sym, ◌∙◌, ap, arith, rules}
-use Rattle.pfh_items.specs.Faults.{fault_code}
+use Rattle.file_entries.specs.Faults.{fault_code}
 use Rattle.file_entries.specs.Files.{KeepsRests}
 use Rattle.file_entries.specs.Records.{store_magic}
 use Rattle.file_store.specs.OnDisk.{Does}

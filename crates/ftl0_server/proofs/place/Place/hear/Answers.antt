@@ -4,7 +4,7 @@ use Rattle.ftl0_server.specs.Connection.ConnectionState.{HearsBy, with_reads}
 use Rattle.ftl0_server.specs.declared.connection.fate.Fate.{Fate}
 use Rattle.ftl0_server.specs.Connection.Hearing.{hearing}
 use Rattle.ax25_frames.specs.Values.{value_of}
-use Rattle.file_entries.specs.Store.{Store}
+use Rattle.file_store.specs.Store.{Store}
 use Rattle.file_store.specs.State.{store_in}
 use Rattle.ftl0_session.specs.Downloads.Needs.{AreComplete}
 use Rattle.ftl0_server.proofs.PlaceLemmas.{heard-going, heard-over, parks-journal, parks-store, works-over}

@@ -1,11 +1,11 @@
 -- A tick came at each place, and the disk stays.
 use Rattle.std.proofs.Common.{◌≡◌, false, refl, subst, sym, []}
 use Rattle.std.specs.Prelude.{Ok}
-use Rattle.file_entries.specs.Store.{Store}
+use Rattle.file_store.specs.Store.{Store}
 use Rattle.file_store.specs.OnDisk.{Does}
 use Rattle.file_store.specs.State.{StandsOn}
 use Rattle.file_store.specs.Working.{DoesAmongReads}
-use Rattle.file_journal.proofs.CallLemmas.{puts_none}
+use Rattle.file_store.proofs.CallLemmas.{puts_none}
 use Rattle.file_store.proofs.WorkingLemmas.{does-among, puts-among}
 use Rattle.ftl0_session.proofs.uploads.DoesLemmas.{does-none}
 use Rattle.ftl0_session.specs.Downloads.Needs.{AreComplete}

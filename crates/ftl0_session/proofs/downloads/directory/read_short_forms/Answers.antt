@@ -1,5 +1,5 @@
 use Rattle.std.proofs.Common.{◌≡◌, ◌++◌, get_or, length, sym, ◌∙◌, ap, subst, arith, rules, length-append}
-use Rattle.file_entries.specs.Info.{IsCompleteIn}
+use Rattle.file_store.specs.Info.{IsCompleteIn}
 use Rattle.file_store.specs.State.{StandsOn, StoreState, store_in}
 use Rattle.ftl0_session.specs.Downloads.Table.{octets_in, short_octets}
 use Rattle.ftl0_session.proofs.downloads.DueLemmas.{flat-more}

@@ -1,5 +1,5 @@
 use Rattle.std.proofs.Common.{◌≡◌, ◌*◌, length, take, flat_map}
-use Rattle.file_journal.specs.Calls.{Reads}
+use Rattle.file_store.specs.Calls.{Reads}
 use Rattle.file_store.specs.State.{StandsOn, store_in}
 use Rattle.ftl0_session.specs.Downloads.Table.{octets_in, short_octets}
 use Rattle.ftl0_session.proofs.downloads.directory.read_short_forms.Given as goal

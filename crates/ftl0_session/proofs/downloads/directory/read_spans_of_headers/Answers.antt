@@ -1,5 +1,5 @@
 use Rattle.std.proofs.Common.{get_or, sym, subst}
-use Rattle.file_entries.specs.Info.{IsCompleteIn}
+use Rattle.file_store.specs.Info.{IsCompleteIn}
 use Rattle.file_store.specs.State.{StoreState, store_in}
 use Rattle.ftl0_session.proofs.downloads.directory.read_spans_of_headers.Goals as goal
 

@@ -1,5 +1,5 @@
 use Rattle.std.proofs.Common.{◌≡◌, length, map, take}
-use Rattle.file_journal.specs.Calls.{Reads}
+use Rattle.file_store.specs.Calls.{Reads}
 use Rattle.file_store.specs.State.{StandsOn, store_in}
 use Rattle.ftl0_session.specs.Downloads.Needs.{AreStored}
 use Rattle.ftl0_session.specs.Downloads.Spans.{due_of}

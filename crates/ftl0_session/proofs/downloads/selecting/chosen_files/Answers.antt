@@ -1,8 +1,8 @@
 use Rattle.std.proofs.Common.{◌≡◌, ◌++◌, ◌<◌, List, ℕ, true, false, None, Some, Option, refl, sym, ◌∙◌, ap, subst}
 use Rattle.std.proofs.Common.{arith, lit≤}
 use Rattle.std.proofs.lemmas.List.{append-nil}
-use Rattle.file_entries.specs.Headers.{header_items}
-use Rattle.file_entries.specs.Info.{IsNextComplete}
+use Rattle.file_store.specs.Headers.{header_items}
+use Rattle.file_store.specs.Info.{IsNextComplete}
 use Rattle.file_store.specs.State.{StandsOn, StoreState, store_in}
 use Rattle.selection.specs.Meaning.{holds}
 use Rattle.selection.specs.Values.{tree_of}

@@ -1,6 +1,6 @@
 use Rattle.std.proofs.Common.{◌≡◌, ◌-◌, ◌++◌}
-use Rattle.file_journal.specs.Calls.{Reads}
-use Rattle.file_entries.specs.IsStore.{IsStore}
+use Rattle.file_store.specs.Calls.{Reads}
+use Rattle.file_store.specs.IsStore.{IsStore}
 use Rattle.file_store.specs.State.{StandsOn, store_in}
 use Rattle.selection.specs.Values.{tree_of}
 use Rattle.ftl0_session.specs.Downloads.Table.{chosen}

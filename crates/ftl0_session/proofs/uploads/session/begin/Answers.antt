@@ -2,7 +2,7 @@
 use Rattle.std.proofs.Common.{◌≡◌, ℕ, [], ◌∷◌, refl, ap, sym, ◌∙◌, subst, Some, true≢false}
 use Rattle.ftl0_packets.specs.Layout.{ul_go_resp, upload_cmd}
 use Rattle.std.specs.Prelude.{Ok}
-use Rattle.file_entries.specs.Command.{begin}
+use Rattle.file_store.specs.Command.{begin}
 use Rattle.file_store.specs.State.{store_in}
 use Rattle.file_store.specs.Upload.{Upload}
 use Rattle.ftl0_packets.specs.Items.{texts}

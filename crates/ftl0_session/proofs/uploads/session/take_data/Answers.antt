@@ -2,7 +2,7 @@
 use Rattle.std.proofs.Common.{◌≡◌, ◌⊎◌, ℕ, [], ◌∷◌, refl, ap, sym, ◌∙◌, subst, inl, inr, Some, true, false, true≢false}
 use Rattle.std.specs.Prelude.{Ok, ⊤}
 use Rattle.ftl0_packets.specs.Layout.{data_part, ul_nak_resp}
-use Rattle.file_entries.specs.Command.{unfilled_block}
+use Rattle.file_store.specs.Command.{unfilled_block}
 use Rattle.file_store.specs.State.{rest_in, store_in}
 use Rattle.file_store.specs.Upload.{Upload, appending, with_bytes}
 use Rattle.ftl0_session.specs.declared.uploads.phase.Phase.TheVariants as phase

@@ -1,6 +1,6 @@
 -- The loop over turns.
 use Rattle.std.proofs.Common.{◌≡◌, arith, Result, Ok, Err, ◌∙◌}
-use Rattle.ftl0_packets.proofs.OctetLemmas.{IsOctets-nil}
+use Rattle.ftl0_server.proofs.OctetLemmas.{IsOctets-nil}
 use Rattle.session_node.specs.declared.stop.NodeStop.{NodeStop}
 use Rattle.session_node.specs.declared.terms.Served.{Served}
 use Rattle.session_node.specs.Stops.{HasAirCause}

@@ -1,7 +1,7 @@
 -- A turn's octets are heard, and then it ticks; or one of the two stops it.
 use Rattle.std.proofs.Common.{take, Result, ◌∙◌}
 use Rattle.px_base.specs.declared.air.Polled.{Polled}
-use Rattle.ftl0_packets.proofs.OctetLemmas.{IsOctets-nil}
+use Rattle.ftl0_server.proofs.OctetLemmas.{IsOctets-nil}
 use Rattle.session_node.specs.declared.stop.NodeStop.{NodeStop}
 use Rattle.session_node.proofs.Serving.{at_exit}
 use Rattle.server_node.specs.Node.{TakesTurn}
