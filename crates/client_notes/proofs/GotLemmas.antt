@@ -11,7 +11,7 @@ use Rattle.std.proofs.lemmas.List.Sums.{position_or_len_is}
 use Rattle.std.proofs.lemmas.Option.{same_Some, slice_get-get_or, slice_get_past}
 use Rattle.std.proofs.lemmas.Slice.Eq.{bytes_eq-Decides}
 use Rattle.px_base.specs.CallSign.{CallSign}
-use Rattle.client_notes.specs.declared.limits.TheConstants.{LONGEST_FILE}
+use Rattle.client_notes.specs.Limits.{longest_file}
 use Rattle.client_notes.specs.Command.{after, forgot, got, got_file, is_allowed, with_got, with_got_at, with_octets}
 use Rattle.client_notes.specs.Notes.{GotFile, Lists, got_of, is_file_of, is_same_call, octets_or_none}
 use Rattle.client_notes.proofs.ListLemmas.{got-there, with-got}
@@ -94,10 +94,10 @@ forgot-none lists server number = ap octets_or_none (left_out (is_file_of server
 
 -- octets that may be got
 pub got-allowed : (lists : Lists) (server : CallSign) (number : ℕ) (octets : List ℕ) → 1 ≤ number → 1 ≤ length octets → length octets ≤ 512
-    → length (got_of lists server number) + length octets ≤ LONGEST_FILE → IsTrue (is_allowed lists (got server number octets))
+    → length (got_of lists server number) + length octets ≤ longest_file → IsTrue (is_allowed lists (got server number octets))
 got-allowed lists server number octets some least most fits =
     let first : nat_lt 0 number ≡ true = grind (arith, nat_tests) in
     let second : nat_le 1 (length octets) ≡ true = grind (arith, nat_tests) in
     let third : nat_le (length octets) 512 ≡ true = grind (arith, nat_tests) in
-    let fourth : nat_le (length (got_of lists server number) + length octets) LONGEST_FILE ≡ true = grind (arith, nat_tests) in
+    let fourth : nat_le (length (got_of lists server number) + length octets) longest_file ≡ true = grind (arith, nat_tests) in
     rw (first, second, third, fourth) refl

@@ -8,7 +8,7 @@ use Rattle.std.proofs.lemmas.List.Quantifiers.{position-Some}
 use Rattle.std.proofs.lemmas.Option.{same_Some, slice_get-get_or}
 use borrow.Author.Tests.{leb-true}
 use Rattle.px_base.specs.CallSign.{CallSign}
-use Rattle.client_notes.specs.declared.limits.TheConstants.{LONGEST_FILE}
+use Rattle.client_notes.specs.Limits.{longest_file}
 use Rattle.client_notes.specs.Applied.{cut_to}
 use Rattle.client_notes.specs.Command.{changed_at, got, is_allowed, is_got_len, set_some, with_got, with_got_at, with_octets}
 use Rattle.client_notes.specs.Notes.{GotFile, Lists, Task, got_of, is_file_of, octets_or_none}
@@ -68,7 +68,7 @@ second true b h = h
 second false b h = absurd (cc)
 
 -- octets that may be got fit the file
-pub got-fits : (lists : Lists) (server : CallSign) (number : ℕ) (octets : List ℕ) → IsTrue (is_allowed lists (got server number octets)) → length (got_of lists server number) + length octets ≤ LONGEST_FILE
+pub got-fits : (lists : Lists) (server : CallSign) (number : ℕ) (octets : List ℕ) → IsTrue (is_allowed lists (got server number octets)) → length (got_of lists server number) + length octets ≤ longest_file
 got-fits lists server number octets ok =
-    leb-true (length (got_of lists server number) + length octets) LONGEST_FILE
-    (second (nat_lt 0 number && is_got_len (length octets)) (nat_le (length (got_of lists server number) + length octets) LONGEST_FILE) ok)
+    leb-true (length (got_of lists server number) + length octets) longest_file
+    (second (nat_lt 0 number && is_got_len (length octets)) (nat_le (length (got_of lists server number) + length octets) longest_file) ok)

@@ -11,7 +11,7 @@ use Rattle.client_notes.specs.declared.answers.Begun.{Begun}
 use Rattle.client_notes.specs.declared.answers.Begun.TheVariants as begun
 use Rattle.client_notes.specs.declared.answers.Noted.{Noted}
 use Rattle.client_notes.specs.declared.answers.Noted.TheVariants as noted
-use Rattle.client_notes.specs.declared.limits.TheConstants.{MOST_TASKS}
+use Rattle.client_notes.specs.Limits.{most_tasks}
 use Rattle.client_notes.specs.declared.progress.Progress.{Progress}
 use Rattle.client_notes.specs.declared.progress.Progress.TheVariants as progress
 use Rattle.client_notes.specs.declared.refusals.NotesRefusal.{NotesRefusal}
@@ -61,7 +61,7 @@ answer_of lists server caller name file_length digest =
 
 -- 65,536 tasks stand
 abbrev pub IsFull : Lists → Type 0
-IsFull lists = task_count lists ≡ MOST_TASKS
+IsFull lists = task_count lists ≡ most_tasks
 
 -- Where a fresh task isn't noted: exactly one cause is each one's, but want of memory and a fault of the disk come only
 -- where no other does.

@@ -2,7 +2,7 @@
 use Rattle.std.specs.Prelude.{ℕ, ◌+◌, ◌-◌, ◌==◌, List, [], ◌∷◌, ◌++◌, length, filter, slice_get, slice_set, Bool, not, true, false, ◌&&◌, nat_le, nat_lt, Option, None, Some}
 use Rattle.std.specs.List.{position}
 use Rattle.px_base.specs.CallSign.{CallSign}
-use Rattle.client_notes.specs.declared.limits.TheConstants.{LONGEST_FILE, LONGEST_NAME, MOST_GOT, MOST_TASKS}
+use Rattle.client_notes.specs.Limits.{longest_file, longest_name, most_got, most_tasks}
 use Rattle.client_notes.specs.declared.progress.Progress.{Progress}
 use Rattle.client_notes.specs.declared.progress.Progress.TheVariants as progress
 use Rattle.client_notes.specs.Notes.{GotFile, Lists, Task, got_of, is_file_of, task_count, task_of}
@@ -42,22 +42,22 @@ passes test (Some task) = test task
 
 -- whether a name has 1 to 64 octets
 abbrev pub is_name : List ℕ → Bool
-is_name name = nat_le 1 (length name) && nat_le (length name) LONGEST_NAME
+is_name name = nat_le 1 (length name) && nat_le (length name) longest_name
 
 -- whether so many octets may be got at once
 abbrev pub is_got_len : ℕ → Bool
-is_got_len len = nat_le 1 len && nat_le len MOST_GOT
+is_got_len len = nat_le 1 len && nat_le len most_got
 
 -- whether the condition of the command holds for the notes
 abbrev pub is_allowed : Lists → NotesCommand → Bool
 is_allowed lists (start task server caller name file_length digest) =
-    (task == task_count lists + 1) && nat_le task MOST_TASKS && is_name name
+    (task == task_count lists + 1) && nat_le task most_tasks && is_name name
 is_allowed lists (numbered task number) = passes is_unnumbered (task_of lists task) && nat_lt 0 number
 is_allowed lists (acked task) = passes is_numbered (task_of lists task)
 is_allowed lists (refused task code) = passes (λ t. is_going t.progress) (task_of lists task)
 is_allowed lists (got server number octets) =
     nat_lt 0 number && is_got_len (length octets)
-    && nat_le (length (got_of lists server number) + length octets) LONGEST_FILE
+    && nat_le (length (got_of lists server number) + length octets) longest_file
 is_allowed lists (forgot server number) = true
 
 -- the list with the element at this place changed so, where there is one

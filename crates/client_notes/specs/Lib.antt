@@ -3,6 +3,7 @@ pub mod Applied
 pub mod Command
 pub mod Commands
 pub mod Laws
+pub mod Limits
 pub mod Notes
 pub mod OnDisk
 pub mod Records

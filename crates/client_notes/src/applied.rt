@@ -4,6 +4,7 @@ ghost use Rattle.std.specs.Prelude.{◌≡◌, ◌==◌, ◌+◌, ◌&&◌, nat_
 ghost use Rattle.client_notes.specs.Applied.{Applied};
 ghost use Rattle.client_notes.specs.Command.{after, got, is_allowed, is_going as is_unfinished, is_name, is_numbered, is_unnumbered, passes};
 ghost use Rattle.client_notes.specs.Commands.{command_value};
+ghost use Rattle.client_notes.specs.Limits.{most_tasks};
 ghost use Rattle.client_notes.specs.Notes.{task_count, task_of};
 ghost use Rattle.client_notes.specs.Records.{IsWritable};
 
@@ -100,7 +101,7 @@ impl Lists {
 
     /// Whether a task of this number and name may be begun.
     fn allows_start(&self, task: u32, name: &[u8]) -> bool
-        ensures { result ≡ (task == task_count self.now + 1) && nat_le task MOST_TASKS && is_name name.now }
+        ensures { result ≡ (task == task_count self.now + 1) && nat_le task most_tasks && is_name name.now }
     {
         task == self.task_count() + 1
             && task <= MOST_TASKS

@@ -6,6 +6,7 @@ ghost use Rattle.std.specs.Option.{option_copied};
 ghost use Rattle.client_notes.specs.Answers.{answer_by, answer_of, noted_as as noted_as_task, noted_of};
 ghost use Rattle.client_notes.specs.Applied.{IsPlaceOf, taken_back};
 ghost use Rattle.client_notes.specs.Command.{acked, after, forgot, got, is_allowed, numbered, refused};
+ghost use Rattle.client_notes.specs.Limits.{longest_file, most_tasks};
 ghost use Rattle.client_notes.specs.Notes.{got_of, is_file_of, is_of_file, last_task as number_of_last_task, no_notes, place_from_end as place_of_last_task, task_count as count_of_tasks, task_of};
 
 use crate::limits::{LONGEST_FILE, MOST_TASKS};
@@ -35,13 +36,13 @@ pub(crate) enum Behind {
 impl Model for Lists {
     ghost use Rattle.std.specs.Prelude.{length, ◌≤◌};
     ghost use Rattle.client_notes.specs.Notes.{Lists};
-    ghost use Rattle.client_notes.specs.declared.limits.TheConstants.{MOST_TASKS};
+    ghost use Rattle.client_notes.specs.Limits.{most_tasks};
 
     ghost Value = { Lists };
 
     ghost view = { λ a. record { tasks = a.tasks.items; got = a.got.items } };
 
-    ghost invariant = { λ a. length a.tasks.items ≤ MOST_TASKS };
+    ghost invariant = { λ a. length a.tasks.items ≤ most_tasks };
 }
 
 impl Lists {
@@ -59,7 +60,7 @@ impl Lists {
     /// How many tasks there are.
     pub(crate) fn task_count(&self) -> u32
         ensures count { result ≡ count_of_tasks self.now }
-        ensures most { result ≤ MOST_TASKS }
+        ensures most { result ≤ most_tasks }
     {
         self.tasks.len() as u32
     }
@@ -127,7 +128,7 @@ impl Lists {
 
     /// Begins a task, or changes nothing where there is no memory. Takes memory.
     pub(crate) fn add_task(&mut self, task: StoredTask) -> Result<(), OutOfMemory>
-        requires { count_of_tasks self.old < MOST_TASKS }
+        requires { count_of_tasks self.old < most_tasks }
         ensures ok { OnOk result (self.new ≡ record self.old { tasks = self.old.tasks ++ task ∷ [] }) }
         ensures err { OnErr result (self.new ≡ self.old) }
     {
@@ -169,7 +170,7 @@ impl Lists {
     /// The octets got of the file of this number of this server.
     pub(crate) fn got(&self, server: Call, number: u32) -> &[u8]
         ensures octets { result.now ≡ got_of self.now server number }
-        ensures fits { length result.now ≤ LONGEST_FILE }
+        ensures fits { length result.now ≤ longest_file }
     {
         match self.got_file(server, number) {
             Some(file) => file.octets(),

@@ -7,6 +7,7 @@ ghost use Rattle.file_journal.specs.Journal.{after_recovery};
 ghost use Rattle.client_notes.specs.Answers.{Noting, StartsBy, answer_of, fresh_task, noted_of, start_reaches};
 ghost use Rattle.client_notes.specs.Command.{acked, forgot, got, is_allowed, numbered, refused};
 ghost use Rattle.client_notes.specs.Commands.{command_value};
+ghost use Rattle.client_notes.specs.Limits.{longest_file, most_tasks};
 ghost use Rattle.client_notes.specs.Notes.{got_of, task_count};
 ghost use Rattle.client_notes.specs.OnDisk.{Answers, Does, PutsHealthy, Untouched};
 ghost use Rattle.client_notes.specs.Records.{IsWritable, notes_magic};
@@ -136,7 +137,7 @@ impl Notes {
         digest: &[u8; 32],
     ) -> Result<u32, NotesRefusal>
         requires stands_on { StandsOn D.Disk self.old disk.old }
-        requires few { task_count self.old.lists < MOST_TASKS }
+        requires few { task_count self.old.lists < most_tasks }
         requires some { 1 ≤ length name.now }
         requires most { length name.now ≤ 64 }
         ensures task { IfOk result (λ task. task ≡ task_count self.old.lists + 1) }
@@ -281,7 +282,7 @@ impl Notes {
     /// How many octets were got of the file of this number of this server. Takes no memory.
     pub fn got_len(&self, server: Call, number: u32) -> u32
         ensures len { result ≡ length (got_of self.now.lists server number) }
-        ensures most { result ≤ LONGEST_FILE }
+        ensures most { result ≤ longest_file }
     {
         self.lists.got(server, number).len() as u32
     }
@@ -299,7 +300,7 @@ impl Notes {
     /// The octets got of the file of this number of this server, as they lie in memory. Takes no memory.
     pub fn got_octets(&self, server: Call, number: u32) -> &[u8]
         ensures octets { result.now ≡ got_of self.now.lists server number }
-        ensures most { length result.now ≤ LONGEST_FILE }
+        ensures most { length result.now ≤ longest_file }
     {
         self.lists.got(server, number)
     }

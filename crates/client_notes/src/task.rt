@@ -3,6 +3,7 @@
 ghost use Rattle.std.specs.Prelude.{◌≡◌, ◌+◌, ◌≤◌, ◌++◌, length, take, IfOk, OnOk, OnErr};
 ghost use Rattle.client_notes.specs.Applied.{cut_to};
 ghost use Rattle.client_notes.specs.Command.{got_file, new_task, with_octets};
+ghost use Rattle.client_notes.specs.Limits.{longest_file};
 ghost use Rattle.client_notes.specs.Notes.{is_file_of, is_of_file, is_task_for};
 ghost use Rattle.client_notes.specs.declared.progress.Progress.TheVariants as progress;
 
@@ -137,13 +138,13 @@ pub(crate) struct StoredGot {
 impl Model for StoredGot {
     ghost use Rattle.std.specs.Prelude.{length, ◌≤◌};
     ghost use Rattle.client_notes.specs.Notes.{GotFile};
-    ghost use Rattle.client_notes.specs.declared.limits.TheConstants.{LONGEST_FILE};
+    ghost use Rattle.client_notes.specs.Limits.{longest_file};
 
     ghost Value = { GotFile };
 
     ghost view = { λ a. record { server = a.server; number = a.number; octets = a.octets.items } };
 
-    ghost invariant = { λ a. length a.octets.items ≤ LONGEST_FILE };
+    ghost invariant = { λ a. length a.octets.items ≤ longest_file };
 }
 
 impl StoredGot {
@@ -154,7 +155,7 @@ impl StoredGot {
         number: u32,
         octets: &[u8],
     ) -> Result<StoredGot, OutOfMemory>
-        requires { length octets.now ≤ LONGEST_FILE }
+        requires { length octets.now ≤ longest_file }
         ensures { IfOk result (λ file. file ≡ got_file server number octets.now) }
     {
         Ok(StoredGot {
@@ -174,14 +175,14 @@ impl StoredGot {
     /// The octets.
     pub(crate) fn octets(&self) -> &[u8]
         ensures octets { result.now ≡ self.now.octets }
-        ensures fits { length result.now ≤ LONGEST_FILE }
+        ensures fits { length result.now ≤ longest_file }
     {
         self.octets.as_slice()
     }
 
     /// Puts octets behind the others, or changes nothing where there is no memory. Takes memory.
     pub(crate) fn append(&mut self, octets: &[u8]) -> Result<(), OutOfMemory>
-        requires { length self.old.octets + length octets.now ≤ LONGEST_FILE }
+        requires { length self.old.octets + length octets.now ≤ longest_file }
         ensures ok { OnOk result (self.new ≡ with_octets octets.now self.old) }
         ensures err { OnErr result (self.new ≡ self.old) }
     {

@@ -1,7 +1,7 @@
 use Rattle.std.proofs.Common.{◌≡◌, ◌+◌, ◌≤◌, List, length, Some, sym, ◌∙◌, ap, subst, ℕ}
 use Rattle.std.specs.List.{position}
 use Rattle.std.specs.Prelude.{slice_set}
-use Rattle.client_notes.specs.declared.limits.TheConstants.{LONGEST_FILE}
+use Rattle.client_notes.specs.Limits.{longest_file}
 use Rattle.client_notes.specs.Applied.{cut_to}
 use Rattle.client_notes.specs.Command.{changed_at, with_got}
 use Rattle.client_notes.specs.Notes.{GotFile, Lists, got_of, is_file_of}
@@ -19,7 +19,7 @@ append-requires c =
     let there : got_of c.args.self.now c.args.server c.args.number ≡ c.index_mut.result.now.octets =
     ap (λ (l : Lists). got_of l c.args.server c.args.number) (sym c.self.view_is)
     ∙ got-there c.args.server c.args.number c.args.octets.now c.self.inside.got.items c.in-Some.place file (at c) (sym c.index_mut.ensures.value) in
-    subst (λ (os : List ℕ). length os + length c.args.octets.now ≤ LONGEST_FILE) there (got-fits c.args.self.now c.args.server c.args.number c.args.octets.now c.requires)
+    subst (λ (os : List ℕ). length os + length c.args.octets.now ≤ longest_file) there (got-fits c.args.self.now c.args.server c.args.number c.args.octets.now c.requires)
 
 pub returns-in_ok-append-in-Some-clause-got : goal.returns-in_ok-append-in-Some-clause-got
 returns-in_ok-append-in-Some-clause-got c =
