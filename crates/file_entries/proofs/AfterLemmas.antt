@@ -14,7 +14,7 @@ use Rattle.file_entries.specs.Command.{Command, begin, grow, seal, drop_entry, c
 use Rattle.file_entries.specs.Info.{is_complete}
 use Rattle.file_entries.specs.IsStore.{IsStore, FitsLength}
 use Rattle.file_entries.specs.Kept.{KeepsComplete}
-use Rattle.file_entries.specs.declared.limits.TheConstants.{LAST_NEXT, LONGEST_FILE, MOST_ENTRIES}
+use Rattle.file_entries.specs.Limits.{last_next, longest_file, most_entries}
 use Rattle.file_entries.specs.Store.{Entry, Holding, partial, complete, Store, entry_of, blocks_for, blocks_of, new_entry, octets_of}
 use Rattle.pfh_writer.proofs.StampedLemmas.{length-stamped}
 use Rattle.file_entries.proofs.EntriesLemmas.{has_number, AreEntries-push, AreEntries-map-changed, AreEntries-filter, HaveCallers-push, HaveCallers-map-changed, HaveCallers-filter, found-caller, blocks-map-changed, find-map-changed_other, find-filter_other, find_past}
@@ -75,11 +75,11 @@ never-both (complete o m) other h t = cc
 
 -- what the condition of a begin says
 pub begin-allowed : (store : Store) (number : ℕ) (caller : CallSign) (file_length moment : ℕ) → IsTrue (is_allowed store (begin number caller file_length moment))
-    → (number ≡ store.next) × (file_length ≤ LONGEST_FILE) × (length store.entries < MOST_ENTRIES) × (blocks_of store + blocks_for file_length ≤ store.blocks)
+    → (number ≡ store.next) × (file_length ≤ longest_file) × (length store.entries < most_entries) × (blocks_of store + blocks_for file_length ≤ store.blocks)
 begin-allowed store number caller file_length moment ok =
-    let short : Bool = nat_le file_length LONGEST_FILE in
-    let few : Bool = nat_lt (length store.entries) MOST_ENTRIES in
-    let left : Bool = nat_lt store.next LAST_NEXT in
+    let short : Bool = nat_le file_length longest_file in
+    let few : Bool = nat_lt (length store.entries) most_entries in
+    let left : Bool = nat_lt store.next last_next in
     let room : Bool = nat_le (blocks_of store + blocks_for file_length) store.blocks in
     let both : IsTrue (number == store.next) × IsTrue (can_begin store file_length) = and-parts (number == store.next) (can_begin store file_length) ok in
     let three : IsTrue (short && few && left) × IsTrue room = and-parts (short && few && left) room both.1 in
@@ -92,7 +92,7 @@ pub grow-allowed : (store : Store) (number : ℕ) (octets : List ℕ) → IsTrue
     → IsTrue (passes (λ e. has_room e.holding e.length (length octets)) (entry_of store number))
 grow-allowed store number octets ok = (and-parts (nat_le 1 (length octets) && nat_le (length octets) 512) (passes (λ e. has_room e.holding e.length (length octets)) (entry_of store number)) ok).1
 
-pub new_entry-IsStore : (store : Store) (caller : CallSign) (file_length moment : ℕ) → IsStore store → IsCall caller → file_length ≤ LONGEST_FILE → length store.entries < MOST_ENTRIES
+pub new_entry-IsStore : (store : Store) (caller : CallSign) (file_length moment : ℕ) → IsStore store → IsCall caller → file_length ≤ longest_file → length store.entries < most_entries
     → blocks_of store + blocks_for file_length ≤ store.blocks → IsStore (after store (begin store.next caller file_length moment))
 new_entry-IsStore store caller file_length moment is call small few room =
     let new : Entry = new_entry store.next caller file_length moment in
@@ -119,7 +119,7 @@ change-IsStore store number change e is found fits =
       entries = AreEntries-map-changed number change 1 store.next store.entries e is.entries found fits;
       callers = HaveCallers-map-changed number change store.entries is.callers;
       next = is.next;
-      count = subst (λ (n : ℕ). n ≤ MOST_ENTRIES) (sym (length-map store.entries (changed number change))) is.count;
+      count = subst (λ (n : ℕ). n ≤ most_entries) (sym (length-map store.entries (changed number change))) is.count;
       blocks = subst (λ (n : ℕ). n ≤ store.blocks) (sym (blocks-map-changed number change store.entries)) is.blocks;
       some = is.some;
       most = is.most;

@@ -5,7 +5,7 @@ use Rattle.std.specs.List.{remove}
 use Rattle.std.specs.Option.{option_and_then, option_map}
 use Rattle.std.proofs.lemmas.List.Sums.{sum_by_push}
 use Rattle.px_base.specs.CallSign.{CallSign, IsCall}
-use Rattle.file_entries.specs.declared.limits.TheConstants.{LONGEST_FILE}
+use Rattle.file_entries.specs.Limits.{longest_file}
 use Rattle.file_entries.specs.Command.{MayBegin, after, begin, drop_entry, passes, with_holding}
 use Rattle.file_entries.specs.Counted.{IsCounted}
 use Rattle.file_entries.specs.Files.{Becomes, ChangesRest, File, Files, IsPlace, KeepsRests, Waits, entries_of, file_of, files_from, rest_of, store_of}
@@ -56,7 +56,7 @@ rest-of-file files number file found = ap (option_and_then (λ (f : File). f.res
 
 -- what holds of the octets of a file that is found
 pub file-fits : (files : Files) (number : ℕ) (file : File) → IsStore (store_of files) → file_of files.files number ≡ Some file
-    → FitsLength file.entry.holding file.entry.length × (length (octets_of file.entry.holding) ≤ LONGEST_FILE)
+    → FitsLength file.entry.holding file.entry.length × (length (octets_of file.entry.holding) ≤ longest_file)
 file-fits files number file rules found =
     let fits = found-fits number 1 files.next (entries_of files.files) file.entry rules.entries (entry-of-file files number file found) in
     (fits.0, octets-small file.entry.holding file.entry.length fits.0 fits.1)

@@ -6,7 +6,7 @@ use Rattle.std.proofs.lemmas.Bool.Decides.{nat_tests, eqb_tells}
 use Rattle.std.proofs.lemmas.List.{get_or_default}
 use Rattle.std.proofs.lemmas.List.Sums.{sum_by-cons}
 use Rattle.px_base.specs.CallSign.{CallSign, IsCall}
-use Rattle.file_entries.specs.declared.limits.TheConstants.{LONGEST_FILE}
+use Rattle.file_entries.specs.Limits.{longest_file}
 use Rattle.file_entries.specs.Store.{Entry, Holding, partial, complete, octets_of, blocks_for}
 use Rattle.file_entries.specs.IsStore.{AreEntries, FitsLength, HaveCallers}
 use Rattle.file_entries.specs.Command.{changed}
@@ -124,13 +124,13 @@ find_past number low next (x ∷ xs) are past =
 
 -- what holds of an entry that is found
 pub found-fits : (number low next : ℕ) (entries : List Entry) (e : Entry) → AreEntries low entries next → find (has_number number) entries ≡ Some e
-    → FitsLength e.holding e.length × (e.length ≤ LONGEST_FILE) × (number < next)
+    → FitsLength e.holding e.length × (e.length ≤ longest_file) × (number < next)
 found-fits number low next [] e are found = absurd (cc)
 found-fits number low next (x ∷ xs) e are found =
     elim (eqb_tells x.number number) [
       | inl w ↦
           let same : x ≡ e = let f = rw w.0 at found in cc in
-          let P : Entry → Type 0 = λ y. FitsLength y.holding y.length × (y.length ≤ LONGEST_FILE) in
+          let P : Entry → Type 0 = λ y. FitsLength y.holding y.length × (y.length ≤ longest_file) in
           let fits : P e = subst P same (are.2, are.3) in
           (fits.0, fits.1, omega (arith, are.1, w.1))
       | inr w ↦ found-fits number (x.number + 1) next xs e are.4 (rw w.0 at found)
@@ -142,7 +142,7 @@ AreEntries-lower low lower next [] le are = tt
 AreEntries-lower low lower next (x ∷ xs) le are = (omega (arith, are.0), are.1, are.2, are.3, are.4)
 
 -- one more entry at the end, of the next number
-pub AreEntries-push : (low next : ℕ) (entries : List Entry) (e : Entry) → AreEntries low entries next → low ≤ next → e.number ≡ next → FitsLength e.holding e.length → e.length ≤ LONGEST_FILE
+pub AreEntries-push : (low next : ℕ) (entries : List Entry) (e : Entry) → AreEntries low entries next → low ≤ next → e.number ≡ next → FitsLength e.holding e.length → e.length ≤ longest_file
     → AreEntries low (entries ++ e ∷ []) (next + 1)
 AreEntries-push low next [] e are le same fits small = (omega arith, omega arith, fits, small, tt)
 AreEntries-push low next (x ∷ xs) e are le same fits small =
@@ -295,6 +295,6 @@ place-none number entries none =
     found-nowhere number entries (grind (arith, nat_tests, when))
 
 -- what an entry holds is no longer than the longest file
-pub octets-small : (h : Holding) (l : ℕ) → FitsLength h l → l ≤ LONGEST_FILE → length (octets_of h) ≤ LONGEST_FILE
+pub octets-small : (h : Holding) (l : ℕ) → FitsLength h l → l ≤ longest_file → length (octets_of h) ≤ longest_file
 octets-small (partial held) l fits small = omega arith
 octets-small (complete octets moment) l fits small = omega arith

@@ -1,7 +1,7 @@
 -- The commands that change a store, with the condition of each and what it does.
 use Rattle.std.specs.Prelude.{◌≡◌, ℕ, zero, suc, ◌+◌, ◌*◌, ◌/◌, ◌≤◌, ◌<◌, ◌==◌, List, [], ◌∷◌, ◌++◌, length, take, drop, map, filter, Bool, not, true, false, ◌&&◌, nat_le, nat_lt, if◌then◌else◌, Option, None, Some, is_none, IsTrue, ⊤}
 use Rattle.px_base.specs.CallSign.{CallSign, IsCall}
-use Rattle.file_entries.specs.declared.limits.TheConstants.{LAST_NEXT, LONGEST_FILE, MOST_ENTRIES}
+use Rattle.file_entries.specs.Limits.{last_next, longest_file, most_entries}
 use Rattle.pfh_items.specs.Faults.{fault_code}
 use Rattle.pfh_items.specs.Stamp.{StampValue, stamped}
 use Rattle.file_entries.specs.Store.{Entry, Holding, partial, complete, Store, blocks_for, blocks_of, entry_count, entry_of, free_blocks, new_entry, octets_at}
@@ -26,14 +26,14 @@ HasCall (drop_entry number) = ⊤
 -- whether a file of this length may be begun
 abbrev pub can_begin : Store → ℕ → Bool
 can_begin store file_length =
-    nat_le file_length LONGEST_FILE && nat_lt (length store.entries) MOST_ENTRIES && nat_lt store.next LAST_NEXT
+    nat_le file_length longest_file && nat_lt (length store.entries) most_entries && nat_lt store.next last_next
     && nat_le (blocks_of store + blocks_for file_length) store.blocks
 
 -- the same as a fact: a file of this length may be begun
 pub record MayBegin (store : Store) (file_length : ℕ) : Type 0 where
-  pub short : file_length ≤ LONGEST_FILE
-  pub few : entry_count store < MOST_ENTRIES
-  pub left : store.next < LAST_NEXT
+  pub short : file_length ≤ longest_file
+  pub few : entry_count store < most_entries
+  pub left : store.next < last_next
   pub room : blocks_for file_length ≤ free_blocks store
 
 -- whether so many further octets fit a file of this length that has come so far

@@ -2,7 +2,7 @@
 use Rattle.std.specs.Prelude.{◌≡◌, ℕ, ◌+◌, ◌≤◌, ◌<◌, List, [], ◌∷◌, length, ⊤}
 use Rattle.std.specs.List.{AllByRecursion}
 use Rattle.px_base.specs.CallSign.{IsCall}
-use Rattle.file_entries.specs.declared.limits.TheConstants.{LONGEST_FILE, MOST_ENTRIES}
+use Rattle.file_entries.specs.Limits.{longest_file, most_entries}
 use Rattle.file_entries.specs.Store.{Entry, Holding, partial, complete, Store, blocks_of}
 
 -- so many octets as the file has, where it is complete, and no more before
@@ -15,7 +15,7 @@ FitsLength (complete octets moment) file_length = length octets ≡ file_length
 abbrev pub AreEntries : ℕ → List Entry → ℕ → Type 0
 AreEntries low [] next = ⊤
 AreEntries low (entry ∷ entries) next =
-    (low ≤ entry.number) × (entry.number < next) × FitsLength entry.holding entry.length × (entry.length ≤ LONGEST_FILE)
+    (low ≤ entry.number) × (entry.number < next) × FitsLength entry.holding entry.length × (entry.length ≤ longest_file)
     × AreEntries (entry.number + 1) entries next
 
 -- the caller of each entry is a call
@@ -28,7 +28,7 @@ pub record IsStore (store : Store) : Type 0 where
   pub entries : AreEntries 1 store.entries store.next
   pub callers : HaveCallers store.entries
   pub next : 1 ≤ store.next
-  pub count : length store.entries ≤ MOST_ENTRIES
+  pub count : length store.entries ≤ most_entries
   pub blocks : blocks_of store ≤ store.blocks
   pub some : 1 ≤ store.blocks
   pub most : store.blocks ≤ 65536

@@ -9,6 +9,7 @@ pub mod Info
 pub mod Kept
 pub mod IsStore
 pub mod Laws
+pub mod Limits
 pub mod Records
 pub mod Store
 pub use Rattle.pfh_items.specs.Faults

@@ -8,6 +8,7 @@ ghost use Rattle.file_entries.specs.Files.{Becomes, ChangesRest, IsOut, IsPlace,
 ghost use Rattle.file_entries.specs.Headers.{IsHeaderOf, IsWholeHeader};
 ghost use Rattle.file_entries.specs.Info.{IsCompleteIn, IsNextComplete, info_of};
 ghost use Rattle.file_entries.specs.IsStore.{IsStore};
+ghost use Rattle.file_entries.specs.Limits.{longest_file};
 ghost use Rattle.file_entries.specs.Store.{empty_store, entry_of, octets_at, octets_of};
 
 use crate::Info;
@@ -281,7 +282,7 @@ impl Entries {
     /// The file of this number.
     fn file_of(&self, number: u32) -> Option<&StoredFile>
         ensures file { option_copied result ≡ file_of self.now.files.files number }
-        ensures fits { IfSome result (λ file. length (octets_of file.now.entry.holding) ≤ LONGEST_FILE) }
+        ensures fits { IfSome result (λ file. length (octets_of file.now.entry.holding) ≤ longest_file) }
         ensures rules { IsStore (store_of self.now.files) }
     {
         let files = self.files.as_slice();

@@ -22,5 +22,5 @@ pub use command::Command;
 pub use entries::{BeginBar, Entries};
 pub use header::header_in;
 pub use info::Info;
-pub use limits::{BLOCK, LAST_NEXT, LONGEST_FILE, MOST_ENTRIES};
+pub use limits::{LAST_NEXT, LONGEST_FILE, MOST_ENTRIES};
 pub use recovered::Recovered;

@@ -3,9 +3,6 @@
 ghost use Rattle.std.specs.Prelude.{◌≡◌};
 ghost use Rattle.file_entries.specs.Store.{blocks_for};
 
-/// The octets in a block.
-pub const BLOCK: usize = 512;
-
 /// The longest file, in octets.
 pub const LONGEST_FILE: u32 = 4_194_304;
 

@@ -5,6 +5,7 @@ ghost use Rattle.file_entries.specs.Command.{grown, is_partial, sealed};
 ghost use Rattle.file_entries.specs.Files.{brought, file_holding, holding_more, octets_or_none};
 ghost use Rattle.file_entries.specs.Headers.{IsHeaderOf, IsWholeHeader, KeepsRules};
 ghost use Rattle.file_entries.specs.Info.{info_of, is_complete as is_whole_and_sealed};
+ghost use Rattle.file_entries.specs.Limits.{longest_file};
 ghost use Rattle.file_entries.specs.Store.{blocks_for, new_entry, octets_of};
 ghost use Rattle.pfh_items.specs.Faults.{fault_code};
 
@@ -133,7 +134,7 @@ impl StoredFile {
 
     /// What the store tells of the file.
     pub(crate) fn info(&self) -> Info
-        requires { length (octets_of self.now.entry.holding) ≤ LONGEST_FILE }
+        requires { length (octets_of self.now.entry.holding) ≤ longest_file }
         ensures { result ≡ info_of self.now.entry }
     {
         Info {
