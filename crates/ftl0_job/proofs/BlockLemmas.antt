@@ -5,7 +5,7 @@ use Rattle.std.proofs.Math.Seq.{take-add, take-append-add, drop-append-add}
 use Rattle.std.proofs.lemmas.List.{append-nil, length-take-le, take-append-le, take_all}
 use Rattle.disk_model.specs.declared.disk.Disk.{Ghosts}
 use Rattle.px_base.specs.CallSign.{CallSign}
-use Rattle.client_notes.specs.declared.limits.TheConstants.{LONGEST_FILE}
+use Rattle.client_notes.specs.Limits.{longest_file}
 use Rattle.client_notes.specs.Command.{NotesCommand, after, got, is_allowed}
 use Rattle.client_notes.specs.Laws.{AreAllowed, after_all}
 use Rattle.client_notes.specs.Notes.{Lists, got_of}
@@ -53,7 +53,7 @@ gots-after server number (suc n) octets lists =
     ∙ ap (λ (os : List ℕ). got_of lists server number ++ os) (sym (take-add 512 (512 * n) octets) ∙ ap (λ (k : ℕ). take k octets) step)
 
 -- the condition of each holds
-pub gots-allowed : (server : CallSign) (number n : ℕ) (octets : List ℕ) (lists : Lists) → 1 ≤ number → 512 * n ≤ length octets → length (got_of lists server number) + 512 * n ≤ LONGEST_FILE
+pub gots-allowed : (server : CallSign) (number n : ℕ) (octets : List ℕ) (lists : Lists) → 1 ≤ number → 512 * n ≤ length octets → length (got_of lists server number) + 512 * n ≤ longest_file
     → AreAllowed lists (gots server number n octets)
 gots-allowed server number zero octets lists some there fits = tt
 gots-allowed server number (suc n) octets lists some there fits =
@@ -92,7 +92,7 @@ is-before count (command ∷ commands) below = below
 
 -- ---- while they are noted
 
-module _ (server : CallSign) (number n i : ℕ) (octets : List ℕ) (lists now : Lists) (some : 1 ≤ number) (there : 512 * n ≤ length octets) (fits : length (got_of lists server number) + length octets ≤ LONGEST_FILE)
+module _ (server : CallSign) (number n i : ℕ) (octets : List ℕ) (lists now : Lists) (some : 1 ≤ number) (there : 512 * n ≤ length octets) (fits : length (got_of lists server number) + length octets ≤ longest_file)
     (below : i < n) (done : now ≡ after_all lists (gots server number i octets)) where
   pub block-len : length (take 512 (drop (512 * i) octets)) ≡ 512
   block-len = length-take-le 512 (drop (512 * i) octets) (omega (arith, length-drop (512 * i) octets, below, there))

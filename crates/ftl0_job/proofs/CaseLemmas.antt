@@ -5,7 +5,7 @@ use Rattle.ftl0_packets.specs.Layout.{PacketValue, data_part, data_end, login_re
 use Rattle.ftl0_packets.specs.Layout.{dl_error_resp, dl_completed_resp, dir_short_cmd, kind_of, select_cmd, select_resp}
 use Rattle.pfh_items.specs.Faults.{fault_code}
 use Rattle.client_notes.specs.Command.{acked}
-use Rattle.client_notes.specs.declared.limits.TheConstants.{LONGEST_FILE}
+use Rattle.client_notes.specs.Limits.{longest_file}
 use Rattle.ftl0_job.specs.declared.ending.Outcome.TheVariants as outcome
 use Rattle.ftl0_job.specs.declared.phases.DirectoryPhase.{DirectoryPhase}
 use Rattle.ftl0_job.specs.declared.phases.DirectoryPhase.TheVariants as directory_phase
@@ -141,14 +141,14 @@ pub record DownloadRows (P : Row Download → Type 0) (held : List ℕ) (at : Do
   pub refused_rows : (code : ℕ) → P (error_row at code)
   pub login : P (goes_on (download.in_phase (with_rest at []) download_phase.Fetching) [] (download_cmd at.number (length held) 0 ∷ []))
   pub octets :
-      (octets : List ℕ) → at.phase ≡ download_phase.Fetching → nat_lt LONGEST_FILE (length held + length (at.rest ++ octets)) ≡ false
+      (octets : List ℕ) → at.phase ≡ download_phase.Fetching → nat_lt longest_file (length held + length (at.rest ++ octets)) ≡ false
       → P (goes_on (with_rest at (unnoted (at.rest ++ octets))) (whole_gots at.server at.number (at.rest ++ octets)) [])
   pub whole : fault_code (held ++ at.rest) ≡ None → P (whole_row at None)
   pub bad : (code : ℕ) → P (whole_row at (Some code))
   pub done : at.phase ≡ download_phase.Done → P (ends at [] (outcome.Fetched at.number))
 
 module _ (P : Row Download → Type 0) (held : List ℕ) (at : Download) (each : DownloadRows P held at) where
-  octets-by : (b : Bool) (octets : List ℕ) → at.phase ≡ download_phase.Fetching → nat_lt LONGEST_FILE (length held + length (at.rest ++ octets)) ≡ b
+  octets-by : (b : Bool) (octets : List ℕ) → at.phase ≡ download_phase.Fetching → nat_lt longest_file (length held + length (at.rest ++ octets)) ≡ b
       → P (if b then strange at 0 else goes_on (with_rest at (unnoted (at.rest ++ octets))) (whole_gots at.server at.number (at.rest ++ octets)) [])
   octets-by true octets is few = each.strange_rows 0
   octets-by false octets is few = each.octets octets is few
@@ -162,7 +162,7 @@ module _ (P : Row Download → Type 0) (held : List ℕ) (at : Download) (each :
   fetch-login packet = each.strange_rows (kind_of packet)
 
   fetch-octets : (packet : PacketValue) → at.phase ≡ download_phase.Fetching → P (download.fetching_row held at packet)
-  fetch-octets (data_part octets) is = octets-by (nat_lt LONGEST_FILE (length held + length (at.rest ++ octets))) octets is refl
+  fetch-octets (data_part octets) is = octets-by (nat_lt longest_file (length held + length (at.rest ++ octets))) octets is refl
   fetch-octets data_end is = end-by (fault_code (held ++ at.rest)) refl
   fetch-octets (dl_error_resp code) is = each.refused_rows code
   fetch-octets packet is = each.strange_rows (kind_of packet)

@@ -7,7 +7,7 @@ use Rattle.disk_model.specs.declared.disk.Disk.{Ghosts}
 use Rattle.px_base.specs.CallSign.{CallSign}
 use Rattle.ftl0_packets.specs.Layout.{dl_ack_cmd, dl_nak_cmd, packet_text}
 use Rattle.pfh_items.specs.Faults.{fault_code}
-use Rattle.client_notes.specs.declared.limits.TheConstants.{LONGEST_FILE}
+use Rattle.client_notes.specs.Limits.{longest_file}
 use Rattle.client_notes.specs.Command.{NotesCommand, forgot}
 use Rattle.client_notes.specs.Laws.{AreAllowed, after_all}
 use Rattle.client_notes.specs.Notes.{Lists, got_of}
@@ -30,7 +30,7 @@ use Rattle.ftl0_job.proofs.NotingLemmas.{noted-err}
 
 -- ---- the last Got
 
-pub last-allowed : (server : CallSign) (number : ℕ) (rest : List ℕ) (lists : Lists) → 1 ≤ number → length rest < 512 → length (got_of lists server number) + length rest ≤ LONGEST_FILE
+pub last-allowed : (server : CallSign) (number : ℕ) (rest : List ℕ) (lists : Lists) → 1 ≤ number → length rest < 512 → length (got_of lists server number) + length rest ≤ longest_file
     → AreAllowed lists (last_got server number rest)
 last-allowed server number [] lists some few fits = tt
 last-allowed server number (octet ∷ octets) lists some few fits = (got-allowed lists server number (octet ∷ octets) some (omega arith) (omega arith) fits, tt)

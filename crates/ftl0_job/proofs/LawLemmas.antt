@@ -12,7 +12,7 @@ use Rattle.pfh_items.specs.Faults.{fault_code}
 use Rattle.client_notes.specs.declared.answers.Begun.{Begun}
 use Rattle.client_notes.specs.declared.answers.Begun.TheVariants as begun
 use Rattle.client_notes.specs.declared.answers.Noted.TheVariants as noted
-use Rattle.client_notes.specs.declared.limits.TheConstants.{LONGEST_FILE}
+use Rattle.client_notes.specs.Limits.{longest_file}
 use Rattle.client_notes.specs.declared.progress.Progress.{Progress}
 use Rattle.client_notes.specs.declared.progress.Progress.TheVariants as progress
 use Rattle.client_notes.specs.declared.refusals.NotesRefusal.{NotesRefusal}
@@ -257,7 +257,7 @@ pub fetching : (lists : Lists) (at : Download) (octets : List ℕ) (row : Row Do
     → row.ending ≡ None → got_of (after_all lists row.commands) at.server at.number ++ row.state.rest ≡ got_of lists at.server at.number ++ (at.rest ++ octets)
 unfolding download_row
 fetching lists at octets row here is none =
-    data-octets (nat_lt LONGEST_FILE (length (got_of lists at.server at.number) + length (at.rest ++ octets))) lists at octets row
+    data-octets (nat_lt longest_file (length (got_of lists at.server at.number) + length (at.rest ++ octets))) lists at octets row
     (ap (λ (p : DownloadPhase). download.row_in p (got_of lists at.server at.number) at (data_part octets)) (sym here) ∙ is) none
 
 -- a row by which a file was fetched

@@ -5,7 +5,7 @@ use Rattle.std.proofs.lemmas.Bool.Decides.{nat_tests}
 use Rattle.std.proofs.lemmas.List.{length-take-le}
 use Rattle.ftl0_packets.specs.Layout.{Item, PacketValue}
 use Rattle.pfh_items.specs.Faults.{fault_code}
-use Rattle.client_notes.specs.declared.limits.TheConstants.{LONGEST_FILE}
+use Rattle.client_notes.specs.Limits.{longest_file}
 use Rattle.client_notes.specs.Command.{numbered}
 use Rattle.client_notes.specs.Laws.{after_all}
 use Rattle.client_notes.specs.Notes.{Lists, got_of}
@@ -92,12 +92,12 @@ StaysDownload lists row = GoBy row.ending (after_all lists row.commands) (work.D
 
 module _ (lists : Lists) (at : Download) (has : HasGot lists at) where
   -- octets that come fit, and are noted by whole blocks
-  fetch-fits : (octets : List ℕ) → nat_lt LONGEST_FILE (length (got_of lists at.server at.number) + length (at.rest ++ octets)) ≡ false → at.phase ≡ download_phase.Fetching
+  fetch-fits : (octets : List ℕ) → nat_lt longest_file (length (got_of lists at.server at.number) + length (at.rest ++ octets)) ≡ false → at.phase ≡ download_phase.Fetching
       → HasGot (after_all lists (whole_gots at.server at.number (at.rest ++ octets))) (with_rest at (unnoted (at.rest ++ octets)))
   fetch-fits octets few is =
       let all : List ℕ = at.rest ++ octets in
       let n = length all / 512 in
-      let most : length (got_of lists at.server at.number) + length all ≤ LONGEST_FILE = grind (arith, nat_tests) in
+      let most : length (got_of lists at.server at.number) + length all ≤ longest_file = grind (arith, nat_tests) in
       let after = gots-after at.server at.number n all lists in
       let front : length (take (512 * n) all) ≡ 512 * n = length-take-le (512 * n) all (omega arith) in
       let sum : length (got_of (after_all lists (whole_gots at.server at.number all)) at.server at.number) ≡ length (got_of lists at.server at.number) + 512 * n =

@@ -6,7 +6,7 @@ use Rattle.ftl0_packets.specs.Layout.{PacketValue, data_end, data_part, dl_ack_c
 use Rattle.ftl0_packets.specs.Layout.{dl_nak_cmd, download_cmd, kind_of, login_resp}
 use Rattle.pfh_items.specs.Faults.{fault_code}
 use Rattle.client_notes.specs.Command.{NotesCommand, forgot, got}
-use Rattle.client_notes.specs.declared.limits.TheConstants.{LONGEST_FILE}
+use Rattle.client_notes.specs.Limits.{longest_file}
 use Rattle.ftl0_job.specs.declared.ending.Outcome.TheVariants as outcome
 use Rattle.ftl0_job.specs.declared.phases.DownloadPhase.{DownloadPhase}
 use Rattle.ftl0_job.specs.declared.phases.DownloadPhase.TheVariants as phase
@@ -55,7 +55,7 @@ login_row held download packet = strange download (kind_of packet)
 -- Fetching, DATA: each whole 512 octets are noted, up to 4,194,304 of them in all.
 abbrev pub data_row : List ℕ → Download → List ℕ → Row Download
 data_row held download octets =
-    if nat_lt LONGEST_FILE (length held + length (download.rest ++ octets)) then strange download 0
+    if nat_lt longest_file (length held + length (download.rest ++ octets)) then strange download 0
     else goes_on (with_rest download (unnoted (download.rest ++ octets)))
     (whole_gots download.server download.number (download.rest ++ octets)) []
 

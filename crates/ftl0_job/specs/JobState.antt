@@ -3,7 +3,7 @@ use Rattle.std.specs.Prelude.{◌≡◌, ℕ, ◌+◌, ◌≤◌, List, length, 
 use Rattle.px_base.specs.CallSign.{CallSign}
 use Rattle.disk_model.specs.declared.disk.Disk.{Ghosts}
 use Rattle.pfh_items.specs.Faults.{fault_code}
-use Rattle.client_notes.specs.declared.limits.TheConstants.{LONGEST_FILE}
+use Rattle.client_notes.specs.Limits.{longest_file}
 use Rattle.client_notes.specs.declared.progress.Progress.TheVariants as progress
 use Rattle.client_notes.specs.Notes.{Lists, Task, got_of, is_same_call, task_of}
 use Rattle.client_notes.specs.State.{NotesState, StandsOn}
@@ -62,7 +62,7 @@ IsCheckedIn fetch.Done held = fault_code held ≡ None
 -- The octets that were got and noted, and those not noted yet, are no more than a file may have; once all came, the file
 -- has no fault.
 pub record HasGot (lists : Lists) (at : Download) : Type 0 where
-  pub fits : length (got_of lists at.server at.number) + length at.rest ≤ LONGEST_FILE
+  pub fits : length (got_of lists at.server at.number) + length at.rest ≤ longest_file
   pub checked : IsCheckedIn at.phase (got_of lists at.server at.number)
 
 -- the notes go with what is done

@@ -8,7 +8,7 @@ ghost use Rattle.ftl0_job.specs.Directory.{select_resp_row, selecting_row};
 ghost use Rattle.ftl0_job.specs.Taking.{Answers, AnswersAlone};
 
 use crate::ending::strange;
-use crate::limits::{LONGEST_LISTING, MOST_TOKENS};
+use crate::limits::LONGEST_LISTING;
 use crate::phases::DirectoryPhase;
 use crate::short::are_short_headers;
 use crate::{Ending, Outcome, Replies};
@@ -40,20 +40,19 @@ pub(crate) struct Directory {
 
 impl Model for Directory {
     ghost use Rattle.std.specs.Prelude.{length, ◌≤◌};
-    ghost use Rattle.ftl0_job.specs.declared.limits.TheConstants.{LONGEST_LISTING, MOST_TOKENS};
-    ghost use Rattle.ftl0_job.specs.Directory.{Directory};
+    ghost use Rattle.ftl0_job.specs.Directory.{Directory, longest_listing};
 
     ghost Value = { Directory };
 
     ghost view = { λ a. record { tokens = a.tokens; listing = a.listing; phase = a.phase } };
 
-    ghost invariant = { λ a. (length a.tokens ≤ MOST_TOKENS) × (length a.listing ≤ LONGEST_LISTING) };
+    ghost invariant = { λ a. (length a.tokens ≤ 2047) × (length a.listing ≤ longest_listing) };
 }
 
 impl Directory {
     /// A list that waits for LOGIN_RESP. Takes no memory yet.
     pub(crate) fn new(alloc: Global, tokens: FileBytes) -> Directory
-        requires { length tokens ≤ MOST_TOKENS }
+        requires { length tokens ≤ 2047 }
         ensures { result ≡ new_directory tokens }
     {
         Directory {

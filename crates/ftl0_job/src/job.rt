@@ -5,7 +5,7 @@ ghost use Rattle.std.specs.Option.{option_map};
 ghost use Rattle.ftl0_packets.specs.Values.{item_of};
 ghost use Rattle.client_notes.specs.Notes.{Lists};
 ghost use Rattle.client_notes.specs.State.{StandsOn};
-ghost use Rattle.client_notes.specs.declared.limits.TheConstants.{LONGEST_FILE};
+ghost use Rattle.client_notes.specs.Limits.{longest_file};
 ghost use Rattle.ftl0_job.specs.declared.work.Work.TheVariants as work;
 ghost use Rattle.ftl0_job.specs.Directory.{new_directory};
 ghost use Rattle.ftl0_job.specs.Download.{new_download};
@@ -53,7 +53,7 @@ impl Job {
     /// The upload of a task's file, of at most 4,194,304 octets. The number is the one that the file is known to have on
     /// the server, or 0. Takes no memory.
     pub fn upload(task: u32, number: u32, file: FileBytes) -> Job
-        requires { length file ≤ LONGEST_FILE }
+        requires { length file ≤ longest_file }
         ensures { result ≡ new_job (work.Upload (new_upload task number file)) }
     {
         Job {

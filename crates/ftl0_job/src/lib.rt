@@ -22,5 +22,5 @@ mod work;
 
 pub use ending::{Ending, Outcome};
 pub use job::{Job, Replies};
-pub use limits::{LONGEST_LISTING, MOST_TOKENS};
+pub use limits::LONGEST_LISTING;
 pub use stop::JobStop;

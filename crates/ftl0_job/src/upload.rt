@@ -3,8 +3,8 @@
 ghost use Rattle.std.specs.Prelude.{◌≡◌, ◌≤◌, [], drop, false, length, take, true, IsErrOf, Ok};
 ghost use Rattle.ftl0_packets.specs.Values.{value_of};
 ghost use Rattle.client_notes.specs.State.{StandsOn};
-ghost use Rattle.client_notes.specs.declared.limits.TheConstants.{LONGEST_FILE};
-ghost use Rattle.ftl0_job.specs.Due.{PutsDue, upload_due};
+ghost use Rattle.client_notes.specs.Limits.{longest_file};
+ghost use Rattle.ftl0_job.specs.Due.{PutsDue, most_data, upload_due};
 ghost use Rattle.ftl0_job.specs.JobState.{HasTask};
 ghost use Rattle.ftl0_job.specs.Noting.{HasNoted};
 ghost use Rattle.ftl0_job.specs.Row.{at_once as ending_at_once};
@@ -43,20 +43,20 @@ pub(crate) struct Upload {
 
 impl Model for Upload {
     ghost use Rattle.std.specs.Prelude.{length, ◌≤◌};
-    ghost use Rattle.client_notes.specs.declared.limits.TheConstants.{LONGEST_FILE};
+    ghost use Rattle.client_notes.specs.Limits.{longest_file};
     ghost use Rattle.ftl0_job.specs.Upload.{IsWithin, Upload};
 
     ghost Value = { Upload };
 
     ghost view = { λ a. record { task = a.task; known = a.known; file = a.file; phase = a.phase } };
 
-    ghost invariant = { λ a. (length a.file ≤ LONGEST_FILE) × IsWithin (length a.file) a.phase };
+    ghost invariant = { λ a. (length a.file ≤ longest_file) × IsWithin (length a.file) a.phase };
 }
 
 impl Upload {
     /// An upload that waits for LOGIN_RESP.
     pub(crate) fn new(task: u32, known: u32, file: FileBytes) -> Upload
-        requires { length file ≤ LONGEST_FILE }
+        requires { length file ≤ longest_file }
         ensures { result ≡ new_upload task known file }
     {
         Upload {
@@ -299,7 +299,7 @@ impl Upload {
     /// The octets of the next DATA from this place on, which lies within the file.
     fn part_at(&self, place: u32) -> ArrayVec<u8, MOST_DATA>
         requires { place ≤ length self.now.file }
-        ensures { result.items ≡ take MOST_DATA (drop place self.now.file) }
+        ensures { result.items ≡ take most_data (drop place self.now.file) }
     {
         let left = &self.file.as_slice()[place as usize..];
         let mut part = ArrayVec::new();
