@@ -3,14 +3,25 @@
 //! runs. For each family a heading is printed, and then for each row what its player gives; an empty line and one that
 //! begins with `#` are printed as they are.
 //!
-//! A family more is a module with a struct that is a `Player`, and says above what its rows are; a line in `play_family`;
+//! A family more is a module with a struct that is a `Player`, and says above what its rows are; a line in `play`;
 //! the file of its rows in `data`; its name in `stdin`; and what is wanted, worked out by hand, at its place in `stdout`.
 #![tactic(auto)]
 
+mod base;
+mod frames;
+mod header;
 mod image;
+mod items;
+mod kiss_text;
 mod link;
 mod notes;
-mod selection;
+mod packets;
+mod parts;
+mod pieces;
+mod reader;
+mod selections;
+mod words;
+mod writer;
 
 use anyhow::{Result, bail};
 use row_words::play_family;
@@ -27,10 +38,19 @@ fn main(rt: HostRuntime) -> Result<()> {
 /// Plays the family of this name.
 fn play<R: AllocGlobal + Files + Print>(rt: &R, family: &str) -> Result<()> {
     match family {
+        "base" => play_family(rt, family, &mut base::BaseRows),
+        "frames" => play_family(rt, family, &mut frames::FrameRows),
+        "header" => play_family(rt, family, &mut header::HeaderRows),
         "image" => play_family(rt, family, &mut image::ImageRows),
+        "items" => play_family(rt, family, &mut items::ItemRows),
+        "kiss" => play_family(rt, family, &mut kiss_text::KissRows::new()),
         "link" => play_family(rt, family, &mut link::LinkRows),
         "notes" => play_family(rt, family, &mut notes::NotesRows),
-        "selection" => play_family(rt, family, &mut selection::SelectionRows::new(rt.alloc())),
+        "packets" => play_family(rt, family, &mut packets::PacketRows),
+        "reader" => play_family(rt, family, &mut reader::ReaderRows),
+        "selection" => play_family(rt, family, &mut selections::SelectionRows::new(rt.alloc())),
+        "words" => play_family(rt, family, &mut words::WordRows),
+        "writer" => play_family(rt, family, &mut writer::WriterRows),
         _ => bail!("no family {family}"),
     }
 }

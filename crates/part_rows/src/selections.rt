@@ -2,12 +2,14 @@
 //!
 //! A row `header` and octets in hexadecimal is one header more: its place, counted from 0, is printed, or `no header`
 //! where the octets aren't one. A row `select` and tokens in hexadecimal is a selection: a digit is printed for each
-//! header so far, 1 where it holds of it and else 0, and then the tokens that it writes; or the tokens' first fault.
+//! header so far, 1 where it holds of it and else 0, and then the tokens that it writes; or the tokens' first fault. A row
+//! `holds`, tokens, and the octets of a header that isn't kept says whether a selection holds of it, and a row `fault` and
+//! tokens has the text of their fault, or `none`.
 
-use anyhow::{Result, bail, ensure};
+use anyhow::{Context, Result, bail, ensure};
 use arrayvec::ArrayVec;
 use pfh_items::Header;
-use row_words::Player;
+use row_words::{Player, read_octets};
 use selection::Selection;
 use std::alloc::Global;
 
@@ -67,11 +69,12 @@ impl SelectionRows {
 
 impl Player for SelectionRows {
     fn play(&mut self, alloc: Global, row: &str) -> Result<String> {
-        let (kind, octets) = row.split_once(' ').unwrap_or((row, ""));
-        let octets = hex::decode(alloc, octets)?;
+        let (kind, rest) = row.split_once(' ').unwrap_or((row, ""));
         match kind {
-            "header" => self.add_header(octets),
-            "select" => self.select(octets.as_slice()),
+            "header" => self.add_header(hex::decode(alloc, rest)?),
+            "select" => self.select(hex::decode(alloc, rest)?.as_slice()),
+            "holds" => holds(alloc, rest),
+            "fault" => fault(alloc, rest),
             _ => bail!("no row"),
         }
     }
@@ -83,4 +86,26 @@ fn digit(selection: &Selection, octets: &[u8]) -> Result<&'static str> {
         bail!("no header");
     };
     Ok(if selection.holds(&header) { "1" } else { "0" })
+}
+
+/// `holds TOKENS HEADER`
+fn holds(alloc: Global, row: &str) -> Result<String> {
+    let (tokens, header) = row.split_once(' ').context("no header")?;
+    let tokens = read_octets(alloc, tokens)?;
+    let header = read_octets(alloc, header)?;
+    ensure!(tokens.len() <= MOST_OCTETS, "too many octets");
+    match Selection::read(tokens.as_slice()) {
+        Ok(selection) => Ok(String::from_str(alloc, digit(&selection, header.as_slice())?)?),
+        Err(fault) => Ok(format!(in alloc; "{fault}")?),
+    }
+}
+
+/// `fault TOKENS`
+fn fault(alloc: Global, row: &str) -> Result<String> {
+    let tokens = read_octets(alloc, row)?;
+    ensure!(tokens.len() <= MOST_OCTETS, "too many octets");
+    match Selection::read(tokens.as_slice()) {
+        Ok(_selection) => Ok(String::from_str(alloc, "none")?),
+        Err(fault) => Ok(format!(in alloc; "{fault}")?),
+    }
 }

@@ -1,0 +1,111 @@
+//! Rows of files that are stamped.
+
+ghost use Rattle.std.specs.Prelude.{◌≡◌, ◌<◌, ◌≤◌, length, flat_map, IfOk};
+ghost use Rattle.pfh_reader.specs.Check.{HasSums};
+ghost use Rattle.pfh_writer.specs.Given.{IsFaultlessFile, IsStampedSum};
+
+use crate::parts::octets_text;
+use crate::pieces::{cut, cut_octets};
+use anyhow::{Context, Result, bail, ensure};
+use pfh_reader::{HeaderFault, Sums, check_pieces};
+use pfh_writer::{stamp, stamp_pieces, stamped_sum};
+use px_base::{Call, OutOfMemory};
+use row_words::read_octets;
+use std::alloc::Global;
+
+/// More octets than a file may have.
+const TOO_MANY: usize = 4_194_305;
+
+/// What a file is stamped with.
+#[derive(Clone, Copy)]
+struct With {
+    number: u32,
+    by: Call,
+    moment: u32,
+}
+
+/// `stamp NUMBER CALL MOMENT | FILE`
+pub fn stamp_row(alloc: Global, row: &str) -> Result<String> {
+    let (with, file) = row.split_once('|').context("no file")?;
+    let with = read_with(alloc, with)?;
+    let file = read_octets(alloc, file)?;
+    match sums_of(alloc, file.as_slice())? {
+        Ok(sums) => stamped_text(alloc, file, &sums, with),
+        Err(fault) => Ok(format!(in alloc; "{fault}")?),
+    }
+}
+
+/// The number, the call and the moment of a row.
+fn read_with(alloc: Global, text: &str) -> Result<With> {
+    let words = text.split_whitespace().collect::<Vec<&str>>(alloc)?;
+    let [number, by, moment] = words.as_slice() else {
+        bail!("no number, call and moment");
+    };
+    Ok(With {
+        number: number.parse::<u32>()?,
+        by: Call::read(by)?,
+        moment: moment.parse::<u32>()?,
+    })
+}
+
+/// What the check of a file finds.
+fn sums_of(alloc: Global, file: &[u8]) -> Result<Result<Sums, HeaderFault>>
+    ensures { IfOk result (λ found. IfOk found (HasSums file.now)) }
+{
+    ensure!(file.len() < TOO_MANY, "too many octets");
+    Ok(check_pieces(cut(alloc, file, 512)?.as_slice()))
+}
+
+/// The file, stamped.
+fn stamped_text(alloc: Global, mut file: Vec<u8>, sums: &Sums, with: With) -> Result<String>
+    requires { HasSums file.items sums.now }
+{
+    let sum = sum_with(file.as_slice(), sums, with);
+    let first = stamped_in_pieces(alloc, file.as_slice(), 1, with, sum)?;
+    for len in 2..132 {
+        let other = stamped_in_pieces(alloc, file.as_slice(), len, with, sum)?;
+        ensure!(
+            other.as_slice() == first.as_slice(),
+            "in pieces of {len} octets"
+        );
+    }
+    stamp(file.as_mut_slice(), with.number, with.by, with.moment);
+    ensure!(file.as_slice() == first.as_slice(), "in pieces");
+    octets_text(alloc, file.as_slice())
+}
+
+/// The sum of a file's header, once it is stamped.
+fn sum_with(file: &[u8], sums: &Sums, with: With) -> u16
+    requires { HasSums file.now sums.now }
+    ensures { IsStampedSum (record { number = with.number; by = with.by; moment = with.moment }) file.now result }
+{
+    let (header, _) = file.split_at(sums.header_len as usize);
+    stamped_sum(sums, header, with.number, with.by, with.moment)
+}
+
+/// The octets of a file that is stamped in pieces of a length.
+fn stamped_in_pieces(
+    alloc: Global,
+    file: &[u8],
+    len: usize,
+    with: With,
+    sum: u16,
+) -> Result<Vec<u8>, OutOfMemory>
+    requires some { 0 < len }
+    requires faultless { IsFaultlessFile file.now }
+    requires sum { IsStampedSum (record { number = with.number; by = with.by; moment = with.moment }) file.now sum }
+{
+    let mut pieces = cut_octets(alloc, file, len)?;
+    stamp_pieces(
+        pieces.as_mut_slice(),
+        with.number,
+        with.by,
+        with.moment,
+        sum,
+    );
+    let mut joined = Vec::new(alloc);
+    for piece in pieces.iter() {
+        joined.extend_from_slice(piece.as_slice())?;
+    }
+    Ok(joined)
+}
