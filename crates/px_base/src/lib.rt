@@ -34,6 +34,3 @@ pub use memory_shelf::MemoryShelf;
 pub use numbers::{le16, le32};
 pub use out::{Out, OutDown};
 pub use shelf::{Shelf, ShelfDown, ShelfRefusal};
-
-#[cfg(test)]
-mod tests;
