@@ -16,6 +16,3 @@ pub use octets::MOST_OCTETS;
 pub use reader::{KissFed, KissReader};
 pub use whole::{Part, parts, parts_of_pieces};
 pub use writer::{TooLong, write_frame};
-
-#[cfg(test)]
-mod tests;
