@@ -13,6 +13,3 @@ pub use control::Control;
 pub use frame::{Frame, FrameFault, Kind};
 pub use reader::read_frame;
 pub use writer::write_frame;
-
-#[cfg(test)]
-mod tests;
