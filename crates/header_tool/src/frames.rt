@@ -5,6 +5,3 @@ mod line;
 mod show;
 
 pub use show::show_frames;
-
-#[cfg(test)]
-mod tests;

@@ -2,7 +2,7 @@
 
 use crate::parts::{Parts, answer_text};
 use anyhow::{Context, Result};
-use header_tool::show_frames;
+use header_tool::frames::show_frames;
 use px_base::MemoryOut;
 use row_words::{read_numbers, read_octets};
 use std::alloc::Global;
