@@ -4,7 +4,5 @@
 
 pub mod laws;
 mod station;
-#[cfg(test)]
-mod tests;
 
 pub use station::StationReader;
