@@ -19,6 +19,3 @@ pub use pieces::{PacketSink, feed_pieces};
 pub use reader::{PacketFed, PacketReader};
 pub use stream::packets;
 pub use writer::write_packet;
-
-#[cfg(test)]
-mod tests;
