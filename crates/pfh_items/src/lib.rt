@@ -28,6 +28,3 @@ pub use table::{
     EXTENDED_ITEMS, ExtendedItem, Form, MANDATORY_ITEMS, MandatoryItem, fixed_len, is_mandatory,
     is_number, is_single,
 };
-
-#[cfg(test)]
-mod tests;
