@@ -15,6 +15,3 @@ pub use fault::HeaderFault;
 pub use pfh_items::{FileFault, Header, Sums};
 pub use pieces::check_pieces;
 pub use whole_file::check;
-
-#[cfg(test)]
-mod tests;
