@@ -22,6 +22,3 @@ pub use refusal::{FinishRefusal, PutRefusal};
 pub use short::short_form;
 pub use stamper::Stamper;
 pub use stamping::{stamp, stamped_sum};
-
-#[cfg(test)]
-mod tests;
