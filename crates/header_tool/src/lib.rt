@@ -16,6 +16,3 @@ pub use making::make;
 pub use refusal::MakeRefusal;
 pub use shown::{Shown, check_line, show};
 pub use spec::MakeSpec;
-
-#[cfg(test)]
-mod tests;
