@@ -16,6 +16,3 @@ mod truths;
 pub use fault::SelFault;
 pub use operands::MOST_TOKENS;
 pub use selection::Selection;
-
-#[cfg(test)]
-mod tests;
