@@ -30,9 +30,6 @@ use std::fs;
 use std::io::{Input, Print};
 use std::rt::Files;
 
-#[cfg(test)]
-mod tests;
-
 /// What plays rows, one after another.
 pub trait Player {
     /// Plays a row, and gives what is printed for it. Takes memory.
