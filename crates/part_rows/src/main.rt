@@ -8,10 +8,12 @@
 #![tactic(auto)]
 
 mod base;
+mod disk;
 mod frames;
 mod header;
 mod image;
 mod items;
+mod journal;
 mod kiss_text;
 mod link;
 mod notes;
@@ -19,7 +21,9 @@ mod packets;
 mod parts;
 mod pieces;
 mod reader;
+mod refusals;
 mod selections;
+mod store;
 mod words;
 mod writer;
 
@@ -39,16 +43,20 @@ fn main(rt: HostRuntime) -> Result<()> {
 fn play<R: AllocGlobal + Files + Print>(rt: &R, family: &str) -> Result<()> {
     match family {
         "base" => play_family(rt, family, &mut base::BaseRows),
+        "disk" => play_family(rt, family, &mut disk::DiskRows),
         "frames" => play_family(rt, family, &mut frames::FrameRows),
         "header" => play_family(rt, family, &mut header::HeaderRows),
         "image" => play_family(rt, family, &mut image::ImageRows),
         "items" => play_family(rt, family, &mut items::ItemRows),
+        "journal" => play_family(rt, family, &mut journal::JournalRows),
         "kiss" => play_family(rt, family, &mut kiss_text::KissRows::new()),
         "link" => play_family(rt, family, &mut link::LinkRows),
         "notes" => play_family(rt, family, &mut notes::NotesRows),
         "packets" => play_family(rt, family, &mut packets::PacketRows),
         "reader" => play_family(rt, family, &mut reader::ReaderRows),
+        "refusals" => play_family(rt, family, &mut refusals::RefusalRows),
         "selection" => play_family(rt, family, &mut selections::SelectionRows::new(rt.alloc())),
+        "store" => play_family(rt, family, &mut store::StoreRows),
         "words" => play_family(rt, family, &mut words::WordRows),
         "writer" => play_family(rt, family, &mut writer::WriterRows),
         _ => bail!("no family {family}"),

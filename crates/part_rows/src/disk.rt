@@ -1,0 +1,79 @@
+//! Rows of a disk in memory. A row has, parted by `|`, the disk's octets, its failing calls, the calls that are made,
+//! parted by `;`, and the picks of crashes, parted by blanks.
+//!
+//! The calls are `len`; `read AT COUNT`, which asks for the length first; `write AT OCTETS`; and `sync`. What each
+//! answers is printed, parted by `;`: the length, the octets read, `ok`, or `failed`. Behind it stand the disk's
+//! octets then, with `starved` where a call found no memory, and what a crash leaves of it by each pick; all parted
+//! by ` | `.
+
+mod calls;
+
+use crate::disk::calls::Calls;
+use anyhow::{Context, Result};
+use disk_model::MemoryDisk;
+use row_words::{Player, disk_after, read_octets};
+use std::alloc::Global;
+
+/// Plays rows of disks, each on its own.
+#[derive(Drop)]
+pub struct DiskRows;
+
+impl Player for DiskRows {
+    fn play(&mut self, alloc: Global, row: &str) -> Result<String> {
+        let (octets, rest) = row.split_once('|').context("no failing calls")?;
+        let (failing, rest) = rest.split_once('|').context("no calls")?;
+        let (calls, picks) = rest.split_once('|').context("no picks")?;
+        let octets = read_octets(alloc, octets)?;
+        let made = Made {
+            octets: octets.as_slice(),
+            failing: failing.trim(),
+            calls,
+        };
+        made.text(alloc, picks)
+    }
+}
+
+/// Calls that are made on a disk.
+#[derive(Clone, Copy)]
+struct Made<'a> {
+    /// The disk's octets at first.
+    octets: &'a [u8],
+    /// Which of its calls fail.
+    failing: &'a str,
+    /// The calls.
+    calls: &'a str,
+}
+
+impl Made<'_> {
+    /// What is printed for them.
+    fn text(&self, alloc: Global, picks: &str) -> Result<String> {
+        let (mut text, disk) = self.disk(alloc)?;
+        push_octets(alloc, &mut text, disk.bytes())?;
+        if disk.starved() {
+            text.push_str(", starved")?;
+        }
+        for pick in picks.split_whitespace() {
+            let (_answers, disk) = self.disk(alloc)?;
+            let left = disk.crash(pick.parse::<u64>()?)?;
+            push_octets(alloc, &mut text, left.bytes())?;
+        }
+        Ok(text)
+    }
+
+    /// What they answer, and the disk then.
+    fn disk(&self, alloc: Global) -> Result<(String, MemoryDisk)> {
+        disk_after(
+            alloc,
+            &mut Calls { text: self.calls },
+            self.octets,
+            self.failing,
+        )
+    }
+}
+
+/// Puts octets behind the text.
+fn push_octets(alloc: Global, text: &mut String, octets: &[u8]) -> Result<()> {
+    text.push_str(" | ")?;
+    text.push_str(hex::encode(alloc, octets)?.as_str())?;
+    Ok(())
+}

@@ -1,0 +1,54 @@
+//! Rows of a journal. A row has, parted by `|`, a disk's octets, the numbers of its calls that fail, and how many
+//! calls of `write_at` and `sync` pass. The journal of a store of 8 blocks is recovered and read to its end, and a
+//! record of the kind 4 with the content 01000000 is put there.
+//!
+//! Printed are how it ended: `Done`; `Refused` and why; or `Failed`, why the record wasn't put, and what a further
+//! put answers. Behind ` | read ` stand the kind and the content of each record that was read, and behind ` | ` the
+//! disk's octets.
+
+mod labelled;
+mod put;
+
+use crate::journal::labelled::Labelled;
+use crate::journal::put::{Seen, put_under_label};
+use anyhow::{Context, Result, ensure};
+use disk_model::{FuseDisk, MemoryDisk};
+use px_base::FileBytes;
+use row_words::{Player, read_numbers, read_octets};
+use std::alloc::Global;
+
+/// Plays rows of journals, each on its own.
+#[derive(Drop)]
+pub struct JournalRows;
+
+impl Player for JournalRows {
+    fn play(&mut self, alloc: Global, row: &str) -> Result<String> {
+        let mut labelled = disk_of(alloc, row)?;
+        let mut seen = Seen::new();
+        let ended = put_under_label(&mut labelled, &mut seen);
+        let seen = hex::encode(alloc, seen.as_slice())?;
+        let octets = octets_of(alloc, labelled)?;
+        Ok(format!(in alloc; "{ended:?} | read {seen} | {octets}")?)
+    }
+}
+
+/// The disk of a row, under a label.
+fn disk_of(alloc: Global, row: &str) -> Result<Labelled<FuseDisk>> {
+    let (octets, rest) = row.split_once('|').context("no failing calls")?;
+    let (failing, calls) = rest.split_once('|').context("no calls that pass")?;
+    let octets = read_octets(alloc, octets)?;
+    let failing = read_numbers(alloc, failing)?;
+    let disk = MemoryDisk::new(alloc, octets.as_slice(), failing.as_slice())?;
+    Ok(Labelled {
+        disk: FuseDisk::new(disk, calls.trim().parse::<u64>()?),
+        label: FileBytes::copy_of(alloc, b"label")?,
+    })
+}
+
+/// The octets of a labelled disk.
+fn octets_of(alloc: Global, labelled: Labelled<FuseDisk>) -> Result<String> {
+    let Labelled { disk, label } = labelled;
+    ensure!(!disk.starved(), "a call found no memory");
+    ensure!(label.as_slice() == b"label".as_slice(), "another label");
+    Ok(hex::encode(alloc, disk.into_disk().bytes())?)
+}

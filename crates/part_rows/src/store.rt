@@ -1,0 +1,113 @@
+//! Rows of a store over a disk in memory. A row has the length of a file and octets. In a new store of 8 blocks
+//! NOCALL begins the file at the moment 5, the octets are brought, and the file is ended at the moment 6.
+//!
+//! Printed is how it ended: why the file wasn't begun; `TooMuch`; or, with what the upload tells before the end,
+//! `Sealed` and the receipt's number, `Short`, or `Header` and the code of a fault.
+
+ghost use Rattle.file_store.specs.State.{StandsOn};
+ghost use Rattle.file_store.specs.Upload.{Holds};
+
+use anyhow::{Context, Result};
+use disk_model::{Disk, MemoryDisk};
+use file_store::{AppendRefusal, BeginRefusal, FileStore, Limits, OpenUpload, SealRefusal};
+use px_base::Call;
+use row_words::{Player, read_octets};
+use std::alloc::Global;
+
+/// Plays rows of stores, each on its own.
+#[derive(Drop)]
+pub struct StoreRows;
+
+impl Player for StoreRows {
+    fn play(&mut self, alloc: Global, row: &str) -> Result<String> {
+        let (length, octets) = row.split_once(' ').context("no octets")?;
+        let length = length.parse::<u32>()?;
+        let octets = read_octets(alloc, octets)?;
+        let caller = Call::read("NOCALL")?;
+        let mut disk = MemoryDisk::new(alloc, &[], &[])?;
+        let mut store = FileStore::recover(alloc, &mut disk, Limits { blocks: 8 })?;
+        let ended = upload(&mut store, &mut disk, caller, length, octets.as_slice());
+        Ok(format!(in alloc; "{ended:?}")?)
+    }
+}
+
+/// What an upload tells, and the store of it.
+#[derive(Clone, Copy, Debug)]
+struct Told {
+    number: u32,
+    length: u32,
+    held: u32,
+    is_out: bool,
+    is_held: bool,
+}
+
+/// How an upload ended.
+#[derive(Clone, Copy, Debug)]
+enum Ended {
+    NotBegun(BeginRefusal),
+    TooMuch,
+    Sealed(Told, u32),
+    Short(Told),
+    Header(Told, u8),
+    Failed,
+}
+
+/// Begins a file, brings these octets, and ends it.
+fn upload<D: Disk>(
+    store: &mut FileStore,
+    disk: &mut D,
+    caller: Call,
+    file_length: u32,
+    octets: &[u8],
+) -> Ended
+    requires { StandsOn D.Disk store.old disk.old }
+{
+    let up = match store.begin(disk, caller, file_length, 5) {
+        Ok(up) => up,
+        Err(refusal) => return Ended::NotBegun(refusal),
+    };
+    match store.append(disk, up, octets) {
+        Ok(up) => end(store, disk, up),
+        Err(AppendRefusal::TooMuch(up)) => {
+            store.park(up);
+            Ended::TooMuch
+        }
+        Err(AppendRefusal::OutOfMemory(up)) => {
+            store.park(up);
+            Ended::Failed
+        }
+        Err(AppendRefusal::Failed | AppendRefusal::Disk) => Ended::Failed,
+    }
+}
+
+/// Ends the file of an upload.
+fn end<D: Disk>(store: &mut FileStore, disk: &mut D, up: OpenUpload) -> Ended
+    requires holds { Holds store.old up }
+    requires stands_on { StandsOn D.Disk store.old disk.old }
+{
+    let told = told_of(store, &up);
+    match store.seal(disk, up, 6) {
+        Ok(receipt) => {
+            let number = receipt.number();
+            receipt.spend();
+            Ended::Sealed(told, number)
+        }
+        Err(SealRefusal::Short(up)) => {
+            store.park(up);
+            Ended::Short(told)
+        }
+        Err(SealRefusal::Header { code }) => Ended::Header(told, code),
+        Err(SealRefusal::Failed | SealRefusal::Disk) => Ended::Failed,
+    }
+}
+
+/// What an upload tells, and the store of it.
+fn told_of(store: &FileStore, up: &OpenUpload) -> Told {
+    Told {
+        number: up.number(),
+        length: up.length(),
+        held: up.held(),
+        is_out: store.is_out(up.number()),
+        is_held: store.holds(up),
+    }
+}
