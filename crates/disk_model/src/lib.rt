@@ -16,6 +16,3 @@ pub use fuse_disk::FuseDisk;
 pub use limits::{MOST_OCTETS, ends_within};
 pub use memory_disk::MemoryDisk;
 pub use overwriting::overwrite;
-
-#[cfg(test)]
-mod tests;
