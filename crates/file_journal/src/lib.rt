@@ -22,8 +22,3 @@ mod write;
 pub use faults::{JournalFault, ReadFault, RecoverFault};
 pub use journal::Journal;
 pub use ledger::Ledger;
-
-#[cfg(test)]
-mod ledger_tests;
-#[cfg(test)]
-mod tests;
