@@ -14,8 +14,6 @@ mod limits;
 mod reading;
 mod recovered;
 mod stored_file;
-#[cfg(test)]
-mod tests;
 mod writing;
 
 pub use command::Command;
