@@ -12,8 +12,6 @@ mod open_upload;
 mod put;
 mod receipt;
 mod refusals;
-#[cfg(test)]
-mod tests;
 
 pub use file_entries::{Info, LAST_NEXT, LONGEST_FILE, MOST_ENTRIES, header_in};
 pub use file_store::FileStore;
