@@ -18,8 +18,6 @@ mod put;
 mod reading;
 mod refusals;
 mod task;
-#[cfg(test)]
-mod tests;
 mod writing;
 
 pub use answers::{Begun, Noted};

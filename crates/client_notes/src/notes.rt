@@ -320,14 +320,6 @@ impl Notes {
         self.journal.failed()
     }
 
-    /// Whether the condition of a command holds.
-    #[cfg(test)]
-    pub(crate) fn allows(&self, command: &Command<'_>) -> bool
-        ensures { result ≡ is_allowed self.now.lists (command_value command.now) }
-    {
-        self.lists.allows(command)
-    }
-
     /// The journal was read to its end.
     pub(crate) fn read_law(&self)
         ensures { IsRead self.now.journal }
