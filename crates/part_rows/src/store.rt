@@ -2,14 +2,15 @@
 //! NOCALL begins the file at the moment 5, the octets are brought, and the file is ended at the moment 6.
 //!
 //! Printed is how it ended: why the file wasn't begun; `TooMuch`; or, with what the upload tells before the end,
-//! `Sealed` and the receipt's number, `Short`, or `Header` and the code of a fault.
+//! `Sealed` and the receipt's number, `Short`, or `Header` and the code of a fault. Behind ` | ` stands what a store
+//! that is recovered from the disk tells of the file, or `none`.
 
 ghost use Rattle.file_store.specs.State.{StandsOn};
 ghost use Rattle.file_store.specs.Upload.{Holds};
 
 use anyhow::{Context, Result};
 use disk_model::{Disk, MemoryDisk};
-use file_store::{AppendRefusal, BeginRefusal, FileStore, Limits, OpenUpload, SealRefusal};
+use file_store::{AppendRefusal, BeginRefusal, FileStore, Info, Limits, OpenUpload, SealRefusal};
 use px_base::Call;
 use row_words::{Player, read_octets};
 use std::alloc::Global;
@@ -27,8 +28,24 @@ impl Player for StoreRows {
         let mut disk = MemoryDisk::new(alloc, &[], &[])?;
         let mut store = FileStore::recover(alloc, &mut disk, Limits { blocks: 8 })?;
         let ended = upload(&mut store, &mut disk, caller, length, octets.as_slice());
-        Ok(format!(in alloc; "{ended:?}")?)
+        let store = FileStore::recover(alloc, &mut disk, Limits { blocks: 8 })?;
+        let standing = standing_text(alloc, store.info(1))?;
+        Ok(format!(in alloc; "{ended:?} | {standing}")?)
     }
+}
+
+/// What a store tells of a file.
+fn standing_text(alloc: Global, info: Option<Info>) -> Result<String> {
+    let Some(info) = info else {
+        return Ok(String::from_str(alloc, "none")?);
+    };
+    let (held, length, begun) = (info.held, info.length, info.begun);
+    let end = if info.complete {
+        "complete"
+    } else {
+        "under way"
+    };
+    Ok(format!(in alloc; "{held} of {length}, {end}, begun {begun}")?)
 }
 
 /// What an upload tells, and the store of it.
