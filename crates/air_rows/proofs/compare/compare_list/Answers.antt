@@ -1,5 +1,0 @@
--- The list is cut into pieces of some octets.
-use Rattle.air_rows.proofs.compare.compare_list.Goals as goal
-
-pub next-requires : goal.next-requires
-next-requires c = c.loop-number.invariant

@@ -1,6 +1,0 @@
--- Both stations are ready.
-use Rattle.air_rows.specs.Ready.{AreReady}
-use Rattle.air_rows.proofs.exchange.Stations.break_all.Given as goal
-
-abbrev pub invariant-loop-number : goal.invariant-loop-number
-invariant-loop-number g l = AreReady g.C.Disk g.S.Disk l.self
