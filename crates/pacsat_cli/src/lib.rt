@@ -16,6 +16,3 @@ pub use start::{Host, HostCall, MemoryHost, NotHeld, WordsRefusal, start};
 pub use status::{BadStore, RefusedBy, Status};
 pub use top_call::{end_with, run};
 pub use uploader::FileSum;
-
-#[cfg(test)]
-mod tests;
