@@ -11,8 +11,6 @@ mod sending;
 mod stop;
 mod sum;
 mod terms;
-#[cfg(test)]
-mod tests;
 
 pub use fetching::fetch;
 pub use listing::list;
