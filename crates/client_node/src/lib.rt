@@ -3,8 +3,6 @@
 
 mod node;
 mod stop;
-#[cfg(test)]
-mod tests;
 
 pub use ftl0_client::{Client, Job, Outcome};
 pub use node::carry_out;
