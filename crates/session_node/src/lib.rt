@@ -6,8 +6,6 @@ mod node;
 mod server;
 mod stop;
 mod terms;
-#[cfg(test)]
-mod tests;
 
 pub use node::session;
 pub use stop::NodeStop;
