@@ -28,6 +28,3 @@ pub use make::MakeRequest;
 pub use request::{BLOCKS, POLLS, Refusal, Request, SessionRequest, read};
 pub use serve::{K, ServeRequest};
 pub use words::Words;
-
-#[cfg(test)]
-mod tests;
