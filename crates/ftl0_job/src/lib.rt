@@ -15,8 +15,6 @@ mod noting;
 mod phases;
 mod short;
 mod stop;
-#[cfg(test)]
-mod tests;
 mod upload;
 mod work;
 
