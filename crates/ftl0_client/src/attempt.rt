@@ -7,8 +7,6 @@
 mod attempt;
 pub mod laws;
 mod outcome;
-#[cfg(test)]
-mod tests;
 
 pub use attempt::Attempt;
 pub use outcome::AttemptOutcome;

@@ -8,8 +8,6 @@ mod client;
 pub mod laws;
 mod outcome;
 mod stray;
-#[cfg(test)]
-mod tests;
 
 pub use client::Client;
 pub use ftl0_job::{Job, JobStop};
