@@ -11,7 +11,5 @@ mod downloads;
 pub mod laws;
 mod selecting;
 mod span;
-#[cfg(test)]
-mod tests;
 
 pub use downloads::Downloads;

@@ -11,8 +11,6 @@ pub mod laws;
 pub mod lists;
 mod session;
 mod stop;
-#[cfg(test)]
-mod tests;
 pub mod uploads;
 
 pub use crate::uploads::Replies;

@@ -8,8 +8,6 @@ pub mod laws;
 mod limits;
 mod lists;
 mod stored_list;
-#[cfg(test)]
-mod tests;
 
 pub use limits::{MOST_LISTS, MOST_NUMBERS};
 pub use lists::Lists;

@@ -6,8 +6,6 @@ pub mod laws;
 mod phase;
 mod session;
 mod stop;
-#[cfg(test)]
-mod tests;
 
 pub use phase::Phase;
 pub use session::{Replies, Session};
