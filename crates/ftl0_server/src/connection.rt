@@ -4,8 +4,6 @@
 mod connection;
 mod fate;
 pub mod laws;
-#[cfg(test)]
-mod tests;
 
 pub use connection::Connection;
 pub use fate::Fate;

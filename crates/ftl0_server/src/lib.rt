@@ -9,8 +9,6 @@ mod place;
 mod places;
 mod server;
 mod stray;
-#[cfg(test)]
-mod tests;
 
 pub use ftl0_session::ServerStop;
 pub use server::{PLACES, Server};

@@ -1,9 +1,0 @@
--- What is given out leaves the store.
-use Rattle.std.proofs.Common.{◌≡◌}
-use Rattle.ftl0_server.proofs.tests.hears.Given as goal
-
-abbrev pub invariant-loop-control : goal.invariant-loop-control
-invariant-loop-control g l = record {
-  me : l.server.me ≡ l.initial.server.me;
-  store : l.server.store ≡ l.initial.server.store;
-}
