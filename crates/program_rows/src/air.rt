@@ -1,10 +1,10 @@
 //! Rows of a client and a server over a small air in memory, each by its own code.
 //!
 //! A row `SEED K BODY BREAKS` has a fresh client's file of BODY body octets, of which octet i is 7 i + 13 SEED modulo
-//! 256. The file is uploaded: BREAKS times the client is broken off in the middle, recovered from its disk, and goes on.
-//! Then the list of all files is asked, and the file is downloaded. List and octets are compared with what the server's
-//! store holds, and the body with the one that was sent. K is the window of both stations, 1 to 7. What came of it is
-//! printed.
+//! 256. The file is uploaded: BREAKS times the client is broken off in the middle, recovered from its disk, and goes
+//! on. Then the list of all files is asked, and the file is downloaded. List and octets are compared with what the
+//! server's store holds, and the body with the one that was sent. K is the window of both stations, 1 to 7. What came
+//! of it is printed.
 //!
 //! The server keeps its disk from row to row; the line `server` is one with an empty disk from then on.
 //!

@@ -43,7 +43,8 @@ fn play(alloc: Global, row: &str) -> Result<String> {
     Ok(format!(in alloc; "{ended}{kept}")?)
 }
 
-/// Runs the words over a disk without octets, a closed air, this shelf and output, and a clock that gives these moments.
+/// Runs the words over a disk without octets, a closed air, this shelf and output, and a clock that gives these
+/// moments.
 fn run_over(
     alloc: Global,
     words: &Words,
