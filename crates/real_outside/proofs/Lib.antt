@@ -1,3 +1,6 @@
 mod Held
 pub mod Reached
+pub mod Asked
+mod Heard
 mod Wholes
+mod Written

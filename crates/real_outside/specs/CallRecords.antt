@@ -1,5 +1,10 @@
--- The calls that forms in memory record.
+-- The calls that what stands outside tells, and those that forms in memory record.
 use Rattle.std.specs.Prelude.{List, [], Bool, false, Option, None, Some, if◌then◌else◌}
+use Rattle.px_base.specs.Outside.{Grows}
+
+-- The calls that came since, where they are told now, have P.
+abbrev pub Asks : {C : Type 0} → Option (List C) → Option (List C) → (List C → Type 0) → Type 0
+Asks {C} before now P = (calls : List C) × Grows before now calls × P calls
 
 -- the calls so far, and whether one of them found no memory to be recorded
 pub record CallRecordState (C : Type 0) : Type 0 where

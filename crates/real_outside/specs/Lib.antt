@@ -3,5 +3,7 @@ pub mod Calls
 pub mod Clocks
 pub mod Descriptors
 pub mod Folder
+pub mod Scripts
+pub mod StreamCalls
 pub mod Streams
 pub mod Systems

@@ -12,7 +12,7 @@ pub record AirStreams (R W : Type 0) : Type 0 where
   pub write_faults : ℕ
 
 -- the stream of an output, and its count of faults
-pub record OutStream (W : Type 0) : Type 0 where
+pub record OutState (W : Type 0) : Type 0 where
   pub output : W
   pub faults : ℕ
 

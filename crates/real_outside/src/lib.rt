@@ -5,19 +5,30 @@
 mod call_record;
 mod descriptors;
 mod folder_shelf;
+mod memory_stream;
 mod memory_time;
+mod script;
 mod std_air;
+mod std_out;
+mod stream;
 mod system_clock;
 mod system_error;
+mod system_stream;
 mod time_source;
+mod writing;
 
 pub use call_record::CallRecord;
 pub use descriptors::{MemoryNull, NullDevice, NullFile, StandardStreams, hold_standard_streams};
 pub use folder_shelf::FolderShelf;
+pub use memory_stream::MemoryStream;
 pub use memory_time::MemoryTime;
-pub use std_air::{StdAir, StdOut};
+pub use script::{MemoryAnswer, Script};
+pub use std_air::StdAir;
+pub use std_out::StdOut;
+pub use stream::{InputStream, OutputStream, StreamCall};
 pub use system_clock::SystemClock;
-pub use system_error::SystemError;
+pub use system_error::{SystemError, system_answer};
+pub use system_stream::SystemStream;
 pub use time_source::{SystemTime, TimeSource};
 
 #[cfg(test)]

@@ -42,7 +42,7 @@ impl From<ErrorKind> for SystemError {
 }
 
 /// The answer of a call of the system, of whose error the kind and the number are kept.
-pub(crate) fn system_answer<T: Drop>(answer: io::Result<T>) -> Result<T, SystemError>
+pub fn system_answer<T: Drop>(answer: io::Result<T>) -> Result<T, SystemError>
     ensures ok { IfOk answer (λ value. result ≡ Ok value) }
     ensures err { IfErr answer (λ refused. result ≡ Err (system_error refused)) }
 {

@@ -1,0 +1,73 @@
+//! What an air and an output over streams call: a stream of octets that come, and one of octets that go.
+
+ghost use Rattle.std.specs.Prelude.{◌≡◌, ◌≤◌, ◌∷◌, [], List, Option, None, length, ℕ, IfOk};
+ghost use Rattle.std.specs.Io.KnownBytes.{Keeps, ReadConsumes, WriteAppends};
+ghost use Rattle.px_base.specs.Outside.{Grows};
+ghost use Rattle.real_outside.specs.StreamCalls.{octets_read};
+ghost use Rattle.real_outside.specs.declared.stream.StreamCall.{StreamCall};
+
+use crate::system_error::SystemError;
+use px_base::FileBytes;
+
+/// A call that reached a stream, with what it answered.
+#[derive(Debug, Drop)]
+pub enum StreamCall {
+    /// It was asked for at most so many octets, and gave these.
+    Read {
+        count: usize,
+        answer: Result<FileBytes, SystemError>,
+    },
+    /// It was given these octets, and took so many of them.
+    Write {
+        bytes: FileBytes,
+        answer: Result<usize, SystemError>,
+    },
+    /// It was to hold none back of what it had taken.
+    Flush {
+        answer: Result<(), SystemError>,
+    },
+}
+
+/// Octets that come, as those of standard input. A read may be short.
+///
+/// A stream may tell the calls that reached it, and the octets that it has left. The form in memory tells its calls; a
+/// real one doesn't.
+pub trait InputStream {
+    /// The calls that reached it so far, where they are told.
+    ghost calls: { Self → Option (List StreamCall) };
+
+    /// The octets that it has left, where they are told.
+    ghost remaining: { Self → Option (List ℕ) };
+
+    /// Puts the next octets into the front of the room, and says how many: at most as many as the room has, and none
+    /// where the stream has ended.
+    fn read(&mut self, room: &mut [u8]) -> Result<usize, SystemError>
+        ensures count { IfOk result (λ count. count ≤ length room.new) }
+        ensures room { length room.new ≡ length room.old }
+        ensures calls { Grows (calls self.old) (calls self.new)
+            (StreamCall.Read (length room.old) (octets_read result room.new) ∷ []) }
+        ensures remaining { ReadConsumes (remaining self.old) (remaining self.new) result room.new };
+}
+
+/// Octets that go, as those of standard output. A write may be short.
+///
+/// A stream may tell the calls that reached it, and the octets that it took. The form in memory tells its calls; a real
+/// one doesn't.
+pub trait OutputStream {
+    /// The calls that reached it so far, where they are told.
+    ghost calls: { Self → Option (List StreamCall) };
+
+    /// The octets that it took, where they are told.
+    ghost contents: { Self → Option (List ℕ) };
+
+    /// Takes the first of these octets, and says how many.
+    fn write(&mut self, bytes: &[u8]) -> Result<usize, SystemError>
+        ensures count { IfOk result (λ count. count ≤ length bytes.now) }
+        ensures calls { Grows (calls self.old) (calls self.new) (StreamCall.Write bytes.now result ∷ []) }
+        ensures contents { WriteAppends (contents self.old) (contents self.new) result bytes.now };
+
+    /// Hands on all that was taken.
+    fn flush(&mut self) -> Result<(), SystemError>
+        ensures calls { Grows (calls self.old) (calls self.new) (StreamCall.Flush result ∷ []) }
+        ensures contents { Keeps (contents self.old) (contents self.new) };
+}
