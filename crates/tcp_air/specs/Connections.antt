@@ -1,26 +1,17 @@
 -- What an air over a connection asks of it, and what it makes of its answers.
-use Rattle.std.specs.Prelude.{◌≡◌, ◌⊎◌, ⊤, ℕ, ◌<◌, List, [], ◌∷◌, ◌++◌, length, take, drop, Bool, true, false, if◌then◌else◌, Option, Result, Ok, Err, IsErr, is_ok}
+use Rattle.std.specs.Prelude.{◌≡◌, ◌⊎◌, ⊤, ℕ, ◌<◌, List, [], ◌∷◌, ◌++◌, length, take, drop, Bool, true, false, if◌then◌else◌, Option, None, Some, Result, Ok, Err, IsErr, is_ok}
 use Rattle.std.specs.declared.io.ErrorKind.{ErrorKind}
 use Rattle.std.specs.declared.io.ErrorKind.TheVariants as reason
-use Rattle.px_base.specs.Outside.{Grows}
 use Rattle.px_base.specs.declared.air.AirDown.{AirDown}
 use Rattle.px_base.specs.declared.air.Polled.{Polled}
 use Rattle.px_base.specs.declared.air.Polled.TheVariants as polled
 use Rattle.px_base.specs.declared.air.Turn.{Turn}
 use Rattle.px_base.specs.declared.air.Turn.TheVariants as turn
+use Rattle.real_outside.specs.declared.system_error.SystemError.{SystemError}
 use Rattle.tcp_air.specs.declared.connection.ConnectionCall.{ConnectionCall}
 use Rattle.tcp_air.specs.declared.connection.ConnectionCall.TheVariants as call
-use Rattle.tcp_air.specs.declared.connection.ConnectionError.{ConnectionError}
-use Rattle.tcp_air.specs.declared.connection.ConnectionError.TheVariants as error
 use Rattle.tcp_air.specs.declared.connection_air.Stage.{Stage}
 use Rattle.tcp_air.specs.declared.connection_air.Stage.TheVariants as stage
-
--- why a call of a connection failed, where the system gives this reason
-abbrev pub error_for : ErrorKind → ConnectionError
-error_for reason.WouldBlock = error.WouldBlock
-error_for reason.TimedOut = error.TimedOut
-error_for reason.Interrupted = error.Interrupted
-error_for _ = error.Other
 
 -- An air over a connection: how far it is, and its counts of faults.
 pub record ConnectionAirState (C : Type 0) : Type 0 where
@@ -29,14 +20,10 @@ pub record ConnectionAirState (C : Type 0) : Type 0 where
   pub read_faults : ℕ
   pub write_faults : ℕ
 
--- the octets of the room that a read gave
-abbrev pub octets_read : Result ℕ ConnectionError → List ℕ → Result (List ℕ) ConnectionError
-octets_read (Ok count) room = Ok (take count room)
-octets_read (Err failed) room = Err failed
-
--- The calls that reached a connection, which are those that came to be told where it tells any, have P.
-abbrev pub Asks : Option (List ConnectionCall) → Option (List ConnectionCall) → (List ConnectionCall → Type 0) → Type 0
-Asks before now P = (calls : List ConnectionCall) × Grows before now calls × P calls
+-- what a stream tells, where there is one
+abbrev pub told_of : {S : Type 0} → (S → Option (List ℕ)) → Option S → Option (List ℕ)
+told_of told None = None
+told_of told (Some stream) = told stream
 
 -- Calls that have P, and then calls that have Q.
 abbrev pub Then : (List ConnectionCall → Type 0) → (List ConnectionCall → Type 0) → List ConnectionCall → Type 0
@@ -44,17 +31,17 @@ Then P Q calls = (first later : List ConnectionCall) × (calls ≡ first ++ late
 
 -- a connection was to be made: whether it is there
 abbrev pub Connects : Bool → List ConnectionCall → Type 0
-Connects done calls = (answer : Result Unit ConnectionError) × (calls ≡ call.Connect answer ∷ []) × (done ≡ is_ok answer)
+Connects done calls = (answer : Result Unit SystemError) × (calls ≡ call.Connect answer ∷ []) × (done ≡ is_ok answer)
 
 -- it was to send at once
 abbrev pub SendsAtOnce : Bool → List ConnectionCall → Type 0
 SendsAtOnce done calls =
-    (answer : Result Unit ConnectionError) × (calls ≡ call.NoDelay answer ∷ []) × (done ≡ is_ok answer)
+    (answer : Result Unit SystemError) × (calls ≡ call.NoDelay answer ∷ []) × (done ≡ is_ok answer)
 
 -- each read of it was to wait 100 milliseconds at most
 abbrev pub LimitsReads : Bool → List ConnectionCall → Type 0
 LimitsReads done calls =
-    (answer : Result Unit ConnectionError) × (calls ≡ call.ReadLimit 100 answer ∷ []) × (done ≡ is_ok answer)
+    (answer : Result Unit SystemError) × (calls ≡ call.ReadLimit 100 answer ∷ []) × (done ≡ is_ok answer)
 
 -- What an air asks for at its first call, and how far it is then: one connection, which is to send at once, and whose
 -- reads are to be limited. No call follows one that failed.
@@ -77,29 +64,31 @@ Readies stage.Broken ready calls = (ready ≡ stage.Broken) × (calls ≡ [])
 abbrev pub ReadiesThen : Stage → (Stage → List ConnectionCall → Type 0) → List ConnectionCall → Type 0
 ReadiesThen before P calls = (ready : Stage) × Then (Readies before ready) (P ready) calls
 
+-- nothing came in time, in either word that systems have for it, or a signal came first
+abbrev pub is_quiet : ErrorKind → Bool
+is_quiet reason.WouldBlock = true
+is_quiet reason.TimedOut = true
+is_quiet reason.Interrupted = true
+is_quiet _ = false
+
 -- what a poll finds, where reading answers so
-abbrev pub IsPollAnswer : Result ℕ ConnectionError → Result Polled AirDown → Type 0
+abbrev pub IsPollAnswer : Result ℕ SystemError → Result Polled AirDown → Type 0
 IsPollAnswer (Ok count) result = (count ≡ 0 → result ≡ Ok polled.End) × (0 < count → result ≡ Ok (polled.Bytes count))
-IsPollAnswer (Err error.WouldBlock) result = result ≡ Ok polled.Quiet
-IsPollAnswer (Err error.TimedOut) result = result ≡ Ok polled.Quiet
-IsPollAnswer (Err error.Interrupted) result = result ≡ Ok polled.Quiet
-IsPollAnswer (Err error.Other) result = IsErr result
+IsPollAnswer (Err failed) result =
+    (is_quiet failed.kind ≡ true → result ≡ Ok polled.Quiet) × (is_quiet failed.kind ≡ false → IsErr result)
 
 -- the turn that a read which gave this brings
-abbrev pub turn_for : Result (List ℕ) ConnectionError → Turn
+abbrev pub turn_for : Result (List ℕ) SystemError → Turn
 turn_for (Ok []) = turn.End
 turn_for (Ok (octet ∷ octets)) = turn.Bytes (octet ∷ octets)
-turn_for (Err error.WouldBlock) = turn.Quiet
-turn_for (Err error.TimedOut) = turn.Quiet
-turn_for (Err error.Interrupted) = turn.Quiet
-turn_for (Err error.Other) = turn.Fail
+turn_for (Err failed) = if is_quiet failed.kind then turn.Quiet else turn.Fail
 
 -- What an air hears that is so far: the answer of one read, into 512 octets of room, of a connection that is open; and
 -- nothing else is asked for.
 abbrev pub HearsAt : Stage → Turn → List ConnectionCall → Type 0
 HearsAt stage.Unmade next calls = (next ≡ turn.Fail) × (calls ≡ [])
 HearsAt stage.Open next calls =
-    (answer : Result (List ℕ) ConnectionError) × (next ≡ turn_for answer) × (calls ≡ call.Read 512 answer ∷ [])
+    (answer : Result (List ℕ) SystemError) × (next ≡ turn_for answer) × (calls ≡ call.Read 512 answer ∷ [])
 HearsAt stage.Ended next calls = (next ≡ turn.End) × (calls ≡ [])
 HearsAt stage.Broken next calls = (next ≡ turn.Fail) × (calls ≡ [])
 
@@ -126,14 +115,14 @@ IsShut stage.Ended = ⊤
 IsShut stage.Broken = ⊤
 
 -- how many octets were taken, where writing answers so: none is a fault
-abbrev pub IsTaken : Result ℕ ConnectionError → Result ℕ AirDown → Type 0
+abbrev pub IsTaken : Result ℕ SystemError → Result ℕ AirDown → Type 0
 IsTaken (Ok count) result = (count ≡ 0 → IsErr result) × (0 < count → result ≡ Ok count)
 IsTaken (Err failed) result = IsErr result
 
 -- one write of these octets
 abbrev pub WritesOnce : List ℕ → Result ℕ AirDown → List ConnectionCall → Type 0
 WritesOnce octets result calls =
-    (answer : Result ℕ ConnectionError) × (calls ≡ call.Write octets answer ∷ []) × IsTaken answer result
+    (answer : Result ℕ SystemError) × (calls ≡ call.Write octets answer ∷ []) × IsTaken answer result
 
 -- Octets are sent: each write is of all that are left behind those taken before it; once none is left the connection is
 -- flushed, and that it answers so is the answer. A write that fails, or takes none, is the last call, and they aren't

@@ -1,4 +1,3 @@
 pub mod Connections
-pub mod MemoryConnections
 pub mod RunLaws
 pub mod SendingLaws

@@ -2,58 +2,41 @@
 
 ghost use Rattle.std.specs.Prelude.{◌≡◌, ◌≤◌, ◌∷◌, [], List, Option, length, IfOk};
 ghost use Rattle.px_base.specs.Outside.{Grows};
+ghost use Rattle.real_outside.specs.StreamCalls.{octets_read};
 ghost use Rattle.tcp_air.specs.declared.connection.ConnectionCall.{ConnectionCall};
-ghost use Rattle.tcp_air.specs.Connections.{octets_read};
 
 use px_base::FileBytes;
-use thiserror::Error;
-
-/// Why a call of a connection failed.
-#[derive(Clone, Copy, Debug, PartialEq, Eq, Error)]
-pub enum ConnectionError {
-    /// Nothing came within the limit of time, in the word that most systems have for it.
-    #[error("the connection would wait")]
-    WouldBlock,
-    /// Nothing came within the limit of time, in another word for it.
-    #[error("the connection's time is over")]
-    TimedOut,
-    /// A signal came before anything else did.
-    #[error("a signal interrupted the connection")]
-    Interrupted,
-    /// Anything else.
-    #[error("the connection failed")]
-    Other,
-}
+use real_outside::SystemError;
 
 /// A call that reached a connection, with what it answered.
 #[derive(Debug, Drop)]
 pub enum ConnectionCall {
     /// It was to be made.
     Connect {
-        answer: Result<(), ConnectionError>,
+        answer: Result<(), SystemError>,
     },
     /// It was to send what it is given at once.
     NoDelay {
-        answer: Result<(), ConnectionError>,
+        answer: Result<(), SystemError>,
     },
     /// A read of it was to wait so many milliseconds at most.
     ReadLimit {
         milliseconds: u64,
-        answer: Result<(), ConnectionError>,
+        answer: Result<(), SystemError>,
     },
     /// It was asked for at most so many octets, and gave these.
     Read {
         count: usize,
-        answer: Result<FileBytes, ConnectionError>,
+        answer: Result<FileBytes, SystemError>,
     },
     /// It was given these octets to send, and took so many of them.
     Write {
         bytes: FileBytes,
-        answer: Result<usize, ConnectionError>,
+        answer: Result<usize, SystemError>,
     },
     /// It was to send all that it had taken.
     Flush {
-        answer: Result<(), ConnectionError>,
+        answer: Result<(), SystemError>,
     },
 }
 
@@ -66,30 +49,31 @@ pub trait Connection {
     ghost calls: { Self → Option (List ConnectionCall) };
 
     /// Makes the connection.
-    fn connect(&mut self) -> Result<(), ConnectionError>
+    fn connect(&mut self) -> Result<(), SystemError>
         ensures { Grows (calls self.old) (calls self.new) (ConnectionCall.Connect result ∷ []) };
 
     /// Has small segments sent at once, and not held back for more octets to go with them.
-    fn set_no_delay(&mut self) -> Result<(), ConnectionError>
+    fn set_no_delay(&mut self) -> Result<(), SystemError>
         ensures { Grows (calls self.old) (calls self.new) (ConnectionCall.NoDelay result ∷ []) };
 
     /// Has each read wait so many milliseconds at most.
-    fn set_read_limit(&mut self, milliseconds: u64) -> Result<(), ConnectionError>
+    fn set_read_limit(&mut self, milliseconds: u64) -> Result<(), SystemError>
         ensures { Grows (calls self.old) (calls self.new) (ConnectionCall.ReadLimit milliseconds result ∷ []) };
 
     /// Puts the next octets into the front of the room, and says how many: at most as many as the room has, and none
-    /// where the modem has closed the connection. `WouldBlock`, `TimedOut` and `Interrupted` say that none came yet.
-    fn read(&mut self, room: &mut [u8]) -> Result<usize, ConnectionError>
+    /// where the modem has closed the connection. The kinds `WouldBlock`, `TimedOut` and `Interrupted` of an error say
+    /// that none came yet.
+    fn read(&mut self, room: &mut [u8]) -> Result<usize, SystemError>
         ensures count { IfOk result (λ count. count ≤ length room.old) }
         ensures calls { Grows (calls self.old) (calls self.new)
             (ConnectionCall.Read (length room.old) (octets_read result room.new) ∷ []) };
 
     /// Takes the first of these octets to send, and says how many.
-    fn write(&mut self, bytes: &[u8]) -> Result<usize, ConnectionError>
+    fn write(&mut self, bytes: &[u8]) -> Result<usize, SystemError>
         ensures count { IfOk result (λ count. count ≤ length bytes.now) }
         ensures calls { Grows (calls self.old) (calls self.new) (ConnectionCall.Write bytes.now result ∷ []) };
 
     /// Sends all that was taken.
-    fn flush(&mut self) -> Result<(), ConnectionError>
+    fn flush(&mut self) -> Result<(), SystemError>
         ensures { Grows (calls self.old) (calls self.new) (ConnectionCall.Flush result ∷ []) };
 }

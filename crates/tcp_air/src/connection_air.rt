@@ -3,7 +3,8 @@
 ghost use Rattle.std.specs.Prelude.{◌≡◌, IfOk, is_ok};
 ghost use Rattle.px_base.specs.Outside.{HasCause, counted_after};
 ghost use Rattle.px_base.specs.Polling.{IsPolled, turn_of};
-ghost use Rattle.tcp_air.specs.Connections.{Asks, IsShut, Polls, Puts};
+ghost use Rattle.real_outside.specs.CallRecords.{Asks};
+ghost use Rattle.tcp_air.specs.Connections.{IsShut, Polls, Puts};
 
 use crate::connection::Connection;
 use crate::steps::{hear, say};

@@ -8,9 +8,9 @@ mod memory_connection;
 mod steps;
 mod tcp_connection;
 
-pub use connection::{Connection, ConnectionCall, ConnectionError};
+pub use connection::{Connection, ConnectionCall};
 pub use connection_air::ConnectionAir;
-pub use memory_connection::{MemoryAnswer, MemoryConnection};
+pub use memory_connection::MemoryConnection;
 pub use tcp_connection::{TcpAir, TcpConnection};
 
 #[cfg(test)]

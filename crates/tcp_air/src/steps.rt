@@ -2,11 +2,14 @@
 
 ghost use Rattle.std.specs.Prelude.{◌≡◌, ◌≤◌, ℕ, List, [], length, IfOk, is_ok};
 ghost use Rattle.px_base.specs.Polling.{IsPolled, turn_of};
-ghost use Rattle.tcp_air.specs.Connections.{Asks, Connects, HearsAt, IsPollAnswer, IsShut, IsTaken, LimitsReads, Opens, Polls, Puts, Readies, SaysAt, Sends, SendsAtOnce, WritesOnce, stage_after_saying, stage_after_turn};
+ghost use Rattle.real_outside.specs.CallRecords.{Asks};
+ghost use Rattle.tcp_air.specs.Connections.{Connects, HearsAt, IsPollAnswer, IsShut, IsTaken, LimitsReads, Opens, Polls, Puts, Readies, SaysAt, Sends, SendsAtOnce, WritesOnce, is_quiet as is_quiet_kind, stage_after_saying, stage_after_turn};
 
-use crate::connection::{Connection, ConnectionError};
+use crate::connection::Connection;
 use crate::connection_air::Stage;
 use px_base::{AirDown, Polled};
+use real_outside::SystemError;
+use std::io::ErrorKind;
 
 /// The longest time that a read waits, in milliseconds.
 const READ_LIMIT: u64 = 100;
@@ -56,17 +59,25 @@ fn hear_once<C: Connection>(connection: &mut C, room: &mut [u8; 512]) -> Result<
 
 /// What a poll found, where reading answered so: `Quiet` where nothing came in time or a signal came first, and `End`
 /// exactly where it gave no octet.
-fn poll_answer(read: Result<usize, ConnectionError>) -> Result<Polled, AirDown>
+fn poll_answer(read: Result<usize, SystemError>) -> Result<Polled, AirDown>
     ensures { IsPollAnswer read result }
 {
     match read {
         Ok(0) => Ok(Polled::End),
         Ok(count) => Ok(Polled::Bytes(count)),
-        Err(
-            ConnectionError::WouldBlock | ConnectionError::TimedOut | ConnectionError::Interrupted,
-        ) => Ok(Polled::Quiet),
-        Err(ConnectionError::Other) => Err(AirDown),
+        Err(failed) if is_quiet(failed.kind) => Ok(Polled::Quiet),
+        Err(_) => Err(AirDown),
     }
+}
+
+/// Whether a read that failed for this reason says that nothing came in time, or that a signal came first.
+fn is_quiet(kind: ErrorKind) -> bool
+    ensures { result ≡ is_quiet_kind kind }
+{
+    matches!(
+        kind,
+        ErrorKind::WouldBlock | ErrorKind::TimedOut | ErrorKind::Interrupted
+    )
 }
 
 /// How far an air at this stage is after a poll that found this.
@@ -137,7 +148,7 @@ fn write_some<C: Connection>(connection: &mut C, bytes: &[u8]) -> Result<usize, 
 }
 
 /// How many octets were taken, where writing answered so: none is a fault.
-fn taken_answer(written: Result<usize, ConnectionError>) -> Result<usize, AirDown>
+fn taken_answer(written: Result<usize, SystemError>) -> Result<usize, AirDown>
     ensures { IsTaken written result }
 {
     match written {

@@ -1,19 +1,20 @@
 //! A real TCP connection to a modem, and the air over it.
 
-ghost use Rattle.std.specs.Prelude.{◌≡◌, None, IfOk, IfErr};
-ghost use Rattle.std.specs.IoError.{error_kind};
-ghost use Rattle.tcp_air.specs.Connections.{error_for as error_of_kind};
+ghost use Rattle.std.specs.Prelude.{◌≡◌, ◌≤◌, None, length, IfOk};
+ghost use Rattle.std.specs.Io.KnownBytes.{Keeps, ReadConsumes, WriteAppends};
+ghost use Rattle.tcp_air.specs.Connections.{told_of};
 
-use crate::connection::{Connection, ConnectionError};
+use crate::connection::Connection;
 use crate::connection_air::{ConnectionAir, Stage};
-use std::io::{self, ErrorKind, Read, Write};
-use std::net::{Net, TcpStream};
+use real_outside::{SystemError, system_answer};
+use std::io::{ErrorKind, Read, Write};
+use std::net::{Net, OpenStream, TcpStream};
 use std::time::Duration;
 
 /// The air of a modem at a host and port: an air over a TCP connection to it. Takes no memory.
-pub type TcpAir<'a, R> = ConnectionAir<TcpConnection<'a, R>>;
+pub type TcpAir<'a, R> = ConnectionAir<TcpConnection<'a, R, TcpStream>>;
 
-impl<'a, R: Net<Stream = TcpStream>> ConnectionAir<TcpConnection<'a, R>> {
+impl<'a, R: Net<Stream = TcpStream>> ConnectionAir<TcpConnection<'a, R, TcpStream>> {
     /// The air of the modem at this address, a host and a port with a colon between them, to which no connection is made
     /// yet. Takes no memory.
     pub fn new(net: &'a R, address: &'a str) -> TcpAir<'a, R>
@@ -25,17 +26,19 @@ impl<'a, R: Net<Stream = TcpStream>> ConnectionAir<TcpConnection<'a, R>> {
     }
 }
 
-/// A TCP connection to a host and port. It tells none of its calls. Takes no memory.
+/// A TCP connection to a host and port, which has a stream once it was made. It tells none of its calls. Takes no memory.
 #[derive(Drop)]
-pub struct TcpConnection<'a, R> {
+pub struct TcpConnection<'a, R, S> {
     net: &'a R,
     address: &'a str,
-    stream: Option<TcpStream>,
+    stream: Option<S>,
 }
 
-impl<'a, R: Net<Stream = TcpStream>> TcpConnection<'a, R> {
+impl<'a, R, S> TcpConnection<'a, R, S> {
     /// A connection to this address, a host and a port with a colon between them, which isn't made yet. Takes no memory.
-    pub fn new(net: &'a R, address: &'a str) -> TcpConnection<'a, R> {
+    pub fn new(net: &'a R, address: &'a str) -> TcpConnection<'a, R, S>
+        ensures { result.stream ≡ None }
+    {
         TcpConnection {
             net,
             address,
@@ -44,70 +47,74 @@ impl<'a, R: Net<Stream = TcpStream>> TcpConnection<'a, R> {
     }
 
     /// The stream, once the connection was made.
-    pub(crate) fn stream(&self) -> Result<&TcpStream, ConnectionError> {
-        self.stream.as_ref().ok_or(ConnectionError::Other)
+    pub(crate) fn stream(&self) -> Option<&S> {
+        self.stream.as_ref()
     }
 }
 
-impl<'a, R: Net<Stream = TcpStream>> Connection for TcpConnection<'a, R> {
+impl<'a, R: Net<Stream = S>, S: Read + Write + OpenStream + Drop> Connection
+    for TcpConnection<'a, R, S> {
     ghost calls = { λ _. None };
 
     /// Connects to the first address of the host that answers.
-    fn connect(&mut self) -> Result<(), ConnectionError> {
-        let stream = answer_of(TcpStream::connect(self.net, self.address))?;
-        self.stream = Some(stream);
+    fn connect(&mut self) -> Result<(), SystemError> {
+        self.stream = Some(system_answer(TcpStream::connect(self.net, self.address))?);
         Ok(())
     }
 
     /// Sets the stream's option.
-    fn set_no_delay(&mut self) -> Result<(), ConnectionError> {
-        answer_of(self.stream()?.set_nodelay(true))
+    fn set_no_delay(&mut self) -> Result<(), SystemError> {
+        match &self.stream {
+            Some(stream) => system_answer(stream.set_nodelay(true)),
+            None => Err(not_made()),
+        }
     }
 
     /// Sets the stream's limit of time for reads; one of 0 milliseconds fails.
-    fn set_read_limit(&mut self, milliseconds: u64) -> Result<(), ConnectionError> {
-        let limit = Duration::from_millis(milliseconds);
-        answer_of(self.stream()?.set_read_timeout(Some(limit)))
+    fn set_read_limit(&mut self, milliseconds: u64) -> Result<(), SystemError> {
+        let limit = Some(Duration::from_millis(milliseconds));
+        match &self.stream {
+            Some(stream) => system_answer(stream.set_read_timeout(limit)),
+            None => Err(not_made()),
+        }
     }
 
     /// Reads the stream once.
-    fn read(&mut self, room: &mut [u8]) -> Result<usize, ConnectionError> {
-        let mut stream = self.stream()?;
-        answer_of(stream.read(room))
+    fn read(&mut self, room: &mut [u8]) -> Result<usize, SystemError>
+        ensures count { IfOk result (λ count. count ≤ length room.old) }
+        ensures octets { ReadConsumes (told_of S.remaining self.old.stream) (told_of S.remaining self.new.stream)
+            result room.new }
+    {
+        match &mut self.stream {
+            Some(stream) => system_answer(stream.read(room)),
+            None => Err(not_made()),
+        }
     }
 
     /// Writes to the stream once.
-    fn write(&mut self, bytes: &[u8]) -> Result<usize, ConnectionError> {
-        let mut stream = self.stream()?;
-        answer_of(stream.write(bytes))
+    fn write(&mut self, bytes: &[u8]) -> Result<usize, SystemError>
+        ensures count { IfOk result (λ count. count ≤ length bytes.now) }
+        ensures octets { WriteAppends (told_of S.contents self.old.stream) (told_of S.contents self.new.stream)
+            result bytes.now }
+    {
+        match &mut self.stream {
+            Some(stream) => system_answer(stream.write(bytes)),
+            None => Err(not_made()),
+        }
     }
 
     /// Flushes the stream, which holds nothing back.
-    fn flush(&mut self) -> Result<(), ConnectionError> {
-        let mut stream = self.stream()?;
-        answer_of(stream.flush())
+    fn flush(&mut self) -> Result<(), SystemError>
+        ensures octets { Keeps (told_of S.contents self.old.stream) (told_of S.contents self.new.stream) }
+    {
+        match &mut self.stream {
+            Some(stream) => system_answer(stream.flush()),
+            None => Err(not_made()),
+        }
     }
 }
 
-/// What a connection answers where the system answers so.
-fn answer_of<T: Drop>(answer: io::Result<T>) -> Result<T, ConnectionError>
-    ensures ok { IfOk answer (λ value. result ≡ Ok value) }
-    ensures err { IfErr answer (λ failed. result ≡ Err (error_of_kind (error_kind failed))) }
-{
-    match answer {
-        Ok(value) => Ok(value),
-        Err(error) => Err(error_for(error.kind())),
-    }
-}
-
-/// Why a call of a connection failed, where the system gives this reason.
-fn error_for(kind: ErrorKind) -> ConnectionError
-    ensures { result ≡ error_of_kind kind }
-{
-    match kind {
-        ErrorKind::WouldBlock => ConnectionError::WouldBlock,
-        ErrorKind::TimedOut => ConnectionError::TimedOut,
-        ErrorKind::Interrupted => ConnectionError::Interrupted,
-        _ => ConnectionError::Other,
-    }
+/// The error of a call of a connection that isn't made.
+fn not_made() -> SystemError {
+    SystemError::from(ErrorKind::NotConnected)
 }

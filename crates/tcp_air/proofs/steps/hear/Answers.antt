@@ -1,7 +1,7 @@
 use Rattle.std.proofs.Common.{refl}
 use Rattle.px_base.specs.Polling.{turn_of}
 use Rattle.tcp_air.specs.Connections.{HearsAt, Polls, Readies}
-use Rattle.tcp_air.proofs.Asked.{asks_then}
+use Rattle.real_outside.proofs.Asked.{asks_then}
 use Rattle.tcp_air.proofs.steps.hear.Goals as goal
 
 pub returns-clause-asks : goal.returns-clause-asks

@@ -1,5 +1,5 @@
 use Rattle.std.proofs.Common.{◌≤◌, [], ◌∷◌, length, IfOk, refl, sym, subst, ℕ}
-use Rattle.tcp_air.specs.Connections.{octets_read}
+use Rattle.real_outside.specs.StreamCalls.{octets_read}
 use Rattle.tcp_air.specs.declared.connection.ConnectionCall.TheVariants as call
 use Rattle.tcp_air.proofs.Turns.{turn_is}
 use Rattle.tcp_air.proofs.steps.hear_once.Goals as goal

@@ -1,6 +1,7 @@
 use Rattle.std.proofs.Common.{false, inl, inr, true}
 use Rattle.tcp_air.specs.Connections.{Connects, LimitsReads, SendsAtOnce, Then}
-use Rattle.tcp_air.proofs.Asked.{asks_as, asks_both}
+use Rattle.real_outside.proofs.Asked.{asks_as}
+use Rattle.tcp_air.proofs.Asked.{asks_both}
 use Rattle.tcp_air.proofs.steps.open.Goals as goal
 
 pub returns-then-not-send_at_once : goal.returns-then-not-send_at_once

@@ -1,7 +1,7 @@
 use Rattle.std.proofs.Common.{refl}
 use Rattle.std.specs.Prelude.{is_ok}
 use Rattle.tcp_air.specs.Connections.{Puts, Readies, SaysAt}
-use Rattle.tcp_air.proofs.Asked.{asks_then}
+use Rattle.real_outside.proofs.Asked.{asks_then}
 use Rattle.tcp_air.proofs.steps.say.Goals as goal
 
 pub returns-clause-asks : goal.returns-clause-asks

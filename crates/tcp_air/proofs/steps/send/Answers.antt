@@ -2,7 +2,7 @@ use Rattle.std.proofs.Common.{◌≡◌, ◌+◌, ◌<◌, List, [], ◌++◌, l
 use Rattle.std.specs.Prelude.{is_ok}
 use Rattle.std.proofs.lemmas.List.{take_rest}
 use Rattle.tcp_air.specs.Connections.{Sends, WritesOnce}
-use Rattle.tcp_air.proofs.Asked.{asks_then, not_ok}
+use Rattle.real_outside.proofs.Asked.{asks_then, not_ok}
 use Rattle.tcp_air.proofs.Sending.{Leads, leads_end, leads_more, write_none}
 use Rattle.tcp_air.proofs.steps.send.Goals as goal
 

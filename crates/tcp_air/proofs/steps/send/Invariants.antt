@@ -1,6 +1,6 @@
 -- What reached the connection took the octets before those that are left.
 use Rattle.std.proofs.Common.{◌-◌, ◌≤◌, length}
-use Rattle.tcp_air.specs.Connections.{Asks}
+use Rattle.real_outside.specs.CallRecords.{Asks}
 use Rattle.tcp_air.proofs.Sending.{Leads}
 use Rattle.tcp_air.proofs.steps.send.Given as goal
 
