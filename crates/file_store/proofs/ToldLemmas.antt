@@ -2,7 +2,7 @@
 use Rattle.std.proofs.Common.{◌≡◌, ℕ, ◌≤◌, false, [], length, Some, refl, sym, ◌∙◌, ap, arith}
 use Rattle.px_base.specs.CallSign.{CallSign}
 use Rattle.file_entries.specs.declared.info.Info.{Info}
-use Rattle.file_entries.specs.declared.limits.TheConstants.{LONGEST_FILE}
+use Rattle.file_entries.specs.Limits.{longest_file}
 use Rattle.file_entries.specs.Info.{info_of, is_complete}
 use Rattle.file_entries.specs.IsStore.{IsStore}
 use Rattle.file_entries.specs.Store.{Entry, Holding, Store, complete, entry_of, octets_of, partial}
@@ -54,7 +54,7 @@ module _ (store : Store) (number : ℕ) (info : Info) (told : Told store number 
       let all : info ≡ info_of (entry_for up has.0 (partial has.1)) = told.is ∙ ap info_of entry in
       (ap (λ (i : Info). i.complete) all, ap (λ (i : Info). i.held) all ∙ has.3, ap (λ (i : Info). i.caller) all, ap (λ (i : Info). i.length) all)
 
-  pub told-short : IsStore store → info.length ≤ LONGEST_FILE
+  pub told-short : IsStore store → info.length ≤ longest_file
   told-short rules = let fits = (found-fits number 1 store.next store.entries told.entry rules.entries told.found).1 in omega (arith, told-length)
 
   -- the upload of the entry

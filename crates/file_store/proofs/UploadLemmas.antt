@@ -8,7 +8,7 @@ use Rattle.std.proofs.lemmas.Bool.{le-leb, lt-ltb}
 use Rattle.std.proofs.lemmas.List.{length-take-le}
 use Rattle.disk_model.specs.declared.disk.Disk.{Ghosts}
 use Rattle.px_base.specs.CallSign.{CallSign}
-use Rattle.file_entries.specs.declared.limits.TheConstants.{LAST_NEXT, LONGEST_FILE, MOST_ENTRIES}
+use Rattle.file_entries.specs.Limits.{last_next, longest_file, most_entries}
 use Rattle.file_entries.specs.Command.{Command, MayBegin, after, after_all, begin, grown, is_allowed, grows, last_grow}
 use Rattle.file_entries.specs.Files.{File, Files, KeepsRests, file_of, octets_or_none, rest_of, store_of}
 use Rattle.file_entries.specs.Info.{is_complete}
@@ -190,9 +190,9 @@ begin-is_allowed store caller file_length moment is may =
     let short = may.short in
     let blocks = is.blocks in
     let one : IsTrue (store.next == store.next) = grind (arith, nat_tests) in
-    let first : IsTrue (nat_le file_length LONGEST_FILE) = le-leb _ _ short in
-    let second : IsTrue (nat_lt (length store.entries) MOST_ENTRIES) = lt-ltb _ _ few in
-    let third : IsTrue (nat_lt store.next LAST_NEXT) = lt-ltb _ _ left in
+    let first : IsTrue (nat_le file_length longest_file) = le-leb _ _ short in
+    let second : IsTrue (nat_lt (length store.entries) most_entries) = lt-ltb _ _ few in
+    let third : IsTrue (nat_lt store.next last_next) = lt-ltb _ _ left in
     let fourth : IsTrue (nat_le (blocks_of store + blocks_for file_length) store.blocks) = le-leb _ _ (omega arith) in
     both-true _ _ one (both-true _ _ (both-true _ _ (both-true _ _ first second) third) fourth)
 

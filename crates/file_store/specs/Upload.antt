@@ -3,7 +3,7 @@ use Rattle.std.specs.Prelude.{◌≡◌, ℕ, ◌+◌, ◌*◌, ◌/◌, ◌<◌
 use Rattle.px_base.specs.CallSign.{CallSign}
 use Rattle.file_entries.specs.Faults.{fault_code}
 use Rattle.file_entries.specs.Stamp.{StampValue, stamped}
-use Rattle.file_entries.specs.declared.limits.TheConstants.{LONGEST_FILE}
+use Rattle.file_entries.specs.Limits.{longest_file}
 use Rattle.file_entries.specs.Command.{Command, seal, drop_entry, last_grow, whole_grows}
 use Rattle.file_entries.specs.Files.{octets_or_none}
 use Rattle.file_entries.specs.Store.{partial, entry_of, octets_at, Entry, Holding}
@@ -23,7 +23,7 @@ upload_from number caller file_length held =
 -- no more octets are held than the file has
 pub record IsUpload (up : Upload) : Type 0 where
   pub held : up.held ≤ up.length
-  pub file : up.length ≤ LONGEST_FILE
+  pub file : up.length ≤ longest_file
 
 -- an upload's entry, begun in this moment, that has come so far
 abbrev pub entry_for : Upload → ℕ → Holding → Entry

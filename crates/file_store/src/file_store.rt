@@ -32,11 +32,14 @@ use crate::{
     StoreFault,
 };
 use disk_model::{Disk, DiskFault};
-use file_entries::{BLOCK, Command, Entries, Recovered};
+use file_entries::{Command, Entries, Recovered};
 use file_journal::Journal;
 use px_base::{Call, OutOfMemory};
 use std::alloc::Global;
 use std::marker::Model;
+
+/// The octets in a block.
+const BLOCK: usize = 512;
 
 /// The first eight octets of a store's disk.
 const MAGIC: [u8; 8] = *b"PXSTORE0";
@@ -457,11 +460,11 @@ impl FileStore {
         requires healthy { self.old.journal.failed ≡ false }
         requires stands_on { StandsOn D.Disk self.old disk.old }
         requires fits { FitsWaiting self.old number }
-        requires there { BLOCK * blocks ≤ length (octets_or_none (rest_in self.old number)) }
+        requires there { 512 * blocks ≤ length (octets_or_none (rest_in self.old number)) }
         ensures does { Does D.Disk (IsErr result) self.old self.new disk.old disk.new
             (grows number blocks (octets_or_none (rest_in self.old number))) }
         ensures rest { OnOk result
-            (rest_in self.new number ≡ option_map (drop (BLOCK * blocks)) (rest_in self.old number)) }
+            (rest_in self.new number ≡ option_map (drop (512 * blocks)) (rest_in self.old number)) }
         ensures rests { KeepsRests self.old.files self.new.files number }
     {
         for block in 0..blocks {
@@ -476,7 +479,7 @@ impl FileStore {
         requires stands_on { StandsOn D.Disk self.old disk.old }
         requires fits { FitsWaiting self.old number }
         requires some { 1 ≤ count }
-        requires most { count ≤ BLOCK }
+        requires most { count ≤ 512 }
         requires there { count ≤ length (octets_or_none (rest_in self.old number)) }
         ensures does { Does D.Disk (IsErr result) self.old self.new disk.old disk.new
             (grow number (take count (octets_or_none (rest_in self.old number))) ∷ []) }

@@ -1,7 +1,7 @@
 //! An upload under way.
 
 ghost use Rattle.std.specs.Prelude.{◌≡◌, ◌+◌, ◌≤◌};
-ghost use Rattle.file_entries.specs.declared.limits.TheConstants.{LONGEST_FILE};
+ghost use Rattle.file_entries.specs.Limits.{longest_file};
 
 use crate::LONGEST_FILE;
 use px_base::Call;
@@ -33,7 +33,7 @@ impl OpenUpload {
     /// The upload of this entry, of which so many octets are held.
     pub(crate) fn new(number: u32, caller: Call, file_length: u32, held: u32) -> OpenUpload
         requires held { held ≤ file_length }
-        requires file { file_length ≤ LONGEST_FILE }
+        requires file { file_length ≤ longest_file }
         ensures { result ≡ upload_from number caller file_length held }
     {
         OpenUpload {
