@@ -243,9 +243,10 @@ pub(crate) fn read_line<'a>(
     }
 }
 
-/// The refusal that an error of `clap` is.
+/// The refusal that an error of `clap` is: want of memory exactly where that is its kind.
 fn refusal_of(error: &Error) -> Refusal
     ensures usage { result ≡ Refusal.Usage → kind_of error.now ≡ ErrorKind.OutOfMemory → ⊥ }
+    ensures memory { result ≡ Refusal.OutOfMemory → kind_of error.now ≡ ErrorKind.OutOfMemory }
     ensures built { result ≡ Refusal.NotBuilt → ⊥ }
 {
     match error.kind() {
