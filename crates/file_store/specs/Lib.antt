@@ -19,7 +19,7 @@ pub use Rattle.file_entries.specs.Records
 pub use Rattle.file_entries.specs.Store
 pub use Rattle.file_entries.specs.declared.entries.BeginBar
 pub use Rattle.file_entries.specs.declared.info.Info as EntriesInfo
-pub use Rattle.file_entries.specs.declared.limits.TheConstants as LimitsConstants
+pub use Rattle.file_entries.specs.Limits
 pub use Rattle.file_journal.specs.Calls
 pub use Rattle.file_journal.specs.Journal
 pub use Rattle.file_journal.specs.Position

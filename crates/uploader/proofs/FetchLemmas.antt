@@ -7,7 +7,7 @@ use Rattle.px_base.specs.Shelves.{Holding}
 use Rattle.px_base.specs.declared.air.Air.{Ghosts as AirGhosts}
 use Rattle.disk_model.specs.declared.disk.Disk.{Ghosts}
 use Rattle.client_notes.specs.Calls.{Runs}
-use Rattle.client_notes.specs.declared.limits.TheConstants.{LONGEST_FILE}
+use Rattle.client_notes.specs.Limits.{longest_file}
 use Rattle.client_notes.specs.Laws.{after_all}
 use Rattle.client_notes.specs.Notes.{Lists, got_of}
 use Rattle.client_notes.specs.Several.{DoesSeveral}
@@ -31,7 +31,7 @@ use Rattle.uploader.proofs.CarryLemmas.{carried, carries, is_carried, job_air, j
 use Rattle.uploader.proofs.OutcomeLemmas.{at_answer, at_reached, at_stop, download-reached}
 
 -- the notes go with the download that was just made
-pub download-goes : (lists : Lists) (server : CallSign) (number held : ℕ) → held ≡ length (got_of lists server number) → held ≤ LONGEST_FILE → (job : JobState) → job ≡ new_job (work.Download (new_download server number))
+pub download-goes : (lists : Lists) (server : CallSign) (number held : ℕ) → held ≡ length (got_of lists server number) → held ≤ longest_file → (job : JobState) → job ≡ new_job (work.Download (new_download server number))
     → NotesGoWith lists job
 download-goes lists server number held is most job job_is =
     subst (NotesGoWith lists) (sym job_is) (record { fits = omega (arith, is, most); checked = tt })

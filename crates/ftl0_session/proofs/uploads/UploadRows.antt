@@ -11,7 +11,7 @@ use Rattle.ftl0_packets.specs.Layout.{data_end, data_part, ul_nak_resp, upload_c
 use Rattle.file_store.specs.Bars.{Bars}
 use Rattle.file_store.specs.BeginBar.{BeginBar}
 use Rattle.file_store.specs.BeginBar.TheVariants as bar
-use Rattle.file_store.specs.LimitsConstants.{LAST_NEXT, LONGEST_FILE, MOST_ENTRIES}
+use Rattle.file_store.specs.Limits.{last_next, longest_file, most_entries}
 use Rattle.file_store.specs.Command.{MayBegin, can_begin, has_room, passes}
 use Rattle.file_store.specs.Info.{is_complete}
 use Rattle.file_store.specs.IsStore.{IsStore}
@@ -54,13 +54,13 @@ not_fourth : (a b c d : Bool) → a ≡ true → b ≡ true → c ≡ true → d
 not_fourth a b c d ea eb ec ed = rw (ea, eb, ec, ed) refl
 
 module _ (store : Store) (len : ℕ) where
-  short : len ≤ LONGEST_FILE → nat_le len LONGEST_FILE ≡ true
+  short : len ≤ longest_file → nat_le len longest_file ≡ true
   short h = grind (arith, nat_tests)
 
-  few : length store.entries < MOST_ENTRIES → nat_lt (length store.entries) MOST_ENTRIES ≡ true
+  few : length store.entries < most_entries → nat_lt (length store.entries) most_entries ≡ true
   few h = grind (arith, nat_tests)
 
-  left : store.next < LAST_NEXT → nat_lt store.next LAST_NEXT ≡ true
+  left : store.next < last_next → nat_lt store.next last_next ≡ true
   left h = grind (arith, nat_tests)
 
   -- a file may be begun where no cause bars it
@@ -74,16 +74,16 @@ module _ (store : Store) (len : ℕ) where
   -- and not where one does
   pub bars-cannot : (cause : BeginBar) → Bars cause store len → can_begin store len ≡ false
   bars-cannot bar.TooLong h =
-      let past : LONGEST_FILE < len = h in
-      let test : nat_le len LONGEST_FILE ≡ false = grind (arith, nat_tests) in
+      let past : longest_file < len = h in
+      let test : nat_le len longest_file ≡ false = grind (arith, nat_tests) in
       not_first _ _ _ _ test
   bars-cannot bar.TooMany h =
-      let many : MOST_ENTRIES ≤ length store.entries = h.1 in
-      let test : nat_lt (length store.entries) MOST_ENTRIES ≡ false = grind (arith, nat_tests) in
+      let many : most_entries ≤ length store.entries = h.1 in
+      let test : nat_lt (length store.entries) most_entries ≡ false = grind (arith, nat_tests) in
       not_second _ _ _ _ (short h.0) test
   bars-cannot bar.NumbersGone h =
-      let last : store.next ≡ LAST_NEXT = h.2 in
-      let test : nat_lt store.next LAST_NEXT ≡ false = grind (arith, nat_tests) in
+      let last : store.next ≡ last_next = h.2 in
+      let test : nat_lt store.next last_next ≡ false = grind (arith, nat_tests) in
       not_third _ _ _ _ (short h.0) (few h.1) test
   bars-cannot (bar.NoRoom blocks free) h =
       let room : store.blocks - blocks_of store < blocks_for len = h.3 in

@@ -31,7 +31,7 @@ pub(crate) fn read_short_forms<D: Disk>(
 ) -> Result<(), DiskFault>
     requires healthy { store.old.journal.failed ≡ false }
     requires stands_on { StandsOn D.Disk store.old disk.old }
-    requires few { length numbers.now ≤ MOST_LISTED }
+    requires few { length numbers.now ≤ 10 }
     requires complete { AreFiles (store_in store.old) numbers.now }
     ensures forms { OnOk result (forms.new.items
         ≡ flat_map (λ number. short_octets (octets_in (store_in store.old) number)) numbers.now) }
@@ -74,7 +74,7 @@ pub(crate) fn read_spans_of_headers<D: Disk>(
 ) -> Result<Spans, DiskFault>
     requires healthy { store.old.journal.failed ≡ false }
     requires stands_on { StandsOn D.Disk store.old disk.old }
-    requires few { length numbers.now ≤ MOST_LISTED }
+    requires few { length numbers.now ≤ 10 }
     requires complete { AreFiles (store_in store.old) numbers.now }
     ensures spans { IfOk result (λ spans. map due_of spans.items ≡ long_due (store_in store.old) numbers.now) }
     ensures within { OnOk result (AreStored (store_in store.old) (long_due (store_in store.old) numbers.now)) }

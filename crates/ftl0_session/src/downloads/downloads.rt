@@ -13,8 +13,8 @@ ghost use Rattle.selection.specs.Values.{tree_of};
 ghost use Rattle.ftl0_session.specs.Lists.Lists.{left_of};
 ghost use Rattle.ftl0_session.specs.Downloads.Filling.{PutsDue};
 ghost use Rattle.ftl0_session.specs.Downloads.Needs.{AreComplete, AreFiles, IsDueIn, LiesIn};
-ghost use Rattle.ftl0_session.specs.Downloads.Sending.{is_due as is_due_in, is_read, octets_due, state_after};
-ghost use Rattle.ftl0_session.specs.Downloads.Sending.{state_at_end};
+ghost use Rattle.ftl0_session.specs.Downloads.Sending.{is_due as is_due_in, is_read, most_data, octets_due};
+ghost use Rattle.ftl0_session.specs.Downloads.Sending.{state_after, state_at_end};
 ghost use Rattle.ftl0_session.specs.Downloads.Table.{asked_file, directory_row, download_cmd_row, file_of, has_file};
 ghost use Rattle.ftl0_session.specs.Downloads.Table.{listed_files};
 ghost use Rattle.ftl0_session.specs.Downloads.Table.{listing, lists_after, ready, reply_sending, reply_waiting};
@@ -228,8 +228,8 @@ impl Downloads {
         requires stands_on { StandsOn D.Disk store.old disk.old }
         requires due { IsDueIn (store_in store.old) self.old }
         requires empty { part.old.items ≡ [] }
-        ensures octets { OnOk result (part.new.items ≡ front MOST_DATA (octets_due (store_in store.old) self.old)) }
-        ensures state { OnOk result (self.new ≡ state_after MOST_DATA self.old) }
+        ensures octets { OnOk result (part.new.items ≡ front most_data (octets_due (store_in store.old) self.old)) }
+        ensures state { OnOk result (self.new ≡ state_after most_data self.old) }
         ensures some { OnErr result (0 < length (octets_due (store_in store.old) self.old)) }
         ensures read { OnErr result (IsTrue (is_read self.old)) }
         ensures reads { Reads D.Disk (IsErr result) disk.old disk.new }
@@ -370,7 +370,7 @@ impl Downloads {
         requires healthy { store.old.journal.failed ≡ false }
         requires stands_on { StandsOn D.Disk store.old disk.old }
         requires ready { self.old ≡ ready }
-        requires few { length numbers.now ≤ MOST_LISTED }
+        requires few { length numbers.now ≤ 10 }
         requires complete { AreFiles (store_in store.old) numbers.now }
         ensures listing { OnOk result (self.new ≡ listing (due_by form (store_in store.old) numbers.now)) }
         ensures ready { OnErr result (self.new ≡ ready) }

@@ -5,7 +5,7 @@ ghost use Rattle.std.specs.Prelude.{false};
 ghost use Rattle.file_store.specs.Calls.{Reads};
 ghost use Rattle.file_store.specs.State.{StandsOn, store_in};
 ghost use Rattle.ftl0_session.specs.Downloads.Needs.{AreStored, LiesIn};
-ghost use Rattle.ftl0_session.specs.Downloads.Sending.{after_octets, due_len, due_octets, joined, moved};
+ghost use Rattle.ftl0_session.specs.Downloads.Sending.{after_octets, due_len, due_octets, joined, most_data, moved};
 ghost use Rattle.ftl0_session.specs.Downloads.Spans.{due_of};
 
 use arrayvec::ArrayVec;
@@ -45,9 +45,9 @@ impl Span {
         requires stands_on { StandsOn D.Disk store.old disk.old }
         requires within { LiesIn (store_in store.old) self.old.number self.old.place self.old.last }
         ensures octets { OnOk result (part.new.items ≡ part.old.items
-            ++ take (MOST_DATA - length part.old.items) (due_octets (store_in store.old) (due_of self.old))) }
+            ++ take (most_data - length part.old.items) (due_octets (store_in store.old) (due_of self.old))) }
         ensures moved { OnOk result (due_of self.new
-            ≡ moved (min (MOST_DATA - length part.old.items) (due_len (due_of self.old))) (due_of self.old)) }
+            ≡ moved (min (most_data - length part.old.items) (due_len (due_of self.old))) (due_of self.old)) }
         ensures some { OnErr result (0 < due_len (due_of self.old)) }
         ensures reads { Reads D.Disk (IsErr result) disk.old disk.new }
         ensures store { store.new ≡ store.old }
@@ -75,12 +75,12 @@ pub(crate) fn read_spans<D: Disk>(
 ) -> Result<Spans, DiskFault>
     requires healthy { store.old.journal.failed ≡ false }
     requires stands_on { StandsOn D.Disk store.old disk.old }
-    requires few { length spans.now ≤ MOST_LISTED }
+    requires few { length spans.now ≤ 10 }
     requires within { AreStored (store_in store.old) (map due_of spans.now) }
     requires empty { part.old.items ≡ [] }
     ensures octets { OnOk result (part.new.items
-        ≡ take MOST_DATA (joined (store_in store.old) (map due_of spans.now))) }
-    ensures left { IfOk result (λ left. map due_of left.items ≡ after_octets MOST_DATA (map due_of spans.now)) }
+        ≡ take most_data (joined (store_in store.old) (map due_of spans.now))) }
+    ensures left { IfOk result (λ left. map due_of left.items ≡ after_octets most_data (map due_of spans.now)) }
     ensures some { OnErr result (0 < length (joined (store_in store.old) (map due_of spans.now))) }
     ensures reads { Reads D.Disk (IsErr result) disk.old disk.new }
     ensures store { store.new ≡ store.old }
