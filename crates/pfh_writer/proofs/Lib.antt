@@ -11,5 +11,4 @@ mod ShortLemmas
 pub mod StampedLemmas
 mod StepLemmas
 mod SumLemmas
-mod TestLemmas
 mod WholeLemmas
