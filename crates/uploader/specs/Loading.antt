@@ -1,13 +1,14 @@
 -- The file that is sent: what the shelf has under its name, and whether it may be sent.
-use Rattle.std.specs.Prelude.{◌≡◌, ◌↔◌, ℕ, ◌<◌, ◌≤◌, List, length, Option, None, Some, IfSome, Result, Bool, true}
+use Rattle.std.specs.Prelude.{◌≡◌, ◌↔◌, ℕ, ◌<◌, ◌≤◌, List, length, Option, None, Some, IfSome, Result, Ok, Err, Bool, true}
 use Rattle.std.specs.Prelude.{false, IfErr, IsErrOf, MatchResult, ⊤}
 use Rattle.px_base.specs.Outside.{Rose}
-use Rattle.px_base.specs.Shelves.{Holding, content_of}
+use Rattle.px_base.specs.Shelves.{Holding, LoadResult, content_of}
 use Rattle.pfh_reader.specs.Faults.{fault_code}
 use Rattle.sha2.specs.Sha256.{sha256}
 use Rattle.uploader.specs.declared.stop.SendStop.{SendStop}
 use Rattle.uploader.specs.declared.stop.SendStop.TheVariants as stop
 use Rattle.uploader.specs.declared.sum.FileSum.{FileSum}
+use Rattle.uploader.specs.Stops.{stop_of_load}
 
 -- the most octets of a file that is sent
 abbrev pub most_octets : ℕ
@@ -45,6 +46,16 @@ IsUnfit held name why = ⊥
 abbrev pub LoadsBy : Option Holding → List ℕ → Result (List ℕ) SendStop → Type 0
 LoadsBy held name result =
     MatchResult result (λ file. IfSome held (λ shelf. content_of shelf name ≡ Some file)) (IsUnfit held name)
+
+-- a file without a fault, or the stop of its first fault
+abbrev pub checked : List ℕ → Option ℕ → Result (List ℕ) SendStop
+checked file None = Ok file
+checked file (Some code) = Err (stop.BadFile code)
+
+-- what the shelf's answer to a load comes to
+abbrev pub sent_of : LoadResult → Result (List ℕ) SendStop
+sent_of (Ok file) = checked file (fault_code file)
+sent_of (Err refusal) = Err (stop_of_load refusal)
 
 -- whether a stop is by what the shelf has under the name, or by the shelf
 abbrev pub is_of_file : SendStop → Bool

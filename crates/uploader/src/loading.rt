@@ -3,11 +3,11 @@
 ghost use Rattle.std.specs.Prelude.{◌≡◌, ◌≤◌, None, length, IfOk};
 ghost use Rattle.px_base.specs.Shelves.{Holding};
 ghost use Rattle.pfh_reader.specs.Faults.{fault_code};
-ghost use Rattle.uploader.specs.Loading.{HasShelfCause, IsSendable, LoadsBy, most_octets};
+ghost use Rattle.uploader.specs.Loading.{HasShelfCause, IsSendable, LoadsBy, sent_of};
 
 use crate::SendStop;
 use pfh_reader::check;
-use px_base::{FileBytes, Shelf};
+use px_base::{FileBytes, Shelf, ShelfRefusal};
 use std::alloc::Global;
 
 /// The most octets of a file that is sent.
@@ -25,7 +25,15 @@ pub(crate) fn load_file<S: Shelf>(
     ensures held { S.held shelf.new ≡ S.held shelf.old }
     ensures cause { HasShelfCause (S.faults shelf.old) (S.faults shelf.new) result }
 {
-    let file = shelf.load(alloc, name, MOST_OCTETS)?;
+    file_of(shelf.load(alloc, name, MOST_OCTETS))
+}
+
+/// The file that was loaded, where it keeps the rules of file headers, or the stop of its first fault; where none was
+/// loaded, the stop of the shelf's refusal: want of memory exactly where it is that.
+fn file_of(loaded: Result<FileBytes, ShelfRefusal>) -> Result<FileBytes, SendStop>
+    ensures { result ≡ sent_of loaded }
+{
+    let file = loaded?;
     match check(file.as_slice()) {
         Ok(_header) => Ok(file),
         Err(fault) => Err(SendStop::BadFile { code: fault.code }),
