@@ -27,7 +27,7 @@ pub use octets::read_octets;
 pub use script::Script;
 use std::alloc::Global;
 use std::fs;
-use std::io::{Input, Print};
+use std::io::Print;
 use std::rt::Files;
 
 /// What plays rows, one after another.
@@ -36,16 +36,8 @@ pub trait Player {
     fn play(&mut self, alloc: Global, row: &str) -> Result<String>;
 }
 
-/// Plays each row of standard input, and prints what the player gives for it. A line that is no row is printed as it is.
-pub fn play_rows<R: AllocGlobal + Input + Print, P: Player>(rt: &R, player: &mut P) -> Result<()> {
-    for line in rt.lines(rt.alloc()) {
-        play_line(rt, line?.as_str(), player)?;
-    }
-    Ok(())
-}
-
-/// Prints a family's name behind `==`, and then plays each row of the file of that name with `.rows` behind it, as
-/// `play_rows` does those of standard input.
+/// Prints a family's name behind `==`, and then plays each row of the file of that name with `.rows` behind it, and
+/// prints what the player gives for it. A line that is no row is printed as it is. Takes memory.
 pub fn play_family<R: AllocGlobal + Files + Print, P: Player>(
     rt: &R,
     family: &str,
