@@ -18,3 +18,4 @@ mod RunMake
 mod RunRefused
 mod RunServe
 mod RunSession
+mod Starting

@@ -1,13 +1,13 @@
 -- What a start asks its system for, and the number that the process ends with.
-use Rattle.std.specs.Prelude.{◌≡◌, ⊥, ℕ, List, [], ◌∷◌, Option, None, Some, Result, Ok, Err, slice_get}
+use Rattle.std.specs.Prelude.{◌≡◌, ℕ, List, [], ◌∷◌, Option, None, Some, Result, Ok, Err, slice_get}
 use Rattle.command_words.specs.declared.air.AirWord.{AirWord}
 use Rattle.command_words.specs.declared.air.AirWord.TheVariants as air
 use Rattle.command_words.specs.Airs.{IsAirOf}
 use Rattle.px_base.specs.Outside.{Grows}
-use Rattle.pacsat_cli.specs.declared.start.host.HostCall.{HostCall}
-use Rattle.pacsat_cli.specs.declared.start.host.HostCall.TheVariants as call
-use Rattle.pacsat_cli.specs.declared.start.host.WordsRefusal.{WordsRefusal}
-use Rattle.pacsat_cli.specs.declared.start.host.WordsRefusal.TheVariants as refusal
+use Rattle.pacsat_cli.specs.declared.startup.host.HostCall.{HostCall}
+use Rattle.pacsat_cli.specs.declared.startup.host.HostCall.TheVariants as call
+use Rattle.pacsat_cli.specs.declared.startup.host.WordsRefusal.{WordsRefusal}
+use Rattle.pacsat_cli.specs.declared.startup.host.WordsRefusal.TheVariants as refusal
 use Rattle.pacsat_cli.specs.declared.status.Status.{Status}
 use Rattle.pacsat_cli.specs.declared.status.Status.TheVariants as status
 use Rattle.pacsat_cli.specs.Status.{number_of}

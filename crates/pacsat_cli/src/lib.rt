@@ -6,13 +6,13 @@ mod clients;
 mod files;
 mod making;
 mod serving;
-mod start;
+mod startup;
 mod status;
 mod task;
 mod top_call;
 
 pub use command_words::Words;
-pub use start::{Host, HostCall, MemoryHost, NotHeld, WordsRefusal, start};
+pub use startup::{Host, HostCall, MemoryHost, NotHeld, WordsRefusal, start};
 pub use status::{BadStore, RefusedBy, Status};
 pub use top_call::{end_with, run};
 pub use uploader::FileSum;

@@ -4,7 +4,7 @@ ghost use Rattle.std.specs.Prelude.{◌≡◌, ◌∷◌, ◌++◌, [], None, So
 ghost use Rattle.pacsat_cli.specs.Start.{Follows};
 
 use crate::Status;
-use crate::start::host::{Host, HostCall, NotHeld, WordsRefusal};
+use crate::startup::host::{Host, HostCall, NotHeld, WordsRefusal};
 use command_words::Words;
 use px_base::{FileBytes, OutOfMemory};
 use std::alloc::Global;
@@ -24,7 +24,7 @@ pub struct MemoryHost {
 
 impl Model for MemoryHost {
     ghost use Rattle.std.specs.Prelude.{List, None, Option, Some, if◌then◌else◌};
-    ghost use Rattle.pacsat_cli.specs.declared.start.host.HostCall.{HostCall};
+    ghost use Rattle.pacsat_cli.specs.declared.startup.host.HostCall.{HostCall};
 
     ghost Value = { Option (List HostCall) };
 

@@ -1,8 +1,8 @@
 //! The start of a run: what the program asks of its system by its words, and the number that the process ends with.
 
-ghost use Rattle.std.specs.Prelude.{◌≡◌};
-ghost use Rattle.pacsat_cli.specs.declared.start.host.HostCall.{HostCall};
-ghost use Rattle.pacsat_cli.specs.Start.{Begins, Follows, IsRunOf, Starts, status_of_words as words_status};
+ghost use Rattle.std.specs.Prelude.{◌≡◌, slice_get};
+ghost use Rattle.pacsat_cli.specs.declared.startup.host.HostCall.{HostCall};
+ghost use Rattle.pacsat_cli.specs.Start.{Begins, Follows, IsRunOf, Starts, status_of_words as words_status, word_or_empty};
 ghost use Rattle.pacsat_cli.specs.Status.{number_of};
 
 mod host;
@@ -42,13 +42,21 @@ fn end_with<H: Host>(host: &mut H, status: Status) -> u8
 fn run_by<H: Host>(host: &mut H, words: &Words) -> Status
     ensures { (call : HostCall) × Follows (H.calls host.old) (H.calls host.new) call × IsRunOf words.now result call }
 {
-    let disk = words.get(0).unwrap_or("");
-    let air = words.get(1).unwrap_or("");
+    let disk = word_at(words, 0);
+    let air = word_at(words, 1);
     match read_air(air) {
         Some(AirWord::HostPort) => host.run_over_connection(words, disk, air),
         Some(AirWord::Standard) => host.run_over_streams(words, disk),
-        Some(AirWord::Nothing) | None => host.run_without_air(words, disk),
+        Some(AirWord::Nothing) => host.run_without_air(words, disk),
+        None => host.run_without_air(words, disk),
     }
+}
+
+/// The word at this place, counted from 0, or an empty one where there is none.
+fn word_at(words: &Words, place: usize) -> &str
+    ensures { result.now ≡ word_or_empty (slice_get words.now place) }
+{
+    words.get(place).unwrap_or("")
 }
 
 /// The status of a run that has no words for this reason.

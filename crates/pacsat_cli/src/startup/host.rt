@@ -1,7 +1,7 @@
 //! The system that a run is on.
 
 ghost use Rattle.std.specs.Prelude.{List, Option};
-ghost use Rattle.pacsat_cli.specs.declared.start.host.HostCall.{HostCall};
+ghost use Rattle.pacsat_cli.specs.declared.startup.host.HostCall.{HostCall};
 ghost use Rattle.pacsat_cli.specs.Start.{Follows};
 
 use crate::Status;
