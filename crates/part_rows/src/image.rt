@@ -1,5 +1,5 @@
-//! Rows of disks, each in hexadecimal: a store of 8 blocks is recovered from its octets, and the files that it holds are
-//! printed, or why the octets are none.
+//! Rows of disks, each in hexadecimal: a store of 8 blocks is recovered from its octets, and the files that it holds
+//! are printed, or why the octets are none.
 
 use anyhow::Result;
 use disk_model::MemoryDisk;
@@ -27,8 +27,8 @@ fn recovered(alloc: Global, row: &str) -> Result<String> {
     }
 }
 
-/// The first three entries of a store: the number, how many octets are held of how many, and whether the file is complete.
-/// Takes memory.
+/// The first three entries of a store: the number, how many octets are held of how many, and whether the file is
+/// complete. Takes memory.
 fn shown(alloc: Global, store: &FileStore) -> Result<String> {
     let mut text = String::from_str(alloc, "store")?;
     for number in 1..4u32 {

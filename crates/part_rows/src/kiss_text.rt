@@ -1,7 +1,7 @@
 //! Rows of KISS text both ways.
 //!
-//! - `read OCTETS`: the parts of the text, read whole and in pieces of 1, 2, 7 and 1,000 octets: `frame` and its octets,
-//!   `dropped` or `passed`.
+//! - `read OCTETS`: the parts of the text, read whole and in pieces of 1, 2, 7 and 1,000 octets: `frame` and its
+//!   octets, `dropped` or `passed`.
 //! - `write OCTETS`: the text of a frame; or why there is none, and what stands then where the last one was written.
 
 use crate::parts::{Parts, octets_text};

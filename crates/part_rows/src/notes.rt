@@ -1,4 +1,5 @@
-//! Rows of a client's notes over a disk in memory. A row's parts are parted by `|`; the first begins with the row's kind.
+//! Rows of a client's notes over a disk in memory. A row's parts are parted by `|`; the first begins with the row's
+//! kind.
 //!
 //! - `play OCTETS | CALLS`: notes are recovered from a disk with these octets, and the calls are made on them. `notes`
 //!   and what each call answers are printed, parted by `;`; or why there are no notes.

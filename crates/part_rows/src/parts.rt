@@ -45,8 +45,8 @@ pub fn answer_text<E: Display + Drop>(alloc: Global, answer: Result<(), E>) -> R
     }
 }
 
-/// Octets in hexadecimal, `''` where there are none. Where more than 32 at the end are alike, they are one word, with how
-/// often it stands behind `*`. Takes memory.
+/// Octets in hexadecimal, `''` where there are none. Where more than 32 at the end are alike, they are one word, with
+/// how often it stands behind `*`. Takes memory.
 pub fn octets_text(alloc: Global, octets: &[u8]) -> Result<String> {
     let Some(last) = octets.last() else {
         return Ok(String::from_str(alloc, "''")?);

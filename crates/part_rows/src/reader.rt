@@ -1,13 +1,14 @@
 //! Rows of the check of files.
 //!
-//! Each row has a file's octets. They are checked as a whole, and in pieces of each length from 1 to 88 octets, which must
-//! find the same: the sums of a file without fault, and its body; or the first rule that it breaks.
+//! Each row has a file's octets, `''` where there are none. They are checked as a whole, and in pieces of each length
+//! from 1 to 88 octets, which must find the same: the sums of a file without fault, and its body; or the first rule
+//! that it breaks.
 
 use crate::parts::octets_text;
 use crate::pieces::cut;
 use anyhow::{Result, ensure};
 use pfh_reader::{HeaderFault, Sums, check, check_pieces};
-use row_words::{Player, read_octets};
+use row_words::{Player, read_octets, written};
 use std::alloc::Global;
 
 /// More octets than a file may have.
@@ -19,7 +20,7 @@ pub struct ReaderRows;
 
 impl Player for ReaderRows {
     fn play(&mut self, alloc: Global, row: &str) -> Result<String> {
-        let file = read_octets(alloc, row)?;
+        let file = read_octets(alloc, written(row))?;
         let text = sums_text(
             alloc,
             file.as_slice(),

@@ -2,9 +2,9 @@
 //!
 //! A row `header` and octets in hexadecimal is one header more: its place, counted from 0, is printed, or `no header`
 //! where the octets aren't one. A row `select` and tokens in hexadecimal is a selection: a digit is printed for each
-//! header so far, 1 where it holds of it and else 0, and then the tokens that it writes; or the tokens' first fault. A row
-//! `holds`, tokens, and the octets of a header that isn't kept says whether a selection holds of it, and a row `fault` and
-//! tokens has the text of their fault, or `none`.
+//! header so far, 1 where it holds of it and else 0, and then the tokens that it writes; or the tokens' first fault. A
+//! row `holds`, tokens, and the octets of a header that isn't kept says whether a selection holds of it, and a row
+//! `fault` and tokens has the text of their fault, or `none`.
 
 use anyhow::{Context, Result, bail, ensure};
 use arrayvec::ArrayVec;

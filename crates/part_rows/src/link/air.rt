@@ -41,8 +41,8 @@ pub fn play(alloc: Global, numbers: &str) -> Result<String> {
 }
 
 impl Air {
-    /// Two new links with this window, and an air that delivers frames late while at most 7 - k + `late` later ones have
-    /// been sent.
+    /// Two new links with this window, and an air that delivers frames late while at most 7 - k + `late` later ones
+    /// have been sent.
     fn new(alloc: Global, draws: Draws, k: u8, late: usize) -> Result<Air>
         requires { IsGoodK k }
     {
@@ -107,8 +107,8 @@ impl Air {
         }
     }
 
-    /// A frame of a station is delivered or lost: in two of twelve cases one of the newest, once more or late; in one the
-    /// next one is lost; else the next one is delivered.
+    /// A frame of a station is delivered or lost: in two of twelve cases one of the newest, once more or late; in one
+    /// the next one is lost; else the next one is delivered.
     fn carry(&mut self, is_caller: bool) -> Result<()> {
         let how = self.draws.below(12);
         let back = if how <= 1 {

@@ -1,6 +1,6 @@
 //! Rows of files that are stamped.
 
-ghost use Rattle.std.specs.Prelude.{◌≡◌, ◌<◌, ◌≤◌, length, flat_map, IfOk};
+ghost use Rattle.std.specs.Prelude.{◌<◌, IfOk};
 ghost use Rattle.pfh_reader.specs.Check.{HasSums};
 ghost use Rattle.pfh_writer.specs.Given.{IsFaultlessFile, IsStampedSum};
 
@@ -9,7 +9,7 @@ use crate::pieces::{cut, cut_octets};
 use anyhow::{Context, Result, bail, ensure};
 use pfh_reader::{HeaderFault, Sums, check_pieces};
 use pfh_writer::{stamp, stamp_pieces, stamped_sum};
-use px_base::{Call, OutOfMemory};
+use px_base::Call;
 use row_words::read_octets;
 use std::alloc::Global;
 
@@ -17,7 +17,6 @@ use std::alloc::Global;
 const TOO_MANY: usize = 4_194_305;
 
 /// What a file is stamped with.
-#[derive(Clone, Copy)]
 struct With {
     number: u32,
     by: Call,
@@ -28,9 +27,9 @@ struct With {
 pub fn stamp_row(alloc: Global, row: &str) -> Result<String> {
     let (with, file) = row.split_once('|').context("no file")?;
     let with = read_with(alloc, with)?;
-    let file = read_octets(alloc, file)?;
+    let mut file = read_octets(alloc, file)?;
     match sums_of(alloc, file.as_slice())? {
-        Ok(sums) => stamped_text(alloc, file, &sums, with),
+        Ok(sums) => stamped_text(alloc, file.as_mut_slice(), &sums, &with),
         Err(fault) => Ok(format!(in alloc; "{fault}")?),
     }
 }
@@ -57,43 +56,48 @@ fn sums_of(alloc: Global, file: &[u8]) -> Result<Result<Sums, HeaderFault>>
 }
 
 /// The file, stamped.
-fn stamped_text(alloc: Global, mut file: Vec<u8>, sums: &Sums, with: With) -> Result<String>
-    requires { HasSums file.items sums.now }
+fn stamped_text(alloc: Global, file: &mut [u8], sums: &Sums, with: &With) -> Result<String>
+    requires { HasSums file.old sums.now }
 {
-    let sum = sum_with(file.as_slice(), sums, with);
-    let first = stamped_in_pieces(alloc, file.as_slice(), 1, with, sum)?;
+    let pieces = stamped_in_pieces(alloc, file, sums, with)?;
+    stamp(file, with.number, with.by, with.moment);
+    let whole = octets_text(alloc, file)?;
+    ensure!(whole.as_str() == pieces.as_str(), "in pieces: {pieces}");
+    Ok(whole)
+}
+
+/// The file, stamped in pieces of each length.
+fn stamped_in_pieces(alloc: Global, file: &[u8], sums: &Sums, with: &With) -> Result<String>
+    requires { HasSums file.now sums.now }
+{
+    let sum = sum_with(file, sums, with);
+    let first = stamped_cut(alloc, file, 1, with, sum)?;
     for len in 2..132 {
-        let other = stamped_in_pieces(alloc, file.as_slice(), len, with, sum)?;
+        let other = stamped_cut(alloc, file, len, with, sum)?;
         ensure!(
-            other.as_slice() == first.as_slice(),
-            "in pieces of {len} octets"
+            other.as_str() == first.as_str(),
+            "in pieces of {len}: {other}"
         );
     }
-    stamp(file.as_mut_slice(), with.number, with.by, with.moment);
-    ensure!(file.as_slice() == first.as_slice(), "in pieces");
-    octets_text(alloc, file.as_slice())
+    Ok(first)
 }
 
 /// The sum of a file's header, once it is stamped.
-fn sum_with(file: &[u8], sums: &Sums, with: With) -> u16
+fn sum_with(file: &[u8], sums: &Sums, with: &With) -> u16
     requires { HasSums file.now sums.now }
-    ensures { IsStampedSum (record { number = with.number; by = with.by; moment = with.moment }) file.now result }
+    ensures { IsStampedSum (record { number = with.now.number; by = with.now.by; moment = with.now.moment })
+        file.now result }
 {
     let (header, _) = file.split_at(sums.header_len as usize);
     stamped_sum(sums, header, with.number, with.by, with.moment)
 }
 
-/// The octets of a file that is stamped in pieces of a length.
-fn stamped_in_pieces(
-    alloc: Global,
-    file: &[u8],
-    len: usize,
-    with: With,
-    sum: u16,
-) -> Result<Vec<u8>, OutOfMemory>
+/// The file, stamped in pieces of a length.
+fn stamped_cut(alloc: Global, file: &[u8], len: usize, with: &With, sum: u16) -> Result<String>
     requires some { 0 < len }
     requires faultless { IsFaultlessFile file.now }
-    requires sum { IsStampedSum (record { number = with.number; by = with.by; moment = with.moment }) file.now sum }
+    requires sum { IsStampedSum (record { number = with.now.number; by = with.now.by; moment = with.now.moment })
+        file.now sum }
 {
     let mut pieces = cut_octets(alloc, file, len)?;
     stamp_pieces(
@@ -107,5 +111,5 @@ fn stamped_in_pieces(
     for piece in pieces.iter() {
         joined.extend_from_slice(piece.as_slice())?;
     }
-    Ok(joined)
+    octets_text(alloc, joined.as_slice())
 }
