@@ -3,11 +3,10 @@
 ghost use Rattle.std.specs.Prelude.{◌≡◌, ◌↔◌, None};
 ghost use Rattle.std.specs.declared.io.ErrorKind.TheVariants as reason;
 
-use disk_devices::FileDisk;
 use pacsat_cli::{Host, NotHeld, Status, Words, WordsRefusal, end_with, run};
 use px_base::{Air, Out};
 use real_outside::{
-    FolderShelf, NullFile, StandardStreams, StdAir, StdOut, SystemClock, hold_standard_streams,
+    FileDisk, FolderShelf, NullFile, StandardStreams, StdAir, StdOut, SystemClock, hold_standard_streams,
 };
 use std::env;
 use std::fs::File;

@@ -6,7 +6,7 @@ use Rattle.std.specs.declared.io.Error.{Error}
 use Rattle.std.proofs.lemmas.List.{length-take, take_all}
 use Rattle.std.proofs.lemmas.Bool.Decides.{nat_tests}
 use Rattle.px_base.specs.declared.shelf.ShelfRefusal.TheVariants as refusal
-use Rattle.real_outside.specs.Folder.{IsReadingAnswer}
+use Rattle.real_outside.specs.Shelf.Folder.{IsReadingAnswer}
 use Rattle.px_base.specs.Shelves.{AnswersOfAll, LoadResult, load_answer}
 
 -- Where one octet more than may come was asked for, what came is answered as all there is.

@@ -2,8 +2,10 @@ pub mod CallRecords
 pub mod Calls
 pub mod Clocks
 pub mod Descriptors
-pub mod Folder
+pub mod Disk
+pub mod Files
 pub mod Scripts
+pub mod Shelf
 pub mod StreamCalls
 pub mod Streams
 pub mod Systems

@@ -1,13 +1,15 @@
-//! The real outside of the program: standard streams as an air and as an output, the working folder as a shelf, the system's
-//! clock.
+//! The real outside of the program: a file as a disk, the working folder as a shelf, standard streams as an
+//! air and as an output, the system's clock.
 #![tactic(auto)]
 
 mod call_record;
 mod descriptors;
-mod folder_shelf;
+mod disk;
+mod files;
 mod memory_stream;
 mod memory_time;
 mod script;
+mod shelf;
 mod std_air;
 mod std_out;
 mod stream;
@@ -19,10 +21,15 @@ mod writing;
 
 pub use call_record::CallRecord;
 pub use descriptors::{MemoryNull, NullDevice, NullFile, StandardStreams, hold_standard_streams};
-pub use folder_shelf::FolderShelf;
+pub use disk::{
+    Device, DeviceCall, DeviceDisk, DeviceDown, FileDevice, FileDisk, MemoryDevice,
+    laws as disk_laws,
+};
+pub use files::{FileCall, FileSystem, Found, MemoryFiles, RealFiles};
 pub use memory_stream::MemoryStream;
 pub use memory_time::MemoryTime;
 pub use script::{MemoryAnswer, Script};
+pub use shelf::FolderShelf;
 pub use std_air::StdAir;
 pub use std_out::StdOut;
 pub use stream::{InputStream, OutputStream, StreamCall};

@@ -1,6 +1,6 @@
 //! Tests of what no clause says: each form once, over a real file, stream or clock.
 
-use crate::folder_shelf::read_whole;
+use crate::shelf::read_whole;
 use crate::{FolderShelf, StdAir, StdOut, SystemClock};
 use px_base::{
     Air, AirDown, Clock, FileBytes, Out, OutDown, Polled, Shelf, ShelfDown, ShelfRefusal,

@@ -1,5 +1,0 @@
-use Rattle.disk_devices.proofs.Short.{torn_write}
-use Rattle.disk_devices.proofs.laws.cut_writes_law.Goals as goal
-
-pub returns : goal.returns
-returns c octets written at calls done run = torn_write octets written at calls done run

@@ -1,5 +1,0 @@
-use Rattle.disk_devices.proofs.Short.{one_write}
-use Rattle.disk_devices.proofs.laws.short_writes_law.Goals as goal
-
-pub returns : goal.returns
-returns c octets written at calls some run = one_write octets written at calls some run

@@ -1,4 +1,0 @@
-pub mod DeviceLaws
-pub mod Devices
-pub mod Files
-pub mod MemoryDevices

@@ -1,0 +1,155 @@
+//! The real files.
+
+ghost use Rattle.std.specs.Prelude.{◌≡◌, None, IfOk, IfErr};
+ghost use Rattle.real_outside.specs.Systems.{system_error};
+
+use super::file_call::Found;
+use super::file_system::FileSystem;
+use crate::system_error::{SystemError, system_answer};
+use std::alloc::Global;
+use std::fs::{self, File, Metadata, OpenOptions, Permissions, TryLockError};
+use std::io::{self, ErrorKind, Seek, SeekFrom};
+use std::os::unix::fs::{FileExt, PermissionsExt};
+use std::rt::Files;
+
+/// The number under which the system has the limit on the sizes of files.
+const LIMIT_ON_SIZES: i32 = 1;
+
+/// The files of the system. They tell none of their calls. The limit on the sizes of files is asked for once.
+#[derive(Drop)]
+pub struct RealFiles<'a, R> {
+    files: &'a R,
+    limit: u64,
+}
+
+impl<'a, R: Files<File = File>> RealFiles<'a, R> {
+    /// These files. Takes no memory.
+    pub fn new(files: &'a R) -> RealFiles<'a, R> {
+        RealFiles {
+            files,
+            limit: limit_on_sizes(),
+        }
+    }
+}
+
+impl<'a, R: Files<File = File>> FileSystem for RealFiles<'a, R> {
+    type File = File;
+
+    type Reader = File;
+
+    ghost calls = { λ _. None };
+
+    ghost number = { λ _. 0 };
+
+    fn limit(&mut self) -> u64 {
+        self.limit
+    }
+
+    fn open(&mut self, path: &str) -> Result<File, SystemError> {
+        system_answer(for_both().open(self.files, path))
+    }
+
+    fn lock(&mut self, file: &File) -> Result<(), SystemError> {
+        lock_answer(file.try_lock())
+    }
+
+    fn length(&mut self, file: &File) -> Result<u64, SystemError> {
+        let mut file = file;
+        system_answer(file.seek(SeekFrom::End(0)))
+    }
+
+    fn read_at(&mut self, file: &File, at: u64, room: &mut [u8]) -> Result<usize, SystemError> {
+        system_answer(file.read_at(room, at))
+    }
+
+    fn write_at(&mut self, file: &File, at: u64, bytes: &[u8]) -> Result<usize, SystemError> {
+        system_answer(file.write_at(bytes, at))
+    }
+
+    fn cut(&mut self, file: &File) -> Result<(), SystemError> {
+        system_answer(file.set_len(0))
+    }
+
+    fn set_mode(&mut self, file: &File, mode: u32) -> Result<(), SystemError> {
+        system_answer(file.set_permissions(Permissions::from_mode(mode)))
+    }
+
+    fn sync(&mut self, file: &File) -> Result<(), SystemError> {
+        system_answer(file.sync_all())
+    }
+
+    fn sync_folder(&mut self, path: &str) -> Result<(), SystemError> {
+        system_answer(sync_folder(self.files, path))
+    }
+
+    fn look(&mut self, path: &str) -> Result<Found, SystemError> {
+        found_answer(fs::symlink_metadata(self.files, path))
+    }
+
+    fn resolve(&mut self, alloc: Global, path: &str) -> Result<String, SystemError> {
+        let path = system_answer(self.files.canonicalize(alloc, path))?;
+        Ok(path.into_string())
+    }
+
+    fn rename(&mut self, from: &str, to: &str) -> Result<(), SystemError> {
+        system_answer(fs::rename(self.files, from, to))
+    }
+
+    fn remove(&mut self, path: &str) -> Result<(), SystemError> {
+        system_answer(fs::remove_file(self.files, path))
+    }
+
+    fn pour(&mut self, path: &str, bytes: &[u8]) -> Result<(), SystemError> {
+        system_answer(fs::write(self.files, path, bytes))
+    }
+
+    fn open_to_read(&mut self, path: &str) -> Result<File, SystemError> {
+        system_answer(File::open(self.files, path))
+    }
+}
+
+/// For reading and writing, and made where nothing is.
+fn for_both() -> OpenOptions {
+    let mut options = OpenOptions::new();
+    options.read(true).write(true).create(true);
+    options
+}
+
+/// Syncs this folder.
+fn sync_folder<R: Files<File = File>>(files: &R, path: &str) -> io::Result<()> {
+    File::open(files, path)?.sync_all()
+}
+
+/// What asking for a lock comes to: one that another holds would have to be waited for.
+fn lock_answer(locked: Result<(), TryLockError>) -> Result<(), SystemError> {
+    match locked {
+        Ok(()) => Ok(()),
+        Err(TryLockError::WouldBlock) => Err(SystemError::from(ErrorKind::WouldBlock)),
+        Err(TryLockError::Error(error)) => Err(SystemError::from(error)),
+    }
+}
+
+/// What stands where the system answers so: nothing exactly where it says that nothing is there.
+fn found_answer(found: io::Result<Metadata>) -> Result<Found, SystemError> {
+    match system_answer(found) {
+        Ok(found) if found.is_file() => Ok(Found::File {
+            mode: found.permissions().mode(),
+        }),
+        Ok(found) if found.is_symlink() => Ok(Found::Link),
+        Ok(_) => Ok(Found::Other),
+        Err(error) if error.kind == ErrorKind::NotFound => Ok(Found::Nothing),
+        Err(error) => Err(error),
+    }
+}
+
+/// The limit on the sizes of files; the last number, where there is none, or it can't be asked for.
+fn limit_on_sizes() -> u64 {
+    let mut limits = libc::types::rlimit {
+        rlim_cur: u64::MAX,
+        rlim_max: u64::MAX,
+    };
+    if libc::getrlimit(LIMIT_ON_SIZES, &mut limits) < 0 {
+        return u64::MAX;
+    }
+    limits.rlim_cur
+}
