@@ -17,6 +17,7 @@ use std::alloc::Global;
 const TOO_MANY: usize = 4_194_305;
 
 /// What a file is stamped with.
+#[derive(Drop)]
 struct With {
     number: u32,
     by: Call,
