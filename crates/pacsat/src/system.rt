@@ -6,12 +6,12 @@ ghost use Rattle.std.specs.declared.io.ErrorKind.TheVariants as reason;
 use pacsat_cli::{Host, NotHeld, Status, Words, WordsRefusal, end_with, run};
 use px_base::{Air, Out};
 use real_outside::{
-    FileDisk, FolderShelf, NullFile, StandardStreams, StdAir, StdOut, SystemClock, hold_standard_streams,
+    FileDisk, FolderShelf, NullFile, StandardStreams, StdAir, StdOut, SystemClock, TcpAir,
+    hold_standard_streams,
 };
 use std::env;
 use std::fs::File;
 use std::io::ErrorKind;
-use tcp_air::TcpAir;
 
 /// The system that the program runs on. It tells none of its calls.
 #[derive(Drop)]

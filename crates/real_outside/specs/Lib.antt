@@ -9,3 +9,4 @@ pub mod Shelf
 pub mod StreamCalls
 pub mod Streams
 pub mod Systems
+pub mod Tcp

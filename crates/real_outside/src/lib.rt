@@ -1,5 +1,6 @@
-//! The real outside of the program: a file as a disk, the working folder as a shelf, standard streams as an
-//! air and as an output, the system's clock.
+//! The real outside of the program: a file as a disk, the working folder as a shelf, a TCP connection as an air, standard
+//! streams as an air and as an output, the system's clock, the standard descriptors. Each stands on a small trait of the
+//! calls that it makes, which a form in memory tells.
 #![tactic(auto)]
 
 mod call_record;
@@ -16,6 +17,7 @@ mod stream;
 mod system_clock;
 mod system_error;
 mod system_stream;
+mod tcp;
 mod time_source;
 mod writing;
 
@@ -36,6 +38,10 @@ pub use stream::{InputStream, OutputStream, StreamCall};
 pub use system_clock::SystemClock;
 pub use system_error::{SystemError, system_answer};
 pub use system_stream::SystemStream;
+pub use tcp::{
+    Connection, ConnectionAir, ConnectionCall, MemoryConnection, TcpAir, TcpConnection,
+    laws as tcp_laws,
+};
 pub use time_source::{SystemTime, TimeSource};
 
 #[cfg(test)]

@@ -1,0 +1,13 @@
+-- What reaches a connection, step by step.
+use Rattle.std.proofs.Common.{List, Option, refl}
+use Rattle.real_outside.specs.CallRecords.{Asks}
+use Rattle.real_outside.proofs.Asked.{asks_then}
+use Rattle.real_outside.specs.Tcp.Connections.{Then}
+use Rattle.real_outside.specs.declared.tcp.connection.ConnectionCall.{ConnectionCall}
+
+-- some calls have, and then others, said as one
+pub asks_both :
+    (P Q : List ConnectionCall → Type 0) (was between now : Option (List ConnectionCall))
+    → Asks was between P → Asks between now Q → Asks was now (Then P Q)
+asks_both P Q was between now first later =
+    asks_then P Q (Then P Q) was between now (λ xs ys p q. (xs, ys, refl, p, q)) first later

@@ -1,0 +1,120 @@
+//! A real TCP connection to a modem, and the air over it.
+
+ghost use Rattle.std.specs.Prelude.{◌≡◌, ◌≤◌, None, length, IfOk};
+ghost use Rattle.std.specs.Io.KnownBytes.{Keeps, ReadConsumes, WriteAppends};
+ghost use Rattle.real_outside.specs.Tcp.Connections.{told_of};
+
+use crate::tcp::connection::Connection;
+use crate::tcp::connection_air::{ConnectionAir, Stage};
+use crate::{SystemError, system_answer};
+use std::io::{ErrorKind, Read, Write};
+use std::net::{Net, OpenStream, TcpStream};
+use std::time::Duration;
+
+/// The air of a modem at a host and port: an air over a TCP connection to it. Takes no memory.
+pub type TcpAir<'a, R> = ConnectionAir<TcpConnection<'a, R, TcpStream>>;
+
+impl<'a, R: Net<Stream = TcpStream>> ConnectionAir<TcpConnection<'a, R, TcpStream>> {
+    /// The air of the modem at this address, a host and a port with a colon between them, to which no connection is made
+    /// yet. Takes no memory.
+    pub fn new(net: &'a R, address: &'a str) -> TcpAir<'a, R>
+        ensures stage { result.stage ≡ Stage.Unmade }
+        ensures read_faults { result.read_faults ≡ 0 }
+        ensures write_faults { result.write_faults ≡ 0 }
+    {
+        ConnectionAir::over(TcpConnection::new(net, address))
+    }
+}
+
+/// A TCP connection to a host and port, which has a stream once it was made. It tells none of its calls. Takes no memory.
+#[derive(Drop)]
+pub struct TcpConnection<'a, R, S> {
+    net: &'a R,
+    address: &'a str,
+    stream: Option<S>,
+}
+
+impl<'a, R, S> TcpConnection<'a, R, S> {
+    /// A connection to this address, a host and a port with a colon between them, which isn't made yet. Takes no memory.
+    pub fn new(net: &'a R, address: &'a str) -> TcpConnection<'a, R, S>
+        ensures { result.stream ≡ None }
+    {
+        TcpConnection {
+            net,
+            address,
+            stream: None,
+        }
+    }
+
+    /// The stream, once the connection was made.
+    pub(crate) fn stream(&self) -> Option<&S> {
+        self.stream.as_ref()
+    }
+}
+
+impl<'a, R: Net<Stream = S>, S: Read + Write + OpenStream + Drop> Connection
+    for TcpConnection<'a, R, S> {
+    ghost calls = { λ _. None };
+
+    /// Connects to the first address of the host that answers.
+    fn connect(&mut self) -> Result<(), SystemError> {
+        self.stream = Some(system_answer(TcpStream::connect(self.net, self.address))?);
+        Ok(())
+    }
+
+    /// Sets the stream's option.
+    fn set_no_delay(&mut self) -> Result<(), SystemError> {
+        match &self.stream {
+            Some(stream) => system_answer(stream.set_nodelay(true)),
+            None => Err(not_made()),
+        }
+    }
+
+    /// Sets the stream's limit of time for reads; one of 0 milliseconds fails.
+    fn set_read_limit(&mut self, milliseconds: u64) -> Result<(), SystemError> {
+        let limit = Some(Duration::from_millis(milliseconds));
+        match &self.stream {
+            Some(stream) => system_answer(stream.set_read_timeout(limit)),
+            None => Err(not_made()),
+        }
+    }
+
+    /// Reads the stream once.
+    fn read(&mut self, room: &mut [u8]) -> Result<usize, SystemError>
+        ensures count { IfOk result (λ count. count ≤ length room.old) }
+        ensures octets { ReadConsumes (told_of S.remaining self.old.stream) (told_of S.remaining self.new.stream)
+            result room.new }
+    {
+        match &mut self.stream {
+            Some(stream) => system_answer(stream.read(room)),
+            None => Err(not_made()),
+        }
+    }
+
+    /// Writes to the stream once.
+    fn write(&mut self, bytes: &[u8]) -> Result<usize, SystemError>
+        ensures count { IfOk result (λ count. count ≤ length bytes.now) }
+        ensures octets { WriteAppends (told_of S.contents self.old.stream) (told_of S.contents self.new.stream)
+            result bytes.now }
+    {
+        match &mut self.stream {
+            Some(stream) => system_answer(stream.write(bytes)),
+            None => Err(not_made()),
+        }
+    }
+
+    /// Flushes the stream, which holds nothing back.
+    fn flush(&mut self) -> Result<(), SystemError>
+        ensures octets { Keeps (told_of S.contents self.old.stream) (told_of S.contents self.new.stream) }
+    {
+        match &mut self.stream {
+            Some(stream) => system_answer(stream.flush()),
+            None => Err(not_made()),
+        }
+    }
+}
+
+/// The error of a call of a connection that isn't made.
+fn not_made() -> SystemError {
+    SystemError::from(ErrorKind::NotConnected)
+}
