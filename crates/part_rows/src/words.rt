@@ -10,6 +10,9 @@ use anyhow::{Result, bail};
 use row_words::{Player, is_row, read_numbers, read_words, written};
 use std::alloc::Global;
 
+/// The most words of a row that are shown.
+const MOST_WORDS: usize = 1_000;
+
 /// Plays rows of words, each on its own.
 #[derive(Drop)]
 pub struct WordRows;
@@ -34,10 +37,11 @@ impl Player for WordRows {
 fn words(alloc: Global, text: &str) -> Result<String> {
     let words = read_words(alloc, text)?;
     let mut parts = Parts::new(alloc);
-    let mut place = 0usize;
-    while let Some(word) = words.get(place) {
+    for place in 0..MOST_WORDS {
+        let Some(word) = words.get(place) else {
+            break;
+        };
         parts.put(octets_text(alloc, word.as_bytes())?.as_str())?;
-        place = place.saturating_add(1);
     }
     Ok(parts.end())
 }

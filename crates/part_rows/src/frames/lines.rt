@@ -27,14 +27,14 @@ pub fn show(alloc: Global, row: &str) -> Result<String> {
 /// Puts a part for each run of alike lines: how many they are, and the line.
 fn put_lines(alloc: Global, parts: &mut Parts, text: &str) -> Result<()> {
     let mut count = 0u32;
-    let mut last = "";
+    let mut last = String::new(alloc);
     for line in text.lines() {
-        if count > 0 && line != last {
+        if count > 0 && line != last.as_str() {
             parts.put(format!(in alloc; "{count} {last}")?.as_str())?;
             count = 0;
         }
         count = count.saturating_add(1);
-        last = line;
+        last = String::from_str(alloc, line)?;
     }
     if count > 0 {
         parts.put(format!(in alloc; "{count} {last}")?.as_str())?;
