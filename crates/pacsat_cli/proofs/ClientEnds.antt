@@ -34,7 +34,7 @@ use Rattle.command_words.specs.Words.{AsksClient, AsksFetch, AsksList, AsksSend}
 use Rattle.pacsat_cli.specs.declared.status.Status.{Status}
 use Rattle.pacsat_cli.specs.declared.status.Status.TheVariants as status
 use Rattle.pacsat_cli.specs.Clients.{Closes, FetchRan, ListRan, SendRan, acked_line, fetched_line}
-use Rattle.pacsat_cli.specs.Run.{HasShelfCause}
+use Rattle.pacsat_cli.specs.Run.{HasStatusCause}
 use Rattle.pacsat_cli.specs.Sessions.{HasDiskCause, HasReadCause, HasWriteCause, MayPassOver, RefusesExactly, is_of_file, may_have_outcome}
 use Rattle.pacsat_cli.specs.Stops.{status_of_end, status_of_stop}
 use Rattle.pacsat_cli.proofs.ClientStops.{AirBy, StatusBy, air-along, air-carried, air-free, air-stayed, client-status, done-ok, fault-carried, fault-not_air, is_carried, is_client_status, is_of_air, is_out, node-carried, past-file, start-not_air, start-not_out, stop-back, stop_of_status, stopped-by}
@@ -375,10 +375,10 @@ module _ {A C D T : Type 0} (g : Ghosts D) (air : AirGhosts A) (old new : Settin
       exact-told content (h (λ failed. disk_not (is.stopped stop.Disk failed)) (λ none. memory_not (is.stopped stop.OutOfMemory none)))
 
   -- the shelf
-  pub client-shelf : (before now : ℕ) → (IsErrOf ended stop.Shelf → Rose before now) → (¬ IsErrOf ended stop.Shelf → ¬ IsErrOf ended stop.OutOfMemory → now ≡ before) → HasShelfCause before now s
+  pub client-shelf : (before now : ℕ) → (IsErrOf ended stop.Shelf → Rose before now) → (¬ IsErrOf ended stop.Shelf → now ≡ before) → HasStatusCause status.Shelf before now s
   client-shelf before now rose same = record {
     rose = λ e. rose (stopped-by ended s is stop.Shelf refl e);
-    same = λ isnt memory_not. same (λ failed. isnt (is.stopped stop.Shelf failed)) (λ none. memory_not (is.stopped stop.OutOfMemory none));
+    same = λ isnt. same (λ failed. isnt (is.stopped stop.Shelf failed));
   }
 
 -- What a client's command did to its counts, its disk's content and its output.
@@ -387,7 +387,7 @@ pub record ClientDid {A C D S O : Type 0} (g : Ghosts D) (air : AirGhosts A) (sh
   pub read : HasReadCause words (air.read_faults old.air) (air.read_faults new.air) s
   pub write : HasWriteCause words (air.write_faults old.air) (air.write_faults new.air) s
   pub disk : HasDiskCause words g.read_faults g.write_faults old.disk new.disk old.air new.air s
-  pub of_shelf : HasShelfCause (sh.faults shelf) (sh.faults shelf_now) s
+  pub of_shelf : HasStatusCause status.Shelf (sh.faults shelf) (sh.faults shelf_now) s
   pub exact : (s ≡ status.Disk → ⊥) → (s ≡ status.OutOfMemory → ⊥) → (AsksSend words → IsTrue (is_of_file s) → ⊥) → IfSome (g.content old.disk) (λ octets. RefusesExactly (notes_standing octets) s)
   pub out_rose : s ≡ status.Out → Rose (o.faults out) (o.faults mid)
   pub out_same : s ≡ status.Done → o.faults mid ≡ o.faults out
@@ -421,7 +421,7 @@ module _ {A C D S O : Type 0} (g : Ghosts D) (air : AirGhosts A) (given : C → 
         read = client-read g air old new words client h.ended s is _ _ _ _ by_air;
         write = client-write g air old new words client h.ended s is _ _ _ _ by_air;
         disk = client-disk g air old new words client h.ended s is h.causes.runs (fetch-disk g air given old new terms sh.held shelf shelf_now number name h.ended h.causes.runs h.ends);
-        of_shelf = client-shelf g air old new words client h.ended s is _ _ h.of_shelf.rose (λ isnt _. h.of_shelf.same isnt);
+        of_shelf = client-shelf g air old new words client h.ended s is _ _ h.of_shelf.rose h.of_shelf.same;
         exact = λ disk_not memory_not _. client-exact g air old new words client h.ended s is (g.content old.disk) h.notes disk_not memory_not;
         out_rose = closes-out o line out mid h.ended s h.closes (fetch-not_out g air given old new terms sh.held shelf shelf_now number name h.ended h.ends);
         out_same = closes-done o line out mid h.ended s h.closes;
@@ -459,7 +459,7 @@ module _ {A C D S O : Type 0} (g : Ghosts D) (air : AirGhosts A) (given : C → 
           same_reads = λ _ _. stay_reads;
           no_less = (omega (arith, stay_reads), omega (arith, stay_writes));
         };
-    of_shelf = record { rose = λ e. absurd (let other = sym memory ∙ e in cc); same = λ _ _. ap sh.faults same_shelf };
+    of_shelf = record { rose = λ e. absurd (let other = sym memory ∙ e in cc); same = λ _. ap sh.faults same_shelf };
     exact = λ _ memory_not _. absurd (memory_not memory);
     out_rose = λ e. absurd (let other = sym memory ∙ e in cc);
     out_same = λ _. ap o.faults same_out;

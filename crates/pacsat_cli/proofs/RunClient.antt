@@ -120,6 +120,6 @@ module _ {A C D S O : Type 0} (g : Ghosts D) (air : AirGhosts A) (given : C → 
     -- where it is done neither shelf nor output counted a fault
     pub client-done : (line_of s ≡ [] → now ≡ mid) → s ≡ status.Done → Stays sh.faults shelf shelf_now × Stays o.faults out now
     client-done same done = (
-      did.of_shelf.same (λ f. let other = sym done ∙ f in cc) (λ f. let other = sym done ∙ f in cc),
+      did.of_shelf.same (λ f. let other = sym done ∙ f in cc),
       ap o.faults (same (ap line_of done)) ∙ did.out_same done,
     )

@@ -2,6 +2,7 @@
 use Rattle.std.proofs.Common.{◌≡◌, ℕ, List, [], ◌∷◌, true, false, Option, Result, Ok, Err, refl, sym}
 use Rattle.std.proofs.lemmas.Bool.{false≢true}
 use Rattle.std.specs.Prelude.{is_err}
+use Rattle.px_base.specs.CallRecords.{Asks}
 use Rattle.px_base.proofs.Told.{Grows-trans}
 use Rattle.pacsat_cli.specs.declared.startup.host.HostCall.{HostCall}
 use Rattle.pacsat_cli.specs.declared.startup.host.HostCall.TheVariants as call
@@ -9,18 +10,18 @@ use Rattle.pacsat_cli.specs.declared.startup.host.NotHeld.{NotHeld}
 use Rattle.pacsat_cli.specs.declared.startup.host.WordsRefusal.{WordsRefusal}
 use Rattle.pacsat_cli.specs.declared.status.Status.{Status}
 use Rattle.pacsat_cli.specs.declared.status.Status.TheVariants as status
-use Rattle.pacsat_cli.specs.Start.{Begins, Follows, IsRunOf, Starts, status_of_words}
+use Rattle.pacsat_cli.specs.Start.{Follows, IsRunOf, Starts, status_of_words}
 use Rattle.pacsat_cli.specs.Status.{number_of}
 
 module _ (was held now : Option (List HostCall)) (answer : Result Unit NotHeld) (number : ℕ) where
   -- the standard streams could not be held
   pub closed :
       is_err answer ≡ true → Follows was held (call.Holds answer) → Follows held now (call.Ends status.Disk)
-      → number ≡ number_of status.Disk → Begins was now (Starts number)
+      → number ≡ number_of status.Disk → Asks was now (Starts number)
   closed = by answer
     where
       by : (a : Result Unit NotHeld) → is_err a ≡ true → Follows was held (call.Holds a)
-          → Follows held now (call.Ends status.Disk) → number ≡ number_of status.Disk → Begins was now (Starts number)
+          → Follows held now (call.Ends status.Disk) → number ≡ number_of status.Disk → Asks was now (Starts number)
       by (Ok done) is first last n = absurd (false≢true is)
       by (Err why) is first last n = (
         call.Holds (Err why) ∷ call.Ends status.Disk ∷ [],
@@ -34,12 +35,12 @@ module _ (was held now : Option (List HostCall)) (answer : Result Unit NotHeld) 
     pub refused :
         (why : WordsRefusal) → is_err answer ≡ false → Follows was held (call.Holds answer)
         → Follows held read (call.Reads (Err why)) → Follows read now (call.Ends (status_of_words why))
-        → number ≡ number_of (status_of_words why) → Begins was now (Starts number)
+        → number ≡ number_of (status_of_words why) → Asks was now (Starts number)
     refused why = by answer
       where
         by : (a : Result Unit NotHeld) → is_err a ≡ false → Follows was held (call.Holds a)
             → Follows held read (call.Reads (Err why)) → Follows read now (call.Ends (status_of_words why))
-            → number ≡ number_of (status_of_words why) → Begins was now (Starts number)
+            → number ≡ number_of (status_of_words why) → Asks was now (Starts number)
         by (Err closed) is first second last n = absurd (false≢true (sym is))
         by (Ok done) is first second last n = (
           call.Holds (Ok done) ∷ call.Reads (Err why) ∷ call.Ends (status_of_words why) ∷ [],
@@ -53,12 +54,12 @@ module _ (was held now : Option (List HostCall)) (answer : Result Unit NotHeld) 
     pub ran :
         (words : List (List ℕ)) (ends : Status) → is_err answer ≡ false → Follows was held (call.Holds answer)
         → Follows held read (call.Reads (Ok words)) → (made : HostCall) × Follows read now made × IsRunOf words ends made
-        → number ≡ number_of ends → Begins was now (Starts number)
+        → number ≡ number_of ends → Asks was now (Starts number)
     ran words ends = by answer
       where
         by : (a : Result Unit NotHeld) → is_err a ≡ false → Follows was held (call.Holds a)
             → Follows held read (call.Reads (Ok words)) → (made : HostCall) × Follows read now made × IsRunOf words ends made
-            → number ≡ number_of ends → Begins was now (Starts number)
+            → number ≡ number_of ends → Asks was now (Starts number)
         by (Err closed) is first second run n = absurd (false≢true (sym is))
         by (Ok done) is first second run n = (
           call.Holds (Ok done) ∷ call.Reads (Ok words) ∷ run.0 ∷ [],

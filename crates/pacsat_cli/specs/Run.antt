@@ -3,7 +3,6 @@ use Rattle.std.specs.Prelude.{◌≡◌, ◌⊎◌, ℕ, List, Contains, Option}
 use Rattle.px_base.specs.Outside.{Gains, GainsPrefix, Rose}
 use Rattle.command_words.specs.Words.{IsUnbuilt, IsUsage}
 use Rattle.pacsat_cli.specs.declared.status.Status.{Status}
-use Rattle.pacsat_cli.specs.declared.status.Status.TheVariants.{OutOfMemory, Shelf}
 
 -- what is seen so of an object stayed
 abbrev pub Stays : {A X : Type 0} → (A → X) → A → A → Type 0
@@ -17,11 +16,6 @@ IsUnless result status others = (result ≡ status) ⊎ Contains others result
 pub record HasStatusCause (fault : Status) (before now : ℕ) (status : Status) : Type 0 where
   pub rose : status ≡ fault → Rose before now
   pub same : (status ≡ fault → ⊥) → now ≡ before
-
--- The same of the shelf, which may count a fault where it finds no memory.
-pub record HasShelfCause (before now : ℕ) (status : Status) : Type 0 where
-  pub rose : status ≡ Shelf → Rose before now
-  pub same : (status ≡ Shelf → ⊥) → (status ≡ OutOfMemory → ⊥) → now ≡ before
 
 -- The words aren't in the command set, or ask for what isn't built yet.
 abbrev pub AreRefused : List (List ℕ) → Type 0

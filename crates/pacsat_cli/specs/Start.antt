@@ -16,10 +16,6 @@ use Rattle.pacsat_cli.specs.Status.{number_of}
 abbrev pub Follows : Option (List HostCall) → Option (List HostCall) → HostCall → Type 0
 Follows before now made = Grows before now (made ∷ [])
 
--- The calls that reached the system, which are those that came to be told where it tells any, have P.
-abbrev pub Begins : Option (List HostCall) → Option (List HostCall) → (List HostCall → Type 0) → Type 0
-Begins before now P = (calls : List HostCall) × Grows before now calls × P calls
-
 -- the status of a run that has no words for this reason
 abbrev pub status_of_words : WordsRefusal → Status
 status_of_words refusal.NotText = status.Usage

@@ -2,7 +2,7 @@
 
 ghost use Rattle.std.specs.Prelude.{◌≡◌, ◌≤◌, length};
 ghost use Rattle.pacsat_cli.specs.Files.{FileShown, IsTextPut, OctetsShown, code_status, most_octets};
-ghost use Rattle.pacsat_cli.specs.Run.{HasShelfCause, Stays};
+ghost use Rattle.pacsat_cli.specs.Run.{HasStatusCause, Stays};
 
 use crate::status::status_of_load;
 use crate::{RefusedBy, Status};
@@ -36,7 +36,7 @@ pub(crate) fn run_file<S: Shelf, O: Out>(
 ) -> Status
     ensures shown { FileShown O.shown O.faults command (S.held shelf.old) name.now out.old out.new result }
     ensures held { Stays S.held shelf.old shelf.new }
-    ensures shelf { HasShelfCause (S.faults shelf.old) (S.faults shelf.new) result }
+    ensures shelf { HasStatusCause Status.Shelf (S.faults shelf.old) (S.faults shelf.new) result }
 {
     match shelf.load(alloc, name, MOST_OCTETS) {
         Ok(file) => show_octets(alloc, command, file.as_slice(), out),

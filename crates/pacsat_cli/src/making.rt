@@ -3,7 +3,7 @@
 ghost use Rattle.std.specs.Prelude.{◌≡◌, None};
 ghost use Rattle.header_tool.specs.Made.{make_value, spec_refusal};
 ghost use Rattle.pacsat_cli.specs.Making.{OctetsMade, FileKept, MakeRan};
-ghost use Rattle.pacsat_cli.specs.Run.{HasShelfCause};
+ghost use Rattle.pacsat_cli.specs.Run.{HasStatusCause};
 
 use crate::Status;
 use crate::files::MOST_OCTETS;
@@ -22,7 +22,7 @@ pub(crate) fn run_make<S: Shelf>(
 ) -> Status
     requires { spec_refusal (make_value spec.now) ≡ None }
     ensures made { MakeRan (make_value spec.now) body.now name.now (S.held shelf.old) (S.held shelf.new) result }
-    ensures shelf { HasShelfCause (S.faults shelf.old) (S.faults shelf.new) result }
+    ensures shelf { HasStatusCause Status.Shelf (S.faults shelf.old) (S.faults shelf.new) result }
 {
     match shelf.load(alloc, body, MOST_OCTETS) {
         Ok(octets) => make_of(alloc, spec, octets.as_slice(), name, shelf),
@@ -40,7 +40,7 @@ fn make_of<S: Shelf>(
 ) -> Status
     requires { spec_refusal (make_value spec.now) ≡ None }
     ensures made { OctetsMade (make_value spec.now) body.now name.now (S.held shelf.old) (S.held shelf.new) result }
-    ensures shelf { HasShelfCause (S.faults shelf.old) (S.faults shelf.new) result }
+    ensures shelf { HasStatusCause Status.Shelf (S.faults shelf.old) (S.faults shelf.new) result }
 {
     match make(alloc, spec, body) {
         Ok(file) => keep(name, file.as_slice(), shelf),
@@ -53,7 +53,7 @@ fn make_of<S: Shelf>(
 /// Keeps a file under this name.
 fn keep<S: Shelf>(name: &str, file: &[u8], shelf: &mut S) -> Status
     ensures kept { FileKept name.now file.now (S.held shelf.old) (S.held shelf.new) result }
-    ensures shelf { HasShelfCause (S.faults shelf.old) (S.faults shelf.new) result }
+    ensures shelf { HasStatusCause Status.Shelf (S.faults shelf.old) (S.faults shelf.new) result }
 {
     match shelf.keep(name, file) {
         Ok(()) => Status::Done,

@@ -1,8 +1,9 @@
 //! The start of a run: what the program asks of its system by its words, and the number that the process ends with.
 
 ghost use Rattle.std.specs.Prelude.{◌≡◌, slice_get};
+ghost use Rattle.px_base.specs.CallRecords.{Asks};
 ghost use Rattle.pacsat_cli.specs.declared.startup.host.HostCall.{HostCall};
-ghost use Rattle.pacsat_cli.specs.Start.{Begins, Follows, IsRunOf, Starts, status_of_words as words_status, word_or_empty};
+ghost use Rattle.pacsat_cli.specs.Start.{Follows, IsRunOf, Starts, status_of_words as words_status, word_or_empty};
 ghost use Rattle.pacsat_cli.specs.Status.{number_of};
 
 mod host;
@@ -18,7 +19,7 @@ pub use memory_host::MemoryHost;
 /// to standard error exactly where the second word is `-`, and else to standard output; the first word is the path of the
 /// disk.
 pub fn start<H: Host>(host: &mut H) -> u8
-    ensures { Begins (H.calls host.old) (H.calls host.new) (Starts result) }
+    ensures { Asks (H.calls host.old) (H.calls host.new) (Starts result) }
 {
     if host.hold_streams().is_err() {
         return end_with(host, Status::Disk);

@@ -11,7 +11,7 @@ ghost use Rattle.pacsat_cli.specs.Clients.{RunsFetch, RunsList, RunsSend};
 ghost use Rattle.pacsat_cli.specs.Exactly.{FetchEndsExactly, ListEndsExactly, SendEndsExactly, SendRefuses};
 ghost use Rattle.pacsat_cli.specs.Exactly.{SendStarts};
 ghost use Rattle.pacsat_cli.specs.Files.{IsNoSuchBy, IsShownBy, IsTooLongBy};
-ghost use Rattle.pacsat_cli.specs.Run.{AreRefused, HasShelfCause, IsUnless, Shows, Stays};
+ghost use Rattle.pacsat_cli.specs.Run.{AreRefused, HasStatusCause, IsUnless, Shows, Stays};
 ghost use Rattle.pacsat_cli.specs.Servers.{RunsServe, WhereServed};
 ghost use Rattle.pacsat_cli.specs.Sessions.{AsksDisk, AsksMoment, AsksNode, HasDiskCause, HasReadCause, HasStoreCause};
 ghost use Rattle.pacsat_cli.specs.Sessions.{HasWriteCause};
@@ -144,7 +144,7 @@ pub fn run<D: Disk, A: Air, S: Shelf, O: Out, C: Clock>(
     ensures air_read { HasReadCause words.now (A.read_faults air.old) (A.read_faults air.new) result }
     ensures air_write { HasWriteCause words.now (A.write_faults air.old) (A.write_faults air.new) result }
     ensures disk { HasDiskCause words.now D.read_faults D.write_faults disk.old disk.new air.old air.new result }
-    ensures shelf { HasShelfCause (S.faults shelf.old) (S.faults shelf.new) result }
+    ensures shelf { HasStatusCause Status.Shelf (S.faults shelf.old) (S.faults shelf.new) result }
     ensures out { result ≡ Status.Out → Rose (O.faults out.old) (O.faults out.new) }
 
     // The content of a session's or a server's disk is refused exactly where it stands for no store, that of a client's

@@ -1,7 +1,8 @@
--- Lemmas on lists that are told: how they gain items and grow.
+-- Lemmas on lists that are told: how they gain items and grow, and what is asked of an object outside the program.
 use Rattle.std.proofs.Common.{◌≡◌, ℕ, zero, suc, List, [], ◌∷◌, ◌++◌, take, drop, refl, sym, ap, ◌∙◌, subst, append_assoc, append-nil}
 use Rattle.std.proofs.lemmas.List.{take-append-drop}
 use Rattle.std.specs.Prelude.{Option, None, Some}
+use Rattle.px_base.specs.CallRecords.{Asks}
 use Rattle.px_base.specs.Octets.{IsFront}
 use Rattle.px_base.specs.Outside.{Gains, GainsPrefix, Grows}
 
@@ -54,3 +55,33 @@ Grows-trans {X} a b None xs ys h k = tt
 Grows-trans {X} a b (Some all) xs ys h k =
     let mid : Grows a (Some k.0) xs = subst (λ (x : Option (List X)). Grows a x xs) k.1 h in
     (mid.0, mid.1, k.2 ∙ ap (λ (x : List X). x ++ ys) mid.2 ∙ append_assoc mid.0 xs ys)
+
+module _ {C : Type 0} where
+  -- nothing is asked
+  pub asks_none : (P : List C → Type 0) (was : Option (List C)) → P [] → Asks was was P
+  asks_none P was is = ([], Grows-none was, is)
+
+  -- one call is made
+  pub asks_one : (P : List C → Type 0) (was now : Option (List C)) (next : C) → Grows was now (next ∷ []) → P (next ∷ []) → Asks was now P
+  asks_one P was now next grows is = (next ∷ [], grows, is)
+
+  -- some calls are made, and then others
+  pub asks_then :
+      (P Q R : List C → Type 0) (was between now : Option (List C))
+      → ((first later : List C) → P first → Q later → R (first ++ later))
+      → Asks was between P → Asks between now Q → Asks was now R
+  asks_then P Q R was between now step first later =
+      (first.0 ++ later.0, Grows-trans was between now first.0 later.0 first.1 later.1, step first.0 later.0 first.2 later.2)
+
+  -- one more call is made
+  pub asks_more :
+      (P Q : List C → Type 0) (was between now : Option (List C)) (next : C) → Grows between now (next ∷ [])
+      → ((calls : List C) → P calls → Q (calls ++ next ∷ [])) → Asks was between P → Asks was now Q
+  asks_more P Q was between now next grows step asks =
+      (asks.0 ++ next ∷ [], Grows-trans was between now asks.0 (next ∷ []) asks.1 grows, step asks.0 asks.2)
+
+  -- the same calls, of which something else is known
+  pub asks_as :
+      (P Q : List C → Type 0) (was now : Option (List C))
+      → ((calls : List C) → P calls → Q calls) → Asks was now P → Asks was now Q
+  asks_as P Q was now step asks = (asks.0, asks.1, step asks.0 asks.2)

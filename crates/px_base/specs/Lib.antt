@@ -1,4 +1,5 @@
 pub mod CallOctets
+pub mod CallRecords
 pub mod CallSign
 pub mod Counter
 pub mod Forms

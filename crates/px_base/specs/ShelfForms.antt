@@ -37,7 +37,7 @@ pub record IsLoading (before now : MemoryShelfState) (name : List ℕ) (most : �
       (IsListed before.calls → ⊥)
       → ((result ≡ load_answer (content_of before.held name) most) × (now ≡ shelf_state_after_call before))
       ⊎ ((result ≡ Err refusal.OutOfMemory)
-      × (now ≡ shelf_state_after_fault before (counter_after_starved_call before.calls)))
+      × (now ≡ record before { calls = counter_after_starved_call before.calls }))
 
 -- after a call that put this content under this name, and changed nothing else
 pub record IsKept (before now : MemoryShelfState) (name content : List ℕ) : Type 0 where

@@ -41,19 +41,11 @@ AnswersOfAll told most result = IfSome told (λ octets. AnswersOf (Some octets) 
 abbrev pub Loads : Option Holding → List ℕ → ℕ → LoadResult → Type 0
 Loads held name most result = IfSome held (λ shelf. AnswersOf (content_of shelf name) most result)
 
--- whether a load answers of the content: neither a fault nor want of memory
-abbrev pub is_of_content : LoadResult → Bool
-is_of_content (Ok content) = true
-is_of_content (Err refusal.NoSuch) = true
-is_of_content (Err refusal.TooLong) = true
-is_of_content (Err refusal.Fault) = false
-is_of_content (Err refusal.OutOfMemory) = false
-
--- A count never falls; a load answers `Fault` only where it rose in the call, and of the content only where it stayed.
+-- A count never falls; a load answers `Fault` only where it rose in the call, and anything else only where it stayed.
 pub record HasLoadCause (before now : ℕ) (result : LoadResult) : Type 0 where
   pub no_less : before ≤ now
   pub rose : result ≡ Err refusal.Fault → Rose before now
-  pub same : IsTrue (is_of_content result) → now ≡ before
+  pub same : (result ≡ Err refusal.Fault → ⊥) → now ≡ before
 
 -- each name but this one has the content that it had
 abbrev pub SameOthers : Holding → Holding → List ℕ → Type 0

@@ -17,7 +17,7 @@ use std::collections::BTreeMap;
 use std::marker::Model;
 
 /// A shelf in memory. The calls of `load` and `keep` are numbered together from 1; a call whose number is listed
-/// fails, and changes nothing that is held. A call that finds no memory fails too.
+/// fails, and changes nothing that is held. Keeping that finds no memory fails too.
 #[derive(Drop)]
 pub struct MemoryShelf {
     alloc: Global,
@@ -73,7 +73,8 @@ impl Shelf for MemoryShelf {
 
     ghost faults = { λ a. a.faults };
 
-    /// The content of this name, of at most `most` octets; a call that is listed fails. Want of memory is counted too.
+    /// The content of this name, of at most `most` octets; a call that is listed fails. Want of memory is told by
+    /// `starved`, and is no fault.
     fn load(&mut self, alloc: Global, name: &str, most: usize) -> Result<FileBytes, ShelfRefusal>
         ensures most { IsWithin most result }
         ensures answer { Loads (Some self.old.held) name.now most result }
@@ -88,7 +89,6 @@ impl Shelf for MemoryShelf {
         let answer = copy_of(alloc, content_in(&self.held, name), most);
         if let Err(ShelfRefusal::OutOfMemory) = &answer {
             self.calls.starve();
-            self.faults.count();
         }
         answer
     }

@@ -3,7 +3,7 @@ use Rattle.std.proofs.Common.{◌≡◌, List, [], ◌++◌, false, Option, Resu
 use Rattle.std.proofs.lemmas.Bool.{false≢true}
 use Rattle.std.specs.Prelude.{is_ok}
 use Rattle.px_base.proofs.Told.{Grows-none, Grows-trans}
-use Rattle.real_outside.specs.CallRecords.{Asks}
+use Rattle.px_base.specs.CallRecords.{Asks}
 
 -- nothing has
 pub asks_none : {C : Type 0} (P : List C → Type 0) (was : Option (List C)) → P [] → Asks was was P

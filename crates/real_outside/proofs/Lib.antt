@@ -1,9 +1,8 @@
-pub mod Asked
+mod Asked
 mod Heard
 mod Held
 mod Kept
 mod Moving
-pub mod Reached
 mod Short
 mod Taken
 mod Wholes

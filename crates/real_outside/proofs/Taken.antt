@@ -1,20 +1,20 @@
 -- What reaches the files by a call of a device over one of them.
 use Rattle.std.proofs.Common.{◌≡◌, inl, inr, ℕ, List, [], ◌∷◌, ◌++◌, Option, None, Some, Result, Ok, Err, refl}
-use Rattle.real_outside.specs.Calls.{Reaches}
+use Rattle.px_base.specs.CallRecords.{Asks}
 use Rattle.real_outside.specs.Disk.FileDevices.{AfterOpening, FileDeviceState, TakesFile}
 use Rattle.real_outside.specs.declared.disk.device.DeviceDown.{DeviceDown}
 use Rattle.real_outside.specs.declared.files.file_call.FileCall.{FileCall}
-use Rattle.real_outside.proofs.Reached.{reaches_as, reaches_then}
+use Rattle.px_base.proofs.Told.{asks_as, asks_then}
 
 module _ {S F T : Type 0} (number : F → ℕ) (before now : FileDeviceState S F) (result : Result T DeviceDown) (P : ℕ → List FileCall → Type 0) where
   -- the file is taken, asked, and put back
-  pub taken_then : (was mid told : Option (List FileCall)) (file : F) → now.file ≡ Some file → Reaches was mid (TakesFile number before.path before.file (Ok file)) → Reaches mid told (P (number file)) → Reaches was told (AfterOpening number before now result P)
+  pub taken_then : (was mid told : Option (List FileCall)) (file : F) → now.file ≡ Some file → Asks was mid (TakesFile number before.path before.file (Ok file)) → Asks mid told (P (number file)) → Asks was told (AfterOpening number before now result P)
   taken_then was mid told file is taken asked =
-      reaches_then (TakesFile number before.path before.file (Ok file)) (P (number file)) (AfterOpening number before now result P) was mid told
+      asks_then (TakesFile number before.path before.file (Ok file)) (P (number file)) (AfterOpening number before now result P) was mid told
       (λ opening later takes asks. rw is (opening, later, refl, takes, asks)) taken asked
 
   -- it can't be taken
-  pub not_taken : (was told : Option (List FileCall)) (down : DeviceDown) → now.file ≡ None → result ≡ Err down → Reaches was told (TakesFile number before.path before.file (Err down)) → Reaches was told (AfterOpening number before now result P)
+  pub not_taken : (was told : Option (List FileCall)) (down : DeviceDown) → now.file ≡ None → result ≡ Err down → Asks was told (TakesFile number before.path before.file (Err down)) → Asks was told (AfterOpening number before now result P)
   not_taken was told down is fails taken =
-      reaches_as (TakesFile number before.path before.file (Err down)) (AfterOpening number before now result P) was told
+      asks_as (TakesFile number before.path before.file (Err down)) (AfterOpening number before now result P) was told
       (λ calls takes. rw is (down, fails, takes)) taken

@@ -3,7 +3,7 @@ use Rattle.std.specs.Prelude.{◌≡◌, ◌/◌, ℕ, min, List, [], ◌∷◌,
 use Rattle.std.specs.Duration.{as_nanos}
 use Rattle.std.specs.declared.time.Duration.{Duration}
 use Rattle.px_base.specs.Outside.{Grows}
-use Rattle.real_outside.specs.CallRecords.{CallRecordState}
+use Rattle.px_base.specs.CallRecords.{CallRecordState}
 use Rattle.real_outside.specs.declared.system_error.SystemError.{SystemError}
 
 -- a reading of the time since 1 January 1970

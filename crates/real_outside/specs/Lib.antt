@@ -1,5 +1,3 @@
-pub mod CallRecords
-pub mod Calls
 pub mod Clocks
 pub mod Descriptors
 pub mod Disk
@@ -10,3 +8,4 @@ pub mod StreamCalls
 pub mod Streams
 pub mod Systems
 pub mod Tcp
+pub use Rattle.px_base.specs.CallRecords

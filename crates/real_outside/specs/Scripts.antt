@@ -1,6 +1,6 @@
 -- What a stream or a connection in memory answers by its script.
 use Rattle.std.specs.Prelude.{ℕ, min, List, [], ◌∷◌, take, Result, Ok, Err}
-use Rattle.real_outside.specs.CallRecords.{CallRecordState}
+use Rattle.px_base.specs.CallRecords.{CallRecordState}
 use Rattle.real_outside.specs.declared.script.MemoryAnswer.{MemoryAnswer}
 use Rattle.real_outside.specs.declared.script.MemoryAnswer.TheVariants as answer
 use Rattle.real_outside.specs.declared.system_error.SystemError.{SystemError}

@@ -2,7 +2,7 @@
 
 ghost use Rattle.std.specs.Prelude.{◌≡◌, ◌∷◌, [], ◌↔◌, true, IsTrue, Result};
 ghost use Rattle.px_base.specs.Outside.{Grows};
-ghost use Rattle.real_outside.specs.Calls.{Reaches};
+ghost use Rattle.px_base.specs.CallRecords.{Asks};
 ghost use Rattle.real_outside.specs.Descriptors.{HoldsLowest, HoldsOpened, IsHeld, IsStandard, KeepsHeld};
 ghost use Rattle.real_outside.specs.declared.system_error.SystemError.{SystemError};
 
@@ -31,7 +31,7 @@ pub struct StandardStreams<H> {
 pub fn hold_standard_streams<N: NullDevice>(
     null: &mut N,
 ) -> Result<StandardStreams<N::Opened>, SystemError>
-    ensures { Reaches (N.answers null.old) (N.answers null.new) (HoldsLowest N.descriptor result) }
+    ensures { Asks (N.answers null.old) (N.answers null.new) (HoldsLowest N.descriptor result) }
 {
     let mut streams = StandardStreams {
         input: None,

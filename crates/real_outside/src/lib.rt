@@ -3,7 +3,6 @@
 //! calls that it makes, which a form in memory tells.
 #![tactic(auto)]
 
-mod call_record;
 mod descriptors;
 mod disk;
 mod files;
@@ -21,7 +20,6 @@ mod tcp;
 mod time_source;
 mod writing;
 
-pub use call_record::CallRecord;
 pub use descriptors::{MemoryNull, NullDevice, NullFile, StandardStreams, hold_standard_streams};
 pub use disk::{
     Device, DeviceCall, DeviceDisk, DeviceDown, FileDevice, FileDisk, MemoryDevice,

@@ -2,11 +2,11 @@
 
 ghost use Rattle.std.specs.Prelude.{◌≡◌, ◌≤◌, ◌∷◌, [], None, drop, length, IfOk};
 ghost use Rattle.px_base.specs.Outside.{Grows};
-ghost use Rattle.real_outside.specs.CallRecords.{no_calls, told};
+ghost use Rattle.px_base.specs.CallRecords.{no_calls, told};
 ghost use Rattle.real_outside.specs.Scripts.{done_answer, next_answer, read_answer, write_answer};
 ghost use Rattle.real_outside.specs.StreamCalls.{octets_read};
 
-use crate::call_record::CallRecord;
+use px_base::CallRecord;
 use crate::script::{MemoryAnswer, Script};
 use crate::stream::{InputStream, OutputStream, StreamCall};
 use crate::system_error::SystemError;

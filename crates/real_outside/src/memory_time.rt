@@ -2,10 +2,10 @@
 
 ghost use Rattle.std.specs.Prelude.{◌≡◌, ◌∷◌, [], drop};
 ghost use Rattle.px_base.specs.Outside.{Grows};
-ghost use Rattle.real_outside.specs.CallRecords.{no_calls, told};
+ghost use Rattle.px_base.specs.CallRecords.{no_calls, told};
 ghost use Rattle.real_outside.specs.Clocks.{first_reading};
 
-use crate::call_record::CallRecord;
+use px_base::CallRecord;
 use crate::system_error::SystemError;
 use crate::time_source::TimeSource;
 use std::alloc::Global;

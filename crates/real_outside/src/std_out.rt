@@ -3,7 +3,7 @@
 ghost use Rattle.std.specs.Prelude.{◌≡◌, None, OnOk, is_ok};
 ghost use Rattle.std.specs.Io.KnownBytes.{Appends};
 ghost use Rattle.px_base.specs.Outside.{HasCause, counted_after};
-ghost use Rattle.real_outside.specs.CallRecords.{Asks};
+ghost use Rattle.px_base.specs.CallRecords.{Asks};
 ghost use Rattle.real_outside.specs.StreamCalls.{WritesAll};
 
 use crate::stream::OutputStream;

@@ -3,7 +3,7 @@
 ghost use Rattle.std.specs.Prelude.{◌≡◌, ◌≤◌, ℕ, [], length, take, IfOk, OnOk, is_ok};
 ghost use Rattle.std.specs.Io.KnownBytes.{Appends, Keeps};
 ghost use Rattle.std.specs.Result.{result_ok};
-ghost use Rattle.real_outside.specs.CallRecords.{Asks};
+ghost use Rattle.px_base.specs.CallRecords.{Asks};
 ghost use Rattle.real_outside.specs.StreamCalls.{Writes, WritesAll, WritesSome, is_interrupted as is_interrupted_kind, octets_taken};
 
 use crate::stream::OutputStream;

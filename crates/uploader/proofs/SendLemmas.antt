@@ -327,7 +327,7 @@ module _ {D : Type 0} (g : Ghosts D) (lasts : (disk : D) → g.lasts disk disk) 
       file_is = λ no_shelf no_memory. told_weaker held _ _ (λ shelf told content. loaded_exactly (content_of shelf name) file content sendable result (never_comes stop.NoSuch refl) (never_comes stop.TooLong refl) upload_good) there;
       notes = λ past. recovered_exactly (g.content disk) made.notes.lists result ready.recovers.stood (λ found. never_comes (stop.NotAStore found) refl) (λ at. never_comes (stop.Damaged at) refl);
       ends = inr (record { file = file; sendable = sendable; there = there; ends = inr (inr upload_ends) });
-      shelf = record { no_less = omega (arith, same); rose = λ e. absurd (never_comes stop.Shelf refl e); same = λ a b. same };
+      shelf = record { no_less = omega (arith, same); rose = λ e. absurd (never_comes stop.Shelf refl e); same = λ _. same };
       air_is = upload_air;
       runs = upload_runs;
     }

@@ -81,9 +81,9 @@ RefusesFile held name result =
     ¬ IsErrOf result stop.Shelf → ¬ IsErrOf result stop.OutOfMemory
     → IfSome held (λ shelf. LoadsExactly (content_of shelf name) result)
 
--- The shelf's count of faults never falls. It rose where the shelf stopped the command, and stands as it stood where
--- neither the shelf nor want of memory did.
+-- The shelf's count of faults never falls. It rose where the shelf stopped the command, and stands as it stood where it
+-- didn't.
 pub record HasShelfCause {T : Type 0} (before now : ℕ) (result : Result T SendStop) : Type 0 where
   pub no_less : before ≤ now
   pub rose : IsErrOf result stop.Shelf → Rose before now
-  pub same : ¬ IsErrOf result stop.Shelf → ¬ IsErrOf result stop.OutOfMemory → now ≡ before
+  pub same : ¬ IsErrOf result stop.Shelf → now ≡ before

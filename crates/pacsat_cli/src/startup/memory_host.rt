@@ -1,12 +1,12 @@
 //! A system in memory: a script of answers, and a record of the calls.
 
-ghost use Rattle.std.specs.Prelude.{◌≡◌, ◌∷◌, ◌++◌, [], None, Some, IfOk, IsTrue, OnErr, false};
-ghost use Rattle.pacsat_cli.specs.Start.{Follows};
+ghost use Rattle.std.specs.Prelude.{◌≡◌, IfOk};
+ghost use Rattle.px_base.specs.CallRecords.{no_calls};
 
 use crate::Status;
 use crate::startup::host::{Host, HostCall, NotHeld, WordsRefusal};
 use command_words::Words;
-use px_base::{FileBytes, OutOfMemory};
+use px_base::{CallRecord, FileBytes, OutOfMemory};
 use std::alloc::Global;
 use std::marker::Model;
 
@@ -18,17 +18,16 @@ pub struct MemoryHost {
     held: Result<(), NotHeld>,
     words: Option<Result<Words, WordsRefusal>>,
     status: Status,
-    calls: Vec<HostCall>,
-    untold: bool,
+    made: CallRecord<HostCall>,
 }
 
 impl Model for MemoryHost {
-    ghost use Rattle.std.specs.Prelude.{List, None, Option, Some, if◌then◌else◌};
+    ghost use Rattle.px_base.specs.CallRecords.{CallRecordState};
     ghost use Rattle.pacsat_cli.specs.declared.startup.host.HostCall.{HostCall};
 
-    ghost Value = { Option (List HostCall) };
+    ghost Value = { CallRecordState HostCall };
 
-    ghost view = { λ a. if a.untold then None else Some a.calls.items };
+    ghost view = { λ a. a.made };
 }
 
 impl MemoryHost {
@@ -40,84 +39,66 @@ impl MemoryHost {
         words: Result<Words, WordsRefusal>,
         status: Status,
     ) -> MemoryHost
-        ensures { result ≡ Some [] }
+        ensures { result ≡ no_calls }
     {
         MemoryHost {
             alloc,
             held,
             words: Some(words),
             status,
-            calls: Vec::new(alloc),
-            untold: false,
+            made: CallRecord::new(alloc),
         }
     }
 
-    /// The calls so far, but for those that found no memory to be recorded.
-    pub fn calls(&self) -> &[HostCall] {
-        self.calls.as_slice()
-    }
-
-    /// Records a call, where there was memory for it.
-    fn record(&mut self, made: Result<HostCall, OutOfMemory>)
-        ensures ok { IfOk made (λ call. Follows self.old self.new call) }
-        ensures err { OnErr made (self.new ≡ None) }
+    /// The calls so far.
+    pub fn made(&self) -> &CallRecord<HostCall>
+        ensures { result.now ≡ self.now }
     {
-        if !push(&mut self.calls, made) {
-            self.untold = true;
-        }
+        &self.made
     }
 }
 
 impl Host for MemoryHost {
-    ghost calls = { λ a. a };
+    ghost use Rattle.px_base.specs.CallRecords.{told};
+
+    ghost calls = { told };
 
     fn hold_streams(&mut self) -> Result<(), NotHeld> {
         let answer = self.held;
-        self.record(Ok(HostCall::Holds { answer }));
+        self.made.add(Ok(HostCall::Holds { answer }));
         answer
     }
 
     fn words(&mut self) -> Result<Words, WordsRefusal> {
         let answer = self.words.take().unwrap_or(Err(WordsRefusal::OutOfMemory));
         let made = made_reads(&answer);
-        self.record(made);
+        self.made.add(made);
         answer
     }
 
     fn end_with(&mut self, status: Status) {
-        self.record(Ok(HostCall::Ends { status }));
+        self.made.add(Ok(HostCall::Ends { status }));
     }
 
     fn run_over_connection(&mut self, words: &Words, disk: &str, at: &str) -> Status {
         let status = self.status;
         let made = made_over_connection(self.alloc, words, disk, at, status);
-        self.record(made);
+        self.made.add(made);
         status
     }
 
     fn run_over_streams(&mut self, words: &Words, disk: &str) -> Status {
         let status = self.status;
         let made = made_over_streams(self.alloc, words, disk, status);
-        self.record(made);
+        self.made.add(made);
         status
     }
 
     fn run_without_air(&mut self, words: &Words, disk: &str) -> Status {
         let status = self.status;
         let made = made_without_air(self.alloc, words, disk, status);
-        self.record(made);
+        self.made.add(made);
         status
-    }
-}
-
-/// Puts a call at the end, and says whether there was memory for it.
-fn push(calls: &mut Vec<HostCall>, made: Result<HostCall, OutOfMemory>) -> bool
-    ensures recorded { IsTrue result → IfOk made (λ call. calls.new.items ≡ calls.old.items ++ call ∷ []) }
-    ensures err { OnErr made (result ≡ false) }
-{
-    match made {
-        Ok(call) => calls.push(call).is_ok(),
-        Err(_) => false,
     }
 }
 

@@ -1,7 +1,7 @@
 -- What reaches a connection, step by step.
 use Rattle.std.proofs.Common.{List, Option, refl}
-use Rattle.real_outside.specs.CallRecords.{Asks}
-use Rattle.real_outside.proofs.Asked.{asks_then}
+use Rattle.px_base.specs.CallRecords.{Asks}
+use Rattle.px_base.proofs.Told.{asks_then}
 use Rattle.real_outside.specs.Tcp.Connections.{Then}
 use Rattle.real_outside.specs.declared.tcp.connection.ConnectionCall.{ConnectionCall}
 

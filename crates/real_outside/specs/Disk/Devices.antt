@@ -1,7 +1,7 @@
 -- What a disk over a device asks of the device, and what it makes of short answers.
 use Rattle.std.specs.Prelude.{◌≡◌, ◌⊎◌, ℕ, ◌+◌, ◌-◌, ◌^◌, ◌<◌, ◌≤◌, List, [], ◌∷◌, ◌++◌, length, take, drop, Bool, true, false, Option, IfOk, Result, Ok, Err, IsOk, IsErr, is_ok}
 use Rattle.px_base.specs.Outside.{Grows}
-use Rattle.real_outside.specs.Calls.{Reaches}
+use Rattle.px_base.specs.CallRecords.{Asks}
 use Rattle.real_outside.specs.declared.disk.device.DeviceCall.{DeviceCall}
 use Rattle.real_outside.specs.declared.disk.device.DeviceCall.TheVariants as call
 use Rattle.real_outside.specs.declared.disk.device.DeviceDown.{DeviceDown}
@@ -91,9 +91,9 @@ WritesAll at octets = GoesOn (λ before. IsWriteOf (at + before) (drop before oc
 
 -- What reaches the device by a call of the disk has P; but where the disk refuses the call, it fails, and nothing
 -- reaches the device.
-pub record Asks {V T : Type 0} (told : V → Option (List DeviceCall)) (refused : Type 0) (before now : V)
+pub record AsksUnless {V T : Type 0} (told : V → Option (List DeviceCall)) (refused : Type 0) (before now : V)
     (result : Result T DiskFault) (P : List DeviceCall → Type 0) : Type 0 where
-  pub reaches : (refused → ⊥) → Reaches (told before) (told now) P
+  pub asks : (refused → ⊥) → Asks (told before) (told now) P
   pub refuses : refused → IsErr result × (now ≡ before)
 
 -- The disk is broken, or so many octets at this place would end past the most octets of a disk.

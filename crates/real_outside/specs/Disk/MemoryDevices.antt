@@ -1,18 +1,17 @@
 -- A device in memory as contracts see it, and what each of its calls does.
-use Rattle.std.specs.Prelude.{◌≡◌, ◌⊎◌, ℕ, min, List, [], length, take, drop, Bool, false, Option, None, Some, if◌then◌else◌, Result, OnOk, OnErr, IfOk}
+use Rattle.std.specs.Prelude.{◌≡◌, ◌⊎◌, ℕ, min, List, length, take, drop, Result, OnOk, OnErr, IfOk}
+use Rattle.px_base.specs.CallRecords.{CallRecordState, no_calls}
 use Rattle.px_base.specs.Counter.{CallCounterState, IsListed, counter_after_call, counter_after_starved_call, new_counter}
 use Rattle.disk_model.specs.Surface.{write_over}
 use Rattle.real_outside.specs.declared.disk.device.DeviceCall.{DeviceCall}
 use Rattle.real_outside.specs.declared.disk.device.DeviceDown.{DeviceDown}
 use Rattle.real_outside.specs.declared.disk.memory_device.MemoryDevice.TheInside.{Inside}
 
--- The octets of the device; the most of them that one call moves; the calls so far, and whether one of them found no
--- memory to be recorded; and how the calls are numbered.
+-- the octets of the device, the most of them that one call moves, the calls so far, and how they are numbered
 pub record MemoryDeviceState : Type 0 where
   pub octets : List ℕ
   pub most : ℕ
-  pub calls : List DeviceCall
-  pub untold : Bool
+  pub made : CallRecordState DeviceCall
   pub counter : CallCounterState
 
 abbrev pub device_state : Inside → MemoryDeviceState
@@ -20,19 +19,14 @@ device_state a =
     record {
       octets = a.octets.items;
       most = a.most;
-      calls = a.calls.items;
-      untold = a.untold;
+      made = a.made;
       counter = a.counter;
     }
 
 -- before the first call
 abbrev pub new_device_state : List ℕ → ℕ → List ℕ → MemoryDeviceState
 new_device_state octets most failing =
-    record { octets = octets; most = most; calls = []; untold = false; counter = new_counter failing }
-
--- the calls are told until one found no memory to be recorded
-abbrev pub told_calls : MemoryDeviceState → Option (List DeviceCall)
-told_calls state = if state.untold then None else Some state.calls
+    record { octets = octets; most = most; made = no_calls; counter = new_counter failing }
 
 -- A call that moves no octets fails exactly where it is listed, and the octets stay.
 pub record IsPlain {T : Type 0} (before now : MemoryDeviceState) (result : Result T DeviceDown) : Type 0 where

@@ -1,7 +1,7 @@
 //! A file as a device: which calls of the files each call of the device makes.
 
 ghost use Rattle.std.specs.Prelude.{◌≡◌, ◌≤◌, ◌||◌, None, length, false, IfErr, IfOk, IfSome, is_ok};
-ghost use Rattle.real_outside.specs.Calls.{Reaches};
+ghost use Rattle.px_base.specs.CallRecords.{Asks};
 ghost use Rattle.real_outside.specs.Disk.FileDevices.{AfterOpening, AsksLength, KeepsFile, Reads, SyncsFile, SyncsWithEntry, TakesFile, Writes, system_answer_of};
 ghost use Rattle.real_outside.specs.Files.{folder_of};
 
@@ -53,7 +53,7 @@ impl<'a, S: FileSystem> FileDevice<'a, S> {
     /// Takes the file, which it opens and locks where it isn't open yet.
     fn take_file(&mut self) -> Result<S::File, DeviceDown>
         ensures open { IfSome self.old.file (λ file. result ≡ Ok file) }
-        ensures takes { Reaches (S.calls self.old.files) (S.calls self.new.files)
+        ensures takes { Asks (S.calls self.old.files) (S.calls self.new.files)
             (TakesFile S.number self.old.path self.old.file result) }
         ensures rest { self.new ≡ record self.old { files = self.new.files; file = None } }
     {
@@ -71,7 +71,7 @@ impl<'a, S: FileSystem> Device for FileDevice<'a, S> {
     fn len(&mut self) -> Result<u64, DeviceDown>
         ensures keeps { KeepsFile self.old self.new }
         ensures entry { self.new.has_entry ≡ self.old.has_entry }
-        ensures asks { Reaches (S.calls self.old.files) (S.calls self.new.files)
+        ensures asks { Asks (S.calls self.old.files) (S.calls self.new.files)
             (AfterOpening S.number self.old self.new result (AsksLength result)) }
     {
         let file = self.take_file()?;
@@ -85,7 +85,7 @@ impl<'a, S: FileSystem> Device for FileDevice<'a, S> {
         ensures count { IfOk result (λ count. count ≤ length room.old) }
         ensures keeps { KeepsFile self.old self.new }
         ensures entry { self.new.has_entry ≡ self.old.has_entry }
-        ensures reads { Reaches (S.calls self.old.files) (S.calls self.new.files)
+        ensures reads { Asks (S.calls self.old.files) (S.calls self.new.files)
             (AfterOpening S.number self.old self.new result (Reads at room.new result)) }
     {
         let file = self.take_file()?;
@@ -99,7 +99,7 @@ impl<'a, S: FileSystem> Device for FileDevice<'a, S> {
         ensures count { IfOk result (λ count. count ≤ length bytes.now) }
         ensures keeps { KeepsFile self.old self.new }
         ensures entry { self.new.has_entry ≡ self.old.has_entry }
-        ensures writes { Reaches (S.calls self.old.files) (S.calls self.new.files)
+        ensures writes { Asks (S.calls self.old.files) (S.calls self.new.files)
             (AfterOpening S.number self.old self.new result (Writes at bytes.now result)) }
     {
         let file = self.take_file()?;
@@ -112,7 +112,7 @@ impl<'a, S: FileSystem> Device for FileDevice<'a, S> {
     fn sync(&mut self) -> Result<(), DeviceDown>
         ensures keeps { KeepsFile self.old self.new }
         ensures entry { self.new.has_entry ≡ (self.old.has_entry || is_ok result) }
-        ensures syncs { Reaches (S.calls self.old.files) (S.calls self.new.files)
+        ensures syncs { Asks (S.calls self.old.files) (S.calls self.new.files)
             (AfterOpening S.number self.old self.new result
             (SyncsFile self.old.has_entry (folder_of self.old.path) result)) }
     {
@@ -131,7 +131,7 @@ fn sync_with_entry<S: FileSystem>(
     path: &str,
     has_entry: bool,
 ) -> Result<(), SystemError>
-    ensures { Reaches (S.calls files.old) (S.calls files.new)
+    ensures { Asks (S.calls files.old) (S.calls files.new)
         (SyncsWithEntry has_entry (folder_of path.now) result (S.number file.now)) }
 {
     files.sync(file)?;

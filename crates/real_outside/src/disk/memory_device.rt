@@ -1,15 +1,16 @@
 //! A device in memory: octets, and a record of its calls.
 
-ghost use Rattle.std.specs.Prelude.{◌≡◌, ◌≤◌, ◌∷◌, ◌++◌, [], None, false, not, length, IfOk, IsTrue, OnErr, OnOk};
+ghost use Rattle.std.specs.Prelude.{◌≡◌, ◌≤◌, ◌∷◌, [], not, length, IfOk, OnErr, OnOk};
+ghost use Rattle.px_base.specs.CallRecords.{told};
 ghost use Rattle.px_base.specs.Counter.{IsListed, counter_after_call};
 ghost use Rattle.px_base.specs.Outside.{Grows};
 ghost use Rattle.real_outside.specs.Files.{octets_read};
-ghost use Rattle.real_outside.specs.Disk.MemoryDevices.{IsDeviceRead, IsDeviceWrite, IsPlain, new_device_state, told_calls};
+ghost use Rattle.real_outside.specs.Disk.MemoryDevices.{IsDeviceRead, IsDeviceWrite, IsPlain, new_device_state};
 
 use super::device::{Device, DeviceCall, DeviceDown};
 use crate::system_error::SystemError;
 use disk_model::overwrite;
-use px_base::{CallCounter, FileBytes, OutOfMemory};
+use px_base::{CallCounter, CallRecord, FileBytes, OutOfMemory};
 use std::alloc::Global;
 use std::io::ErrorKind;
 use std::marker::Model;
@@ -21,8 +22,7 @@ pub struct MemoryDevice {
     alloc: Global,
     octets: Vec<u8>,
     most: usize,
-    calls: Vec<DeviceCall>,
-    untold: bool,
+    made: CallRecord<DeviceCall>,
     counter: CallCounter,
 }
 
@@ -49,8 +49,7 @@ impl MemoryDevice {
             alloc,
             octets: Vec::from_slice(alloc, bytes)?,
             most,
-            calls: Vec::new(alloc),
-            untold: false,
+            made: CallRecord::new(alloc),
             counter: CallCounter::new(alloc, failing)?,
         })
     }
@@ -64,16 +63,16 @@ impl MemoryDevice {
 
     /// The calls so far, with what they answered, but for those that found no memory to be recorded.
     pub fn calls(&self) -> &[DeviceCall]
-        ensures { result.now ≡ self.now.calls }
+        ensures { result.now ≡ self.now.made.calls }
     {
-        self.calls.as_slice()
+        self.made.calls()
     }
 
     /// Whether its calls are told: each so far found the memory to be recorded.
     pub fn is_told(&self) -> bool
-        ensures { result ≡ not self.now.untold }
+        ensures { result ≡ not self.now.made.untold }
     {
-        !self.untold
+        self.made.is_told()
     }
 
     /// Whether a write found no memory. While it is false, and no call is listed to fail, none fails.
@@ -95,23 +94,10 @@ impl MemoryDevice {
         Ok(())
     }
 
-    /// Records a call, where there was memory for it.
-    fn record(&mut self, made: Result<DeviceCall, OutOfMemory>)
-        ensures ok { IfOk made (λ call. Grows (told_calls self.old) (told_calls self.new) (call ∷ [])) }
-        ensures err { OnErr made (told_calls self.new ≡ None) }
-        ensures octets { self.new.octets ≡ self.old.octets }
-        ensures most { self.new.most ≡ self.old.most }
-        ensures counter { self.new.counter ≡ self.old.counter }
-    {
-        if !push(&mut self.calls, made) {
-            self.untold = true;
-        }
-    }
-
     /// Writes the first of these octets, as many as one call moves.
     fn put(&mut self, at: u64, bytes: &[u8]) -> Result<usize, DeviceDown>
         ensures writes { IsDeviceWrite self.old self.new at bytes.now result }
-        ensures told { told_calls self.new ≡ told_calls self.old }
+        ensures made { self.new.made ≡ self.old.made }
     {
         self.count()?;
         let count = self.most.min(bytes.len());
@@ -125,7 +111,7 @@ impl MemoryDevice {
     /// Puts the next octets into the front of the room, as many as one call moves.
     fn get(&mut self, at: u64, room: &mut [u8]) -> Result<usize, DeviceDown>
         ensures reads { IsDeviceRead self.old self.new at room.new result }
-        ensures told { told_calls self.new ≡ told_calls self.old }
+        ensures made { self.new.made ≡ self.old.made }
     {
         self.count()?;
         let there = self.octets.as_slice().get(at as usize..).unwrap_or(&[]);
@@ -136,31 +122,31 @@ impl MemoryDevice {
 }
 
 impl Device for MemoryDevice {
-    ghost use Rattle.real_outside.specs.Disk.MemoryDevices.{told_calls};
+    ghost use Rattle.px_base.specs.CallRecords.{told};
 
-    ghost calls = { told_calls };
+    ghost calls = { λ d. told d.made };
 
     /// The number of octets; a call that is listed fails.
     fn len(&mut self) -> Result<u64, DeviceDown>
-        ensures calls { Grows (told_calls self.old) (told_calls self.new) (DeviceCall.Len result ∷ []) }
+        ensures calls { Grows (told self.old.made) (told self.new.made) (DeviceCall.Len result ∷ []) }
         ensures plain { IsPlain self.old self.new result }
         ensures length { IfOk result (λ n. n ≡ length self.old.octets) }
     {
         let answer = self.count().map(|()| self.octets.len() as u64);
-        self.record(Ok(DeviceCall::Len { answer }));
+        self.made.add(Ok(DeviceCall::Len { answer }));
         answer
     }
 
     /// Puts the next octets into the front of the room, as many as one call moves; a call that is listed fails.
     fn read(&mut self, at: u64, room: &mut [u8]) -> Result<usize, DeviceDown>
         ensures count { IfOk result (λ count. count ≤ length room.old) }
-        ensures calls { Grows (told_calls self.old) (told_calls self.new)
+        ensures calls { Grows (told self.old.made) (told self.new.made)
             (DeviceCall.Read at (length room.old) (octets_read result room.new) ∷ []) }
         ensures reads { IsDeviceRead self.old self.new at room.new result }
     {
         let answer = self.get(at, room);
         let made = made_read(self.alloc, at, room, answer);
-        self.record(made);
+        self.made.add(made);
         answer
     }
 
@@ -168,7 +154,7 @@ impl Device for MemoryDevice {
     /// them is zeros. A call that is listed, or finds no memory, fails.
     fn write(&mut self, at: u64, bytes: &[u8]) -> Result<usize, DeviceDown>
         ensures count { IfOk result (λ count. count ≤ length bytes.now) }
-        ensures calls { Grows (told_calls self.old) (told_calls self.new) (DeviceCall.Write at bytes.now result ∷ []) }
+        ensures calls { Grows (told self.old.made) (told self.new.made) (DeviceCall.Write at bytes.now result ∷ []) }
         ensures writes { IsDeviceWrite self.old self.new at bytes.now result }
     {
         let answer = self.put(at, bytes);
@@ -177,17 +163,17 @@ impl Device for MemoryDevice {
             bytes,
             answer,
         });
-        self.record(made);
+        self.made.add(made);
         answer
     }
 
     /// A call that is listed fails.
     fn sync(&mut self) -> Result<(), DeviceDown>
-        ensures calls { Grows (told_calls self.old) (told_calls self.new) (DeviceCall.Sync result ∷ []) }
+        ensures calls { Grows (told self.old.made) (told self.new.made) (DeviceCall.Sync result ∷ []) }
         ensures plain { IsPlain self.old self.new result }
     {
         let answer = self.count();
-        self.record(Ok(DeviceCall::Sync { answer }));
+        self.made.add(Ok(DeviceCall::Sync { answer }));
         answer
     }
 }
@@ -195,17 +181,6 @@ impl Device for MemoryDevice {
 /// A fault of this kind.
 fn down(kind: ErrorKind) -> DeviceDown {
     DeviceDown::from(SystemError::from(kind))
-}
-
-/// Puts a call at the end, and says whether there was memory for it.
-fn push(calls: &mut Vec<DeviceCall>, made: Result<DeviceCall, OutOfMemory>) -> bool
-    ensures recorded { IsTrue result → IfOk made (λ call. calls.new.items ≡ calls.old.items ++ call ∷ []) }
-    ensures err { OnErr made (result ≡ false) }
-{
-    match made {
-        Ok(call) => calls.push(call).is_ok(),
-        Err(_) => false,
-    }
 }
 
 /// The record of a read into this room, with the octets that it gave.

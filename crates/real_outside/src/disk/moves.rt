@@ -1,8 +1,8 @@
 //! What a disk over a device asks of the device, unless the disk is broken.
 
 ghost use Rattle.std.specs.Prelude.{◌≡◌, ◌⊎◌, ◌↔◌, ◌+◌, ◌≤◌, ◌^◌, true, length, IfOk, IsErr, IsTrue};
-ghost use Rattle.real_outside.specs.Calls.{Reaches};
-ghost use Rattle.real_outside.specs.Disk.Devices.{Asks, AsksLength, FillsFrom, IsLength, IsMoved, IsReadInto, IsSynced, IsWriteOf, MovesOnce, PutsAt, RefusesRange, SyncsOnce};
+ghost use Rattle.px_base.specs.CallRecords.{Asks};
+ghost use Rattle.real_outside.specs.Disk.Devices.{AsksLength, AsksUnless, FillsFrom, IsLength, IsMoved, IsReadInto, IsSynced, IsWriteOf, MovesOnce, PutsAt, RefusesRange, SyncsOnce};
 
 use super::device::{Device, DeviceDown};
 use disk_model::{DiskFault, MOST_OCTETS, ends_within};
@@ -10,7 +10,7 @@ use disk_model::{DiskFault, MOST_OCTETS, ends_within};
 /// The length of the device, unless the disk is broken.
 pub(crate) fn length_of<V: Device>(device: &mut V, broken: bool) -> Result<u64, DiskFault>
     ensures most { IfOk result (λ n. n ≤ 2 ^ 63) }
-    ensures asks { Asks V.calls (broken ≡ true) device.old device.new result (AsksLength result) }
+    ensures asks { AsksUnless V.calls (broken ≡ true) device.old device.new result (AsksLength result) }
 {
     if broken {
         return Err(DiskFault);
@@ -37,7 +37,7 @@ pub(crate) fn read_all<V: Device>(
     at: u64,
     room: &mut [u8],
 ) -> Result<(), DiskFault>
-    ensures { Asks V.calls (RefusesRange broken at (length room.old))
+    ensures { AsksUnless V.calls (RefusesRange broken at (length room.old))
         device.old device.new result (FillsFrom at room.new result) }
 {
     if broken || !ends_within(at, room) {
@@ -49,7 +49,7 @@ pub(crate) fn read_all<V: Device>(
 /// Fills the room with the octets of the device from this place on, read by read.
 fn fill<V: Device>(device: &mut V, at: u64, room: &mut [u8]) -> Result<(), DiskFault>
     requires { at + length room.old ≤ 2 ^ 63 }
-    ensures { Reaches (V.calls device.old) (V.calls device.new) (FillsFrom at room.new result) }
+    ensures { Asks (V.calls device.old) (V.calls device.new) (FillsFrom at room.new result) }
 {
     let mut filled = 0;
     while filled < room.len() {
@@ -74,7 +74,7 @@ pub(crate) fn write_all<V: Device>(
     at: u64,
     bytes: &[u8],
 ) -> Result<(), DiskFault>
-    ensures asks { Asks V.calls (RefusesRange broken.old at (length bytes.now))
+    ensures asks { AsksUnless V.calls (RefusesRange broken.old at (length bytes.now))
         device.old device.new result (PutsAt at bytes.now result) }
     ensures broken { IsTrue broken.new ↔ ((broken.old ≡ true) ⊎ (IsErr result × (at + length bytes.now ≤ 2 ^ 63))) }
 {
@@ -89,7 +89,7 @@ pub(crate) fn write_all<V: Device>(
 /// Writes octets to the device, write by write.
 fn put<V: Device>(device: &mut V, at: u64, bytes: &[u8]) -> Result<(), DiskFault>
     requires { at + length bytes.now ≤ 2 ^ 63 }
-    ensures { Reaches (V.calls device.old) (V.calls device.new) (PutsAt at bytes.now result) }
+    ensures { Asks (V.calls device.old) (V.calls device.new) (PutsAt at bytes.now result) }
 {
     let mut written = 0;
     while written < bytes.len() {
@@ -118,7 +118,7 @@ fn moved_answer(moved: Result<usize, DeviceDown>) -> Result<usize, DiskFault>
 
 /// Syncs the device once, unless the disk is broken; where that fails, the disk is broken.
 pub(crate) fn sync_once<V: Device>(device: &mut V, broken: &mut bool) -> Result<(), DiskFault>
-    ensures asks { Asks V.calls (broken.old ≡ true) device.old device.new result (SyncsOnce result) }
+    ensures asks { AsksUnless V.calls (broken.old ≡ true) device.old device.new result (SyncsOnce result) }
     ensures broken { IsTrue broken.new ↔ IsErr result }
 {
     if *broken {
@@ -131,7 +131,7 @@ pub(crate) fn sync_once<V: Device>(device: &mut V, broken: &mut bool) -> Result<
 
 /// Syncs the device.
 fn sync<V: Device>(device: &mut V) -> Result<(), DiskFault>
-    ensures { Reaches (V.calls device.old) (V.calls device.new) (SyncsOnce result) }
+    ensures { Asks (V.calls device.old) (V.calls device.new) (SyncsOnce result) }
 {
     synced_answer(device.sync())
 }

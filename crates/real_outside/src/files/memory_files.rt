@@ -2,12 +2,12 @@
 
 ghost use Rattle.std.specs.Prelude.{◌≡◌, ◌≤◌, ◌∷◌, [], length, IfOk};
 ghost use Rattle.px_base.specs.Outside.{Grows};
-ghost use Rattle.real_outside.specs.CallRecords.{told};
+ghost use Rattle.px_base.specs.CallRecords.{told};
 ghost use Rattle.real_outside.specs.Files.{file_answer, octets_read, path_answer, refusal};
 
 use super::file_call::{FileCall, Found};
 use super::file_system::FileSystem;
-use crate::call_record::CallRecord;
+use px_base::CallRecord;
 use crate::system_error::SystemError;
 use px_base::{CallCounter, FileBytes, OutOfMemory};
 use std::alloc::Global;
@@ -28,7 +28,7 @@ pub struct MemoryFiles {
 }
 
 impl Model for MemoryFiles {
-    ghost use Rattle.real_outside.specs.CallRecords.{CallRecordState};
+    ghost use Rattle.px_base.specs.CallRecords.{CallRecordState};
     ghost use Rattle.real_outside.specs.declared.files.file_call.FileCall.{FileCall};
 
     ghost Value = { CallRecordState FileCall };
@@ -86,7 +86,7 @@ impl FileSystem for MemoryFiles {
 
     type Reader = io::Empty;
 
-    ghost use Rattle.real_outside.specs.CallRecords.{told};
+    ghost use Rattle.px_base.specs.CallRecords.{told};
 
     ghost calls = { told };
 

@@ -1,7 +1,7 @@
 //! What the disk and the shelf both ask of files.
 
 ghost use Rattle.std.specs.Prelude.{◌≡◌, ◌≤◌, IfOk, length};
-ghost use Rattle.real_outside.specs.Calls.{Reaches};
+ghost use Rattle.px_base.specs.CallRecords.{Asks};
 ghost use Rattle.real_outside.specs.Files.{OpensLocked, WritesOnce, file_answer};
 ghost use Rattle.std.specs.Path.{path_bytes, path_parent};
 ghost use Rattle.real_outside.specs.Files.{folder_of as folder_of_path};
@@ -13,7 +13,7 @@ use std::path::Path;
 
 /// Opens the file of this path as it is, makes it where nothing is, and takes its lock. It fails where either is refused.
 pub(crate) fn open_locked<S: FileSystem>(files: &mut S, path: &str) -> Result<S::File, SystemError>
-    ensures { Reaches (S.calls files.old) (S.calls files.new) (OpensLocked path.now (file_answer S.number result)) }
+    ensures { Asks (S.calls files.old) (S.calls files.new) (OpensLocked path.now (file_answer S.number result)) }
 {
     let file = files.open(path)?;
     match files.lock(&file) {
@@ -31,7 +31,7 @@ pub(crate) fn write_once<S: FileSystem>(
     bytes: &[u8],
 ) -> Result<usize, SystemError>
     ensures count { IfOk result (λ count. count ≤ length bytes.now) }
-    ensures writes { Reaches (S.calls files.old) (S.calls files.new)
+    ensures writes { Asks (S.calls files.old) (S.calls files.new)
         (WritesOnce at bytes.now result (S.number file.now)) }
 {
     if files.limit() <= at {

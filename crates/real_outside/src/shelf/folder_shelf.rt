@@ -3,7 +3,7 @@
 ghost use Rattle.std.specs.Prelude.{◌≡◌, ◌∷◌, [], ◌↔◌, IsOk, None, Result};
 ghost use Rattle.px_base.specs.Outside.{Grows, HasCause, counted_after};
 ghost use Rattle.px_base.specs.Shelves.{HasLoadCause, IsWithin};
-ghost use Rattle.real_outside.specs.Calls.{Reaches};
+ghost use Rattle.px_base.specs.CallRecords.{Asks};
 ghost use Rattle.real_outside.specs.Shelf.Folder.{OpensToLoad, counted_after_load};
 ghost use Rattle.real_outside.specs.Shelf.Keeping.{Keeps, KeepsAs};
 ghost use Rattle.real_outside.specs.declared.files.file_call.FileCall.{FileCall};
@@ -95,7 +95,7 @@ impl<S: FileSystem> Shelf for FolderShelf<S> {
     fn keep(&mut self, name: &str, bytes: &[u8]) -> Result<(), ShelfDown>
         ensures faults { HasCause self.old.faults self.new.faults result }
         ensures counted { self.new.faults ≡ counted_after result self.old.faults }
-        ensures keeps { Reaches (S.calls self.old.files) (S.calls self.new.files) (KeepsAs name.now bytes.now result) }
+        ensures keeps { Asks (S.calls self.old.files) (S.calls self.new.files) (KeepsAs name.now bytes.now result) }
     {
         let kept = keep_at(&mut self.files, self.alloc, name, bytes);
         self.faults.count_err(keep_answer(kept))

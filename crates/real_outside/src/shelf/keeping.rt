@@ -2,7 +2,7 @@
 
 ghost use Rattle.std.specs.Prelude.{◌≡◌, ◌<◌, ◌≤◌, ◌++◌, codes, length, IfErr, IfOk, Some};
 ghost use Rattle.std.specs.String.{string_bytes};
-ghost use Rattle.real_outside.specs.Calls.{Reaches};
+ghost use Rattle.px_base.specs.CallRecords.{Asks};
 ghost use Rattle.real_outside.specs.Shelf.Keeping.{Fills, FillsAndMoves, FollowsLink, Keeps, KeepsAt, KeepsFound, KeepsIn, KeepsLinked, KeepsUnresolved, MovesFilled, OnLocked, Prepares, Replaces, ReplacesBy, WritesFrom, WritesSome, WritesSynced, is_of_system as is_name_of_system, out_of_memory};
 
 use crate::files::{FileSystem, Found, folder_of, open_locked, write_once};
@@ -17,7 +17,7 @@ pub(crate) fn keep_at<S: FileSystem>(
     name: &str,
     bytes: &[u8],
 ) -> Result<(), SystemError>
-    ensures { Reaches (S.calls files.old) (S.calls files.new) (Keeps name.now bytes.now result) }
+    ensures { Asks (S.calls files.old) (S.calls files.new) (Keeps name.now bytes.now result) }
 {
     let found = files.look(name)?;
     keep_found(files, alloc, name, found, bytes)
@@ -31,7 +31,7 @@ fn keep_found<S: FileSystem>(
     found: Found,
     bytes: &[u8],
 ) -> Result<(), SystemError>
-    ensures { Reaches (S.calls files.old) (S.calls files.new) (KeepsFound name.now bytes.now found result) }
+    ensures { Asks (S.calls files.old) (S.calls files.new) (KeepsFound name.now bytes.now found result) }
 {
     match found {
         Found::Nothing => replace(files, alloc, name, None, bytes),
@@ -48,7 +48,7 @@ fn follow<S: FileSystem>(
     name: &str,
     bytes: &[u8],
 ) -> Result<(), SystemError>
-    ensures { Reaches (S.calls files.old) (S.calls files.new) (FollowsLink name.now bytes.now result) }
+    ensures { Asks (S.calls files.old) (S.calls files.new) (FollowsLink name.now bytes.now result) }
 {
     match files.resolve(alloc, name) {
         Ok(path) => keep_linked(files, alloc, name, path.as_str(), bytes),
@@ -64,7 +64,7 @@ fn keep_unresolved<S: FileSystem>(
     error: SystemError,
     bytes: &[u8],
 ) -> Result<(), SystemError>
-    ensures { Reaches (S.calls files.old) (S.calls files.new) (KeepsUnresolved name.now bytes.now error result) }
+    ensures { Asks (S.calls files.old) (S.calls files.new) (KeepsUnresolved name.now bytes.now error result) }
 {
     if error.kind != ErrorKind::NotFound {
         return Err(error);
@@ -83,7 +83,7 @@ fn keep_linked<S: FileSystem>(
     path: &str,
     bytes: &[u8],
 ) -> Result<(), SystemError>
-    ensures { Reaches (S.calls files.old) (S.calls files.new) (KeepsLinked name.now path.now bytes.now result) }
+    ensures { Asks (S.calls files.old) (S.calls files.new) (KeepsLinked name.now path.now bytes.now result) }
 {
     let found = files.look(path)?;
     keep_linked_at(files, alloc, name, path, found, bytes)
@@ -98,7 +98,7 @@ fn keep_linked_at<S: FileSystem>(
     found: Found,
     bytes: &[u8],
 ) -> Result<(), SystemError>
-    ensures { Reaches (S.calls files.old) (S.calls files.new) (KeepsAt name.now path.now bytes.now found result) }
+    ensures { Asks (S.calls files.old) (S.calls files.new) (KeepsAt name.now path.now bytes.now found result) }
 {
     match found {
         Found::File { mode } if !is_of_system(name) => {
@@ -118,7 +118,7 @@ fn is_of_system(name: &str) -> bool
 
 /// Writes the octets to a regular file in place, once its lock is taken.
 fn keep_in_place<S: FileSystem>(files: &mut S, name: &str, bytes: &[u8]) -> Result<(), SystemError>
-    ensures { Reaches (S.calls files.old) (S.calls files.new) (KeepsIn name.now bytes.now result) }
+    ensures { Asks (S.calls files.old) (S.calls files.new) (KeepsIn name.now bytes.now result) }
 {
     let file = open_locked(files, name)?;
     fill(files, &file, None, bytes)
@@ -132,7 +132,7 @@ fn replace<S: FileSystem>(
     mode: Option<u32>,
     bytes: &[u8],
 ) -> Result<(), SystemError>
-    ensures { Reaches (S.calls files.old) (S.calls files.new) (Replaces path.now mode bytes.now result) }
+    ensures { Asks (S.calls files.old) (S.calls files.new) (Replaces path.now mode bytes.now result) }
 {
     let part = part_of(alloc, path)?;
     match mode {
@@ -149,7 +149,7 @@ fn replace_locked<S: FileSystem>(
     mode: u32,
     bytes: &[u8],
 ) -> Result<(), SystemError>
-    ensures { Reaches (S.calls files.old) (S.calls files.new)
+    ensures { Asks (S.calls files.old) (S.calls files.new)
         (OnLocked path.now (λ done held. ReplacesBy path.now part.now (Some mode) bytes.now done) result) }
 {
     let _held = open_locked(files, path)?;
@@ -176,7 +176,7 @@ fn replace_by<S: FileSystem>(
     mode: Option<u32>,
     bytes: &[u8],
 ) -> Result<(), SystemError>
-    ensures { Reaches (S.calls files.old) (S.calls files.new) (ReplacesBy path.now part.now mode bytes.now result) }
+    ensures { Asks (S.calls files.old) (S.calls files.new) (ReplacesBy path.now part.now mode bytes.now result) }
 {
     let file = open_locked(files, part)?;
     move_filled(files, &file, path, part, mode, bytes)
@@ -192,7 +192,7 @@ fn move_filled<S: FileSystem>(
     mode: Option<u32>,
     bytes: &[u8],
 ) -> Result<(), SystemError>
-    ensures { Reaches (S.calls files.old) (S.calls files.new)
+    ensures { Asks (S.calls files.old) (S.calls files.new)
         (MovesFilled path.now part.now mode bytes.now result (S.number file.now)) }
 {
     match fill_and_move(files, file, path, part, mode, bytes) {
@@ -213,7 +213,7 @@ fn fill_and_move<S: FileSystem>(
     mode: Option<u32>,
     bytes: &[u8],
 ) -> Result<(), SystemError>
-    ensures { Reaches (S.calls files.old) (S.calls files.new)
+    ensures { Asks (S.calls files.old) (S.calls files.new)
         (FillsAndMoves path.now part.now mode bytes.now result (S.number file.now)) }
 {
     fill(files, file, mode, bytes)?;
@@ -227,7 +227,7 @@ fn fill<S: FileSystem>(
     mode: Option<u32>,
     bytes: &[u8],
 ) -> Result<(), SystemError>
-    ensures { Reaches (S.calls files.old) (S.calls files.new) (Fills mode bytes.now result (S.number file.now)) }
+    ensures { Asks (S.calls files.old) (S.calls files.new) (Fills mode bytes.now result (S.number file.now)) }
 {
     prepare(files, file, mode)?;
     write_synced(files, file, bytes)
@@ -239,7 +239,7 @@ fn prepare<S: FileSystem>(
     file: &S::File,
     mode: Option<u32>,
 ) -> Result<(), SystemError>
-    ensures { Reaches (S.calls files.old) (S.calls files.new) (Prepares mode result (S.number file.now)) }
+    ensures { Asks (S.calls files.old) (S.calls files.new) (Prepares mode result (S.number file.now)) }
 {
     files.cut(file)?;
     match mode {
@@ -254,7 +254,7 @@ fn write_synced<S: FileSystem>(
     file: &S::File,
     bytes: &[u8],
 ) -> Result<(), SystemError>
-    ensures { Reaches (S.calls files.old) (S.calls files.new) (WritesSynced bytes.now result (S.number file.now)) }
+    ensures { Asks (S.calls files.old) (S.calls files.new) (WritesSynced bytes.now result (S.number file.now)) }
 {
     write_all(files, file, bytes)?;
     files.sync(file)
@@ -262,7 +262,7 @@ fn write_synced<S: FileSystem>(
 
 /// Writes all of these octets to the file from its start, write by write.
 fn write_all<S: FileSystem>(files: &mut S, file: &S::File, bytes: &[u8]) -> Result<(), SystemError>
-    ensures { Reaches (S.calls files.old) (S.calls files.new) (WritesFrom 0 bytes.now result (S.number file.now)) }
+    ensures { Asks (S.calls files.old) (S.calls files.new) (WritesFrom 0 bytes.now result (S.number file.now)) }
 {
     let mut written = 0;
     while written < bytes.len() {
@@ -280,7 +280,7 @@ fn write_some<S: FileSystem>(
 ) -> Result<usize, SystemError>
     ensures some { IfOk result (λ count. 0 < count) }
     ensures count { IfOk result (λ count. count ≤ length bytes.now) }
-    ensures writes { Reaches (S.calls files.old) (S.calls files.new)
+    ensures writes { Asks (S.calls files.old) (S.calls files.new)
         (WritesSome at bytes.now result (S.number file.now)) }
 {
     match write_once(files, file, at, bytes) {

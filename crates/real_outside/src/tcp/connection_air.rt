@@ -3,7 +3,7 @@
 ghost use Rattle.std.specs.Prelude.{◌≡◌, IfOk, is_ok};
 ghost use Rattle.px_base.specs.Outside.{HasCause, counted_after};
 ghost use Rattle.px_base.specs.Polling.{IsPolled, turn_of};
-ghost use Rattle.real_outside.specs.CallRecords.{Asks};
+ghost use Rattle.px_base.specs.CallRecords.{Asks};
 ghost use Rattle.real_outside.specs.Tcp.Connections.{IsShut, Polls, Puts};
 
 use crate::tcp::connection::Connection;

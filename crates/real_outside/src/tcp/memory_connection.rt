@@ -2,12 +2,12 @@
 
 ghost use Rattle.std.specs.Prelude.{◌≡◌, ◌≤◌, ◌∷◌, [], drop, length, IfOk};
 ghost use Rattle.px_base.specs.Outside.{Grows};
-ghost use Rattle.real_outside.specs.CallRecords.{no_calls, told};
+ghost use Rattle.px_base.specs.CallRecords.{no_calls, told};
 ghost use Rattle.real_outside.specs.Scripts.{done_answer, next_answer, read_answer, write_answer};
 ghost use Rattle.real_outside.specs.StreamCalls.{octets_read};
 
 use crate::tcp::connection::{Connection, ConnectionCall};
-use crate::{CallRecord, MemoryAnswer, Script, SystemError};
+use crate::{MemoryAnswer, Script, SystemError};
 use px_base::{FileBytes, OutOfMemory};
 use std::alloc::Global;
 use std::marker::Model;

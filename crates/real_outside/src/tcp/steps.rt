@@ -2,7 +2,7 @@
 
 ghost use Rattle.std.specs.Prelude.{◌≡◌, ◌≤◌, ℕ, List, [], length, IfOk, is_ok};
 ghost use Rattle.px_base.specs.Polling.{IsPolled, turn_of};
-ghost use Rattle.real_outside.specs.CallRecords.{Asks};
+ghost use Rattle.px_base.specs.CallRecords.{Asks};
 ghost use Rattle.real_outside.specs.Tcp.Connections.{Connects, HearsAt, IsPollAnswer, IsShut, IsTaken, LimitsReads};
 ghost use Rattle.real_outside.specs.Tcp.Connections.{Opens, Polls, Puts, Readies, SaysAt, Sends, SendsAtOnce};
 ghost use Rattle.real_outside.specs.Tcp.Connections.{WritesOnce, is_quiet as is_quiet_kind, stage_after_saying};

@@ -72,7 +72,7 @@ returns-in-Err g c =
       air_read = record { rose = λ e. absurd (refused-not why status.AirRead refl e); same = λ _ _. refl };
       air_write = record { rose = λ e. absurd (refused-not why status.AirWrite refl e); same = λ _ _ _ _. refl };
       disk = refused-disk words only why h g.D.Disk.read_faults g.D.Disk.write_faults c.args.disk.now c.args.air.now;
-      shelf = record { rose = λ e. absurd (refused-not why status.Shelf refl e); same = λ _ _. refl };
+      shelf = record { rose = λ e. absurd (refused-not why status.Shelf refl e); same = λ _. refl };
       out = λ e. absurd (refused-not why status.Out refl e);
       bad_store = refused-bad_store words only why h (g.D.Disk.content c.args.disk.now);
       node_done = λ _ e. absurd (refused-not why status.Done refl e);
@@ -138,7 +138,7 @@ returns-in-Session g c =
       air_read = session-read g.D.Disk g.A.Air g.C.Clock.given c.args.disk.now ran.new.disk c.args.air.now ran.new.air c.args.clock.now ran.new.clock asked ran.result words asks only determined over;
       air_write = session-write g.D.Disk g.A.Air g.C.Clock.given c.args.disk.now ran.new.disk c.args.air.now ran.new.air c.args.clock.now ran.new.clock asked ran.result words asks only determined over;
       disk = session-disk g.D.Disk g.A.Air g.C.Clock.given c.args.disk.now ran.new.disk c.args.air.now ran.new.air c.args.clock.now ran.new.clock asked ran.result words asks only determined over;
-      shelf = record { rose = λ e. absurd (isnt status.Shelf refl e); same = λ _ _. refl };
+      shelf = record { rose = λ e. absurd (isnt status.Shelf refl e); same = λ _. refl };
       out = λ e. absurd (isnt status.Out refl e);
       bad_store = session-bad_store g.D.Disk g.A.Air g.C.Clock.given c.args.disk.now ran.new.disk c.args.air.now ran.new.air c.args.clock.now ran.new.clock asked ran.result words asks only determined over;
       node_done = λ _. session-done g.D.Disk g.A.Air g.C.Clock.given c.args.disk.now ran.new.disk c.args.air.now ran.new.air c.args.clock.now ran.new.clock asked ran.result words asks only determined over;
@@ -203,7 +203,7 @@ returns-in-Serve g c =
       air_read = serve-read g.D.Disk g.A.Air g.C.Clock.given c.args.disk.now ran.new.disk c.args.air.now ran.new.air c.args.clock.now ran.new.clock asked ran.result words asks only determined over;
       air_write = serve-write g.D.Disk g.A.Air g.C.Clock.given c.args.disk.now ran.new.disk c.args.air.now ran.new.air c.args.clock.now ran.new.clock asked ran.result words asks only determined over;
       disk = serve-disk g.D.Disk g.A.Air g.C.Clock.given c.args.disk.now ran.new.disk c.args.air.now ran.new.air c.args.clock.now ran.new.clock asked ran.result words asks only determined over;
-      shelf = record { rose = λ e. absurd (isnt status.Shelf refl e); same = λ _ _. refl };
+      shelf = record { rose = λ e. absurd (isnt status.Shelf refl e); same = λ _. refl };
       out = λ e. absurd (isnt status.Out refl e);
       bad_store = serve-bad_store g.D.Disk g.A.Air g.C.Clock.given c.args.disk.now ran.new.disk c.args.air.now ran.new.air c.args.clock.now ran.new.clock asked ran.result words asks only determined over;
       node_done = λ _. serve-done g.D.Disk g.A.Air g.C.Clock.given c.args.disk.now ran.new.disk c.args.air.now ran.new.air c.args.clock.now ran.new.clock asked ran.result words asks only determined over;
@@ -276,7 +276,7 @@ returns-in-File g c =
       };
       node_done = λ node. absurd (node-file words only node file);
       done = λ e. (
-        ran.ensures.shelf.same (λ f. let other = sym e in cc) (λ f. let other = sym e in cc),
+        ran.ensures.shelf.same (λ f. let other = sym e in cc),
         file-done g.O.Out.shown g.O.Out.faults command held name c.args.out.now ran.new.out ran.result ran.ensures.shown c.show_line-in-File.new.out (λ d. line.no_line (ap line_of d)) e,
       );
       unshown = λ _ others. absurd (others (inl file));
@@ -352,7 +352,7 @@ returns-in-Make g c =
       };
       node_done = λ node. absurd (node-make words only node make);
       done = λ e. (
-        ran.ensures.shelf.same (λ f. let other = sym e in cc) (λ f. let other = sym e in cc),
+        ran.ensures.shelf.same (λ f. let other = sym e in cc),
         ap g.O.Out.faults (line.no_line (ap line_of e)),
       );
       unshown = λ e _. line.no_line (ap line_of e);

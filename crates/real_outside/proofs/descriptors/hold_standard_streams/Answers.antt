@@ -1,6 +1,6 @@
 use Rattle.std.proofs.Common.{◌≡◌, ◌+◌, length, arith, true, false, Ok, Err, inr}
 use Rattle.real_outside.proofs.Held.{are_standard, length_more, opened_held, opened_last}
-use Rattle.real_outside.proofs.Reached.{reaches_as, reaches_more}
+use Rattle.px_base.proofs.Told.{asks_as, asks_more}
 use Rattle.real_outside.specs.Descriptors.{AreHeld, HoldsLowest}
 use Rattle.real_outside.proofs.descriptors.hold_standard_streams.Goals as goal
 
@@ -10,7 +10,7 @@ returns-then-not-branch g c =
     let answers_of = g.N.NullDevice.answers in
     let made = c.hold_next.ensures in
     let no : c.hold_next.result ≡ Ok false = cc (c.in_ok-hold_next.was, c.if-not-branch.true) in
-    reaches_more (λ answers. AreHeld number c.loop.streams answers × (length answers ≡ c.loop.counter)) (HoldsLowest number (Ok c.hold_next.new.streams))
+    asks_more (λ answers. AreHeld number c.loop.streams answers × (length answers ≡ c.loop.counter)) (HoldsLowest number (Ok c.hold_next.new.streams))
     (answers_of c.args.null.now) (answers_of c.loop.null) (answers_of c.hold_next.new.null) made.0 made.1
     (λ answers before. opened_last number c.loop.streams c.hold_next.new.streams made.0 c.hold_next.result answers made.2 no before.0)
     c.loop.invariant
@@ -21,7 +21,7 @@ loop-preserved g c =
     let answers_of = g.N.NullDevice.answers in
     let made = c.hold_next.ensures in
     let yes : c.hold_next.result ≡ Ok true = cc (c.in_ok-hold_next.was, c.if-not-branch.false) in
-    reaches_more (λ answers. AreHeld number c.loop.streams answers × (length answers ≡ c.loop.counter))
+    asks_more (λ answers. AreHeld number c.loop.streams answers × (length answers ≡ c.loop.counter))
     (λ answers. AreHeld number c.hold_next.new.streams answers × (length answers ≡ c.loop.counter + 1))
     (answers_of c.args.null.now) (answers_of c.loop.null) (answers_of c.hold_next.new.null) made.0 made.1
     (λ answers before. (
@@ -35,7 +35,7 @@ returns g c =
     let number = g.N.NullDevice.descriptor in
     let answers_of = g.N.NullDevice.answers in
     let four : c.loop.counter ≡ 4 = omega arith in
-    reaches_as (λ answers. AreHeld number c.loop.streams answers × (length answers ≡ c.loop.counter)) (HoldsLowest number (Err c.from.result))
+    asks_as (λ answers. AreHeld number c.loop.streams answers × (length answers ≡ c.loop.counter)) (HoldsLowest number (Err c.from.result))
     (answers_of c.args.null.now) (answers_of c.loop.null)
     (λ answers before. inr (cc (before.1, four), are_standard number c.loop.streams answers before.0))
     c.loop.invariant

@@ -1,10 +1,10 @@
 -- Each opening so far gave a descriptor of a standard stream, and is held.
 use Rattle.std.proofs.Common.{◌≡◌, length}
-use Rattle.real_outside.specs.Calls.{Reaches}
+use Rattle.px_base.specs.CallRecords.{Asks}
 use Rattle.real_outside.specs.Descriptors.{AreHeld}
 use Rattle.real_outside.proofs.descriptors.hold_standard_streams.Given as goal
 
 abbrev pub invariant-loop : goal.invariant-loop
 invariant-loop g l =
-    Reaches (g.N.NullDevice.answers l.fn.null) (g.N.NullDevice.answers l.null)
+    Asks (g.N.NullDevice.answers l.fn.null) (g.N.NullDevice.answers l.null)
     (λ answers. AreHeld g.N.NullDevice.descriptor l.streams answers × (length answers ≡ l.counter))

@@ -3,7 +3,7 @@ use Rattle.std.proofs.lemmas.List.{take_rest, take_all}
 use Rattle.real_outside.specs.Disk.Devices.{FillsFrom, GoesOn, IsReadOf, all_given, moved, octets_given}
 use Rattle.real_outside.specs.declared.disk.device.DeviceCall.{DeviceCall}
 use Rattle.real_outside.proofs.Moving.{Leads, fills_not, front_of_room, given_more, leads_end, leads_fault, leads_more}
-use Rattle.real_outside.proofs.Reached.{reaches_as, reaches_more}
+use Rattle.px_base.proofs.Told.{asks_as, asks_more}
 use Rattle.real_outside.proofs.disk.moves.fill.Goals as goal
 use borrow.Rule.Slice.PartMut.{put_mid, same_len_mid}
 
@@ -28,7 +28,7 @@ returns-in_err-filled g c =
     omega (arith, ap length (take_rest c.loop-filled.room done), length-drop done c.loop-filled.room, c.read_some.auto.room, c.loop-filled.auto.room) in
     let size : all ≡ length (put_mid done (length c.loop-filled.room - done) c.loop-filled.room c.read_some.new.room) =
     omega (arith, same_len_mid done (length c.loop-filled.room - done) c.loop-filled.room c.read_some.new.room c.read_some.auto.room, c.loop-filled.auto.room) in
-    reaches_more (Fills at all done c.loop-filled.room) (FillsFrom at (put_mid done (length c.loop-filled.room - done) c.loop-filled.room c.read_some.new.room) c.from_residual.result)
+    asks_more (Fills at all done c.loop-filled.room) (FillsFrom at (put_mid done (length c.loop-filled.room - done) c.loop-filled.room c.read_some.new.room) c.from_residual.result)
     (g.V.Device.calls c.args.device.now) (g.V.Device.calls c.loop-filled.device) (g.V.Device.calls c.read_some.new.device) made.0 made.1
     (λ calls so_far.
     fills_not at _ c.from_residual.result (calls ++ made.0 ∷ []) c.from_residual.ensures.0
@@ -54,7 +54,7 @@ loop-filled-preserved g c =
     record {
       within = omega (arith, left, few, within, c.loop-filled-test.true);
       reaches =
-          reaches_more (Fills at all done c.loop-filled.room)
+          asks_more (Fills at all done c.loop-filled.room)
           (Fills at all (done + count) (put_mid done (length c.loop-filled.room - done) c.loop-filled.room c.read_some.new.room))
           (g.V.Device.calls c.args.device.now) (g.V.Device.calls c.loop-filled.device) (g.V.Device.calls c.read_some.new.device) next made.1
           (λ calls so_far. (
@@ -74,7 +74,7 @@ returns g c =
     let done = c.loop-filled.filled in
     let size : all ≡ length c.loop-filled.room = omega (arith, c.loop-filled.auto.room) in
     let whole : done ≡ all = omega (arith, size) in
-    reaches_as (Fills at all done c.loop-filled.room) (FillsFrom at c.loop-filled.room _) (g.V.Device.calls c.args.device.now) (g.V.Device.calls c.loop-filled.device)
+    asks_as (Fills at all done c.loop-filled.room) (FillsFrom at c.loop-filled.room _) (g.V.Device.calls c.args.device.now) (g.V.Device.calls c.loop-filled.device)
     (λ calls so_far. record {
       reads = same_size at all _ calls true size (leads_end (IsNext at all) all done calls whole so_far.0);
       given = λ ok. sym (so_far.1 ∙ take_all done c.loop-filled.room (omega (arith, size, whole)));

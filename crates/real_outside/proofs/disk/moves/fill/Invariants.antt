@@ -1,6 +1,6 @@
 -- What reached the device gave the octets before those that are left.
 use Rattle.std.proofs.Common.{◌≡◌, ◌+◌, ◌-◌, ◌≤◌, length, take}
-use Rattle.real_outside.specs.Calls.{Reaches}
+use Rattle.px_base.specs.CallRecords.{Asks}
 use Rattle.real_outside.specs.Disk.Devices.{IsReadOf, all_given}
 use Rattle.real_outside.proofs.Moving.{Leads}
 use Rattle.real_outside.proofs.disk.moves.fill.Given as goal
@@ -10,7 +10,7 @@ invariant-loop-filled g l =
     record {
       within : l.filled ≤ length l.initial.room;
       reaches :
-          Reaches (g.V.Device.calls l.fn.device) (g.V.Device.calls l.device)
+          Asks (g.V.Device.calls l.fn.device) (g.V.Device.calls l.device)
           (λ calls.
           Leads (λ before. IsReadOf (l.at + before) (length l.initial.room - before)) (length l.initial.room) l.filled calls
           × (all_given calls ≡ take l.filled l.room));

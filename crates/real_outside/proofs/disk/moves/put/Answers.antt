@@ -3,7 +3,7 @@ use Rattle.std.proofs.lemmas.List.{take_rest}
 use Rattle.real_outside.specs.Disk.Devices.{IsWriteOf, WritesAll, moved}
 use Rattle.real_outside.specs.declared.disk.device.DeviceCall.{DeviceCall}
 use Rattle.real_outside.proofs.Moving.{Leads, leads_end, leads_more}
-use Rattle.real_outside.proofs.Reached.{reaches_as, reaches_more}
+use Rattle.px_base.proofs.Told.{asks_as, asks_more}
 use Rattle.real_outside.proofs.disk.moves.put.Goals as goal
 
 abbrev IsNext : ℕ → List ℕ → ℕ → DeviceCall → Type 0
@@ -24,7 +24,7 @@ loop-written-preserved g c =
     record {
       within = omega (arith, c.in_ok-written.ensures.count, ap length (take_rest bytes done), length-drop done bytes, c.loop-written-test.true);
       reaches =
-          reaches_more (Before done) (Before (done + count)) (g.V.Device.calls c.args.device.now) (g.V.Device.calls c.loop-written.device) (g.V.Device.calls c.write_some.new.device) next made.1
+          asks_more (Before done) (Before (done + count)) (g.V.Device.calls c.args.device.now) (g.V.Device.calls c.loop-written.device) (g.V.Device.calls c.write_some.new.device) next made.1
           (λ calls leads.
           subst (λ (n : ℕ). Before (done + n) (calls ++ next ∷ [])) same (leads_more (IsNext at bytes) (length bytes) done calls next c.loop-written-test.true is some leads))
           c.loop-written.invariant.reaches;
@@ -35,5 +35,5 @@ returns g c =
     let at = c.args.at in
     let bytes = c.args.bytes.now in
     let whole : c.loop-written.written ≡ length bytes = omega arith in
-    reaches_as (Leads (IsNext at bytes) (length bytes) c.loop-written.written) (λ calls. WritesAll at bytes calls true) (g.V.Device.calls c.args.device.now) (g.V.Device.calls c.loop-written.device)
+    asks_as (Leads (IsNext at bytes) (length bytes) c.loop-written.written) (λ calls. WritesAll at bytes calls true) (g.V.Device.calls c.args.device.now) (g.V.Device.calls c.loop-written.device)
     (λ calls leads. leads_end (IsNext at bytes) (length bytes) c.loop-written.written calls whole leads) c.loop-written.invariant.reaches

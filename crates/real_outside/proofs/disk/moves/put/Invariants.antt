@@ -1,6 +1,6 @@
 -- What reached the device wrote the octets before those that are left.
 use Rattle.std.proofs.Common.{◌+◌, ◌-◌, ◌≤◌, length, drop}
-use Rattle.real_outside.specs.Calls.{Reaches}
+use Rattle.px_base.specs.CallRecords.{Asks}
 use Rattle.real_outside.specs.Disk.Devices.{IsWriteOf}
 use Rattle.real_outside.proofs.Moving.{Leads}
 use Rattle.real_outside.proofs.disk.moves.put.Given as goal
@@ -10,7 +10,7 @@ invariant-loop-written g l =
     record {
       within : l.written ≤ length l.bytes;
       reaches :
-          Reaches (g.V.Device.calls l.fn.device) (g.V.Device.calls l.device)
+          Asks (g.V.Device.calls l.fn.device) (g.V.Device.calls l.device)
           (Leads (λ before. IsWriteOf (l.at + before) (drop before l.bytes)) (length l.bytes) l.written);
     }
 

@@ -1,7 +1,7 @@
 use Rattle.std.proofs.Common.{◌≡◌, inr, Some, false, sym, subst}
 use Rattle.real_outside.specs.Shelf.Keeping.{KeepsAt, Replaces, is_of_system}
 use Rattle.real_outside.specs.declared.files.file_call.Found.{Found}
-use Rattle.real_outside.proofs.Reached.{reaches_as}
+use Rattle.px_base.proofs.Told.{asks_as}
 use Rattle.real_outside.proofs.shelf.keeping.keep_linked_at.Goals as goal
 
 pub returns-in-File : goal.returns-in-File
@@ -11,6 +11,6 @@ returns-in-File g c =
     let bytes = c.args.bytes.now in
     let result = c.replace.result in
     let no : is_of_system name ≡ false = cc (c.is_of_system.ensures, c.if-not-is_of_system.true) in
-    reaches_as (Replaces path (Some c.in-File.mode) bytes result) (KeepsAt name path bytes c.args.found result)
+    asks_as (Replaces path (Some c.in-File.mode) bytes result) (KeepsAt name path bytes c.args.found result)
     (g.S.FileSystem.calls c.args.files.now) (g.S.FileSystem.calls c.replace.new.files)
     (λ calls replaces. subst (λ (found : Found). KeepsAt name path bytes found result calls) (sym c.in-File.is) (inr (no, replaces))) c.replace.ensures

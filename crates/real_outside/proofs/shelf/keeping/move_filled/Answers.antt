@@ -3,7 +3,7 @@ use Rattle.px_base.specs.Outside.{Grows}
 use Rattle.real_outside.specs.Files.{folder_of}
 use Rattle.real_outside.specs.Shelf.Keeping.{FillsAndMoves, MovesFilled}
 use Rattle.real_outside.specs.declared.files.file_call.FileCall.TheVariants as call
-use Rattle.real_outside.proofs.Reached.{reaches_more}
+use Rattle.px_base.proofs.Told.{asks_more}
 use Rattle.real_outside.proofs.shelf.keeping.move_filled.Goals as goal
 
 pub returns-in-Ok : goal.returns-in-Ok
@@ -15,7 +15,7 @@ returns-in-Ok g c =
     let mode = c.args.mode in
     let bytes = c.args.bytes.now in
     let result = c.sync_folder.result in
-    reaches_more (FillsAndMoves path part mode bytes (Ok tt) file) (MovesFilled path part mode bytes result file)
+    asks_more (FillsAndMoves path part mode bytes (Ok tt) file) (MovesFilled path part mode bytes result file)
     (calls_of c.args.files.now) (calls_of c.fill_and_move.new.files) (calls_of c.sync_folder.new.self) (call.SyncFolder (folder_of path) result)
     (subst (λ (l : List ℕ). Grows (calls_of c.fill_and_move.new.files) (calls_of c.sync_folder.new.self) (call.SyncFolder l result ∷ [])) c.folder_of.ensures c.sync_folder.ensures)
     (λ calls fills. inr (calls, refl, fills)) c.in-Ok.ensures
@@ -29,6 +29,6 @@ returns-in-Err g c =
     let mode = c.args.mode in
     let bytes = c.args.bytes.now in
     let error = c.in-Err.error in
-    reaches_more (FillsAndMoves path part mode bytes (Err error) file) (MovesFilled path part mode bytes (Err error) file)
+    asks_more (FillsAndMoves path part mode bytes (Err error) file) (MovesFilled path part mode bytes (Err error) file)
     (calls_of c.args.files.now) (calls_of c.fill_and_move.new.files) (calls_of c.remove.new.self) (call.Remove part c.remove.result) c.remove.ensures
     (λ calls fills. inl (calls, c.remove.result, refl, refl, fills)) c.in-Err.ensures

@@ -2,7 +2,7 @@ use Rattle.std.proofs.Common.{◌≡◌, inl, ℕ, List, ◌++◌, Option, None,
 use Rattle.std.specs.Prelude.{codes}
 use Rattle.real_outside.specs.Shelf.Keeping.{OnLocked, Replaces, ReplacesBy, out_of_memory}
 use Rattle.real_outside.proofs.Kept.{handed_on, none_replaced}
-use Rattle.real_outside.proofs.Reached.{reaches_as}
+use Rattle.px_base.proofs.Told.{asks_as}
 use Rattle.real_outside.proofs.shelf.keeping.replace.Goals as goal
 
 pub returns-in_err-part : goal.returns-in_err-part
@@ -18,7 +18,7 @@ returns-in-None g c =
     let bytes = c.args.bytes.now in
     let result = c.replace_by.result in
     let named : c.as_str.result.now ≡ path ++ codes ".part" = cc (c.as_str.ensures.value, c.in_ok-part.ensures.ok) in
-    reaches_as (ReplacesBy path c.as_str.result.now None bytes result) (Replaces path c.args.mode bytes result)
+    asks_as (ReplacesBy path c.as_str.result.now None bytes result) (Replaces path c.args.mode bytes result)
     (g.S.FileSystem.calls c.args.files.now) (g.S.FileSystem.calls c.replace_by.new.files)
     (λ calls replaces.
     subst (λ (mode : Option ℕ). Replaces path mode bytes result calls) (sym c.in-None.is)
@@ -31,7 +31,7 @@ returns g c =
     let bytes = c.args.bytes.now in
     let result = c.replace_locked.result in
     let named : c.as_str-in-Some.result.now ≡ path ++ codes ".part" = cc (c.as_str-in-Some.ensures.value, c.in_ok-part.ensures.ok) in
-    reaches_as (OnLocked path (λ done held. ReplacesBy path c.as_str-in-Some.result.now (Some c.in-Some.mode) bytes done) result) (Replaces path c.args.mode bytes result)
+    asks_as (OnLocked path (λ done held. ReplacesBy path c.as_str-in-Some.result.now (Some c.in-Some.mode) bytes done) result) (Replaces path c.args.mode bytes result)
     (g.S.FileSystem.calls c.args.files.now) (g.S.FileSystem.calls c.replace_locked.new.files)
     (λ calls replaces.
     subst (λ (mode : Option ℕ). Replaces path mode bytes result calls) (sym c.in-Some.is)

@@ -1,6 +1,6 @@
 -- What reached the files wrote the octets before those that are left.
 use Rattle.std.proofs.Common.{◌-◌, ◌≤◌, length}
-use Rattle.real_outside.specs.Calls.{Reaches}
+use Rattle.px_base.specs.CallRecords.{Asks}
 use Rattle.real_outside.proofs.WriteByWrite.{Leads}
 use Rattle.real_outside.proofs.shelf.keeping.write_all.Given as goal
 
@@ -9,7 +9,7 @@ invariant-loop-written g l =
     record {
       within : l.written ≤ length l.bytes;
       reaches :
-          Reaches (g.S.FileSystem.calls l.fn.files) (g.S.FileSystem.calls l.files)
+          Asks (g.S.FileSystem.calls l.fn.files) (g.S.FileSystem.calls l.files)
           (Leads l.bytes (g.S.FileSystem.number l.file) l.written);
     }
 

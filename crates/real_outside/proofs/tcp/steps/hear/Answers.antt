@@ -1,7 +1,7 @@
 use Rattle.std.proofs.Common.{refl}
 use Rattle.px_base.specs.Polling.{turn_of}
 use Rattle.real_outside.specs.Tcp.Connections.{HearsAt, Polls, Readies}
-use Rattle.real_outside.proofs.Asked.{asks_then}
+use Rattle.px_base.proofs.Told.{asks_then}
 use Rattle.real_outside.proofs.tcp.steps.hear.Goals as goal
 
 pub returns-clause-asks : goal.returns-clause-asks

@@ -2,7 +2,7 @@
 use Rattle.std.specs.Prelude.{List, [], Bool, false, Option, None, Some, if◌then◌else◌}
 use Rattle.px_base.specs.Outside.{Grows}
 
--- The calls that came since, where they are told now, have P.
+-- The calls that reached something outside the program until now, or those of them that are told, have P.
 abbrev pub Asks : {C : Type 0} → Option (List C) → Option (List C) → (List C → Type 0) → Type 0
 Asks {C} before now P = (calls : List C) × Grows before now calls × P calls
 

@@ -2,9 +2,9 @@
 
 ghost use Rattle.std.specs.Prelude.{◌≡◌, ◌∷◌, ◌++◌, [], None, false, not, IfOk, IsTrue, OnErr};
 ghost use Rattle.px_base.specs.Outside.{Grows};
-ghost use Rattle.real_outside.specs.CallRecords.{no_calls, told};
+ghost use Rattle.px_base.specs.CallRecords.{no_calls, told};
 
-use px_base::OutOfMemory;
+use crate::memory::OutOfMemory;
 use std::alloc::Global;
 use std::marker::Model;
 
@@ -16,7 +16,7 @@ pub struct CallRecord<C> {
 }
 
 impl<C> Model for CallRecord<C> {
-    ghost use Rattle.real_outside.specs.CallRecords.{CallRecordState};
+    ghost use Rattle.px_base.specs.CallRecords.{CallRecordState};
 
     ghost Value = { CallRecordState C };
 
