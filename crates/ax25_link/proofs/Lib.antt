@@ -2,8 +2,8 @@ mod AirLemmas
 mod BoundLemmas
 mod DeliveryLemmas
 mod DrainsLemmas
-pub mod EndKept
-pub mod EndLemmas
+mod EndKept
+mod EndLemmas
 mod FrameLemmas
 mod HeardLemmas
 mod LawLemmas
@@ -11,9 +11,10 @@ mod LinkedLemmas
 mod MeaningLemmas
 mod Modulus
 mod NoCallLemmas
+pub mod Offered
 mod OneMeaning
-pub mod Places
+mod Places
 mod QueueLemmas
 mod RunLemmas
-pub mod SendLemmas
+mod SendLemmas
 mod StandLemmas

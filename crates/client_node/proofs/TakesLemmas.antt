@@ -16,7 +16,7 @@ use Rattle.client_notes.specs.Laws.{after_all}
 use Rattle.client_notes.specs.Notes.{Lists}
 use Rattle.client_notes.specs.Several.{DoesSeveral}
 use Rattle.client_notes.specs.State.{NotesState, StandsOn}
-use Rattle.client_notes.proofs.SeveralLemmas.{Several-none, Several-same, Several-then}
+use Rattle.client_notes.proofs.Offered.{Several-none, Several-same, Several-then}
 use Rattle.ftl0_client.specs.Layout.{Item}
 use Rattle.node_events.specs.Events as node
 use Rattle.node_events.specs.Events.{NodeEvent, tick_since}

@@ -6,8 +6,7 @@ use Rattle.file_journal.specs.Position.{Position}
 use Rattle.file_journal.specs.Walk.{KeepsState}
 use Rattle.file_journal.specs.declared.faults.JournalFault.{JournalFault}
 use Rattle.file_journal.specs.declared.faults.JournalFault.TheVariants as fault
-use Rattle.file_journal.proofs.CallLemmas.{puts_same}
-use Rattle.file_journal.proofs.WalkLemmas.{failed_keeps}
+use Rattle.file_journal.proofs.Offered.{failed_keeps, puts_same}
 use Rattle.client_notes.specs.Answers.{Noting, RefusesNoting, noting_reaches}
 use Rattle.client_notes.specs.Command.{NotesCommand, after, is_allowed}
 use Rattle.client_notes.specs.Notes.{Lists}

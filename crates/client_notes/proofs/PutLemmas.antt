@@ -12,9 +12,7 @@ use Rattle.file_journal.specs.Records.{Record}
 use Rattle.file_journal.specs.Walk.{KeepsState, StandFor, StandForEither, stands_for, stands_of}
 use Rattle.file_journal.specs.declared.faults.JournalFault.{JournalFault}
 use Rattle.file_journal.specs.declared.faults.JournalFault.TheVariants as fault
-use Rattle.file_journal.proofs.MomentLemmas.{weaker}
-use Rattle.file_journal.proofs.ToldLemmas.{at_told, if_told, told_before, told_weaker}
-use Rattle.file_journal.proofs.WalkLemmas.{append_leaves, one_step}
+use Rattle.file_journal.proofs.Offered.{append_leaves, at_told, if_told, one_step, told_before, told_weaker, weaker}
 use Rattle.client_notes.specs.Command.{NotesCommand, after, is_allowed}
 use Rattle.client_notes.specs.Records.{command_of, notes_after, notes_magic, notes_step}
 use Rattle.client_notes.specs.Notes.{Lists}

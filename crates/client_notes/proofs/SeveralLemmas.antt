@@ -7,9 +7,7 @@ use Rattle.std.proofs.Math.Seq.{take-append-add}
 use Rattle.disk_model.specs.Moments.{LeavesOnly}
 use Rattle.disk_model.specs.declared.disk.Disk.{Ghosts}
 use Rattle.file_journal.specs.Calls.{images_now}
-use Rattle.file_journal.proofs.CallLemmas.{puts_none, puts_on, puts_same}
-use Rattle.file_journal.proofs.MomentLemmas.{joined, started, weaker}
-use Rattle.file_journal.proofs.ToldLemmas.{at_told, if_told, told_before, told_weaker}
+use Rattle.file_journal.proofs.Offered.{at_told, if_told, joined, puts_none, puts_on, puts_same, started, told_before, told_weaker, weaker}
 use Rattle.client_notes.specs.Command.{NotesCommand, after}
 use Rattle.client_notes.specs.Laws.{AreAllowed, after_all}
 use Rattle.client_notes.specs.Notes.{Lists}

@@ -13,8 +13,7 @@ use Rattle.file_journal.specs.Laws.{ComesTo}
 use Rattle.file_journal.specs.Ledger.{Takes}
 use Rattle.file_journal.specs.Records.{IsRecord, Reading, Record, StandsFrom, reading_from, whole}
 use Rattle.file_journal.specs.Walk.{stands_of, state}
-use Rattle.file_journal.proofs.ReadingLemmas.{reading_none, stands_from_read}
-use Rattle.file_journal.proofs.WalkLawLemmas.{one_walk}
+use Rattle.file_journal.proofs.Offered.{one_walk, reading_none, stands_from_read}
 use Rattle.client_notes.specs.Command.{NotesCommand, after, is_allowed}
 use Rattle.client_notes.specs.Records.{IsWritable, command_of, notes_after, notes_magic, notes_step, record_of_command}
 use Rattle.client_notes.specs.Notes.{Lists, no_notes}

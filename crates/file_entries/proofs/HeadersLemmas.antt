@@ -8,9 +8,7 @@ use Rattle.px_base.specs.Numbers.{le16}
 use Rattle.px_base.specs.Octets.{IsOctets}
 use Rattle.pfh_items.specs.Faults.{FitsFile, IsFaultless, content_of, fault_code, items_with}
 use Rattle.pfh_items.specs.Layout.{AreItems, FileText, HeaderText, HeaderValue, IsItem, ItemValue, header_text}
-use Rattle.pfh_items.proofs.FaultLemmas.{first_fault-text}
-use Rattle.pfh_items.proofs.HeaderLemmas.{HeaderText-FileText, file_parts-text}
-use Rattle.pfh_items.proofs.TextLemmas.{item_at}
+use Rattle.pfh_items.proofs.Offered.{file_parts-text, first_fault-text, HeaderText-FileText, item_at}
 use Rattle.pfh_reader.proofs.ClaimsLemmas.{content_of-items_with}
 use Rattle.pfh_reader.proofs.FaultLemmas.{faultless}
 use Rattle.pfh_writer.specs.Short.{HasEachOnce}

@@ -1,11 +1,12 @@
-pub mod AfterLemmas
-pub mod ChangeLemmas
-pub mod EntriesLemmas
+mod AfterLemmas
+mod ChangeLemmas
+mod EntriesLemmas
 mod FilesLemmas
-pub mod GrowLemmas
+mod GrowLemmas
 mod HeadersLemmas
-pub mod InfoLemmas
+mod InfoLemmas
 mod LawLemmas
+pub mod Offered
 mod PlaceLemmas
-pub mod RecordLemmas
+mod RecordLemmas
 mod StoredLemmas

@@ -11,7 +11,7 @@ use Rattle.px_base.specs.Numbers.{le32, le32_octets}
 use Rattle.px_base.specs.Octets.{IsOctets}
 use Rattle.px_base.specs.CallOctets.{call_in, call_octets, call_of}
 use Rattle.px_base.proofs.Spelled.{law, length-IsSpelled}
-use Rattle.pfh_items.proofs.StampLemmas.{IsOctets-chars, IsOctets-le32}
+use Rattle.pfh_items.proofs.Offered.{IsOctets-chars, IsOctets-le32}
 use Rattle.file_journal.specs.Records.{IsRecord, Record, record_of}
 use Rattle.file_entries.specs.Command.{Command, begin, drop_entry, grow, seal}
 use Rattle.file_entries.specs.Records.{IsWritable, Writes, begin_by, begin_content, begin_in, command_of, drop_in, grow_in, record_of_command, seal_in}

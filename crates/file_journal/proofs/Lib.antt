@@ -1,15 +1,16 @@
 mod AppendLemmas
-pub mod CallLemmas
+mod CallLemmas
 mod FormatLemmas
 mod JournalLemmas
 mod LedgerLemmas
-pub mod MomentLemmas
+mod MomentLemmas
 mod NextLemmas
 mod OctetLemmas
+pub mod Offered
 mod PositionLemmas
 mod PutLemmas
-pub mod ReadingLemmas
+mod ReadingLemmas
 mod RecoverLemmas
-pub mod ToldLemmas
-pub mod WalkLawLemmas
-pub mod WalkLemmas
+mod ToldLemmas
+mod WalkLawLemmas
+mod WalkLemmas

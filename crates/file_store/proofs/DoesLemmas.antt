@@ -9,14 +9,11 @@ use Rattle.disk_model.specs.declared.disk.Disk.{Ghosts}
 use Rattle.file_journal.specs.Calls.{Leaves, images_now}
 use Rattle.file_journal.specs.Position.{Position}
 use Rattle.file_journal.specs.Walk.{KeepsState}
-use Rattle.file_journal.proofs.CallLemmas.{puts_none, puts_on, puts_same}
-use Rattle.file_journal.proofs.MomentLemmas.{joined, started, weaker}
-use Rattle.file_journal.proofs.ToldLemmas.{at_told, if_told, told_before, told_weaker}
-use Rattle.file_journal.proofs.WalkLemmas.{failed_keeps}
+use Rattle.file_journal.proofs.Offered.{at_told, failed_keeps, if_told, joined, puts_none, puts_on, puts_same, started, told_before, told_weaker, weaker}
 use Rattle.file_entries.specs.Command.{AreAllowed, Command, after, after_all, is_allowed}
 use Rattle.file_entries.specs.Records.{store_step}
 use Rattle.file_entries.specs.Store.{Store, empty_store}
-use Rattle.file_entries.proofs.GrowLemmas.{AreAllowed-append, after_all-append}
+use Rattle.file_entries.proofs.Offered.{after_all-append, AreAllowed-append}
 use Rattle.file_store.specs.OnDisk.{Does, MakesBetween, MakesFirst, StayDone, after_first}
 use Rattle.file_store.specs.Putting.{IsBeforeOrAfter, PutsCommand}
 use Rattle.file_store.specs.State.{StandsFor, StandsOn, StoreState, store_in}

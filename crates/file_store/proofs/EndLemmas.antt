@@ -6,8 +6,7 @@ use Rattle.file_entries.specs.Faults.{fault_code}
 use Rattle.file_entries.specs.Command.{AreAllowed, after_all, fault_at, grown, is_allowed, is_good, is_partial, last_grow, passes, with_more}
 use Rattle.file_entries.specs.Files.{octets_or_none}
 use Rattle.file_entries.specs.Store.{Entry, Holding, Store, entry_of, octets_at, octets_of, partial}
-use Rattle.file_entries.proofs.EntriesLemmas.{find-map-changed}
-use Rattle.file_entries.proofs.GrowLemmas.{AreAllowed-append, both-true, last_grow-after, last_grow-allowed}
+use Rattle.file_entries.proofs.Offered.{AreAllowed-append, both-true, find-map-changed, last_grow-after, last_grow-allowed}
 use Rattle.file_store.specs.State.{StoreState, rest_in, store_in}
 use Rattle.file_store.specs.Upload.{IsHeldWhole, IsWholeWaiting, come_of, ending, sealing_of}
 use Rattle.file_store.proofs.HoldLemmas.{waits-is}

@@ -7,8 +7,7 @@ use Rattle.disk_model.specs.declared.disk.Disk.{Ghosts}
 use Rattle.file_entries.specs.Command.{AreAllowed, Command, after, grow, grown, grows, is_allowed, with_more}
 use Rattle.file_entries.specs.Files.{octets_or_none}
 use Rattle.file_entries.specs.Store.{Store, entry_of}
-use Rattle.file_entries.proofs.EntriesLemmas.{find-map-changed}
-use Rattle.file_entries.proofs.GrowLemmas.{grow-is_allowed, grows-allowed}
+use Rattle.file_entries.proofs.Offered.{find-map-changed, grow-is_allowed, grows-allowed}
 use Rattle.file_store.specs.OnDisk.{Does}
 use Rattle.file_store.specs.State.{StoreState, rest_in, store_in}
 use Rattle.file_store.specs.Upload.{FitsWaiting}

@@ -1,18 +1,13 @@
-pub mod DoesLemmas
+mod DoesLemmas
 mod EndLemmas
 mod HoldLemmas
+pub mod Offered
 mod PutLemmas
-pub mod ReceiptLemmas
-pub mod RecoveryLemmas
+mod ReceiptLemmas
+mod RecoveryLemmas
 mod SealedLemmas
 mod StandingLemmas
-mod ToldLemmas
 mod TokenLemmas
+mod ToldLemmas
 mod UploadLemmas
-pub mod WorkingLemmas
-pub use Rattle.file_entries.proofs.AfterLemmas
-pub use Rattle.file_entries.proofs.EntriesLemmas
-pub use Rattle.file_entries.proofs.GrowLemmas
-pub use Rattle.file_journal.proofs.CallLemmas
-pub use Rattle.file_journal.proofs.MomentLemmas
-pub use Rattle.file_journal.proofs.ToldLemmas as JournalToldLemmas
+mod WorkingLemmas

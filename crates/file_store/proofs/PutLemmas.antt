@@ -12,10 +12,7 @@ use Rattle.file_journal.specs.Records.{Record}
 use Rattle.file_journal.specs.Walk.{KeepsState, StandFor, StandForEither, stands_for, stands_of}
 use Rattle.file_journal.specs.declared.faults.JournalFault.{JournalFault}
 use Rattle.file_journal.specs.declared.faults.JournalFault.TheVariants as fault
-use Rattle.file_journal.proofs.MomentLemmas.{weaker}
-use Rattle.file_journal.proofs.ToldLemmas.{at_told, if_told, told_before, told_weaker}
-use Rattle.file_journal.proofs.WalkLawLemmas.{own_number}
-use Rattle.file_journal.proofs.WalkLemmas.{append_leaves, one_step}
+use Rattle.file_journal.proofs.Offered.{append_leaves, at_told, if_told, one_step, own_number, told_before, told_weaker, weaker}
 use Rattle.file_entries.specs.Command.{Command, begin, grow, seal, drop_entry, after, is_allowed}
 use Rattle.file_entries.specs.Records.{command_of, store_after, store_magic, store_step}
 use Rattle.file_entries.specs.Store.{Store, empty_store}

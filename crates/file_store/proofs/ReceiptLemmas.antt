@@ -5,8 +5,7 @@ use Rattle.std.proofs.lemmas.Bool.Decides.{eqb_tells}
 use Rattle.file_entries.specs.Command.{AreAllowed, Command, after, begin, drop_entry, grow, has_room, is_allowed, is_good, is_partial, seal}
 use Rattle.file_entries.specs.Info.{is_complete}
 use Rattle.file_entries.specs.Store.{Entry, Store, entry_of}
-use Rattle.file_entries.proofs.AfterLemmas.{after-other, find-append_found, found-passes, good-partial, grow-allowed, never-both, partial-held, room-partial}
-use Rattle.file_entries.proofs.EntriesLemmas.{has_number}
+use Rattle.file_entries.proofs.Offered.{after-other, find-append_found, found-passes, good-partial, grow-allowed, has_number, never-both, partial-held, room-partial}
 use Rattle.file_store.specs.Laws.{ReceiptLaw}
 use Rattle.file_store.specs.OnDisk.{after_first}
 

@@ -21,10 +21,7 @@ use Rattle.file_journal.specs.declared.faults.RecoverFault.{RecoverFault}
 use Rattle.file_journal.specs.declared.faults.RecoverFault.TheVariants as recovery
 use Rattle.file_journal.specs.declared.faults.ReadFault.{ReadFault}
 use Rattle.file_journal.specs.declared.faults.ReadFault.TheVariants as read
-use Rattle.file_journal.proofs.CallLemmas.{reads_now, stops_on, stops_reads}
-use Rattle.file_journal.proofs.MomentLemmas.{joined, reads, weaker}
-use Rattle.file_journal.proofs.ToldLemmas.{alike_on, alike_same, at_told, if_told, told_before, told_weaker}
-use Rattle.file_journal.proofs.WalkLemmas.{for_recovering, read_keeps, recovered_walk}
+use Rattle.file_journal.proofs.Offered.{alike_on, alike_same, at_told, for_recovering, if_told, joined, read_keeps, reads, reads_now, recovered_walk, stops_on, stops_reads, told_before, told_weaker, weaker}
 use Rattle.file_entries.specs.Records.{store_magic, store_step}
 use Rattle.file_entries.specs.Store.{Store, empty_store}
 use Rattle.file_store.specs.Recovery.{LeavesAlikeSinceSync, RefusesExactly, StandsAlike}

@@ -6,8 +6,7 @@ use Rattle.file_entries.specs.Stamp.{stamped}
 use Rattle.file_entries.specs.Command.{after, after_all, last_grow, seal, sealed}
 use Rattle.file_entries.specs.Files.{octets_or_none}
 use Rattle.file_entries.specs.Store.{Entry, Store, complete, entry_of, holding_of_number, partial}
-use Rattle.file_entries.proofs.EntriesLemmas.{find-map-changed}
-use Rattle.file_entries.proofs.GrowLemmas.{after_all-append}
+use Rattle.file_entries.proofs.Offered.{after_all-append, find-map-changed}
 use Rattle.file_store.specs.State.{StoreState, rest_in, store_in}
 use Rattle.file_store.specs.Upload.{Holds, IsWholeWaiting, Upload, came, come_of, ending, entry_for, kept_file, octets_come, sealing, upload_stamp}
 use Rattle.file_store.proofs.EndLemmas.{come-is, whole-entry}

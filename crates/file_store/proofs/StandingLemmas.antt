@@ -13,12 +13,11 @@ use Rattle.file_journal.specs.Laws.{ComesTo}
 use Rattle.file_journal.specs.Ledger.{Takes}
 use Rattle.file_journal.specs.Records.{IsRecord, Reading, Record, StandsFrom, reading_from, whole}
 use Rattle.file_journal.specs.Walk.{no_store, number_or, stands_of, state, walk}
-use Rattle.file_journal.proofs.ReadingLemmas.{reading_none, stands_from_read}
-use Rattle.file_journal.proofs.WalkLawLemmas.{one_walk}
+use Rattle.file_journal.proofs.Offered.{one_walk, reading_none, stands_from_read}
 use Rattle.file_entries.specs.Command.{AreAllowed, Command, after, after_all, is_allowed}
 use Rattle.file_entries.specs.Records.{IsWritable, command_of, record_of_command, store_after, store_magic, store_step}
 use Rattle.file_entries.specs.Store.{Store, empty_store}
-use Rattle.file_entries.proofs.RecordLemmas.{read-written, records}
+use Rattle.file_entries.proofs.Offered.{read-written, records}
 use Rattle.file_store.specs.Laws.{IsStoreAfter}
 use Rattle.file_store.specs.State.{StandsFor}
 use Rattle.file_store.proofs.PutLemmas.{after-blocks, allowed-step}

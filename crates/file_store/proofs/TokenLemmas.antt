@@ -2,7 +2,7 @@
 use Rattle.std.proofs.Common.{◌≡◌, ℕ, false, List, Some, IfSome, arith}
 use Rattle.disk_model.specs.declared.disk.Disk.{Ghosts}
 use Rattle.file_journal.specs.Calls.{images_now}
-use Rattle.file_journal.proofs.ToldLemmas.{told_weaker}
+use Rattle.file_journal.proofs.Offered.{told_weaker}
 use Rattle.file_entries.specs.Records.{store_magic}
 use Rattle.file_entries.specs.Store.{Entry, complete, entry_of}
 use Rattle.file_store.specs.Laws.{HoldsInEach, IsKeptInEach, StandsInEach}

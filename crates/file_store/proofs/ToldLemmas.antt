@@ -6,8 +6,7 @@ use Rattle.file_entries.specs.Limits.{longest_file}
 use Rattle.file_entries.specs.Info.{info_of, is_complete}
 use Rattle.file_entries.specs.IsStore.{IsStore}
 use Rattle.file_entries.specs.Store.{Entry, Holding, Store, complete, entry_of, octets_of, partial}
-use Rattle.file_entries.proofs.EntriesLemmas.{found-fits, found-number}
-use Rattle.file_entries.proofs.InfoLemmas.{Told}
+use Rattle.file_entries.proofs.Offered.{found-fits, found-number, Told}
 use Rattle.file_store.specs.State.{StoreState, rest_in, store_in}
 use Rattle.file_store.specs.Upload.{HasEntry, Holds, Upload, entry_for, upload_from, upload_of}
 

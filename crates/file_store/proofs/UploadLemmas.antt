@@ -15,10 +15,7 @@ use Rattle.file_entries.specs.Info.{is_complete}
 use Rattle.file_entries.specs.IsStore.{IsStore}
 use Rattle.file_entries.specs.Kept.{KeepsComplete}
 use Rattle.file_entries.specs.Store.{Entry, Store, blocks_for, blocks_of, entry_of, new_entry, partial}
-use Rattle.file_entries.proofs.AfterLemmas.{after-other, find-append_found, find-push, never-both, number_of}
-use Rattle.file_entries.proofs.ChangeLemmas.{entry-of-file}
-use Rattle.file_entries.proofs.EntriesLemmas.{find-map-changed, find_past, has_number}
-use Rattle.file_entries.proofs.GrowLemmas.{both-true, grows-after}
+use Rattle.file_entries.proofs.Offered.{after-other, both-true, entry-of-file, find-append_found, find-map-changed, find-push, find_past, grows-after, has_number, never-both, number_of}
 use Rattle.file_store.specs.Kept.{KeepsOthers, KeepsUploads}
 use Rattle.file_store.specs.OnDisk.{Does}
 use Rattle.file_store.specs.State.{StoreState, rest_in, store_in}

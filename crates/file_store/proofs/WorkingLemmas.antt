@@ -8,13 +8,11 @@ use Rattle.file_journal.specs.Calls.{ChangesReads, CountsFault, Leaves, Puts, Re
 use Rattle.file_journal.specs.Position as journal
 use Rattle.file_journal.specs.Position.{Position}
 use Rattle.file_journal.specs.Walk.{ImagesStandFor, KeepsState, StandFor}
-use Rattle.file_journal.proofs.CallLemmas.{counts_on, counts_same, reads_now}
-use Rattle.file_journal.proofs.MomentLemmas.{joined, reads, weaker}
-use Rattle.file_journal.proofs.ToldLemmas.{alike_on, alike_same, at_told, if_told, told_before, told_weaker}
+use Rattle.file_journal.proofs.Offered.{alike_on, alike_same, at_told, counts_on, counts_same, if_told, joined, reads, reads_now, told_before, told_weaker, weaker}
 use Rattle.file_entries.specs.Command.{AreAllowed, Command, after_all}
 use Rattle.file_entries.specs.Records.{store_step}
 use Rattle.file_entries.specs.Store.{Store, empty_store}
-use Rattle.file_entries.proofs.GrowLemmas.{AreAllowed-append, after_all-append}
+use Rattle.file_entries.proofs.Offered.{after_all-append, AreAllowed-append}
 use Rattle.file_store.specs.OnDisk.{CutsOff, Does, IsCut, MakesBetween, MakesFirst, StayDone, after_first}
 use Rattle.file_store.specs.State.{StandsOn, StoreState, store_in}
 use Rattle.file_store.specs.Working.{CountsSome, CutsOffAmongReads, DoesAmongReads, PutsAmongReads, one_if}

@@ -6,7 +6,7 @@ use Rattle.ax25_frames.specs.FrameText.{FrameValue}
 use Rattle.ax25_link.specs.Ends.{IsEnd}
 use Rattle.ax25_link.specs.Sending.{Sending, next_sending}
 use Rattle.ax25_link.specs.Window.{Window}
-use Rattle.ax25_link.proofs.SendLemmas.{left_to_send, next_sending-Sends}
+use Rattle.ax25_link.proofs.Offered.{left_to_send, next_sending-Sends}
 use Rattle.ftl0_client.specs.Attempt.Attempted.{Attempted}
 use Rattle.ftl0_client.specs.Attempt.AttemptState.{AttemptState}
 use Rattle.ftl0_client.specs.Attempt.Hearing.{with_end}

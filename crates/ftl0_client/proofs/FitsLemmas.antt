@@ -12,8 +12,7 @@ use Rattle.ax25_link.specs.Timer.{after_tick, is_up, told_of_tick}
 use Rattle.ax25_link.specs.Window.{Window}
 use Rattle.ax25_link.specs.declared.state.Heard.{Heard}
 use Rattle.ax25_link.specs.declared.state.Heard.TheVariants.{Nothing, Opened, Reopened, Bytes, Closed}
-use Rattle.ax25_link.proofs.EndKept.{after_frame-IsEnd, after_hang_up-IsEnd, after_push-IsEnd, after_tick-IsEnd}
-use Rattle.ax25_link.proofs.EndKept.{calling_end-IsEnd}
+use Rattle.ax25_link.proofs.Offered.{after_frame-IsEnd, after_hang_up-IsEnd, after_push-IsEnd, after_tick-IsEnd, calling_end-IsEnd}
 use Rattle.ftl0_packets.specs.Items.{kind_of_item, texts}
 use Rattle.ftl0_packets.specs.Layout.{Item, packet_text}
 use Rattle.client_notes.specs.Laws.{after_all}

@@ -18,7 +18,7 @@ use Rattle.ax25_link.specs.Window.{Window}
 use Rattle.client_notes.specs.Command.{NotesCommand}
 use Rattle.client_notes.specs.Laws.{after_all}
 use Rattle.client_notes.specs.Notes.{Lists, is_same_call}
-use Rattle.client_notes.proofs.SeveralLemmas.{after_all-append}
+use Rattle.client_notes.proofs.Offered.{after_all-append}
 use Rattle.ftl0_job.specs.declared.ending.Ending.{Ending}
 use Rattle.ftl0_job.specs.declared.ending.Outcome as job
 use Rattle.ftl0_job.specs.declared.ending.Outcome.TheVariants as reached

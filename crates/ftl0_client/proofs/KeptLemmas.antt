@@ -11,7 +11,7 @@ use Rattle.client_notes.specs.State.{NotesState, StandsOn}
 use Rattle.client_notes.specs.declared.answers.Begun.{Begun}
 use Rattle.client_notes.specs.declared.refusals.NotesRefusal.{NotesRefusal}
 use Rattle.client_notes.specs.declared.refusals.NotesRefusal.TheVariants as refusal
-use Rattle.client_notes.proofs.TaskLemmas.{task-more}
+use Rattle.client_notes.proofs.Offered.{task-more}
 use Rattle.ftl0_job.specs.declared.ending.Ending.{Ending}
 use Rattle.ftl0_job.specs.declared.work.Work.{Work}
 use Rattle.ftl0_job.specs.declared.work.Work.TheVariants as work

@@ -11,8 +11,7 @@ use Rattle.client_notes.specs.Laws.{AreAllowed, after_all}
 use Rattle.client_notes.specs.Notes.{Lists, got_of}
 use Rattle.client_notes.specs.Several.{DoesSeveral}
 use Rattle.client_notes.specs.State.{NotesState}
-use Rattle.client_notes.proofs.SeveralLemmas.{Several-longer, Several-then}
-use Rattle.client_notes.proofs.GotLemmas.{got-allowed, got-append}
+use Rattle.client_notes.proofs.Offered.{got-allowed, got-append, Several-longer, Several-then}
 use Rattle.ftl0_job.specs.declared.stop.JobStop.{JobStop}
 use Rattle.ftl0_job.specs.declared.stop.JobStop.TheVariants as stop
 use Rattle.ftl0_job.specs.Download.{gots}

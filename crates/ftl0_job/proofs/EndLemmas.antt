@@ -13,8 +13,7 @@ use Rattle.client_notes.specs.Laws.{AreAllowed, after_all}
 use Rattle.client_notes.specs.Notes.{Lists, got_of}
 use Rattle.client_notes.specs.Several.{DoesSeveral}
 use Rattle.client_notes.specs.State.{NotesState}
-use Rattle.client_notes.proofs.GotLemmas.{got-allowed, got-append}
-use Rattle.client_notes.proofs.SeveralLemmas.{AreAllowed-append, Several-longer, Several-then}
+use Rattle.client_notes.proofs.Offered.{AreAllowed-append, got-allowed, got-append, Several-longer, Several-then}
 use Rattle.ftl0_job.specs.declared.ending.Ending.{Ending}
 use Rattle.ftl0_job.specs.declared.ending.Outcome.TheVariants as outcome
 use Rattle.ftl0_job.specs.declared.phases.DownloadPhase.TheVariants as phase

@@ -23,7 +23,7 @@ use Rattle.client_notes.specs.Notes.{Lists, Task, got_of, is_of_file, last_task,
 use Rattle.client_notes.specs.OnDisk.{Does, Untouched}
 use Rattle.client_notes.specs.State.{NotesState, StandsFor}
 use Rattle.disk_model.specs.declared.disk.Disk.{Ghosts}
-use Rattle.client_notes.proofs.TaskLemmas.{acked-stays, both-left, task-after}
+use Rattle.client_notes.proofs.Offered.{acked-stays, both-left, task-after}
 use Rattle.ftl0_job.specs.declared.ending.Ending.{Ending}
 use Rattle.ftl0_job.specs.declared.ending.Outcome.TheVariants as outcome
 use Rattle.ftl0_job.specs.declared.phases.DownloadPhase.{DownloadPhase}

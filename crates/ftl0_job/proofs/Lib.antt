@@ -1,13 +1,14 @@
 mod BlockLemmas
-pub mod CaseLemmas
+mod CaseLemmas
 mod DueLemmas
 mod EndLemmas
 mod HeaderLemmas
-pub mod JobLemmas
-pub mod LawLemmas
+mod JobLemmas
+mod LawLemmas
 mod NotingLemmas
+pub mod Offered
 mod OwnLemmas
 mod PromiseLemmas
-pub mod RowLemmas
+mod RowLemmas
 mod ShortLemmas
-pub mod StaysLemmas
+mod StaysLemmas

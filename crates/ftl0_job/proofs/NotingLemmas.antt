@@ -13,7 +13,7 @@ use Rattle.client_notes.specs.Notes.{Lists, Task, task_of}
 use Rattle.client_notes.specs.OnDisk.{Answers, Does, Untouched}
 use Rattle.client_notes.specs.Several.{DoesSeveral}
 use Rattle.client_notes.specs.State.{NotesState, StandsOn}
-use Rattle.client_notes.proofs.SeveralLemmas.{Several-none, Several-one, Several-same}
+use Rattle.client_notes.proofs.Offered.{Several-none, Several-one, Several-same}
 use Rattle.ftl0_job.specs.declared.ending.Ending.{Ending}
 use Rattle.ftl0_job.specs.declared.stop.JobStop.{JobStop}
 use Rattle.ftl0_job.specs.declared.stop.JobStop.TheVariants as stop

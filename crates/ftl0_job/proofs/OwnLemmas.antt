@@ -18,7 +18,7 @@ use Rattle.client_notes.specs.Command.{after, new_task}
 use Rattle.client_notes.specs.Notes.{Lists, Task, is_of_file, is_same_call, is_task_for, last_task, place_from_end, task_count, task_of}
 use Rattle.client_notes.specs.OnDisk.{Does, Untouched}
 use Rattle.client_notes.specs.State.{NotesState}
-use Rattle.client_notes.proofs.TaskLemmas.{both-left, task-at}
+use Rattle.client_notes.proofs.Offered.{both-left, task-at}
 use Rattle.ftl0_job.specs.JobState.{IsTaskOf}
 use Rattle.ftl0_job.specs.Laws.{IsOwned, started}
 use Rattle.ftl0_job.proofs.LawLemmas.{fresh-number, going-answer, not-fresh, task-begun}

@@ -8,8 +8,7 @@ use Rattle.ftl0_packets.specs.Layout.{Item, PacketValue, data_end, data_part, pa
 use Rattle.client_notes.specs.Command.{forgot}
 use Rattle.client_notes.specs.Laws.{after_all}
 use Rattle.client_notes.specs.Notes.{Lists, got_of, no_notes}
-use Rattle.client_notes.proofs.GotLemmas.{forgot-none}
-use Rattle.client_notes.proofs.SeveralLemmas.{after_all-append}
+use Rattle.client_notes.proofs.Offered.{after_all-append, forgot-none}
 use Rattle.ftl0_job.specs.declared.ending.Ending.{Ending}
 use Rattle.ftl0_job.specs.declared.ending.Outcome.{Outcome}
 use Rattle.ftl0_job.specs.declared.ending.Outcome.TheVariants as outcome

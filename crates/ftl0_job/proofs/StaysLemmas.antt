@@ -9,7 +9,7 @@ use Rattle.client_notes.specs.Limits.{longest_file}
 use Rattle.client_notes.specs.Command.{numbered}
 use Rattle.client_notes.specs.Laws.{after_all}
 use Rattle.client_notes.specs.Notes.{Lists, got_of}
-use Rattle.client_notes.proofs.TaskLemmas.{both-left, task-after}
+use Rattle.client_notes.proofs.Offered.{both-left, task-after}
 use Rattle.ftl0_job.specs.declared.ending.Ending.{Ending}
 use Rattle.ftl0_job.specs.declared.phases.DownloadPhase.{DownloadPhase}
 use Rattle.ftl0_job.specs.declared.phases.DownloadPhase.TheVariants as download_phase

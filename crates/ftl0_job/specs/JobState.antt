@@ -59,10 +59,14 @@ IsCheckedIn fetch.Login held = ⊤
 IsCheckedIn fetch.Fetching held = ⊤
 IsCheckedIn fetch.Done held = fault_code held ≡ None
 
+-- the octets got of a file, and these behind them, are no more than a file may have
+abbrev pub FitsBehind : Lists → CallSign → ℕ → List ℕ → Type 0
+FitsBehind lists server number octets = length (got_of lists server number) + length octets ≤ longest_file
+
 -- The octets that were got and noted, and those not noted yet, are no more than a file may have; once all came, the file
 -- has no fault.
 pub record HasGot (lists : Lists) (at : Download) : Type 0 where
-  pub fits : length (got_of lists at.server at.number) + length at.rest ≤ longest_file
+  pub fits : FitsBehind lists at.server at.number at.rest
   pub checked : IsCheckedIn at.phase (got_of lists at.server at.number)
 
 -- the notes go with what is done

@@ -5,10 +5,9 @@ ghost use Rattle.ftl0_packets.specs.Values.{value_of};
 ghost use Rattle.pfh_items.specs.Faults.{fault_code};
 ghost use Rattle.client_notes.specs.Notes.{got_of};
 ghost use Rattle.client_notes.specs.State.{StandsOn};
-ghost use Rattle.client_notes.specs.Limits.{longest_file};
 ghost use Rattle.ftl0_job.specs.Download.{data_end_row, data_row, done_row, download_row, error_row, fetching_row, last_got};
 ghost use Rattle.ftl0_job.specs.Download.{login_row, new_download, unnoted, whole_gots};
-ghost use Rattle.ftl0_job.specs.JobState.{HasGot};
+ghost use Rattle.ftl0_job.specs.JobState.{FitsBehind, HasGot};
 ghost use Rattle.ftl0_job.specs.Noting.{HasNoted};
 ghost use Rattle.ftl0_job.specs.Taking.{Answers, TakesRow};
 
@@ -234,7 +233,7 @@ fn note_blocks<D: Disk>(
     requires stands_on { StandsOn D.Disk notes.old disk.old }
     requires few { length rest.now.items < 512 }
     requires some { 1 ≤ number }
-    requires fits { length (got_of notes.old.lists server number) + length (rest.now.items ++ octets.now) ≤ longest_file }
+    requires fits { FitsBehind notes.old.lists server number (rest.now.items ++ octets.now) }
     ensures noted { HasNoted D.Disk notes.old notes.new disk.old disk.new
         (whole_gots server number (rest.now.items ++ octets.now)) result }
     ensures left { IfOk result (λ left. left.items ≡ unnoted (rest.now.items ++ octets.now)) }
@@ -273,7 +272,7 @@ fn note_rest<D: Disk>(
     requires healthy { notes.old.journal.failed ≡ false }
     requires stands_on { StandsOn D.Disk notes.old disk.old }
     requires some { 1 ≤ number }
-    requires fits { length (got_of notes.old.lists server number) + length rest.now.items ≤ longest_file }
+    requires fits { FitsBehind notes.old.lists server number rest.now.items }
     ensures { HasNoted D.Disk notes.old notes.new disk.old disk.new (last_got server number rest.now.items) result }
 {
     if rest.is_empty() {

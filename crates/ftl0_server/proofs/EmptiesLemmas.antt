@@ -8,7 +8,7 @@ use Rattle.ax25_link.specs.Ends.{IsEnd, LinkEnd}
 use Rattle.ax25_link.specs.Kept.{count_of}
 use Rattle.ax25_link.specs.Sending.{Sending, next_sending}
 use Rattle.ax25_link.specs.Window.{Window}
-use Rattle.ax25_link.proofs.SendLemmas.{left_to_send, next_sending-Sends}
+use Rattle.ax25_link.proofs.Offered.{left_to_send, next_sending-Sends}
 use Rattle.ftl0_server.specs.Connection.Connected.{Connected}
 use Rattle.ftl0_server.specs.Connection.Hearing.{with_end}
 use Rattle.ftl0_server.specs.AtPlace.{AllFit, PlaceFits}

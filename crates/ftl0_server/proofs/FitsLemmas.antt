@@ -13,8 +13,7 @@ use Rattle.ax25_link.specs.Sending.{Sending, next_sending}
 use Rattle.ax25_link.specs.Window.{Window}
 use Rattle.ax25_link.specs.declared.state.Heard.{Heard}
 use Rattle.ax25_link.specs.declared.state.Heard.TheVariants.{Nothing, Opened, Reopened, Bytes, Closed}
-use Rattle.ax25_link.proofs.EndKept.{after_abandon-IsEnd, after_frame-IsEnd, after_push-IsEnd, after_tick-IsEnd}
-use Rattle.ax25_link.proofs.EndKept.{answering_end-IsEnd}
+use Rattle.ax25_link.proofs.Offered.{after_abandon-IsEnd, after_frame-IsEnd, after_push-IsEnd, after_tick-IsEnd, answering_end-IsEnd}
 use Rattle.ftl0_packets.specs.Layout.{Item, packet_text}
 use Rattle.ftl0_packets.specs.Reading.{packets_of}
 use Rattle.ftl0_session.specs.Lists.Lists.{CallerList, has_left}

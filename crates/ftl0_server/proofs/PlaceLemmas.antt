@@ -6,8 +6,7 @@ use Rattle.disk_model.specs.declared.disk.Disk.{Ghosts}
 use Rattle.ax25_link.specs.Kept.{StandsFor}
 use Rattle.ax25_link.specs.Window.{Window}
 use Rattle.file_store.specs.State.{StoreState, store_in}
-use Rattle.file_store.proofs.DoesLemmas.{Does-moved}
-use Rattle.file_store.proofs.WorkingLemmas.{among-parked}
+use Rattle.file_store.proofs.Offered.{among-parked, Does-moved}
 use Rattle.ftl0_session.specs.Lists.Lists.{CallerList}
 use Rattle.ftl0_session.specs.Uploads.Failures.{Failure, failed_write}
 use Rattle.ftl0_session.specs.Uploads.Others.{KeepsOtherCallers}

@@ -17,7 +17,7 @@ use Rattle.ax25_link.specs.Timer.{after_tick, is_down, is_spent, runs_out, told_
 use Rattle.ax25_link.specs.Window.{Window}
 use Rattle.ax25_link.specs.declared.state.LinkState.TheVariants.{Down}
 use Rattle.ax25_link.specs.declared.state.Why.TheVariants.{NoAnswer}
-use Rattle.ax25_link.proofs.SendLemmas.{after_new-HasPiece, concat-append_one}
+use Rattle.ax25_link.proofs.Offered.{after_new-HasPiece, concat-append_one}
 use Rattle.file_store.specs.Command.{Command, after_all}
 use Rattle.file_store.specs.Store.{Store}
 use Rattle.ftl0_session.specs.Uploads.Failures.{Failure, read_fails}

@@ -6,7 +6,7 @@ use Rattle.std.specs.List.{position, prefix_len}
 use Rattle.std.proofs.lemmas.Bool.{lt-ltb}
 use Rattle.std.proofs.lemmas.Option.{same_Some}
 use Rattle.px_base.specs.CallSign.{CallSign}
-use Rattle.ax25_link.proofs.Places.{slice_get-set_other, slice_get-set_same}
+use Rattle.ax25_link.proofs.Offered.{slice_get-set_other, slice_get-set_same}
 use Rattle.file_store.specs.State.{StoreState, store_in}
 use Rattle.ftl0_session.specs.Uploads.SessionState.{IsHeld, NoOtherOut, number_of}
 use Rattle.ftl0_session.proofs.uploads.UploadRows.{same_call-decides}

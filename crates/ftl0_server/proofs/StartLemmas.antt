@@ -1,7 +1,7 @@
 -- What the recovery of the store refuses.
 use Rattle.std.proofs.Common.{◌≡◌, ℕ, List, Option, sym, ◌∙◌, ap}
 use Rattle.std.specs.Prelude.{Result, Err}
-use Rattle.file_store.proofs.JournalToldLemmas.{told_weaker}
+use Rattle.file_store.proofs.Offered.{told_weaker}
 use Rattle.file_store.specs.Recovery.{RefusesExactly, RefusesRecovery}
 use Rattle.file_store.specs.declared.refusals.StoreFault.{StoreFault}
 use Rattle.file_store.specs.declared.refusals.StoreFault.TheVariants as fault

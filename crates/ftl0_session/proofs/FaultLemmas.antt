@@ -14,7 +14,7 @@ use Rattle.ftl0_session.specs.Lists.Lists.{CallerList}
 use Rattle.file_store.specs.Command.{can_begin, has_room, passes}
 use Rattle.file_store.specs.Info.{is_complete}
 use Rattle.file_store.specs.Store.{Entry, Store, entry_of, octets_at}
-use Rattle.file_store.proofs.JournalToldLemmas.{told_weaker}
+use Rattle.file_store.proofs.Offered.{told_weaker}
 use Rattle.ftl0_session.specs.Uploads.Laws.{IsNoFault}
 use Rattle.ftl0_session.specs.Uploads.Session as upload
 use Rattle.ftl0_session.specs.Uploads.Session.{is_all, is_theirs, is_upload_kind}

@@ -8,11 +8,10 @@ use Rattle.ftl0_packets.specs.Items.{kind_of_item, texts}
 use Rattle.ftl0_packets.specs.Layout.{Item, dl_error_resp, packet_text}
 use Rattle.ftl0_session.specs.Lists.Lists.{CallerList}
 use Rattle.file_store.specs.Calls.{Reads}
-use Rattle.file_store.proofs.CallLemmas.{puts_none}
+use Rattle.file_store.proofs.Offered.{Does-none, puts_none}
 use Rattle.file_store.specs.Command.{Command, DoesAll}
 use Rattle.file_store.specs.OnDisk.{Does}
 use Rattle.file_store.specs.State.{StandsOn, StoreState, store_in}
-use Rattle.file_store.proofs.DoesLemmas.{Does-none}
 use Rattle.ftl0_session.specs.declared.uploads.phase.Phase.{Phase}
 use Rattle.ftl0_session.specs.declared.uploads.phase.Phase.TheVariants as phase
 use Rattle.ftl0_session.specs.Uploads.Session.{is_upload_kind}

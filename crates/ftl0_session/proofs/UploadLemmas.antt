@@ -7,13 +7,11 @@ use Rattle.ftl0_packets.specs.Items.{kind_of_item, texts}
 use Rattle.ftl0_packets.specs.Layout.{Item}
 use Rattle.ftl0_session.specs.Lists.Lists.{CallerList}
 use Rattle.file_store.specs.Calls.{ChangesReads, Puts}
-use Rattle.file_store.proofs.CallLemmas.{puts_same, reads_none}
-use Rattle.file_store.proofs.JournalToldLemmas.{at_told}
+use Rattle.file_store.proofs.Offered.{at_told, puts_same, reads-none, reads_none}
 use Rattle.file_store.specs.Command.{Command, DoesAll}
 use Rattle.file_store.specs.EntriesKept.{KeepsComplete}
 use Rattle.file_store.specs.OnDisk.{Does}
 use Rattle.file_store.specs.State.{StandsOn, StoreState, store_in}
-use Rattle.file_store.proofs.RecoveryLemmas.{reads-none}
 use Rattle.ftl0_session.specs.declared.uploads.stop.ServerStop.{ServerStop as UploadStop}
 use Rattle.ftl0_session.specs.declared.uploads.stop.ServerStop.TheVariants as upload_stop
 use Rattle.ftl0_session.specs.Uploads.Others.{KeepsOtherCallers}

@@ -10,11 +10,10 @@ use Rattle.std.proofs.lemmas.List.Folds.{list_any-append}
 use Rattle.px_base.specs.CallSign.{CallSign}
 use Rattle.disk_model.specs.declared.disk.Disk.{Ghosts}
 use Rattle.ftl0_packets.specs.Layout.{Item, PacketValue, dl_error_resp, packet_text}
-use Rattle.file_store.proofs.JournalToldLemmas.{at_told}
+use Rattle.file_store.proofs.Offered.{among-same, among-then, at_told, cuts-among-cut, does-among, reads-only}
 use Rattle.file_store.specs.Store.{Store}
 use Rattle.file_store.specs.State.{StandsOn, StoreState, store_in}
 use Rattle.file_store.specs.Working.{CutsOffAmongReads, DoesAmongReads, one_if}
-use Rattle.file_store.proofs.WorkingLemmas.{among-same, among-then, cuts-among-cut, does-among, reads-only}
 use Rattle.ftl0_session.specs.Uploads.Failures.{Failure, failed_reads, failed_write, is_read_fault, is_write_fault}
 use Rattle.ftl0_session.specs.Uploads.Failures.{read_fails, write_fails}
 use Rattle.ftl0_session.specs.Downloads.Sending as due

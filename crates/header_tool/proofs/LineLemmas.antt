@@ -4,8 +4,7 @@ use Rattle.px_base.specs.Octets.{IsOctets}
 use Rattle.pfh_items.specs.declared.fault.FileFault.{FileFault}
 use Rattle.pfh_items.specs.Faults.{IsFound, code_of, fault_code, file_parts, first_fault}
 use Rattle.pfh_items.specs.Layout.{ItemValue, HeaderValue, FileText}
-use Rattle.pfh_items.proofs.HeaderLemmas.{file_parts-text, FileText-file_parts}
-use Rattle.pfh_items.proofs.FaultLemmas.{first_fault-from, first_fault-none}
+use Rattle.pfh_items.proofs.Offered.{file_parts-text, FileText-file_parts, first_fault-from, first_fault-none}
 use Rattle.header_tool.specs.Laws.{ChecksFault, ShowsFault, ShowsItems}
 use Rattle.header_tool.specs.Lines.{items_in, last_line, shown_text}
 

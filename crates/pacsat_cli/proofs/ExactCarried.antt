@@ -8,7 +8,7 @@ use Rattle.px_base.specs.declared.out.Out.{Ghosts as OutGhosts}
 use Rattle.px_base.specs.declared.shelf.Shelf.{Ghosts as ShelfGhosts}
 use Rattle.disk_model.specs.declared.disk.Disk.{Ghosts}
 use Rattle.file_store.specs.Walk.{Stands, state}
-use Rattle.file_store.proofs.JournalToldLemmas.{at_told}
+use Rattle.file_store.proofs.Offered.{at_told}
 use Rattle.node_events.specs.Laws.{OneRunLaw}
 use Rattle.uploader.specs.Notes.{Lists}
 use Rattle.uploader.specs.State.{standing_of}

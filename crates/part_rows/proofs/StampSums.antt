@@ -5,7 +5,7 @@ use Rattle.pfh_items.specs.declared.sums.Sums.{Sums}
 use Rattle.pfh_items.specs.Faults.{IsFaultless}
 use Rattle.pfh_items.specs.Layout.{HeaderText, ItemValue, header_text}
 use Rattle.pfh_items.specs.Stamp.{StampValue}
-use Rattle.pfh_items.proofs.HeaderLemmas.{one_header}
+use Rattle.pfh_items.proofs.Offered.{one_header}
 use Rattle.pfh_reader.specs.Check.{HasSums}
 use Rattle.pfh_writer.specs.Given.{IsFaultlessFile, IsHeaderOfSums, IsStampedSum, stamped_sum}
 

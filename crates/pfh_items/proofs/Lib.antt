@@ -1,6 +1,7 @@
-pub mod ChainLemmas
-pub mod FaultLemmas
-pub mod HeaderLemmas
-pub mod StampLemmas
-pub mod TextLemmas
-pub mod WalkLemmas
+mod ChainLemmas
+mod FaultLemmas
+mod HeaderLemmas
+pub mod Offered
+mod StampLemmas
+mod TextLemmas
+mod WalkLemmas

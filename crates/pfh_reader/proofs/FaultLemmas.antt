@@ -9,8 +9,7 @@ use Rattle.pfh_items.specs.declared.table.MandatoryItem.{MandatoryItem}
 use Rattle.pfh_items.specs.Faults.{items_with, content_of, header_sum, BeginsHeader, FirstFault, IsFaultless, IsFound, code_of, fault_code, fault_of_parts, file_parts, first_fault, is_one_of_len, has_mandatory, fits_file, fault_of}
 use Rattle.pfh_items.specs.Layout.{ItemValue, AreItems, FileText, header_text}
 use Rattle.pfh_items.specs.Table.{mandatory_items}
-use Rattle.pfh_items.proofs.FaultLemmas.{FitsFile-fits_file, IsChosen, IsFound-chosen, fault_of-is, header_test, body_test, once_each}
-use Rattle.pfh_items.proofs.HeaderLemmas.{BeginsHeader-begins_header, begins_header-BeginsHeader, one_header}
+use Rattle.pfh_items.proofs.Offered.{begins_header-BeginsHeader, BeginsHeader-begins_header, body_test, fault_of-is, FitsFile-fits_file, header_test, IsChosen, IsFound-chosen, once_each, one_header}
 use Rattle.pfh_reader.specs.declared.claims.Claims.{Claims}
 use Rattle.pfh_reader.specs.declared.claims.Standing.{Standing}
 use Rattle.pfh_reader.specs.declared.measures.Measures.{Measures}

@@ -9,8 +9,7 @@ use Rattle.pfh_items.specs.declared.items.Stop.TheVariants.{EndItem, Ran}
 use Rattle.pfh_items.specs.Faults.{BeginsHeader, file_parts}
 use Rattle.pfh_items.specs.Layout.{ItemValue, AreItems, item_text, items_text, end_item, header_start, header_text, FileText}
 use Rattle.pfh_items.specs.Walk.{ItemList, StopsAt, item_len, items_from}
-use Rattle.pfh_items.proofs.WalkLemmas.{ItemsFrom-items_from, items_from-ran, short-StartsCut}
-use Rattle.pfh_items.proofs.HeaderLemmas.{BeginsHeader-text, file_parts-ran, none-FileText}
+use Rattle.pfh_items.proofs.Offered.{BeginsHeader-text, file_parts-ran, items_from-ran, ItemsFrom-items_from, none-FileText, short-StartsCut}
 use Rattle.pfh_reader.specs.declared.checker.Stage.{Stage}
 use Rattle.pfh_reader.specs.declared.checker.Stage.TheVariants as stages
 use Rattle.pfh_reader.specs.declared.claims.Claims.{Claims}

@@ -5,7 +5,7 @@ use Rattle.std.proofs.lemmas.List.Sums.{sum_by-append, sum_by-cons}
 use Rattle.px_base.specs.Numbers.{le16, sum16}
 use Rattle.px_base.specs.Octets.{IsOctets}
 use Rattle.pfh_items.specs.Faults.{items_with, with_content, header_sum}
-use Rattle.pfh_items.proofs.TextLemmas.{item_at}
+use Rattle.pfh_items.proofs.Offered.{item_at}
 use Rattle.pfh_items.specs.Layout.{ItemValue, IsItem, AreItems, item_text, items_text, end_item, header_text}
 
 -- the sum of octets and others

@@ -6,9 +6,7 @@ use Rattle.px_base.specs.Numbers.{le16_octets, le32_octets}
 use Rattle.pfh_items.specs.Faults.{header_sum}
 use Rattle.pfh_items.specs.Layout.{ItemValue}
 use Rattle.pfh_items.specs.Stamp.{StampValue, is_number_item, is_server_item, is_uploader_item, is_upload_time_item, stamped_item, stamped_items}
-use Rattle.pfh_items.proofs.FaultLemmas.{no_fault}
-use Rattle.pfh_items.proofs.StampLemmas.{AreItems-stamped_items, length-chars, stamped-text}
-use Rattle.pfh_items.proofs.TextLemmas.{item_at}
+use Rattle.pfh_items.proofs.Offered.{AreItems-stamped_items, item_at, length-chars, no_fault, stamped-text}
 use Rattle.pfh_writer.proofs.FilledLemmas.{id-stamped}
 use Rattle.pfh_writer.specs.KeptFile.{KeptFileLaw, client_items, ids_of}
 use Rattle.pfh_writer.proofs.FaultlessLemmas.{stamped-faultless}

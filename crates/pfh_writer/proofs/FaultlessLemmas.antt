@@ -12,9 +12,7 @@ use Rattle.pfh_items.specs.Faults.{IsFaultless, Stands, StandsOnce, code_of, con
 use Rattle.pfh_items.specs.Layout.{ItemValue, AreItems, header_text}
 use Rattle.pfh_items.specs.Stamp.{StampValue, stamped, stamped_item, stamped_items}
 use Rattle.pfh_items.specs.Table.{mandatory_items}
-use Rattle.pfh_items.proofs.FaultLemmas.{first_fault-none}
-use Rattle.pfh_items.proofs.StampLemmas.{AreItems-stamped_items, stamped-text}
-use Rattle.pfh_items.proofs.TextLemmas.{item_at}
+use Rattle.pfh_items.proofs.Offered.{AreItems-stamped_items, first_fault-none, item_at, stamped-text}
 use Rattle.pfh_writer.specs.Given.{stamped_sum}
 use Rattle.pfh_writer.specs.Stamping.{given_data, given_item}
 use Rattle.pfh_writer.proofs.FilledLemmas.{given_items, length-given_data, length-given_items}

@@ -9,8 +9,7 @@ use Rattle.pfh_items.specs.Faults.{with_content, IsFaultless}
 use Rattle.pfh_items.specs.Layout.{ItemValue, items_text}
 use Rattle.pfh_items.specs.Stamp.{StampValue, is_number_item, is_uploader_item, is_upload_time_item, stamped_item, stamped_items}
 use Rattle.pfh_items.specs.declared.table.Form.TheVariants.{Number}
-use Rattle.pfh_items.proofs.StampLemmas.{length-chars}
-use Rattle.pfh_items.proofs.TextLemmas.{item_at}
+use Rattle.pfh_items.proofs.Offered.{item_at, length-chars}
 use Rattle.pfh_writer.specs.Given.{stamped_sum}
 use Rattle.pfh_writer.specs.Stamping.{server_data, given_data, given_item}
 use Rattle.pfh_writer.specs.Sums.{filled_item}

@@ -11,8 +11,7 @@ use Rattle.pfh_items.specs.Stamp.{StampValue, stamped}
 use Rattle.pfh_items.specs.Walk.{item_len}
 use Rattle.pfh_items.specs.declared.table.Form.TheVariants.{Number}
 use Rattle.pfh_items.specs.declared.table.MandatoryItem.{MandatoryItem}
-use Rattle.pfh_items.proofs.HeaderLemmas.{after_start}
-use Rattle.pfh_items.proofs.TextLemmas.{item_at, starts_whole-text}
+use Rattle.pfh_items.proofs.Offered.{after_start, item_at, starts_whole-text}
 use Rattle.pfh_writer.specs.declared.filling.PassedItem.{PassedItem}
 use Rattle.pfh_writer.specs.Filling.{FillsItem, FillsFront, StaysAtEnd, sum_place_after, with_sum_changed}
 use Rattle.pfh_writer.specs.Given.{stamped_sum}

@@ -7,8 +7,7 @@ use Rattle.px_base.specs.Numbers.{le16_octets}
 use Rattle.pfh_items.specs.Faults.{IsFaultless}
 use Rattle.pfh_items.specs.Layout.{ItemValue, AreItems, item_text, items_text, end_item, header_start}
 use Rattle.pfh_items.specs.Stamp.{StampValue, stamped_items, stamped}
-use Rattle.pfh_items.proofs.HeaderLemmas.{after_start}
-use Rattle.pfh_items.proofs.StampLemmas.{stamped-text}
+use Rattle.pfh_items.proofs.Offered.{after_start, stamped-text}
 use Rattle.pfh_writer.specs.declared.stamper.Stage.{Stage}
 use Rattle.pfh_writer.specs.declared.stamper.Stage.TheVariants.{Start, Begun, ItemStart, IdCut, IdRead, InData, Body}
 use Rattle.pfh_writer.specs.Given.{stamped_sum}

@@ -7,7 +7,7 @@ use Rattle.pfh_items.specs.Faults.{items_with, field_of, StandsOnce}
 use Rattle.pfh_items.specs.Layout.{ItemValue, IsItem, AreItems, item_text, items_text, end_item}
 use Rattle.pfh_items.specs.Walk.{item_in, item_len, starts_end}
 use Rattle.pfh_items.specs.declared.table.MandatoryItem.{MandatoryItem}
-use Rattle.pfh_items.proofs.TextLemmas.{item_in-text, drop-text, starts_end-text}
+use Rattle.pfh_items.proofs.Offered.{drop-text, item_in-text, starts_end-text}
 
 pub items_text-append : (items others : List ItemValue) → items_text (items ++ others) ≡ items_text items ++ items_text others
 items_text-append [] others = refl

@@ -8,7 +8,7 @@ use Rattle.pfh_items.specs.Faults.{items_with, with_content}
 use Rattle.pfh_items.specs.Layout.{ItemValue, IsItem, AreItems, item_text, items_text}
 use Rattle.pfh_items.specs.Table.{fixed_len, is_mandatory, is_single}
 use Rattle.pfh_items.specs.Walk.{ItemList, items_from}
-use Rattle.pfh_items.proofs.WalkLemmas.{items_from-ran}
+use Rattle.pfh_items.proofs.Offered.{items_from-ran}
 use Rattle.pfh_writer.specs.declared.refusal.PutRefusal.{PutRefusal}
 use Rattle.pfh_writer.specs.declared.refusal.PutRefusal.TheVariants.{Mandatory, BadLength, Twice}
 use Rattle.pfh_writer.specs.Built.{AreOthers, item, fits_len, stands, put_refusal}

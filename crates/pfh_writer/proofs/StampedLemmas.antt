@@ -15,9 +15,7 @@ use Rattle.pfh_items.specs.Layout.{ItemValue, HeaderValue, item_text, items_text
 use Rattle.pfh_items.specs.Stamp.{StampValue, stamped, stamped_items, stamped_parts}
 use Rattle.pfh_items.specs.Table.{mandatory_items}
 use Rattle.pfh_items.specs.Walk.{ItemList, item_in, item_len, items_from, items_within, starts_end, starts_whole, with_item}
-use Rattle.pfh_items.proofs.FaultLemmas.{chosen-by, header_test, body_test, fits_file-FitsFile}
-use Rattle.pfh_items.proofs.HeaderLemmas.{begins_header-front}
-use Rattle.pfh_items.proofs.TextLemmas.{length-item_text}
+use Rattle.pfh_items.proofs.Offered.{begins_header-front, body_test, chosen-by, fits_file-FitsFile, header_test, length-item_text}
 use Rattle.pfh_writer.specs.Given.{stamped_sum}
 use Rattle.pfh_writer.proofs.FilledLemmas.{all_given, length-given_items}
 use Rattle.pfh_writer.proofs.ItemsLemmas.{len_of_once}

@@ -9,7 +9,7 @@ use Rattle.px_base.specs.Numbers.{le16_octets}
 use Rattle.px_base.specs.Octets.{IsOctets}
 use Rattle.pfh_items.specs.Layout.{ItemValue, IsItem, item_text, items_text, end_item}
 use Rattle.pfh_items.specs.Stamp.{StampValue}
-use Rattle.pfh_items.proofs.TextLemmas.{item_at}
+use Rattle.pfh_items.proofs.Offered.{item_at}
 use Rattle.pfh_writer.specs.declared.stamper.Stage.{Stage}
 use Rattle.pfh_writer.specs.declared.stamper.Stage.TheVariants.{Start, Begun, ItemStart, IdCut, IdRead, InData, Body}
 use Rattle.pfh_writer.specs.Stamping.{fixed_data, given_data, given_item, PassesItems, IsCutData, StandsAt, StamperValue}

@@ -8,7 +8,7 @@ use Rattle.px_base.specs.CallSign.{IsCall}
 use Rattle.pfh_items.specs.Faults.{with_content, header_sum}
 use Rattle.pfh_items.specs.Layout.{ItemValue, item_text, items_text, end_item, header_start, header_text}
 use Rattle.pfh_items.specs.Stamp.{StampValue, stamped_item}
-use Rattle.pfh_items.proofs.TextLemmas.{item_at}
+use Rattle.pfh_items.proofs.Offered.{item_at}
 use Rattle.pfh_writer.specs.Given.{stamped_sum}
 use Rattle.pfh_writer.specs.Stamping.{server_data}
 use Rattle.pfh_writer.specs.Sums.{filled_item, data_sum}

@@ -4,8 +4,7 @@ use Rattle.std.proofs.lemmas.List.{append-nil, append_cancel_right}
 use Rattle.pfh_items.specs.Faults.{IsFaultless}
 use Rattle.pfh_items.specs.Layout.{ItemValue, AreItems, header_text}
 use Rattle.pfh_items.specs.Walk.{ItemList, items_from}
-use Rattle.pfh_items.proofs.HeaderLemmas.{after_start}
-use Rattle.pfh_items.proofs.WalkLemmas.{items_from-whole}
+use Rattle.pfh_items.proofs.Offered.{after_start, items_from-whole}
 
 -- what stands before the body is the header
 pub header_is : (items : List ItemValue) (body header : List ℕ) → IsFaultless items body (header ++ body) → header ≡ header_text items

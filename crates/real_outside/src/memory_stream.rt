@@ -6,11 +6,10 @@ ghost use Rattle.px_base.specs.CallRecords.{no_calls, told};
 ghost use Rattle.real_outside.specs.Scripts.{done_answer, next_answer, read_answer, write_answer};
 ghost use Rattle.real_outside.specs.StreamCalls.{octets_read};
 
-use px_base::CallRecord;
 use crate::script::{MemoryAnswer, Script};
 use crate::stream::{InputStream, OutputStream, StreamCall};
 use crate::system_error::SystemError;
-use px_base::{FileBytes, OutOfMemory};
+use px_base::{CallRecord, FileBytes, OutOfMemory};
 use std::alloc::Global;
 use std::marker::Model;
 

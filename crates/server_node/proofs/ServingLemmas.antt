@@ -8,8 +8,7 @@ use Rattle.file_store.specs.Calls.{Becomes, ChangesReads, Leaves, Runs, TakesSte
 use Rattle.file_store.specs.Journal.{after_recovery}
 use Rattle.file_store.specs.JournalRecovery.{IsFailedSync, IsSyncedFirst}
 use Rattle.file_store.specs.Walk.{state}
-use Rattle.file_store.proofs.CallLemmas.{reads_now}
-use Rattle.file_store.proofs.JournalToldLemmas.{at_told, if_told, told_before, told_weaker}
+use Rattle.file_store.proofs.Offered.{after_first-all, at_told, cuts-among-all, cuts-among-puts, if_told, reads_now, told_before, told_weaker}
 use Rattle.file_store.specs.Command.{Command}
 use Rattle.file_store.specs.IsStore.{IsStore}
 use Rattle.file_store.specs.Records.{store_magic}
@@ -20,8 +19,6 @@ use Rattle.file_store.specs.State.{StandsFor, StoreState, standing_of, store_in}
 use Rattle.file_store.specs.Working.{CutsOffAmongReads, DoesAmongReads}
 use Rattle.file_store.specs.declared.refusals.StoreFault.{StoreFault}
 use Rattle.file_store.specs.declared.refusals.StoreFault.TheVariants as fault
-use Rattle.file_store.proofs.DoesLemmas.{after_first-all}
-use Rattle.file_store.proofs.WorkingLemmas.{cuts-among-all, cuts-among-puts}
 use Rattle.ftl0_server.specs.Window.{window_of}
 use Rattle.ftl0_server.specs.Server.{new_server}
 use Rattle.ftl0_server.specs.ServerState.{IsServer, ServerState, server_pending}
@@ -31,8 +28,7 @@ use Rattle.session_node.specs.declared.terms.Served.{Served}
 use Rattle.session_node.specs.OnDisk.{EachImage, LeavesStanding, NodeRuns}
 use Rattle.session_node.specs.SessionRan.{TurnsBy}
 use Rattle.session_node.specs.Stops.{RefusesSession, stop_of_fault}
-use Rattle.session_node.proofs.Sessions.{append-none, refused_exactly, refused_leaves, refused_runs}
-use Rattle.session_node.proofs.Standing.{node_runs, own_blocks, runs_same, session_puts, session_reads, stands_through}
+use Rattle.session_node.proofs.Offered.{append-none, node_runs, own_blocks, refused_exactly, refused_leaves, refused_runs, runs_same, session_puts, session_reads, stands_through}
 use Rattle.server_node.specs.declared.terms.ServerTerms.{ServerTerms}
 use Rattle.server_node.specs.Node.{IsServing, IsUp, NodeState, TakesTurns}
 use Rattle.server_node.specs.Served.{ServerServed, server_from}

@@ -11,9 +11,7 @@ use Rattle.disk_model.specs.declared.disk.Disk.{Ghosts}
 use Rattle.ax25_frames.specs.FrameText.{FrameValue}
 use Rattle.file_store.specs.State.{StoreState}
 use Rattle.file_store.specs.Working.{CutsOffAmongReads, DoesAmongReads}
-use Rattle.file_store.proofs.DoesLemmas.{Does-none}
-use Rattle.file_store.proofs.WorkingLemmas.{among-healthy, among-then, cuts-among-none, cuts-among-same}
-use Rattle.file_store.proofs.WorkingLemmas.{cuts-among-then, does-among}
+use Rattle.file_store.proofs.Offered.{among-healthy, among-then, cuts-among-none, cuts-among-same, cuts-among-then, does-among, Does-none}
 use Rattle.node_events.specs.Events.{NodeEvent, tick_since, ticks}
 use Rattle.ftl0_server.specs.Failures.{failed_reads, failed_write}
 use Rattle.ftl0_server.specs.ServerStop.{ServerStop}
@@ -28,7 +26,7 @@ use Rattle.session_node.specs.declared.stop.NodeStop.{NodeStop}
 use Rattle.session_node.specs.declared.stop.NodeStop.TheVariants as stop
 use Rattle.session_node.specs.Running.{IsSaid}
 use Rattle.session_node.specs.Stops.{CountsBy}
-use Rattle.session_node.proofs.AnswerLemmas.{gains-same}
+use Rattle.session_node.proofs.Offered.{gains-same}
 use Rattle.server_node.specs.Node.{IsServing, IsUp, RunsOn, SaysFrames, Settles, StopsOn, Takes}
 use Rattle.server_node.specs.Serving.{StopsOver, TakesEvent, failing, text_of}
 use Rattle.server_node.proofs.SendingLemmas.{text-append}

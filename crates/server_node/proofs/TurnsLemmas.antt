@@ -15,7 +15,7 @@ use Rattle.px_base.proofs.Told.{Gains-trans, Grows-none, Grows-trans}
 use Rattle.disk_model.specs.declared.disk.Disk.{Ghosts}
 use Rattle.file_store.specs.Command.{Command}
 use Rattle.file_store.specs.Working.{CutsOffAmongReads}
-use Rattle.file_store.proofs.WorkingLemmas.{cuts-among-none, cuts-among-same, cuts-among-then}
+use Rattle.file_store.proofs.Offered.{cuts-among-none, cuts-among-same, cuts-among-then}
 use Rattle.ftl0_server.proofs.OctetLemmas.{IsOctets-append}
 use Rattle.node_events.specs.Events.{Finishes, NodeEvent, NodeEvents}
 use Rattle.node_events.specs.Reading.{HasHeard}
@@ -24,7 +24,7 @@ use Rattle.session_node.specs.declared.stop.NodeStop.{NodeStop}
 use Rattle.session_node.specs.declared.stop.NodeStop.TheVariants as stop
 use Rattle.session_node.specs.declared.terms.Served.{Served}
 use Rattle.session_node.specs.SessionRan.{TurnsBy}
-use Rattle.session_node.proofs.Listening.{of_error, open_append}
+use Rattle.session_node.proofs.Offered.{of_error, open_append}
 use Rattle.server_node.specs.Node.{IsServing, IsUp, NodeState, Takes, TakesTurn, TakesTurns, TurnEnds, turn_events}
 use Rattle.server_node.specs.Served.{EndsOver}
 use Rattle.server_node.specs.Serving.{StopsBehind, StopsOver, TakesAll, text_of}

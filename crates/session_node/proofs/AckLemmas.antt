@@ -2,7 +2,7 @@
 use Rattle.std.proofs.Common.{◌≡◌, ◌⊎◌, inl, inr, ℕ, ◌+◌, ◌≤◌, List, ◌++◌, length, refl, ◌∙◌, ap, subst, arith, append_assoc, length-append, IfSome}
 use Rattle.std.specs.Prelude.{Result, Ok, Err, IsErrOf}
 use Rattle.disk_model.specs.declared.disk.Disk.{Ghosts}
-use Rattle.file_store.proofs.JournalToldLemmas.{told_weaker}
+use Rattle.file_store.proofs.Offered.{told_weaker}
 use Rattle.file_store.specs.Command.{AreAllowed, Command}
 use Rattle.file_store.specs.Store.{Store}
 use Rattle.file_store.specs.OnDisk.{MakesBetween, StayDone}

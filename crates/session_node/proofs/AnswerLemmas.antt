@@ -17,8 +17,7 @@ use Rattle.file_store.specs.Command.{Command, after_all}
 use Rattle.file_store.specs.Store.{Store}
 use Rattle.file_store.specs.State.{StandsOn, StoreState, store_in}
 use Rattle.file_store.specs.Working.{CutsOffAmongReads, DoesAmongReads}
-use Rattle.file_store.proofs.WorkingLemmas.{among-at, among-same, among-store, among-then, cuts-among-none}
-use Rattle.file_store.proofs.WorkingLemmas.{cuts-among-same}
+use Rattle.file_store.proofs.Offered.{among-at, among-same, among-store, among-then, cuts-among-none, cuts-among-same}
 use Rattle.ftl0_session.specs.Uploads.Events.{Event}
 use Rattle.ftl0_session.specs.Uploads.Failures.{Failure, failed_reads, read_fails}
 use Rattle.ftl0_session.specs.declared.stop.ServerStop.{ServerStop}

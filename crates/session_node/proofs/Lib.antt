@@ -1,14 +1,15 @@
 mod AckLemmas
-pub mod AnswerLemmas
+mod AnswerLemmas
 mod EventLemmas
 mod Invariants
-pub mod Listening
+mod Listening
 mod Moments
 mod NodeLemmas
 mod OctetLemmas
+pub mod Offered
 mod RunLemmas
 mod SayingLemmas
 mod SendingLemmas
-pub mod Serving
-pub mod Sessions
-pub mod Standing
+mod Serving
+mod Sessions
+mod Standing

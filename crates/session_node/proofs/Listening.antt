@@ -34,8 +34,7 @@ use Rattle.session_node.specs.Node.{SaysText, Serves, TakesTurn, TurnEnds}
 use Rattle.session_node.specs.Running.{RunsOn, StopsBehind, StopsOn}
 use Rattle.session_node.specs.ServerState.{IsUp, ServerState, new_server}
 use Rattle.session_node.specs.SessionRan.{EndsOver, SessionOn, SessionRan, TakesAll, TurnsBy, login_text}
-use Rattle.file_store.proofs.DoesLemmas.{Does-none}
-use Rattle.file_store.proofs.WorkingLemmas.{cuts-among-none, cuts-among-same, does-among}
+use Rattle.file_store.proofs.Offered.{cuts-among-none, cuts-among-same, does-among, Does-none}
 use Rattle.session_node.proofs.EventLemmas.{brings-stream, stream-partial}
 use Rattle.session_node.proofs.Invariants.{IsListening}
 use Rattle.session_node.proofs.Moments.{NextMoments, moments_none, next_moments}

@@ -7,8 +7,7 @@ use Rattle.ftl0_packets.specs.Layout.{Item}
 use Rattle.ftl0_packets.specs.Reading.{packets_of, rest_of}
 use Rattle.ftl0_session.specs.Lists.Lists.{CallerList}
 use Rattle.file_store.specs.State.{StandsOn, StoreState, store_in}
-use Rattle.file_store.proofs.DoesLemmas.{Does-none}
-use Rattle.file_store.proofs.WorkingLemmas.{does-among}
+use Rattle.file_store.proofs.Offered.{does-among, Does-none}
 use Rattle.ftl0_session.specs.Uploads.Events.{Event, at_moment}
 use Rattle.ftl0_session.specs.Table.{State}
 use Rattle.session_node.specs.declared.stop.NodeStop.{NodeStop}

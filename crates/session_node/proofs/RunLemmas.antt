@@ -12,7 +12,7 @@ use Rattle.file_store.specs.Command.{Command, after_all}
 use Rattle.file_store.specs.Store.{Store}
 use Rattle.file_store.specs.State.{StoreState, store_in}
 use Rattle.file_store.specs.Working.{CutsOffAmongReads}
-use Rattle.file_store.proofs.WorkingLemmas.{among-same, among-then, cuts-among-then}
+use Rattle.file_store.proofs.Offered.{among-same, among-then, cuts-among-then}
 use Rattle.ftl0_session.specs.Uploads.Events.{Event, at_moment}
 use Rattle.ftl0_session.specs.Run.{Event as MetEvent, RunsOver, event_row, heard_of}
 use Rattle.ftl0_session.specs.Table.{Row, State, failed_reads_told}

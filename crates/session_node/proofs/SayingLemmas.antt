@@ -14,8 +14,7 @@ use Rattle.ftl0_packets.specs.Layout.{PacketValue, packet_text}
 use Rattle.file_store.specs.Command.{Command}
 use Rattle.file_store.specs.State.{StandsOn, StoreState, store_in}
 use Rattle.file_store.specs.Working.{DoesAmongReads, one_if}
-use Rattle.file_store.proofs.DoesLemmas.{Does-none}
-use Rattle.file_store.proofs.WorkingLemmas.{among-same, among-then, does-among}
+use Rattle.file_store.proofs.Offered.{among-same, among-then, does-among, Does-none}
 use Rattle.ftl0_session.specs.Uploads.Failures.{failed_reads, read_fails}
 use Rattle.ftl0_session.specs.Downloads.Needs.{IsDueIn}
 use Rattle.ftl0_session.specs.Filling.{PutsDue}

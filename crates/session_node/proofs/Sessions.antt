@@ -9,7 +9,7 @@ use Rattle.disk_model.specs.declared.disk.Disk.{Ghosts}
 use Rattle.file_store.specs.Calls.{Becomes, ChangesReads, Leaves, Runs, TakesStep}
 use Rattle.file_store.specs.Journal.{after_recovery}
 use Rattle.file_store.specs.JournalRecovery.{IsFailedSync, IsSyncedFirst}
-use Rattle.file_store.proofs.JournalToldLemmas.{told_weaker}
+use Rattle.file_store.proofs.Offered.{cuts-among-puts, told_weaker}
 use Rattle.file_store.specs.Command.{Command}
 use Rattle.file_store.specs.IsStore.{IsStore}
 use Rattle.file_store.specs.Records.{store_magic}
@@ -25,7 +25,6 @@ use Rattle.session_node.specs.OnDisk.{EachImage, LeavesStanding, NodeRuns}
 use Rattle.session_node.specs.ServerState.{IsUp, ServerState, new_server}
 use Rattle.session_node.specs.SessionRan.{SessionOn, SessionServed, TurnsBy}
 use Rattle.session_node.specs.Stops.{HasAirCause, RefusesSession, stop_of_fault}
-use Rattle.file_store.proofs.WorkingLemmas.{cuts-among-puts}
 use Rattle.session_node.proofs.Moments.{moments-trans}
 use Rattle.session_node.proofs.Standing.{node_runs, runs_refused, runs_same, session_puts, session_reads, stands_through}
 

@@ -9,8 +9,7 @@ use Rattle.file_store.specs.Journal.{Standing, journal_of}
 use Rattle.file_store.specs.JournalRecords.{Reading, Record, broken, whole}
 use Rattle.file_store.specs.JournalRecovery.{IsSyncedFirst}
 use Rattle.file_store.specs.Walk.{Stands, damaged_at, on_from, stands_for, stands_of, state, walk, walk_over}
-use Rattle.file_store.proofs.MomentLemmas.{joined, weaker}
-use Rattle.file_store.proofs.JournalToldLemmas.{alike_on, at_told, if_told, told_before, told_weaker}
+use Rattle.file_store.proofs.Offered.{alike_on, among-store, at_told, cuts-among-all, if_told, joined, makes-second, stay-on, told_before, told_weaker, weaker}
 use Rattle.file_store.specs.Command.{Command, after, begin, drop_entry, grow, is_allowed, seal}
 use Rattle.file_store.specs.Records.{command_of, store_after, store_magic, store_step}
 use Rattle.file_store.specs.Store.{Store, empty_store}
@@ -18,8 +17,6 @@ use Rattle.file_store.specs.OnDisk.{MakesFirst}
 use Rattle.file_store.specs.Recovery.{StandsAlike}
 use Rattle.file_store.specs.State.{StandsFor, StoreState, standing_of, store_in}
 use Rattle.file_store.specs.Working.{CountsSome, CutsOffAmongReads, DoesAmongReads, PutsAmongReads}
-use Rattle.file_store.proofs.DoesLemmas.{makes-second, stay-on}
-use Rattle.file_store.proofs.WorkingLemmas.{among-store, cuts-among-all}
 use Rattle.session_node.specs.OnDisk.{EachImage, NodeRuns, StandsThrough}
 use Rattle.session_node.specs.ServerState.{IsUp}
 

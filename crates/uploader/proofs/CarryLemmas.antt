@@ -5,15 +5,13 @@ use Rattle.px_base.specs.declared.air.Air.{Ghosts as AirGhosts}
 use Rattle.disk_model.specs.declared.disk.Disk.{Ghosts}
 use Rattle.client_notes.specs.Calls.{Runs}
 use Rattle.client_notes.specs.Walk.{state}
-use Rattle.client_notes.proofs.ToldLemmas.{told_weaker}
+use Rattle.client_notes.proofs.Offered.{images-here, Several-then, told_weaker}
 use Rattle.client_notes.specs.Command.{NotesCommand}
 use Rattle.client_notes.specs.Laws.{after_all}
 use Rattle.client_notes.specs.Notes.{Lists}
 use Rattle.client_notes.specs.OnDisk.{EachImage}
 use Rattle.client_notes.specs.Several.{DoesSeveral}
 use Rattle.client_notes.specs.State.{StandsFor, standing_of}
-use Rattle.client_notes.proofs.PutLemmas.{images-here}
-use Rattle.client_notes.proofs.SeveralLemmas.{Several-then}
 use Rattle.ftl0_client.specs.Table.{JobState}
 use Rattle.ftl0_client.specs.Client.{Client, ClientEvent}
 use Rattle.ftl0_client.specs.ClientState.{ClientState, listing_in}

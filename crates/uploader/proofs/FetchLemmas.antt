@@ -11,7 +11,7 @@ use Rattle.client_notes.specs.Limits.{longest_file}
 use Rattle.client_notes.specs.Laws.{after_all}
 use Rattle.client_notes.specs.Notes.{Lists, got_of}
 use Rattle.client_notes.specs.Several.{DoesSeveral}
-use Rattle.client_notes.proofs.SeveralLemmas.{Several-none}
+use Rattle.client_notes.proofs.Offered.{Several-none}
 use Rattle.ftl0_client.specs.Work.TheVariants as work
 use Rattle.ftl0_client.specs.Download.{new_download}
 use Rattle.ftl0_client.specs.JobState.{NotesGoWith}

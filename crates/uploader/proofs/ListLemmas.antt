@@ -5,7 +5,7 @@ use Rattle.px_base.specs.declared.air.Air.{Ghosts as AirGhosts}
 use Rattle.disk_model.specs.declared.disk.Disk.{Ghosts}
 use Rattle.client_notes.specs.Calls.{Runs}
 use Rattle.client_notes.specs.Several.{DoesSeveral}
-use Rattle.client_notes.proofs.SeveralLemmas.{Several-none}
+use Rattle.client_notes.proofs.Offered.{Several-none}
 use Rattle.ftl0_client.specs.Work.TheVariants as work
 use Rattle.ftl0_client.specs.Directory.{new_directory}
 use Rattle.ftl0_client.specs.Short.{are_short_headers}

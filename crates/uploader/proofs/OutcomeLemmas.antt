@@ -3,7 +3,7 @@ use Rattle.std.proofs.Common.{◌≡◌, ℕ, true, List, refl, sym, ap, ◌∙�
 use Rattle.std.specs.Prelude.{Result, Ok, Err, IfOk}
 use Rattle.pfh_reader.specs.Faults.{fault_code}
 use Rattle.disk_model.specs.declared.disk.Disk.{Ghosts}
-use Rattle.client_notes.proofs.ToldLemmas.{told_weaker}
+use Rattle.client_notes.proofs.Offered.{told_weaker}
 use Rattle.client_notes.specs.Answers.{noted_at}
 use Rattle.client_notes.specs.declared.answers.Noted.TheVariants as noted
 use Rattle.client_notes.specs.Notes.{Lists, got_of}

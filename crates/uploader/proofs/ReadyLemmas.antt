@@ -5,7 +5,7 @@ use Rattle.std.proofs.lemmas.Result.{err_from_is_err_and}
 use Rattle.disk_model.specs.declared.disk.Disk.{Ghosts}
 use Rattle.client_notes.specs.Calls.{Leaves, Runs}
 use Rattle.client_notes.specs.JournalRecovery.{IsFailedSync, IsSyncedFirst}
-use Rattle.client_notes.proofs.ToldLemmas.{if_told, told_weaker}
+use Rattle.client_notes.proofs.Offered.{if_told, told_weaker}
 use Rattle.client_notes.specs.Recovery.{LeavesAlikeSinceSync, RefusesRecovery, StandsAlike}
 use Rattle.client_notes.specs.State.{standing_of}
 use Rattle.client_notes.specs.declared.refusals.StoreFault.{StoreFault}

@@ -7,9 +7,8 @@ use Rattle.px_base.specs.declared.air.Air.{Ghosts as AirGhosts}
 use Rattle.pfh_reader.specs.Faults.{fault_code}
 use Rattle.disk_model.specs.declared.disk.Disk.{Ghosts}
 use Rattle.client_notes.specs.Calls.{Runs}
-use Rattle.client_notes.proofs.CallLemmas.{stops_none}
+use Rattle.client_notes.proofs.Offered.{alike_same, images-here, Several-none, Several-one, Several-same, stops_none, told_weaker}
 use Rattle.client_notes.specs.Walk.{state}
-use Rattle.client_notes.proofs.ToldLemmas.{alike_same, told_weaker}
 use Rattle.client_notes.specs.Answers.{StartsBy, answer_of, fresh_task, noted_at, start_reaches}
 use Rattle.client_notes.specs.Command.{NotesCommand}
 use Rattle.client_notes.specs.declared.answers.Begun.{Begun}
@@ -22,8 +21,6 @@ use Rattle.client_notes.specs.Notes.{Lists, last_task}
 use Rattle.client_notes.specs.OnDisk.{Does, EachImage, Untouched}
 use Rattle.client_notes.specs.Several.{DoesSeveral}
 use Rattle.client_notes.specs.State.{NotesState, StandsFor, standing_of}
-use Rattle.client_notes.proofs.PutLemmas.{images-here}
-use Rattle.client_notes.proofs.SeveralLemmas.{Several-none, Several-one, Several-same}
 use Rattle.ftl0_client.specs.Work.TheVariants as work
 use Rattle.ftl0_client.specs.JobLaws.{IsAckedIn}
 use Rattle.ftl0_client.specs.Table.{JobState, new_job}

@@ -5,17 +5,13 @@ use Rattle.disk_model.specs.declared.disk.Disk.{Ghosts}
 use Rattle.client_notes.specs.Calls.{CountsFault, Leaves, Runs, TellsAlike}
 use Rattle.client_notes.specs.JournalRecovery.{IsSyncedFirst}
 use Rattle.client_notes.specs.Walk.{state}
-use Rattle.client_notes.proofs.CallLemmas.{stops_on}
-use Rattle.client_notes.proofs.MomentLemmas.{joined, weaker}
-use Rattle.client_notes.proofs.ToldLemmas.{alike_on, at_told, if_told, told_before, told_weaker}
+use Rattle.client_notes.proofs.Offered.{alike_on, at_told, if_told, images-here, joined, makes-second, Several-then, stay-on, stops_on, told_before, told_weaker, weaker}
 use Rattle.client_notes.specs.Command.{NotesCommand}
 use Rattle.client_notes.specs.Notes.{Lists}
 use Rattle.client_notes.specs.Records.{notes_magic}
 use Rattle.client_notes.specs.Recovery.{StandsAlike}
 use Rattle.client_notes.specs.Several.{DoesSeveral, MakesFirst}
 use Rattle.client_notes.specs.State.{NotesState, StandsFor, standing_of}
-use Rattle.client_notes.proofs.PutLemmas.{images-here}
-use Rattle.client_notes.proofs.SeveralLemmas.{Several-then, makes-second, stay-on}
 use Rattle.client_node.specs.Carried.{CutsOff}
 use Rattle.uploader.specs.OnDisk.{StandsThrough}
 

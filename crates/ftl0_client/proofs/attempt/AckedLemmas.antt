@@ -8,7 +8,7 @@ use Rattle.client_notes.specs.Laws.{AreAllowed, after_all}
 use Rattle.client_notes.specs.Notes.{Lists}
 use Rattle.client_notes.specs.Several.{after_first}
 use Rattle.client_notes.specs.State.{StandsFor}
-use Rattle.client_notes.proofs.SeveralLemmas.{after_first-then}
+use Rattle.client_notes.proofs.Offered.{after_first-then}
 use Rattle.ftl0_job.specs.declared.ending.Ending.{Ending}
 use Rattle.ftl0_job.specs.declared.ending.Outcome.TheVariants as outcome
 use Rattle.ftl0_job.specs.declared.work.Work.TheVariants as work
@@ -17,10 +17,7 @@ use Rattle.ftl0_job.specs.Laws.{Acknowledges, reached}
 use Rattle.ftl0_job.specs.Row.{Row, strange}
 use Rattle.ftl0_job.specs.Table.{job_row, new_job, row_of}
 use Rattle.ftl0_job.specs.Upload.{Upload, upload_row}
-use Rattle.ftl0_job.proofs.CaseLemmas.{UploadRows, upload-rows}
-use Rattle.ftl0_job.proofs.LawLemmas.{acknowledged}
-use Rattle.ftl0_job.proofs.RowLemmas.{job-in}
-use Rattle.ftl0_job.proofs.StaysLemmas.{stays-item}
+use Rattle.ftl0_job.proofs.Offered.{acknowledged, job-in, stays-item, upload-rows, UploadRows}
 use Rattle.ftl0_client.specs.Attempt.Laws.{AckedLaw, AcknowledgesIn}
 use Rattle.ftl0_client.proofs.attempt.ReachedLemmas.{reaches}
 

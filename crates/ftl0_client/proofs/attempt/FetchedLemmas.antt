@@ -7,7 +7,7 @@ use Rattle.ftl0_job.specs.Faults.{fault_code}
 use Rattle.client_notes.specs.Command.{NotesCommand}
 use Rattle.client_notes.specs.Laws.{after_all}
 use Rattle.client_notes.specs.Notes.{Lists, got_of}
-use Rattle.client_notes.proofs.SeveralLemmas.{after_all-append}
+use Rattle.client_notes.proofs.Offered.{after_all-append}
 use Rattle.ftl0_job.specs.declared.ending.Ending.{Ending}
 use Rattle.ftl0_job.specs.declared.ending.Outcome.TheVariants as outcome
 use Rattle.ftl0_job.specs.declared.work.Work.TheVariants as work
@@ -16,10 +16,7 @@ use Rattle.ftl0_job.specs.JobState.{GoBy, HasGot}
 use Rattle.ftl0_job.specs.Laws.{reached}
 use Rattle.ftl0_job.specs.Row.{Row, strange}
 use Rattle.ftl0_job.specs.Table.{job_row, new_job, row_of}
-use Rattle.ftl0_job.proofs.CaseLemmas.{DownloadRows, download-rows}
-use Rattle.ftl0_job.proofs.LawLemmas.{fetched}
-use Rattle.ftl0_job.proofs.RowLemmas.{job-in}
-use Rattle.ftl0_job.proofs.StaysLemmas.{stays-item}
+use Rattle.ftl0_job.proofs.Offered.{download-rows, DownloadRows, fetched, job-in, stays-item}
 use Rattle.ftl0_client.specs.Attempt.Laws.{FetchedLaw, IsFetchedBy}
 use Rattle.ftl0_client.proofs.attempt.ReachedLemmas.{reaches}
 

@@ -11,15 +11,12 @@ use Rattle.ax25_link.specs.Rows.{after_frame, heard_of}
 use Rattle.ax25_link.specs.Window.{Window}
 use Rattle.ftl0_packets.specs.Layout.{Item}
 use Rattle.client_notes.specs.Calls.{Leaves}
-use Rattle.client_notes.proofs.CallLemmas.{puts_on, puts_same}
-use Rattle.client_notes.proofs.MomentLemmas.{weaker}
-use Rattle.client_notes.proofs.ToldLemmas.{told_weaker}
+use Rattle.client_notes.proofs.Offered.{makes-first, makes-within, puts_on, puts_same, Several-then, told_weaker, weaker}
 use Rattle.client_notes.specs.Command.{NotesCommand}
 use Rattle.client_notes.specs.Laws.{after_all}
 use Rattle.client_notes.specs.Notes.{Lists}
 use Rattle.client_notes.specs.Several.{DoesSeveral, MakesFirst}
 use Rattle.client_notes.specs.State.{NotesState}
-use Rattle.client_notes.proofs.SeveralLemmas.{Several-then, makes-first, makes-within}
 use Rattle.ftl0_job.specs.declared.stop.JobStop.{JobStop}
 use Rattle.ftl0_job.specs.declared.stop.JobStop.TheVariants as stop
 use Rattle.ftl0_job.specs.Noting.{HasNoted}

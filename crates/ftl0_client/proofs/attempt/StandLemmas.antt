@@ -13,7 +13,7 @@ use Rattle.ftl0_packets.specs.Layout.{Item}
 use Rattle.client_notes.specs.Command.{NotesCommand}
 use Rattle.client_notes.specs.Laws.{after_all}
 use Rattle.client_notes.specs.Notes.{Lists}
-use Rattle.client_notes.proofs.SeveralLemmas.{after_all-append}
+use Rattle.client_notes.proofs.Offered.{after_all-append}
 use Rattle.ftl0_job.specs.declared.ending.Ending.{Ending}
 use Rattle.ftl0_job.specs.declared.ending.Outcome.TheVariants as outcome
 use Rattle.ftl0_job.specs.declared.work.Work.{Work}

@@ -2,12 +2,10 @@
 use Rattle.std.proofs.Common.{◌≡◌, ◌+◌, List, ◌++◌, length, sym, subst, arith, length-append}
 use Rattle.disk_model.specs.declared.disk.Disk.{Ghosts}
 use Rattle.file_store.specs.Calls.{Leaves}
-use Rattle.file_store.proofs.MomentLemmas.{weaker}
-use Rattle.file_store.proofs.JournalToldLemmas.{told_weaker}
+use Rattle.file_store.proofs.Offered.{makes-first, makes-within, told_weaker, weaker}
 use Rattle.file_store.specs.Command.{Command}
 use Rattle.file_store.specs.Store.{Store}
 use Rattle.file_store.specs.OnDisk.{MakesFirst}
-use Rattle.file_store.proofs.DoesLemmas.{makes-first, makes-within}
 use Rattle.ftl0_server.proofs.connection.TakingLemmas.{IsFront}
 
 -- the first of some commands, for some number of them, are the first of more commands

@@ -15,8 +15,7 @@ use Rattle.file_store.specs.Calls.{Leaves}
 use Rattle.file_store.specs.OnDisk.{MakesFirst}
 use Rattle.file_store.specs.State.{StandsOn, StoreState, store_in}
 use Rattle.file_store.specs.Working.{DoesAmongReads, one_if}
-use Rattle.file_store.proofs.DoesLemmas.{Does-none}
-use Rattle.file_store.proofs.WorkingLemmas.{among-at, among-same, among-then, does-among, puts-among-then}
+use Rattle.file_store.proofs.Offered.{among-at, among-same, among-then, does-among, Does-none, puts-among-then}
 use Rattle.ftl0_session.specs.Uploads.Failures.{Failure, failed_reads, failed_write, read_fails}
 use Rattle.ftl0_session.specs.Downloads.Needs.{IsDueIn}
 use Rattle.ftl0_session.specs.declared.stop.ServerStop.{ServerStop}

@@ -14,10 +14,8 @@ use Rattle.file_store.specs.Records.{store_step}
 use Rattle.file_store.specs.Store.{Store, empty_store, entry_of}
 use Rattle.file_store.specs.Position.{Position}
 use Rattle.file_store.specs.Walk.{KeepsState}
-use Rattle.file_store.proofs.CallLemmas.{puts_none}
+use Rattle.file_store.proofs.Offered.{does-among, Does-none, puts-among, puts-among-same, puts-among-then, puts_none}
 use Rattle.file_store.specs.State.{StandsOn, StoreState, store_in}
-use Rattle.file_store.proofs.DoesLemmas.{Does-none}
-use Rattle.file_store.proofs.WorkingLemmas.{does-among, puts-among, puts-among-same, puts-among-then}
 use Rattle.ftl0_session.specs.Uploads.Others.{KeepsOtherCallers}
 use Rattle.ftl0_session.specs.Uploads.SessionState.{IsHeld, IsOnlyOut, NoOtherOut, SessionState as Uploading}
 use Rattle.ftl0_session.specs.Downloads.Needs.{AreComplete, IsDueIn}

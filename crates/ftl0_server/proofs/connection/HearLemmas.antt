@@ -15,8 +15,7 @@ use Rattle.ftl0_packets.specs.Reading.{packets_of, rest_of}
 use Rattle.ftl0_session.specs.Lists.Lists.{CallerList, has_left}
 use Rattle.file_store.specs.State.{StandsOn, StoreState, store_in}
 use Rattle.file_store.specs.Working.{DoesAmongReads}
-use Rattle.file_store.proofs.DoesLemmas.{Does-none}
-use Rattle.file_store.proofs.WorkingLemmas.{among-parked, does-among}
+use Rattle.file_store.proofs.Offered.{among-parked, does-among, Does-none}
 use Rattle.ftl0_session.specs.declared.uploads.phase.Phase.{Phase}
 use Rattle.ftl0_session.specs.declared.uploads.phase.Phase.TheVariants as phase
 use Rattle.ftl0_session.specs.Uploads.Failures.{Failure}

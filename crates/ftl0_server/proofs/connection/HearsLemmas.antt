@@ -16,7 +16,7 @@ use Rattle.file_store.specs.Store.{Store}
 use Rattle.file_store.specs.OnDisk.{MakesFirst}
 use Rattle.file_store.specs.State.{StoreState, store_in}
 use Rattle.file_store.specs.Working.{CutsOffAmongReads, DoesAmongReads}
-use Rattle.file_store.proofs.WorkingLemmas.{among-then, cuts-among-all, cuts-among-then}
+use Rattle.file_store.proofs.Offered.{among-then, cuts-among-all, cuts-among-then}
 use Rattle.ftl0_session.specs.Uploads.Failures.{Failure, failed_reads, failed_write, write_fails}
 use Rattle.ftl0_session.specs.declared.stop.ServerStop.{ServerStop}
 use Rattle.ftl0_session.specs.declared.stop.ServerStop.TheVariants as stop

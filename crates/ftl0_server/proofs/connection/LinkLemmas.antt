@@ -23,7 +23,7 @@ use Rattle.ax25_link.specs.Sending.{Sending, after_new, has_new, last_sending, l
 use Rattle.ax25_link.specs.Sending.{sending_after}
 use Rattle.ax25_link.specs.Timer.{after_tick, is_down, is_spent, runs_out, told_of_tick, trying}
 use Rattle.ax25_link.specs.Window.{Window}
-use Rattle.ax25_link.proofs.EndLemmas.{acknowledging-keeps}
+use Rattle.ax25_link.proofs.Offered.{acknowledging-keeps}
 use Rattle.ftl0_server.specs.Connection.ConnectionState.{StandsForSome}
 
 -- the link isn't down by what was told

@@ -11,7 +11,7 @@ use Rattle.ftl0_packets.specs.Items.{texts}
 use Rattle.ftl0_session.specs.Lists.Lists.{CallerList}
 use Rattle.file_store.specs.Command.{Command, after_all}
 use Rattle.file_store.specs.Store.{Store}
-use Rattle.file_store.proofs.GrowLemmas.{after_all-append}
+use Rattle.file_store.proofs.Offered.{after_all-append}
 use Rattle.ftl0_session.specs.Uploads.Failures.{Failure, read_fails, write_fails}
 use Rattle.ftl0_session.specs.Table.{Row, State, row_at, session_row, failed_reads_told}
 use Rattle.ftl0_server.specs.Connection.Laws.{TakingLaw}

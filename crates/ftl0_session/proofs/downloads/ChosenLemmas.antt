@@ -13,7 +13,7 @@ use Rattle.file_store.specs.Headers.{header_items}
 use Rattle.file_store.specs.Info.{IsCompleteIn, IsNextComplete, is_complete}
 use Rattle.file_store.specs.IsStore.{AreEntries, IsStore}
 use Rattle.file_store.specs.Store.{Entry, Store, entry_of, octets_at}
-use Rattle.file_store.proofs.EntriesLemmas.{found-fits, found-number, has_number}
+use Rattle.file_store.proofs.Offered.{found-fits, found-number, has_number}
 use Rattle.ftl0_session.specs.Downloads.Needs.{AreFiles}
 use Rattle.ftl0_session.specs.Downloads.Table.{chosen, is_chosen, octets_in}
 

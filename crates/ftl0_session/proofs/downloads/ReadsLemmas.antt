@@ -2,7 +2,7 @@
 use Rattle.std.proofs.Common.{◌≡◌, true, false, Result, Ok, Err, OnErr}
 use Rattle.disk_model.specs.declared.disk.Disk.{Ghosts}
 use Rattle.file_store.specs.Calls.{Reads}
-use Rattle.file_store.proofs.CallLemmas.{reads_none, reads_on, reads_same}
+use Rattle.file_store.proofs.Offered.{reads_none, reads_on, reads_same}
 
 module _ {D : Type 0} (g : Ghosts D) where
   -- none yet

@@ -4,8 +4,7 @@ use Rattle.std.proofs.Common.{length-append, None, Some}
 use Rattle.file_store.specs.Command.{AreAllowed, Command, after, after_all, last_grow, seal}
 use Rattle.file_store.specs.Store.{Store, entry_of}
 use Rattle.file_store.specs.OnDisk.{after_first}
-use Rattle.file_store.proofs.DoesLemmas.{after_first-then}
-use Rattle.file_store.proofs.ReceiptLemmas.{stays}
+use Rattle.file_store.proofs.Offered.{after_first-then, stays}
 use Rattle.ftl0_session.specs.Uploads.Laws.{AcknowledgedStandsLaw, kept}
 use Rattle.ftl0_session.specs.Uploads.Session.{Row, whole_row}
 use Rattle.ftl0_session.proofs.uploads.Uploads.{end-row, sealed_entry, upto-is}

@@ -5,14 +5,12 @@ use Rattle.px_base.specs.CallSign.{CallSign}
 use Rattle.disk_model.specs.declared.disk.Disk.{Ghosts}
 use Rattle.ftl0_packets.specs.Layout.{Item}
 use Rattle.file_store.specs.Calls.{Puts}
-use Rattle.file_store.proofs.CallLemmas.{puts_none, puts_same}
-use Rattle.file_store.proofs.JournalToldLemmas.{at_told, told_weaker}
+use Rattle.file_store.proofs.Offered.{at_told, Does-moved, Does-none, Does-same, puts_none, puts_same, told_weaker}
 use Rattle.file_store.specs.Command.{Command}
 use Rattle.file_store.specs.EntriesKept.{KeepsComplete}
 use Rattle.file_store.specs.Store.{Store}
 use Rattle.file_store.specs.OnDisk.{Does}
 use Rattle.file_store.specs.State.{StandsOn, StoreState, store_in}
-use Rattle.file_store.proofs.DoesLemmas.{Does-moved, Does-none, Does-same}
 use Rattle.ftl0_session.specs.declared.uploads.phase.Phase.{Phase}
 use Rattle.ftl0_session.specs.declared.uploads.stop.ServerStop.{ServerStop}
 use Rattle.ftl0_session.specs.declared.uploads.stop.ServerStop.TheVariants as stop

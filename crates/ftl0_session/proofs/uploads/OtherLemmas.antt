@@ -8,7 +8,7 @@ use Rattle.file_store.specs.Command.{Command, begin, grow, seal, drop_entry, aft
 use Rattle.file_store.specs.Command.{last_grow, sealed, with_holding}
 use Rattle.file_store.specs.Files.{KeepsRests}
 use Rattle.file_store.specs.Store.{Entry, Holding, Store, entry_of, partial}
-use Rattle.file_store.proofs.EntriesLemmas.{has_number, find-filter_other, find-map-changed, find-map-changed_other}
+use Rattle.file_store.proofs.Offered.{find-filter_other, find-map-changed, find-map-changed_other, has_number}
 use Rattle.file_store.specs.Kept.{KeepsOthers}
 use Rattle.file_store.specs.State.{StoreState, rest_in, store_in}
 use Rattle.file_store.specs.Upload.{entry_for}

@@ -16,7 +16,7 @@ use Rattle.file_store.specs.Command.{MayBegin, can_begin, has_room, passes}
 use Rattle.file_store.specs.Info.{is_complete}
 use Rattle.file_store.specs.IsStore.{IsStore}
 use Rattle.file_store.specs.Store.{Entry, Store, blocks_for, blocks_of, entry_of, octets_at, octets_of, partial}
-use Rattle.file_store.proofs.EntriesLemmas.{found-fits, has_number}
+use Rattle.file_store.proofs.Offered.{found-fits, has_number}
 use Rattle.file_store.specs.State.{StoreState, rest_in}
 use Rattle.file_store.specs.Upload.{Upload}
 use Rattle.ftl0_session.specs.Uploads.Session.{aborting, command, continue_row, granted_row, is_all, is_same_call}

@@ -11,9 +11,7 @@ use Rattle.file_store.specs.Command.{after, after_all, begin, grown, last_grow, 
 use Rattle.file_store.specs.Command.{unfilled_block, whole_grows}
 use Rattle.file_store.specs.IsStore.{IsStore}
 use Rattle.file_store.specs.Store.{Entry, Holding, Store, entry_of, new_entry, octets_at, partial}
-use Rattle.file_store.proofs.AfterLemmas.{find-push}
-use Rattle.file_store.proofs.EntriesLemmas.{find-map-changed, find_past, has_number}
-use Rattle.file_store.proofs.GrowLemmas.{after_all-append, grows-after, last_grow-after}
+use Rattle.file_store.proofs.Offered.{after_all-append, find-map-changed, find-push, find_past, grows-after, has_number, last_grow-after}
 use Rattle.ftl0_session.specs.Uploads.Continued.{ContinuedLaw}
 use Rattle.ftl0_session.specs.Uploads.Events.{Event}
 use Rattle.ftl0_session.specs.Uploads.Laws.{AcknowledgedLaw, ResumedLaw, kept}

@@ -7,9 +7,8 @@ ghost use Rattle.real_outside.specs.Files.{file_answer, octets_read, path_answer
 
 use super::file_call::{FileCall, Found};
 use super::file_system::FileSystem;
-use px_base::CallRecord;
 use crate::system_error::SystemError;
-use px_base::{CallCounter, FileBytes, OutOfMemory};
+use px_base::{CallCounter, CallRecord, FileBytes, OutOfMemory};
 use std::alloc::Global;
 use std::io::{self, ErrorKind};
 use std::marker::Model;

@@ -8,7 +8,7 @@ ghost use Rattle.real_outside.specs.StreamCalls.{octets_read};
 
 use crate::tcp::connection::{Connection, ConnectionCall};
 use crate::{MemoryAnswer, Script, SystemError};
-use px_base::{FileBytes, OutOfMemory};
+use px_base::{CallRecord, FileBytes, OutOfMemory};
 use std::alloc::Global;
 use std::marker::Model;
 

@@ -1,8 +1,7 @@
 use Rattle.std.proofs.Common.{◌≡◌, sym, ◌∙◌, ap, refl, Ok}
 use Rattle.file_journal.specs.Position.{Position}
 use Rattle.file_journal.specs.Records.{record_of}
-use Rattle.file_journal.proofs.CallLemmas.{puts_same}
-use Rattle.file_journal.proofs.WalkLemmas.{append_keeps}
+use Rattle.file_journal.proofs.Offered.{append_keeps, puts_same}
 use Rattle.client_notes.specs.Command.{after}
 use Rattle.client_notes.specs.Commands.{command_value}
 use Rattle.client_notes.specs.Records.{command_of, notes_step, record_of_command}

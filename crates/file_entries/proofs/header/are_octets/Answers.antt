@@ -1,5 +1,5 @@
 use Rattle.std.proofs.Common.{arith}
-use Rattle.pfh_items.proofs.WalkLemmas.{IsOctets-slice}
+use Rattle.pfh_items.proofs.Offered.{IsOctets-slice}
 use Rattle.file_entries.proofs.header.are_octets.Goals as goal
 
 pub returns : goal.returns

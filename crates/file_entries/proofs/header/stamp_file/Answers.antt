@@ -1,7 +1,7 @@
 use Rattle.std.proofs.Common.{◌∙◌, ap, rules}
 use Rattle.px_base.specs.CallSign.{IsCall}
 use Rattle.pfh_items.specs.Faults.{fault_code}
-use Rattle.pfh_items.proofs.FaultLemmas.{no_fault}
+use Rattle.pfh_items.proofs.Offered.{no_fault}
 use Rattle.pfh_writer.proofs.ClientLemmas.{kept_file}
 use Rattle.pfh_writer.proofs.StampedLemmas.{no_fault-code}
 use Rattle.file_entries.proofs.header.stamp_file.Goals as goal

@@ -1,6 +1,6 @@
 use Rattle.std.proofs.Common.{◌-◌, length, drop, arith, length-drop}
 use Rattle.std.proofs.lemmas.List.{length-take-le}
-use Rattle.pfh_items.proofs.WalkLemmas.{IsOctets-slice}
+use Rattle.pfh_items.proofs.Offered.{IsOctets-slice}
 use Rattle.file_entries.proofs.RecordLemmas.{IsOctets-part}
 use Rattle.file_entries.proofs.reading.read_grow.Goals as goal
 

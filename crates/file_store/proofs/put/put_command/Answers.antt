@@ -1,13 +1,12 @@
 use Rattle.std.proofs.Common.{◌≡◌, sym, ◌∙◌, ap, refl, Ok}
 use Rattle.file_journal.specs.Position.{Position}
 use Rattle.file_journal.specs.Records.{record_of}
-use Rattle.file_journal.proofs.CallLemmas.{puts_same}
-use Rattle.file_journal.proofs.WalkLemmas.{append_keeps}
+use Rattle.file_journal.proofs.Offered.{append_keeps, puts_same}
 use Rattle.file_entries.specs.Command.{after}
 use Rattle.file_entries.specs.Commands.{command_value}
 use Rattle.file_entries.specs.Records.{command_of, record_of_command, store_step}
 use Rattle.file_entries.specs.Store.{empty_store}
-use Rattle.file_entries.proofs.RecordLemmas.{read-written}
+use Rattle.file_entries.proofs.Offered.{read-written}
 use Rattle.file_store.proofs.PutLemmas.{allowed-step, images-here, is_disk, put-images, put-leaves}
 use Rattle.file_store.proofs.put.put_command.Goals as goal
 

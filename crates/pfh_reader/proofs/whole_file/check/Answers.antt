@@ -4,8 +4,7 @@ use Rattle.std.specs.Prelude.{option_map}
 use Rattle.std.proofs.lemmas.Bool.{both_ways}
 use Rattle.pfh_items.specs.declared.fault.FileFault.TheVariants.{NoHeader, NoEndItem}
 use Rattle.pfh_items.specs.Faults.{begins_header, code_of}
-use Rattle.pfh_items.proofs.FaultLemmas.{first_fault-none, first_fault-text}
-use Rattle.pfh_items.proofs.HeaderLemmas.{BeginsHeader-begins_header, begins_header-BeginsHeader}
+use Rattle.pfh_items.proofs.Offered.{begins_header-BeginsHeader, BeginsHeader-begins_header, first_fault-none, first_fault-text}
 use Rattle.pfh_reader.proofs.FaultLemmas.{code, faultless, first, first_fault-other, first_fault-parts}
 use Rattle.pfh_reader.proofs.whole_file.check.Goals as goal
 

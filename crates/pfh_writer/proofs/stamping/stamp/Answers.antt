@@ -3,7 +3,7 @@ use Rattle.std.proofs.lemmas.List.{length-take-le}
 use Rattle.px_base.specs.CallSign.{CallSign, IsCall}
 use Rattle.pfh_items.specs.Stamp.{StampValue, stamped}
 use Rattle.pfh_items.specs.Walk.{item_len}
-use Rattle.pfh_items.proofs.StampLemmas.{one_stamp}
+use Rattle.pfh_items.proofs.Offered.{one_stamp}
 use Rattle.pfh_writer.specs.Filling.{FillsFront, StaysAtEnd, sum_place_after}
 use Rattle.pfh_writer.specs.Stamping.{stamp_of}
 use Rattle.pfh_writer.specs.declared.server.ServerItems.{ServerItems}

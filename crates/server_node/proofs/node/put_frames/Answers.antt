@@ -4,7 +4,7 @@ use Rattle.std.specs.Prelude.{⊤}
 use Rattle.px_base.specs.Outside.{HasCause}
 use Rattle.px_base.specs.declared.air.AirDown.{AirDown}
 use Rattle.ftl0_server.specs.ServerState.{IsServer, SendsFor}
-use Rattle.session_node.proofs.Serving.{at_exit}
+use Rattle.session_node.proofs.Offered.{at_exit}
 use Rattle.server_node.specs.Node.{SaysFrames}
 use Rattle.server_node.proofs.SendingLemmas.{cause-after, emitted-more, emitted-none, says-all, says-failed, settles-all}
 use Rattle.server_node.proofs.node.put_frames.Goals as goal

@@ -7,8 +7,7 @@ use Rattle.session_node.specs.declared.stop.NodeStop.TheVariants as stop
 use Rattle.session_node.specs.declared.terms.Served.{Served}
 use Rattle.session_node.specs.OnDisk.{NodeRuns}
 use Rattle.session_node.specs.Stops.{RefusesSession, stop_of_fault}
-use Rattle.session_node.proofs.Serving.{at_exit}
-use Rattle.session_node.proofs.Standing.{runs_refused}
+use Rattle.session_node.proofs.Offered.{at_exit, runs_refused}
 use Rattle.server_node.specs.Served.{ServerEnds}
 use Rattle.server_node.proofs.ServingLemmas.{IsStarted, not_failed, server_exactly, server_runs, server_served, start_exactly, start_leaves, start_runs, start_synced, started_serving, started_up}
 use Rattle.server_node.proofs.serving.serve.Goals as goal

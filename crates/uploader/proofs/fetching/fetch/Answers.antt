@@ -2,7 +2,7 @@
 use Rattle.std.proofs.Common.{◌≡◌, inr, length, refl, ap, ◌∙◌}
 use Rattle.std.specs.Prelude.{Result, Ok, Err, IsErrOf, ⊤}
 use Rattle.client_notes.specs.Calls.{CountsFault, Runs}
-use Rattle.client_notes.proofs.CallLemmas.{counts_none}
+use Rattle.client_notes.proofs.Offered.{counts_none}
 use Rattle.client_notes.specs.Notes.{got_of}
 use Rattle.client_notes.specs.State.{NotesState}
 use Rattle.ftl0_client.specs.declared.outcome.Outcome.{Outcome}

@@ -3,7 +3,7 @@ use Rattle.std.proofs.Common.{◌≡◌, inl, inr, ℕ, List, refl, ap, ◌∙�
 use Rattle.std.specs.Prelude.{Result, Ok, Err, IsErrOf, ⊤}
 use Rattle.px_base.specs.Outside.{Gains, GainsPrefix}
 use Rattle.client_notes.specs.Calls.{CountsFault, Runs}
-use Rattle.client_notes.proofs.CallLemmas.{counts_none}
+use Rattle.client_notes.proofs.Offered.{counts_none}
 use Rattle.client_notes.specs.declared.refusals.StoreFault.TheVariants as fault
 use Rattle.ftl0_client.specs.Work.TheVariants as work
 use Rattle.ftl0_client.specs.Directory.{new_directory}

@@ -3,7 +3,7 @@ use Rattle.std.proofs.lemmas.Result.{err_from_is_err_and}
 use Rattle.file_journal.specs.Position.{Position}
 use Rattle.file_journal.specs.Walk.{state, walk_left}
 use Rattle.file_journal.specs.declared.faults.ReadFault.TheVariants as read
-use Rattle.file_journal.proofs.ToldLemmas.{at_told, if_told, told_weaker}
+use Rattle.file_journal.proofs.Offered.{at_told, if_told, told_weaker}
 use Rattle.client_notes.specs.Records.{notes_step}
 use Rattle.client_notes.specs.State.{fresh_notes}
 use Rattle.client_notes.proofs.RecoveryLemmas.{all-read, damage-leaves, exactly-state, leaves-alike, left-to-read, octets-read, quiet-read, read-damage, read-disk, read-disk-back, read-memory, reads-none, recovery-disk, refused-read, refused-recovery, runs-read, store-keeps, sync-refused, synced-alike}

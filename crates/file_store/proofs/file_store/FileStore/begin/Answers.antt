@@ -7,8 +7,7 @@ use Rattle.file_entries.specs.IsStore.{IsStore}
 use Rattle.file_entries.specs.Kept.{KeepsComplete}
 use Rattle.file_entries.specs.Records.{store_magic}
 use Rattle.file_entries.specs.Store.{Store, entry_of}
-use Rattle.file_entries.proofs.AfterLemmas.{begin-KeepsComplete}
-use Rattle.file_entries.proofs.EntriesLemmas.{find_past}
+use Rattle.file_entries.proofs.Offered.{begin-KeepsComplete, find_past}
 use Rattle.file_store.specs.OnDisk.{Does}
 use Rattle.file_store.specs.State.{StandsOn, StoreState, rest_in, store_in}
 use Rattle.file_store.specs.Upload.{Holds, Upload, new_upload}

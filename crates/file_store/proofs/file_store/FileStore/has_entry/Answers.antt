@@ -3,7 +3,7 @@ use Rattle.std.specs.Option.{option_map}
 use Rattle.file_entries.specs.Info.{info_of}
 use Rattle.file_entries.specs.IsStore.{IsStore}
 use Rattle.file_entries.specs.Store.{entry_of, octets_of}
-use Rattle.file_entries.proofs.InfoLemmas.{told}
+use Rattle.file_entries.proofs.Offered.{told}
 use Rattle.file_store.specs.State.{StoreState, store_in}
 use Rattle.file_store.proofs.ToldLemmas.{has-told, told-count, told-entry}
 use Rattle.file_store.proofs.file_store.FileStore.has_entry.Goals as goal

@@ -3,7 +3,7 @@ use Rattle.std.specs.Option.{option_map}
 use Rattle.file_entries.specs.Info.{info_of}
 use Rattle.file_entries.specs.IsStore.{IsStore}
 use Rattle.file_entries.specs.Store.{entry_of}
-use Rattle.file_entries.proofs.InfoLemmas.{told, told-held}
+use Rattle.file_entries.proofs.Offered.{told, told-held}
 use Rattle.file_store.specs.State.{StoreState, rest_in, store_in}
 use Rattle.file_store.specs.Upload.{Holds, Upload}
 use Rattle.file_store.proofs.ToldLemmas.{told-caller, told-complete, told-holds, told-length, told-short, told-upload}

@@ -3,7 +3,7 @@ use Rattle.std.proofs.Common.{◌≡◌, false, [], ◌∷◌, rules, subst}
 use Rattle.std.specs.Prelude.{is_some}
 use Rattle.ftl0_packets.specs.Layout.{Item}
 use Rattle.ftl0_packets.specs.Values.{item_of}
-use Rattle.ftl0_job.proofs.JobLemmas.{ending-none}
+use Rattle.ftl0_job.proofs.Offered.{ending-none}
 use Rattle.ftl0_client.specs.Attempt.Feeding.{Takes}
 use Rattle.ftl0_client.proofs.attempt.AnswerLemmas.{takes-answered}
 use Rattle.ftl0_client.proofs.attempt.attempt.answer.Goals as goal

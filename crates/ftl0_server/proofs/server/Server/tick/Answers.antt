@@ -5,8 +5,7 @@ use Rattle.file_store.specs.Store.{Store}
 use Rattle.file_store.specs.OnDisk.{Does}
 use Rattle.file_store.specs.State.{StandsOn}
 use Rattle.file_store.specs.Working.{DoesAmongReads}
-use Rattle.file_store.proofs.CallLemmas.{puts_none}
-use Rattle.file_store.proofs.WorkingLemmas.{does-among, puts-among}
+use Rattle.file_store.proofs.Offered.{does-among, puts-among, puts_none}
 use Rattle.ftl0_session.proofs.uploads.DoesLemmas.{does-none}
 use Rattle.ftl0_session.specs.Downloads.Needs.{AreComplete}
 use Rattle.ftl0_server.specs.Calls.{Hears}

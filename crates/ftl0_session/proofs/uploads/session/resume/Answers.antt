@@ -2,7 +2,7 @@
 use Rattle.std.proofs.Common.{◌≡◌, ℕ, [], ◌∷◌, length, refl, ap, sym, ◌∙◌, subst, Some}
 use Rattle.ftl0_packets.specs.Layout.{ul_go_resp}
 use Rattle.file_store.specs.Store.{Entry, entry_of, octets_of}
-use Rattle.file_store.proofs.EntriesLemmas.{found-number}
+use Rattle.file_store.proofs.Offered.{found-number}
 use Rattle.file_store.specs.State.{store_in}
 use Rattle.file_store.specs.Upload.{Upload}
 use Rattle.ftl0_packets.specs.Items.{texts}

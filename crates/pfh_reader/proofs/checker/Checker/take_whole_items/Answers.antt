@@ -1,7 +1,7 @@
 -- Items that are whole, up to the end item or to one that is cut.
 use Rattle.std.proofs.Common.{ℕ, ◌+◌, List, [], refl, length, take, drop, sym, ap, ◌∙◌, subst, arith}
 use Rattle.std.proofs.lemmas.List.{take_all}
-use Rattle.pfh_items.proofs.WalkLemmas.{IsOctets-slice}
+use Rattle.pfh_items.proofs.Offered.{IsOctets-slice}
 use Rattle.pfh_reader.specs.declared.checker.Stage.{Stage}
 use Rattle.pfh_reader.specs.declared.checker.Stage.TheVariants as stages
 use Rattle.pfh_reader.specs.declared.measures.Measures.{Measures}

@@ -6,7 +6,7 @@ use Rattle.px_base.specs.Octets.{IsOctets}
 use Rattle.ftl0_server.proofs.OctetLemmas.{IsOctets-drop, IsOctets-take, octets_from}
 use Rattle.session_node.specs.declared.stop.NodeStop.{NodeStop}
 use Rattle.session_node.specs.Stops.{HasAirCause}
-use Rattle.session_node.proofs.Serving.{at_exit}
+use Rattle.session_node.proofs.Offered.{at_exit}
 use Rattle.server_node.specs.Node.{HearsAfter}
 use Rattle.server_node.proofs.HearingLemmas.{hearing-more, hearing-start, hearing-stops}
 use Rattle.server_node.proofs.TakesLemmas.{counts-after}

@@ -4,7 +4,7 @@ use Rattle.ftl0_server.proofs.OctetLemmas.{IsOctets-nil}
 use Rattle.session_node.specs.declared.stop.NodeStop.{NodeStop}
 use Rattle.session_node.specs.declared.terms.Served.{Served}
 use Rattle.session_node.specs.Stops.{HasAirCause}
-use Rattle.session_node.proofs.Serving.{at_exit}
+use Rattle.session_node.proofs.Offered.{at_exit}
 use Rattle.server_node.specs.Node.{TakesTurns}
 use Rattle.server_node.proofs.TakesLemmas.{counts-after}
 use Rattle.server_node.proofs.TurnsLemmas.{taking-done, taking-more, taking-spent, taking-start, taking-stops, turn_at}

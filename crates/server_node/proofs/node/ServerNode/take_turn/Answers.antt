@@ -3,7 +3,7 @@ use Rattle.std.proofs.Common.{take, Result, ◌∙◌}
 use Rattle.px_base.specs.declared.air.Polled.{Polled}
 use Rattle.ftl0_server.proofs.OctetLemmas.{IsOctets-nil}
 use Rattle.session_node.specs.declared.stop.NodeStop.{NodeStop}
-use Rattle.session_node.proofs.Serving.{at_exit}
+use Rattle.session_node.proofs.Offered.{at_exit}
 use Rattle.server_node.specs.Node.{TakesTurn}
 use Rattle.server_node.proofs.TurnLemmas.{bytes-stopped, bytes-taken, bytes-tick-stopped, end-taken, poll-failed, quiet-stopped, quiet-taken, still-heard}
 use Rattle.server_node.proofs.node.ServerNode.take_turn.Goals as goal
