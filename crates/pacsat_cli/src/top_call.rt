@@ -139,8 +139,8 @@ pub fn run<D: Disk, A: Air, S: Shelf, O: Out, C: Clock>(
     ensures made_alone { AsksMake words.now → (air.new ≡ air.old) × (clock.new ≡ clock.old) }
 
     // A fault is answered only where its count rose; and where it isn't answered, its count stayed, but for the
-    // status's line, for a shelf that finds no memory, for a reply that was to be said after a fault of the disk, for a
-    // read of the disk that was told by code 3, and for an air that failed when a client's command had its outcome.
+    // status's line, for a reply that was to be said after a fault of the disk, for a read of the disk that was told by
+    // code 3, and for an air that failed when a client's command had its outcome.
     ensures air_read { HasReadCause words.now (A.read_faults air.old) (A.read_faults air.new) result }
     ensures air_write { HasWriteCause words.now (A.write_faults air.old) (A.write_faults air.new) result }
     ensures disk { HasDiskCause words.now D.read_faults D.write_faults disk.old disk.new air.old air.new result }
