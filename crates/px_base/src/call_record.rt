@@ -2,7 +2,7 @@
 
 ghost use Rattle.std.specs.Prelude.{◌≡◌, ◌∷◌, ◌++◌, [], None, false, not, IfOk, IsTrue, OnErr};
 ghost use Rattle.px_base.specs.Outside.{Grows};
-ghost use Rattle.px_base.specs.CallRecords.{no_calls, told};
+ghost use Rattle.px_base.specs.CallRecords.{IsAdded, no_calls, told, without_call};
 
 use crate::memory::OutOfMemory;
 use std::alloc::Global;
@@ -52,6 +52,8 @@ impl<C: Drop> CallRecord<C> {
     pub fn add(&mut self, made: Result<C, OutOfMemory>)
         ensures ok { IfOk made (λ call. Grows (told self.old) (told self.new) (call ∷ [])) }
         ensures err { OnErr made (told self.new ≡ None) }
+        ensures added { IfOk made (IsAdded self.old self.new) }
+        ensures lost { OnErr made (self.new ≡ without_call self.old) }
     {
         if !push(&mut self.calls, made) {
             self.untold = true;
@@ -63,6 +65,7 @@ impl<C: Drop> CallRecord<C> {
 fn push<C: Drop>(calls: &mut Vec<C>, made: Result<C, OutOfMemory>) -> bool
     ensures recorded { IsTrue result → IfOk made (λ call. calls.new.items ≡ calls.old.items ++ call ∷ []) }
     ensures err { OnErr made (result ≡ false) }
+    ensures same { result ≡ false → calls.new.items ≡ calls.old.items }
 {
     match made {
         Ok(call) => calls.push(call).is_ok(),
