@@ -23,11 +23,7 @@ module _ (was held now : Option (List HostCall)) (answer : Result Unit NotHeld) 
       by : (a : Result Unit NotHeld) → is_err a ≡ true → Follows was held (call.Holds a)
           → Follows held now (call.Ends status.Disk) → number ≡ number_of status.Disk → Asks was now (Starts number)
       by (Ok done) is first last n = absurd (false≢true is)
-      by (Err why) is first last n = (
-        call.Holds (Err why) ∷ call.Ends status.Disk ∷ [],
-        Grows-trans was held now (call.Holds (Err why) ∷ []) (call.Ends status.Disk ∷ []) first last,
-        (refl, n),
-      )
+      by (Err why) is first last n = (call.Holds (Err why) ∷ call.Ends status.Disk ∷ [], Grows-trans was held now (call.Holds (Err why) ∷ []) (call.Ends status.Disk ∷ []) first last, refl, n)
 
   -- the words were asked for
   module _ (read : Option (List HostCall)) where
@@ -44,11 +40,8 @@ module _ (was held now : Option (List HostCall)) (answer : Result Unit NotHeld) 
         by (Err closed) is first second last n = absurd (false≢true (sym is))
         by (Ok done) is first second last n = (
           call.Holds (Ok done) ∷ call.Reads (Err why) ∷ call.Ends (status_of_words why) ∷ [],
-          Grows-trans was read now (call.Holds (Ok done) ∷ call.Reads (Err why) ∷ [])
-              (call.Ends (status_of_words why) ∷ [])
-              (Grows-trans was held read (call.Holds (Ok done) ∷ []) (call.Reads (Err why) ∷ []) first second) last,
-          (refl, n),
-        )
+          Grows-trans was read now (call.Holds (Ok done) ∷ call.Reads (Err why) ∷ []) (call.Ends (status_of_words why) ∷ [])
+              (Grows-trans was held read (call.Holds (Ok done) ∷ []) (call.Reads (Err why) ∷ []) first second) last, refl, n)
 
     -- and done
     pub ran :
@@ -64,6 +57,4 @@ module _ (was held now : Option (List HostCall)) (answer : Result Unit NotHeld) 
         by (Ok done) is first second run n = (
           call.Holds (Ok done) ∷ call.Reads (Ok words) ∷ run.0 ∷ [],
           Grows-trans was read now (call.Holds (Ok done) ∷ call.Reads (Ok words) ∷ []) (run.0 ∷ [])
-              (Grows-trans was held read (call.Holds (Ok done) ∷ []) (call.Reads (Ok words) ∷ []) first second) run.1,
-          (run.0, ends, refl, run.2, n),
-        )
+              (Grows-trans was held read (call.Holds (Ok done) ∷ []) (call.Reads (Ok words) ∷ []) first second) run.1, run.0, ends, refl, run.2, n)
