@@ -3,9 +3,11 @@ use Rattle.std.specs.Prelude.{◌≡◌, ℕ, List, [], ◌∷◌, Option, None,
 use Rattle.command_words.specs.declared.air.AirWord.{AirWord}
 use Rattle.command_words.specs.declared.air.AirWord.TheVariants as air
 use Rattle.command_words.specs.Airs.{IsAirOf}
+use Rattle.px_base.specs.CallRecords.{CallRecordState}
 use Rattle.px_base.specs.Outside.{Grows}
 use Rattle.pacsat_cli.specs.declared.startup.host.HostCall.{HostCall}
 use Rattle.pacsat_cli.specs.declared.startup.host.HostCall.TheVariants as call
+use Rattle.pacsat_cli.specs.declared.startup.host.NotHeld.{NotHeld}
 use Rattle.pacsat_cli.specs.declared.startup.host.WordsRefusal.{WordsRefusal}
 use Rattle.pacsat_cli.specs.declared.startup.host.WordsRefusal.TheVariants as refusal
 use Rattle.pacsat_cli.specs.declared.status.Status.{Status}
@@ -15,6 +17,18 @@ use Rattle.pacsat_cli.specs.Status.{number_of}
 -- One call reached the system, with what it answered.
 abbrev pub Follows : Option (List HostCall) → Option (List HostCall) → HostCall → Type 0
 Follows before now made = Grows before now (made ∷ [])
+
+-- a system in memory: how its streams are held, its words until they are asked for, the status of each run, and its calls
+pub record MemoryHostState : Type 0 where
+  pub held : Result Unit NotHeld
+  pub words : Option (Result (List (List ℕ)) WordsRefusal)
+  pub status : Status
+  pub made : CallRecordState HostCall
+
+-- what it answers where it is asked for its words: there is no memory for them a second time
+abbrev pub words_given : Option (Result (List (List ℕ)) WordsRefusal) → Result (List (List ℕ)) WordsRefusal
+words_given None = Err refusal.OutOfMemory
+words_given (Some words) = words
 
 -- the status of a run that has no words for this reason
 abbrev pub status_of_words : WordsRefusal → Status

@@ -1,7 +1,8 @@
 //! A system in memory: a script of answers, and a record of the calls.
 
-ghost use Rattle.std.specs.Prelude.{◌≡◌, IfOk};
-ghost use Rattle.px_base.specs.CallRecords.{no_calls};
+ghost use Rattle.std.specs.Prelude.{◌≡◌, IfOk, None, Some};
+ghost use Rattle.px_base.specs.CallRecords.{no_calls, told};
+ghost use Rattle.pacsat_cli.specs.Start.{Follows, words_given};
 
 use crate::Status;
 use crate::startup::host::{Host, HostCall, NotHeld, WordsRefusal};
@@ -22,12 +23,11 @@ pub struct MemoryHost {
 }
 
 impl Model for MemoryHost {
-    ghost use Rattle.px_base.specs.CallRecords.{CallRecordState};
-    ghost use Rattle.pacsat_cli.specs.declared.startup.host.HostCall.{HostCall};
+    ghost use Rattle.pacsat_cli.specs.Start.{MemoryHostState};
 
-    ghost Value = { CallRecordState HostCall };
+    ghost Value = { MemoryHostState };
 
-    ghost view = { λ a. a.made };
+    ghost view = { λ a. record { held = a.held; words = a.words; status = a.status; made = a.made } };
 }
 
 impl MemoryHost {
@@ -39,7 +39,7 @@ impl MemoryHost {
         words: Result<Words, WordsRefusal>,
         status: Status,
     ) -> MemoryHost
-        ensures { result ≡ no_calls }
+        ensures { result ≡ record { held = held; words = Some words; status = status; made = no_calls } }
     {
         MemoryHost {
             alloc,
@@ -52,7 +52,7 @@ impl MemoryHost {
 
     /// The calls so far.
     pub fn made(&self) -> &CallRecord<HostCall>
-        ensures { result.now ≡ self.now }
+        ensures { result.now ≡ self.now.made }
     {
         &self.made
     }
@@ -61,40 +61,66 @@ impl MemoryHost {
 impl Host for MemoryHost {
     ghost use Rattle.px_base.specs.CallRecords.{told};
 
-    ghost calls = { told };
+    ghost calls = { λ h. told h.made };
 
-    fn hold_streams(&mut self) -> Result<(), NotHeld> {
+    fn hold_streams(&mut self) -> Result<(), NotHeld>
+        ensures call { Follows (told self.old.made) (told self.new.made) (HostCall.Holds result) }
+        ensures answer { result ≡ self.old.held }
+        ensures rest { self.new ≡ record self.old { made = self.new.made } }
+    {
         let answer = self.held;
         self.made.add(Ok(HostCall::Holds { answer }));
         answer
     }
 
-    fn words(&mut self) -> Result<Words, WordsRefusal> {
+    fn words(&mut self) -> Result<Words, WordsRefusal>
+        ensures call { Follows (told self.old.made) (told self.new.made) (HostCall.Reads result) }
+        ensures answer { result ≡ words_given self.old.words }
+        ensures rest { self.new ≡ record self.old { words = None; made = self.new.made } }
+    {
         let answer = self.words.take().unwrap_or(Err(WordsRefusal::OutOfMemory));
         let made = made_reads(&answer);
         self.made.add(made);
         answer
     }
 
-    fn end_with(&mut self, status: Status) {
+    fn end_with(&mut self, status: Status)
+        ensures call { Follows (told self.old.made) (told self.new.made) (HostCall.Ends status) }
+        ensures rest { self.new ≡ record self.old { made = self.new.made } }
+    {
         self.made.add(Ok(HostCall::Ends { status }));
     }
 
-    fn run_over_connection(&mut self, words: &Words, disk: &str, at: &str) -> Status {
+    fn run_over_connection(&mut self, words: &Words, disk: &str, at: &str) -> Status
+        ensures call { Follows (told self.old.made) (told self.new.made)
+            (HostCall.OverConnection words.now disk.now at.now result) }
+        ensures answer { result ≡ self.old.status }
+        ensures rest { self.new ≡ record self.old { made = self.new.made } }
+    {
         let status = self.status;
         let made = made_over_connection(self.alloc, words, disk, at, status);
         self.made.add(made);
         status
     }
 
-    fn run_over_streams(&mut self, words: &Words, disk: &str) -> Status {
+    fn run_over_streams(&mut self, words: &Words, disk: &str) -> Status
+        ensures call { Follows (told self.old.made) (told self.new.made)
+            (HostCall.OverStreams words.now disk.now result) }
+        ensures answer { result ≡ self.old.status }
+        ensures rest { self.new ≡ record self.old { made = self.new.made } }
+    {
         let status = self.status;
         let made = made_over_streams(self.alloc, words, disk, status);
         self.made.add(made);
         status
     }
 
-    fn run_without_air(&mut self, words: &Words, disk: &str) -> Status {
+    fn run_without_air(&mut self, words: &Words, disk: &str) -> Status
+        ensures call { Follows (told self.old.made) (told self.new.made)
+            (HostCall.WithoutAir words.now disk.now result) }
+        ensures answer { result ≡ self.old.status }
+        ensures rest { self.new ≡ record self.old { made = self.new.made } }
+    {
         let status = self.status;
         let made = made_without_air(self.alloc, words, disk, status);
         self.made.add(made);
