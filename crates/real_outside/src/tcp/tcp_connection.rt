@@ -1,6 +1,6 @@
 //! A real TCP connection to a modem, and the air over it.
 
-ghost use Rattle.std.specs.Prelude.{◌≡◌, ◌≤◌, None, length, IfOk};
+ghost use Rattle.std.specs.Prelude.{◌≡◌, ◌≤◌, None, length, option_copied, IfOk};
 ghost use Rattle.std.specs.Io.KnownBytes.{Keeps, ReadConsumes, WriteAppends};
 ghost use Rattle.real_outside.specs.Tcp.Connections.{told_of};
 
@@ -47,7 +47,9 @@ impl<'a, R, S> TcpConnection<'a, R, S> {
     }
 
     /// The stream, once the connection was made.
-    pub(crate) fn stream(&self) -> Option<&S> {
+    pub fn stream(&self) -> Option<&S>
+        ensures { option_copied result ≡ self.now.stream }
+    {
         self.stream.as_ref()
     }
 }
