@@ -1,0 +1,35 @@
+//! What is printed for a step.
+
+use anyhow::Result;
+use std::alloc::Global;
+use std::fmt::Display;
+
+/// How many alike octets are written out.
+const MOST_ALIKE: usize = 32;
+
+/// The text of this. Takes memory.
+pub fn text_of<T: Display + Drop>(alloc: Global, shown: T) -> Result<String> {
+    Ok(format!(in alloc; "{shown}")?)
+}
+
+/// `ok`, or the text of the error. Takes memory.
+pub fn answer_text<E: Display + Drop>(alloc: Global, answer: Result<(), E>) -> Result<String> {
+    match answer {
+        Ok(()) => text_of(alloc, "ok"),
+        Err(error) => text_of(alloc, error),
+    }
+}
+
+/// Octets in hexadecimal, `''` where there are none. Where there are more than 32, all alike, they are one octet and
+/// how often it stands behind `*`. Takes memory.
+pub fn octets_text(alloc: Global, octets: &[u8]) -> Result<String> {
+    match octets {
+        [] => text_of(alloc, "''"),
+        [first, rest @ ..] if rest.len() >= MOST_ALIKE && rest.iter().all(|octet| octet == first) =>
+            {
+                let count = octets.len();
+                Ok(format!(in alloc; "{first:02x}*{count}")?)
+            }
+        _ => Ok(hex::encode(alloc, octets)?),
+    }
+}
