@@ -13,6 +13,3 @@ pub use device_disk::DeviceDisk;
 pub use file_device::FileDevice;
 pub use file_disk::FileDisk;
 pub use memory_device::MemoryDevice;
-
-#[cfg(test)]
-mod tests;

@@ -41,6 +41,3 @@ pub use tcp::{
     laws as tcp_laws,
 };
 pub use time_source::{SystemTime, TimeSource};
-
-#[cfg(test)]
-mod tests;

@@ -5,5 +5,3 @@ mod keeping;
 mod loading;
 
 pub use folder_shelf::FolderShelf;
-#[cfg(test)]
-pub(crate) use loading::read_whole;

@@ -11,6 +11,3 @@ pub use connection::{Connection, ConnectionCall};
 pub use connection_air::ConnectionAir;
 pub use memory_connection::MemoryConnection;
 pub use tcp_connection::{TcpAir, TcpConnection};
-
-#[cfg(test)]
-mod tests;

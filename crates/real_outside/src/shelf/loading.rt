@@ -48,7 +48,7 @@ fn reading_refusal(kind: ErrorKind) -> ShelfRefusal
 }
 
 /// All that this reader has left, at most `most` octets. It reads at most one more.
-pub(crate) fn read_whole<R: Read + Drop>(
+fn read_whole<R: Read + Drop>(
     reader: R,
     alloc: Global,
     most: usize,
