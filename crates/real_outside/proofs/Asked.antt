@@ -1,29 +1,22 @@
--- What reaches an object outside the program, step by step.
-use Rattle.std.proofs.Common.{◌≡◌, List, [], ◌++◌, false, Option, Result, Ok, Err, IsErr, refl}
-use Rattle.std.proofs.lemmas.Bool.{false≢true}
-use Rattle.std.specs.Prelude.{is_ok}
-use Rattle.px_base.proofs.Told.{Grows-none, Grows-trans}
+-- What is asked of an object outside the program, call by call.
+use Rattle.std.proofs.Common.{◌≡◌, List, [], ◌∷◌, ◌++◌, Option, refl, sym, subst}
+use Rattle.px_base.specs.Outside.{Grows}
 use Rattle.px_base.specs.CallRecords.{Asks}
+use Rattle.px_base.proofs.Told.{Grows-trans, asks_one, asks_then}
 
--- nothing has
-pub asks_none : {C : Type 0} (P : List C → Type 0) (was : Option (List C)) → P [] → Asks was was P
-asks_none P was is = ([], Grows-none was, is)
+module _ {C : Type 0} where
+  -- what follows a call
+  pub after_call :
+      (P Q : List C → Type 0) (was mid now : Option (List C)) (next : C) → Grows was mid (next ∷ [])
+      → ((later : List C) → P later → Q (next ∷ later)) → Asks mid now P → Asks was now Q
+  after_call P Q was mid now next grows step asks =
+      asks_then (λ (first : List C). first ≡ next ∷ []) P Q was mid now
+      (λ first later is follows. subst (λ (l : List C). Q (l ++ later)) (sym is) (step later follows))
+      (asks_one (λ (first : List C). first ≡ next ∷ []) was mid next grows refl) asks
 
--- some calls have, and then others
-pub asks_then :
-    {C : Type 0} (P Q R : List C → Type 0) (was between now : Option (List C))
-    → ((first later : List C) → P first → Q later → R (first ++ later))
-    → Asks was between P → Asks between now Q → Asks was now R
-asks_then P Q R was between now step first later =
-    (first.0 ++ later.0, Grows-trans was between now first.0 later.0 first.1 later.1, step first.0 later.0 first.2 later.2)
-
--- the same calls, of which something else is known
-pub asks_as :
-    {C : Type 0} (P Q : List C → Type 0) (was now : Option (List C))
-    → ((calls : List C) → P calls → Q calls) → Asks was now P → Asks was now Q
-asks_as P Q was now step asks = (asks.0, asks.1, step asks.0 asks.2)
-
--- an answer that is an error isn't Ok
-pub not_ok : {T E : Type 0} (answer : Result T E) → IsErr answer → is_ok answer ≡ false
-not_ok (Ok value) failed = absurd (false≢true failed)
-not_ok (Err error) failed = refl
+  -- two calls are made
+  pub asks_two :
+      (P : List C → Type 0) (was mid now : Option (List C)) (first second : C)
+      → Grows was mid (first ∷ []) → Grows mid now (second ∷ []) → P (first ∷ second ∷ []) → Asks was now P
+  asks_two P was mid now first second before after is =
+      (first ∷ second ∷ [], Grows-trans was mid now (first ∷ []) (second ∷ []) before after, is)

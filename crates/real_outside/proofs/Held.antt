@@ -1,5 +1,5 @@
 -- Null devices that are held, opening by opening.
-use Rattle.std.proofs.Common.{◌≡◌, ◌⊎◌, inl, inr, ℕ, ◌+◌, ℤ, pos, List, [], ◌∷◌, ◌++◌, length, Option, None, Some, Result, Ok, Err, Bool, true, false, refl, arith, length-append}
+use Rattle.std.proofs.Common.{◌≡◌, ◌⊎◌, inl, inr, ℕ, ◌+◌, ℤ, pos, List, [], ◌∷◌, ◌++◌, length, Option, None, Some, Result, Ok, Err, Bool, true, false, refl, sym, subst, arith, length-append}
 use Rattle.real_outside.specs.Descriptors.{AreHeld, AreStandard, Has, HoldsLowest, HoldsOpened, IsHeld, IsStandard, KeepsHeld}
 use Rattle.real_outside.specs.declared.descriptors.StandardStreams.{StandardStreams}
 use Rattle.real_outside.specs.declared.system_error.SystemError.{SystemError}
@@ -40,6 +40,18 @@ module _ {O : Type 0} (descriptor : O → ℤ) where
   opened_last before now (Ok opened) (Ok false) answers holds is held = (answers, opened, refl, holds.0, held_kept before now answers holds.1 held)
   opened_last before now (Ok opened) (Err error) answers holds is held = absurd holds
   opened_last before now (Err error) result answers holds is held = absurd (cc (holds, is))
+
+  -- the one that fails
+  pub opened_failed :
+      (before now : StandardStreams O) (answer : Result O SystemError) (error : SystemError)
+      (result : Result (StandardStreams O) SystemError) (answers : List (Result O SystemError))
+      → HoldsOpened descriptor before now answer (Err error) → result ≡ Err error
+      → HoldsLowest descriptor result (answers ++ answer ∷ [])
+  opened_failed before now (Ok opened) error result answers holds is = absurd holds
+  opened_failed before now (Err failed) error result answers holds is =
+      let same : result ≡ Err failed = cc (is, holds) in
+      subst (λ (r : Result (StandardStreams O) SystemError). HoldsLowest descriptor r (answers ++ Err failed ∷ []))
+      (sym same) (inl (answers, refl))
 
 -- one more
 pub length_more : {X : Type 0} (xs : List X) (x : X) (n : ℕ) → length xs ≡ n → length (xs ++ x ∷ []) ≡ n + 1

@@ -1,4 +1,5 @@
 mod Asked
+mod Errors
 mod Heard
 mod Held
 mod Kept

@@ -1,5 +1,6 @@
 use Rattle.std.proofs.Common.{◌≡◌, ◌+◌, length, arith, true, false, Ok, Err, inr}
-use Rattle.real_outside.proofs.Held.{are_standard, length_more, opened_held, opened_last}
+use Rattle.real_outside.proofs.Errors.{handed_on}
+use Rattle.real_outside.proofs.Held.{are_standard, length_more, opened_failed, opened_held, opened_last}
 use Rattle.px_base.proofs.Told.{asks_as, asks_more}
 use Rattle.real_outside.specs.Descriptors.{AreHeld, HoldsLowest}
 use Rattle.real_outside.proofs.descriptors.hold_standard_streams.Goals as goal
@@ -13,6 +14,19 @@ returns-then-not-branch g c =
     asks_more (λ answers. AreHeld number c.loop.streams answers × (length answers ≡ c.loop.counter)) (HoldsLowest number (Ok c.hold_next.new.streams))
     (answers_of c.args.null.now) (answers_of c.loop.null) (answers_of c.hold_next.new.null) made.0 made.1
     (λ answers before. opened_last number c.loop.streams c.hold_next.new.streams made.0 c.hold_next.result answers made.2 no before.0)
+    c.loop.invariant
+
+pub returns-in_err-hold_next : goal.returns-in_err-hold_next
+returns-in_err-hold_next g c =
+    let number = g.N.NullDevice.descriptor in
+    let made = c.in_err-hold_next.ensures in
+    let error = c.in_err-hold_next.field-0.0 in
+    let result = c.from_residual.result in
+    asks_more (λ answers. AreHeld number c.loop.streams answers × (length answers ≡ c.loop.counter))
+    (HoldsLowest number result) _ _ _ made.0 made.1
+    (λ answers before.
+    opened_failed number c.loop.streams c.hold_next.new.streams made.0 error result answers made.2
+    (handed_on result error c.from_residual.ensures))
     c.loop.invariant
 
 pub loop-preserved : goal.loop-preserved

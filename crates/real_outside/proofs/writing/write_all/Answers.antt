@@ -4,7 +4,7 @@ use Rattle.std.proofs.KnownBytes.{Appends-trans}
 use Rattle.std.proofs.lemmas.List.{take_rest}
 use Rattle.real_outside.specs.StreamCalls.{Writes, WritesAll, WritesSome}
 use Rattle.px_base.proofs.Told.{asks_as, asks_then}
-use Rattle.real_outside.proofs.Asked.{not_ok}
+use Rattle.real_outside.proofs.Errors.{not_ok}
 use Rattle.real_outside.proofs.Written.{Leads, leads_end, leads_more, take_sum, write_none}
 use Rattle.real_outside.proofs.writing.write_all.Goals as goal
 

@@ -1,13 +1,29 @@
-use Rattle.std.proofs.Common.{◌≡◌, ℕ, ◌+◌, ◌<◌, List, [], ◌∷◌, ◌++◌, length, true, drop, ap, subst, arith, length-drop}
+use Rattle.std.proofs.Common.{◌≡◌, Bool, ℕ, ◌+◌, ◌<◌, List, [], ◌∷◌, ◌++◌, length, true, drop, ap, sym, subst, arith, length-drop}
 use Rattle.std.proofs.lemmas.List.{take_rest}
-use Rattle.real_outside.specs.Disk.Devices.{IsWriteOf, WritesAll, moved}
+use Rattle.real_outside.specs.Disk.Devices.{IsWriteOf, PutsAt, WritesAll, moved}
 use Rattle.real_outside.specs.declared.disk.device.DeviceCall.{DeviceCall}
-use Rattle.real_outside.proofs.Moving.{Leads, leads_end, leads_more}
+use Rattle.real_outside.proofs.Errors.{not_ok}
+use Rattle.real_outside.proofs.Moving.{Leads, leads_end, leads_fault, leads_more}
 use Rattle.px_base.proofs.Told.{asks_as, asks_more}
 use Rattle.real_outside.proofs.disk.moves.put.Goals as goal
 
 abbrev IsNext : ℕ → List ℕ → ℕ → DeviceCall → Type 0
 IsNext at octets before = IsWriteOf (at + before) (drop before octets)
+
+pub returns-in_err-written : goal.returns-in_err-written
+returns-in_err-written g c =
+    let at = c.args.at in
+    let bytes = c.args.bytes.now in
+    let done = c.loop-written.written in
+    let made = c.in_err-written.ensures.call in
+    let next : DeviceCall = made.0 in
+    let result = c.from_residual.result in
+    let is : IsNext at bytes done next = subst (λ (l : List ℕ). IsWriteOf (at + done) l next) (take_rest bytes done) made.3 in
+    asks_more (Leads (IsNext at bytes) (length bytes) done) (PutsAt at bytes result) _ _ _ next made.1
+    (λ calls leads.
+    subst (λ (fully : Bool). WritesAll at bytes (calls ++ next ∷ []) fully) (sym (not_ok result c.from_residual.ensures.0))
+    (leads_fault (IsNext at bytes) (length bytes) done calls next c.loop-written-test.true is made.2 leads))
+    c.loop-written.invariant.reaches
 
 pub loop-written-preserved : goal.loop-written-preserved
 loop-written-preserved g c =

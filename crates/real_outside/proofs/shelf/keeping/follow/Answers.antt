@@ -2,7 +2,7 @@ use Rattle.std.proofs.Common.{inl, inr, ℕ, List, [], ◌∷◌, Ok, Err, refl,
 use Rattle.px_base.specs.Outside.{Grows}
 use Rattle.real_outside.specs.Shelf.Keeping.{FollowsLink, KeepsLinked, KeepsUnresolved}
 use Rattle.real_outside.specs.declared.files.file_call.FileCall.TheVariants as call
-use Rattle.real_outside.proofs.Kept.{after_call}
+use Rattle.real_outside.proofs.Asked.{after_call}
 use Rattle.real_outside.proofs.shelf.keeping.follow.Goals as goal
 
 pub returns-in-Ok : goal.returns-in-Ok

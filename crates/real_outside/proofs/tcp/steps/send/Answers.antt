@@ -4,7 +4,7 @@ use Rattle.std.specs.Prelude.{is_ok}
 use Rattle.std.proofs.lemmas.List.{take_rest}
 use Rattle.real_outside.specs.Tcp.Connections.{Sends, WritesOnce}
 use Rattle.px_base.proofs.Told.{asks_then}
-use Rattle.real_outside.proofs.Asked.{not_ok}
+use Rattle.real_outside.proofs.Errors.{not_ok}
 use Rattle.real_outside.proofs.tcp.Sending.{Leads, leads_end, leads_more, write_none}
 use Rattle.real_outside.proofs.tcp.steps.send.Goals as goal
 
