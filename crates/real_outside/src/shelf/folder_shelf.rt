@@ -1,9 +1,10 @@
 //! A shelf over files: what its calls ask of them.
 
-ghost use Rattle.std.specs.Prelude.{◌≡◌, ◌∷◌, [], ◌↔◌, IsOk, None, Result};
+ghost use Rattle.std.specs.Prelude.{◌≡◌, ◌∷◌, [], ◌↔◌, IfOk, IsOk, None, Result};
 ghost use Rattle.px_base.specs.Outside.{Grows, HasCause, counted_after};
-ghost use Rattle.px_base.specs.Shelves.{HasLoadCause, IsWithin};
+ghost use Rattle.px_base.specs.Shelves.{AnswersOfAll, HasLoadCause, IsWithin};
 ghost use Rattle.px_base.specs.CallRecords.{Asks};
+ghost use Rattle.real_outside.specs.Files.{refusal};
 ghost use Rattle.real_outside.specs.Shelf.Folder.{OpensToLoad, counted_after_load};
 ghost use Rattle.real_outside.specs.Shelf.Keeping.{Keeps, KeepsAs};
 ghost use Rattle.real_outside.specs.declared.files.file_call.FileCall.{FileCall};
@@ -70,15 +71,17 @@ impl<S: FileSystem> Shelf for FolderShelf<S> {
 
     ghost faults = { λ a. a.faults };
 
-    /// The octets of the file at this path. It reads at most one more than `most`. A path at which there is nothing is
+    /// The octets of the file at this path: all that its reader has left. It reads at most one more than `most`. A path at which there is nothing is
     /// `NoSuch`; where opening or reading fails otherwise, but for want of memory, a fault is counted.
     fn load(&mut self, alloc: Global, name: &str, most: usize) -> Result<FileBytes, ShelfRefusal>
         ensures most { IsWithin most result }
         ensures faults { HasLoadCause self.old.faults self.new.faults result }
         ensures counted { self.new.faults ≡ counted_after_load result self.old.faults }
-        ensures opens { (opened : Result Unit SystemError)
-            × Grows (S.calls self.old.files) (S.calls self.new.files) (FileCall.OpenToRead name.now opened ∷ [])
-            × OpensToLoad opened result }
+        ensures answer { (opened : Result S.Reader SystemError)
+            × Grows (S.calls self.old.files) (S.calls self.new.files)
+                (FileCall.OpenToRead name.now (refusal opened) ∷ [])
+            × OpensToLoad (refusal opened) result
+            × IfOk opened (λ file. AnswersOfAll (S.Reader.remaining file) most result) }
     {
         let answer = load_opened(self.files.open_to_read(name), alloc, most);
         if let Err(ShelfRefusal::Fault) = &answer {
