@@ -1,7 +1,8 @@
 //! The real files.
 
-ghost use Rattle.std.specs.Prelude.{◌≡◌, None, IfOk, IfErr};
-ghost use Rattle.real_outside.specs.Systems.{system_error};
+ghost use Rattle.std.specs.Prelude.{◌≡◌, None, true};
+ghost use Rattle.std.specs.Fs.{new_options, with_create, with_read, with_write};
+ghost use Rattle.real_outside.specs.Systems.{IsFound, answer_of_lock};
 
 use super::file_call::Found;
 use super::file_system::FileSystem;
@@ -109,7 +110,9 @@ impl<'a, R: Files<File = File>> FileSystem for RealFiles<'a, R> {
 }
 
 /// For reading and writing, and made where nothing is.
-fn for_both() -> OpenOptions {
+fn for_both() -> OpenOptions
+    ensures { result ≡ with_create (with_write (with_read new_options true) true) true }
+{
     let mut options = OpenOptions::new();
     options.read(true).write(true).create(true);
     options
@@ -121,7 +124,9 @@ fn sync_folder<R: Files<File = File>>(files: &R, path: &str) -> io::Result<()> {
 }
 
 /// What asking for a lock comes to: one that another holds would have to be waited for.
-fn lock_answer(locked: Result<(), TryLockError>) -> Result<(), SystemError> {
+fn lock_answer(locked: Result<(), TryLockError>) -> Result<(), SystemError>
+    ensures { result ≡ answer_of_lock locked }
+{
     match locked {
         Ok(()) => Ok(()),
         Err(TryLockError::WouldBlock) => Err(SystemError::from(ErrorKind::WouldBlock)),
@@ -130,7 +135,9 @@ fn lock_answer(locked: Result<(), TryLockError>) -> Result<(), SystemError> {
 }
 
 /// What stands where the system answers so: nothing exactly where it says that nothing is there.
-fn found_answer(found: io::Result<Metadata>) -> Result<Found, SystemError> {
+fn found_answer(found: io::Result<Metadata>) -> Result<Found, SystemError>
+    ensures { IsFound found result }
+{
     match system_answer(found) {
         Ok(found) if found.is_file() => Ok(Found::File {
             mode: found.permissions().mode(),
