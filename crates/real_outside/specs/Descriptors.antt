@@ -1,5 +1,5 @@
 -- Which null devices are held in the place of closed standard streams.
-use Rattle.std.specs.Prelude.{◌≡◌, ◌⊎◌, ℕ, ◌+◌, ℤ, pos, List, [], ◌∷◌, ◌++◌, length, take, map, nat_le, if◌then◌else◌, Bool, true, false, Option, None, Some, MatchOption, Result, Ok, Err, ⊤}
+use Rattle.std.specs.Prelude.{◌≡◌, ◌⊎◌, ℕ, ◌+◌, ℤ, pos, List, [], ◌∷◌, ◌++◌, length, take, get_or, map, nat_le, if◌then◌else◌, Bool, true, false, Option, None, Some, MatchOption, Result, Ok, Err, ⊤}
 use Rattle.std.specs.declared.io.ErrorKind.TheVariants as reason
 use Rattle.px_base.specs.Outside.{Grows}
 use Rattle.real_outside.specs.declared.descriptors.StandardStreams.{StandardStreams}
@@ -63,6 +63,10 @@ pub record NullState : Type 0 where
 abbrev pub answer_of : Option ℤ → Result ℤ SystemError
 answer_of None = Err (record { kind = reason.Other; number = None })
 answer_of (Some n) = Ok n
+
+-- how the next opening ends: behind the last descriptor it fails
+abbrev pub next_answer : NullState → Result ℤ SystemError
+next_answer null = answer_of (get_or null.descriptors null.opened None)
 
 -- its openings are told up to the last that has a place among the descriptors
 abbrev pub told_answers : NullState → Option (List (Result ℤ SystemError))

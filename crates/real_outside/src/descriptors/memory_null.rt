@@ -1,8 +1,8 @@
 //! A null device in memory, which gives the descriptors that it is made with.
 
-ghost use Rattle.std.specs.Prelude.{◌≡◌, ◌∷◌, [], IfOk};
+ghost use Rattle.std.specs.Prelude.{◌≡◌, ◌∷◌, ◌+◌, ◌-◌, ◌^◌, [], min, IfOk};
 ghost use Rattle.px_base.specs.Outside.{Grows};
-ghost use Rattle.real_outside.specs.Descriptors.{told_answers};
+ghost use Rattle.real_outside.specs.Descriptors.{next_answer, told_answers};
 
 use super::NullDevice;
 use crate::system_error::SystemError;
@@ -49,6 +49,8 @@ impl NullDevice for MemoryNull {
     ghost descriptor = { λ n. n };
 
     fn open(&mut self) -> Result<i32, SystemError>
+        ensures answer { result ≡ next_answer self.old }
+        ensures opened { self.new ≡ record self.old { opened = min (self.old.opened + 1) (2 ^ 64 - 1) } }
         ensures answers { Grows (told_answers self.old) (told_answers self.new) (result ∷ []) }
     {
         let next = self.descriptors.as_slice().get(self.opened).copied();

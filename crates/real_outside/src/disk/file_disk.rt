@@ -1,6 +1,6 @@
 //! A real file as a disk.
 
-ghost use Rattle.std.specs.Prelude.{◌≡◌, false};
+ghost use Rattle.std.specs.Prelude.{◌≡◌, None, false};
 
 use super::device_disk::DeviceDisk;
 use super::file_device::FileDevice;
@@ -15,6 +15,9 @@ pub type FileDisk<'a, R> = DeviceDisk<FileDevice<'a, RealFiles<'a, R>>>;
 impl<'a, R: Files<File = File>> DeviceDisk<FileDevice<'a, RealFiles<'a, R>>> {
     /// The file of this path, which isn't opened yet.
     pub fn new(files: &'a R, path: &'a str) -> FileDisk<'a, R>
+        ensures path { result.device.path ≡ path.now }
+        ensures file { result.device.file ≡ None }
+        ensures entry { result.device.has_entry ≡ false }
         ensures broken { result.broken ≡ false }
         ensures read_faults { result.read_faults ≡ 0 }
         ensures write_faults { result.write_faults ≡ 0 }

@@ -2,7 +2,7 @@
 
 ghost use Rattle.std.specs.Prelude.{◌≡◌, ◌≤◌, ◌∷◌, [], length, IfOk};
 ghost use Rattle.px_base.specs.Outside.{Grows};
-ghost use Rattle.px_base.specs.CallRecords.{told};
+ghost use Rattle.px_base.specs.CallRecords.{no_calls, told};
 ghost use Rattle.real_outside.specs.Files.{file_answer, octets_read, path_answer, refusal};
 
 use super::file_call::{FileCall, Found};
@@ -43,7 +43,9 @@ impl MemoryFiles {
         limit: u64,
         found: Found,
         failing: &[u64],
-    ) -> Result<MemoryFiles, OutOfMemory> {
+    ) -> Result<MemoryFiles, OutOfMemory>
+        ensures { IfOk result (λ files. files ≡ no_calls) }
+    {
         Ok(MemoryFiles {
             alloc,
             limit,

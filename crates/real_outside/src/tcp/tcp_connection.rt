@@ -1,7 +1,9 @@
 //! A real TCP connection to a modem, and the air over it.
 
-ghost use Rattle.std.specs.Prelude.{◌≡◌, ◌≤◌, None, length, option_copied, IfOk};
+ghost use Rattle.std.specs.Prelude.{◌≡◌, ◌≤◌, ◌*◌, None, length, option_copied, IfOk, IfSome, IsErr, IsOk, IsSome};
+ghost use Rattle.std.specs.Duration.{as_nanos};
 ghost use Rattle.std.specs.Io.KnownBytes.{Keeps, ReadConsumes, WriteAppends};
+ghost use Rattle.std.specs.declared.io.ErrorKind.TheVariants as reason;
 ghost use Rattle.real_outside.specs.Tcp.Connections.{told_of};
 
 use crate::tcp::connection::Connection;
@@ -18,6 +20,8 @@ impl<'a, R: Net<Stream = TcpStream>> ConnectionAir<TcpConnection<'a, R, TcpStrea
     /// The air of the modem at this address, a host and a port with a colon between them, to which no connection is made
     /// yet. Takes no memory.
     pub fn new(net: &'a R, address: &'a str) -> TcpAir<'a, R>
+        ensures address { result.connection.address.now ≡ address.now }
+        ensures stream { result.connection.stream ≡ None }
         ensures stage { result.stage ≡ Stage.Unmade }
         ensures read_faults { result.read_faults ≡ 0 }
         ensures write_faults { result.write_faults ≡ 0 }
@@ -37,7 +41,8 @@ pub struct TcpConnection<'a, R, S> {
 impl<'a, R, S> TcpConnection<'a, R, S> {
     /// A connection to this address, a host and a port with a colon between them, which isn't made yet. Takes no memory.
     pub fn new(net: &'a R, address: &'a str) -> TcpConnection<'a, R, S>
-        ensures { result.stream ≡ None }
+        ensures address { result.address.now ≡ address.now }
+        ensures stream { result.stream ≡ None }
     {
         TcpConnection {
             net,
@@ -59,13 +64,18 @@ impl<'a, R: Net<Stream = S>, S: Read + Write + OpenStream + Drop> Connection
     ghost calls = { λ _. None };
 
     /// Connects to the first address of the host that answers.
-    fn connect(&mut self) -> Result<(), SystemError> {
+    fn connect(&mut self) -> Result<(), SystemError>
+        ensures made { IsOk result → IsSome self.new.stream }
+        ensures address { self.new.address ≡ self.old.address }
+    {
         self.stream = Some(system_answer(TcpStream::connect(self.net, self.address))?);
         Ok(())
     }
 
     /// Sets the stream's option.
-    fn set_no_delay(&mut self) -> Result<(), SystemError> {
+    fn set_no_delay(&mut self) -> Result<(), SystemError>
+        ensures unmade { self.old.stream ≡ None → IsErr result }
+    {
         match &self.stream {
             Some(stream) => system_answer(stream.set_nodelay(true)),
             None => Err(not_made()),
@@ -73,16 +83,18 @@ impl<'a, R: Net<Stream = S>, S: Read + Write + OpenStream + Drop> Connection
     }
 
     /// Sets the stream's limit of time for reads; one of 0 milliseconds fails.
-    fn set_read_limit(&mut self, milliseconds: u64) -> Result<(), SystemError> {
-        let limit = Some(Duration::from_millis(milliseconds));
+    fn set_read_limit(&mut self, milliseconds: u64) -> Result<(), SystemError>
+        ensures unmade { self.old.stream ≡ None → IsErr result }
+    {
         match &self.stream {
-            Some(stream) => system_answer(stream.set_read_timeout(limit)),
+            Some(stream) => system_answer(stream.set_read_timeout(time_of(milliseconds))),
             None => Err(not_made()),
         }
     }
 
     /// Reads the stream once.
     fn read(&mut self, room: &mut [u8]) -> Result<usize, SystemError>
+        ensures unmade { self.old.stream ≡ None → IsErr result }
         ensures count { IfOk result (λ count. count ≤ length room.old) }
         ensures octets { ReadConsumes (told_of S.remaining self.old.stream) (told_of S.remaining self.new.stream)
             result room.new }
@@ -95,6 +107,7 @@ impl<'a, R: Net<Stream = S>, S: Read + Write + OpenStream + Drop> Connection
 
     /// Writes to the stream once.
     fn write(&mut self, bytes: &[u8]) -> Result<usize, SystemError>
+        ensures unmade { self.old.stream ≡ None → IsErr result }
         ensures count { IfOk result (λ count. count ≤ length bytes.now) }
         ensures octets { WriteAppends (told_of S.contents self.old.stream) (told_of S.contents self.new.stream)
             result bytes.now }
@@ -107,6 +120,7 @@ impl<'a, R: Net<Stream = S>, S: Read + Write + OpenStream + Drop> Connection
 
     /// Flushes the stream, which holds nothing back.
     fn flush(&mut self) -> Result<(), SystemError>
+        ensures unmade { self.old.stream ≡ None → IsErr result }
         ensures octets { Keeps (told_of S.contents self.old.stream) (told_of S.contents self.new.stream) }
     {
         match &mut self.stream {
@@ -117,6 +131,16 @@ impl<'a, R: Net<Stream = S>, S: Read + Write + OpenStream + Drop> Connection
 }
 
 /// The error of a call of a connection that isn't made.
-fn not_made() -> SystemError {
+fn not_made() -> SystemError
+    ensures { result ≡ record { kind = reason.NotConnected; number = None } }
+{
     SystemError::from(ErrorKind::NotConnected)
+}
+
+/// So many milliseconds, as a limit of time.
+fn time_of(milliseconds: u64) -> Option<Duration>
+    ensures some { IsSome result }
+    ensures time { IfSome result (λ time. as_nanos time ≡ milliseconds * 1_000_000) }
+{
+    Some(Duration::from_millis(milliseconds))
 }
