@@ -3,7 +3,7 @@ use Rattle.std.specs.Prelude.{◌≡◌, ℕ, List, [], ◌∷◌, Option, None,
 use Rattle.command_words.specs.declared.air.AirWord.{AirWord}
 use Rattle.command_words.specs.declared.air.AirWord.TheVariants as air
 use Rattle.command_words.specs.Airs.{IsAirOf}
-use Rattle.px_base.specs.CallRecords.{CallRecordState}
+use Rattle.px_base.specs.CallRecords.{CallRecordState, told}
 use Rattle.px_base.specs.Outside.{Grows}
 use Rattle.pacsat_cli.specs.declared.startup.host.HostCall.{HostCall}
 use Rattle.pacsat_cli.specs.declared.startup.host.HostCall.TheVariants as call
@@ -24,6 +24,14 @@ pub record MemoryHostState : Type 0 where
   pub words : Option (Result (List (List ℕ)) WordsRefusal)
   pub status : Status
   pub made : CallRecordState HostCall
+
+-- this call reached it, and nothing else of it changed
+abbrev pub IsCalled : MemoryHostState → MemoryHostState → HostCall → Type 0
+IsCalled before now made = Follows (told before.made) (told now.made) made × (now ≡ record before { made = now.made })
+
+-- the same of a call that is a run, which ends with its status
+abbrev pub IsRun : MemoryHostState → MemoryHostState → Status → HostCall → Type 0
+IsRun before now ends made = IsCalled before now made × (ends ≡ before.status)
 
 -- what it answers where it is asked for its words: there is no memory for them a second time
 abbrev pub words_given : Option (Result (List (List ℕ)) WordsRefusal) → Result (List (List ℕ)) WordsRefusal

@@ -1,8 +1,8 @@
 //! A system in memory: a script of answers, and a record of the calls.
 
 ghost use Rattle.std.specs.Prelude.{◌≡◌, IfOk, None, Some};
-ghost use Rattle.px_base.specs.CallRecords.{no_calls, told};
-ghost use Rattle.pacsat_cli.specs.Start.{Follows, words_given};
+ghost use Rattle.px_base.specs.CallRecords.{no_calls};
+ghost use Rattle.pacsat_cli.specs.Start.{IsCalled, IsRun, words_given};
 
 use crate::Status;
 use crate::startup::host::{Host, HostCall, NotHeld, WordsRefusal};
@@ -64,9 +64,8 @@ impl Host for MemoryHost {
     ghost calls = { λ h. told h.made };
 
     fn hold_streams(&mut self) -> Result<(), NotHeld>
-        ensures call { Follows (told self.old.made) (told self.new.made) (HostCall.Holds result) }
+        ensures call { IsCalled self.old self.new (HostCall.Holds result) }
         ensures answer { result ≡ self.old.held }
-        ensures rest { self.new ≡ record self.old { made = self.new.made } }
     {
         let answer = self.held;
         self.made.add(Ok(HostCall::Holds { answer }));
@@ -74,7 +73,6 @@ impl Host for MemoryHost {
     }
 
     fn words(&mut self) -> Result<Words, WordsRefusal>
-        ensures call { Follows (told self.old.made) (told self.new.made) (HostCall.Reads result) }
         ensures answer { result ≡ words_given self.old.words }
         ensures rest { self.new ≡ record self.old { words = None; made = self.new.made } }
     {
@@ -85,17 +83,13 @@ impl Host for MemoryHost {
     }
 
     fn end_with(&mut self, status: Status)
-        ensures call { Follows (told self.old.made) (told self.new.made) (HostCall.Ends status) }
-        ensures rest { self.new ≡ record self.old { made = self.new.made } }
+        ensures call { IsCalled self.old self.new (HostCall.Ends status) }
     {
         self.made.add(Ok(HostCall::Ends { status }));
     }
 
     fn run_over_connection(&mut self, words: &Words, disk: &str, at: &str) -> Status
-        ensures call { Follows (told self.old.made) (told self.new.made)
-            (HostCall.OverConnection words.now disk.now at.now result) }
-        ensures answer { result ≡ self.old.status }
-        ensures rest { self.new ≡ record self.old { made = self.new.made } }
+        ensures run { IsRun self.old self.new result (HostCall.OverConnection words.now disk.now at.now result) }
     {
         let status = self.status;
         let made = made_over_connection(self.alloc, words, disk, at, status);
@@ -104,10 +98,7 @@ impl Host for MemoryHost {
     }
 
     fn run_over_streams(&mut self, words: &Words, disk: &str) -> Status
-        ensures call { Follows (told self.old.made) (told self.new.made)
-            (HostCall.OverStreams words.now disk.now result) }
-        ensures answer { result ≡ self.old.status }
-        ensures rest { self.new ≡ record self.old { made = self.new.made } }
+        ensures run { IsRun self.old self.new result (HostCall.OverStreams words.now disk.now result) }
     {
         let status = self.status;
         let made = made_over_streams(self.alloc, words, disk, status);
@@ -116,10 +107,7 @@ impl Host for MemoryHost {
     }
 
     fn run_without_air(&mut self, words: &Words, disk: &str) -> Status
-        ensures call { Follows (told self.old.made) (told self.new.made)
-            (HostCall.WithoutAir words.now disk.now result) }
-        ensures answer { result ≡ self.old.status }
-        ensures rest { self.new ≡ record self.old { made = self.new.made } }
+        ensures run { IsRun self.old self.new result (HostCall.WithoutAir words.now disk.now result) }
     {
         let status = self.status;
         let made = made_without_air(self.alloc, words, disk, status);
