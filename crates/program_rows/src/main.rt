@@ -11,6 +11,7 @@ mod air;
 mod client;
 mod command;
 mod run;
+mod startup;
 mod texts;
 
 use anyhow::{Result, bail};
@@ -32,6 +33,7 @@ fn play<R: AllocGlobal + Files + Print>(rt: &R, family: &str) -> Result<()> {
         "client" => play_family(rt, family, &mut client::ClientRows::new()),
         "command" => play_family(rt, family, &mut command::CommandRows),
         "air" => play_family(rt, family, &mut air::AirRows::new()),
+        "startup" => play_family(rt, family, &mut startup::StartRows),
         "texts" => play_family(rt, family, &mut texts::TextRows),
         _ => bail!("no family {family}"),
     }
