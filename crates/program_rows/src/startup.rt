@@ -25,7 +25,7 @@ impl Player for StartRows {
         }
         let mut host = MemoryHost::new(alloc, held, read_answer(answer, words)?, status);
         let number = start(&mut host);
-        shown(alloc, number, host.calls())
+        shown(alloc, number, host.made().calls())
     }
 }
 
