@@ -41,7 +41,10 @@ module _ (was held now : Option (List HostCall)) (answer : Result Unit NotHeld) 
         by (Ok done) is first second last n = (
           call.Holds (Ok done) ∷ call.Reads (Err why) ∷ call.Ends (status_of_words why) ∷ [],
           Grows-trans was read now (call.Holds (Ok done) ∷ call.Reads (Err why) ∷ []) (call.Ends (status_of_words why) ∷ [])
-              (Grows-trans was held read (call.Holds (Ok done) ∷ []) (call.Reads (Err why) ∷ []) first second) last, refl, n)
+              (Grows-trans was held read (call.Holds (Ok done) ∷ []) (call.Reads (Err why) ∷ []) first second) last,
+          refl,
+          n,
+        )
 
     -- and done
     pub ran :
@@ -57,4 +60,10 @@ module _ (was held now : Option (List HostCall)) (answer : Result Unit NotHeld) 
         by (Ok done) is first second run n = (
           call.Holds (Ok done) ∷ call.Reads (Ok words) ∷ run.0 ∷ [],
           Grows-trans was read now (call.Holds (Ok done) ∷ call.Reads (Ok words) ∷ []) (run.0 ∷ [])
-              (Grows-trans was held read (call.Holds (Ok done) ∷ []) (call.Reads (Ok words) ∷ []) first second) run.1, run.0, ends, refl, run.2, n)
+              (Grows-trans was held read (call.Holds (Ok done) ∷ []) (call.Reads (Ok words) ∷ []) first second) run.1,
+          run.0,
+          ends,
+          refl,
+          run.2,
+          n,
+        )

@@ -5,9 +5,9 @@ ghost use Rattle.px_base.specs.Outside.{Grows};
 ghost use Rattle.px_base.specs.CallRecords.{no_calls, told};
 ghost use Rattle.real_outside.specs.Clocks.{first_reading};
 
-use px_base::CallRecord;
 use crate::system_error::SystemError;
 use crate::time_source::TimeSource;
+use px_base::CallRecord;
 use std::alloc::Global;
 use std::collections::VecDeque;
 use std::marker::Model;

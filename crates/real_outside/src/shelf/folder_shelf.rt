@@ -79,7 +79,7 @@ impl<S: FileSystem> Shelf for FolderShelf<S> {
         ensures counted { self.new.faults ≡ counted_after_load result self.old.faults }
         ensures answer { (opened : Result S.Reader SystemError)
             × Grows (S.calls self.old.files) (S.calls self.new.files)
-                (FileCall.OpenToRead name.now (refusal opened) ∷ [])
+            (FileCall.OpenToRead name.now (refusal opened) ∷ [])
             × OpensToLoad (refusal opened) result
             × IfOk opened (λ file. AnswersOfAll (S.Reader.remaining file) most result) }
     {
