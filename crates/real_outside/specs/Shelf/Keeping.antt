@@ -1,5 +1,6 @@
 -- What a shelf over a folder asks of the files when it keeps the octets of one.
-use Rattle.std.specs.Prelude.{◌≡◌, ◌⊎◌, ◌↔◌, ℕ, ◌+◌, ◌<◌, List, [], ◌∷◌, ◌++◌, length, take, drop, codes, Bool, true, false, ◌||◌, Option, None, Some, Result, Ok, Err, IsOk, IsErr}
+use Rattle.std.specs.Prelude.{◌≡◌, ◌⊎◌, ◌↔◌, ℕ, ◌+◌, ◌<◌, List, [], ◌∷◌, ◌++◌, length, take, drop, codes}
+use Rattle.std.specs.Prelude.{Bool, true, false, ◌||◌, Option, None, Some, Result, Ok, Err, IsOk, IsErr}
 use Rattle.std.specs.Str.{bytes_eq}
 use Rattle.std.specs.declared.io.ErrorKind.TheVariants as reason
 use Rattle.real_outside.specs.Files.{OpensLocked, WritesOnce, folder_of}
@@ -54,7 +55,10 @@ WritesFrom at octets result file (first ∷ []) =
     (error : SystemError) × (0 < length octets) × WritesSome at octets (Err error) file (first ∷ []) × (result ≡ Err error)
 WritesFrom at octets result file (first ∷ second ∷ later) =
     (0 < length octets)
-    × (((error : SystemError) × WritesSome at octets (Err error) file (first ∷ second ∷ []) × (later ≡ []) × (result ≡ Err error))
+    × (((error : SystemError)
+    × WritesSome at octets (Err error) file (first ∷ second ∷ [])
+    × (later ≡ [])
+    × (result ≡ Err error))
     ⊎ ((count : ℕ)
     × WritesSome at octets (Ok count) file (first ∷ second ∷ [])
     × WritesFrom (at + count) (drop count octets) result file later))
@@ -97,8 +101,29 @@ MovesFilled path part mode octets result file calls =
     × FillsAndMoves path part mode octets (Ok tt) file first)
 
 -- The file at `part` is opened and locked for that.
+abbrev pub WritesBeside : List ℕ → List ℕ → Option ℕ → List ℕ → Step
+WritesBeside path part mode octets = OnLocked part (MovesFilled path part mode octets)
+
+-- something that is no regular file stands where a file is to be written beside
+abbrev pub already_there : SystemError
+already_there = record { kind = reason.AlreadyExists; number = None }
+
+-- whether a file may be written beside where this was found: a regular file there was left by an earlier call
+abbrev pub answer_of_part : Result Found SystemError → Result Unit SystemError
+answer_of_part (Ok found.Nothing) = Ok tt
+answer_of_part (Ok (found.File mode)) = Ok tt
+answer_of_part (Ok found.Link) = Err already_there
+answer_of_part (Ok found.Other) = Err already_there
+answer_of_part (Err error) = Err error
+
+-- what stands at this path is looked at
+abbrev pub ChecksPart : List ℕ → Step
+ChecksPart part result calls =
+    (there : Result Found SystemError) × (calls ≡ call.Look part there ∷ []) × (result ≡ answer_of_part there)
+
+-- Before that it is looked at, so that nothing but a regular file is opened there.
 abbrev pub ReplacesBy : List ℕ → List ℕ → Option ℕ → List ℕ → Step
-ReplacesBy path part mode octets = OnLocked part (MovesFilled path part mode octets)
+ReplacesBy path part mode octets = InTurn (ChecksPart part) (WritesBeside path part mode octets)
 
 -- there is no memory for a path
 abbrev pub out_of_memory : SystemError
@@ -117,13 +142,17 @@ Replaces path (Some mode) octets result calls =
 abbrev pub is_of_system : List ℕ → Bool
 is_of_system name = bytes_eq (take 5 name) (codes "/dev/") || bytes_eq (take 6 name) (codes "/proc/")
 
+-- what a link led to isn't there any more
+abbrev pub led_nowhere : SystemError
+led_nowhere = record { kind = reason.NotFound; number = None }
+
 -- a link of this name leads to a path at which this is found
 abbrev pub KeepsAt : List ℕ → List ℕ → List ℕ → Found → Step
 KeepsAt name path octets (found.File mode) result calls =
     ((is_of_system name ≡ true) × KeepsIn name octets result calls)
     ⊎ ((is_of_system name ≡ false) × Replaces path (Some mode) octets result calls)
-KeepsAt name path octets found.Nothing result calls = Once (call.Pour name octets) result calls
-KeepsAt name path octets found.Link result calls = Once (call.Pour name octets) result calls
+KeepsAt name path octets found.Nothing result calls = (calls ≡ []) × (result ≡ Err led_nowhere)
+KeepsAt name path octets found.Link result calls = (calls ≡ []) × (result ≡ Err led_nowhere)
 KeepsAt name path octets found.Other result calls = Once (call.Pour name octets) result calls
 
 -- what is at this path is looked at, and then asked for a step

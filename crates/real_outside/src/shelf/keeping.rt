@@ -3,7 +3,11 @@
 ghost use Rattle.std.specs.Prelude.{◌≡◌, ◌<◌, ◌≤◌, ◌++◌, codes, length, IfErr, IfOk, Some};
 ghost use Rattle.std.specs.String.{string_bytes};
 ghost use Rattle.px_base.specs.CallRecords.{Asks};
-ghost use Rattle.real_outside.specs.Shelf.Keeping.{Fills, FillsAndMoves, FollowsLink, Keeps, KeepsAt, KeepsFound, KeepsIn, KeepsLinked, KeepsUnresolved, MovesFilled, OnLocked, Prepares, Replaces, ReplacesBy, WritesFrom, WritesSome, WritesSynced, is_of_system as is_name_of_system, out_of_memory};
+ghost use Rattle.real_outside.specs.Shelf.Keeping.{ChecksPart, Fills, FillsAndMoves, FollowsLink, Keeps, KeepsAt};
+ghost use Rattle.real_outside.specs.Shelf.Keeping.{KeepsFound, KeepsIn, KeepsLinked, KeepsUnresolved, MovesFilled};
+ghost use Rattle.real_outside.specs.Shelf.Keeping.{OnLocked, Prepares, Replaces, ReplacesBy, WritesBeside, WritesFrom};
+ghost use Rattle.real_outside.specs.Shelf.Keeping.{WritesSome, WritesSynced, answer_of_part, out_of_memory};
+ghost use Rattle.real_outside.specs.Shelf.Keeping.{is_of_system as is_name_of_system};
 
 use crate::files::{FileSystem, Found, folder_of, open_locked, write_once};
 use crate::system_error::SystemError;
@@ -89,7 +93,8 @@ fn keep_linked<S: FileSystem>(
     keep_linked_at(files, alloc, name, path, found, bytes)
 }
 
-/// Keeps them where a link leads to this path, at which this stands.
+/// Keeps them where a link leads to this path, at which this stands. Where nothing stands there any more, or a link by
+/// now, what the name leads to has just changed, and it isn't written to.
 fn keep_linked_at<S: FileSystem>(
     files: &mut S,
     alloc: Global,
@@ -105,7 +110,8 @@ fn keep_linked_at<S: FileSystem>(
             replace(files, alloc, path, Some(mode), bytes)
         }
         Found::File { .. } => keep_in_place(files, name, bytes),
-        _ => files.pour(name, bytes),
+        Found::Other => files.pour(name, bytes),
+        Found::Nothing | Found::Link => Err(SystemError::from(ErrorKind::NotFound)),
     }
 }
 
@@ -168,7 +174,7 @@ fn part_of(alloc: Global, path: &str) -> Result<String, SystemError>
     Ok(part)
 }
 
-/// Writes the octets to the path `part`, and moves them from there to `path`. The file at `part` is locked meanwhile.
+/// Writes the octets to the path `part`, unless what stands there is no regular file, and moves them from there to `path`.
 fn replace_by<S: FileSystem>(
     files: &mut S,
     path: &str,
@@ -177,6 +183,38 @@ fn replace_by<S: FileSystem>(
     bytes: &[u8],
 ) -> Result<(), SystemError>
     ensures { Asks (S.calls files.old) (S.calls files.new) (ReplacesBy path.now part.now mode bytes.now result) }
+{
+    check_part(files, part)?;
+    write_beside(files, path, part, mode, bytes)
+}
+
+/// Fails where something stands at this path that is no regular file.
+fn check_part<S: FileSystem>(files: &mut S, part: &str) -> Result<(), SystemError>
+    ensures { Asks (S.calls files.old) (S.calls files.new) (ChecksPart part.now result) }
+{
+    part_answer(files.look(part))
+}
+
+/// Whether a file may be written beside where this was found: a regular file there was left by an earlier call.
+fn part_answer(found: Result<Found, SystemError>) -> Result<(), SystemError>
+    ensures { result ≡ answer_of_part found }
+{
+    match found {
+        Ok(Found::Nothing | Found::File { .. }) => Ok(()),
+        Ok(Found::Link | Found::Other) => Err(SystemError::from(ErrorKind::AlreadyExists)),
+        Err(error) => Err(error),
+    }
+}
+
+/// Writes the octets to the path `part`, and moves them from there to `path`. The file at `part` is locked meanwhile.
+fn write_beside<S: FileSystem>(
+    files: &mut S,
+    path: &str,
+    part: &str,
+    mode: Option<u32>,
+    bytes: &[u8],
+) -> Result<(), SystemError>
+    ensures { Asks (S.calls files.old) (S.calls files.new) (WritesBeside path.now part.now mode bytes.now result) }
 {
     let file = open_locked(files, part)?;
     move_filled(files, &file, path, part, mode, bytes)
