@@ -1,6 +1,6 @@
 //! The real system: standard streams, files, connections, the clock, and the words of the command line.
 
-ghost use Rattle.std.specs.Prelude.{◌≡◌, ◌↔◌, None};
+ghost use Rattle.std.specs.Prelude.{◌≡◌, ◌↔◌, None, IsSome, OnOk};
 ghost use Rattle.std.specs.declared.io.ErrorKind.TheVariants as reason;
 
 use pacsat_cli::{Host, NotHeld, Status, Words, WordsRefusal, end_with, run};
@@ -30,21 +30,30 @@ impl<'a> System<'a> {
 impl<'a> Host for System<'a> {
     ghost calls = { λ _. None };
 
-    fn hold_streams(&mut self) -> Result<(), NotHeld> {
+    /// Holds what stands in for those that were closed, from then on.
+    fn hold_streams(&mut self) -> Result<(), NotHeld>
+        ensures held { OnOk result (IsSome self.new.streams) }
+    {
         let held = hold_standard_streams(&mut NullFile::new(self.rt)).map_err(|_| NotHeld)?;
         self.streams = Some(held);
         Ok(())
     }
 
-    fn words(&mut self) -> Result<Words, WordsRefusal> {
+    fn words(&mut self) -> Result<Words, WordsRefusal>
+        ensures kept { self.new.streams ≡ self.old.streams }
+    {
         words(self.rt)
     }
 
-    fn end_with(&mut self, status: Status) {
+    fn end_with(&mut self, status: Status)
+        ensures kept { self.new.streams ≡ self.old.streams }
+    {
         let _ = end_with(status, &mut StdOut::new(self.rt.stderr()));
     }
 
-    fn run_over_connection(&mut self, words: &Words, disk: &str, at: &str) -> Status {
+    fn run_over_connection(&mut self, words: &Words, disk: &str, at: &str) -> Status
+        ensures kept { self.new.streams ≡ self.old.streams }
+    {
         let mut text = StdOut::new(self.rt.stdout());
         run_over(
             self.rt,
@@ -55,7 +64,9 @@ impl<'a> Host for System<'a> {
         )
     }
 
-    fn run_over_streams(&mut self, words: &Words, disk: &str) -> Status {
+    fn run_over_streams(&mut self, words: &Words, disk: &str) -> Status
+        ensures kept { self.new.streams ≡ self.old.streams }
+    {
         let mut text = StdOut::new(self.rt.stderr());
         run_over(
             self.rt,
@@ -66,7 +77,9 @@ impl<'a> Host for System<'a> {
         )
     }
 
-    fn run_without_air(&mut self, words: &Words, disk: &str) -> Status {
+    fn run_without_air(&mut self, words: &Words, disk: &str) -> Status
+        ensures kept { self.new.streams ≡ self.old.streams }
+    {
         let mut text = StdOut::new(self.rt.stdout());
         run_over(
             self.rt,
