@@ -91,8 +91,8 @@ impl<'a> Host for System<'a> {
     }
 }
 
-/// Does what the words ask for, over the file `disk`, this air and this output for text, the working folder and the system's
-/// clock. A command that uses no disk doesn't open the file.
+/// Does what the words ask for, over the file `disk`, this air and this output for text, the working folder and the
+/// system's clock. A command that uses no disk doesn't open the file.
 fn run_over<A: Air, O: Out>(
     rt: &HostRuntime,
     words: &Words,

@@ -2,8 +2,7 @@
 use Rattle.std.proofs.Common.{◌≡◌, inl, inr, ℕ, List, [], ◌∷◌, ◌++◌, Option, None, Some, Result, Ok, Err, refl}
 use Rattle.px_base.specs.Outside.{Grows}
 use Rattle.px_base.specs.CallRecords.{Asks}
-use Rattle.real_outside.specs.Files.{OpensLocked}
-use Rattle.real_outside.specs.Shelf.Keeping.{InTurn, Once, OnLocked, Replaces, Step, out_of_memory}
+use Rattle.real_outside.specs.Shelf.Keeping.{InTurn, OnOpened, Once, Replaces, Step, out_of_memory}
 use Rattle.real_outside.specs.declared.files.file_call.FileCall.{FileCall}
 use Rattle.real_outside.specs.declared.system_error.SystemError.{SystemError}
 use Rattle.px_base.proofs.Told.{asks_as, asks_none, asks_one, asks_then}
@@ -38,11 +37,19 @@ none_replaced path octets None was result is = asks_none (Replaces path None oct
 none_replaced path octets (Some mode) was result is =
     asks_none (Replaces path (Some mode) octets result) was (inr (refl, is))
 
--- a file is opened and locked, and what follows
-pub on_locked :
-    (path : List ℕ) (Next : Result Unit SystemError → ℕ → List FileCall → Type 0)
-    (was mid now : Option (List FileCall)) (file : ℕ) (result : Result Unit SystemError)
-    → Asks was mid (OpensLocked path (Ok file)) → Asks mid now (Next result file) → Asks was now (OnLocked path Next result)
-on_locked path Next was mid now file result opened follows =
-    asks_then (OpensLocked path (Ok file)) (Next result file) (OnLocked path Next result) was mid now
-    (λ first later opens does. inr (file, first, later, refl, opens, does)) opened follows
+module _ (Opens : Result ℕ SystemError → List FileCall → Type 0)
+    (Next : Result Unit SystemError → ℕ → List FileCall → Type 0) (was : Option (List FileCall)) where
+  -- a file is opened, and what follows
+  pub on_opened :
+      (mid now : Option (List FileCall)) (file : ℕ) (result : Result Unit SystemError)
+      → Asks was mid (Opens (Ok file)) → Asks mid now (Next result file) → Asks was now (OnOpened Opens Next result)
+  on_opened mid now file result opened follows =
+      asks_then (Opens (Ok file)) (Next result file) (OnOpened Opens Next result) was mid now
+      (λ first later opens does. inr (file, first, later, refl, opens, does)) opened follows
+
+  -- it can't be opened
+  pub not_opened :
+      (now : Option (List FileCall)) (result : Result Unit SystemError) (error : SystemError) → result ≡ Err error
+      → Asks was now (Opens (Err error)) → Asks was now (OnOpened Opens Next result)
+  not_opened now result error is refused =
+      asks_as (Opens (Err error)) (OnOpened Opens Next result) was now (λ calls opens. inl (error, is, opens)) refused

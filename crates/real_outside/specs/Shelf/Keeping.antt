@@ -28,14 +28,19 @@ InTurn First Next result calls =
     (IsErr result × First result calls)
     ⊎ ((first later : List FileCall) × (calls ≡ first ++ later) × First (Ok tt) first × Next result later)
 
--- the file of this path is opened and locked, and then asked for a step
-abbrev pub OnLocked : List ℕ → (Result Unit SystemError → ℕ → List FileCall → Type 0) → Step
-OnLocked path Next result calls =
-    ((error : SystemError) × (result ≡ Err error) × OpensLocked path (Err error) calls)
+-- a file is opened, and then asked for a step
+abbrev pub OnOpened :
+    (Result ℕ SystemError → List FileCall → Type 0) → (Result Unit SystemError → ℕ → List FileCall → Type 0) → Step
+OnOpened Opens Next result calls =
+    ((error : SystemError) × (result ≡ Err error) × Opens (Err error) calls)
     ⊎ ((file : ℕ) × (first later : List FileCall)
     × (calls ≡ first ++ later)
-    × OpensLocked path (Ok file) first
+    × Opens (Ok file) first
     × Next result file later)
+
+-- the file of this path is opened and locked, and then asked for a step
+abbrev pub OnLocked : List ℕ → (Result Unit SystemError → ℕ → List FileCall → Type 0) → Step
+OnLocked path = OnOpened (OpensLocked path)
 
 -- Writing
 
@@ -84,25 +89,24 @@ Fills mode octets result file =
 abbrev pub KeepsIn : List ℕ → List ℕ → Step
 KeepsIn name octets = OnLocked name (Fills None octets)
 
--- what was written at the path `part` takes the place of what stands at `path`
-abbrev pub FillsAndMoves : List ℕ → List ℕ → Option ℕ → List ℕ → Result Unit SystemError → ℕ → List FileCall → Type 0
-FillsAndMoves path part mode octets result file =
-    InTurn (λ done. Fills mode octets done file) (Once (call.Rename part path)) result
+-- What was written at the path `part` takes the place of what stands at `path`, while the file that was written and the
+-- one that is held are open still.
+abbrev pub FillsAndMoves :
+    List ℕ → List ℕ → Option ℕ → ℕ → List ℕ → Result Unit SystemError → ℕ → List FileCall → Type 0
+FillsAndMoves path part mode held octets result file =
+    InTurn (λ done. Fills mode octets done file) (Once (call.Rename file held part path)) result
 
 -- Then the folder is synced; where that wasn't done, the file at `part` is taken away.
-abbrev pub MovesFilled : List ℕ → List ℕ → Option ℕ → List ℕ → Result Unit SystemError → ℕ → List FileCall → Type 0
-MovesFilled path part mode octets result file calls =
+abbrev pub MovesFilled :
+    List ℕ → List ℕ → Option ℕ → ℕ → List ℕ → Result Unit SystemError → ℕ → List FileCall → Type 0
+MovesFilled path part mode held octets result file calls =
     ((first : List FileCall) × (removed : Result Unit SystemError)
     × (calls ≡ first ++ call.Remove part removed ∷ [])
     × IsErr result
-    × FillsAndMoves path part mode octets result file first)
+    × FillsAndMoves path part mode held octets result file first)
     ⊎ ((first : List FileCall)
     × (calls ≡ first ++ call.SyncFolder (folder_of path) result ∷ [])
-    × FillsAndMoves path part mode octets (Ok tt) file first)
-
--- The file at `part` is opened and locked for that.
-abbrev pub WritesBeside : List ℕ → List ℕ → Option ℕ → List ℕ → Step
-WritesBeside path part mode octets = OnLocked part (MovesFilled path part mode octets)
+    × FillsAndMoves path part mode held octets (Ok tt) file first)
 
 -- something that is no regular file stands where a file is to be written beside
 abbrev pub already_there : SystemError
@@ -121,9 +125,22 @@ abbrev pub ChecksPart : List ℕ → Step
 ChecksPart part result calls =
     (there : Result Found SystemError) × (calls ≡ call.Look part there ∷ []) × (result ≡ answer_of_part there)
 
--- Before that it is looked at, so that nothing but a regular file is opened there.
-abbrev pub ReplacesBy : List ℕ → List ℕ → Option ℕ → List ℕ → Step
-ReplacesBy path part mode octets = InTurn (ChecksPart part) (WritesBeside path part mode octets)
+-- The file at `part` is opened and locked for that; before, it is looked at, so that nothing but a regular file is opened.
+abbrev pub OpensPart : List ℕ → Result ℕ SystemError → List FileCall → Type 0
+OpensPart part result calls =
+    ((error : SystemError) × (result ≡ Err error) × ChecksPart part (Err error) calls)
+    ⊎ ((first later : List FileCall)
+    × (calls ≡ first ++ later)
+    × ChecksPart part (Ok tt) first
+    × OpensLocked part result later)
+
+-- A file that isn't there yet is written so.
+abbrev pub WritesNew : List ℕ → List ℕ → List ℕ → Step
+WritesNew path part octets = OnOpened (OpensPart part) (λ done file. MovesFilled path part None file octets done file)
+
+-- One that is there, and is held, is replaced so.
+abbrev pub WritesOver : List ℕ → List ℕ → ℕ → ℕ → List ℕ → Step
+WritesOver path part mode held octets = OnOpened (OpensPart part) (MovesFilled path part (Some mode) held octets)
 
 -- there is no memory for a path
 abbrev pub out_of_memory : SystemError
@@ -133,9 +150,9 @@ out_of_memory = record { kind = reason.OutOfMemory; number = None }
 -- locked before.
 abbrev pub Replaces : List ℕ → Option ℕ → List ℕ → Step
 Replaces path None octets result calls =
-    ReplacesBy path (path ++ codes ".part") None octets result calls ⊎ ((calls ≡ []) × (result ≡ Err out_of_memory))
+    WritesNew path (path ++ codes ".part") octets result calls ⊎ ((calls ≡ []) × (result ≡ Err out_of_memory))
 Replaces path (Some mode) octets result calls =
-    OnLocked path (λ done held. ReplacesBy path (path ++ codes ".part") (Some mode) octets done) result calls
+    OnLocked path (λ done held. WritesOver path (path ++ codes ".part") mode held octets done) result calls
     ⊎ ((calls ≡ []) × (result ≡ Err out_of_memory))
 
 -- the system makes up what has this name

@@ -78,9 +78,17 @@ pub trait FileSystem {
     fn resolve(&mut self, alloc: Global, path: &str) -> Result<String, SystemError>
         ensures { Grows (calls self.old) (calls self.new) (FileCall.Resolve path.now (path_answer result) ∷ []) };
 
-    /// Has what stands at the first path stand at the other one, in the place of what stood there.
-    fn rename(&mut self, from: &str, to: &str) -> Result<(), SystemError>
-        ensures { Grows (calls self.old) (calls self.new) (FileCall.Rename from.now to.now result ∷ []) };
+    /// Has what stands at the first path stand at the other one, in the place of what stood there. Two files are open
+    /// still, with their locks: the one that is moved, and the one that it replaces; where there is none, the first one twice.
+    fn rename(
+        &mut self,
+        file: &Self::File,
+        held: &Self::File,
+        from: &str,
+        to: &str,
+    ) -> Result<(), SystemError>
+        ensures { Grows (calls self.old) (calls self.new)
+            (FileCall.Rename (number file.now) (number held.now) from.now to.now result ∷ []) };
 
     /// Takes the name at this path away.
     fn remove(&mut self, path: &str) -> Result<(), SystemError>

@@ -202,9 +202,15 @@ impl FileSystem for MemoryFiles {
         answer
     }
 
-    fn rename(&mut self, from: &str, to: &str) -> Result<(), SystemError> {
+    fn rename(
+        &mut self,
+        file: &u64,
+        held: &u64,
+        from: &str,
+        to: &str,
+    ) -> Result<(), SystemError> {
         let answer = self.answer(());
-        let made = made_rename(self.alloc, from, to, answer);
+        let made = made_rename(self.alloc, *file, *held, from, to, answer);
         self.made.add(made);
         answer
     }
@@ -297,13 +303,17 @@ fn made_resolve(
 /// The record of a change of a name.
 fn made_rename(
     alloc: Global,
+    file: u64,
+    held: u64,
     from: &str,
     to: &str,
     answer: Result<(), SystemError>,
 ) -> Result<FileCall, OutOfMemory>
-    ensures { IfOk result (λ call. call ≡ FileCall.Rename from.now to.now answer) }
+    ensures { IfOk result (λ call. call ≡ FileCall.Rename file held from.now to.now answer) }
 {
     Ok(FileCall::Rename {
+        file,
+        held,
         from: FileBytes::copy_of(alloc, from.as_bytes())?,
         to: FileBytes::copy_of(alloc, to.as_bytes())?,
         answer,

@@ -92,7 +92,13 @@ impl<'a, R: Files<File = File>> FileSystem for RealFiles<'a, R> {
         Ok(path.into_string())
     }
 
-    fn rename(&mut self, from: &str, to: &str) -> Result<(), SystemError> {
+    fn rename(
+        &mut self,
+        _file: &File,
+        _held: &File,
+        from: &str,
+        to: &str,
+    ) -> Result<(), SystemError> {
         system_answer(fs::rename(self.files, from, to))
     }
 

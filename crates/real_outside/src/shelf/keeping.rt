@@ -3,10 +3,11 @@
 ghost use Rattle.std.specs.Prelude.{◌≡◌, ◌<◌, ◌≤◌, ◌++◌, codes, length, IfErr, IfOk, Some};
 ghost use Rattle.std.specs.String.{string_bytes};
 ghost use Rattle.px_base.specs.CallRecords.{Asks};
+ghost use Rattle.real_outside.specs.Files.{file_answer};
 ghost use Rattle.real_outside.specs.Shelf.Keeping.{ChecksPart, Fills, FillsAndMoves, FollowsLink, Keeps, KeepsAt};
 ghost use Rattle.real_outside.specs.Shelf.Keeping.{KeepsFound, KeepsIn, KeepsLinked, KeepsUnresolved, MovesFilled};
-ghost use Rattle.real_outside.specs.Shelf.Keeping.{OnLocked, Prepares, Replaces, ReplacesBy, WritesBeside, WritesFrom};
-ghost use Rattle.real_outside.specs.Shelf.Keeping.{WritesSome, WritesSynced, answer_of_part, out_of_memory};
+ghost use Rattle.real_outside.specs.Shelf.Keeping.{OnLocked, OpensPart, Prepares, Replaces, WritesFrom, WritesNew};
+ghost use Rattle.real_outside.specs.Shelf.Keeping.{WritesOver, WritesSome, WritesSynced, answer_of_part, out_of_memory};
 ghost use Rattle.real_outside.specs.Shelf.Keeping.{is_of_system as is_name_of_system};
 
 use crate::files::{FileSystem, Found, folder_of, open_locked, write_once};
@@ -142,9 +143,22 @@ fn replace<S: FileSystem>(
 {
     let part = part_of(alloc, path)?;
     match mode {
-        None => replace_by(files, path, part.as_str(), None, bytes),
+        None => write_new(files, path, part.as_str(), bytes),
         Some(mode) => replace_locked(files, path, part.as_str(), mode, bytes),
     }
+}
+
+/// Writes a file that isn't there yet: to the path `part` first, from where it is moved to `path`.
+fn write_new<S: FileSystem>(
+    files: &mut S,
+    path: &str,
+    part: &str,
+    bytes: &[u8],
+) -> Result<(), SystemError>
+    ensures { Asks (S.calls files.old) (S.calls files.new) (WritesNew path.now part.now bytes.now result) }
+{
+    let file = open_part(files, part)?;
+    move_filled(files, &file, &file, path, part, None, bytes)
 }
 
 /// Replaces the file at this path, which is there and has this mode, once its lock is taken.
@@ -156,10 +170,26 @@ fn replace_locked<S: FileSystem>(
     bytes: &[u8],
 ) -> Result<(), SystemError>
     ensures { Asks (S.calls files.old) (S.calls files.new)
-        (OnLocked path.now (λ done held. ReplacesBy path.now part.now (Some mode) bytes.now done) result) }
+        (OnLocked path.now (λ done held. WritesOver path.now part.now mode held bytes.now done) result) }
 {
-    let _held = open_locked(files, path)?;
-    replace_by(files, path, part, Some(mode), bytes)
+    let held = open_locked(files, path)?;
+    write_over(files, &held, path, part, mode, bytes)
+}
+
+/// Writes what is to replace this file, which is held: to the path `part` first, from where it is moved to `path`.
+fn write_over<S: FileSystem>(
+    files: &mut S,
+    held: &S::File,
+    path: &str,
+    part: &str,
+    mode: u32,
+    bytes: &[u8],
+) -> Result<(), SystemError>
+    ensures { Asks (S.calls files.old) (S.calls files.new)
+        (WritesOver path.now part.now mode (S.number held.now) bytes.now result) }
+{
+    let file = open_part(files, part)?;
+    move_filled(files, &file, held, path, part, Some(mode), bytes)
 }
 
 /// The path under which what is to stand at this path is written first.
@@ -174,18 +204,12 @@ fn part_of(alloc: Global, path: &str) -> Result<String, SystemError>
     Ok(part)
 }
 
-/// Writes the octets to the path `part`, unless what stands there is no regular file, and moves them from there to `path`.
-fn replace_by<S: FileSystem>(
-    files: &mut S,
-    path: &str,
-    part: &str,
-    mode: Option<u32>,
-    bytes: &[u8],
-) -> Result<(), SystemError>
-    ensures { Asks (S.calls files.old) (S.calls files.new) (ReplacesBy path.now part.now mode bytes.now result) }
+/// Opens the file at the path `part` and takes its lock, unless what stands there is no regular file.
+fn open_part<S: FileSystem>(files: &mut S, part: &str) -> Result<S::File, SystemError>
+    ensures { Asks (S.calls files.old) (S.calls files.new) (OpensPart part.now (file_answer S.number result)) }
 {
     check_part(files, part)?;
-    write_beside(files, path, part, mode, bytes)
+    open_locked(files, part)
 }
 
 /// Fails where something stands at this path that is no regular file.
@@ -206,34 +230,21 @@ fn part_answer(found: Result<Found, SystemError>) -> Result<(), SystemError>
     }
 }
 
-/// Writes the octets to the path `part`, and moves them from there to `path`. The file at `part` is locked meanwhile.
-fn write_beside<S: FileSystem>(
-    files: &mut S,
-    path: &str,
-    part: &str,
-    mode: Option<u32>,
-    bytes: &[u8],
-) -> Result<(), SystemError>
-    ensures { Asks (S.calls files.old) (S.calls files.new) (WritesBeside path.now part.now mode bytes.now result) }
-{
-    let file = open_locked(files, part)?;
-    move_filled(files, &file, path, part, mode, bytes)
-}
-
 /// Fills the file at the path `part`, moves it to `path`, and syncs the folder. Where the file can't be filled or moved, it
 /// is taken away.
 fn move_filled<S: FileSystem>(
     files: &mut S,
     file: &S::File,
+    held: &S::File,
     path: &str,
     part: &str,
     mode: Option<u32>,
     bytes: &[u8],
 ) -> Result<(), SystemError>
     ensures { Asks (S.calls files.old) (S.calls files.new)
-        (MovesFilled path.now part.now mode bytes.now result (S.number file.now)) }
+        (MovesFilled path.now part.now mode (S.number held.now) bytes.now result (S.number file.now)) }
 {
-    match fill_and_move(files, file, path, part, mode, bytes) {
+    match fill_and_move(files, file, held, path, part, mode, bytes) {
         Ok(()) => files.sync_folder(folder_of(path)),
         Err(error) => {
             let _ = files.remove(part);
@@ -246,16 +257,17 @@ fn move_filled<S: FileSystem>(
 fn fill_and_move<S: FileSystem>(
     files: &mut S,
     file: &S::File,
+    held: &S::File,
     path: &str,
     part: &str,
     mode: Option<u32>,
     bytes: &[u8],
 ) -> Result<(), SystemError>
     ensures { Asks (S.calls files.old) (S.calls files.new)
-        (FillsAndMoves path.now part.now mode bytes.now result (S.number file.now)) }
+        (FillsAndMoves path.now part.now mode (S.number held.now) bytes.now result (S.number file.now)) }
 {
     fill(files, file, mode, bytes)?;
-    files.rename(part, path)
+    files.rename(file, held, part, path)
 }
 
 /// Has the file hold these octets alone, and this mode where one is given, and syncs it.

@@ -13,9 +13,10 @@ returns-in-Ok g c =
     let path = c.args.path.now in
     let part = c.args.part.now in
     let mode = c.args.mode in
+    let held = g.S.FileSystem.number c.args.held.now in
     let bytes = c.args.bytes.now in
     let result = c.sync_folder.result in
-    asks_more (FillsAndMoves path part mode bytes (Ok tt) file) (MovesFilled path part mode bytes result file)
+    asks_more (FillsAndMoves path part mode held bytes (Ok tt) file) (MovesFilled path part mode held bytes result file)
     (calls_of c.args.files.now) (calls_of c.fill_and_move.new.files) (calls_of c.sync_folder.new.self) (call.SyncFolder (folder_of path) result)
     (subst (λ (l : List ℕ). Grows (calls_of c.fill_and_move.new.files) (calls_of c.sync_folder.new.self) (call.SyncFolder l result ∷ [])) c.folder_of.ensures c.sync_folder.ensures)
     (λ calls fills. inr (calls, refl, fills)) c.in-Ok.ensures
@@ -27,8 +28,9 @@ returns-in-Err g c =
     let path = c.args.path.now in
     let part = c.args.part.now in
     let mode = c.args.mode in
+    let held = g.S.FileSystem.number c.args.held.now in
     let bytes = c.args.bytes.now in
     let error = c.in-Err.error in
-    asks_more (FillsAndMoves path part mode bytes (Err error) file) (MovesFilled path part mode bytes (Err error) file)
+    asks_more (FillsAndMoves path part mode held bytes (Err error) file) (MovesFilled path part mode held bytes (Err error) file)
     (calls_of c.args.files.now) (calls_of c.fill_and_move.new.files) (calls_of c.remove.new.self) (call.Remove part c.remove.result) c.remove.ensures
     (λ calls fills. inl (calls, c.remove.result, refl, refl, fills)) c.in-Err.ensures

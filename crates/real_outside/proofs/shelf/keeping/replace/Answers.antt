@@ -1,6 +1,6 @@
 use Rattle.std.proofs.Common.{◌≡◌, inl, ℕ, List, ◌++◌, Option, None, Some, Err, sym, subst}
 use Rattle.std.specs.Prelude.{codes}
-use Rattle.real_outside.specs.Shelf.Keeping.{OnLocked, Replaces, ReplacesBy, out_of_memory}
+use Rattle.real_outside.specs.Shelf.Keeping.{OnLocked, Replaces, WritesNew, WritesOver, out_of_memory}
 use Rattle.real_outside.proofs.Errors.{handed_on}
 use Rattle.real_outside.proofs.Kept.{none_replaced}
 use Rattle.px_base.proofs.Told.{asks_as}
@@ -17,14 +17,14 @@ pub returns-in-None : goal.returns-in-None
 returns-in-None g c =
     let path = c.args.path.now in
     let bytes = c.args.bytes.now in
-    let result = c.replace_by.result in
+    let result = c.write_new.result in
     let named : c.as_str.result.now ≡ path ++ codes ".part" = cc (c.as_str.ensures.value, c.in_ok-part.ensures.ok) in
-    asks_as (ReplacesBy path c.as_str.result.now None bytes result) (Replaces path c.args.mode bytes result)
-    (g.S.FileSystem.calls c.args.files.now) (g.S.FileSystem.calls c.replace_by.new.files)
+    asks_as (WritesNew path c.as_str.result.now bytes result) (Replaces path c.args.mode bytes result)
+    (g.S.FileSystem.calls c.args.files.now) (g.S.FileSystem.calls c.write_new.new.files)
     (λ calls replaces.
     subst (λ (mode : Option ℕ). Replaces path mode bytes result calls) (sym c.in-None.is)
-    (inl (subst (λ (l : List ℕ). ReplacesBy path l None bytes result calls) named replaces)))
-    c.replace_by.ensures
+    (inl (subst (λ (l : List ℕ). WritesNew path l bytes result calls) named replaces)))
+    c.write_new.ensures
 
 pub returns : goal.returns
 returns g c =
@@ -32,9 +32,9 @@ returns g c =
     let bytes = c.args.bytes.now in
     let result = c.replace_locked.result in
     let named : c.as_str-in-Some.result.now ≡ path ++ codes ".part" = cc (c.as_str-in-Some.ensures.value, c.in_ok-part.ensures.ok) in
-    asks_as (OnLocked path (λ done held. ReplacesBy path c.as_str-in-Some.result.now (Some c.in-Some.mode) bytes done) result) (Replaces path c.args.mode bytes result)
+    asks_as (OnLocked path (λ done held. WritesOver path c.as_str-in-Some.result.now c.in-Some.mode held bytes done) result) (Replaces path c.args.mode bytes result)
     (g.S.FileSystem.calls c.args.files.now) (g.S.FileSystem.calls c.replace_locked.new.files)
     (λ calls replaces.
     subst (λ (mode : Option ℕ). Replaces path mode bytes result calls) (sym c.in-Some.is)
-    (inl (subst (λ (l : List ℕ). OnLocked path (λ done held. ReplacesBy path l (Some c.in-Some.mode) bytes done) result calls) named replaces)))
+    (inl (subst (λ (l : List ℕ). OnLocked path (λ done held. WritesOver path l c.in-Some.mode held bytes done) result calls) named replaces)))
     c.replace_locked.ensures

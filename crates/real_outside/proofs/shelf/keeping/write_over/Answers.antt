@@ -1,0 +1,21 @@
+use Rattle.std.proofs.Common.{Some}
+use Rattle.real_outside.specs.Shelf.Keeping.{MovesFilled, OpensPart}
+use Rattle.real_outside.proofs.Errors.{handed_on}
+use Rattle.real_outside.proofs.Kept.{not_opened, on_opened}
+use Rattle.real_outside.proofs.shelf.keeping.write_over.Goals as goal
+
+pub returns-in_err-file : goal.returns-in_err-file
+returns-in_err-file g c =
+    let part = c.args.part.now in
+    let error = c.in_err-file.field-0.0 in
+    let result = c.from_residual.result in
+    not_opened (OpensPart part)
+    (MovesFilled c.args.path.now part (Some c.args.mode) (g.S.FileSystem.number c.args.held.now) c.args.bytes.now) _ _ result error
+    (handed_on result error c.from_residual.ensures) c.in_err-file.ensures
+
+pub returns : goal.returns
+returns g c =
+    let part = c.args.part.now in
+    on_opened (OpensPart part)
+    (MovesFilled c.args.path.now part (Some c.args.mode) (g.S.FileSystem.number c.args.held.now) c.args.bytes.now) _ _ _
+    (g.S.FileSystem.number c.in_ok-file.file) c.move_filled.result c.in_ok-file.ensures c.move_filled.ensures
