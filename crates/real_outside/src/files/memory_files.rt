@@ -202,13 +202,7 @@ impl FileSystem for MemoryFiles {
         answer
     }
 
-    fn rename(
-        &mut self,
-        file: &u64,
-        held: &u64,
-        from: &str,
-        to: &str,
-    ) -> Result<(), SystemError> {
+    fn rename(&mut self, file: &u64, held: &u64, from: &str, to: &str) -> Result<(), SystemError> {
         let answer = self.answer(());
         let made = made_rename(self.alloc, *file, *held, from, to, answer);
         self.made.add(made);
