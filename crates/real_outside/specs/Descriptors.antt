@@ -1,5 +1,6 @@
 -- Which null devices are held in the place of closed standard streams.
-use Rattle.std.specs.Prelude.{◌≡◌, ◌⊎◌, ℕ, ◌+◌, ℤ, pos, List, [], ◌∷◌, ◌++◌, length, take, get_or, map, nat_le, if◌then◌else◌, Bool, true, false, Option, None, Some, MatchOption, Result, Ok, Err, ⊤}
+use Rattle.std.specs.Prelude.{◌≡◌, ◌⊎◌, ℕ, ◌+◌, ℤ, pos, List, [], ◌∷◌, ◌++◌, length, take, get_or, map, nat_le}
+use Rattle.std.specs.Prelude.{if◌then◌else◌, Bool, true, false, Option, None, Some, MatchOption, Result, Ok, Err, ⊤}
 use Rattle.std.specs.declared.io.ErrorKind.TheVariants as reason
 use Rattle.px_base.specs.Outside.{Grows}
 use Rattle.real_outside.specs.declared.descriptors.StandardStreams.{StandardStreams}
@@ -48,7 +49,8 @@ module _ {O : Type 0} (descriptor : O → ℤ) where
   KeepsHeld before now = (n : ℤ) → IsHeld before n → IsHeld now n
 
   -- One that was opened is held where its descriptor is a standard stream's, which is said.
-  abbrev pub HoldsOpened : StandardStreams O → StandardStreams O → Result O SystemError → Result Bool SystemError → Type 0
+  abbrev pub HoldsOpened :
+      StandardStreams O → StandardStreams O → Result O SystemError → Result Bool SystemError → Type 0
   HoldsOpened before now (Ok opened) (Ok true) = IsHeld now (descriptor opened) × KeepsHeld before now
   HoldsOpened before now (Ok opened) (Ok false) = (IsStandard (descriptor opened) → ⊥) × KeepsHeld before now
   HoldsOpened before now (Ok opened) (Err error) = ⊥

@@ -57,7 +57,10 @@ WritesSome at octets (Err error) file calls =
 abbrev pub WritesFrom : ℕ → List ℕ → Result Unit SystemError → ℕ → List FileCall → Type 0
 WritesFrom at octets result file [] = (octets ≡ []) × (result ≡ Ok tt)
 WritesFrom at octets result file (first ∷ []) =
-    (error : SystemError) × (0 < length octets) × WritesSome at octets (Err error) file (first ∷ []) × (result ≡ Err error)
+    (error : SystemError)
+    × (0 < length octets)
+    × WritesSome at octets (Err error) file (first ∷ [])
+    × (result ≡ Err error)
 WritesFrom at octets result file (first ∷ second ∷ later) =
     (0 < length octets)
     × (((error : SystemError)
@@ -125,7 +128,8 @@ abbrev pub ChecksPart : List ℕ → Step
 ChecksPart part result calls =
     (there : Result Found SystemError) × (calls ≡ call.Look part there ∷ []) × (result ≡ answer_of_part there)
 
--- The file at `part` is opened and locked for that; before, it is looked at, so that nothing but a regular file is opened.
+-- The file at `part` is opened and locked for that; before, it is looked at, so that nothing but a regular file is
+-- opened.
 abbrev pub OpensPart : List ℕ → Result ℕ SystemError → List FileCall → Type 0
 OpensPart part result calls =
     ((error : SystemError) × (result ≡ Err error) × ChecksPart part (Err error) calls)
@@ -146,8 +150,8 @@ WritesOver path part mode held octets = OnOpened (OpensPart part) (MovesFilled p
 abbrev pub out_of_memory : SystemError
 out_of_memory = record { kind = reason.OutOfMemory; number = None }
 
--- What stands at the path with `.part` behind takes the place of what stands at the path; a regular file that is there is
--- locked before.
+-- What stands at the path with `.part` behind takes the place of what stands at the path; a regular file that is there
+-- is locked before.
 abbrev pub Replaces : List ℕ → Option ℕ → List ℕ → Step
 Replaces path None octets result calls =
     WritesNew path (path ++ codes ".part") octets result calls ⊎ ((calls ≡ []) × (result ≡ Err out_of_memory))
@@ -176,14 +180,16 @@ KeepsAt name path octets found.Other result calls = Once (call.Pour name octets)
 abbrev pub OnFound : List ℕ → (Found → Step) → Step
 OnFound path Next result calls =
     ((error : SystemError) × (result ≡ Err error) × (calls ≡ call.Look path (Err error) ∷ []))
-    ⊎ ((there : Found) × (later : List FileCall) × (calls ≡ call.Look path (Ok there) ∷ later) × Next there result later)
+    ⊎ ((there : Found) × (later : List FileCall)
+    × (calls ≡ call.Look path (Ok there) ∷ later)
+    × Next there result later)
 
 -- a link of this name leads to this path
 abbrev pub KeepsLinked : List ℕ → List ℕ → List ℕ → Step
 KeepsLinked name path octets = OnFound path (KeepsAt name path octets)
 
--- A link leads to no path for this reason: where nothing is there, it is written to in place, and made so; or poured to,
--- where the system made the link.
+-- A link leads to no path for this reason: where nothing is there, it is written to in place, and made so; or poured
+-- to, where the system made the link.
 abbrev pub KeepsUnresolved : List ℕ → List ℕ → SystemError → Step
 KeepsUnresolved name octets error result calls =
     ((error.kind ≡ reason.NotFound) × (is_of_system name ≡ true) × Once (call.Pour name octets) result calls)
@@ -213,4 +219,5 @@ Keeps name octets = OnFound name (KeepsFound name octets)
 
 -- The shelf answers Ok exactly where that was done.
 abbrev pub KeepsAs : {E : Type 0} → List ℕ → List ℕ → Result Unit E → List FileCall → Type 0
-KeepsAs name octets result calls = (kept : Result Unit SystemError) × (IsOk result ↔ IsOk kept) × Keeps name octets kept calls
+KeepsAs name octets result calls =
+    (kept : Result Unit SystemError) × (IsOk result ↔ IsOk kept) × Keeps name octets kept calls

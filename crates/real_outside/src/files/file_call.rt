@@ -84,8 +84,8 @@ pub enum FileCall {
         path: FileBytes,
         answer: Result<FileBytes, SystemError>,
     },
-    /// What stands at a path was to stand at another one, in the place of what stood there, while these files were open: the
-    /// one that was moved, and the one that it replaced, or the first one twice.
+    /// What stands at a path was to stand at another one, in the place of what stood there, while these files were
+    /// open: the one that was moved, and the one that it replaced, or the first one twice.
     Rename {
         file: u64,
         held: u64,

@@ -10,8 +10,8 @@ use crate::system_error::SystemError;
 use std::alloc::Global;
 use std::io::Read;
 
-/// The files of a system, with each call that reaches them. They may tell the calls; the form in memory does, the real one
-/// doesn't. A call that is refused says why.
+/// The files of a system, with each call that reaches them. They may tell the calls; the form in memory does, the
+/// real one doesn't. A call that is refused says why.
 pub trait FileSystem {
     /// A file that was opened for reading and writing. It is closed where it is dropped, and its lock is free again.
     type File: Drop;
@@ -41,8 +41,8 @@ pub trait FileSystem {
     fn length(&mut self, file: &Self::File) -> Result<u64, SystemError>
         ensures { Grows (calls self.old) (calls self.new) (FileCall.Length (number file.now) result ∷ []) };
 
-    /// Puts the first octets of a file from this place on into the front of the room, and says how many: at most as many
-    /// as the room has, and none where the file ends at that place or before it.
+    /// Puts the first octets of a file from this place on into the front of the room, and says how many: at most as
+    /// many as the room has, and none where the file ends at that place or before it.
     fn read_at(&mut self, file: &Self::File, at: u64, room: &mut [u8]) -> Result<usize, SystemError>
         ensures count { IfOk result (λ count. count ≤ length room.old) }
         ensures calls { Grows (calls self.old) (calls self.new)
@@ -79,7 +79,8 @@ pub trait FileSystem {
         ensures { Grows (calls self.old) (calls self.new) (FileCall.Resolve path.now (path_answer result) ∷ []) };
 
     /// Has what stands at the first path stand at the other one, in the place of what stood there. Two files are open
-    /// still, with their locks: the one that is moved, and the one that it replaces; where there is none, the first one twice.
+    /// still, with their locks: the one that is moved, and the one that it replaces; where there is none, the first
+    /// one twice.
     fn rename(
         &mut self,
         file: &Self::File,
@@ -94,7 +95,8 @@ pub trait FileSystem {
     fn remove(&mut self, path: &str) -> Result<(), SystemError>
         ensures { Grows (calls self.old) (calls self.new) (FileCall.Remove path.now result ∷ []) };
 
-    /// Writes all of these octets, one after the other, to what stands at this path, as a pipe or a terminal takes them.
+    /// Writes all of these octets, one after the other, to what stands at this path, as a pipe or a terminal takes
+    /// them.
     fn pour(&mut self, path: &str, bytes: &[u8]) -> Result<(), SystemError>
         ensures { Grows (calls self.old) (calls self.new) (FileCall.Pour path.now bytes.now result ∷ []) };
 

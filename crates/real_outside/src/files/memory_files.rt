@@ -13,9 +13,9 @@ use std::alloc::Global;
 use std::io::{self, ErrorKind};
 use std::marker::Model;
 
-/// Files in memory: each holds as many octets as are asked for, all of them 0, and at each path the same is found. Their
-/// calls are numbered together from 1; one whose number is listed fails. They tell their calls until one finds no memory
-/// to be recorded.
+/// Files in memory: each holds as many octets as are asked for, all of them 0, and at each path the same is found.
+/// Their calls are numbered together from 1; one whose number is listed fails. They tell their calls until one finds
+/// no memory to be recorded.
 #[derive(Drop)]
 pub struct MemoryFiles {
     alloc: Global,

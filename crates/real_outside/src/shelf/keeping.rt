@@ -61,8 +61,8 @@ fn follow<S: FileSystem>(
     }
 }
 
-/// Keeps them where a link leads to no path for this reason: the file isn't there yet; or the link is one of the system's
-/// own, and what it leads to has no path, as a pipe.
+/// Keeps them where a link leads to no path for this reason: the file isn't there yet; or the link is one of the
+/// system's own, and what it leads to has no path, as a pipe.
 fn keep_unresolved<S: FileSystem>(
     files: &mut S,
     name: &str,
@@ -230,8 +230,8 @@ fn part_answer(found: Result<Found, SystemError>) -> Result<(), SystemError>
     }
 }
 
-/// Fills the file at the path `part`, moves it to `path`, and syncs the folder. Where the file can't be filled or moved, it
-/// is taken away.
+/// Fills the file at the path `part`, moves it to `path`, and syncs the folder. Where the file can't be filled or
+/// moved, it is taken away.
 fn move_filled<S: FileSystem>(
     files: &mut S,
     file: &S::File,

@@ -17,8 +17,8 @@ use std::time::Duration;
 pub type TcpAir<'a, R> = ConnectionAir<TcpConnection<'a, R, TcpStream>>;
 
 impl<'a, R: Net<Stream = TcpStream>> ConnectionAir<TcpConnection<'a, R, TcpStream>> {
-    /// The air of the modem at this address, a host and a port with a colon between them, to which no connection is made
-    /// yet. Takes no memory.
+    /// The air of the modem at this address, a host and a port with a colon between them, to which no connection is
+    /// made yet. Takes no memory.
     pub fn new(net: &'a R, address: &'a str) -> TcpAir<'a, R>
         ensures address { result.connection.address.now ≡ address.now }
         ensures stream { result.connection.stream ≡ None }
@@ -30,7 +30,8 @@ impl<'a, R: Net<Stream = TcpStream>> ConnectionAir<TcpConnection<'a, R, TcpStrea
     }
 }
 
-/// A TCP connection to a host and port, which has a stream once it was made. It tells none of its calls. Takes no memory.
+/// A TCP connection to a host and port, which has a stream once it was made. It tells none of its calls. Takes no
+/// memory.
 #[derive(Drop)]
 pub struct TcpConnection<'a, R, S> {
     net: &'a R,
@@ -39,7 +40,8 @@ pub struct TcpConnection<'a, R, S> {
 }
 
 impl<'a, R, S> TcpConnection<'a, R, S> {
-    /// A connection to this address, a host and a port with a colon between them, which isn't made yet. Takes no memory.
+    /// A connection to this address, a host and a port with a colon between them, which isn't made yet. Takes no
+    /// memory.
     pub fn new(net: &'a R, address: &'a str) -> TcpConnection<'a, R, S>
         ensures address { result.address.now ≡ address.now }
         ensures stream { result.stream ≡ None }
