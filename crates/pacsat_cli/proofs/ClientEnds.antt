@@ -437,7 +437,7 @@ module _ {A C D S O : Type 0} (g : Ghosts D) (air : AirGhosts A) (given : C → 
         read = client-read g air old new words client h.ended s is _ _ _ _ by_air;
         write = client-write g air old new words client h.ended s is _ _ _ _ by_air;
         disk = client-disk g air old new words client h.ended s is h.causes.runs (list-disk g air given old new terms o.shown out mid tokens h.ended h.causes.runs h.ends);
-        of_shelf = client-shelf g air old new words client h.ended s is _ _ (λ e. absurd (list-not_shelf g air given old new terms o.shown out mid tokens h.ended h.ends e)) (λ _ _. ap sh.faults stayed_shelf);
+        of_shelf = client-shelf g air old new words client h.ended s is _ _ (λ e. absurd (list-not_shelf g air given old new terms o.shown out mid tokens h.ended h.ends e)) (λ _. ap sh.faults stayed_shelf);
         exact = λ disk_not memory_not _. client-exact g air old new words client h.ended s is (g.content old.disk) h.notes disk_not memory_not;
         out_rose = λ e. h.of_out.rose (list-out h.ended s h.status_is e);
         out_same = λ e. h.of_out.same (λ failed. done-ok h.ended s is e stop.Out failed);

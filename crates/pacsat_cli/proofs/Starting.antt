@@ -23,7 +23,7 @@ module _ (was held now : Option (List HostCall)) (answer : Result Unit NotHeld) 
       by : (a : Result Unit NotHeld) → is_err a ≡ true → Follows was held (call.Holds a)
           → Follows held now (call.Ends status.Disk) → number ≡ number_of status.Disk → Asks was now (Starts number)
       by (Ok done) is first last n = absurd (false≢true is)
-      by (Err why) is first last n = (call.Holds (Err why) ∷ call.Ends status.Disk ∷ [], Grows-trans was held now (call.Holds (Err why) ∷ []) (call.Ends status.Disk ∷ []) first last, refl, n)
+      by (Err why) is first last n = (call.Holds (Err why) ∷ call.Ends status.Disk ∷ [], Grows-trans was held now (call.Holds (Err why) ∷ []) (call.Ends status.Disk ∷ []) first last, (refl, n))
 
   -- the words were asked for
   module _ (read : Option (List HostCall)) where
@@ -42,8 +42,7 @@ module _ (was held now : Option (List HostCall)) (answer : Result Unit NotHeld) 
           call.Holds (Ok done) ∷ call.Reads (Err why) ∷ call.Ends (status_of_words why) ∷ [],
           Grows-trans was read now (call.Holds (Ok done) ∷ call.Reads (Err why) ∷ []) (call.Ends (status_of_words why) ∷ [])
               (Grows-trans was held read (call.Holds (Ok done) ∷ []) (call.Reads (Err why) ∷ []) first second) last,
-          refl,
-          n,
+          (refl, n),
         )
 
     -- and done
@@ -61,9 +60,5 @@ module _ (was held now : Option (List HostCall)) (answer : Result Unit NotHeld) 
           call.Holds (Ok done) ∷ call.Reads (Ok words) ∷ run.0 ∷ [],
           Grows-trans was read now (call.Holds (Ok done) ∷ call.Reads (Ok words) ∷ []) (run.0 ∷ [])
               (Grows-trans was held read (call.Holds (Ok done) ∷ []) (call.Reads (Ok words) ∷ []) first second) run.1,
-          run.0,
-          ends,
-          refl,
-          run.2,
-          n,
+          (run.0, ends, refl, run.2, n),
         )

@@ -1,8 +1,8 @@
 //! A system in memory: a script of answers, and a record of the calls.
 
 ghost use Rattle.std.specs.Prelude.{◌≡◌, IfOk, None, Some};
-ghost use Rattle.px_base.specs.CallRecords.{no_calls};
-ghost use Rattle.pacsat_cli.specs.Start.{IsCalled, IsRun, words_given};
+ghost use Rattle.px_base.specs.CallRecords.{no_calls, told};
+ghost use Rattle.pacsat_cli.specs.Start.{Follows, IsCalled, IsRun, words_given};
 
 use crate::Status;
 use crate::startup::host::{Host, HostCall, NotHeld, WordsRefusal};
@@ -73,6 +73,7 @@ impl Host for MemoryHost {
     }
 
     fn words(&mut self) -> Result<Words, WordsRefusal>
+        ensures call { Follows (told self.old.made) (told self.new.made) (HostCall.Reads result) }
         ensures answer { result ≡ words_given self.old.words }
         ensures rest { self.new ≡ record self.old { words = None; made = self.new.made } }
     {
