@@ -96,6 +96,12 @@ pub record AsksUnless {V T : Type 0} (told : V → Option (List DeviceCall)) (re
   pub asks : (refused → ⊥) → Asks (told before) (told now) P
   pub refuses : refused → IsErr result × (now ≡ before)
 
+-- the same of a call that a broken disk alone refuses
+abbrev pub AsksUnlessBroken :
+    {V T : Type 0} → (V → Option (List DeviceCall)) → (before now : DeviceDiskState V) → Result T DiskFault
+    → (List DeviceCall → Type 0) → Type 0
+AsksUnlessBroken told before now result P = AsksUnless told (before.broken ≡ true) before.device now.device result P
+
 -- The disk is broken, or so many octets at this place would end past the most octets of a disk.
 abbrev pub RefusesRange : Bool → ℕ → ℕ → Type 0
 RefusesRange broken at count = (broken ≡ true) ⊎ (2 ^ 63 < at + count)

@@ -1,14 +1,17 @@
 -- What contracts see of a shelf over a folder, and what it answers where the system answers so.
-use Rattle.std.specs.Prelude.{◌≡◌, ◌≢◌, ◌↔◌, ℕ, List, Some, Result, Ok, Err, OnOk, IfErr, IsErr}
+use Rattle.std.specs.Prelude.{◌≡◌, ◌≢◌, ◌↔◌, ℕ, List, [], ◌∷◌, Option, Some, Result, Ok, Err, OnOk, IfErr, IfOk, IsErr}
 use Rattle.std.specs.IoError.{error_kind}
 use Rattle.std.specs.declared.io.Error.{Error}
 use Rattle.std.specs.declared.io.ErrorKind.{ErrorKind}
 use Rattle.std.specs.declared.io.ErrorKind.TheVariants as reason
 use Rattle.px_base.specs.declared.shelf.ShelfRefusal.{ShelfRefusal}
 use Rattle.px_base.specs.declared.shelf.ShelfRefusal.TheVariants as refusal
-use Rattle.px_base.specs.Outside.{counted}
+use Rattle.px_base.specs.Outside.{Grows, counted}
+use Rattle.real_outside.specs.Files.{refusal as refused}
+use Rattle.real_outside.specs.declared.files.file_call.FileCall.{FileCall}
+use Rattle.real_outside.specs.declared.files.file_call.FileCall.TheVariants as call
 use Rattle.real_outside.specs.declared.system_error.SystemError.{SystemError}
-use Rattle.px_base.specs.Shelves.{LoadResult, load_answer}
+use Rattle.px_base.specs.Shelves.{AnswersOfAll, LoadResult, load_answer}
 
 -- a shelf over a folder: its files, and the count of faults
 pub record Folder (S : Type 0) : Type 0 where
@@ -43,3 +46,13 @@ pub record IsReadingAnswer (read : Result ℕ Error) (octets : List ℕ) (most :
 abbrev pub OpensToLoad : Result Unit SystemError → LoadResult → Type 0
 OpensToLoad (Ok done) result = result ≢ Err refusal.NoSuch
 OpensToLoad (Err error) result = IsErr result × IfErr result (RefusesOpening error.kind)
+
+-- What a load of at most so many octets asks of the files, and what it answers: the file of this path is opened once, and
+-- where that is done, the answer is of all octets that its reader has left.
+abbrev pub AnswersOpened :
+    {R : Type 0} → (R → Option (List ℕ)) → (before now : Option (List FileCall)) → List ℕ → ℕ → LoadResult → Type 0
+AnswersOpened {R} remaining before now path most result =
+    (opened : Result R SystemError)
+    × Grows before now (call.OpenToRead path (refused opened) ∷ [])
+    × OpensToLoad (refused opened) result
+    × IfOk opened (λ file. AnswersOfAll (remaining file) most result)

@@ -2,7 +2,7 @@
 
 ghost use Rattle.std.specs.Prelude.{◌≡◌, ◌⊎◌, ◌↔◌, ◌+◌, ◌≤◌, ◌^◌, true, false, length, IfOk, IsErr, IsTrue};
 ghost use Rattle.px_base.specs.Outside.{HasCause, counted_after};
-ghost use Rattle.real_outside.specs.Disk.Devices.{AsksLength, AsksUnless, FillsFrom, PutsAt, RefusesRange, SyncsOnce};
+ghost use Rattle.real_outside.specs.Disk.Devices.{AsksLength, AsksUnless, AsksUnlessBroken, FillsFrom, PutsAt, RefusesRange, SyncsOnce};
 ghost use Rattle.real_outside.specs.Disk.Untold.{no_content, no_images, no_moment, no_past};
 
 use super::device::Device;
@@ -79,7 +79,7 @@ impl<V: Device> Disk for DeviceDisk<V> {
         ensures read_faults { HasCause self.old.read_faults self.new.read_faults result }
         ensures write_faults { self.new.write_faults ≡ self.old.write_faults }
         ensures counted { self.new.read_faults ≡ counted_after result self.old.read_faults }
-        ensures asks { AsksUnless V.calls (self.old.broken ≡ true) self.old.device self.new.device result (AsksLength result) }
+        ensures asks { AsksUnlessBroken V.calls self.old self.new result (AsksLength result) }
         ensures broken { self.new.broken ≡ self.old.broken }
     {
         let length = length_of(&mut self.device, self.broken);
@@ -120,7 +120,7 @@ impl<V: Device> Disk for DeviceDisk<V> {
         ensures read_faults { self.new.read_faults ≡ self.old.read_faults }
         ensures write_faults { HasCause self.old.write_faults self.new.write_faults result }
         ensures counted { self.new.write_faults ≡ counted_after result self.old.write_faults }
-        ensures asks { AsksUnless V.calls (self.old.broken ≡ true) self.old.device self.new.device result (SyncsOnce result) }
+        ensures asks { AsksUnlessBroken V.calls self.old self.new result (SyncsOnce result) }
         ensures broken { IsTrue self.new.broken ↔ IsErr result }
     {
         let synced = sync_once(&mut self.device, &mut self.broken);

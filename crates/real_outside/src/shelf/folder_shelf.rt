@@ -1,13 +1,11 @@
 //! A shelf over files: what its calls ask of them.
 
-ghost use Rattle.std.specs.Prelude.{◌≡◌, ◌∷◌, [], ◌↔◌, IfOk, IsOk, None, Result};
-ghost use Rattle.px_base.specs.Outside.{Grows, HasCause, counted_after};
-ghost use Rattle.px_base.specs.Shelves.{AnswersOfAll, HasLoadCause, IsWithin};
+ghost use Rattle.std.specs.Prelude.{◌≡◌, ◌↔◌, IsOk, None};
+ghost use Rattle.px_base.specs.Outside.{HasCause, counted_after};
+ghost use Rattle.px_base.specs.Shelves.{HasLoadCause, IsWithin};
 ghost use Rattle.px_base.specs.CallRecords.{Asks};
-ghost use Rattle.real_outside.specs.Files.{refusal};
-ghost use Rattle.real_outside.specs.Shelf.Folder.{OpensToLoad, counted_after_load};
+ghost use Rattle.real_outside.specs.Shelf.Folder.{AnswersOpened, counted_after_load};
 ghost use Rattle.real_outside.specs.Shelf.Keeping.{Keeps, KeepsAs};
-ghost use Rattle.real_outside.specs.declared.files.file_call.FileCall.{FileCall};
 ghost use Rattle.real_outside.specs.declared.system_error.SystemError.{SystemError};
 
 use super::keeping::keep_at;
@@ -78,11 +76,8 @@ impl<S: FileSystem> Shelf for FolderShelf<S> {
         ensures most { IsWithin most result }
         ensures faults { HasLoadCause self.old.faults self.new.faults result }
         ensures counted { self.new.faults ≡ counted_after_load result self.old.faults }
-        ensures answer { (opened : Result S.Reader SystemError)
-            × Grows (S.calls self.old.files) (S.calls self.new.files)
-            (FileCall.OpenToRead name.now (refusal opened) ∷ [])
-            × OpensToLoad (refusal opened) result
-            × IfOk opened (λ file. AnswersOfAll (S.Reader.remaining file) most result) }
+        ensures answer { AnswersOpened S.Reader.remaining (S.calls self.old.files) (S.calls self.new.files) name.now most
+            result }
     {
         let answer = load_opened(self.files.open_to_read(name), alloc, most);
         if let Err(ShelfRefusal::Fault) = &answer {
