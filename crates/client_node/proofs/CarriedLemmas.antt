@@ -12,7 +12,7 @@ use Rattle.ax25_frames.specs.FrameText.{FrameValue}
 use Rattle.client_notes.specs.Command.{NotesCommand}
 use Rattle.client_notes.specs.Several.{DoesSeveral}
 use Rattle.client_notes.specs.State.{NotesState, StandsOn}
-use Rattle.node_events.specs.Events.{NodeEvent, NodeEvents}
+use Rattle.node.specs.Events.{NodeEvent, NodeEvents}
 use Rattle.ftl0_client.specs.Ending.{Ending}
 use Rattle.ftl0_client.specs.JobState.{IsNew}
 use Rattle.ftl0_client.specs.Table.{JobState}

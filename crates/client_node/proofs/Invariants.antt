@@ -8,8 +8,8 @@ use Rattle.px_base.specs.declared.air.Turn.{Turn}
 use Rattle.px_base.specs.declared.air.Air.{Ghosts as AirGhosts}
 use Rattle.disk_model.specs.declared.disk.Disk.{Ghosts}
 use Rattle.ax25_frames.specs.FrameText.{FrameValue}
-use Rattle.node_events.specs.Events.{NodeEvent, NodeEvents}
-use Rattle.node_events.specs.Reading.{HasHeard}
+use Rattle.node.specs.Events.{NodeEvent, NodeEvents}
+use Rattle.node.specs.Reading.{HasHeard}
 use Rattle.ftl0_client.specs.Calls.{SameButFrames, SameClient}
 use Rattle.ftl0_client.specs.Client.{Client, ClientSends, client_next}
 use Rattle.ftl0_client.specs.ClientState.{ClientState, IsClient}

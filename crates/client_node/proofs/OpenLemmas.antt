@@ -4,8 +4,8 @@ use Rattle.px_base.specs.CallSign.{CallSign}
 use Rattle.px_base.specs.declared.air.Turn.{Turn}
 use Rattle.ax25_frames.specs.FrameText.{FrameValue}
 use Rattle.client_notes.specs.Command.{NotesCommand}
-use Rattle.node_events.specs.Events.{NodeEvent, NodeEvents}
-use Rattle.node_events.specs.Laws.{OneRunLaw}
+use Rattle.node.specs.Events.{NodeEvent, NodeEvents}
+use Rattle.node.specs.Laws.{OneRunLaw}
 use Rattle.ftl0_client.specs.Client.{Client}
 use Rattle.ftl0_client.specs.Laws.{OneStepLaw}
 use Rattle.ftl0_client.specs.Going.{GoesOver, is_over}

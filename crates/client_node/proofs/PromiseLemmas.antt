@@ -7,8 +7,8 @@ use Rattle.disk_model.specs.declared.disk.Disk.{Ghosts}
 use Rattle.ax25_frames.specs.FrameText.{FrameValue}
 use Rattle.client_notes.specs.Command.{NotesCommand}
 use Rattle.client_notes.specs.Notes.{Lists}
-use Rattle.node_events.specs.Events as node
-use Rattle.node_events.specs.Events.{NodeEvent}
+use Rattle.node.specs.Events as node
+use Rattle.node.specs.Events.{NodeEvent}
 use Rattle.ftl0_client.specs.JobState.{IsNew, NotesGoWith}
 use Rattle.ftl0_client.specs.Table.{JobState, listing_of}
 use Rattle.ftl0_client.specs.Attempt.Attempted.{Attempted}

@@ -18,8 +18,8 @@ use Rattle.client_notes.specs.Several.{DoesSeveral}
 use Rattle.client_notes.specs.State.{NotesState, StandsOn}
 use Rattle.client_notes.proofs.Offered.{Several-none, Several-same, Several-then}
 use Rattle.ftl0_client.specs.Layout.{Item}
-use Rattle.node_events.specs.Events as node
-use Rattle.node_events.specs.Events.{NodeEvent, tick_since}
+use Rattle.node.specs.Events as node
+use Rattle.node.specs.Events.{NodeEvent, tick_since}
 use Rattle.ftl0_client.specs.JobStop.{JobStop}
 use Rattle.ftl0_client.specs.JobStop.TheVariants as job_stop
 use Rattle.ftl0_client.specs.Table.{job_row}

@@ -15,9 +15,9 @@ use Rattle.disk_model.specs.declared.disk.Disk.{Ghosts}
 use Rattle.ax25_frames.specs.FrameText.{FrameValue}
 use Rattle.client_notes.specs.Command.{NotesCommand}
 use Rattle.ftl0_client.proofs.OctetLemmas.{IsOctets-append}
-use Rattle.node_events.specs.Events.{Finishes, NodeEvent, NodeEvents}
-use Rattle.node_events.specs.Laws.{OneRunLaw}
-use Rattle.node_events.specs.Reading.{HasHeard}
+use Rattle.node.specs.Events.{Finishes, NodeEvent, NodeEvents}
+use Rattle.node.specs.Laws.{OneRunLaw}
+use Rattle.node.specs.Reading.{HasHeard}
 use Rattle.ftl0_client.specs.Calls.{SameClient}
 use Rattle.ftl0_client.specs.Client.{Client, ClientEvent}
 use Rattle.ftl0_client.specs.ClientState.{client_closed}

@@ -13,7 +13,7 @@ use Rattle.client_notes.specs.Command.{NotesCommand}
 use Rattle.client_notes.specs.Notes.{Lists}
 use Rattle.client_notes.specs.Several.{DoesSeveral}
 use Rattle.client_notes.specs.State.{NotesState, StandsOn}
-use Rattle.node_events.specs.Events.{NodeEvent, NodeEvents}
+use Rattle.node.specs.Events.{NodeEvent, NodeEvents}
 use Rattle.ftl0_client.specs.Work.{Work}
 use Rattle.ftl0_client.specs.Table.{JobState}
 use Rattle.ftl0_client.specs.Client.{Client, ClientEvent, asks}

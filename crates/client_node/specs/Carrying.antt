@@ -4,8 +4,8 @@ use Rattle.px_base.specs.Octets.{IsFront}
 use Rattle.kiss.specs.KissText.{kiss_text}
 use Rattle.ax25_frames.specs.FrameText.{FrameValue, canonical}
 use Rattle.client_notes.specs.Command.{NotesCommand}
-use Rattle.node_events.specs.Events as node
-use Rattle.node_events.specs.Events.{NodeEvent}
+use Rattle.node.specs.Events as node
+use Rattle.node.specs.Events.{NodeEvent}
 use Rattle.ftl0_client.specs.Client.{Client, ClientEvent, asks, hears, ticks}
 use Rattle.ftl0_client.specs.ClientStep.{ClientStep, happening}
 use Rattle.ftl0_client.specs.declared.outcome.Outcome.{Outcome}

@@ -3,5 +3,5 @@ pub mod Carried
 pub mod Carrying
 pub mod Node
 pub use Rattle.ax25_frames.specs.FrameText
-pub use Rattle.node_events.specs.Events
-pub use Rattle.node_events.specs.Laws
+pub use Rattle.node.specs.Events
+pub use Rattle.node.specs.Laws

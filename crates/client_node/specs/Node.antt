@@ -12,9 +12,9 @@ use Rattle.disk_model.specs.declared.disk.Disk.{Ghosts}
 use Rattle.ax25_frames.specs.FrameText.{FrameValue}
 use Rattle.client_notes.specs.Command.{NotesCommand}
 use Rattle.client_notes.specs.Several.{DoesSeveral}
-use Rattle.node_events.specs.Events.{Finishes, NodeEvent, NodeEvents, heard_at, tick_of}
-use Rattle.node_events.specs.Reading.{HasHeard}
-use Rattle.node_events.specs.Station.{StationValue}
+use Rattle.node.specs.Events.{Finishes, NodeEvent, NodeEvents, heard_at, tick_of}
+use Rattle.node.specs.Reading.{HasHeard}
+use Rattle.node.specs.Station.{StationValue}
 use Rattle.ftl0_client.specs.JobStop.{JobStop}
 use Rattle.ftl0_client.specs.JobStop.TheVariants as job_stop
 use Rattle.ftl0_client.specs.Client.{Client, ClientEvent, IsSilent}

@@ -7,7 +7,7 @@ ghost use Rattle.ax25_frames.specs.Kinds.{FitsControl};
 ghost use Rattle.ax25_frames.specs.Values.{kind_value, value_of};
 ghost use Rattle.ax25_link.specs.Rows.{is_call};
 ghost use Rattle.ax25_link.specs.Window.{IsGoodK, window_of};
-ghost use Rattle.node_events.specs.Events.{IsFor};
+ghost use Rattle.node.specs.Events.{IsFor};
 ghost use Rattle.client_notes.specs.Answers.{StartsBy, answer_of, fresh_task, start_reaches};
 ghost use Rattle.client_notes.specs.Notes.{is_same_call};
 ghost use Rattle.client_notes.specs.OnDisk.{Does, Untouched};

@@ -19,7 +19,7 @@ use Rattle.ftl0_packets.specs.Reading.{packets_of}
 use Rattle.ftl0_session.specs.Lists.Lists.{CallerList, has_left}
 use Rattle.file_store.specs.Command.{after_all}
 use Rattle.file_store.specs.Store.{Store}
-use Rattle.node_events.specs.Events.{NodeEvent, hears, ticks}
+use Rattle.node.specs.Events.{NodeEvent, hears, ticks}
 use Rattle.ftl0_session.specs.Uploads.Failures.{Failure, write_fails}
 use Rattle.ftl0_packets.specs.Items.{texts}
 use Rattle.ftl0_session.specs.Table.{DuePacket, Row, State, due_at, fault_reply, greeting, row_at}

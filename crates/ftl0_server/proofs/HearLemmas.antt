@@ -26,7 +26,7 @@ use Rattle.ftl0_session.specs.declared.stop.ServerStop.TheVariants as stop
 use Rattle.ftl0_server.specs.Connection.Connected.{Connected}
 use Rattle.ftl0_server.specs.Connection.ConnectionState.{ConnectionState, with_reads}
 use Rattle.ftl0_server.specs.Connection.Hearing.{Happened, hearing}
-use Rattle.node_events.specs.Events.{IsFor}
+use Rattle.node.specs.Events.{IsFor}
 use Rattle.ftl0_server.specs.AtPlace.{IsPlace, MayHear, PlaceHears, PlaceHearsBy, Works}
 use Rattle.ftl0_server.specs.Calls.{Hears, HearsBy, HearsStranger}
 use Rattle.ftl0_server.specs.declared.place.Place.{Place}

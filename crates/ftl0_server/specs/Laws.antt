@@ -8,7 +8,7 @@ use Rattle.file_store.specs.Store.{Store}
 use Rattle.ftl0_session.specs.Uploads.Failures.{Failure}
 use Rattle.ftl0_server.specs.Connection.Laws.{IsQueued}
 use Rattle.ftl0_server.specs.Connection.Taking.{Halt}
-use Rattle.node_events.specs.Events.{NodeEvent}
+use Rattle.node.specs.Events.{NodeEvent}
 use Rattle.ftl0_server.specs.Server.{IsSilent, Server}
 use Rattle.ftl0_server.specs.ServerStep.{ServerStep}
 use Rattle.ftl0_server.specs.Slots.{Slot, connected, free, leaving}

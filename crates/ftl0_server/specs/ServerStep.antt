@@ -4,7 +4,7 @@ use Rattle.ax25_frames.specs.FrameText.{FrameValue}
 use Rattle.file_store.specs.Command.{Command}
 use Rattle.ftl0_session.specs.Uploads.Failures.{Failure}
 use Rattle.ftl0_server.specs.Connection.Taking.{Halt}
-use Rattle.node_events.specs.Events.{NodeEvent, hears, ticks}
+use Rattle.node.specs.Events.{NodeEvent, hears, ticks}
 use Rattle.ftl0_server.specs.Server.{IsSilent, Server, ServerHappened, ServerSends, becoming, server_hearing}
 use Rattle.ftl0_server.specs.Server.{server_next, server_ticking, settled}
 

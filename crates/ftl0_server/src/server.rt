@@ -15,7 +15,7 @@ ghost use Rattle.file_store.specs.Recovery.{IsRecovered, LeavesAlikeSinceSync, R
 ghost use Rattle.file_store.specs.State.{StandsOn, store_in};
 ghost use Rattle.file_store.specs.Working.{PutsAmongReads};
 ghost use Rattle.ftl0_session.specs.SessionState.{caller_of};
-ghost use Rattle.node_events.specs.Events.{IsFor, ticks};
+ghost use Rattle.node.specs.Events.{IsFor, ticks};
 ghost use Rattle.ftl0_server.specs.ServerStep.{happening};
 ghost use Rattle.ftl0_server.specs.AtPlace.{AllFit};
 ghost use Rattle.ftl0_server.specs.Calls.{HandsOutNext, Hears, HearsStranger, IsNew, SameButLinks, Seats};

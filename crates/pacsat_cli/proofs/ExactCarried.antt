@@ -9,7 +9,7 @@ use Rattle.px_base.specs.declared.shelf.Shelf.{Ghosts as ShelfGhosts}
 use Rattle.disk_model.specs.declared.disk.Disk.{Ghosts}
 use Rattle.file_store.specs.Walk.{Stands, state}
 use Rattle.file_store.proofs.Offered.{at_told}
-use Rattle.node_events.specs.Laws.{OneRunLaw}
+use Rattle.node.specs.Laws.{OneRunLaw}
 use Rattle.uploader.specs.Notes.{Lists}
 use Rattle.uploader.specs.State.{standing_of}
 use Rattle.uploader.specs.StoreFault.{StoreFault}

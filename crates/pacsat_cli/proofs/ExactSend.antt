@@ -8,7 +8,7 @@ use Rattle.px_base.specs.declared.out.Out.{Ghosts as OutGhosts}
 use Rattle.px_base.specs.declared.shelf.Shelf.{Ghosts as ShelfGhosts}
 use Rattle.disk_model.specs.declared.disk.Disk.{Ghosts}
 use Rattle.file_store.proofs.Offered.{told_weaker}
-use Rattle.node_events.specs.Laws.{OneRunLaw}
+use Rattle.node.specs.Laws.{OneRunLaw}
 use Rattle.header_tool.specs.Faults.{fault_code}
 use Rattle.uploader.specs.Answers.{IsFull}
 use Rattle.uploader.specs.Command.{NotesCommand}

@@ -31,7 +31,7 @@ use command_words::laws::one_meaning;
 use disk_model::Disk;
 use ftl0_client::laws::{one_step_law, stays_law};
 use ftl0_session::laws::acknowledged_stands_law;
-use node_events::laws::one_run_law;
+use node::laws::one_run_law;
 use px_base::{Air, Clock, Out, Shelf};
 use session_node::laws::acknowledged_since_law;
 use std::alloc::Global;

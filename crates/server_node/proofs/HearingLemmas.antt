@@ -9,10 +9,10 @@ use Rattle.disk_model.specs.declared.disk.Disk.{Ghosts}
 use Rattle.ax25_frames.specs.FrameText.{FrameValue}
 use Rattle.ftl0_server.proofs.OctetLemmas.{IsOctets-append}
 use Rattle.kiss.specs.KissText.{kiss_frames}
-use Rattle.node_events.specs.Events.{Finishes, NodeEvent, hears, heard_at}
-use Rattle.node_events.specs.Laws.{SomeFramesLaw}
-use Rattle.node_events.specs.Reading.{Finds, HasHeard, HearsOctet}
-use Rattle.node_events.specs.Station.{StationValue}
+use Rattle.node.specs.Events.{Finishes, NodeEvent, hears, heard_at}
+use Rattle.node.specs.Laws.{SomeFramesLaw}
+use Rattle.node.specs.Reading.{Finds, HasHeard, HearsOctet}
+use Rattle.node.specs.Station.{StationValue}
 use Rattle.session_node.specs.declared.stop.NodeStop.{NodeStop}
 use Rattle.server_node.specs.Node.{HearsAfter, HearsOctets, IsUp, NodeState, Takes}
 use Rattle.server_node.proofs.Invariants.{IsHearing}

@@ -8,8 +8,8 @@ use Rattle.px_base.specs.declared.air.Turn.{Turn}
 use Rattle.px_base.specs.declared.air.Air.{Ghosts as AirGhosts}
 use Rattle.disk_model.specs.declared.disk.Disk.{Ghosts}
 use Rattle.ax25_frames.specs.FrameText.{FrameValue}
-use Rattle.node_events.specs.Events.{NodeEvent, NodeEvents}
-use Rattle.node_events.specs.Reading.{HasHeard}
+use Rattle.node.specs.Events.{NodeEvent, NodeEvents}
+use Rattle.node.specs.Reading.{HasHeard}
 use Rattle.ftl0_server.specs.Server.{Server, ServerSends, server_next}
 use Rattle.ftl0_server.specs.ServerState.{IsServer, SendsFor, ServerState}
 use Rattle.session_node.specs.SessionRan.{IsButLast}

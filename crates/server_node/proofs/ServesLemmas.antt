@@ -3,7 +3,7 @@ use Rattle.std.proofs.Common.{ℕ, ◌+◌, List, [], ◌∷◌, ◌++◌, refl,
 use Rattle.std.proofs.Math.Nat.{add-zero, add_assoc, zero-add}
 use Rattle.ax25_frames.specs.FrameText.{FrameValue}
 use Rattle.file_store.specs.Command.{Command}
-use Rattle.node_events.specs.Events.{NodeEvent}
+use Rattle.node.specs.Events.{NodeEvent}
 use Rattle.ftl0_server.specs.Server.{Server}
 use Rattle.session_node.specs.declared.stop.NodeStop.{NodeStop}
 use Rattle.server_node.specs.Serving.{ServesOver, StopsAt, StopsBehind, StopsOver, TakesEvent, text_of}

@@ -18,7 +18,7 @@ use Rattle.file_store.specs.Store.{Store}
 use Rattle.ftl0_server.specs.Failures.{failed_reads}
 use Rattle.ftl0_server.specs.Table.{Row, State, row_at}
 use Rattle.ftl0_server.proofs.WorkingLemmas.{writes-unlisted}
-use Rattle.node_events.specs.Events.{NodeEvent, hears, ticks}
+use Rattle.node.specs.Events.{NodeEvent, hears, ticks}
 use Rattle.ftl0_server.specs.Connection.Connected.{Connected, caller_of}
 use Rattle.ftl0_server.specs.Connection.Hearing.{parts_as, parts_of_frame}
 use Rattle.ftl0_server.specs.Connection.Taking.{Progress, after_row, fits, giving_up, taking, taking_row}

@@ -7,7 +7,7 @@ use Rattle.ftl0_server.specs.Rows.{is_call}
 use Rattle.file_store.specs.Command.{Command, after_all}
 use Rattle.file_store.specs.Store.{Store}
 use Rattle.file_store.proofs.Offered.{after_all-append}
-use Rattle.node_events.specs.Events.{NodeEvent, hears, ticks}
+use Rattle.node.specs.Events.{NodeEvent, hears, ticks}
 use Rattle.ftl0_server.specs.Failures.{Failure, failed_reads}
 use Rattle.ftl0_server.specs.Server.{Refused, Server, ServerSends, called_by, hearing_at, hearing_by, hearing_stranger}
 use Rattle.ftl0_server.specs.Server.{refusing, sends_by, sends_of_places}

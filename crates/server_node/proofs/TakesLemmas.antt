@@ -12,7 +12,7 @@ use Rattle.ax25_frames.specs.FrameText.{FrameValue}
 use Rattle.file_store.specs.State.{StoreState}
 use Rattle.file_store.specs.Working.{CutsOffAmongReads, DoesAmongReads}
 use Rattle.file_store.proofs.Offered.{among-healthy, among-then, cuts-among-none, cuts-among-same, cuts-among-then, does-among, Does-none}
-use Rattle.node_events.specs.Events.{NodeEvent, tick_since, ticks}
+use Rattle.node.specs.Events.{NodeEvent, tick_since, ticks}
 use Rattle.ftl0_server.specs.Failures.{failed_reads, failed_write}
 use Rattle.ftl0_server.specs.ServerStop.{ServerStop}
 use Rattle.ftl0_server.specs.ServerStop.TheVariants as server_stop

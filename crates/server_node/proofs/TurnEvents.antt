@@ -5,7 +5,7 @@ use Rattle.px_base.specs.Polling.{octets_heard, octets_of_turn}
 use Rattle.px_base.specs.declared.air.Turn.{Turn}
 use Rattle.kiss.specs.KissText.{kiss_frames}
 use Rattle.ax25_frames.specs.FrameText.{FrameValue}
-use Rattle.node_events.specs.Events.{Finishes, FramesFor, NodeEvent, NodeEvents, TurnsBring, heard_at, tick_of}
+use Rattle.node.specs.Events.{Finishes, FramesFor, NodeEvent, NodeEvents, TurnsBring, heard_at, tick_of}
 use Rattle.server_node.specs.Node.{turn_events}
 use Rattle.server_node.proofs.Invariants.{last_in}
 

@@ -9,9 +9,9 @@ use Rattle.px_base.specs.declared.air.Polled.TheVariants as polled
 use Rattle.px_base.specs.declared.air.Turn.{Turn}
 use Rattle.px_base.specs.declared.air.Turn.TheVariants as turn
 use Rattle.disk_model.specs.declared.disk.Disk.{Ghosts}
-use Rattle.node_events.specs.Events.{NodeEvent, heard_at, tick_since}
-use Rattle.node_events.specs.Reading.{HasHeard}
-use Rattle.node_events.specs.Station.{StationValue}
+use Rattle.node.specs.Events.{NodeEvent, heard_at, tick_since}
+use Rattle.node.specs.Reading.{HasHeard}
+use Rattle.node.specs.Station.{StationValue}
 use Rattle.session_node.specs.declared.stop.NodeStop.{NodeStop}
 use Rattle.session_node.specs.declared.stop.NodeStop.TheVariants as stop
 use Rattle.server_node.specs.Node.{HearsOctets, IsUp, NodeState, Takes, TakesTurn, TurnEnds, turn_events}

@@ -17,8 +17,8 @@ use Rattle.file_store.specs.Command.{Command}
 use Rattle.file_store.specs.Working.{CutsOffAmongReads}
 use Rattle.file_store.proofs.Offered.{cuts-among-none, cuts-among-same, cuts-among-then}
 use Rattle.ftl0_server.proofs.OctetLemmas.{IsOctets-append}
-use Rattle.node_events.specs.Events.{Finishes, NodeEvent, NodeEvents}
-use Rattle.node_events.specs.Reading.{HasHeard}
+use Rattle.node.specs.Events.{Finishes, NodeEvent, NodeEvents}
+use Rattle.node.specs.Reading.{HasHeard}
 use Rattle.ftl0_server.specs.Server.{Server}
 use Rattle.session_node.specs.declared.stop.NodeStop.{NodeStop}
 use Rattle.session_node.specs.declared.stop.NodeStop.TheVariants as stop

@@ -15,9 +15,9 @@ use Rattle.ax25_frames.specs.FrameText.{FrameValue}
 use Rattle.file_store.specs.Command.{Command}
 use Rattle.file_store.specs.State.{StandsOn}
 use Rattle.file_store.specs.Working.{CutsOffAmongReads, DoesAmongReads}
-use Rattle.node_events.specs.Events.{Finishes, NodeEvent, heard_at, tick_of}
-use Rattle.node_events.specs.Reading.{HasHeard}
-use Rattle.node_events.specs.Station.{StationValue}
+use Rattle.node.specs.Events.{Finishes, NodeEvent, heard_at, tick_of}
+use Rattle.node.specs.Reading.{HasHeard}
+use Rattle.node.specs.Station.{StationValue}
 use Rattle.ftl0_server.specs.Server.{IsSilent, Server, settled}
 use Rattle.ftl0_server.specs.ServerState.{IsServer, ServerState, server_pending}
 use Rattle.ftl0_server.specs.ServerStep.{Empties}

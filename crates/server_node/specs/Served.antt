@@ -16,7 +16,7 @@ use Rattle.file_store.specs.Store.{Store}
 use Rattle.file_store.specs.State.{standing_of}
 use Rattle.file_store.specs.Working.{CountsSome, PutsAmongReads}
 use Rattle.ftl0_server.specs.Window.{window_of}
-use Rattle.node_events.specs.Events.{NodeEvent, NodeEvents}
+use Rattle.node.specs.Events.{NodeEvent, NodeEvents}
 use Rattle.ftl0_server.specs.Server.{Server, new_server}
 use Rattle.session_node.specs.declared.stop.NodeStop.{NodeStop}
 use Rattle.session_node.specs.declared.stop.NodeStop.TheVariants as stop

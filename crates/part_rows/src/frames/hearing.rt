@@ -1,7 +1,7 @@
 //! Rows of what a station hears.
 
 use anyhow::{Context, Result};
-use node_events::StationReader;
+use node::StationReader;
 use px_base::Call;
 use row_words::read_octets;
 use std::alloc::Global;

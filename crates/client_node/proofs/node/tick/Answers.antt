@@ -1,6 +1,6 @@
 -- A tick is counted where the moment isn't the last one's, and its frames are put.
 use Rattle.std.proofs.Common.{List, refl, sym, subst, Ok, Err}
-use Rattle.node_events.specs.Events.{NodeEvent}
+use Rattle.node.specs.Events.{NodeEvent}
 use Rattle.ftl0_client.specs.Client.{ticks}
 use Rattle.ftl0_client.proofs.KeptLemmas.{may-kept}
 use Rattle.client_node.specs.declared.stop.NodeStop.TheVariants as stop

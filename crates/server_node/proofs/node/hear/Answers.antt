@@ -1,6 +1,6 @@
 -- A frame that was heard is taken, and its frames are put; or it stops the node.
 use Rattle.ax25_frames.specs.Values.{value_of}
-use Rattle.node_events.specs.Events.{hears}
+use Rattle.node.specs.Events.{hears}
 use Rattle.server_node.specs.Serving.{failing}
 use Rattle.server_node.proofs.TakesLemmas.{event-failed, event-taken, event-unmade, event-unsaid, up-after}
 use Rattle.server_node.proofs.node.hear.Goals as goal

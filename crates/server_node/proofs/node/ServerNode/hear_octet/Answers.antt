@@ -2,7 +2,7 @@
 use Rattle.std.proofs.Common.{[], ◌∷◌, Ok, None, Some, subst, ◌∙◌, refl}
 use Rattle.px_base.specs.CallSign.{CallSign}
 use Rattle.ax25_frames.specs.Values.{value_of}
-use Rattle.node_events.specs.Events.{Finishes}
+use Rattle.node.specs.Events.{Finishes}
 use Rattle.server_node.specs.Node.{HearsAfter, IsUp, NodeState}
 use Rattle.server_node.proofs.HearingLemmas.{hears-so, is_true, no-frame, octet-heard, one-frame}
 use Rattle.server_node.proofs.TakesLemmas.{takes-none}

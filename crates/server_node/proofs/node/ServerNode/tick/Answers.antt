@@ -1,7 +1,7 @@
 -- A tick is counted where the moment isn't the last one's, and its frames are put.
 use Rattle.std.proofs.Common.{List, [], ◌∷◌, refl, sym, subst, Result, Ok}
 use Rattle.std.specs.Prelude.{OnOk, ⊤}
-use Rattle.node_events.specs.Events.{NodeEvent, ticks}
+use Rattle.node.specs.Events.{NodeEvent, ticks}
 use Rattle.session_node.specs.declared.stop.NodeStop.{NodeStop}
 use Rattle.server_node.specs.Node.{IsUp, NodeState, Takes}
 use Rattle.server_node.proofs.TakesLemmas.{event-taken, event-unsaid, takes-none, tick-none, tick-one, up-after}

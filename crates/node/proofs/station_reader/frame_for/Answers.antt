@@ -1,0 +1,13 @@
+-- A frame that isn't the station's own is passed over, and no other frame has its octets.
+use Rattle.std.proofs.Common.{refl, subst, sym}
+use Rattle.std.proofs.lemmas.Bool.{iff_false}
+use Rattle.ax25_frames.specs.FrameText.{FrameValue}
+use Rattle.node.specs.Events.{IsFor}
+use Rattle.node.proofs.station_reader.frame_for.Goals as goal
+
+pub returns-in_default-clause-found : goal.returns-in_default-clause-found
+returns-in_default-clause-found c = λ frame text own. c.in_default.ensures.only frame text
+
+pub returns-then-not-is_for-clause-found : goal.returns-then-not-is_for-clause-found
+returns-then-not-is_for-clause-found c =
+    λ frame text own. iff_false c.if-not-is_for.ensures refl (subst (λ (v : FrameValue). IsFor c.args.me v) (sym (c.in-Ok.ensures.only frame text)) own)

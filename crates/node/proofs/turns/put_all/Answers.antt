@@ -1,0 +1,26 @@
+-- Each text is put, and one that can't be ends it.
+use Rattle.std.proofs.Common.{List, ℕ, subst}
+use Rattle.px_base.specs.Outside.{Gains, GainsPrefix}
+use Rattle.node.specs.Course.{at}
+use Rattle.node.specs.Turns.{SaysAll}
+use Rattle.node.proofs.SayingLemmas.{at_exit, says-all, says-failed, saying-more, saying-none}
+use Rattle.node.proofs.turns.put_all.Goals as goal
+
+pub loop-text-init : goal.loop-text-init
+loop-text-init g c = saying-none g.P.Party.course g.A.Air c.args.air.now (at c.args.party.now c.args.disk.now)
+
+pub loop-text-preserved : goal.loop-text-preserved
+loop-text-preserved g c =
+    let put = c.in_ok-put.ensures in
+    saying-more g.P.Party.course g.A.Air c.args.air.now c.loop-text.air (at c.args.party.now c.args.disk.now) (at c.loop-text.party c.loop-text.disk) c.loop-text.invariant
+    c.put.new.self (at c.next_out.new.self c.next_out.new.disk) _ (c.next_out.ensures.next c.loop-text-test.true)
+    (subst (λ (t : List ℕ). Gains (g.A.Air.said c.loop-text.air) (g.A.Air.said c.put.new.self) t) c.deref.ensures.0 put.ok) put.heard put.read_faults put.write_faults.same
+
+pub returns-in_err-put : goal.returns-in_err-put
+returns-in_err-put g c =
+    let put = c.in_err-put.ensures in
+    at_exit (λ r. SaysAll g.P.Party.course g.A.Air c.args.air.now c.put.new.self (at c.args.party.now c.args.disk.now) (at c.next_out.new.self c.next_out.new.disk) r)
+    c.from_residual.result c.in_err-put.field-0.0 c.from_residual.ensures.1
+    (says-failed g.P.Party.course g.A.Air c.args.air.now c.loop-text.air (at c.args.party.now c.args.disk.now) (at c.loop-text.party c.loop-text.disk) c.loop-text.invariant
+    c.put.new.self (at c.next_out.new.self c.next_out.new.disk) _ c.in_err-put.field-0.0 (c.next_out.ensures.next c.loop-text-test.true)
+    (subst (λ (t : List ℕ). GainsPrefix (g.A.Air.said c.loop-text.air) (g.A.Air.said c.put.new.self) t) c.deref.ensures.0 put.err) put.heard put.read_faults put.write_faults)

@@ -1,0 +1,73 @@
+-- The loop over turns.
+use Rattle.std.proofs.Common.{Ok, Err, false, true, refl, subst, sym, arith}
+use Rattle.node.specs.Inputs.{turn_inputs}
+use Rattle.node.specs.Turns.{TookTurn, TookTurns, lent, party_at}
+use Rattle.node.specs.declared.stop.NodeStop.TheVariants as stop
+use Rattle.node.proofs.SayingLemmas.{at_exit}
+use Rattle.node.proofs.TurnsLemmas.{turns-closed, turns-more, turns-over, turns-spent, turns-start, turns-stopped, turns-unsaid}
+use Rattle.node.proofs.turns.take_turns.Goals as goal
+
+pub loop-turn-init : goal.loop-turn-init
+loop-turn-init g c =
+    turns-start g.P.Party.course g.A.Air g.C.Clock.given (lent c.args.party.now c.args.disk.now c.args.air.now c.args.clock.now) c.args.terms.now
+    (lent c.put_all.new.party c.put_all.new.disk c.put_all.new.air c.args.clock.now) refl c.requires c.in_ok-put_all.ensures
+
+pub returns-in_err-put_all : goal.returns-in_err-put_all
+returns-in_err-put_all g c =
+    let old = lent c.args.party.now c.args.disk.now c.args.air.now c.args.clock.now in
+    let now = lent c.put_all.new.party c.put_all.new.disk c.put_all.new.air c.args.clock.now in
+    at_exit (λ r. TookTurns g.P.Party.course g.A.Air g.C.Clock.given old now c.args.terms.now r) c.from_residual.result stop.AirWrite c.from_residual.ensures.1
+    (turns-unsaid g.P.Party.course g.A.Air g.C.Clock.given old c.args.terms.now now refl c.requires c.in_err-put_all.field-0.0 c.in_err-put_all.ensures)
+
+pub returns-then-is_over : goal.returns-then-is_over
+returns-then-is_over g c =
+    turns-over g.P.Party.course g.A.Air g.C.Clock.given (lent c.args.party.now c.args.disk.now c.args.air.now c.args.clock.now) c.args.terms.now
+    (lent c.loop-turn.party c.loop-turn.disk c.loop-turn.air c.loop-turn.clock) c.loop-turn.last c.loop-turn.turn c.loop-turn.invariant (sym c.if-is_over.ensures) c.loop-turn.auto.turn-end
+
+pub take_turn-requires : goal.take_turn-requires
+take_turn-requires g c = c.loop-turn.invariant.fit
+
+pub returns-in_err-take_turn : goal.returns-in_err-take_turn
+returns-in_err-take_turn g c =
+    let old = lent c.args.party.now c.args.disk.now c.args.air.now c.args.clock.now in
+    let mid = lent c.loop-turn.party c.loop-turn.disk c.loop-turn.air c.loop-turn.clock in
+    let now = lent c.take_turn.new.party c.take_turn.new.disk c.take_turn.new.air c.moment_of_turn-moment.new.clock in
+    let moment = c.moment_of_turn-moment.result in
+    let why = c.in_err-take_turn.field-0.0 in
+    at_exit (λ r. TookTurns g.P.Party.course g.A.Air g.C.Clock.given old now c.args.terms.now r) (c.from_residual-in_err-take_turn).result why (c.from_residual-in_err-take_turn).ensures.1
+    (turns-stopped g.P.Party.course g.A.Air g.C.Clock.given old c.args.terms.now mid c.loop-turn.last c.loop-turn.turn c.loop-turn.invariant c.is_lawful.ensures (sym c.if-is_over.ensures)
+    c.loop-turn-test.true moment now c.moment_of_turn-moment.ensures why
+    (subst (λ n. TookTurn g.P.Party.course g.A.Air mid.air now.air (party_at mid) (party_at now) (λ next. turn_inputs next n moment) (Err why)) c.unwrap_or.ensures c.in_err-take_turn.ensures))
+
+pub returns-then-not-branch : goal.returns-then-not-branch
+returns-then-not-branch g c =
+    let old = lent c.args.party.now c.args.disk.now c.args.air.now c.args.clock.now in
+    let mid = lent c.loop-turn.party c.loop-turn.disk c.loop-turn.air c.loop-turn.clock in
+    let now = lent c.take_turn.new.party c.take_turn.new.disk c.take_turn.new.air c.moment_of_turn-moment.new.clock in
+    let moment = c.moment_of_turn-moment.result in
+    turns-closed g.P.Party.course g.A.Air g.C.Clock.given old c.args.terms.now mid c.loop-turn.last c.loop-turn.turn c.loop-turn.invariant c.is_lawful.ensures (sym c.if-is_over.ensures)
+    c.loop-turn-test.true moment now c.moment_of_turn-moment.ensures
+    (subst (λ n. TookTurn g.P.Party.course g.A.Air mid.air now.air (party_at mid) (party_at now) (λ next. turn_inputs next n moment) (Ok false)) c.unwrap_or.ensures
+    (subst (λ b. TookTurn g.P.Party.course g.A.Air mid.air now.air (party_at mid) (party_at now) (λ next. turn_inputs next c.unwrap_or.result moment) (Ok b)) c.if-not-branch.true c.in_ok-take_turn.ensures))
+
+pub loop-turn-preserved : goal.loop-turn-preserved
+loop-turn-preserved g c =
+    let old = lent c.args.party.now c.args.disk.now c.args.air.now c.args.clock.now in
+    let mid = lent c.loop-turn.party c.loop-turn.disk c.loop-turn.air c.loop-turn.clock in
+    let now = lent c.take_turn.new.party c.take_turn.new.disk c.take_turn.new.air c.moment_of_turn-moment.new.clock in
+    let moment = c.moment_of_turn-moment.result in
+    turns-more g.P.Party.course g.A.Air g.C.Clock.given old c.args.terms.now mid c.loop-turn.last c.loop-turn.turn c.loop-turn.invariant c.is_lawful.ensures (sym c.if-is_over.ensures)
+    c.loop-turn-test.true moment now c.moment_of_turn-moment.ensures
+    (subst (λ n. TookTurn g.P.Party.course g.A.Air mid.air now.air (party_at mid) (party_at now) (λ next. turn_inputs next n moment) (Ok true)) c.unwrap_or.ensures
+    (subst (λ b. TookTurn g.P.Party.course g.A.Air mid.air now.air (party_at mid) (party_at now) (λ next. turn_inputs next c.unwrap_or.result moment) (Ok b)) c.if-not-branch.false c.in_ok-take_turn.ensures))
+
+pub returns-then-is_over-2 : goal.returns-then-is_over-2
+returns-then-is_over-2 g c =
+    turns-over g.P.Party.course g.A.Air g.C.Clock.given (lent c.args.party.now c.args.disk.now c.args.air.now c.args.clock.now) c.args.terms.now
+    (lent c.loop-turn.party c.loop-turn.disk c.loop-turn.air c.loop-turn.clock) c.loop-turn.last c.loop-turn.turn c.loop-turn.invariant (sym (c.if-is_over-2).ensures) c.loop-turn.auto.turn-end
+
+pub returns-else-is_over-2 : goal.returns-else-is_over-2
+returns-else-is_over-2 g c =
+    turns-spent g.P.Party.course g.A.Air g.C.Clock.given (lent c.args.party.now c.args.disk.now c.args.air.now c.args.clock.now) c.args.terms.now
+    (lent c.loop-turn.party c.loop-turn.disk c.loop-turn.air c.loop-turn.clock) c.loop-turn.last c.loop-turn.turn c.loop-turn.invariant (sym (c.if-is_over-2).ensures)
+    (omega (arith, c.loop-turn.auto.turn-end, c.loop-turn-test.false))

@@ -1,0 +1,18 @@
+-- Saying what the party gives ends it.
+use Rattle.std.proofs.Common.{List, [], None, subst}
+use Rattle.node.specs.Course.{at}
+use Rattle.node.specs.Inputs.{Input, tick_after}
+use Rattle.node.proofs.InputLemmas.{tick-there}
+use Rattle.node.specs.Turns.{Takes}
+use Rattle.node.specs.declared.stop.NodeStop.TheVariants as stop
+use Rattle.node.proofs.SayingLemmas.{at_exit, taken-unsaid}
+use Rattle.node.proofs.turns.tick.Goals as goal
+
+pub returns-in_err-put_all : goal.returns-in_err-put_all
+returns-in_err-put_all g c =
+    at_exit (λ r. Takes g.P.Party.course g.A.Air c.args.air.now c.put_all.new.air (at c.args.party.now c.args.disk.now) (at c.put_all.new.party c.put_all.new.disk) (tick_after c.args.last c.args.moment) r)
+    c.from_residual.result stop.AirWrite c.from_residual.ensures.1
+    (taken-unsaid g.P.Party.course g.A.Air c.args.air.now c.put_all.new.air (at c.args.party.now c.args.disk.now) (at c.tick.new.self c.tick.new.disk) (at c.put_all.new.party c.put_all.new.disk)
+    (tick_after c.args.last c.args.moment) c.in_err-put_all.field-0.0
+    (subst (λ (is : List Input). g.P.Party.course.owes (at c.args.party.now c.args.disk.now) is None [] (at c.tick.new.self c.tick.new.disk)) (tick-there c.args.last c.args.moment c.if-moment-last.false)
+    c.tick.ensures) c.in_err-put_all.ensures)

@@ -1,0 +1,10 @@
+//! How a node's turns finish.
+
+/// How a node's turns finished.
+#[derive(Clone, Copy, Debug, PartialEq, Eq)]
+pub enum Finished {
+    /// The party was over, and no further turn was taken.
+    Over,
+    /// The end of the air was read, in this turn, counted from 1.
+    Closed(u64),
+}

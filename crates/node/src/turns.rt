@@ -1,0 +1,186 @@
+//! The turns of a node: octets in from the air, texts out to it, and the clock's moments.
+
+ghost use Rattle.std.specs.Prelude.{◌≡◌, ◌<◌, ◌≤◌, [], ◌∷◌, length, None, OnErr, OnOk};
+ghost use Rattle.px_base.specs.Moments.{MomentsOf};
+ghost use Rattle.node.specs.Course.{at};
+ghost use Rattle.node.specs.Inputs.{octets_at, tick_after, turn_inputs};
+ghost use Rattle.node.specs.Turns.{IsMomentOf, SaysAll, Takes, TakesPiece, TookTurn, TookTurns, lent};
+
+use crate::{Finished, NodeStop, Party, TurnTerms};
+use arrayvec::ArrayVec;
+use disk_model::Disk;
+use px_base::{Air, AirDown, Clock, Polled, ROOM};
+
+/// Says what the party has to give, and takes turns until it is over, or up to the end of the air, or as many polls as may
+/// be made. A turn takes its moment, and then one poll. The octets are handed to the party, from their front on, as far as
+/// they finish something, and what it then gives is said, each text by one put, before the next octet is handed over.
+/// Then, where the moment isn't the one of the turn before, there is one tick, and what the party then gives is said. A
+/// turn is whole: only between turns it is looked at whether the party is over.
+///
+/// An error: `AirRead` where a poll failed and the air's count of those rose, `AirWrite` where a put failed and its count
+/// rose, and `Spent` where as many polls were made as may be. Where the party halts, what it still gives is said, whatever
+/// becomes of that, and the error is `Disk` or `OutOfMemory`.
+pub fn take_turns<D: Disk, P: Party<D>, A: Air, C: Clock>(
+    party: &mut P,
+    disk: &mut D,
+    air: &mut A,
+    clock: &mut C,
+    terms: &TurnTerms,
+) -> Result<Finished, NodeStop>
+    requires { P.course.owes (at party.old disk.old) [] None [] (at party.old disk.old) }
+    ensures { TookTurns P.course A.Air C.given (lent party.old disk.old air.old clock.old)
+        (lent party.new disk.new air.new clock.new) terms.now result }
+{
+    P::is_lawful();
+    put_all(party, disk, air)?;
+    let mut room = [0; ROOM];
+    let mut last = None;
+    for turn in 0..terms.polls {
+        if party.is_over() {
+            return Ok(Finished::Over);
+        }
+        let moment = moment_of_turn(turn, terms, clock);
+        if !take_turn(party, disk, air, &mut room, moment, last.unwrap_or(moment))? {
+            return Ok(Finished::Closed(turn + 1));
+        }
+        last = Some(moment);
+    }
+    if party.is_over() {
+        Ok(Finished::Over)
+    } else {
+        Err(NodeStop::Spent)
+    }
+}
+
+/// The moment of this turn, counted from 0: the first one's may have been taken before.
+fn moment_of_turn<C: Clock>(turn: u64, terms: &TurnTerms, clock: &mut C) -> u32
+    ensures { IsMomentOf turn terms.now (C.given clock.old) (C.given clock.new) result }
+{
+    match terms.first {
+        Some(first) if turn == 0 => first,
+        _ => moment_given(terms.given, clock),
+    }
+}
+
+/// The moment of a turn: the one that is given, or the clock's.
+fn moment_given<C: Clock>(given: Option<u32>, clock: &mut C) -> u32
+    ensures { MomentsOf given (C.given clock.old) (C.given clock.new) (result ∷ []) }
+{
+    match given {
+        Some(moment) => moment,
+        None => clock.now(),
+    }
+}
+
+/// Takes one turn at this moment: a poll, what it hands over, and a tick where the last one was at another moment. It is
+/// false where the poll read the end of the air.
+fn take_turn<D: Disk, P: Party<D>, A: Air>(
+    party: &mut P,
+    disk: &mut D,
+    air: &mut A,
+    room: &mut [u8; ROOM],
+    moment: u32,
+    last: u32,
+) -> Result<bool, NodeStop>
+    requires { P.course.is_fit (at party.old disk.old) }
+    ensures { TookTurn P.course A.Air air.old air.new (at party.old disk.old) (at party.new disk.new)
+        (λ next. turn_inputs next last moment) result }
+{
+    P::is_lawful();
+    match air.poll(room) {
+        Ok(Polled::Bytes(count)) => {
+            hear_octets(party, disk, air, &room[..count], moment)?;
+            tick(party, disk, air, moment, last)?;
+            Ok(true)
+        }
+        Ok(Polled::Quiet) => {
+            tick(party, disk, air, moment, last)?;
+            Ok(true)
+        }
+        Ok(Polled::End) => Ok(false),
+        Err(_down) => Err(NodeStop::AirRead),
+    }
+}
+
+/// Hands octets that were heard to the party, and says what it gives.
+fn hear_octets<D: Disk, P: Party<D>, A: Air>(
+    party: &mut P,
+    disk: &mut D,
+    air: &mut A,
+    octets: &[u8],
+    moment: u32,
+) -> Result<(), NodeStop>
+    requires { P.course.is_fit (at party.old disk.old) }
+    ensures { Takes P.course A.Air air.old air.new (at party.old disk.old) (at party.new disk.new)
+        (octets_at moment octets.now) result }
+{
+    P::is_lawful();
+    let mut piece = octets;
+    while !piece.is_empty() {
+        let taken = hear_piece(party, disk, air, piece, moment)?;
+        piece = piece.split_at(taken).1;
+    }
+    Ok(())
+}
+
+/// Hands octets to the party, from the front of the piece, says what it gives, and tells how many it took.
+fn hear_piece<D: Disk, P: Party<D>, A: Air>(
+    party: &mut P,
+    disk: &mut D,
+    air: &mut A,
+    piece: &[u8],
+    moment: u32,
+) -> Result<usize, NodeStop>
+    requires some { 0 < length piece.now }
+    requires fit { P.course.is_fit (at party.old disk.old) }
+    ensures { TakesPiece P.course A.Air air.old air.new (at party.old disk.old) (at party.new disk.new)
+        (octets_at moment) piece.now result }
+{
+    match party.hear(disk, piece, moment) {
+        Ok(taken) => {
+            put_all(party, disk, air)?;
+            Ok(taken)
+        }
+        Err(why) => {
+            // What it halts by is the answer, whatever becomes of saying the rest.
+            let _ = put_all(party, disk, air);
+            Err(NodeStop::from(why))
+        }
+    }
+}
+
+/// Hands over a tick where the last one was at another moment, and says what the party gives.
+fn tick<D: Disk, P: Party<D>, A: Air>(
+    party: &mut P,
+    disk: &mut D,
+    air: &mut A,
+    moment: u32,
+    last: u32,
+) -> Result<(), NodeStop>
+    requires { P.course.is_fit (at party.old disk.old) }
+    ensures { Takes P.course A.Air air.old air.new (at party.old disk.old) (at party.new disk.new)
+        (tick_after last moment) result }
+{
+    P::is_lawful();
+    if moment == last {
+        return Ok(());
+    }
+    party.tick(disk, moment);
+    put_all(party, disk, air)?;
+    Ok(())
+}
+
+/// Says all that the party has to give, each text by one put.
+fn put_all<D: Disk, P: Party<D>, A: Air>(
+    party: &mut P,
+    disk: &mut D,
+    air: &mut A,
+) -> Result<(), AirDown>
+    ensures { SaysAll P.course A.Air air.old air.new (at party.old disk.old) (at party.new disk.new) result }
+{
+    let mut text = ArrayVec::new();
+    while party.next_out(disk, &mut text) {
+        air.put(&text)?;
+    }
+    Ok(())
+}

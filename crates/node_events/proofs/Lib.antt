@@ -1,3 +1,0 @@
-mod EventLemmas
-mod Found
-mod SomeFrames

@@ -1,4 +1,0 @@
-pub mod Events
-pub mod Station
-pub mod Reading
-pub mod Laws
