@@ -218,9 +218,9 @@ module _ {P D A C : Type 0} (course : Course P D Input) (air : AirGhosts A) (giv
     pub turns-spent : course.is_over mid.party ≡ false → count ≡ terms.polls → Took mid (Err stop.Spent)
     turns-spent not_over bound = between (Err stop.Spent) false not_over (omega (arith, bound)) (h.counted ∙ bound, h.all_open) (h.reads, h.writes) (λ all. all)
 
-    module _ (lawful : IsLawful course IsInput) (not_over : course.is_over mid.party ≡ false) (below : count < terms.polls) (moment : ℕ) (now : Lent P D A C)
+    module _ (lawful : IsLawful course IsInput) (not_over : course.is_over mid.party ≡ false) (below : count < terms.polls) (moment before : ℕ) (before_is : before ≡ unwrap_or last moment) (now : Lent P D A C)
         (next_moment : NextMoment count terms.first terms.given (given mid.clock) (given now.clock) moment) where
-      module _ (result : Result Bool NodeStop) (turned : TookTurn course air mid.air now.air (party_at mid) (party_at now) (λ next. turn_inputs next (unwrap_or last moment) moment) result) where
+      module _ (result : Result Bool NodeStop) (turned : TookTurn course air mid.air now.air (party_at mid) (party_at now) (λ next. turn_inputs next before moment) result) where
         abbrev turns_n : List Turn
         turns_n = h.turns ++ turned.next ∷ []
 
@@ -228,12 +228,12 @@ module _ {P D A C : Type 0} (course : Course P D Input) (air : AirGhosts A) (giv
         moments_n = h.moments ++ moment ∷ []
 
         abbrev more : List Input
-        more = turn_inputs turned.next (unwrap_or last moment) moment
+        more = turn_inputs turned.next before moment
 
         inputs_n : inputs_of turns_n moments_n ≡ inputs_of h.turns h.moments ++ more
         inputs_n =
             inputs-turn h.turns h.moments turned.next moment h.one_each
-            ∙ ap (λ (o : Option ℕ). inputs_of h.turns h.moments ++ turn_inputs turned.next (unwrap_or o moment) moment) (sym h.last_is)
+            ∙ ap (λ n. inputs_of h.turns h.moments ++ turn_inputs turned.next n moment) (ap (λ (o : Option ℕ). unwrap_or o moment) (sym h.last_is) ∙ sym before_is)
 
         counted_n : length turns_n ≡ count + 1
         counted_n = length-append h.turns (turned.next ∷ []) ∙ ap (λ n. n + 1) h.counted
@@ -302,8 +302,9 @@ module _ {P D A C : Type 0} (course : Course P D Input) (air : AirGhosts A) (giv
         }
 
       -- an open turn more
-      pub turns-more : TookTurn course air mid.air now.air (party_at mid) (party_at now) (λ next. turn_inputs next (unwrap_or last moment) moment) (Ok true) → Turning now (Some moment) (count + 1)
-      turns-more turned =
+      pub turns-more : (open_is : Bool) → open_is ≡ true → TookTurn course air mid.air now.air (party_at mid) (party_at now) (λ next. turn_inputs next before moment) (Ok open_is) → Turning now (Some moment) (count + 1)
+      turns-more open_is is_true taken =
+          let turned = subst (λ b. TookTurn course air mid.air now.air (party_at mid) (party_at now) (λ next. turn_inputs next before moment) (Ok b)) is_true taken in
           let takes = turned.ends.1 in
           record {
             turns = turns_n (Ok true) turned;
@@ -324,22 +325,23 @@ module _ {P D A C : Type 0} (course : Course P D Input) (air : AirGhosts A) (giv
           }
 
       -- a turn that isn't an open one leaves the party as it was
-      still-open : (result : Result Bool NodeStop) (turned : TookTurn course air mid.air now.air (party_at mid) (party_at now) (λ next. turn_inputs next (unwrap_or last moment) moment) result) (end : Turn) → turned.next ≡ end
+      still-open : (result : Result Bool NodeStop) (turned : TookTurn course air mid.air now.air (party_at mid) (party_at now) (λ next. turn_inputs next before moment) result) (end : Turn) → turned.next ≡ end
           → ¬ IsOpen end → course.is_over now.party ≡ false
       still-open result turned end is not_open =
           ap (λ (a : AtDisk P D). course.is_over a.it) (turned.same (subst (λ (t : Turn). ¬ IsOpen t) (sym is) not_open)) ∙ not_over
 
       -- the end of the air
-      pub turns-closed : TookTurn course air mid.air now.air (party_at mid) (party_at now) (λ next. turn_inputs next (unwrap_or last moment) moment) (Ok false)
+      pub turns-closed : (open_is : Bool) → open_is ≡ false → TookTurn course air mid.air now.air (party_at mid) (party_at now) (λ next. turn_inputs next before moment) (Ok open_is)
           → Took now (Ok (finished.Closed (count + 1)))
-      turns-closed turned =
+      turns-closed open_is is_false taken =
+          let turned = subst (λ b. TookTurn course air mid.air now.air (party_at mid) (party_at now) (λ next. turn_inputs next before moment) (Ok b)) is_false taken in
           let takes = turned.ends.1 in
           within (Ok false) turned (Ok (finished.Closed (count + 1))) (Ok tt) takes ((h.turns, ap (λ t. h.turns ++ t ∷ []) turned.ends.0, h.all_open), sym (counted_n (Ok false) turned))
           (turned.counts.0 ∙ h.reads, turned.counts.1 ∙ h.writes) (goes_n (Ok false) turned takes, takes.ends.1, still-open (Ok false) turned turn.End turned.ends.0 (λ n. n))
 
       -- a stop
       pub turns-stopped : (why : NodeStop)
-          → TookTurn course air mid.air now.air (party_at mid) (party_at now) (λ next. turn_inputs next (unwrap_or last moment) moment) (Err why) → Took now (Err why)
+          → TookTurn course air mid.air now.air (party_at mid) (party_at now) (λ next. turn_inputs next before moment) (Err why) → Took now (Err why)
       turns-stopped stop.AirRead turned =
           let takes = turned.ends.1 in
           within (Err stop.AirRead) turned (Err stop.AirRead) (Ok tt) takes (h.turns, ap (λ t. h.turns ++ t ∷ []) turned.ends.0, h.all_open)

@@ -1,7 +1,6 @@
 -- The loop over turns.
-use Rattle.std.proofs.Common.{Ok, Err, false, true, refl, subst, sym, arith}
-use Rattle.node.specs.Inputs.{turn_inputs}
-use Rattle.node.specs.Turns.{TookTurn, TookTurns, lent, party_at}
+use Rattle.std.proofs.Common.{Err, refl, sym, arith}
+use Rattle.node.specs.Turns.{TookTurns, lent}
 use Rattle.node.specs.declared.stop.NodeStop.TheVariants as stop
 use Rattle.node.proofs.SayingLemmas.{at_exit}
 use Rattle.node.proofs.TurnsLemmas.{turns-closed, turns-more, turns-over, turns-spent, turns-start, turns-stopped, turns-unsaid}
@@ -36,8 +35,7 @@ returns-in_err-take_turn g c =
     let why = c.in_err-take_turn.field-0.0 in
     at_exit (λ r. TookTurns g.P.Party.course g.A.Air g.C.Clock.given old now c.args.terms.now r) (c.from_residual-in_err-take_turn).result why (c.from_residual-in_err-take_turn).ensures.1
     (turns-stopped g.P.Party.course g.A.Air g.C.Clock.given old c.args.terms.now mid c.loop-turn.last c.loop-turn.turn c.loop-turn.invariant c.is_lawful.ensures (sym c.if-is_over.ensures)
-    c.loop-turn-test.true moment now c.moment_of_turn-moment.ensures why
-    (subst (λ n. TookTurn g.P.Party.course g.A.Air mid.air now.air (party_at mid) (party_at now) (λ next. turn_inputs next n moment) (Err why)) c.unwrap_or.ensures c.in_err-take_turn.ensures))
+    c.loop-turn-test.true moment c.unwrap_or.result c.unwrap_or.ensures now c.moment_of_turn-moment.ensures why c.in_err-take_turn.ensures)
 
 pub returns-then-not-branch : goal.returns-then-not-branch
 returns-then-not-branch g c =
@@ -46,9 +44,7 @@ returns-then-not-branch g c =
     let now = lent c.take_turn.new.party c.take_turn.new.disk c.take_turn.new.air c.moment_of_turn-moment.new.clock in
     let moment = c.moment_of_turn-moment.result in
     turns-closed g.P.Party.course g.A.Air g.C.Clock.given old c.args.terms.now mid c.loop-turn.last c.loop-turn.turn c.loop-turn.invariant c.is_lawful.ensures (sym c.if-is_over.ensures)
-    c.loop-turn-test.true moment now c.moment_of_turn-moment.ensures
-    (subst (λ n. TookTurn g.P.Party.course g.A.Air mid.air now.air (party_at mid) (party_at now) (λ next. turn_inputs next n moment) (Ok false)) c.unwrap_or.ensures
-    (subst (λ b. TookTurn g.P.Party.course g.A.Air mid.air now.air (party_at mid) (party_at now) (λ next. turn_inputs next c.unwrap_or.result moment) (Ok b)) c.if-not-branch.true c.in_ok-take_turn.ensures))
+    c.loop-turn-test.true moment c.unwrap_or.result c.unwrap_or.ensures now c.moment_of_turn-moment.ensures c.in_ok-take_turn.field-0 c.if-not-branch.true c.in_ok-take_turn.ensures
 
 pub loop-turn-preserved : goal.loop-turn-preserved
 loop-turn-preserved g c =
@@ -57,9 +53,7 @@ loop-turn-preserved g c =
     let now = lent c.take_turn.new.party c.take_turn.new.disk c.take_turn.new.air c.moment_of_turn-moment.new.clock in
     let moment = c.moment_of_turn-moment.result in
     turns-more g.P.Party.course g.A.Air g.C.Clock.given old c.args.terms.now mid c.loop-turn.last c.loop-turn.turn c.loop-turn.invariant c.is_lawful.ensures (sym c.if-is_over.ensures)
-    c.loop-turn-test.true moment now c.moment_of_turn-moment.ensures
-    (subst (λ n. TookTurn g.P.Party.course g.A.Air mid.air now.air (party_at mid) (party_at now) (λ next. turn_inputs next n moment) (Ok true)) c.unwrap_or.ensures
-    (subst (λ b. TookTurn g.P.Party.course g.A.Air mid.air now.air (party_at mid) (party_at now) (λ next. turn_inputs next c.unwrap_or.result moment) (Ok b)) c.if-not-branch.false c.in_ok-take_turn.ensures))
+    c.loop-turn-test.true moment c.unwrap_or.result c.unwrap_or.ensures now c.moment_of_turn-moment.ensures c.in_ok-take_turn.field-0 c.if-not-branch.false c.in_ok-take_turn.ensures
 
 pub returns-then-is_over-2 : goal.returns-then-is_over-2
 returns-then-is_over-2 g c =
