@@ -7,7 +7,7 @@ use Rattle.px_base.specs.declared.air.Air.{Ghosts as AirGhosts}
 use Rattle.px_base.specs.declared.air.Turn.{Turn}
 use Rattle.node.specs.Course.{AtDisk, Course}
 use Rattle.node.specs.Inputs.{Input, inputs_of}
-use Rattle.node.specs.Turns.{IsOpenBefore, Lent, MomentsTaken, party_at}
+use Rattle.node.specs.Turns.{AreHandedOver, IsOpenBefore, Lent, MomentsTaken, party_at}
 use Rattle.node.specs.declared.halt.Halt.{Halt}
 use Rattle.node.specs.declared.terms.TurnTerms.{TurnTerms}
 
@@ -40,6 +40,6 @@ pub record IsTurning {P D A C : Type 0} (course : Course P D Input) (air : AirGh
   pub last_is : last ≡ last_in moments
   pub goes : course.goes (party_at old) (inputs_of turns moments) text (party_at new)
   pub fit : course.is_fit (party_at new)
-  pub open_before : IsOpenBefore course (party_at old) turns moments
+  pub open_before : IsOpenBefore AreHandedOver course (party_at old) turns moments
   pub reads : air.read_faults new.air ≡ air.read_faults old.air
   pub writes : air.write_faults new.air ≡ air.write_faults old.air

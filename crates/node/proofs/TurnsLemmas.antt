@@ -13,7 +13,7 @@ use Rattle.px_base.specs.declared.air.Turn.TheVariants as turn
 use Rattle.px_base.proofs.Told.{Gains-trans, Grows-none, Grows-trans}
 use Rattle.node.specs.Course.{AtDisk, Course, IsLawful}
 use Rattle.node.specs.Inputs.{Input, IsInput, inputs_of, turn_inputs}
-use Rattle.node.specs.Turns.{HasAirCause, IsOpenBefore, IsUnsaid, Lent, MomentsFrom, MomentsTaken, NextMoment, RanBy, SaysAll, StoppedInLast, Takes, TookAll, TookTurn, TookTurns, TurnsBy, party_at}
+use Rattle.node.specs.Turns.{AreHandedOver, Brought, HasAirCause, IsOpenBefore, IsUnsaid, Lent, MomentsFrom, MomentsTaken, NextMoment, RanBy, SaysAll, StoppedInLast, Takes, TookAll, TookTurn, TookTurns, TurnsBy, party_at}
 use Rattle.node.specs.declared.finished.Finished.{Finished}
 use Rattle.node.specs.declared.finished.Finished.TheVariants as finished
 use Rattle.node.specs.declared.stop.NodeStop.{NodeStop}
@@ -109,19 +109,21 @@ taken-more (Some first) given a m n moments moment (suc count) counted (inr h) k
 -- ---- turns
 
 module _ {P D : Type 0} (course : Course P D Input) (start : AtDisk P D) where
-  open-none : IsOpenBefore course start [] []
+  open-none : IsOpenBefore AreHandedOver course start [] []
   open-none earlier next later before behind split = absurd (no-split earlier next later split)
 
   -- one turn more, before which the party wasn't over
   open-more : (turns : List Turn) (moments : List ℕ) (next : Turn) (moment : ℕ) (text : List ℕ) (now : AtDisk P D) → length moments ≡ length turns → course.goes start (inputs_of turns moments) text now
-      → course.is_over now.it ≡ false → IsOpenBefore course start turns moments → IsOpenBefore course start (turns ++ next ∷ []) (moments ++ moment ∷ [])
+      → course.is_over now.it ≡ false → IsOpenBefore AreHandedOver course start turns moments → IsOpenBefore AreHandedOver course start (turns ++ next ∷ []) (moments ++ moment ∷ [])
   open-more turns moments next moment text now one_each goes not_over open_before earlier other later before behind split moments_split same_length =
       elim (split-last turns next earlier other later split) [
         | inl same ↦
             let at_end : before ≡ moments = same-front moments (moment ∷ []) before behind moments_split (same_length ∙ ap (λ (ts : List Turn). length ts) (sym same) ∙ sym one_each) in (
+              inputs_of turns moments,
+              ap (λ (ts : List Turn). inputs_of ts moments) same ∙ ap (λ (ms : List ℕ). inputs_of earlier ms) (sym at_end),
               text,
               now,
-              subst (λ (ts : List Turn). course.goes start (inputs_of ts before) text now) same (subst (λ (ms : List ℕ). course.goes start (inputs_of turns ms) text now) (sym at_end) goes),
+              goes,
               not_over,
             )
         | inr more ↦
@@ -135,7 +137,7 @@ module _ {P D A C : Type 0} (course : Course P D Input) (air : AirGhosts A) (giv
   Turning now last count = IsTurning course air given old now terms last count
 
   abbrev Took : Lent P D A C → Result Finished NodeStop → Type 0
-  Took now result = TookTurns course air given old now terms result
+  Took now result = TookTurns AreHandedOver course air given old now terms result
 
   module _ (now : Lent P D A C) (same_clock : now.clock ≡ old.clock) (owes : course.owes (party_at old) [] None [] (party_at old)) where
     given_none : MomentsTaken terms (given old.clock) (given now.clock) []
@@ -164,13 +166,13 @@ module _ {P D A C : Type 0} (course : Course P D Input) (air : AirGhosts A) (giv
     -- what there was to say before it could not be said
     pub turns-unsaid : (down : AirDown) → SaysAll course air old.air now.air (party_at old) (party_at now) (Err down) → Took now (Err stop.AirWrite)
     turns-unsaid down says = record {
-      turns = [];
-      moments = [];
+      all = record { turns = []; moments = []; events = [] };
       text = says.text;
       turns_heard = subst (λ o. HearsAll (air.heard old.air) o []) (sym says.heard) (Grows-none (air.heard old.air));
       moments_given = given_none;
       text_said = says.text_said;
       one_each = refl;
+      brings = refl;
       bound = omega arith;
       ends = tt;
       open_before = open-none course (party_at old);
@@ -183,26 +185,32 @@ module _ {P D A C : Type 0} (course : Course P D Input) (air : AirGhosts A) (giv
         before = [];
         behind = [];
         split = refl;
-        one_each = refl;
+        least = [];
+        brought = refl;
         first = [];
         last = says.text;
         text_is = refl;
-        ends = inl (refl, refl, says.ends (party_at old) [] None [] owes);
+        more = [];
+        events_are = refl;
+        ends = inl (refl, refl, refl, says.ends (party_at old) [] None [] owes);
       };
     }
 
   module _ (mid : Lent P D A C) (last : Option ℕ) (count : ℕ) (h : Turning mid last count) where
+    abbrev all_m : Brought Input
+    all_m = record { turns = h.turns; moments = h.moments; events = inputs_of h.turns h.moments }
+
     -- ended between two turns
     between : (result : Result Finished NodeStop) (over : Bool) → course.is_over mid.party ≡ over → count ≤ terms.polls → TurnsBy result terms.polls h.turns → HasAirCause air old.air mid.air result
-        → (TookAll course (party_at old) (inputs_of h.turns h.moments) h.text (party_at mid) over → RanBy course (party_at old) h.turns h.moments result h.text false (party_at mid)) → Took mid result
+        → (TookAll course (party_at old) (inputs_of h.turns h.moments) h.text (party_at mid) over → RanBy AreHandedOver course (party_at old) all_m result h.text false (party_at mid)) → Took mid result
     between result over is_over bound ends counts ran = record {
-      turns = h.turns;
-      moments = h.moments;
+      all = all_m;
       text = h.text;
       turns_heard = h.turns_heard;
       moments_given = h.moments_given;
       text_said = h.text_said;
       one_each = h.one_each;
+      brings = refl;
       bound = omega (arith, bound, h.counted);
       ends = ends;
       open_before = h.open_before;
@@ -230,6 +238,9 @@ module _ {P D A C : Type 0} (course : Course P D Input) (air : AirGhosts A) (giv
         abbrev more : List Input
         more = turn_inputs turned.next before moment
 
+        abbrev all_n : Brought Input
+        all_n = record { turns = turns_n; moments = moments_n; events = inputs_of turns_n moments_n }
+
         inputs_n : inputs_of turns_n moments_n ≡ inputs_of h.turns h.moments ++ more
         inputs_n =
             inputs-turn h.turns h.moments turned.next moment h.one_each
@@ -247,7 +258,7 @@ module _ {P D A C : Type 0} (course : Course P D Input) (air : AirGhosts A) (giv
         moments_taken_n : MomentsTaken terms (given old.clock) (given now.clock) moments_n
         moments_taken_n = taken-more terms.first terms.given (given old.clock) (given mid.clock) (given now.clock) h.moments moment count (omega (arith, h.one_each, h.counted)) h.moments_given next_moment
 
-        open_n : IsOpenBefore course (party_at old) turns_n moments_n
+        open_n : IsOpenBefore AreHandedOver course (party_at old) turns_n moments_n
         open_n = open-more course (party_at old) h.turns h.moments turned.next moment h.text (party_at mid) h.one_each h.goes not_over h.open_before
 
         -- what the party took of this turn is said behind what was said before
@@ -267,15 +278,15 @@ module _ {P D A C : Type 0} (course : Course P D Input) (air : AirGhosts A) (giv
 
         -- ended in this turn
         within : (answer : Result Finished NodeStop) (ended : Result ⊤ NodeStop) (takes : Takes course air turned.polled now.air (party_at mid) (party_at now) more ended) → TurnsBy answer terms.polls turns_n
-            → HasAirCause air old.air now.air answer → RanBy course (party_at old) turns_n moments_n answer (h.text ++ takes.text) takes.unsaid (party_at now) → Took now answer
+            → HasAirCause air old.air now.air answer → RanBy AreHandedOver course (party_at old) all_n answer (h.text ++ takes.text) takes.unsaid (party_at now) → Took now answer
         within answer ended takes ends counts ran = record {
-          turns = turns_n;
-          moments = moments_n;
+          all = all_n;
           text = h.text ++ takes.text;
           turns_heard = heard_n;
           moments_given = moments_taken_n;
           text_said = said_n ended takes;
           one_each = one_each_n;
+          brings = refl;
           bound = omega (arith, counted_n, below);
           ends = ends;
           open_before = open_n;
@@ -287,18 +298,21 @@ module _ {P D A C : Type 0} (course : Course P D Input) (air : AirGhosts A) (giv
 
         -- by a stop of the party
         stopped : (why : NodeStop) (takes : Takes course air turned.polled now.air (party_at mid) (party_at now) more (Err why))
-            → StoppedInLast course (party_at old) turns_n moments_n why (h.text ++ takes.text) takes.unsaid (party_at now)
+            → StoppedInLast AreHandedOver course (party_at old) all_n why (h.text ++ takes.text) takes.unsaid (party_at now)
         stopped why takes = record {
           earlier = h.turns;
           but_last = inr (turned.next, refl);
           before = h.moments;
           behind = moment ∷ [];
           split = refl;
-          one_each = h.one_each;
+          least = inputs_of h.turns h.moments;
+          brought = refl;
           first = h.text;
           last = takes.text;
           text_is = refl;
-          ends = inr (party_at mid, more, h.goes, inputs_n, takes.ends);
+          more = more;
+          events_are = inputs_n;
+          ends = inr (party_at mid, h.goes, takes.ends);
         }
 
       -- an open turn more

@@ -1,5 +1,5 @@
 -- The course of what a node drives: over which events it comes from where to where, and what it gives.
-use Rattle.std.specs.Prelude.{ℕ, List, [], ◌++◌, take, Bool, true, false, Option, None, Some}
+use Rattle.std.specs.Prelude.{ℕ, List, [], ◌++◌, take, Bool, true, false, Option, None, Some, Result, Ok, Err, ⊤}
 use Rattle.std.specs.List.{AllByRecursion}
 use Rattle.px_base.specs.Octets.{IsFront}
 use Rattle.node.specs.declared.halt.Halt.{Halt}
@@ -25,6 +25,12 @@ abbrev pub stop_at_put : Option Halt → NodeStop
 stop_at_put None = stop.AirWrite
 stop_at_put (Some why) = stop_of why
 
+-- the halt in an answer, if it is one
+abbrev pub halt_in : Result ⊤ Halt → Option Halt
+halt_in (Ok done) = None
+halt_in (Err why) = Some why
+
+-- The course of something at its disk, over events.
 pub record Course (S D E : Type 0) : Type 1 where
   -- It stands on its disk, and has nothing to give: it may take its next event.
   pub is_fit : AtDisk S D → Type 0

@@ -4,4 +4,5 @@ pub mod Inputs
 pub mod Station
 pub mod Reading
 pub mod Laws
+pub mod OnAir
 pub mod Turns

@@ -94,74 +94,85 @@ TurnsBy (Err stop.Disk) polls turns = AllByRecursion IsOpen turns
 TurnsBy (Err stop.OutOfMemory) polls turns = AllByRecursion IsOpen turns
 TurnsBy (Err stop.Spent) polls turns = (length turns ≡ polls) × AllByRecursion IsOpen turns
 
--- Before each of these turns the party wasn't over, behind what the turns before it handed over.
-abbrev pub IsOpenBefore : {S D : Type 0} → Course S D Input → AtDisk S D → List Turn → List ℕ → Type 0
-IsOpenBefore {S} {D} course start turns moments =
+-- turns at moments, one each, and what they bring
+pub record Brought (E : Type 0) : Type 0 where
+  pub turns : List Turn
+  pub moments : List ℕ
+  pub events : List E
+
+-- what turns at moments bring is what they hand over
+abbrev pub AreHandedOver : List Turn → List ℕ → List Input → Type 0
+AreHandedOver turns moments inputs = inputs ≡ inputs_of turns moments
+
+-- Before each of these turns it wasn't over, behind what the turns before it bring.
+abbrev pub IsOpenBefore :
+    {S D E : Type 0} → (List Turn → List ℕ → List E → Type 0) → Course S D E → AtDisk S D → List Turn → List ℕ → Type 0
+IsOpenBefore {S} {D} {E} Brings course start turns moments =
     (earlier : List Turn) (next : Turn) (later : List Turn) (before behind : List ℕ) → turns ≡ earlier ++ next ∷ later
     → moments ≡ before ++ behind → length before ≡ length earlier
-    → (text : List ℕ) × (then_is : AtDisk S D) × course.goes start (inputs_of earlier before) text then_is
+    → (events : List E) × Brings earlier before events
+    × (text : List ℕ) × (then_is : AtDisk S D) × course.goes start events text then_is
     × (course.is_over then_is.it ≡ false)
 
--- The party took all that these turns handed over, gave this text, and is over or isn't.
-abbrev pub TookAll : {S D : Type 0} → Course S D Input → AtDisk S D → List Input → List ℕ → AtDisk S D → Bool → Type 0
-TookAll course start inputs text now over =
-    course.goes start inputs text now × course.is_fit now × (course.is_over now.it ≡ over)
+-- It took all these events, gave this text, and is over or isn't.
+abbrev pub TookAll : {S D E : Type 0} → Course S D E → AtDisk S D → List E → List ℕ → AtDisk S D → Bool → Type 0
+TookAll course start events text now over =
+    course.goes start events text now × course.is_fit now × (course.is_over now.it ≡ over)
 
--- The party took all that the turns but the last handed over, and stopped in what that one did; where there is none it
--- stopped before it was handed anything.
-pub record StoppedInLast {S D : Type 0} (course : Course S D Input) (start : AtDisk S D) (turns : List Turn) (moments : List ℕ)
-    (why : NodeStop) (text : List ℕ) (unsaid : Bool) (now : AtDisk S D) : Type 0 where
+-- It took all that the turns but the last bring, and stopped in what that one does; where there is none it stopped before
+-- any.
+pub record StoppedInLast {S D E : Type 0} (Brings : List Turn → List ℕ → List E → Type 0) (course : Course S D E)
+    (start : AtDisk S D) (all : Brought E) (why : NodeStop) (text : List ℕ) (unsaid : Bool) (now : AtDisk S D) : Type 0 where
   pub earlier : List Turn
-  pub but_last : IsButLast turns earlier
+  pub but_last : IsButLast all.turns earlier
   pub before : List ℕ
   pub behind : List ℕ
-  pub split : moments ≡ before ++ behind
-  pub one_each : length before ≡ length earlier
+  pub split : all.moments ≡ before ++ behind
+  pub least : List E
+  pub brought : Brings earlier before least
   pub first : List ℕ
   pub last : List ℕ
   pub text_is : text ≡ first ++ last
+  pub more : List E
+  pub events_are : all.events ≡ least ++ more
   pub ends :
-      ((turns ≡ []) × (first ≡ []) × course.halts start [] why unsaid last now)
-      ⊎ ((then_is : AtDisk S D) × (inputs : List Input) × course.goes start (inputs_of earlier before) first then_is
-      × (inputs_of turns moments ≡ inputs_of earlier before ++ inputs) × course.halts then_is inputs why unsaid last now)
+      ((all.turns ≡ []) × (least ≡ []) × (first ≡ []) × course.halts start more why unsaid last now)
+      ⊎ ((then_is : AtDisk S D) × course.goes start least first then_is × course.halts then_is more why unsaid last now)
 
--- What became of all that the turns handed over, by how they ended: it was all taken, or the party stopped in the last
--- turn's.
+-- What became of all that the turns bring, by how they ended: it was all taken, or it stopped in the last turn's.
 abbrev pub RanBy :
-    {S D : Type 0} → Course S D Input → AtDisk S D → List Turn → List ℕ → Result Finished NodeStop → List ℕ → Bool
-    → AtDisk S D → Type 0
-RanBy course start turns moments (Ok finished.Over) text unsaid now =
-    TookAll course start (inputs_of turns moments) text now true
-RanBy course start turns moments (Ok (finished.Closed count)) text unsaid now =
-    TookAll course start (inputs_of turns moments) text now false
-RanBy course start turns moments (Err stop.AirRead) text unsaid now =
-    TookAll course start (inputs_of turns moments) text now false
-RanBy course start turns moments (Err stop.Spent) text unsaid now =
-    TookAll course start (inputs_of turns moments) text now false
-RanBy course start turns moments (Err stop.AirWrite) text unsaid now =
-    StoppedInLast course start turns moments stop.AirWrite text unsaid now
-RanBy course start turns moments (Err stop.Disk) text unsaid now =
-    StoppedInLast course start turns moments stop.Disk text unsaid now
-RanBy course start turns moments (Err stop.OutOfMemory) text unsaid now =
-    StoppedInLast course start turns moments stop.OutOfMemory text unsaid now
+    {S D E : Type 0} → (List Turn → List ℕ → List E → Type 0) → Course S D E → AtDisk S D → Brought E
+    → Result Finished NodeStop → List ℕ → Bool → AtDisk S D → Type 0
+RanBy Brings course start all (Ok finished.Over) text unsaid now = TookAll course start all.events text now true
+RanBy Brings course start all (Ok (finished.Closed count)) text unsaid now =
+    TookAll course start all.events text now false
+RanBy Brings course start all (Err stop.AirRead) text unsaid now = TookAll course start all.events text now false
+RanBy Brings course start all (Err stop.Spent) text unsaid now = TookAll course start all.events text now false
+RanBy Brings course start all (Err stop.AirWrite) text unsaid now =
+    StoppedInLast Brings course start all stop.AirWrite text unsaid now
+RanBy Brings course start all (Err stop.Disk) text unsaid now =
+    StoppedInLast Brings course start all stop.Disk text unsaid now
+RanBy Brings course start all (Err stop.OutOfMemory) text unsaid now =
+    StoppedInLast Brings course start all stop.OutOfMemory text unsaid now
 
--- The turns of a node: what was heard, given and said, how they ended, and what its party came to.
-pub record TookTurns {P D A C : Type 0} (course : Course P D Input) (air : AirGhosts A) (given : C → Option (List ℕ))
-    (old new : Lent P D A C) (terms : TurnTerms) (result : Result Finished NodeStop) : Type 0 where
-  pub turns : List Turn
-  pub moments : List ℕ
+-- The turns of a node: what was heard, given and said, how they ended, and what came of what they bring.
+pub record TookTurns {S D A C E : Type 0} (Brings : List Turn → List ℕ → List E → Type 0) (course : Course S D E)
+    (air : AirGhosts A) (given : C → Option (List ℕ)) (old new : Lent S D A C) (terms : TurnTerms)
+    (result : Result Finished NodeStop) : Type 0 where
+  pub all : Brought E
   pub text : List ℕ
-  pub turns_heard : HearsAll (air.heard old.air) (air.heard new.air) turns
-  pub moments_given : MomentsTaken terms (given old.clock) (given new.clock) moments
+  pub turns_heard : HearsAll (air.heard old.air) (air.heard new.air) all.turns
+  pub moments_given : MomentsTaken terms (given old.clock) (given new.clock) all.moments
   pub text_said : Gains (air.said old.air) (air.said new.air) text
-  pub one_each : length moments ≡ length turns
-  pub bound : length turns ≤ terms.polls
-  pub ends : TurnsBy result terms.polls turns
-  pub open_before : IsOpenBefore course (party_at old) turns moments
+  pub one_each : length all.moments ≡ length all.turns
+  pub brings : Brings all.turns all.moments all.events
+  pub bound : length all.turns ≤ terms.polls
+  pub ends : TurnsBy result terms.polls all.turns
+  pub open_before : IsOpenBefore Brings course (party_at old) all.turns all.moments
   pub counts : HasAirCause air old.air new.air result
   pub unsaid : Bool
   pub is_unsaid : IsUnsaid unsaid (air.write_faults old.air) (air.write_faults new.air)
-  pub ran : RanBy course (party_at old) turns moments result text unsaid (party_at new)
+  pub ran : RanBy Brings course (party_at old) all result text unsaid (party_at new)
 
 -- All that the party had to give was said, or a front of it where a put failed.
 pub record SaysAll {P D A : Type 0} (course : Course P D Input) (air : AirGhosts A) (before now : A) (old new : AtDisk P D)

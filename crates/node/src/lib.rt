@@ -5,7 +5,9 @@
 mod finished;
 mod halt;
 pub mod laws;
+mod on_air;
 mod party;
+mod station;
 mod station_reader;
 mod stop;
 mod terms;
@@ -13,7 +15,9 @@ mod turns;
 
 pub use finished::Finished;
 pub use halt::Halt;
+pub use on_air::OnAir;
 pub use party::{MOST_SAID, Party};
+pub use station::Station;
 pub use station_reader::StationReader;
 pub use stop::NodeStop;
 pub use terms::TurnTerms;

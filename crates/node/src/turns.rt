@@ -4,7 +4,7 @@ ghost use Rattle.std.specs.Prelude.{◌≡◌, ◌<◌, ◌≤◌, [], ◌∷◌
 ghost use Rattle.px_base.specs.Moments.{MomentsOf};
 ghost use Rattle.node.specs.Course.{at};
 ghost use Rattle.node.specs.Inputs.{octets_at, tick_after, turn_inputs};
-ghost use Rattle.node.specs.Turns.{IsMomentOf, SaysAll, Takes, TakesPiece, TookTurn, TookTurns, lent};
+ghost use Rattle.node.specs.Turns.{AreHandedOver, IsMomentOf, SaysAll, Takes, TakesPiece, TookTurn, TookTurns, lent};
 
 use crate::{Finished, NodeStop, Party, TurnTerms};
 use arrayvec::ArrayVec;
@@ -28,7 +28,7 @@ pub fn take_turns<D: Disk, P: Party<D>, A: Air, C: Clock>(
     terms: &TurnTerms,
 ) -> Result<Finished, NodeStop>
     requires { P.course.owes (at party.old disk.old) [] None [] (at party.old disk.old) }
-    ensures { TookTurns P.course A.Air C.given (lent party.old disk.old air.old clock.old)
+    ensures { TookTurns AreHandedOver P.course A.Air C.given (lent party.old disk.old air.old clock.old)
         (lent party.new disk.new air.new clock.new) terms.now result }
 {
     P::is_lawful();

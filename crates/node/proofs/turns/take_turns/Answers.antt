@@ -1,6 +1,6 @@
 -- The loop over turns.
 use Rattle.std.proofs.Common.{Err, refl, sym, arith}
-use Rattle.node.specs.Turns.{TookTurns, lent}
+use Rattle.node.specs.Turns.{AreHandedOver, TookTurns, lent}
 use Rattle.node.specs.declared.stop.NodeStop.TheVariants as stop
 use Rattle.node.proofs.SayingLemmas.{at_exit}
 use Rattle.node.proofs.TurnsLemmas.{turns-closed, turns-more, turns-over, turns-spent, turns-start, turns-stopped, turns-unsaid}
@@ -15,7 +15,7 @@ pub returns-in_err-put_all : goal.returns-in_err-put_all
 returns-in_err-put_all g c =
     let old = lent c.args.party.now c.args.disk.now c.args.air.now c.args.clock.now in
     let now = lent c.put_all.new.party c.put_all.new.disk c.put_all.new.air c.args.clock.now in
-    at_exit (λ r. TookTurns g.P.Party.course g.A.Air g.C.Clock.given old now c.args.terms.now r) c.from_residual.result stop.AirWrite c.from_residual.ensures.1
+    at_exit (λ r. TookTurns AreHandedOver g.P.Party.course g.A.Air g.C.Clock.given old now c.args.terms.now r) c.from_residual.result stop.AirWrite c.from_residual.ensures.1
     (turns-unsaid g.P.Party.course g.A.Air g.C.Clock.given old c.args.terms.now now refl c.requires c.in_err-put_all.field-0.0 c.in_err-put_all.ensures)
 
 pub returns-then-is_over : goal.returns-then-is_over
@@ -33,7 +33,7 @@ returns-in_err-take_turn g c =
     let now = lent c.take_turn.new.party c.take_turn.new.disk c.take_turn.new.air c.moment_of_turn-moment.new.clock in
     let moment = c.moment_of_turn-moment.result in
     let why = c.in_err-take_turn.field-0.0 in
-    at_exit (λ r. TookTurns g.P.Party.course g.A.Air g.C.Clock.given old now c.args.terms.now r) (c.from_residual-in_err-take_turn).result why (c.from_residual-in_err-take_turn).ensures.1
+    at_exit (λ r. TookTurns AreHandedOver g.P.Party.course g.A.Air g.C.Clock.given old now c.args.terms.now r) (c.from_residual-in_err-take_turn).result why (c.from_residual-in_err-take_turn).ensures.1
     (turns-stopped g.P.Party.course g.A.Air g.C.Clock.given old c.args.terms.now mid c.loop-turn.last c.loop-turn.turn c.loop-turn.invariant c.is_lawful.ensures (sym c.if-is_over.ensures)
     c.loop-turn-test.true moment c.unwrap_or.result c.unwrap_or.ensures now c.moment_of_turn-moment.ensures why c.in_err-take_turn.ensures)
 

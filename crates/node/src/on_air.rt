@@ -1,0 +1,83 @@
+//! A station on the air.
+
+ghost use Rattle.std.specs.Prelude.{◌≡◌, []};
+ghost use Rattle.node.specs.OnAir.{on_air};
+ghost use Rattle.node.specs.Reading.{HasHeard};
+
+use crate::laws::some_frames_law;
+use crate::{Halt, Party, Station, StationReader};
+use arrayvec::ArrayVec;
+use disk_model::Disk;
+use kiss::write_frame;
+use px_base::Call;
+
+/// A station on the air: it hears the frames for it in the KISS text that is heard, passes over every other part, and the
+/// frames that it gives are said as KISS text.
+pub struct OnAir<S> {
+    /// What reads of the KISS text, for the station's call.
+    pub reader: StationReader,
+    /// The station.
+    pub station: S,
+}
+
+impl<S> OnAir<S> {
+    /// The station with this call, which has heard nothing yet. Takes no memory.
+    pub fn new(me: Call, station: S) -> OnAir<S>
+        ensures me { result.reader.me ≡ me }
+        ensures heard { HasHeard result.reader [] }
+        ensures station { result.station ≡ station }
+    {
+        OnAir {
+            reader: StationReader::new(me),
+            station,
+        }
+    }
+}
+
+impl<D: Disk, S: Station<D>> Party<D> for OnAir<S> {
+    ghost course = { on_air S.me S.course };
+
+    fn hear(&mut self, disk: &mut D, piece: &[u8], moment: u32) -> Result<usize, Halt> {
+        S::is_lawful();
+        for (count, octet) in piece.iter().enumerate() {
+            if !self.reader.feed(*octet) {
+                continue;
+            }
+            if let Some(frame) = self.reader.frame() {
+                self.station.hear(disk, &frame, moment)?;
+                return Ok(count + 1);
+            }
+        }
+        Ok(piece.len())
+    }
+
+    fn tick(&mut self, disk: &mut D, moment: u32) {
+        self.station.tick(disk, moment);
+    }
+
+    fn next_out(&mut self, disk: &mut D, text: &mut ArrayVec<u8, 2049>) -> bool {
+        let mut frame = ArrayVec::new();
+        if !self.station.next_out(disk, &mut frame) {
+            return false;
+        }
+        let mut said = ArrayVec::new();
+        match write_frame(&frame, &mut said) {
+            Ok(()) => {}
+            Err(_long) => unreachable!(),
+        }
+        text.clear();
+        for octet in &said {
+            text.push(*octet);
+        }
+        true
+    }
+
+    fn is_over(&self) -> bool {
+        self.station.is_over()
+    }
+
+    fn is_lawful() {
+        S::is_lawful();
+        some_frames_law();
+    }
+}
