@@ -6,9 +6,9 @@ use Rattle.px_base.specs.declared.air.Turn.{Turn}
 use Rattle.px_base.specs.declared.air.Turn.TheVariants as turn
 use Rattle.std.specs.Prelude.{Bool, true, false, ◌==◌, drop, if◌then◌else◌}
 use Rattle.kiss.specs.KissText.{kiss_frames, kiss_parts}
-use Rattle.ax25_frames.specs.FrameText.{FrameText, FrameValue}
+use Rattle.ax25_frames.specs.FrameText.{FrameValue}
 use Rattle.ax25_frames.specs.Laws.{IsOneFrame}
-use Rattle.node.specs.Events.{FramesFor, IsFor, NodeEvent, NodeEvents, NoneFor, TurnsBring, frames_in, heard_at, tick_of, tick_since, ticks}
+use Rattle.node.specs.Events.{FramesFor, NodeEvent, NodeEvents, TurnsBring, frames_in, heard_at, tick_of, tick_since, ticks}
 
 -- frames of texts and of others
 frames-append : (me : CallSign) (texts others : List (List ℕ)) (frames more : List FrameValue) → FramesFor me texts frames → FramesFor me others more → FramesFor me (texts ++ others) (frames ++ more)

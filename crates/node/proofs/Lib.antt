@@ -1,7 +1,10 @@
+mod BringsLemmas
+mod DriveLemmas
 mod EventLemmas
 mod Found
 mod InputLemmas
 mod Invariants
+mod OnAirLemmas
 mod SayingLemmas
 mod SomeFrames
 mod TurnLemmas

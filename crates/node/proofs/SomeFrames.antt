@@ -1,6 +1,6 @@
 -- Octets finish some frames for a station.
-use Rattle.std.proofs.Common.{◌≡◌, ℕ, ◌<◌, List, [], ◌∷◌, ◌++◌, Bool, true, false, ◌&&◌, Option, None, Some, refl, sym, ◌∙◌, ap, ap₂, subst, inl, inr, true≢false}
-use Rattle.std.specs.Prelude.{All, bytes_eq, ◌==◌, if◌then◌else◌}
+use Rattle.std.proofs.Common.{◌≡◌, ℕ, ◌<◌, List, [], ◌∷◌, ◌++◌, Bool, true, false, ◌&&◌, refl, sym, ◌∙◌, ap, ap₂, subst, inl, inr, true≢false}
+use Rattle.std.specs.Prelude.{bytes_eq, ◌==◌, if◌then◌else◌}
 use Rattle.std.specs.Bool.{Decides}
 use Rattle.std.specs.List.{AllByRecursion, filter_map, list_any}
 use Rattle.std.proofs.lemmas.Bool.Decides.{Decides-eqb}
@@ -11,11 +11,11 @@ use Rattle.px_base.specs.CallSign.{CallSign}
 use Rattle.px_base.specs.Octets.{IsOctets}
 use Rattle.kiss.specs.declared.whole.Part.{Part}
 use Rattle.kiss.specs.declared.whole.Part.TheVariants.{Frame, Dropped, Passed}
-use Rattle.kiss.specs.KissText.{fend, frame_of, from_last_fend, is_fend, kiss_frames, kiss_parts}
+use Rattle.kiss.specs.KissText.{frame_of, from_last_fend, is_fend, kiss_frames, kiss_parts}
 use Rattle.kiss.specs.Laws.{FramesGoOn, FramesHaveOctets, HasOctets}
-use Rattle.ax25_frames.specs.FrameText.{FrameText, FrameValue}
+use Rattle.ax25_frames.specs.FrameText.{FrameValue}
 use Rattle.ax25_frames.specs.Laws.{IsFrameOrFault, IsNoFrame, IsOneFrame}
-use Rattle.node.specs.Events.{Finishes, FramesFor, IsFor}
+use Rattle.node.specs.Events.{FramesFor, IsFor}
 use Rattle.node.specs.Laws.{SomeFramesLaw}
 
 both : (a b : Bool) {P Q : Type 0} → Decides a P → Decides b Q → Decides (a && b) (P × Q)

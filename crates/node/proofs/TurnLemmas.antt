@@ -1,5 +1,5 @@
 -- One turn: what was polled, and what the party made of it.
-use Rattle.std.proofs.Common.{◌≡◌, ℕ, List, [], ◌++◌, Bool, true, false, Option, Result, Ok, Err, refl, sym, ap, ◌∙◌, subst}
+use Rattle.std.proofs.Common.{◌≡◌, ℕ, List, Bool, true, false, Option, Result, Ok, Err, refl, sym, ◌∙◌, subst}
 use Rattle.std.specs.Prelude.{⊤}
 use Rattle.px_base.specs.Outside.{Rose}
 use Rattle.px_base.specs.Polling.{Hears, IsOpen}

@@ -1,6 +1,6 @@
 -- The turns of a node, one after another.
 use Rattle.std.proofs.Common.{◌≡◌, ◌⊎◌, ℕ, zero, suc, ◌+◌, ◌<◌, ◌≤◌, List, [], ◌∷◌, ◌++◌, length, Bool, true, false, Option, None, Some, Result, Ok, Err}
-use Rattle.std.proofs.Common.{refl, sym, ap, ◌∙◌, subst, inl, inr, append-nil, length-append, unwrap_or, arith}
+use Rattle.std.proofs.Common.{refl, sym, ap, ◌∙◌, subst, inl, inr, length-append, unwrap_or, arith}
 use Rattle.std.specs.List.{AllByRecursion}
 use Rattle.std.specs.Prelude.{⊤}
 use Rattle.px_base.specs.Moments.{MomentsOf}
@@ -20,7 +20,7 @@ use Rattle.node.specs.declared.stop.NodeStop.{NodeStop}
 use Rattle.node.specs.declared.stop.NodeStop.TheVariants as stop
 use Rattle.node.specs.declared.terms.TurnTerms.{TurnTerms}
 use Rattle.node.proofs.InputLemmas.{inputs-turn, last-more}
-use Rattle.node.proofs.Invariants.{IsTurning, last_in}
+use Rattle.node.proofs.Invariants.{IsTurning}
 use Rattle.node.proofs.SayingLemmas.{counts-from, unsaid-from}
 
 -- ---- fronts of lists
@@ -185,6 +185,7 @@ module _ {P D A C : Type 0} (course : Course P D Input) (air : AirGhosts A) (giv
         before = [];
         behind = [];
         split = refl;
+        one_each = refl;
         least = [];
         brought = refl;
         first = [];
@@ -305,6 +306,7 @@ module _ {P D A C : Type 0} (course : Course P D Input) (air : AirGhosts A) (giv
           before = h.moments;
           behind = moment ∷ [];
           split = refl;
+          one_each = h.one_each;
           least = inputs_of h.turns h.moments;
           brought = refl;
           first = h.text;

@@ -1,5 +1,5 @@
 -- The course of a station on the air: its own, over the events that what it is handed brings.
-use Rattle.std.specs.Prelude.{◌≡◌, ℕ, List, [], ◌∷◌, ◌++◌, Bool, Option}
+use Rattle.std.specs.Prelude.{◌≡◌, ℕ, List, [], ◌∷◌, ◌++◌}
 use Rattle.px_base.specs.CallSign.{CallSign}
 use Rattle.px_base.specs.Octets.{IsOctets}
 use Rattle.ax25_frames.specs.FrameText.{FrameValue}
@@ -7,9 +7,8 @@ use Rattle.node.specs.Course.{AtDisk, Course, at}
 use Rattle.node.specs.Events.{Finishes, NodeEvent, heard_at, ticks}
 use Rattle.node.specs.Inputs.{Input, octet, octets_in, tick}
 use Rattle.node.specs.Reading.{HasHeard}
-use Rattle.node.specs.declared.halt.Halt.{Halt}
+use Rattle.node.specs.Station.{StationValue}
 use Rattle.node.specs.declared.on_air.OnAir.{OnAir}
-use Rattle.node.specs.declared.stop.NodeStop.{NodeStop}
 
 -- Behind these octets, what is handed over brings these events to the station: each frame for it where its last octet
 -- comes, and the ticks.
@@ -32,9 +31,14 @@ BringsOver me old inputs Over =
     (all : List ℕ) → IsOctets all → HasHeard old.it.reader all
     → (events : List NodeEvent) × Brings (me old.it.station) all inputs events × Over all events
 
+-- the reader has heard some octets
+abbrev pub HasHeardSome : StationValue → Type 0
+HasHeardSome reader = (all : List ℕ) × IsOctets all × HasHeard reader all
+
 -- The reader and the station stay those of one call, and what is handed over is octets.
 pub record StaysOnAir {S D : Type 0} (me : S → CallSign) (old : AtDisk (OnAir S) D) (inputs : List Input)
     (new : AtDisk (OnAir S) D) : Type 0 where
+  pub some : HasHeardSome old.it.reader
   pub same_me : me new.it.station ≡ me old.it.station
   pub own : new.it.reader.me ≡ me new.it.station
   pub are_octets : IsOctets (octets_in inputs)
@@ -43,7 +47,7 @@ pub record StaysOnAir {S D : Type 0} (me : S → CallSign) (old : AtDisk (OnAir 
 abbrev pub on_air : {S D : Type 0} → (S → CallSign) → Course S D NodeEvent → Course (OnAir S) D Input
 on_air me course =
     record {
-      is_fit = λ a. course.is_fit (inner a) × (a.it.reader.me ≡ me a.it.station);
+      is_fit = λ a. course.is_fit (inner a) × (a.it.reader.me ≡ me a.it.station) × HasHeardSome a.it.reader;
       goes = λ old inputs text new.
           StaysOnAir me old inputs new
           × BringsOver me old inputs (λ all events. HasHeard new.it.reader (all ++ octets_in inputs)

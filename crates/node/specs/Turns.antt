@@ -128,6 +128,7 @@ pub record StoppedInLast {S D E : Type 0} (Brings : List Turn → List ℕ → L
   pub before : List ℕ
   pub behind : List ℕ
   pub split : all.moments ≡ before ++ behind
+  pub one_each : length before ≡ length earlier
   pub least : List E
   pub brought : Brings earlier before least
   pub first : List ℕ

@@ -2,6 +2,7 @@
 //! hears in what an air brings, and when it ticks (KISS; AX.25 2.0). Servers and clients share it.
 #![tactic(auto)]
 
+mod driving;
 mod finished;
 mod halt;
 pub mod laws;
@@ -13,9 +14,9 @@ mod stop;
 mod terms;
 mod turns;
 
+pub use driving::drive;
 pub use finished::Finished;
 pub use halt::Halt;
-pub use on_air::OnAir;
 pub use party::{MOST_SAID, Party};
 pub use station::Station;
 pub use station_reader::StationReader;

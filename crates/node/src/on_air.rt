@@ -13,16 +13,16 @@ use px_base::Call;
 
 /// A station on the air: it hears the frames for it in the KISS text that is heard, passes over every other part, and the
 /// frames that it gives are said as KISS text.
-pub struct OnAir<S> {
+pub(crate) struct OnAir<S> {
     /// What reads of the KISS text, for the station's call.
-    pub reader: StationReader,
+    pub(crate) reader: StationReader,
     /// The station.
-    pub station: S,
+    pub(crate) station: S,
 }
 
 impl<S> OnAir<S> {
     /// The station with this call, which has heard nothing yet. Takes no memory.
-    pub fn new(me: Call, station: S) -> OnAir<S>
+    pub(crate) fn new(me: Call, station: S) -> OnAir<S>
         ensures me { result.reader.me ≡ me }
         ensures heard { HasHeard result.reader [] }
         ensures station { result.station ≡ station }
@@ -43,9 +43,14 @@ impl<D: Disk, S: Station<D>> Party<D> for OnAir<S> {
             if !self.reader.feed(*octet) {
                 continue;
             }
-            if let Some(frame) = self.reader.frame() {
-                self.station.hear(disk, &frame, moment)?;
-                return Ok(count + 1);
+            match self.reader.frame() {
+                Some(frame) => {
+                    return match self.station.hear(disk, &frame, moment) {
+                        Ok(()) => Ok(count + 1),
+                        Err(why) => Err(why),
+                    };
+                }
+                None => {}
             }
         }
         Ok(piece.len())
@@ -66,10 +71,10 @@ impl<D: Disk, S: Station<D>> Party<D> for OnAir<S> {
             Err(_long) => unreachable!(),
         }
         text.clear();
-        for octet in &said {
-            text.push(*octet);
+        match text.try_extend_from_slice(&said) {
+            Ok(()) => true,
+            Err(_full) => unreachable!(),
         }
-        true
     }
 
     fn is_over(&self) -> bool {

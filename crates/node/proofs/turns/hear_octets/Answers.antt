@@ -39,9 +39,10 @@ loop-piece-preserved g c =
     let taken = c.in_ok-taken.taken in
     let piece = c.loop-piece.piece.now in
     let old = at c.args.party.now c.args.disk.now in
-    let new = at c.hear_piece.new.party c.hear_piece.new.disk in
-    (h.0 ++ take taken piece,
-    split-more c.args.octets.now h.0 piece c.split_at.result.1.now taken h.1 c.split_at.ensures.back,
-    subst (λ (is : List Input). Takes g.P.Party.course g.A.Air c.args.air.now c.hear_piece.new.air old new is (Ok tt)) (sym (octets_at-append moment h.0 (take taken piece)))
-    (takes-then g.P.Party.course g.A.Air c.is_lawful.ensures c.args.air.now c.loop-piece.air c.hear_piece.new.air old (at c.loop-piece.party c.loop-piece.disk) new
-    (octets_at moment h.0) (octets_at moment (take taken piece)) (Ok tt) h.2 k.2))
+    let new = at c.hear_piece.new.party c.hear_piece.new.disk in (
+      h.0 ++ take taken piece,
+      split-more c.args.octets.now h.0 piece c.split_at.result.1.now taken h.1 c.split_at.ensures.back,
+      subst (λ (is : List Input). Takes g.P.Party.course g.A.Air c.args.air.now c.hear_piece.new.air old new is (Ok tt)) (sym (octets_at-append moment h.0 (take taken piece)))
+          (takes-then g.P.Party.course g.A.Air c.is_lawful.ensures c.args.air.now c.loop-piece.air c.hear_piece.new.air old (at c.loop-piece.party c.loop-piece.disk) new
+          (octets_at moment h.0) (octets_at moment (take taken piece)) (Ok tt) h.2 k.2),
+    )

@@ -3,7 +3,7 @@ use Rattle.std.proofs.Common.{List, ℕ, subst}
 use Rattle.px_base.specs.Outside.{Gains, GainsPrefix}
 use Rattle.node.specs.Course.{at}
 use Rattle.node.specs.Turns.{SaysAll}
-use Rattle.node.proofs.SayingLemmas.{at_exit, says-all, says-failed, saying-more, saying-none}
+use Rattle.node.proofs.SayingLemmas.{at_exit, says-failed, saying-more, saying-none}
 use Rattle.node.proofs.turns.put_all.Goals as goal
 
 pub loop-text-init : goal.loop-text-init

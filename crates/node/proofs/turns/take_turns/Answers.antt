@@ -1,5 +1,5 @@
 -- The loop over turns.
-use Rattle.std.proofs.Common.{Err, refl, sym, arith}
+use Rattle.std.proofs.Common.{refl, sym, arith}
 use Rattle.node.specs.Turns.{AreHandedOver, TookTurns, lent}
 use Rattle.node.specs.declared.stop.NodeStop.TheVariants as stop
 use Rattle.node.proofs.SayingLemmas.{at_exit}

@@ -1,0 +1,9 @@
+-- The octets up to this one were fed to the reader, and none of them finished a frame for the station.
+use Rattle.std.proofs.Common.{take}
+use Rattle.node.specs.Course.{at}
+use Rattle.node.specs.Inputs.{octets_at}
+use Rattle.node.proofs.OnAirLemmas.{IsFeeding}
+use Rattle.node.proofs.on_air.OnAirParty.hear.Given as goal
+
+abbrev pub invariant-loop-count : goal.invariant-loop-count
+invariant-loop-count g l = IsFeeding g.S.Station.me (at l.fn.self l.fn.disk) (octets_at l.fn.moment (take l.count l.fn.piece)) (at l.self l.disk)
