@@ -36,8 +36,8 @@ pub record Course (S D E : Type 0) : Type 1 where
   pub is_fit : AtDisk S D → Type 0
   -- Over these events it came from the first to the second, and gave this text.
   pub goes : AtDisk S D → List E → List ℕ → AtDisk S D → Type 0
-  -- From the first on it took these events, and so far it gave this text. With what it has still to give it goes on, or it
-  -- halts for this reason.
+  -- From the first on it took these events, and so far it gave this text. With what it has still to give it goes on,
+  -- or it halts for this reason.
   pub owes : AtDisk S D → List E → Option Halt → List ℕ → AtDisk S D → Type 0
   -- It stopped at one of these events, for this reason and behind this text; a put of it failed, or none did.
   pub halts : AtDisk S D → List E → NodeStop → Bool → List ℕ → AtDisk S D → Type 0
@@ -52,7 +52,8 @@ Settles course start events None said now = course.goes start events said now ×
 Settles course start events (Some why) said now = course.halts start events (stop_of why) false said now
 
 -- One text more is given. Where saying it fails, behind any front of it, that is where it stops.
-pub record GivesNext {S D E : Type 0} (course : Course S D E) (old : AtDisk S D) (text : List ℕ) (new : AtDisk S D) : Type 0 where
+pub record GivesNext {S D E : Type 0} (course : Course S D E) (old : AtDisk S D) (text : List ℕ)
+    (new : AtDisk S D) : Type 0 where
   pub goes_on :
       (start : AtDisk S D) (events : List E) (why : Option Halt) (said : List ℕ)
       → course.owes start events why said old → course.owes start events why (said ++ text) new
@@ -67,7 +68,8 @@ GaveAll {S} {D} {E} course old new =
     → course.owes start events why said old → Settles course start events why said new
 
 -- It halts at what a front of these octets finishes.
-abbrev pub HaltsWithin : {S D E : Type 0} → Course S D E → AtDisk S D → (List ℕ → List E) → List ℕ → Halt → AtDisk S D → Type 0
+abbrev pub HaltsWithin :
+    {S D E : Type 0} → Course S D E → AtDisk S D → (List ℕ → List E) → List ℕ → Halt → AtDisk S D → Type 0
 HaltsWithin course start events octets why now =
     (taken : ℕ) × course.owes start (events (take taken octets)) (Some why) [] now
 

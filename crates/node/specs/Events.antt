@@ -21,7 +21,8 @@ pub record IsFor (me : CallSign) (frame : FrameValue) : Type 0 where
 abbrev pub NoneFor : CallSign → List ℕ → Type 0
 NoneFor me octets = (frame : FrameValue) → FrameText frame octets → IsFor me frame → ⊥
 
--- Of these lists of octets, in order, those that a frame for the station has are these frames; all others are passed over.
+-- Of these lists of octets, in order, those that a frame for the station has are these frames; all others are passed
+-- over.
 abbrev pub FramesFor : CallSign → List (List ℕ) → List FrameValue → Type 0
 FramesFor me [] frames = frames ≡ []
 FramesFor me (octets ∷ others) frames =
@@ -50,8 +51,8 @@ tick_of turn.Quiet last moment = tick_since last moment
 tick_of turn.Fail last moment = []
 tick_of turn.End last moment = []
 
--- What turns at these moments, one each, bring to the station after these octets: the frames that the octets of the first
--- finish, all at its moment, then a tick where that isn't the moment of the last tick; and so on.
+-- What turns at these moments, one each, bring to the station after these octets: the frames that the octets of the
+-- first finish, all at its moment, then a tick where that isn't the moment of the last tick; and so on.
 abbrev pub TurnsBring : CallSign → List ℕ → ℕ → List Turn → List ℕ → List NodeEvent → Type 0
 TurnsBring me before last [] moments events = events ≡ []
 TurnsBring me before last (next ∷ turns) [] events = ⊥

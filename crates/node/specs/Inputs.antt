@@ -1,4 +1,5 @@
--- What a node hands to its party: octets that are heard, and the clock's going on, by the turns of its air and their moments.
+-- What a node hands to its party: octets that are heard, and the clock's going on, by the turns of its air and their
+-- moments.
 use Rattle.std.specs.Prelude.{ℕ, ◌==◌, ◌<◌, List, [], ◌∷◌, ◌++◌, map, if◌then◌else◌, ⊤}
 use Rattle.px_base.specs.Polling.{octets_of_turn}
 use Rattle.px_base.specs.declared.air.Turn.{Turn}

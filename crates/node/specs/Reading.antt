@@ -7,8 +7,8 @@ use Rattle.ax25_frames.specs.FrameText.{FrameText, FrameValue}
 use Rattle.node.specs.Events.{IsFor, NoneFor}
 use Rattle.node.specs.Station.{StationValue}
 
--- The reader goes on as if it had heard these octets: whatever comes later, their frames together are those of these octets
--- and those that it still finds.
+-- The reader goes on as if it had heard these octets: whatever comes later, their frames together are those of these
+-- octets and those that it still finds.
 abbrev pub HasHeard : StationValue → List ℕ → Type 0
 HasHeard reader octets =
     (later : List ℕ) → kiss_frames (octets ++ later) ≡ kiss_frames octets ++ kiss_frames (reader.heard ++ later)

@@ -1,5 +1,6 @@
 -- The turns of a node: what is heard, said and handed over, and why they end.
-use Rattle.std.specs.Prelude.{◌≡◌, ◌⊎◌, ℕ, zero, suc, ◌<◌, ◌≤◌, List, [], ◌∷◌, ◌++◌, length, take, Bool, true, false, Option, None, Some}
+use Rattle.std.specs.Prelude.{◌≡◌, ◌⊎◌, ℕ, zero, suc, ◌<◌, ◌≤◌, List, [], ◌∷◌, ◌++◌, length, take, Bool}
+use Rattle.std.specs.Prelude.{true, false, Option, None, Some}
 use Rattle.std.specs.Prelude.{IfErr, MatchResult, Result, Ok, Err, ⊤}
 use Rattle.std.specs.List.{AllByRecursion}
 use Rattle.px_base.specs.Moments.{MomentsOf}
@@ -23,8 +24,8 @@ abbrev pub IsUnsaid : Bool → ℕ → ℕ → Type 0
 IsUnsaid true writes writes_now = Rose writes writes_now
 IsUnsaid false writes writes_now = writes_now ≡ writes
 
--- The air's counts of faults by how a call over it ended: where hearing or saying failed that count rose, and each other
--- is as it was. After a fault of the disk more was to be said, and that may have failed too.
+-- The air's counts of faults by how a call over it ended: where hearing or saying failed that count rose, and each
+-- other is as it was. After a fault of the disk more was to be said, and that may have failed too.
 abbrev pub CountsBy : {T : Type 0} → Result T NodeStop → ℕ → ℕ → ℕ → ℕ → Type 0
 CountsBy (Ok value) reads reads_now writes writes_now = (reads_now ≡ reads) × (writes_now ≡ writes)
 CountsBy (Err stop.AirRead) reads reads_now writes writes_now = Rose reads reads_now × (writes_now ≡ writes)
@@ -119,10 +120,11 @@ abbrev pub TookAll : {S D E : Type 0} → Course S D E → AtDisk S D → List E
 TookAll course start events text now over =
     course.goes start events text now × course.is_fit now × (course.is_over now.it ≡ over)
 
--- It took all that the turns but the last bring, and stopped in what that one does; where there is none it stopped before
--- any.
+-- It took all that the turns but the last bring, and stopped in what that one does; where there is none it stopped
+-- before any.
 pub record StoppedInLast {S D E : Type 0} (Brings : List Turn → List ℕ → List E → Type 0) (course : Course S D E)
-    (start : AtDisk S D) (all : Brought E) (why : NodeStop) (text : List ℕ) (unsaid : Bool) (now : AtDisk S D) : Type 0 where
+    (start : AtDisk S D) (all : Brought E) (why : NodeStop) (text : List ℕ) (unsaid : Bool) (now : AtDisk S D)
+    : Type 0 where
   pub earlier : List Turn
   pub but_last : IsButLast all.turns earlier
   pub before : List ℕ
@@ -176,12 +178,13 @@ pub record TookTurns {S D A C E : Type 0} (Brings : List Turn → List ℕ → L
   pub ran : RanBy Brings course (party_at old) all result text unsaid (party_at new)
 
 -- All that the party had to give was said, or a front of it where a put failed.
-pub record SaysAll {P D A : Type 0} (course : Course P D Input) (air : AirGhosts A) (before now : A) (old new : AtDisk P D)
-    (result : Result ⊤ AirDown) : Type 0 where
+pub record SaysAll {P D A : Type 0} (course : Course P D Input) (air : AirGhosts A) (before now : A)
+    (old new : AtDisk P D) (result : Result ⊤ AirDown) : Type 0 where
   pub text : List ℕ
   pub text_said : Gains (air.said before) (air.said now) text
   pub ends :
-      (start : AtDisk P D) (events : List Input) (why : Option Halt) (said : List ℕ) → course.owes start events why said old
+      (start : AtDisk P D) (events : List Input) (why : Option Halt) (said : List ℕ)
+      → course.owes start events why said old
       → MatchResult result (λ _. Settles course start events why (said ++ text) new)
       (λ _. course.halts start events (stop_at_put why) true (said ++ text) new)
   pub heard : air.heard now ≡ air.heard before
@@ -189,8 +192,8 @@ pub record SaysAll {P D A : Type 0} (course : Course P D Input) (air : AirGhosts
   pub cause : HasCause (air.write_faults before) (air.write_faults now) result
 
 -- The party took these inputs, or stopped at one of them, and this was said.
-pub record Takes {P D A : Type 0} (course : Course P D Input) (air : AirGhosts A) (before now : A) (old new : AtDisk P D)
-    (inputs : List Input) (result : Result ⊤ NodeStop) : Type 0 where
+pub record Takes {P D A : Type 0} (course : Course P D Input) (air : AirGhosts A) (before now : A)
+    (old new : AtDisk P D) (inputs : List Input) (result : Result ⊤ NodeStop) : Type 0 where
   pub text : List ℕ
   pub text_said : Gains (air.said before) (air.said now) text
   pub unsaid : Bool
@@ -202,17 +205,16 @@ pub record Takes {P D A : Type 0} (course : Course P D Input) (air : AirGhosts A
   pub heard : air.heard now ≡ air.heard before
   pub counts : HasAirCause air before now result
 
--- The party took octets from the front of the piece, at least one; or it stopped at one of them.
+-- Octets from the front of the piece were taken, at least one; or it stopped at one of them. What takes inputs is
+-- given.
 abbrev pub TakesPiece :
-    {P D A : Type 0} → Course P D Input → AirGhosts A → A → A → AtDisk P D → AtDisk P D → (List ℕ → List Input) → List ℕ
-    → Result ℕ NodeStop → Type 0
-TakesPiece course air before now old new inputs piece (Ok taken) =
-    (0 < taken) × (taken ≤ length piece) × Takes course air before now old new (inputs (take taken piece)) (Ok tt)
-TakesPiece course air before now old new inputs piece (Err why) =
-    (taken : ℕ) × Takes course air before now old new (inputs (take taken piece)) (Err why)
+    (List Input → Result ⊤ NodeStop → Type 0) → (List ℕ → List Input) → List ℕ → Result ℕ NodeStop → Type 0
+TakesPiece Taken inputs piece (Ok taken) =
+    (0 < taken) × (taken ≤ length piece) × Taken (inputs (take taken piece)) (Ok tt)
+TakesPiece Taken inputs piece (Err why) = (taken : ℕ) × Taken (inputs (take taken piece)) (Err why)
 
--- How a turn ended: all that it handed over was taken, and it left the air open, or closed it; or the poll failed; or the
--- party stopped at something that it handed over.
+-- How a turn ended: all that it handed over was taken, and it left the air open, or closed it; or the poll failed; or
+-- the party stopped at something that it handed over.
 abbrev pub TurnEnds : Turn → Result Bool NodeStop → (Result ⊤ NodeStop → Type 0) → Type 0
 TurnEnds next (Ok true) Taken = IsOpen next × Taken (Ok tt)
 TurnEnds next (Ok false) Taken = (next ≡ turn.End) × Taken (Ok tt)
@@ -222,8 +224,8 @@ TurnEnds next (Err stop.Disk) Taken = IsOpen next × Taken (Err stop.Disk)
 TurnEnds next (Err stop.OutOfMemory) Taken = IsOpen next × Taken (Err stop.OutOfMemory)
 TurnEnds next (Err stop.Spent) Taken = ⊥
 
--- One turn: a poll, and what the party made of what the turn handed over; a turn that closed the air, or whose poll failed,
--- left it as it was.
+-- One turn: a poll, and what the party made of what the turn handed over; a turn that closed the air, or whose poll
+-- failed, left it as it was.
 pub record TookTurn {P D A : Type 0} (course : Course P D Input) (air : AirGhosts A) (before now : A)
     (old new : AtDisk P D) (hands_over : Turn → List Input) (result : Result Bool NodeStop) : Type 0 where
   pub next : Turn

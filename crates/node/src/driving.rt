@@ -11,9 +11,9 @@ use disk_model::Disk;
 use px_base::{Air, Call, Clock};
 
 /// Drives the station with this call over an air: says what it has to give, and takes turns as
-/// [`take_turns`](crate::take_turns) does. Each frame that the octets finish, that reads, in which no repeater is named and
-/// that is for the station, is heard, and the frames that it gives are said, each by one put, before the next octet is
-/// looked at; every other part is passed over. Gives the station back.
+/// [`take_turns`](crate::take_turns) does. Each frame that the octets finish, that reads, in which no repeater is
+/// named and that is for the station, is heard, and the frames that it gives are said, each by one put, before the
+/// next octet is looked at; every other part is passed over. Gives the station back.
 pub fn drive<D: Disk, S: Station<D>, A: Air, C: Clock>(
     me: Call,
     station: S,

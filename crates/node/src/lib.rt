@@ -1,5 +1,5 @@
-//! The node: what drives a party over an air, a clock and a disk, turn by turn; and the events of a station, which frames it
-//! hears in what an air brings, and when it ticks (KISS; AX.25 2.0). Servers and clients share it.
+//! The node: what drives a party over an air, a clock and a disk, turn by turn; and the events of a station, which
+//! frames it hears in what an air brings, and when it ticks (KISS; AX.25 2.0). Servers and clients share it.
 #![tactic(auto)]
 
 mod driving;

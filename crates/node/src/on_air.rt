@@ -11,8 +11,8 @@ use disk_model::Disk;
 use kiss::write_frame;
 use px_base::Call;
 
-/// A station on the air: it hears the frames for it in the KISS text that is heard, passes over every other part, and the
-/// frames that it gives are said as KISS text.
+/// A station on the air: it hears the frames for it in the KISS text that is heard, passes over every other part, and
+/// the frames that it gives are said as KISS text.
 pub(crate) struct OnAir<S> {
     /// What reads of the KISS text, for the station's call.
     pub(crate) reader: StationReader,

@@ -11,8 +11,8 @@ use disk_model::Disk;
 /// The most octets that a party gives at once.
 pub const MOST_SAID: usize = 2049;
 
-/// What a node drives over a disk of this kind: octets and ticks go in, and texts come out, each to be said by one put of
-/// the air. Its course is what its owner says of it.
+/// What a node drives over a disk of this kind: octets and ticks go in, and texts come out, each to be said by one
+/// put of the air. Its course is what its owner says of it.
 pub trait Party<D: Disk> {
     /// Over which inputs it comes from where to where, and what it gives.
     ghost course: { Course Self D Input };
@@ -26,8 +26,8 @@ pub trait Party<D: Disk> {
         requires fit { course.is_fit (at self.old disk.old) }
         ensures some { IfOk result (λ taken. 0 < taken) }
         ensures within { IfOk result (λ taken. taken ≤ length piece.now) }
-        ensures takes { IfOk result (λ taken. course.owes (at self.old disk.old) (octets_at moment (take taken piece.now))
-            None [] (at self.new disk.new)) }
+        ensures takes { IfOk result (λ taken. course.owes (at self.old disk.old)
+            (octets_at moment (take taken piece.now)) None [] (at self.new disk.new)) }
         ensures halts { IfErr result (λ why. HaltsWithin course (at self.old disk.old) (octets_at moment) piece.now why
             (at self.new disk.new)) };
 

@@ -13,8 +13,8 @@ use arrayvec::ArrayVec;
 use ax25_frames::Frame;
 use disk_model::Disk;
 
-/// A station of AX.25 over a disk of this kind: frames for it and ticks go in, and frames come out. Its course is what its
-/// owner says of it; the text that it gives is the KISS text of its frames.
+/// A station of AX.25 over a disk of this kind: frames for it and ticks go in, and frames come out. Its course is
+/// what its owner says of it; the text that it gives is the KISS text of its frames.
 pub trait Station<D: Disk> {
     /// Whose frames it hears.
     ghost me: { Self → CallSign };

@@ -12,8 +12,8 @@ use kiss::{KissFed, KissReader};
 use px_base::Call;
 use std::marker::Model;
 
-/// What a station reads of KISS text, octet by octet: the frames for it in which no repeater is named. Every other part of
-/// the text is passed over. It keeps at most one part, and takes no memory beside itself.
+/// What a station reads of KISS text, octet by octet: the frames for it in which no repeater is named. Every other
+/// part of the text is passed over. It keeps at most one part, and takes no memory beside itself.
 #[derive(Debug, Drop)]
 pub struct StationReader {
     me: Call,
@@ -40,8 +40,8 @@ impl StationReader {
         }
     }
 
-    /// Takes one octet, and says whether it ended a frame of KISS text, which [`frame`](StationReader::frame) then looks at.
-    /// Takes no memory.
+    /// Takes one octet, and says whether it ended a frame of KISS text, which [`frame`](StationReader::frame) then
+    /// looks at. Takes no memory.
     #[inline]
     pub fn feed(&mut self, octet: u8) -> bool
         ensures me { self.new.me ≡ self.old.me }
@@ -51,8 +51,8 @@ impl StationReader {
         matches!(self.reader.feed(octet), KissFed::Frame)
     }
 
-    /// The frame for the station that the last octet ended, if what it ended is one. The last `feed` has to have ended a
-    /// frame of KISS text. Takes no memory.
+    /// The frame for the station that the last octet ended, if what it ended is one. The last `feed` has to have
+    /// ended a frame of KISS text. Takes no memory.
     pub fn frame(&self) -> Option<Frame<'_>>
         requires { IsSome self.now.ended }
         ensures frame { IfSome self.now.ended (λ octets. Finds self.now.me octets (option_map value_of result)) }

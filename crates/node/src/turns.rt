@@ -11,15 +11,15 @@ use arrayvec::ArrayVec;
 use disk_model::Disk;
 use px_base::{Air, AirDown, Clock, Polled, ROOM};
 
-/// Says what the party has to give, and takes turns until it is over, or up to the end of the air, or as many polls as may
-/// be made. A turn takes its moment, and then one poll. The octets are handed to the party, from their front on, as far as
-/// they finish something, and what it then gives is said, each text by one put, before the next octet is handed over.
-/// Then, where the moment isn't the one of the turn before, there is one tick, and what the party then gives is said. A
-/// turn is whole: only between turns it is looked at whether the party is over.
+/// Says what the party has to give, and takes turns until it is over, or up to the end of the air, or as many polls
+/// as may be made. A turn takes its moment, and then one poll. The octets are handed to the party, from their front
+/// on, as far as they finish something, and what it then gives is said, each text by one put, before the next octet
+/// is handed over. Then, where the moment isn't the one of the turn before, there is one tick, and what the party
+/// then gives is said. A turn is whole: only between turns it is looked at whether the party is over.
 ///
-/// An error: `AirRead` where a poll failed and the air's count of those rose, `AirWrite` where a put failed and its count
-/// rose, and `Spent` where as many polls were made as may be. Where the party halts, what it still gives is said, whatever
-/// becomes of that, and the error is `Disk` or `OutOfMemory`.
+/// An error: `AirRead` where a poll failed and the air's count of those rose, `AirWrite` where a put failed and its
+/// count rose, and `Spent` where as many polls were made as may be. Where the party halts, what it still gives is
+/// said, whatever becomes of that, and the error is `Disk` or `OutOfMemory`.
 pub fn take_turns<D: Disk, P: Party<D>, A: Air, C: Clock>(
     party: &mut P,
     disk: &mut D,
@@ -72,8 +72,8 @@ fn moment_given<C: Clock>(given: Option<u32>, clock: &mut C) -> u32
     }
 }
 
-/// Takes one turn at this moment: a poll, what it hands over, and a tick where the last one was at another moment. It is
-/// false where the poll read the end of the air.
+/// Takes one turn at this moment: a poll, what it hands over, and a tick where the last one was at another moment. It
+/// is false where the poll read the end of the air.
 fn take_turn<D: Disk, P: Party<D>, A: Air>(
     party: &mut P,
     disk: &mut D,
@@ -133,7 +133,7 @@ fn hear_piece<D: Disk, P: Party<D>, A: Air>(
 ) -> Result<usize, NodeStop>
     requires some { 0 < length piece.now }
     requires fit { P.course.is_fit (at party.old disk.old) }
-    ensures { TakesPiece P.course A.Air air.old air.new (at party.old disk.old) (at party.new disk.new)
+    ensures { TakesPiece (Takes P.course A.Air air.old air.new (at party.old disk.old) (at party.new disk.new))
         (octets_at moment) piece.now result }
 {
     match party.hear(disk, piece, moment) {

@@ -2,14 +2,14 @@
 use Rattle.std.proofs.Common.{take}
 use Rattle.node.specs.Course.{at}
 use Rattle.node.specs.Inputs.{octets_at}
-use Rattle.node.specs.Turns.{TakesPiece}
+use Rattle.node.specs.Turns.{Takes, TakesPiece}
 use Rattle.node.specs.declared.stop.NodeStop.TheVariants as stop
 use Rattle.node.proofs.SayingLemmas.{at_exit, taken-unsaid}
 use Rattle.node.proofs.turns.hear_piece.Goals as goal
 
 pub returns-in_err-put_all-in-Ok : goal.returns-in_err-put_all-in-Ok
 returns-in_err-put_all-in-Ok g c =
-    at_exit (λ r. TakesPiece g.P.Party.course g.A.Air c.args.air.now c.put_all.new.air (at c.args.party.now c.args.disk.now) (at c.put_all.new.party c.put_all.new.disk) (octets_at c.args.moment) c.args.piece.now r)
+    at_exit (λ r. TakesPiece (Takes g.P.Party.course g.A.Air c.args.air.now c.put_all.new.air (at c.args.party.now c.args.disk.now) (at c.put_all.new.party c.put_all.new.disk)) (octets_at c.args.moment) c.args.piece.now r)
     c.from_residual.result stop.AirWrite c.from_residual.ensures.1 (
       c.in-Ok.taken,
       taken-unsaid g.P.Party.course g.A.Air c.args.air.now c.put_all.new.air (at c.args.party.now c.args.disk.now) (at c.hear.new.self c.hear.new.disk) (at c.put_all.new.party c.put_all.new.disk)
