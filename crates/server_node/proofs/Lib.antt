@@ -4,3 +4,4 @@ mod ServingLemmas
 mod StationLemmas
 mod StepLemmas
 mod StoreLemmas
+mod TurnsLemmas
