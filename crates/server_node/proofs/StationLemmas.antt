@@ -142,7 +142,7 @@ module _ {D : Type 0} (g : Ghosts D) (lasts : (disk : D) → g.lasts disk disk) 
 
   -- ---- no events
 
-  goes-none : (start : AtDisk ServerStation D) → IsUp g start → (server_course g).goes start [] [] start
+  pub goes-none : (start : AtDisk ServerStation D) → IsUp g start → (server_course g).goes start [] [] start
   goes-none start up server serving = record {
     frames = [];
     commands = [];
