@@ -1,5 +1,5 @@
 -- What a server did over the turns of its node.
-use Rattle.std.proofs.Common.{◌≡◌, ◌⊎◌, ℕ, ◌+◌, List, [], ◌∷◌, ◌++◌, length, take, drop, true, false, Option, None, refl, ap, sym, subst, ◌∙◌, inl, inr, true≢false, length-append, arith}
+use Rattle.std.proofs.Common.{◌≡◌, ◌⊎◌, ℕ, ◌+◌, List, [], ◌∷◌, ◌++◌, length, take, drop, false, Option, None, refl, ap, sym, subst, ◌∙◌, inl, inr, true≢false, length-append, arith}
 use Rattle.std.proofs.lemmas.List.{length-take-le, take-append-drop}
 use Rattle.std.specs.Prelude.{◌≢◌, Result, Ok, Err, IsErrOf}
 use Rattle.px_base.specs.Outside.{Gains, Grows}
@@ -19,7 +19,6 @@ use Rattle.node.specs.declared.finished.Finished.TheVariants as finished
 use Rattle.node.specs.declared.stop.NodeStop.{NodeStop as StopOfNode}
 use Rattle.node.specs.declared.stop.NodeStop.TheVariants as node_stop
 use Rattle.node.specs.declared.terms.TurnTerms.{TurnTerms}
-use Rattle.ftl0_server.specs.Server.{Server}
 use Rattle.session_node.specs.declared.stop.NodeStop.TheVariants as stop
 use Rattle.session_node.specs.declared.stop.NodeStop.{NodeStop}
 use Rattle.session_node.specs.declared.terms.Served.{Served}
@@ -27,7 +26,7 @@ use Rattle.session_node.specs.SessionRan.{IsButLast, TurnsBy}
 use Rattle.session_node.specs.Stops.{HasAirCause}
 use Rattle.session_node.proofs.Offered.{of_error}
 use Rattle.server_node.specs.Served.{EndsOver, ServerRan, server_from}
-use Rattle.server_node.specs.Serving.{StopsBehind, TakesAll, text_of}
+use Rattle.server_node.specs.Serving.{StopsBehind, TakesAll}
 use Rattle.server_node.specs.Station.{EndsAs, IsServing, IsUp, server_course, stop_by}
 use Rattle.server_node.specs.declared.station.ServerStation.{ServerStation}
 use Rattle.server_node.specs.declared.terms.ServerTerms.{ServerTerms}

@@ -42,6 +42,7 @@ impl ServerStation {
 /// After a fault of the disk the frames of that event are said, code 3 among them; after want of memory none of them is.
 impl<D: Disk> Station<D> for ServerStation {
     ghost me = { λ it. it.server.me };
+
     ghost course = { server_course D.Disk };
 
     fn hear(&mut self, disk: &mut D, frame: &Frame<'_>, moment: u32) -> Result<(), Halt> {

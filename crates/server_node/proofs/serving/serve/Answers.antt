@@ -1,5 +1,5 @@
 -- The recovery is refused, or the server serves over what it gives.
-use Rattle.std.proofs.Common.{inl, inr, refl, sym, subst, ◌≡◌, Result}
+use Rattle.std.proofs.Common.{inl, inr, refl, sym, subst, Result}
 use Rattle.ftl0_server.specs.ServerState.{ServerState}
 use Rattle.file_store.specs.State.{store_in}
 use Rattle.node.specs.Turns.{lent}
