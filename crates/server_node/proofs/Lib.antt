@@ -1,11 +1,7 @@
-mod HearingLemmas
-mod Invariants
 mod SendingLemmas
 mod ServesLemmas
 mod ServingLemmas
+mod StationLemmas
 mod StepLemmas
 mod StoreLemmas
-mod TakesLemmas
-mod TurnEvents
-mod TurnLemmas
 mod TurnsLemmas

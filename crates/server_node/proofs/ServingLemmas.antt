@@ -30,8 +30,12 @@ use Rattle.session_node.specs.SessionRan.{TurnsBy}
 use Rattle.session_node.specs.Stops.{RefusesSession, stop_of_fault}
 use Rattle.session_node.proofs.Offered.{append-none, node_runs, own_blocks, refused_exactly, refused_leaves, refused_runs, runs_same, session_puts, session_reads, stands_through}
 use Rattle.server_node.specs.declared.terms.ServerTerms.{ServerTerms}
-use Rattle.server_node.specs.Node.{IsServing, IsUp, NodeState, TakesTurns}
+use Rattle.server_node.specs.Station.{IsUp}
+use Rattle.server_node.specs.declared.station.ServerStation.{ServerStation}
 use Rattle.server_node.specs.Served.{ServerServed, server_from}
+use Rattle.server_node.proofs.TurnsLemmas.{Did}
+use Rattle.node.specs.Course.{at}
+use Rattle.node.specs.Turns.{Lent}
 
 -- ---- a recovery that is refused, whatever it would have given
 
@@ -74,17 +78,15 @@ pub record IsStarted {D : Type 0} (g : Ghosts D) (terms : ServerTerms) (old mid 
   pub rules : IsStore (store_in self.store)
   pub silent : server_pending self ≡ false
 
--- it has nothing to send
-pub started_serving : {D : Type 0} (g : Ghosts D) (terms : ServerTerms) (old mid : D) (self : ServerState) → IsStarted g terms old mid self → IsServing self (server_from terms (store_in self.store))
-started_serving g terms old mid self started = record { is = started.server; silent = refl }
-
-pub started_up : {D : Type 0} (g : Ghosts D) (terms : ServerTerms) (old mid : D) (self : ServerState) → IsStarted g terms old mid self → IsUp g self mid
-started_up g terms old mid self started = record {
+-- it may take an event
+pub started_up : {D : Type 0} (g : Ghosts D) (terms : ServerTerms) (old mid : D) (station : ServerStation) → IsStarted g terms old mid station.server → station.is_out_of_memory ≡ false → IsUp g (at station mid)
+started_up g terms old mid station started memory = record {
   healthy = started.recovered.healthy;
   stands_on = started.recovered.stands_on;
   silent = started.silent;
-  server = server_from terms (store_in self.store);
-  serving = started_serving g terms old mid self started;
+  memory = memory;
+  server = server_from terms (store_in station.server.store);
+  serving = record { is = started.server; silent = refl };
 }
 
 module _ {D : Type 0} (g : Ghosts D) (on : (first second third : D) → g.lasts first second → g.lasts second third → g.lasts first third)
@@ -124,22 +126,22 @@ module _ {D : Type 0} (g : Ghosts D) (on : (first second third : D) → g.lasts 
   left_at_end done cut cuts = left_by (done ++ cut) (cuts-among-all g on failed missed start new mid now done cut cuts)
 
 module _ {A C D : Type 0} (g : Ghosts D) (air : AirGhosts A) (given : C → Option (List ℕ)) (on : (first second third : D) → g.lasts first second → g.lasts second third → g.lasts first third)
-    (earlier : (disk : D) (t u : ℕ) (image : List ℕ) → t ≤ u → g.images_since disk u image → g.images_since disk t image) (old mid now : D) (before after : A) (clock clock_n : C) (terms : ServerTerms)
-    (node node_n : NodeState) (result : Result Served NodeStop) (started : IsStarted g terms old mid node.server) (failed : Type 0) (fine : ¬ failed) (ok : Runs g failed old mid)
-    (served : TakesTurns g air given before after clock clock_n node node_n mid now terms.polls (server_from terms (store_in node.server.store)) result) where
-  pub server_served : TakesStep g old mid (Becomes (after_recovery store_magic terms.limits.blocks)) → Leaves g old mid (StandsAlike terms.limits.blocks)
-      → IfSome (g.content old) (λ octets. IsSyncedFirst g old mid (StandsAlike terms.limits.blocks octets)) → ServerServed g air given old now before after clock clock_n terms result
+    (earlier : (disk : D) (t u : ℕ) (image : List ℕ) → t ≤ u → g.images_since disk u image → g.images_since disk t image) (old : D) (terms : ServerTerms) (mid now : Lent ServerStation D A C)
+    (result : Result Served NodeStop) (started : IsStarted g terms old mid.disk mid.party.server) (failed : Type 0) (fine : ¬ failed) (ok : Runs g failed old mid.disk)
+    (served : Did g air given terms (store_in mid.party.server.store) mid now result) where
+  pub server_served : TakesStep g old mid.disk (Becomes (after_recovery store_magic terms.limits.blocks)) → Leaves g old mid.disk (StandsAlike terms.limits.blocks)
+      → IfSome (g.content old) (λ octets. IsSyncedFirst g old mid.disk (StandsAlike terms.limits.blocks octets)) → ServerServed g air given old now.disk mid.air now.air mid.clock now.clock terms result
   server_served octets since_start synced =
       let standing =
-      stands_through g on (IsErrOf result stop.Disk) terms.limits.blocks old mid now node.server.store node_n.server.store served.done served.cut served.missed ok.told started.recovered.content since_start synced
+      stands_through g on (IsErrOf result stop.Disk) terms.limits.blocks old mid.disk now.disk mid.party.server.store now.party.server.store served.done served.cut served.missed ok.told started.recovered.content since_start synced
       served.cuts
-      (λ still. left_at_end g on earlier (IsErrOf result stop.Disk) still terms.limits.blocks old mid now node.server.store node_n.server.store ok.told started.recovered.content synced served.missed served.done
+      (λ still. left_at_end g on earlier (IsErrOf result stop.Disk) still terms.limits.blocks old mid.disk now.disk mid.party.server.store now.party.server.store ok.told started.recovered.content synced served.missed served.done
       served.cut served.cuts) in
       record {
-        start = store_in node.server.store;
+        start = store_in mid.party.server.store;
         rules = started.rules;
         stood = started.recovered.content;
-        recovered = mid;
+        recovered = mid.disk;
         octets = octets;
         turns = served.turns;
         moments = served.moments;
@@ -152,17 +154,17 @@ module _ {A C D : Type 0} (g : Ghosts D) (air : AirGhosts A) (given : C → Opti
         text_said = served.text_said;
         ran = served.ran;
         puts =
-            session_puts g on (IsErrOf result stop.Disk) terms.limits.blocks old mid now node.server.store node_n.server.store served.done served.cut served.missed ok.told started.recovered.content since_start synced
+            session_puts g on (IsErrOf result stop.Disk) terms.limits.blocks old mid.disk now.disk mid.party.server.store now.party.server.store served.done served.cut served.missed ok.told started.recovered.content since_start synced
             served.cuts failed fine ok
-            (cuts-among-puts g on (IsErrOf result stop.Disk) served.missed node.server.store node_n.server.store mid now served.done served.cut served.cuts);
+            (cuts-among-puts g on (IsErrOf result stop.Disk) served.missed mid.party.server.store now.party.server.store mid.disk now.disk served.done served.cut served.cuts);
         reads =
-            session_reads g on (IsErrOf result stop.Disk) terms.limits.blocks old mid now node.server.store node_n.server.store served.done served.cut served.missed ok.told started.recovered.content since_start synced
+            session_reads g on (IsErrOf result stop.Disk) terms.limits.blocks old mid.disk now.disk mid.party.server.store now.party.server.store served.done served.cut served.missed ok.told started.recovered.content since_start synced
             served.cuts failed fine ok;
         stands = standing.0;
         ready = standing.1;
         none = λ none.
             let both = append-none served.done served.cut none in
-            subst (λ (d : D). ChangesReads g mid d) (sym (served.cuts.second.none both.1)) (served.cuts.first.none both.0);
+            subst (λ (d : D). ChangesReads g mid.disk d) (sym (served.cuts.second.none both.1)) (served.cuts.first.none both.0);
       }
 
   -- no server is refused that served

@@ -1,7 +1,7 @@
 -- The store of a server is the one after its commands.
 use Rattle.std.proofs.Common.{◌≡◌, ℕ, ◌+◌, List, [], ◌∷◌, ◌++◌, Bool, true, false, Option, None, Some, refl, ap, sym}
 use Rattle.std.proofs.Common.{◌∙◌, append_assoc}
-use Rattle.std.specs.Prelude.{◌&&◌, ◌||◌, if◌then◌else◌, slice_get}
+use Rattle.std.specs.Prelude.{◌&&◌, if◌then◌else◌, slice_get}
 use Rattle.ax25_frames.specs.FrameText.{FrameValue}
 use Rattle.ftl0_server.specs.Rows.{is_call}
 use Rattle.file_store.specs.Command.{Command, after_all}

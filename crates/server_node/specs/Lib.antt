@@ -1,5 +1,4 @@
-pub mod Inside
 pub mod Laws
-pub mod Node
 pub mod Served
 pub mod Serving
+pub mod Station

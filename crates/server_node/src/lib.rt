@@ -2,8 +2,8 @@
 #![tactic(auto)]
 
 pub mod laws;
-mod node;
 mod serving;
+mod station;
 mod terms;
 
 pub use serving::serve;

@@ -1,15 +1,17 @@
 //! The server, from the recovery of its store to its end.
 
-ghost use Rattle.std.specs.Prelude.{◌≤◌, IsErrOf};
+ghost use Rattle.std.specs.Prelude.{◌≡◌, ◌≢◌, ◌≤◌, IsErrOf, Ok};
 ghost use Rattle.ftl0_server.specs.Window.{IsGoodK};
 ghost use Rattle.server_node.specs.Served.{ServerEnds};
+ghost use Rattle.server_node.specs.Station.{EndsAs, stop_by};
 ghost use Rattle.session_node.specs.OnDisk.{NodeRuns};
 ghost use Rattle.session_node.specs.Stops.{HasAirCause, RefusesSession};
 
 use crate::ServerTerms;
-use crate::node::ServerNode;
+use crate::station::ServerStation;
 use disk_model::Disk;
 use ftl0_server::Server;
+use node::{Finished, TurnTerms, drive};
 use px_base::{Air, Clock};
 use session_node::{NodeStop, Served};
 use std::alloc::Global;
@@ -48,8 +50,39 @@ pub fn serve<D: Disk, A: Air, C: Clock>(
     ensures runs { NodeRuns D.Disk (IsErrOf result NodeStop.Disk) disk.old disk.new }
 {
     let server = Server::start(alloc, disk, terms.limits, terms.me, terms.k)?;
-    let mut node = ServerNode::new(terms.me, server);
-    let ended = node.serve(disk, air, clock, terms.polls);
-    node.close();
-    ended
+    let station = ServerStation::new(server);
+    let turns = TurnTerms {
+        polls: terms.polls,
+        given: None,
+        first: None,
+    };
+    let (station, ended) = drive(terms.me, station, disk, air, clock, &turns);
+    station.close();
+    served(ended)
+}
+
+/// How the serving ended, by how the turns of its node did.
+fn served(ended: Result<Finished, node::NodeStop>) -> Result<Served, NodeStop>
+    requires { ended ≢ Ok Finished.Over }
+    ensures { EndsAs ended result }
+{
+    match ended {
+        Ok(Finished::Closed(turns)) => Ok(Served { turns }),
+        // A server is never over.
+        Ok(Finished::Over) => unreachable!(),
+        Err(why) => Err(stop_of_node(why)),
+    }
+}
+
+/// How the stop of a node stops the serving.
+fn stop_of_node(why: node::NodeStop) -> NodeStop
+    ensures { result ≡ stop_by why }
+{
+    match why {
+        node::NodeStop::AirRead => NodeStop::AirRead,
+        node::NodeStop::AirWrite => NodeStop::AirWrite,
+        node::NodeStop::Disk => NodeStop::Disk,
+        node::NodeStop::Spent => NodeStop::Spent,
+        node::NodeStop::OutOfMemory => NodeStop::OutOfMemory,
+    }
 }

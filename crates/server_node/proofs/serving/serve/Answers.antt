@@ -1,16 +1,55 @@
 -- The recovery is refused, or the server serves over what it gives.
 use Rattle.std.proofs.Common.{inl, inr, refl, sym, subst, Result}
-use Rattle.std.specs.Prelude.{IsErrOf}
 use Rattle.ftl0_server.specs.ServerState.{ServerState}
+use Rattle.file_store.specs.State.{store_in}
+use Rattle.node.specs.Turns.{lent}
+use Rattle.session_node.specs.OnDisk.{NodeRuns}
+use Rattle.std.specs.Prelude.{IsErrOf}
 use Rattle.session_node.specs.declared.stop.NodeStop.{NodeStop}
 use Rattle.session_node.specs.declared.stop.NodeStop.TheVariants as stop
 use Rattle.session_node.specs.declared.terms.Served.{Served}
-use Rattle.session_node.specs.OnDisk.{NodeRuns}
 use Rattle.session_node.specs.Stops.{RefusesSession, stop_of_fault}
 use Rattle.session_node.proofs.Offered.{at_exit, runs_refused}
 use Rattle.server_node.specs.Served.{ServerEnds}
-use Rattle.server_node.proofs.ServingLemmas.{IsStarted, not_failed, server_exactly, server_runs, server_served, start_exactly, start_leaves, start_runs, start_synced, started_serving, started_up}
+use Rattle.server_node.proofs.TurnsLemmas.{all-did, never-over}
+use Rattle.server_node.proofs.ServingLemmas.{IsStarted, not_failed, server_exactly, server_runs, server_served, start_exactly, start_leaves, start_runs, start_synced, started_up}
 use Rattle.server_node.proofs.serving.serve.Goals as goal
+
+pub drive-station-requires-clause-owes : goal.drive-station-requires-clause-owes
+drive-station-requires-clause-owes g c =
+    let h = c.in_ok-server.ensures in
+    let started = subst (λ (s : ServerState). IsStarted g.D.Disk c.args.terms.now c.args.disk.now c.start.new.disk s) (sym c.new-station.ensures.server)
+    (record { recovered = h.recovered; server = h.server; rules = h.rules; silent = h.silent }) in
+    (started_up g.D.Disk c.args.terms.now c.args.disk.now c.start.new.disk c.new-station.result started c.new-station.ensures.memory, λ server serving. (refl, refl, refl))
+
+pub served-requires : goal.served-requires
+served-requires g c =
+    let new = c.drive-station.new in
+    never-over g.D.Disk g.A.Air g.C.Clock.given c.args.terms.now (lent c.new-station.result c.start.new.disk c.args.air.now c.args.clock.now) (lent c.drive-station.result.0 new.disk new.air new.clock)
+    c.drive-station.result.1 c.drive-station.ensures.turns
+
+pub returns : goal.returns
+returns g c =
+    let h = c.in_ok-server.ensures in
+    let new = c.drive-station.new in
+    let terms = c.args.terms.now in
+    let disk = c.args.disk.now in
+    let started = subst (λ (s : ServerState). IsStarted g.D.Disk terms disk c.start.new.disk s) (sym c.new-station.ensures.server)
+    (record { recovered = h.recovered; server = h.server; rules = h.rules; silent = h.silent }) in
+    let up = started_up g.D.Disk terms disk c.start.new.disk c.new-station.result started c.new-station.ensures.memory in
+    let mid = lent c.new-station.result c.start.new.disk c.args.air.now c.args.clock.now in
+    let now = lent c.drive-station.result.0 new.disk new.air new.clock in
+    let did = all-did g.D.Disk g.A.Air g.C.Clock.given terms mid now c.drive-station.result.1 c.drive-station.ensures.turns g.met.D.Disk.lasts_same g.met.D.Disk.lasts_on
+    (store_in c.new-station.result.server.store) up (record { is = started.server; silent = refl }) c.served.result c.served.ensures in
+    let fine = not_failed ServerState c.in_ok-server.server in
+    let served = server_served g.D.Disk g.A.Air g.C.Clock.given g.met.D.Disk.lasts_on g.met.D.Disk.earlier disk terms mid now c.served.result started _ fine h.runs did h.octets h.since_start
+    (start_synced g.D.Disk terms.limits.blocks c.in_ok-server.server disk c.start.new.disk h.since_sync) in
+    record {
+      refuses = server_exactly g.D.Disk g.A.Air g.C.Clock.given g.met.D.Disk.lasts_on g.met.D.Disk.earlier disk terms mid now c.served.result started _ fine h.runs did;
+      ends = inr served;
+      counts = did.counts;
+      runs = server_runs g.D.Disk g.A.Air g.C.Clock.given disk new.disk c.args.air.now new.air c.args.clock.now new.clock terms c.served.result served;
+    }
 
 pub returns-in_err-server-clause-refuses : goal.returns-in_err-server-clause-refuses
 returns-in_err-server-clause-refuses g c =
@@ -34,44 +73,6 @@ returns-in_err-server-clause-ends g c =
           c.in_err-server.ensures.untouched c.in_err-server.ensures.untouched_damage;
       runs = start_runs _ why g.D.Disk c.args.disk.now c.start.new.disk c.in_err-server.ensures.runs;
     }))
-
-pub serve-ended-requires-clause-up : goal.serve-ended-requires-clause-up
-serve-ended-requires-clause-up g c =
-    let h = c.in_ok-server.ensures in
-    let started = subst (λ (s : ServerState). IsStarted g.D.Disk c.args.terms.now c.args.disk.now c.start.new.disk s) (sym c.new-node.ensures.server)
-    (record { recovered = h.recovered; server = h.server; rules = h.rules; silent = h.silent }) in
-    started_up g.D.Disk c.args.terms.now c.args.disk.now c.start.new.disk c.new-node.result.server started
-
-pub returns-clause-refuses : goal.returns-clause-refuses
-returns-clause-refuses g c =
-    let h = c.in_ok-server.ensures in
-    let started = subst (λ (s : ServerState). IsStarted g.D.Disk c.args.terms.now c.args.disk.now c.start.new.disk s) (sym c.new-node.ensures.server)
-    (record { recovered = h.recovered; server = h.server; rules = h.rules; silent = h.silent }) in
-    let serving = started_serving g.D.Disk c.args.terms.now c.args.disk.now c.start.new.disk c.new-node.result.server started in
-    server_exactly g.D.Disk g.A.Air g.C.Clock.given g.met.D.Disk.lasts_on g.met.D.Disk.earlier c.args.disk.now c.start.new.disk c.serve-ended.new.disk c.args.air.now c.serve-ended.new.air c.args.clock.now
-    c.serve-ended.new.clock c.args.terms.now c.new-node.result c.serve-ended.new.self c.serve-ended.result started _ (not_failed ServerState c.in_ok-server.server) h.runs
-    (c.serve-ended.ensures.serves _ serving)
-
-pub returns-clause-ends : goal.returns-clause-ends
-returns-clause-ends g c =
-    let h = c.in_ok-server.ensures in
-    let started = subst (λ (s : ServerState). IsStarted g.D.Disk c.args.terms.now c.args.disk.now c.start.new.disk s) (sym c.new-node.ensures.server)
-    (record { recovered = h.recovered; server = h.server; rules = h.rules; silent = h.silent }) in
-    let serving = started_serving g.D.Disk c.args.terms.now c.args.disk.now c.start.new.disk c.new-node.result.server started in
-    inr (server_served g.D.Disk g.A.Air g.C.Clock.given g.met.D.Disk.lasts_on g.met.D.Disk.earlier c.args.disk.now c.start.new.disk c.serve-ended.new.disk c.args.air.now c.serve-ended.new.air c.args.clock.now
-    c.serve-ended.new.clock c.args.terms.now c.new-node.result c.serve-ended.new.self c.serve-ended.result started _ (not_failed ServerState c.in_ok-server.server) h.runs
-    (c.serve-ended.ensures.serves _ serving) h.octets h.since_start (start_synced g.D.Disk c.args.terms.now.limits.blocks c.in_ok-server.server c.args.disk.now c.start.new.disk h.since_sync))
-
-pub returns-clause-runs : goal.returns-clause-runs
-returns-clause-runs g c =
-    let h = c.in_ok-server.ensures in
-    let started = subst (λ (s : ServerState). IsStarted g.D.Disk c.args.terms.now c.args.disk.now c.start.new.disk s) (sym c.new-node.ensures.server)
-    (record { recovered = h.recovered; server = h.server; rules = h.rules; silent = h.silent }) in
-    let serving = started_serving g.D.Disk c.args.terms.now c.args.disk.now c.start.new.disk c.new-node.result.server started in
-    server_runs g.D.Disk g.A.Air g.C.Clock.given c.args.disk.now c.serve-ended.new.disk c.args.air.now c.serve-ended.new.air c.args.clock.now c.serve-ended.new.clock c.args.terms.now c.serve-ended.result
-    (server_served g.D.Disk g.A.Air g.C.Clock.given g.met.D.Disk.lasts_on g.met.D.Disk.earlier c.args.disk.now c.start.new.disk c.serve-ended.new.disk c.args.air.now c.serve-ended.new.air c.args.clock.now
-    c.serve-ended.new.clock c.args.terms.now c.new-node.result c.serve-ended.new.self c.serve-ended.result started _ (not_failed ServerState c.in_ok-server.server) h.runs
-    (c.serve-ended.ensures.serves _ serving) h.octets h.since_start (start_synced g.D.Disk c.args.terms.now.limits.blocks c.in_ok-server.server c.args.disk.now c.start.new.disk h.since_sync))
 
 pub returns-in_err-server-clause-runs : goal.returns-in_err-server-clause-runs
 returns-in_err-server-clause-runs g c =
