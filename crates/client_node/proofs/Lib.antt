@@ -1,13 +1,7 @@
-mod CarriedLemmas
+mod CourseLemmas
 pub mod GoesLemmas
-mod HearingLemmas
-mod Invariants
 mod MemoryLemmas
-mod OpenLemmas
-pub mod PromiseLemmas
+mod OwesLemmas
 mod QuietLemmas
-mod SendingLemmas
-mod TakesLemmas
-mod TurnEvents
-mod TurnLemmas
-mod TurnsLemmas
+mod SayingLemmas
+mod StopsLemmas
