@@ -19,6 +19,7 @@ use Rattle.ftl0_client.specs.declared.outcome.Outcome.{Outcome}
 use Rattle.client_node.specs.Carried.{CutsOff}
 use Rattle.client_node.specs.Carrying.{StopsOver, event_of, text_of}
 use Rattle.client_node.specs.Course.{CameToSome, HasBegun, IsFit, IsSettled, Notes, OwesBy, OwesOn, RunsOn, StopsOn, asked_of, asked_then, client_course}
+use Rattle.client_node.specs.Stops.{stop_of_node}
 use Rattle.client_node.specs.declared.station.ClientStation.{ClientStation}
 use Rattle.client_node.specs.declared.stop.NodeStop.{NodeStop}
 use Rattle.client_node.specs.declared.stop.NodeStop.TheVariants as stop
@@ -28,7 +29,7 @@ use Rattle.client_node.proofs.OwesLemmas.{owes-behind, owes-none, owes-one, owes
 use Rattle.client_node.proofs.QuietLemmas.{silent}
 
 -- further events of a node behind those of before
-asked-append : (asked : Option JobState) (events others : List NodeEvent) → asked_then asked events ++ map event_of others ≡ asked_then asked (events ++ others)
+pub asked-append : (asked : Option JobState) (events others : List NodeEvent) → asked_then asked events ++ map event_of others ≡ asked_then asked (events ++ others)
 asked-append asked events others =
     append_assoc (asked_of asked) (map event_of events) (map event_of others) ∙ ap (λ (es : List ClientEvent). asked_of asked ++ es) (sym (map-append _ events others))
 
@@ -192,14 +193,14 @@ module _ {D : Type 0} (g : Ghosts D) (lasts : (disk : D) → g.lasts disk disk) 
       k.0,
       λ base asked begun.
           let first = h base asked begun in
-          subst (λ (es : List ClientEvent). StopsOn g start now base es _ (text ++ more)) (asked-append asked events others)
-          (stops-then start mid now base (asked_then asked events) (map event_of others) text more first _ (k.1 first.next None first.settled)),
+          subst (λ (es : List ClientEvent). StopsOn g start now base es (stop_of_node why) (text ++ more)) (asked-append asked events others)
+          (stops-then start mid now base (asked_then asked events) (map event_of others) text more first (stop_of_node why) (k.1 first.next None first.settled)),
     );
     halts_before = λ start now events others text why unsaid are h. (
       h.0,
       λ base asked begun.
-          subst (λ (es : List ClientEvent). StopsOn g start now base es _ text) (asked-append asked events others)
-          (stops-further start now base (asked_then asked events) (map event_of others) text _ (h.1 base asked begun)),
+          subst (λ (es : List ClientEvent). StopsOn g start now base es (stop_of_node why) text) (asked-append asked events others)
+          (stops-further start now base (asked_then asked events) (map event_of others) text (stop_of_node why) (h.1 base asked begun)),
     );
   }
 

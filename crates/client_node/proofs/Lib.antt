@@ -1,3 +1,4 @@
+mod CarriedLemmas
 mod CourseLemmas
 pub mod GoesLemmas
 mod MemoryLemmas
