@@ -2,20 +2,20 @@
 use Rattle.std.proofs.lemmas.Option.{same_Some}
 use Rattle.std.specs.Result.{result_err}
 use Rattle.std.proofs.Common.{◌≡◌, ◌⊎◌, ℕ, ◌≤◌, List, [], ◌∷◌, ◌++◌, length, Bool, false, true, Option, Result, Ok, Err, refl, ap, sym, subst, ◌∙◌, inl, inr, suc, arith, append-nil}
-use Rattle.std.specs.Prelude.{None, Some, IsErrOf, OnOk, ⊤, map}
-use Rattle.px_base.specs.Moments.{MomentsOf}
+use Rattle.std.specs.Prelude.{None, Some, IfOk, IsErrOf, OnOk, ⊤, map}
 use Rattle.px_base.specs.declared.air.Air.{Ghosts as AirGhosts}
 use Rattle.px_base.specs.declared.air.Turn.{Turn}
 use Rattle.px_base.proofs.Told.{Gains-none, Grows-none}
 use Rattle.disk_model.specs.declared.disk.Disk.{Ghosts}
 use Rattle.ax25_frames.specs.FrameText.{FrameValue}
 use Rattle.client_notes.specs.Command.{NotesCommand}
+use Rattle.client_notes.specs.Notes.{Lists}
 use Rattle.client_notes.specs.State.{NotesState, StandsOn}
 use Rattle.client_notes.proofs.Offered.{Several-same}
 use Rattle.node.specs.Course.{AtDisk, at}
 use Rattle.node.specs.Events.{NodeEvent, NodeEvents}
 use Rattle.node.specs.Laws.{OneRunLaw}
-use Rattle.node.specs.Turns.{Brought, IsButLast, IsUnsaid, Lent, MomentsFrom, RanBy, StoppedInLast, TookAll, TookTurns}
+use Rattle.node.specs.Turns.{Brought, IsButLast, IsUnsaid, Lent, RanBy, StoppedInLast, TookAll, TookTurns}
 use Rattle.node.specs.Turns.{CountsBy as NodeCountsBy, IsOpenBefore, TurnsBy as NodeTurnsBy}
 use Rattle.node.specs.declared.finished.Finished.{Finished}
 use Rattle.node.specs.declared.finished.Finished.TheVariants as finished
@@ -23,15 +23,16 @@ use Rattle.node.specs.declared.stop.NodeStop as node
 use Rattle.node.specs.declared.stop.NodeStop.TheVariants as node_stop
 use Rattle.node.specs.declared.terms.TurnTerms.{TurnTerms}
 use Rattle.ftl0_client.specs.Calls.{HasAsked, SameClient}
-use Rattle.ftl0_client.specs.Client.{Client, ClientEvent, IsSilent, asking, asks}
-use Rattle.ftl0_client.specs.ClientState.{ClientState, IsClient, MayHear, outcome_in}
-use Rattle.ftl0_client.specs.Going.{GoesOver, is_over}
+use Rattle.ftl0_client.specs.Client.{Client, ClientEvent, asking, asks}
+use Rattle.ftl0_client.specs.ClientState.{ClientState, IsClient, MayHear, listing_in, outcome_in}
+use Rattle.ftl0_client.specs.Going.{GoesLaw, GoesOver, is_over}
+use Rattle.ftl0_client.specs.JobState.{IsNew, NotesGoWith}
 use Rattle.ftl0_client.specs.Laws.{OneStepLaw}
 use Rattle.ftl0_client.specs.Outcomes.{outcome_by}
 use Rattle.ftl0_client.specs.Table.{JobState}
 use Rattle.ftl0_client.specs.declared.outcome.Outcome.{Outcome}
 use Rattle.ftl0_client.specs.declared.outcome.Outcome.TheVariants as outcome
-use Rattle.client_node.specs.Carried.{CarriesOut, ClientRan, CountsBy, CutsOff, EndsOver, IsOpenBeforeEach, MayCarryOut}
+use Rattle.client_node.specs.Carried.{Became, CarriesOut, ClientRan, CountsBy, CutsOff, EndsOver, IsOpenBeforeEach, MayCarryOut}
 use Rattle.client_node.specs.Carried.{TurnsBy, answer_of, asked_first, before_last, reached_or}
 use Rattle.client_node.specs.Carrying.{StopsBehind, TakesAll, event_of, text_of}
 use Rattle.client_node.specs.Course.{CameToSome, HasBegun, RunsOn, StopsOn, client_course}
@@ -42,13 +43,10 @@ use Rattle.client_node.specs.declared.stop.NodeStop.TheVariants as stop
 use Rattle.client_node.proofs.CourseLemmas.{asked-append, cuts-none, cuts-then, does-nothing, same-then}
 use Rattle.client_node.proofs.GoesLemmas.{came-behind, goes-alike, stops-at, stops-behind}
 use Rattle.client_node.proofs.MemoryLemmas.{no-split}
-use Rattle.client_node.proofs.QuietLemmas.{closed-over, tells-of}
+use Rattle.client_node.proofs.PromiseLemmas.{IsUnhalted, promised}
+use Rattle.client_node.proofs.QuietLemmas.{closed-over, silent, tells-of}
 
 -- ---- the answer
-
--- nothing halted the client
-abbrev pub IsUnhalted : Result ⊤ NodeStop → Type 0
-IsUnhalted ended = (¬ IsErrOf ended stop.Disk) × (¬ IsErrOf ended stop.OutOfMemory)
 
 -- where the turns ended at no stop of the client, the answer is that for what the client tells
 same-answer : (ended : Result ⊤ NodeStop) (told reached : Outcome) → (IsUnhalted ended → told ≡ reached) → answer_of ended told ≡ answer_of ended reached
@@ -348,28 +346,39 @@ module _ {A C D : Type 0} (g : Ghosts D) (lasts : (disk : D) → g.lasts disk di
         came = tt;
       }
 
-  module _ (asked : ClientState) (has : HasAsked old asked) (becomes : IsClient asked (asking base job)) (silent : IsSilent base) where
+  module _ (asked : ClientState) (has : HasAsked old asked) (becomes : IsClient asked (asking base job)) where
     -- the station of a client that was asked
     abbrev station : ClientStation
     station = record { client = asked; halted = false }
 
-    module _ (one_run : OneRunLaw) (one_step : OneStepLaw) (new : Lent ClientStation D A C) (before : A) (clock : C) (terms : TurnTerms) (finished : Result Finished node.NodeStop)
-        (h : TookTurns (NodeEvents base.me) (client_course g) air given (record { party = station; disk = disk; air = before; clock = clock }) new terms finished) where
-      abbrev Came-out : Type 0
-      Came-out =
-          CameOut g (at station disk) (at new.party new.disk) base job h.all (ended_as finished) h.text × TurnsBy (ended_as finished) terms.polls h.all.turns
-          × CountsBy (ended_as finished) (air.read_faults before) (air.read_faults new.air) (air.write_faults before) (air.write_faults new.air)
+    abbrev terms : TurnTerms
+    terms = record { polls = polls; given = None; first = None }
 
-      pub came-out : Came-out
-      came-out =
-          came-by g lasts on (at station disk) (at new.party new.disk) base job (silent, becomes) h.all h.one_each h.open_before terms.polls h.text h.unsaid (air.read_faults before) (air.read_faults new.air)
+    begun : HasBegun asked base (Some job)
+    begun = (silent base old is may.quiet, becomes)
+
+    module _ (new : Lent ClientStation D A C) (before : A) (clock : C) (finished : Result Finished node.NodeStop)
+        (h : TookTurns (NodeEvents base.me) (client_course g) air given (record { party = station; disk = disk; air = before; clock = clock }) new terms finished) where
+      abbrev now : ClientState
+      now = new.party.client
+
+      abbrev ended : Result ⊤ NodeStop
+      ended = ended_as finished
+
+      -- what came of the turns
+      came : CameOut g (at station disk) (at new.party new.disk) base job h.all ended h.text × TurnsBy ended polls h.all.turns
+          × CountsBy ended (air.read_faults before) (air.read_faults new.air) (air.write_faults before) (air.write_faults new.air)
+      came =
+          came-by g lasts on (at station disk) (at new.party new.disk) base job begun h.all h.one_each h.open_before polls h.text h.unsaid (air.read_faults before) (air.read_faults new.air)
           (air.write_faults before) (air.write_faults new.air) h.is_unsaid finished h.ends h.counts h.ran
 
-      pub turns-carry : terms.polls ≡ polls → terms.given ≡ None → terms.first ≡ None → (result : Result Outcome NodeStop) → result ≡ answer_of (ended_as finished) (outcome_in new.party.client.attempt)
-          → CarriesOut g air given before new.air clock new.clock old new.party.client disk new.disk job polls base result
-      turns-carry same_polls none_given none_first result answer =
-          let ended : Result ⊤ NodeStop = ended_as finished in
-          let out : CameOut g (at station disk) (at new.party new.disk) base job h.all ended h.text = came-out.0 in
+      same-reached : answer_of ended (outcome_in now.attempt) ≡ answer_of ended came.0.reached
+      same-reached = same-answer ended (outcome_in now.attempt) came.0.reached (λ un. told-outcome now base (asked_first job h.all.events) came.0.reached (came.0.came un))
+
+      turns-carry : OneRunLaw → OneStepLaw → (result : Result Outcome NodeStop) → result ≡ answer_of ended (outcome_in now.attempt)
+          → CarriesOut g air given before new.air clock new.clock old now disk new.disk job polls base result
+      turns-carry one_run one_step result answer =
+          let out = came.0 in
           record {
             turns = h.all.turns;
             moments = h.all.moments;
@@ -378,20 +387,18 @@ module _ {A C D : Type 0} (g : Ghosts D) (lasts : (disk : D) → g.lasts disk di
             cut = out.cut;
             ended = ended;
             reached = out.reached;
-            answer = answer ∙ same-answer ended (outcome_in new.party.client.attempt) out.reached (λ un. told-outcome new.party.client base _ out.reached (out.came un));
+            answer = answer ∙ same-reached;
             turns_heard = h.turns_heard;
-            moments_given =
-                subst (λ (o : Option ℕ). MomentsOf o (given clock) (given new.clock) h.all.moments) none_given
-                (subst (λ (o : Option ℕ). MomentsFrom o terms.given (given clock) (given new.clock) h.all.moments) none_first h.moments_given);
+            moments_given = h.moments_given;
             text_said = h.text_said;
             ran =
                 record {
                   one_each = h.one_each;
                   events = h.all.events;
                   brings = h.brings;
-                  bound = subst (λ (n : ℕ). length h.all.turns ≤ n) same_polls h.bound;
-                  ends = subst (λ (n : ℕ). TurnsBy ended n h.all.turns) same_polls came-out.1;
-                  open_before = open-each g one_run one_step (at station disk) base job (silent, becomes) h.all.turns h.all.moments h.open_before;
+                  bound = h.bound;
+                  ends = came.1;
+                  open_before = open-each g one_run one_step (at station disk) base job begun h.all.turns h.all.moments h.open_before;
                   earlier = out.cut_last.earlier;
                   but_last = out.cut_last.but_last;
                   earlier_moments = out.cut_last.before;
@@ -401,7 +408,27 @@ module _ {A C D : Type 0} (g : Ghosts D) (lasts : (disk : D) → g.lasts disk di
                   brought = out.brought;
                   ends_over = out.over;
                 };
-            counts = came-out.2;
-            cuts = subst (λ (n : NotesState). CutsOff g (IsErrOf ended stop.Disk) n new.party.client.notes disk new.disk out.done out.cut) has.notes out.cuts;
-            came = of-answer _ ended (outcome_in new.party.client.attempt) result answer (λ un. (out.came un).0);
+            counts = came.2;
+            cuts = subst (λ (n : NotesState). CutsOff g (IsErrOf ended stop.Disk) n now.notes disk new.disk out.done out.cut) has.notes out.cuts;
+            came = of-answer _ ended (outcome_in now.attempt) result answer (λ un. (out.came un).0);
           }
+
+      -- all that is said of it
+      pub carries : OneRunLaw → OneStepLaw → GoesLaw → IsNew job → NotesGoWith old.notes.lists job → (result : Result Outcome NodeStop) → result ≡ answer_of ended (outcome_in now.attempt)
+          → CarriesOut g air given before new.air clock new.clock old now disk new.disk job polls base result × IfOk result (Became now.notes.lists job.work (listing_in now.attempt)) × SameClient old now
+      carries one_run one_step goes_law just go_with result answer = (
+        turns-carry one_run one_step result answer,
+        subst (λ (r : Result Outcome NodeStop). IfOk r (Became now.notes.lists job.work (listing_in now.attempt))) (sym (answer ∙ same-reached))
+            (promised goes_law base job just (subst (λ (l : Lists). NotesGoWith l job) is.lists go_with) now came.0.reached h.all.events ended (before_last h.all.turns job came.0.least) h.text
+            came.0.done came.0.cut came.0.over came.0.came),
+        same-then old asked now has.same came.0.same,
+      )
+
+-- what a client that was asked needs to hear a frame
+pub may-asked : {D : Type 0} (g : Ghosts D) (old asked : ClientState) (disk : D) → MayCarryOut g old disk → HasAsked old asked → MayHear g asked disk
+may-asked g old asked disk may has =
+    record {
+      healthy = ap (λ (n : NotesState). n.journal.failed) has.notes ∙ may.healthy;
+      stands_on = subst (λ (n : NotesState). StandsOn g n disk) (sym has.notes) may.stands_on;
+      notes_are = has.go_with;
+    }

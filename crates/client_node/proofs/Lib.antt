@@ -3,6 +3,7 @@ mod CourseLemmas
 pub mod GoesLemmas
 mod MemoryLemmas
 mod OwesLemmas
+pub mod PromiseLemmas
 mod QuietLemmas
 mod SayingLemmas
 mod StopsLemmas

@@ -80,7 +80,7 @@ module _ {D : Type 0} (g : Ghosts D) (lasts : (disk : D) → g.lasts disk disk) 
               reached = outcome_by rest.1.attempt;
               stops = stops;
               cuts = cuts-none g lasts (stop.AirWrite ≡ stop.Disk) start.it.client.notes new.client.notes start.disk disk h.commands (λ e. cc e) notes_sent.does;
-              came = λ is. (
+              came = λ put. (
                 record {
                   some = events;
                   others = [];
