@@ -1,6 +1,8 @@
 -- How a client goes on over events, and how it stops.
 use Rattle.std.proofs.Common.{◌≡◌, ℕ, List, [], ◌∷◌, ◌++◌, refl, ap, sym, ◌∙◌, subst, append_assoc, append-nil}
-use Rattle.ax25_frames.specs.FrameText.{FrameValue}
+use Rattle.std.proofs.lemmas.List.Concat.{flat_map-append}
+use Rattle.kiss.specs.KissText.{kiss_text}
+use Rattle.ax25_frames.specs.FrameText.{FrameValue, canonical}
 use Rattle.client_notes.specs.Command.{NotesCommand}
 use Rattle.ftl0_client.specs.Client.{Client, ClientEvent}
 use Rattle.ftl0_client.specs.ClientState.{ClientState}
@@ -9,9 +11,12 @@ use Rattle.ftl0_client.specs.declared.outcome.Outcome.{Outcome}
 use Rattle.ftl0_client.specs.Laws.{OneStepLaw}
 use Rattle.client_node.specs.Carrying.{StopsAt, StopsBehind, StopsOver, text_of}
 use Rattle.ftl0_client.specs.Going.{GoesOver}
-use Rattle.client_node.specs.Came.{CameTo}
+use Rattle.client_node.specs.Course.{CameToSome}
 use Rattle.client_node.specs.declared.stop.NodeStop.{NodeStop}
-use Rattle.client_node.proofs.SendingLemmas.{text-append}
+
+-- the text of frames and of others
+pub text-append : (xs ys : List FrameValue) → text_of (xs ++ ys) ≡ text_of xs ++ text_of ys
+text-append xs ys = flat_map-append (λ (frame : FrameValue). kiss_text (canonical frame)) xs ys
 
 -- one event
 pub goes-one : (client : Client) (event : ClientEvent) (noted : List NotesCommand) (sent : List FrameValue) (next : Client)
@@ -111,44 +116,42 @@ module _ (why : NodeStop) (reached : Outcome) (cut : List NotesCommand) where
     in_order = refl;
   }
 
-  -- the same, where some of the others were taken before the stop
-  pub stops-further :
-      (client : Client) (events : List ClientEvent) (frames : List FrameValue) (commands : List NotesCommand) (mid : Client) (least others : List ClientEvent) (text : List ℕ) (done : List NotesCommand)
-      → GoesOver client events frames commands mid → StopsBehind least mid others why reached text done cut
-      → StopsBehind (events ++ least) client (events ++ others) why reached (text_of frames ++ text) (commands ++ done) cut
-  unfolding stops-behind
-  stops-further client events frames commands mid least others text done h k =
-      let all = stops-behind client events frames commands mid others text done h k.stops in
-      record {
-        stops = all.stops;
-        between = k.between;
-        in_order = ap (λ (es : List ClientEvent). events ++ es) k.in_order ∙ sym (append_assoc events least k.between);
-      }
-
 -- what it came to behind these events
 pub came-behind : (new : ClientState) (reached : Outcome) (client : Client) (events : List ClientEvent) (frames : List FrameValue) (commands : List NotesCommand) (mid : Client) (others : List ClientEvent)
-    → GoesOver client events frames commands mid → CameTo new mid others reached → CameTo new client (events ++ others) reached
-came-behind new reached client events frames commands mid others h k = record {
-  some = events ++ k.some;
-  others = k.others;
-  in_order = ap (λ (es : List ClientEvent). events ++ es) k.in_order ∙ sym (append_assoc events k.some k.others);
-  frames = frames ++ k.frames;
-  commands = commands ++ k.commands;
-  now = k.now;
-  goes = goes-append client events frames commands mid k.some k.frames k.commands k.now h k.goes;
-  tells = k.tells;
-  reached_is = k.reached_is;
-}
+    → GoesOver client events frames commands mid → CameToSome new mid others reached → CameToSome new client (events ++ others) reached
+came-behind new reached client events frames commands mid others h all =
+    let k = all.0 in (
+      record {
+        some = events ++ k.some;
+        others = k.others;
+        in_order = ap (λ (es : List ClientEvent). events ++ es) k.in_order ∙ sym (append_assoc events k.some k.others);
+        frames = frames ++ k.frames;
+        commands = commands ++ k.commands;
+        now = k.now;
+        goes = goes-append client events frames commands mid k.some k.frames k.commands k.now h k.goes;
+        tells = k.tells;
+        reached_is = k.reached_is;
+      },
+      not_none events k.some all.1,
+    )
+  where
+    not_none : (xs ys : List ClientEvent) → ¬ (ys ≡ []) → ¬ (xs ++ ys ≡ [])
+    not_none [] ys some none = some none
+    not_none (x ∷ xs) ys some none = cc none
 
-pub came-longer : (new : ClientState) (reached : Outcome) (client : Client) (events others : List ClientEvent) → CameTo new client events reached → CameTo new client (events ++ others) reached
-came-longer new reached client events others h = record {
-  some = h.some;
-  others = h.others ++ others;
-  in_order = ap (λ (es : List ClientEvent). es ++ others) h.in_order ∙ append_assoc h.some h.others others;
-  frames = h.frames;
-  commands = h.commands;
-  now = h.now;
-  goes = h.goes;
-  tells = h.tells;
-  reached_is = h.reached_is;
-}
+pub came-longer : (new : ClientState) (reached : Outcome) (client : Client) (events others : List ClientEvent) → CameToSome new client events reached → CameToSome new client (events ++ others) reached
+came-longer new reached client events others all =
+    let h = all.0 in (
+      record {
+        some = h.some;
+        others = h.others ++ others;
+        in_order = ap (λ (es : List ClientEvent). es ++ others) h.in_order ∙ append_assoc h.some h.others others;
+        frames = h.frames;
+        commands = h.commands;
+        now = h.now;
+        goes = h.goes;
+        tells = h.tells;
+        reached_is = h.reached_is;
+      },
+      all.1,
+    )

@@ -1,13 +1,9 @@
 mod CarriedLemmas
+mod CourseLemmas
 pub mod GoesLemmas
-mod HearingLemmas
-mod Invariants
 mod MemoryLemmas
-mod OpenLemmas
+mod OwesLemmas
 pub mod PromiseLemmas
 mod QuietLemmas
-mod SendingLemmas
-mod TakesLemmas
-mod TurnEvents
-mod TurnLemmas
-mod TurnsLemmas
+mod SayingLemmas
+mod StopsLemmas

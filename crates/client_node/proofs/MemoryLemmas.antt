@@ -1,5 +1,5 @@
 -- Where there was no memory, nothing had become of the job: a link that is down brings no packets.
-use Rattle.std.proofs.Common.{◌≡◌, List, ◌∷◌, ◌++◌, false, refl, ap, sym, subst, ◌∙◌}
+use Rattle.std.proofs.Common.{◌≡◌, List, [], ◌∷◌, ◌++◌, false, refl, ap, sym, subst, ◌∙◌}
 use Rattle.std.specs.Prelude.{Option, None, Some}
 use Rattle.std.proofs.lemmas.Bool.{cond_both}
 use Rattle.disk_model.specs.declared.disk.Disk.{Ghosts}
@@ -31,7 +31,11 @@ use Rattle.ftl0_client.specs.Laws.{IsToldDownOf}
 use Rattle.ftl0_client.specs.declared.outcome.Outcome.TheVariants as outcome
 use Rattle.ftl0_client.specs.Outcomes.{outcome_as, outcome_by}
 use Rattle.ftl0_client.proofs.OutcomeLemmas.{outcome-stays}
-use Rattle.client_node.proofs.OpenLemmas.{no-split}
+
+-- there is something among what has an item in the midst
+pub no-split : {T : Type 0} (before : List T) (item : T) (behind : List T) → [] ≡ before ++ item ∷ behind → ⊥
+no-split [] item behind h = absurd (cc h)
+no-split (x ∷ before) item behind h = absurd (cc h)
 
 -- ---- the end of a link that went down before an outcome is down
 

@@ -2,10 +2,7 @@
 use Rattle.std.proofs.Common.{◌≡◌, ℕ, ◌-◌, List, [], ◌∷◌, length, drop, Bool, true, false, not, Option, None, Some}
 use Rattle.std.proofs.Common.{refl, sym, ◌∙◌, ap, subst, length-drop}
 use Rattle.std.proofs.lemmas.Option.{same_Some}
-use Rattle.std.proofs.lemmas.Result.{err_from_is_err_and}
-use Rattle.std.specs.Prelude.{nat_lt, if◌then◌else◌, ◌||◌, ◌&&◌, IsErrAnd, Result, Err}
-use Rattle.px_base.specs.Outside.{Gains}
-use Rattle.px_base.proofs.Told.{Gains-none}
+use Rattle.std.specs.Prelude.{nat_lt, if◌then◌else◌, ◌||◌, ◌&&◌}
 use Rattle.disk_model.specs.declared.disk.Disk.{Ghosts}
 use Rattle.ax25_frames.specs.FrameText.{FrameValue}
 use Rattle.ax25_link.specs.Ends.{Farewell, LinkEnd, Reply}
@@ -31,17 +28,6 @@ use Rattle.ftl0_client.specs.Laws.{IsToldDownOf}
 use Rattle.ftl0_client.specs.Outcomes.{outcome_as, outcome_by}
 use Rattle.ftl0_client.specs.Going.{is_over, is_over_at}
 use Rattle.client_node.specs.Came.{TellsOf, listing_by}
-use Rattle.client_node.specs.Node.{IsSettled}
-
--- what holds of the error that a `?` hands on holds of the result
-pub at_exit : {T E : Type 0} (P : Result T E → Type 0) (result : Result T E) (why : E) → IsErrAnd result (λ e. e ≡ why) → P (Err why) → P result
-at_exit P result why h k =
-    let p = err_from_is_err_and result h in
-    subst P (sym (p.1 ∙ ap Err p.2)) k
-
--- what stays gains nothing
-pub gains-same : (before now : Option (List ℕ)) → now ≡ before → Gains before now []
-gains-same before now same = let P : Option (List ℕ) → Type 0 = λ x. Gains before x [] in subst P (sym same) (Gains-none before)
 
 -- ---- a link with nothing pending sends nothing
 
@@ -100,9 +86,6 @@ module _ (client : Client) where
       let none : client.stray ≡ None = sym is.stray ∙ stray-none self.stray parts.0 in
       subst (λ (o : Option Refused). sends_by client o ≡ None) (sym none) (attempt-silent self.attempt client.attempt is.attempt parts.1)
 
-  pub settled-quiet : (self : ClientState) → IsClient self client → client_pending self ≡ false → IsToldDownOf client.attempt → IsSettled self client
-  settled-quiet self is quiet told = record { is = is; silent = silent self is quiet; told_down = told }
-
 -- ---- it is closed exactly where it is over
 
 not-false : (b : Bool) → b ≡ false → (c : Bool) → (c && not b) ≡ c
@@ -150,22 +133,7 @@ tells-of self client is =
     let told = attempt-told client.window self.attempt client.attempt is.attempt in
     record { lists = is.lists; outcome = told.0; listing = told.1 }
 
--- giving out frames changes none of it
-same-told : (old new : Option AttemptState) → SameAttempt old new → (outcome_in new ≡ outcome_in old) × (listing_in new ≡ listing_in old)
-same-told None None same = (refl, refl)
-same-told None (Some new) same = absurd same
-same-told (Some old) None same = absurd same
-same-told (Some old) (Some new) same = (
-  ap (λ (j : JobState). outcome_as (attempted.outcome_by j.ending new.down)) same.job ∙ ap (λ (d : Option Why). outcome_as (attempted.outcome_by old.job.ending d)) same.down,
-  ap (λ (j : JobState). listing_of j.work) same.job,
-)
-
-pub tells-still : (old new : ClientState) (client : Client) → SameButFrames old new → TellsOf old client → TellsOf new client
-tells-still old new client same tells =
-    let told = same-told old.attempt new.attempt same.attempt in
-    record { lists = ap (λ (n : NotesState). n.lists) same.notes ∙ tells.lists; outcome = told.0 ∙ tells.outcome; listing = told.1 ∙ tells.listing }
-
--- nor does sending them
+-- sending frames changes none of it
 abbrev SentAlike : Client → Client → Type 0
 SentAlike old new = (new.lists ≡ old.lists) × (outcome_by new.attempt ≡ outcome_by old.attempt) × (listing_by new.attempt ≡ listing_by old.attempt) × (new.me ≡ old.me)
 

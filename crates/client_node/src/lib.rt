@@ -2,6 +2,7 @@
 #![tactic(auto)]
 
 mod node;
+mod station;
 mod stop;
 
 pub use ftl0_client::{Client, Job, Outcome};

@@ -1,9 +1,8 @@
 //! Why a client's turns ended.
 
 ghost use Rattle.std.specs.Prelude.{◌≡◌};
-ghost use Rattle.client_node.specs.Node.{stop_of_job};
+ghost use Rattle.client_node.specs.Stops.{stop_of_node};
 
-use ftl0_client::JobStop;
 use thiserror::Error;
 
 /// Why a client's turns ended before anything became of its job.
@@ -29,13 +28,16 @@ pub enum NodeStop {
     OutOfMemory,
 }
 
-impl From<JobStop> for NodeStop {
-    ghost from_gives = { λ stop result. result ≡ stop_of_job stop };
+impl From<node::NodeStop> for NodeStop {
+    ghost from_gives = { λ stop result. result ≡ stop_of_node stop };
 
-    fn from(stop: JobStop) -> NodeStop {
+    fn from(stop: node::NodeStop) -> NodeStop {
         match stop {
-            JobStop::Disk => NodeStop::Disk,
-            JobStop::OutOfMemory => NodeStop::OutOfMemory,
+            node::NodeStop::AirRead => NodeStop::AirRead,
+            node::NodeStop::AirWrite => NodeStop::AirWrite,
+            node::NodeStop::Disk => NodeStop::Disk,
+            node::NodeStop::Spent => NodeStop::Spent,
+            node::NodeStop::OutOfMemory => NodeStop::OutOfMemory,
         }
     }
 }

@@ -1,61 +1,43 @@
--- The job is asked, SABM is said, and turns are taken.
-use Rattle.std.proofs.Common.{◌∙◌}
-use Rattle.client_node.proofs.CarriedLemmas.{asked-runs, asked-unsaid, asked-up, asked-working, refused-carries, turns-carry, unsaid-carries}
-use Rattle.client_node.proofs.PromiseLemmas.{turns-promise}
-use Rattle.client_node.proofs.TakesLemmas.{counts-after}
+-- The job is asked, and the station of the client takes turns.
+use Rattle.std.proofs.Common.{None, false, refl, sym, subst, ap, ◌∙◌}
+use Rattle.px_base.specs.CallSign.{CallSign}
+use Rattle.node.specs.Course.{at}
+use Rattle.node.specs.Events.{NodeEvents}
+use Rattle.node.specs.Turns.{TookTurns, lent}
+use Rattle.ftl0_client.specs.Client.{Client}
+use Rattle.ftl0_client.specs.ClientState.{IsClient}
+use Rattle.client_node.specs.Carried.{answer_of}
+use Rattle.client_node.specs.Course.{client_course}
+use Rattle.client_node.specs.Stops.{ended_as}
+use Rattle.client_node.specs.declared.station.ClientStation.{ClientStation}
+use Rattle.client_node.proofs.CarriedLemmas.{carries, may-asked, refused-carries}
+use Rattle.client_node.proofs.CourseLemmas.{owes-begun}
 use Rattle.client_node.proofs.node.carry_out.Goals as goal
 
 pub returns-in-Err-clause-carried : goal.returns-in-Err-clause-carried
 returns-in-Err-clause-carried g c base is =
-    refused-carries g.D.Disk g.A.Air g.C.Clock.given g.met.D.Disk.lasts_same g.met.D.Disk.lasts_on c.args.client.now c.args.air.now c.args.clock.now c.args.disk.now c.args.job c.args.polls c.requires.may base is
+    refused-carries g.D.Disk g.met.D.Disk.lasts_same g.met.D.Disk.lasts_on g.A.Air g.C.Clock.given c.args.client c.args.disk.now c.args.job c.args.polls c.requires.may base is c.args.air.now c.args.clock.now
     c.ask.new.self c.in-Err.ensures.refused
 
-pub returns-in-Err-put_frames-clause-carried : goal.returns-in-Err-put_frames-clause-carried
-returns-in-Err-put_frames-clause-carried g c base is =
-    let asked = c.in-Ok.ensures in
-    let put = c.in-Err-put_frames.ensures in
-    let becomes = asked.asks base is in
-    unsaid-carries g.D.Disk g.A.Air g.C.Clock.given g.met.D.Disk.lasts_same g.met.D.Disk.lasts_on c.args.client.now c.args.air.now c.args.clock.now c.args.disk.now c.args.job c.args.polls c.requires.may base is
-    c.put_frames.new.air c.put_frames.new.client
-    (asked-working g.D.Disk g.A.Air g.met.D.Disk.lasts_same g.met.D.Disk.lasts_on c.args.air.now c.put_frames.new.air c.args.client.now c.ask.new.self c.put_frames.new.client c.args.disk.now c.args.job
-    c.requires.may asked.notes put.same base is becomes c.requires.new) put.heard (put.reads, put.cause.rose)
-    (asked-unsaid g.D.Disk g.A.Air g.met.D.Disk.lasts_same g.met.D.Disk.lasts_on c.args.air.now c.put_frames.new.air c.args.client.now c.ask.new.self c.put_frames.new.client c.args.disk.now c.args.job
-    c.requires.may asked.notes put.same base is becomes c.in-Err-put_frames._down (put.says _ becomes))
+pub drive-station-requires-clause-owes : goal.drive-station-requires-clause-owes
+drive-station-requires-clause-owes g c =
+    let station : ClientStation = record { client = c.ask.new.self; halted = false } in
+    owes-begun g.D.Disk g.met.D.Disk.lasts_same g.met.D.Disk.lasts_on (at station c.args.disk.now) refl (may-asked g.D.Disk c.args.client c.ask.new.self c.args.disk.now c.requires.may c.in-Ok.ensures.notes)
 
-pub take_turns-ended-requires-clause-up : goal.take_turns-ended-requires-clause-up
-take_turns-ended-requires-clause-up g c =
-    let asked = c.in-Ok.ensures in
-    let put = c.in-Ok-put_frames.ensures in
-    let some = c.some_law.ensures in
-    let becomes = asked.asks some.0 some.1 in
-    asked-up g.D.Disk g.A.Air g.met.D.Disk.lasts_same g.met.D.Disk.lasts_on c.args.air.now c.put_frames.new.air c.args.client.now c.ask.new.self c.put_frames.new.client c.args.disk.now c.args.job
-    c.requires.may asked.notes put.same some.0 some.1 becomes (put.settles _ becomes)
-
-pub returns-clause-carried : goal.returns-clause-carried
-returns-clause-carried g c base is =
-    let asked = c.in-Ok.ensures in
-    let put = c.in-Ok-put_frames.ensures in
-    let becomes = asked.asks base is in
-    let first =
-    asked-runs g.D.Disk g.A.Air g.met.D.Disk.lasts_same g.met.D.Disk.lasts_on c.args.air.now c.put_frames.new.air c.args.client.now c.ask.new.self c.put_frames.new.client c.args.disk.now c.args.job
-    c.requires.may asked.notes put.same base is becomes (put.settles _ becomes) in
-    turns-carry g.D.Disk g.A.Air g.C.Clock.given g.met.D.Disk.lasts_same g.met.D.Disk.lasts_on c.args.client.now c.args.air.now c.args.clock.now c.args.disk.now c.args.job c.args.polls c.requires.may base is
-    c.one_step_law.ensures c.put_frames.new.air c.take_turns-ended.new.air c.take_turns-ended.new.clock c.put_frames.new.client c.take_turns-ended.new.client c.take_turns-ended.new.disk c.take_turns-ended.result
-    c.outcome.result c.answer.result c.outcome.ensures.outcome c.answer.ensures (put.same.same.me ∙ asked.notes.same.me) put.heard
-    (counts-after _ _ _ _ _ _ c.take_turns-ended.result put.reads put.cause.same c.take_turns-ended.ensures.counts) first (c.take_turns-ended.ensures.takes first.next first.settled)
-
-pub returns-clause-promises : goal.returns-clause-promises
-returns-clause-promises g c =
-    let asked = c.in-Ok.ensures in
-    let put = c.in-Ok-put_frames.ensures in
-    let some = c.some_law.ensures in
-    let becomes = asked.asks some.0 some.1 in
-    let first =
-    asked-runs g.D.Disk g.A.Air g.met.D.Disk.lasts_same g.met.D.Disk.lasts_on c.args.air.now c.put_frames.new.air c.args.client.now c.ask.new.self c.put_frames.new.client c.args.disk.now c.args.job
-    c.requires.may asked.notes put.same some.0 some.1 becomes (put.settles _ becomes) in
-    turns-promise g.D.Disk g.A.Air g.C.Clock.given c.goes_law.ensures c.args.air.now c.put_frames.new.air c.take_turns-ended.new.air c.args.clock.now c.take_turns-ended.new.clock c.args.client.now c.put_frames.new.client
-    c.take_turns-ended.new.client c.args.disk.now c.take_turns-ended.new.disk c.args.job c.args.polls some.0 some.1 c.requires.new c.requires.go_with c.take_turns-ended.result c.outcome.result c.answer.result
-    c.outcome.ensures.outcome c.answer.ensures first (c.take_turns-ended.ensures.takes first.next first.settled)
-
-pub returns-clause-notes : goal.returns-clause-notes
-returns-clause-notes g c = let some = c.some_law.ensures in (returns-clause-carried g c some.0 some.1).cuts.second.stands_on
+pub returns : goal.returns
+returns g c =
+    let drove = c.drive-station in
+    let station : ClientStation = record { client = c.ask.new.self; halted = false } in
+    let old = lent station c.args.disk.now c.args.air.now c.args.clock.now in
+    let now = lent drove.result.0 drove.new.disk drove.new.air drove.new.clock in
+    let answer =
+    c.answer.ensures ∙ ap (λ ended. answer_of ended c.outcome-reached.result) c.ended.ensures ∙ ap (λ reached. answer_of (ended_as drove.result.1) reached) c.outcome-reached.ensures.outcome in
+    let all =
+    λ (base : Client) (is : IsClient c.args.client base).
+    carries g.D.Disk g.met.D.Disk.lasts_same g.met.D.Disk.lasts_on g.A.Air g.C.Clock.given c.args.client c.args.disk.now c.args.job c.args.polls c.requires.may base is c.ask.new.self c.in-Ok.ensures.notes
+    (c.in-Ok.ensures.asks base is) now c.args.air.now c.args.clock.now drove.result.1
+    (subst (λ (me : CallSign). TookTurns (NodeEvents me) (client_course g.D.Disk) g.A.Air g.C.Clock.given old now (record { polls = c.args.polls; given = None; first = None }) drove.result.1)
+    (sym c.requires.me ∙ is.me) drove.ensures.turns)
+    c.one_run_law.ensures c.one_step_law.ensures c.goes_law.ensures c.requires.new c.requires.go_with c.answer.result answer in
+    let some = all c.some_law.ensures.0 c.some_law.ensures.1 in
+    record { carried = λ base is. (all base is).0; promises = some.1; notes = some.0.cuts.second.stands_on; same = some.2 }
