@@ -12,8 +12,8 @@ const ROOM: usize = 4096;
 /// Room for one line, in octets.
 const LINE_ROOM: usize = 1024;
 
-/// Lines that wait to be shown, up to 4,096 octets, and the one that is put together. What there is no room for is left out.
-/// Takes no memory beside itself.
+/// Lines that wait to be shown, up to 4,096 octets, and the one that is put together. What there is no room for is
+/// left out. Takes no memory beside itself.
 #[derive(Drop)]
 pub struct Lines {
     text: ArrayString<ROOM>,

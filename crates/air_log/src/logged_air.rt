@@ -9,12 +9,12 @@ use crate::watcher::Watcher;
 use px_base::{Air, AirDown, Clock, Out, Polled};
 use std::marker::Model;
 
-/// An air that is the one that it wraps, and shows on an output what passes. Contracts see it as that air, so each of them
-/// says that what it shows changes nothing. It takes no memory.
+/// An air that is the one that it wraps, and shows on an output what passes. Contracts see it as that air, so each of
+/// them says that what it shows changes nothing. It takes no memory.
 #[derive(Drop)]
 pub struct LoggedAir<'a, A, O, C> {
     air: A,
-    watcher: Watcher<'a>,
+    watcher: Option<Watcher<'a>>,
     lines: Lines,
     out: O,
     clock: C,
@@ -27,11 +27,11 @@ impl<'a, A, O, C> Model for LoggedAir<'a, A, O, C> {
 }
 
 impl<'a, A, O, C> LoggedAir<'a, A, O, C> {
-    /// This air, which shows on `out` the lines of the watcher, with the moments of `clock`. A terminal is an output on which
-    /// a line can be written over.
+    /// This air, which shows on `out` the lines of the watcher, if there is one, with the moments of `clock`. A terminal
+    /// is an output on which a line can be written over.
     pub fn new(
         air: A,
-        watcher: Watcher<'a>,
+        watcher: Option<Watcher<'a>>,
         terminal: bool,
         out: O,
         clock: C,
@@ -61,14 +61,15 @@ impl<'a, A: Air, O: Out, C: Clock> LoggedAir<'a, A, O, C> {
         requires { IfOk polled IsPolled }
         ensures { self.new ≡ self.old }
     {
-        if self.watcher.is_off() {
+        if self.watcher.is_none() {
             return;
         }
         let moment = self.clock.now();
-        self.watcher.polls(moment, &mut self.lines);
-        if let Ok(Polled::Bytes(count)) = polled {
-            self.watcher.heard(&room[..count], moment, &mut self.lines);
-        }
+        let heard = match polled {
+            Ok(Polled::Bytes(count)) => &room[..count],
+            _ => &[],
+        };
+        watch_poll(&mut self.watcher, heard, moment, &mut self.lines);
         self.show_lines();
     }
 
@@ -76,11 +77,11 @@ impl<'a, A: Air, O: Out, C: Clock> LoggedAir<'a, A, O, C> {
     fn show_said(&mut self, bytes: &[u8])
         ensures { self.new ≡ self.old }
     {
-        if self.watcher.is_off() {
+        if self.watcher.is_none() {
             return;
         }
         let moment = self.clock.now();
-        self.watcher.said(bytes, moment, &mut self.lines);
+        watch_put(&mut self.watcher, bytes, moment, &mut self.lines);
         self.show_lines();
     }
 
@@ -128,5 +129,20 @@ impl<'a, A: Air, O: Out, C: Clock> Air for LoggedAir<'a, A, O, C> {
         self.air.put(bytes)?;
         self.show_said(bytes);
         Ok(())
+    }
+}
+
+/// Adds the lines of a poll that brought these octets.
+fn watch_poll(watcher: &mut Option<Watcher<'_>>, heard: &[u8], moment: u32, lines: &mut Lines) {
+    if let Some(watcher) = watcher {
+        watcher.polls(moment, lines);
+        watcher.heard(heard, moment, lines);
+    }
+}
+
+/// Adds the lines of octets that were said.
+fn watch_put(watcher: &mut Option<Watcher<'_>>, said: &[u8], moment: u32, lines: &mut Lines) {
+    if let Some(watcher) = watcher {
+        watcher.said(said, moment, lines);
     }
 }

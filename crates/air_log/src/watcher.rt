@@ -15,8 +15,8 @@ use std::fmt::Write;
 /// How many links are watched at a time: those of a server's places.
 const LINKS: usize = 8;
 
-/// What makes lines of the octets that pass over an air, both ways. It says no octet, and changes none. Takes no memory beside
-/// itself.
+/// What makes lines of the octets that pass over an air, both ways. It says no octet, and changes none. Takes no
+/// memory beside itself.
 #[derive(Drop)]
 pub struct Watcher<'a> {
     level: Level,
@@ -61,13 +61,8 @@ impl<'a> Watcher<'a> {
         }
     }
 
-    /// Whether nothing is shown.
-    pub fn is_off(&self) -> bool {
-        self.level == Level::Off
-    }
-
-    /// A poll is made at this moment, in seconds since 1 January 1970: adds that the server is ready, once, and which stations
-    /// are gone since they don't answer.
+    /// A poll is made at this moment, in seconds since 1 January 1970: adds that the server is ready, once, and which
+    /// stations are gone since they don't answer.
     pub fn polls(&mut self, moment: u32, lines: &mut Lines) {
         if let Some(store) = self.store.take() {
             let me = self.me;
