@@ -141,7 +141,10 @@ fn watcher<'a>(rt: &HostRuntime, words: &Words, disk: &'a str) -> Option<Watcher
     if level == Level::Off {
         return None;
     }
-    match read(rt.alloc(), words).ok()? {
+    let Ok(request) = read(rt.alloc(), words) else {
+        return None;
+    };
+    match request {
         Request::Serve(serve) => Some(Watcher::of_server(level, serve.me, disk)),
         Request::Client(client) => Some(Watcher::of_client(level, me_of(&client))),
         _ => None,
