@@ -83,7 +83,7 @@ impl Link {
     pub(crate) fn hear(&mut self, kind: &Kind<'_>, moment: u32, lines: &mut Lines) {
         match kind {
             Kind::Sabm => self.wish = Wish::TheirConnect,
-            Kind::Disc => self.wish = Wish::TheirDisconnect,
+            Kind::Disc if self.up => self.wish = Wish::TheirDisconnect,
             Kind::Ua => self.answer(Wish::OurConnect, Wish::OurDisconnect, "ended here", lines),
             Kind::Dm => self.refuse("DM", lines),
             Kind::Frmr(_) => self.refuse("FRMR", lines),

@@ -56,39 +56,15 @@ impl<'a, A, O, C> LoggedAir<'a, A, O, C> {
 }
 
 impl<'a, A: Air, O: Out, C: Clock> LoggedAir<'a, A, O, C> {
-    /// Shows what a poll with this answer tells.
-    fn show_poll(&mut self, polled: Result<Polled, AirDown>, room: &[u8; 512])
-        requires { IfOk polled IsPolled }
+    /// Shows what a poll that brought these octets tells, or a put of them. That it can't be shown is passed over.
+    fn show(&mut self, heard: bool, octets: &[u8])
         ensures { self.new ≡ self.old }
     {
         if self.watcher.is_none() {
             return;
         }
         let moment = self.clock.now();
-        let heard = match polled {
-            Ok(Polled::Bytes(count)) => &room[..count],
-            _ => &[],
-        };
-        watch_poll(&mut self.watcher, heard, moment, &mut self.lines);
-        self.show_lines();
-    }
-
-    /// Shows what octets tell that were said.
-    fn show_said(&mut self, bytes: &[u8])
-        ensures { self.new ≡ self.old }
-    {
-        if self.watcher.is_none() {
-            return;
-        }
-        let moment = self.clock.now();
-        watch_put(&mut self.watcher, bytes, moment, &mut self.lines);
-        self.show_lines();
-    }
-
-    /// Shows the lines that wait, if there are any. That they can't be shown is passed over.
-    fn show_lines(&mut self)
-        ensures { self.new ≡ self.old }
-    {
+        watch(&mut self.watcher, heard, octets, moment, &mut self.lines);
         if !self.lines.as_bytes().is_empty() {
             let _ = self.out.put(self.lines.as_bytes());
             self.lines.clear();
@@ -105,7 +81,7 @@ impl<'a, A: Air, O: Out, C: Clock> Air for LoggedAir<'a, A, O, C> {
 
     ghost write_faults = { A.write_faults };
 
-    /// Polls the air that it wraps, once, and then shows what was heard.
+    /// Polls the air that it wraps, once, and then shows what was heard; a poll that failed shows nothing.
     fn poll(&mut self, room: &mut [u8; 512]) -> Result<Polled, AirDown>
         ensures count { IfOk result IsPolled }
         ensures heard { Hears (A.heard self.old) (A.heard self.new) (turn_of result room.new) }
@@ -114,7 +90,11 @@ impl<'a, A: Air, O: Out, C: Clock> Air for LoggedAir<'a, A, O, C> {
         ensures write_faults { A.write_faults self.new ≡ A.write_faults self.old }
     {
         let polled = self.air.poll(room);
-        self.show_poll(polled, room);
+        match polled {
+            Ok(Polled::Bytes(count)) => self.show(true, &room[..count]),
+            Ok(_) => self.show(true, &[]),
+            Err(AirDown) => {}
+        }
         polled
     }
 
@@ -127,22 +107,25 @@ impl<'a, A: Air, O: Out, C: Clock> Air for LoggedAir<'a, A, O, C> {
         ensures read_faults { A.read_faults self.new ≡ A.read_faults self.old }
     {
         self.air.put(bytes)?;
-        self.show_said(bytes);
+        self.show(false, bytes);
         Ok(())
     }
 }
 
-/// Adds the lines of a poll that brought these octets.
-fn watch_poll(watcher: &mut Option<Watcher<'_>>, heard: &[u8], moment: u32, lines: &mut Lines) {
-    if let Some(watcher) = watcher {
-        watcher.polls(moment, lines);
-        watcher.heard(heard, moment, lines);
-    }
-}
-
-/// Adds the lines of octets that were said.
-fn watch_put(watcher: &mut Option<Watcher<'_>>, said: &[u8], moment: u32, lines: &mut Lines) {
-    if let Some(watcher) = watcher {
-        watcher.said(said, moment, lines);
+/// Adds the lines of a poll that brought these octets, or of a put of them.
+fn watch(
+    watcher: &mut Option<Watcher<'_>>,
+    heard: bool,
+    octets: &[u8],
+    moment: u32,
+    lines: &mut Lines,
+) {
+    match watcher {
+        Some(watcher) if heard => {
+            watcher.polls(moment, lines);
+            watcher.heard(octets, moment, lines);
+        }
+        Some(watcher) => watcher.said(octets, moment, lines),
+        None => {}
     }
 }

@@ -6,10 +6,11 @@ use crate::level::Level;
 use crate::lines::Lines;
 use crate::link::Link;
 use arrayvec::ArrayVec;
-use ax25_frames::read_frame;
+use ax25_frames::{Frame, Kind, read_frame};
 use header_tool::frames::show_frames;
 use kiss::{KissFed, KissReader, write_frame};
 use px_base::Call;
+use std::array;
 use std::fmt::Write;
 
 /// How many links are watched at a time: those of a server's places.
@@ -48,16 +49,7 @@ impl<'a> Watcher<'a> {
             store,
             heard: KissReader::new(),
             said: KissReader::new(),
-            links: [
-                Link::new(me, client),
-                Link::new(me, client),
-                Link::new(me, client),
-                Link::new(me, client),
-                Link::new(me, client),
-                Link::new(me, client),
-                Link::new(me, client),
-                Link::new(me, client),
-            ],
+            links: array::from_fn(|_| Link::new(me, client)),
         }
     }
 
@@ -126,8 +118,9 @@ impl<'a> Watcher<'a> {
         let Ok(frame) = read_frame(self.said.frame()) else {
             return;
         };
-        if let Some(link) = link_with(&mut self.links, frame.dest) {
-            link.say(&frame, moment, lines);
+        match link_with(&mut self.links, frame.dest) {
+            Some(link) => link.say(&frame, moment, lines),
+            None => show_full(&frame, lines),
         }
     }
 }
@@ -149,6 +142,15 @@ fn link_with(links: &mut [Link], peer: Call) -> Option<&mut Link> {
     let link = links.get_mut(at)?;
     link.take(peer);
     Some(link)
+}
+
+/// Adds that a station was refused since all places are taken, where this frame says so.
+fn show_full(frame: &Frame<'_>, lines: &mut Lines) {
+    if let Kind::Dm = frame.kind {
+        let caller = frame.dest;
+        let _ = write!(lines.line, "{caller} refused, all places are taken");
+        lines.end(false);
+    }
 }
 
 /// Adds the line of a part of KISS text, as the command `frames` shows it.

@@ -55,7 +55,7 @@ fn tell_refused(rt: &HostRuntime, by: RefusedBy) {
 /// Tells of a file or an air what the system refused to it.
 fn tell_error(rt: &HostRuntime, name: &str, error: Option<SystemError>) {
     let _ = match error {
-        None => eprintln!(rt; "pacsat: {name}: the system gave no error"),
+        None => eprintln!(rt; "pacsat: {name}: the cause isn't known"),
         Some(error) => match error.number {
             Some(number) => {
                 let text = io::Error::from_raw_os_error(number);
