@@ -20,7 +20,7 @@ pub struct Lines {
     /// The line that is put together: it is written to, and then ended.
     pub(crate) line: ArrayString<LINE_ROOM>,
     /// Whether they are shown on a terminal, where a line can be written over.
-    terminal: bool,
+    pub(crate) terminal: bool,
     /// Whether the line that was ended last is one to be written over.
     over: bool,
     left_out: FaultCount,
@@ -46,11 +46,6 @@ impl Lines {
     /// Lets the lines go that waited.
     pub fn clear(&mut self) {
         self.text.clear();
-    }
-
-    /// Whether a line can be written over.
-    pub(crate) fn is_terminal(&self) -> bool {
-        self.terminal
     }
 
     /// Ends the line. On a terminal the next one of these is written over it where `over` holds of both.

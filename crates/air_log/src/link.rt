@@ -1,10 +1,10 @@
 //! A station's link, as far as its frames tell it.
 
-use crate::client_lines::{show_answered, show_sent};
+use crate::client_lines::{show_got, show_sent};
 use crate::lines::Lines;
 use crate::packet_stream::PacketStream;
-use crate::server_lines::{show_asked, show_replied};
-use crate::transfer::{Job, Transfer};
+use crate::server_lines::{show_asked, show_said};
+use crate::transfer::{Transfer, Work};
 use ax25_frames::{Frame, Kind};
 use px_base::Call;
 use std::fmt::Write;
@@ -59,7 +59,7 @@ impl Link {
             tried: 0,
             heard: PacketStream::new(),
             said: PacketStream::new(),
-            transfer: Transfer::new(Job::Nothing, 0, 0),
+            transfer: Transfer::new(Work::Nothing, 0, 0),
         }
     }
 
@@ -131,8 +131,7 @@ impl Link {
     fn call(&mut self, lines: &mut Lines) {
         self.up = false;
         self.wish = Wish::OurConnect;
-        let (peer, tries) = (self.peer, self.tries);
-        let _ = write!(lines.line, "calling {peer} (try {tries})");
+        let _ = write!(lines.line, "calling {} (try {})", self.peer, self.tries);
         lines.end(false);
     }
 
@@ -151,10 +150,9 @@ impl Link {
         self.wish = Wish::Nothing;
         self.heard = PacketStream::new();
         self.said = PacketStream::new();
-        self.transfer = Transfer::new(Job::Nothing, 0, 0);
+        self.transfer = Transfer::new(Work::Nothing, 0, 0);
         if !self.client {
-            let peer = self.peer;
-            let _ = write!(lines.line, "{peer} ");
+            let _ = write!(lines.line, "{} ", self.peer);
         }
         let _ = write!(lines.line, "connected");
         lines.end(false);
@@ -167,8 +165,7 @@ impl Link {
         }
         self.up = false;
         self.wish = Wish::Nothing;
-        let peer = self.peer;
-        let _ = write!(lines.line, "{peer} gone ({why})");
+        let _ = write!(lines.line, "{} gone ({why})", self.peer);
         lines.end(false);
     }
 
@@ -189,10 +186,10 @@ impl Link {
                 continue;
             };
             match (client, heard) {
-                (true, true) => show_answered(&mut transfer, &packet, moment, lines),
+                (true, true) => show_got(&mut transfer, &packet, moment, lines),
                 (true, false) => show_sent(&mut transfer, &packet, moment, lines),
                 (false, true) => show_asked(&mut transfer, peer, &packet, lines),
-                (false, false) => show_replied(&mut transfer, peer, &packet, lines),
+                (false, false) => show_said(&mut transfer, peer, &packet, lines),
             }
         }
         self.transfer = transfer;

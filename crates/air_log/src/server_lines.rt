@@ -2,24 +2,19 @@
 
 use crate::lines::Lines;
 use crate::meaning::meaning_of_code;
-use crate::transfer::{Job, Transfer};
+use crate::transfer::{Transfer, Work};
 use ftl0_packets::Packet;
 use px_base::Call;
 use std::fmt::Write;
 
 /// Shows what a caller asks for. Number 0 is the next file of its selection.
-pub(crate) fn show_asked(
-    transfer: &mut Transfer,
-    caller: Call,
-    packet: &Packet<'_>,
-    lines: &mut Lines,
-) {
+pub(crate) fn show_asked(job: &mut Transfer, caller: Call, packet: &Packet<'_>, lines: &mut Lines) {
     match packet {
         Packet::UploadCmd { number, length } => {
-            *transfer = Transfer::new(Job::Upload, *number, *length);
+            *job = Transfer::new(Work::Upload, *number, *length);
         }
         Packet::DownloadCmd { number, offset, .. } => {
-            *transfer = Transfer::new(Job::Download, *number, 0);
+            *job = Transfer::new(Work::Download, *number, 0);
             let _ = write!(lines.line, "{caller} download {number}");
             if *offset > 0 {
                 let _ = write!(lines.line, ", from {offset}");
@@ -31,24 +26,18 @@ pub(crate) fn show_asked(
 }
 
 /// Shows what a caller is replied, but for the code that ends each list.
-pub(crate) fn show_replied(
-    transfer: &mut Transfer,
-    caller: Call,
-    packet: &Packet<'_>,
-    lines: &mut Lines,
-) {
+pub(crate) fn show_said(job: &mut Transfer, caller: Call, packet: &Packet<'_>, lines: &mut Lines) {
     match packet {
         Packet::UlGoResp { number, offset } => {
-            transfer.number = *number;
-            let length = transfer.length;
+            job.number = *number;
+            let length = job.length;
             let _ = write!(
                 lines.line,
                 "{caller} upload {number}, {length} octets, from {offset}"
             );
         }
         Packet::UlAckResp => {
-            let number = transfer.number;
-            let _ = write!(lines.line, "{caller} {number} kept");
+            let _ = write!(lines.line, "{caller} {} kept", job.number);
         }
         Packet::DlCompletedResp => {
             let _ = write!(lines.line, "{caller} download done");

@@ -8,7 +8,7 @@ const PROGRESS_SECONDS: u32 = 30;
 
 /// What is under way on a link.
 #[derive(Clone, Copy, PartialEq, Eq)]
-pub(crate) enum Job {
+pub(crate) enum Work {
     /// Nothing that is known.
     Nothing,
     /// An upload.
@@ -23,7 +23,7 @@ pub(crate) enum Job {
 #[derive(Clone, Copy)]
 pub(crate) struct Transfer {
     /// What is under way.
-    pub(crate) job: Job,
+    pub(crate) work: Work,
     /// The file's number.
     pub(crate) number: u32,
     /// The file's length, or 0 where it isn't known.
@@ -39,9 +39,9 @@ pub(crate) struct Transfer {
 
 impl Transfer {
     /// A job of a file of this number, and of this length where that isn't 0.
-    pub(crate) fn new(job: Job, number: u32, length: u32) -> Transfer {
+    pub(crate) fn new(work: Work, number: u32, length: u32) -> Transfer {
         Transfer {
-            job,
+            work,
             number,
             length,
             place: 0,
@@ -58,7 +58,7 @@ impl Transfer {
         self.from = from;
         self.began = moment;
         self.shown = moment;
-        let word = if self.job == Job::Upload {
+        let word = if self.work == Work::Upload {
             "upload"
         } else {
             "download"
@@ -72,11 +72,7 @@ impl Transfer {
     pub(crate) fn pass(&mut self, octets: usize, moment: u32, lines: &mut Lines) {
         let octets = u32::try_from(octets).unwrap_or(0);
         self.place = self.place.saturating_add(octets);
-        let seconds = if lines.is_terminal() {
-            1
-        } else {
-            PROGRESS_SECONDS
-        };
+        let seconds = if lines.terminal { 1 } else { PROGRESS_SECONDS };
         if moment.saturating_sub(self.shown) >= seconds {
             self.shown = moment;
             self.show(moment, lines);
@@ -101,9 +97,8 @@ impl Transfer {
 
     /// Adds the length to a line, where it is known.
     fn end_with_length(&self, lines: &mut Lines) {
-        let length = self.length;
-        if length > 0 {
-            let _ = write!(lines.line, " of {length}");
+        if self.length > 0 {
+            let _ = write!(lines.line, " of {}", self.length);
         }
     }
 }

@@ -57,8 +57,7 @@ impl<'a> Watcher<'a> {
     /// stations are gone since they don't answer.
     pub fn polls(&mut self, moment: u32, lines: &mut Lines) {
         if let Some(store) = self.store.take() {
-            let me = self.me;
-            let _ = write!(lines.line, "ready {me} store {store}");
+            let _ = write!(lines.line, "ready {} store {store}", self.me);
             lines.end(false);
         }
         wait_all(&mut self.links, moment, lines);
@@ -147,8 +146,7 @@ fn link_with(links: &mut [Link], peer: Call) -> Option<&mut Link> {
 /// Adds that a station was refused since all places are taken, where this frame says so.
 fn show_full(frame: &Frame<'_>, lines: &mut Lines) {
     if let Kind::Dm = frame.kind {
-        let caller = frame.dest;
-        let _ = write!(lines.line, "{caller} refused, all places are taken");
+        let _ = write!(lines.line, "{} refused, all places are taken", frame.dest);
         lines.end(false);
     }
 }
