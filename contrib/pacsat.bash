@@ -33,7 +33,7 @@ _pacsat() {
     command="${words[2]:-}"
     COMPREPLY=()
     case "$at" in
-    1) COMPREPLY=($(compgen -f -W none -- "$word")) ;;
+    1) COMPREPLY=($(compgen -f -W "none --help --version" -- "$word")) ;;
     2) COMPREPLY=($(compgen -W "- none 127.0.0.1:8001" -- "$word")) ;;
     3) COMPREPLY=($(compgen -W "serve session send fetch list frames pfh-make pfh-show pfh-check" -- "$word")) ;;
     *)

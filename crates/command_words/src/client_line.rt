@@ -108,7 +108,7 @@ pub(crate) fn read_fetch_texts<'a>(
 }
 
 /// A client's command of this name, with one place behind SERVER and ME, and its options.
-fn client_command<'a>(alloc: Global, name: &'a str) -> Result<Command<'a>, AllocError>
+pub(crate) fn client_command<'a>(alloc: Global, name: &'a str) -> Result<Command<'a>, AllocError>
     ensures { IfOk result (λ command. app_of command ≡ client_app name.entry.now) }
 {
     let command = line_command(alloc, name, "server")?
@@ -118,7 +118,7 @@ fn client_command<'a>(alloc: Global, name: &'a str) -> Result<Command<'a>, Alloc
 }
 
 /// The command `fetch` with its four places and its options.
-fn fetch_command<'a>(alloc: Global) -> Result<Command<'a>, AllocError>
+pub(crate) fn fetch_command<'a>(alloc: Global) -> Result<Command<'a>, AllocError>
     ensures { IfOk result (λ command. app_of command ≡ fetch_app) }
 {
     let command = line_command(alloc, "fetch", "server")?

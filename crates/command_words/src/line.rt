@@ -147,7 +147,7 @@ pub(crate) fn read_make<'a>(alloc: Global, line: &'a [String]) -> Result<MakeTex
 }
 
 /// The command `session` with its place and its options.
-fn session_command<'a>(alloc: Global) -> Result<Command<'a>, AllocError>
+pub(crate) fn session_command<'a>(alloc: Global) -> Result<Command<'a>, AllocError>
     ensures { IfOk result (λ command. app_of command ≡ session_app) }
 {
     let command = line_command(alloc, "session", "caller")?;
@@ -155,7 +155,7 @@ fn session_command<'a>(alloc: Global) -> Result<Command<'a>, AllocError>
 }
 
 /// The command `serve` with its place and its options.
-fn serve_command<'a>(alloc: Global) -> Result<Command<'a>, AllocError>
+pub(crate) fn serve_command<'a>(alloc: Global) -> Result<Command<'a>, AllocError>
     ensures { IfOk result (λ command. app_of command ≡ serve_app) }
 {
     let command = line_command(alloc, "serve", "me")?;
@@ -163,7 +163,7 @@ fn serve_command<'a>(alloc: Global) -> Result<Command<'a>, AllocError>
 }
 
 /// The command `pfh-make` with its two places and its options.
-fn make_command<'a>(alloc: Global) -> Result<Command<'a>, AllocError>
+pub(crate) fn make_command<'a>(alloc: Global) -> Result<Command<'a>, AllocError>
     ensures { IfOk result (λ command. app_of command ≡ make_app) }
 {
     let command = line_command(alloc, "pfh-make", "body")?.arg(place(alloc, "kept"))?;

@@ -1,6 +1,8 @@
 //! The program `pacsat`: the system as it is, on which the start runs.
 #![tactic(auto)]
 
+mod cause;
+mod help;
 mod system;
 
 use pacsat_cli::start;
@@ -8,5 +10,8 @@ use std::process::ExitCode;
 use system::System;
 
 fn main(rt: HostRuntime) -> ExitCode {
-    ExitCode::from(start(&mut System::new(&rt)))
+    match system::told(&rt) {
+        Some(status) => ExitCode::from(status.number()),
+        None => ExitCode::from(start(&mut System::new(&rt))),
+    }
 }

@@ -3,15 +3,19 @@
 ghost use Rattle.std.specs.Prelude.{◌≡◌, ◌↔◌, None, IsSome, OnOk};
 ghost use Rattle.std.specs.declared.io.ErrorKind.TheVariants as reason;
 
+use crate::cause::Ended;
+use crate::help;
+use air_log::{Level, LoggedAir, Watcher};
+use command_words::{ClientRequest, Request, read};
 use pacsat_cli::{Host, NotHeld, Status, Words, WordsRefusal, end_with, run};
-use px_base::{Air, Out};
+use px_base::{Air, Call, Out};
 use real_outside::{
     FileDisk, FolderShelf, NullFile, StandardStreams, StdAir, StdOut, SystemClock, TcpAir,
     hold_standard_streams,
 };
 use std::env;
 use std::fs::File;
-use std::io::ErrorKind;
+use std::io::{ErrorKind, IsTerminal};
 
 /// The system that the program runs on. It tells none of its calls.
 #[derive(Drop)]
@@ -54,14 +58,19 @@ impl<'a> Host for System<'a> {
     fn run_over_connection(&mut self, words: &Words, disk: &str, at: &str) -> Status
         ensures kept { self.new.streams ≡ self.old.streams }
     {
+        let log = StdOut::new(self.rt.stderr());
+        let mut air = LoggedAir::new(
+            TcpAir::new(self.rt, at),
+            watcher(self.rt, words, disk),
+            self.rt.stderr().is_terminal(),
+            log,
+            SystemClock::new(self.rt),
+        );
         let mut text = StdOut::new(self.rt.stdout());
-        run_over(
-            self.rt,
-            words,
-            disk,
-            &mut TcpAir::new(self.rt, at),
-            &mut text,
-        )
+        let ended = run_over(self.rt, words, disk, &mut air, &mut text);
+        let refused = air.air().connection().last_error();
+        ended.tell(self.rt, words, disk, at, refused);
+        ended.status
     }
 
     fn run_over_streams(&mut self, words: &Words, disk: &str) -> Status
@@ -75,19 +84,22 @@ impl<'a> Host for System<'a> {
             &mut StdAir::new(self.rt.stdin(), self.rt.stdout()),
             &mut text,
         )
+        .status
     }
 
     fn run_without_air(&mut self, words: &Words, disk: &str) -> Status
         ensures kept { self.new.streams ≡ self.old.streams }
     {
         let mut text = StdOut::new(self.rt.stdout());
-        run_over(
+        let ended = run_over(
             self.rt,
             words,
             disk,
             &mut StdAir::new(self.rt.stdin(), self.rt.stdout()),
             &mut text,
-        )
+        );
+        ended.tell(self.rt, words, disk, "", None);
+        ended.status
     }
 }
 
@@ -99,16 +111,59 @@ fn run_over<A: Air, O: Out>(
     disk: &str,
     air: &mut A,
     text: &mut O,
-) -> Status {
-    run(
+) -> Ended {
+    let mut file = FileDisk::new(rt, disk);
+    let mut shelf = FolderShelf::new(rt);
+    let mut clock = SystemClock::new(rt);
+    let status = run(
         rt.alloc(),
         words,
-        &mut FileDisk::new(rt, disk),
+        &mut file,
         air,
-        &mut FolderShelf::new(rt),
+        &mut shelf,
         text,
-        &mut SystemClock::new(rt),
-    )
+        &mut clock,
+    );
+    Ended {
+        status,
+        disk: file.device().files().last_error(),
+        shelf: shelf.files().last_error(),
+    }
+}
+
+/// What makes lines of what passes over the air, where these words ask for a server or a client, and PACSAT_LOG in the
+/// environment isn't `off`.
+fn watcher<'a>(rt: &HostRuntime, words: &Words, disk: &'a str) -> Option<Watcher<'a>> {
+    let level = match env::var(rt, "PACSAT_LOG") {
+        Ok(word) => Level::of_word(word.as_str()),
+        Err(_) => Level::Info,
+    };
+    if level == Level::Off {
+        return None;
+    }
+    let Ok(request) = read(rt.alloc(), words) else {
+        return None;
+    };
+    match request {
+        Request::Serve(serve) => Some(Watcher::of_server(level, serve.me, disk)),
+        Request::Client(client) => Some(Watcher::of_client(level, me_of(&client))),
+        _ => None,
+    }
+}
+
+/// The call of the client itself.
+fn me_of(client: &ClientRequest<'_>) -> Call {
+    match client {
+        ClientRequest::Send(send) => send.me,
+        ClientRequest::Fetch(fetch) => fetch.me,
+        ClientRequest::List(list) => list.me,
+    }
+}
+
+/// Shows what the words ask to be told of the program itself, and gives the status, if they ask for that.
+pub fn told(rt: &HostRuntime) -> Option<Status> {
+    let words = words(rt).ok()?;
+    help::told(rt, &words)
 }
 
 /// The words after the program's name.

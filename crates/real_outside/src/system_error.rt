@@ -1,6 +1,6 @@
 //! Why a call of the system failed.
 
-ghost use Rattle.std.specs.Prelude.{◌≡◌, None, IfOk, IfErr};
+ghost use Rattle.std.specs.Prelude.{◌≡◌, None, Option, Some, IfOk, IfErr, OnOk};
 ghost use Rattle.real_outside.specs.Systems.{system_error};
 
 use std::io::{self, ErrorKind};
@@ -47,4 +47,19 @@ pub fn system_answer<T: Drop>(answer: io::Result<T>) -> Result<T, SystemError>
     ensures err { IfErr answer (λ refused. result ≡ Err (system_error refused)) }
 {
     Ok(answer?)
+}
+
+/// The same answer, of which an error is kept as the last one.
+pub(crate) fn noted<T>(
+    last_error: &mut Option<SystemError>,
+    answer: Result<T, SystemError>,
+) -> Result<T, SystemError>
+    ensures same { result ≡ answer }
+    ensures kept { OnOk answer (last_error.new ≡ last_error.old) }
+    ensures noted { IfErr answer (λ error. last_error.new ≡ Some error) }
+{
+    if let Err(error) = &answer {
+        *last_error = Some(*error);
+    }
+    answer
 }

@@ -6,7 +6,7 @@ ghost use Rattle.real_outside.specs.Systems.{IsFound, answer_of_lock};
 
 use super::file_call::Found;
 use super::file_system::FileSystem;
-use crate::system_error::{SystemError, system_answer};
+use crate::system_error::{SystemError, noted, system_answer};
 use std::alloc::Global;
 use std::fs::{self, File, Metadata, OpenOptions, Permissions, TryLockError};
 use std::io::{self, ErrorKind, Seek, SeekFrom};
@@ -16,11 +16,13 @@ use std::rt::Files;
 /// The number under which the system has the limit on the sizes of files.
 const LIMIT_ON_SIZES: i32 = 1;
 
-/// The files of the system. They tell none of their calls. The limit on the sizes of files is asked for once.
+/// The files of the system. They tell none of their calls, and keep why the last one was refused that was. The limit on
+/// the sizes of files is asked for once.
 #[derive(Drop)]
 pub struct RealFiles<'a, R> {
     files: &'a R,
     limit: u64,
+    last_error: Option<SystemError>,
 }
 
 impl<'a, R: Files<File = File>> RealFiles<'a, R> {
@@ -29,7 +31,15 @@ impl<'a, R: Files<File = File>> RealFiles<'a, R> {
         RealFiles {
             files,
             limit: limit_on_sizes(),
+            last_error: None,
         }
+    }
+
+    /// Why the last call was refused that was, if one was.
+    pub fn last_error(&self) -> Option<SystemError>
+        ensures { result ≡ self.now.last_error }
+    {
+        self.last_error
     }
 }
 
@@ -47,48 +57,59 @@ impl<'a, R: Files<File = File>> FileSystem for RealFiles<'a, R> {
     }
 
     fn open(&mut self, path: &str) -> Result<File, SystemError> {
-        system_answer(for_both().open(self.files, path))
+        let answer = system_answer(for_both().open(self.files, path));
+        noted(&mut self.last_error, answer)
     }
 
     fn lock(&mut self, file: &File) -> Result<(), SystemError> {
-        lock_answer(file.try_lock())
+        let answer = lock_answer(file.try_lock());
+        noted(&mut self.last_error, answer)
     }
 
     fn length(&mut self, file: &File) -> Result<u64, SystemError> {
         let mut file = file;
-        system_answer(file.seek(SeekFrom::End(0)))
+        let answer = system_answer(file.seek(SeekFrom::End(0)));
+        noted(&mut self.last_error, answer)
     }
 
     fn read_at(&mut self, file: &File, at: u64, room: &mut [u8]) -> Result<usize, SystemError> {
-        system_answer(file.read_at(room, at))
+        let answer = system_answer(file.read_at(room, at));
+        noted(&mut self.last_error, answer)
     }
 
     fn write_at(&mut self, file: &File, at: u64, bytes: &[u8]) -> Result<usize, SystemError> {
-        system_answer(file.write_at(bytes, at))
+        let answer = system_answer(file.write_at(bytes, at));
+        noted(&mut self.last_error, answer)
     }
 
     fn cut(&mut self, file: &File) -> Result<(), SystemError> {
-        system_answer(file.set_len(0))
+        let answer = system_answer(file.set_len(0));
+        noted(&mut self.last_error, answer)
     }
 
     fn set_mode(&mut self, file: &File, mode: u32) -> Result<(), SystemError> {
-        system_answer(file.set_permissions(Permissions::from_mode(mode)))
+        let answer = system_answer(file.set_permissions(Permissions::from_mode(mode)));
+        noted(&mut self.last_error, answer)
     }
 
     fn sync(&mut self, file: &File) -> Result<(), SystemError> {
-        system_answer(file.sync_all())
+        let answer = system_answer(file.sync_all());
+        noted(&mut self.last_error, answer)
     }
 
     fn sync_folder(&mut self, path: &str) -> Result<(), SystemError> {
-        system_answer(sync_folder(self.files, path))
+        let answer = system_answer(sync_folder(self.files, path));
+        noted(&mut self.last_error, answer)
     }
 
     fn look(&mut self, path: &str) -> Result<Found, SystemError> {
-        found_answer(fs::symlink_metadata(self.files, path))
+        let answer = found_answer(fs::symlink_metadata(self.files, path));
+        noted(&mut self.last_error, answer)
     }
 
     fn resolve(&mut self, alloc: Global, path: &str) -> Result<String, SystemError> {
-        let path = system_answer(self.files.canonicalize(alloc, path))?;
+        let path = system_answer(self.files.canonicalize(alloc, path));
+        let path = noted(&mut self.last_error, path)?;
         Ok(path.into_string())
     }
 
@@ -99,19 +120,23 @@ impl<'a, R: Files<File = File>> FileSystem for RealFiles<'a, R> {
         from: &str,
         to: &str,
     ) -> Result<(), SystemError> {
-        system_answer(fs::rename(self.files, from, to))
+        let answer = system_answer(fs::rename(self.files, from, to));
+        noted(&mut self.last_error, answer)
     }
 
     fn remove(&mut self, path: &str) -> Result<(), SystemError> {
-        system_answer(fs::remove_file(self.files, path))
+        let answer = system_answer(fs::remove_file(self.files, path));
+        noted(&mut self.last_error, answer)
     }
 
     fn pour(&mut self, path: &str, bytes: &[u8]) -> Result<(), SystemError> {
-        system_answer(fs::write(self.files, path, bytes))
+        let answer = system_answer(fs::write(self.files, path, bytes));
+        noted(&mut self.last_error, answer)
     }
 
     fn open_to_read(&mut self, path: &str) -> Result<File, SystemError> {
-        system_answer(File::open(self.files, path))
+        let answer = system_answer(File::open(self.files, path));
+        noted(&mut self.last_error, answer)
     }
 }
 

@@ -6,6 +6,7 @@ ghost use Rattle.std.specs.Io.KnownBytes.{Keeps, ReadConsumes, WriteAppends};
 ghost use Rattle.std.specs.declared.io.ErrorKind.TheVariants as reason;
 ghost use Rattle.real_outside.specs.Tcp.Connections.{told_of};
 
+use crate::system_error::noted;
 use crate::tcp::connection::Connection;
 use crate::tcp::connection_air::{ConnectionAir, Stage};
 use crate::{SystemError, system_answer};
@@ -30,13 +31,14 @@ impl<'a, R: Net<Stream = TcpStream>> ConnectionAir<TcpConnection<'a, R, TcpStrea
     }
 }
 
-/// A TCP connection to a host and port, which has a stream once it was made. It tells none of its calls. Takes no
-/// memory.
+/// A TCP connection to a host and port, which has a stream once it was made. It tells none of its calls, and keeps why
+/// the last one failed that did. Takes no memory.
 #[derive(Drop)]
 pub struct TcpConnection<'a, R, S> {
     net: &'a R,
     address: &'a str,
     stream: Option<S>,
+    last_error: Option<SystemError>,
 }
 
 impl<'a, R, S> TcpConnection<'a, R, S> {
@@ -50,6 +52,7 @@ impl<'a, R, S> TcpConnection<'a, R, S> {
             net,
             address,
             stream: None,
+            last_error: None,
         }
     }
 
@@ -58,6 +61,13 @@ impl<'a, R, S> TcpConnection<'a, R, S> {
         ensures { option_copied result ≡ self.now.stream }
     {
         self.stream.as_ref()
+    }
+
+    /// Why the last call failed that did, if one did.
+    pub fn last_error(&self) -> Option<SystemError>
+        ensures { result ≡ self.now.last_error }
+    {
+        self.last_error
     }
 }
 
@@ -70,7 +80,8 @@ impl<'a, R: Net<Stream = S>, S: Read + Write + OpenStream + Drop> Connection
         ensures made { IsOk result → IsSome self.new.stream }
         ensures address { self.new.address ≡ self.old.address }
     {
-        self.stream = Some(system_answer(TcpStream::connect(self.net, self.address))?);
+        let stream = system_answer(TcpStream::connect(self.net, self.address));
+        self.stream = Some(noted(&mut self.last_error, stream)?);
         Ok(())
     }
 
@@ -101,10 +112,11 @@ impl<'a, R: Net<Stream = S>, S: Read + Write + OpenStream + Drop> Connection
         ensures octets { ReadConsumes (told_of S.remaining self.old.stream) (told_of S.remaining self.new.stream)
             result room.new }
     {
-        match &mut self.stream {
+        let answer = match &mut self.stream {
             Some(stream) => system_answer(stream.read(room)),
             None => Err(not_made()),
-        }
+        };
+        noted(&mut self.last_error, answer)
     }
 
     /// Writes to the stream once.
@@ -114,10 +126,11 @@ impl<'a, R: Net<Stream = S>, S: Read + Write + OpenStream + Drop> Connection
         ensures octets { WriteAppends (told_of S.contents self.old.stream) (told_of S.contents self.new.stream)
             result bytes.now }
     {
-        match &mut self.stream {
+        let answer = match &mut self.stream {
             Some(stream) => system_answer(stream.write(bytes)),
             None => Err(not_made()),
-        }
+        };
+        noted(&mut self.last_error, answer)
     }
 
     /// Flushes the stream, which holds nothing back.

@@ -1,0 +1,52 @@
+//! What a client shows of its packets and of the server's replies.
+
+use crate::lines::Lines;
+use crate::meaning::meaning_of_code;
+use crate::transfer::{Transfer, Work};
+use ftl0_packets::Packet;
+use std::fmt::Write;
+
+/// Shows what the client asks for and sends.
+pub(crate) fn show_sent(job: &mut Transfer, packet: &Packet<'_>, moment: u32, lines: &mut Lines) {
+    match packet {
+        Packet::UploadCmd { number, length } => {
+            *job = Transfer::new(Work::Upload, *number, *length);
+        }
+        Packet::SelectCmd(_) => *job = Transfer::new(Work::List, 0, 0),
+        Packet::DownloadCmd { number, offset, .. } => {
+            *job = Transfer::new(Work::Download, *number, 0);
+            job.begin(*number, *offset, moment, lines);
+        }
+        Packet::DataPart(octets) => job.pass(octets.len(), moment, lines),
+        _ => {}
+    }
+}
+
+/// Shows what the server replies and sends. An outcome is shown as soon as it is there; the link ends behind it.
+pub(crate) fn show_got(job: &mut Transfer, packet: &Packet<'_>, moment: u32, lines: &mut Lines) {
+    let (number, work) = (job.number, job.work);
+    match packet {
+        Packet::UlGoResp { number, offset } => return job.begin(*number, *offset, moment, lines),
+        Packet::DataPart(octets) if work == Work::Download => {
+            return job.pass(octets.len(), moment, lines);
+        }
+        Packet::SelectResp(count) => {
+            let _ = write!(lines.line, "{count} files selected");
+        }
+        Packet::UlAckResp | Packet::UlErrorResp(12) => {
+            let _ = write!(lines.line, "acknowledged {number}, ending the link");
+        }
+        Packet::DlCompletedResp => {
+            let _ = write!(lines.line, "fetched {number}, ending the link");
+        }
+        Packet::DlErrorResp(5 | 11) if work == Work::List => {
+            let _ = write!(lines.line, "listed, ending the link");
+        }
+        Packet::UlErrorResp(code) | Packet::UlNakResp(code) | Packet::DlErrorResp(code) => {
+            let meaning = meaning_of_code(*code);
+            let _ = write!(lines.line, "refused {code} ({meaning}), ending the link");
+        }
+        _ => return,
+    }
+    lines.end(false);
+}

@@ -1,0 +1,50 @@
+//! Why words are refused, for people.
+
+use crate::air::read_air;
+use crate::client_line::{client_command, fetch_command};
+use crate::command::{ClientCommand, CommandWord, read_command};
+use crate::line::{line_command, make_command, serve_command, session_command};
+use crate::words::Words;
+use clap::Command;
+use std::alloc::{AllocError, Global};
+
+/// Why the words are refused, where they aren't in the command set: which word, and its reason, in `clap`'s own text
+/// where `clap` refuses it. It is shown, and not promised. `None` where fewer than three words stand, or memory is
+/// short. Takes memory.
+pub fn refusal_text(alloc: Global, words: &Words) -> Option<String> {
+    let [_, air, command, ..] = words.as_slice() else {
+        return None;
+    };
+    if read_air(air.as_str()).is_none() {
+        return format!(in alloc; "AIR is no host and port, nor '-', nor 'none': {air}").ok();
+    }
+    let Some(asked) = read_command(command.as_str()) else {
+        return format!(in alloc; "there is no command '{command}'").ok();
+    };
+    let line = &words.as_slice()[2..];
+    let parser = parser_of(alloc, asked, command.as_str()).ok()?;
+    match parser.try_get_matches_from(line) {
+        Ok(_) => String::from_str(alloc, OUT_OF_RANGE).ok(),
+        Err(error) => format!(in alloc; "{error}").ok(),
+    }
+}
+
+/// What is said where `clap` takes the words.
+const OUT_OF_RANGE: &str =
+    "a call is none (capitals, digits, SSID), a number is out of range, a name is too long, or a disk or air is missing";
+
+/// What `clap` reads the words of this command by.
+fn parser_of<'a>(
+    alloc: Global,
+    asked: CommandWord,
+    word: &'a str,
+) -> Result<Command<'a>, AllocError> {
+    match asked {
+        CommandWord::Session => session_command(alloc),
+        CommandWord::Serve => serve_command(alloc),
+        CommandWord::Client(ClientCommand::Fetch) => fetch_command(alloc),
+        CommandWord::Client(_) => client_command(alloc, word),
+        CommandWord::PfhMake => make_command(alloc),
+        CommandWord::Named(_) | CommandWord::Unbuilt => line_command(alloc, word, "name"),
+    }
+}
