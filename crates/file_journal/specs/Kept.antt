@@ -25,13 +25,14 @@ pub record StandsAt {D S C : Type 0} (g : Ghosts D) (form : Form S C) (at : Kept
   pub magic_is : at.journal.magic ≡ form.magic
   pub keeps : KeepsState form.fresh form.step g at.journal at.now at.disk
 
--- All commands are done: the state and each image are after all of them, and those done stay.
+-- All commands are done, in time: the state and each image are after all of them, and the first so many stay.
 pub record IsDone {D S C : Type 0} (g : Ghosts D) (m : Meaning S C) (time : ℕ → ℕ) (commands : List C)
     (old new : KeptOn D S) : Type 0 where
   pub state : new.now ≡ after_all m old.now commands
   pub healthy : new.journal.failed ≡ false
   pub images : EachImage g new.disk (m.stands (after_all m old.now commands))
   pub stay : IfSome (g.content old.disk) (λ _. StayDone g m time (length commands) old.now commands new.disk)
+  pub calls : IfSome (g.content old.disk) (λ _. time (length commands) ≤ g.moment new.disk)
 
 -- The disk failed in one of the commands: the state is the one after those before it. Each image has these, and that one
 -- or not; and those before it stay. They were done in time, and the one in which it failed would have been. The journal

@@ -35,6 +35,7 @@ pub record StandsThrough {D S C : Type 0} (g : Ghosts D) (m : Meaning S C) (fail
   pub stay :
       ¬ failed
       → IfSome (g.content disk) (λ _. StayDone g m time (length (done ++ cut)) start (done ++ cut) disk_now)
+  pub in_time : ¬ failed → IfSome (g.content disk) (λ _. time (length (done ++ cut)) ≤ g.moment disk_now)
   pub all_done : ¬ failed → EachImage g disk_now (m.stands (after_all m start (done ++ cut)))
   pub interrupted : failed → IsInterrupted g m time start (done ++ cut) (length done) disk disk_now
 
