@@ -41,6 +41,29 @@ module _ {D S C : Type 0} (g : Ghosts D) (m : Meaning S C) where
     cut = λ failed. absurd (fine failed);
   }
 
+  -- further commands behind those in one of which the disk failed
+  pub by_longer : (P : Type 0) (time : ℕ → ℕ) (a b : List C) (old new : KeptOn D S) → P → AreAllowed m old.now (a ++ b) → DoesBy g m P time a old new → DoesBy g m P time (a ++ b) old new
+  by_longer P time a b old new failed allowed does =
+      let some = does.cut failed in
+      record {
+        told = does.told;
+        allowed = allowed;
+        since = told_weaker (g.content old.disk) _ _ (λ before told left.
+            weaker g.moment g.images_since old.disk new.disk (MakesFirst m old.now a) (MakesFirst m old.now (a ++ b)) (λ image here. makes_longer m old.now a b image here) left) does.since;
+        done = λ fine. absurd (fine failed);
+        cut = λ again. record {
+          count = some.count;
+          fewer = omega (arith, length-append a b, some.fewer);
+          state = some.state ∙ sym (first_append m some.count a b old.now (omega (arith, some.fewer)));
+          failed = some.failed;
+          images = told_weaker (g.content new.disk) _ _ (λ now told each image here.
+              makes_first m some.count (some.count + 1) old.now a b image (omega (arith, some.fewer)) (each image here)) some.images;
+          stay = told_weaker (g.content old.disk) _ _ (λ before told stay. stay_longer m g time some.count old.now a b new.disk stay) some.stay;
+          calls = some.calls;
+          at_most = some.at_most;
+        };
+      }
+
   -- One list of commands, and then another. The moments of both are those of the first, and then those of the second.
   module _ (P Q : Type 0) (time first_time second_time : ℕ → ℕ) (a b : List C) (old mid new : KeptOn D S) (fine : ¬ P)
       (early : (count : ℕ) → count ≤ length a → time count ≡ first_time count)
@@ -117,6 +140,11 @@ module _ {D S C : Type 0} (g : Ghosts D) (m : Meaning S C) where
           subst (λ (n : ℕ). g.moment new.disk ≤ time n) (sym one_more) (subst (λ (n : ℕ). g.moment new.disk ≤ n) (sym is) soon));
     }
 
+    -- and then no fewer of both are done than the first were
+    pub cut_least : IsCut g m second_time b mid new → (both : IsCut g m time (a ++ b) old new) × (length a ≤ both.count)
+    unfolding cut_both
+    cut_least some = (cut_both some, omega arith)
+
     pub by_then : DoesBy g m Q time (a ++ b) old new
     by_then = record {
       told = alike_on _ _ _ first.told second.told;
@@ -141,13 +169,26 @@ module _ {D S C : Type 0} (g : Ghosts D) (form : Form S C) where
     same_blocks = does.same_blocks;
   }
 
+  -- the moments at which the second of two lists begins
+  fours_late : (P : Type 0) (a : List C) (old mid : KeptOn D S) → ¬ P → DoesByFours g form P a old mid
+      → IfSome (g.content old.disk) (λ _. (count : ℕ) → 1 ≤ count → by_fours (g.moment old.disk) (length a + count) ≡ by_fours (g.moment mid.disk) count)
+  fours_late P a old mid fine first =
+      told_weaker (g.content old.disk) _ _ (λ before told then count some. let at : g.moment mid.disk ≡ g.moment old.disk + 4 * length a = then in omega (arith, at)) (first.calls fine)
+
+  -- where the disk fails in the second of two lists, all of the first are done
+  pub fours_least : (P Q : Type 0) (a b : List C) (old mid new : KeptOn D S) → ¬ P → DoesByFours g form P a old mid → DoesByFours g form Q b mid new → Q → (blocks : ℕ)
+      → (both : IsCut g (meaning_of form blocks) (by_fours (g.moment old.disk)) (a ++ b) old new) × (length a ≤ both.count)
+  fours_least P Q a b old mid new fine first second failed blocks =
+      cut_least g (meaning_of form blocks) P Q (by_fours (g.moment old.disk)) (by_fours (g.moment old.disk)) (by_fours (g.moment mid.disk)) a b old mid new fine (λ count few. refl)
+      (fours_late P a old mid fine first) (first.by blocks) (second.by blocks) ((second.by blocks).cut failed)
+
   -- one list of commands, and then another
   pub fours_then : (P Q : Type 0) (a b : List C) (old mid new : KeptOn D S) → ¬ P → DoesByFours g form P a old mid → DoesByFours g form Q b mid new → DoesByFours g form Q (a ++ b) old new
   fours_then P Q a b old mid new fine first second = record {
     healthy = first.healthy;
     by = λ blocks. by_then g (meaning_of form blocks) P Q (by_fours (g.moment old.disk)) (by_fours (g.moment old.disk)) (by_fours (g.moment mid.disk)) a b old mid new fine
         (λ count few. refl)
-        (told_weaker (g.content old.disk) _ _ (λ before told then count some. let at : g.moment mid.disk ≡ g.moment old.disk + 4 * length a = then in omega (arith, at)) (first.calls fine))
+        (fours_late P a old mid fine first)
         (first.by blocks) (second.by blocks);
     stands_at = second.stands_at;
     calls = λ still. if_told (g.content old.disk) _ (λ before told.
@@ -160,6 +201,19 @@ module _ {D S C : Type 0} (g : Ghosts D) (form : Form S C) where
     same_blocks = second.same_blocks ∙ first.same_blocks;
   }
 
+  -- further commands behind those in one of which the disk failed
+  pub fours_longer : (P : Type 0) (a b : List C) (old new : KeptOn D S) → P → ((blocks : ℕ) → AreAllowed (meaning_of form blocks) old.now (a ++ b)) → DoesByFours g form P a old new
+      → DoesByFours g form P (a ++ b) old new
+  fours_longer P a b old new failed allowed does = record {
+    healthy = does.healthy;
+    by = λ blocks. by_longer g (meaning_of form blocks) P (by_fours (g.moment old.disk)) a b old new failed (allowed blocks) (does.by blocks);
+    stands_at = does.stands_at;
+    calls = λ fine. absurd (fine failed);
+    at_most = omega (arith, length-append a b, does.at_most);
+    same_magic = does.same_magic;
+    same_blocks = does.same_blocks;
+  }
+
   -- ---- no other call of the disk
 
   pub does_same : (P Q : Type 0) (commands : List C) (old new : KeptOn D S) → (P → Q) → (Q → P) → Does g form P commands old new → Does g form Q commands old new
@@ -167,6 +221,16 @@ module _ {D S C : Type 0} (g : Ghosts D) (form : Form S C) where
     fours = fours_same P Q commands old new there back does.fours;
     none = does.none;
     puts = puts_same g old.disk new.disk P Q there back does.puts;
+  }
+
+  pub does_longer : (P : Type 0) (a b : List C) (old new : KeptOn D S) → P → ((blocks : ℕ) → AreAllowed (meaning_of form blocks) old.now (a ++ b)) → Does g form P a old new → Does g form P (a ++ b) old new
+  does_longer P a b old new failed allowed does = record {
+    fours = fours_longer P a b old new failed allowed does.fours;
+    none = λ is.
+        let few = ((does.fours.by 0).cut failed).fewer in
+        let empty : length (a ++ b) ≡ 0 = ap length is in
+        absurd (omega (arith, length-append a b, few, empty));
+    puts = does.puts;
   }
 
   -- the same commands, said otherwise

@@ -16,6 +16,7 @@ mod PutLemmas
 mod ReadingLemmas
 mod RecoverLemmas
 mod RestoringLemmas
+mod ThroughLemmas
 mod ToldLemmas
 mod WalkLawLemmas
 mod WalkLemmas
