@@ -15,6 +15,7 @@ use crate::lists::Lists;
 use crate::task::StoredTask;
 use file_journal::Ledger;
 use px_base::{Call, OutOfMemory};
+use std::alloc::Global;
 
 impl Lists {
     /// Applies a command that was read from a record: whether its condition holds. One whose condition doesn't hold
@@ -151,9 +152,28 @@ impl Lists {
 }
 
 impl Ledger for Lists {
-    ghost use Rattle.client_notes.specs.Records.{notes_step};
+    ghost use Rattle.client_notes.specs.Command.{NotesCommand};
+    ghost use Rattle.client_notes.specs.Notes.{Lists as NotesLists};
+    ghost use Rattle.client_notes.specs.Records.{notes_form};
+    ghost use Rattle.std.specs.Prelude.{⊤};
 
-    ghost step = { notes_step };
+    ghost State = { NotesLists };
+
+    ghost Command = { NotesCommand };
+
+    ghost form = { notes_form };
+
+    ghost state = { λ lists. lists };
+
+    ghost by_records = { λ _. ⊤ };
+
+    fn magic() -> [u8; 8] {
+        *b"PXNOTES1"
+    }
+
+    fn fresh(alloc: Global, _blocks: u32) -> Lists {
+        Lists::new(alloc)
+    }
 
     fn apply(&mut self, kind: u8, content: &[u8]) -> Result<bool, OutOfMemory> {
         match Command::read(kind, content) {

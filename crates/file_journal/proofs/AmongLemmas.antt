@@ -191,6 +191,7 @@ module _ {D : Type 0} (g : Ghosts D) where
             at_most = omega (arith, at);
             same_magic = refl;
             same_blocks = refl;
+            same_ended = refl;
           };
           none = λ is. (refl, run.only);
           puts = puts_among_reads (failed ≡ true) Q old new fine run;

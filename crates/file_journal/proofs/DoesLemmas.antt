@@ -167,6 +167,7 @@ module _ {D S C : Type 0} (g : Ghosts D) (form : Form S C) where
     at_most = does.at_most;
     same_magic = does.same_magic;
     same_blocks = does.same_blocks;
+    same_ended = does.same_ended;
   }
 
   -- the moments at which the second of two lists begins
@@ -199,6 +200,7 @@ module _ {D S C : Type 0} (g : Ghosts D) (form : Form S C) where
     at_most = omega (arith, length-append a b, first.at_most, second.at_most);
     same_magic = second.same_magic ∙ first.same_magic;
     same_blocks = second.same_blocks ∙ first.same_blocks;
+    same_ended = second.same_ended ∙ first.same_ended;
   }
 
   -- further commands behind those in one of which the disk failed
@@ -212,6 +214,7 @@ module _ {D S C : Type 0} (g : Ghosts D) (form : Form S C) where
     at_most = omega (arith, length-append a b, does.at_most);
     same_magic = does.same_magic;
     same_blocks = does.same_blocks;
+    same_ended = does.same_ended;
   }
 
   -- ---- no other call of the disk

@@ -76,6 +76,7 @@ module _ {S C : Type 0} (form : Form S C) where
       at_most = omega arith;
       same_magic = refl;
       same_blocks = refl;
+      same_ended = refl;
     }
 
     pub does_none : (P : Type 0) (at : KeptOn D S) → ¬ P → StandsAt g form at → at.journal.failed ≡ false → g.lasts at.disk at.disk → Does g form P [] at at
@@ -142,6 +143,7 @@ module _ {S C : Type 0} (form : Form S C) where
           at_most = omega (arith, at_most);
           same_magic = ap (λ (p : Position). p.magic) moved;
           same_blocks = ap (λ (p : Position). p.blocks) moved;
+          same_ended = ap (λ (p : Position). p.ended) moved;
         }
 
       -- or the disk failed in it
@@ -181,4 +183,5 @@ module _ {S C : Type 0} (form : Form S C) where
           at_most = omega (arith, at_most);
           same_magic = ap (λ (p : Position). p.magic) moved;
           same_blocks = ap (λ (p : Position). p.blocks) moved;
+          same_ended = ap (λ (p : Position). p.ended) moved;
         }

@@ -11,8 +11,8 @@ abbrev pub IsLastWrite : {D : Type 0} → Ghosts D → D → D → Type 0
 IsLastWrite g old new =
     ((g.moment new ≤ g.moment old + 1) × TimePasses g.moment g.images g.images_since old new) ⊎ ChangesReads g old new
 
--- No write and no sync comes after one that failed: up to some disk between the two none failed, and since that came one
--- at most. A read that failed stops nothing.
+-- No write and no sync comes after one that failed: up to some disk between the two none failed, and since that came
+-- one at most. A read that failed stops nothing.
 pub record StopsAtFailedWrite {D : Type 0} (g : Ghosts D) (old new : D) : Type 0 where
   pub last : D
   pub lasts : g.lasts old last

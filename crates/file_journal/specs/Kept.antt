@@ -19,8 +19,8 @@ pub record KeptOn (D S : Type 0) : Type 0 where
 abbrev pub kept_on : {D S : Type 0} → S → Position → D → KeptOn D S
 kept_on now journal disk = record { now = now; journal = journal; disk = disk }
 
--- The journal is one of this form, and keeps the state on the disk: it has failed, or the content, where it is told, and
--- each image stand for the state.
+-- The journal is one of this form, and keeps the state on the disk: it has failed, or the content, where it is told,
+-- and each image stand for the state.
 pub record StandsAt {D S C : Type 0} (g : Ghosts D) (form : Form S C) (at : KeptOn D S) : Type 0 where
   pub magic_is : at.journal.magic ≡ form.magic
   pub keeps : KeepsState form.fresh form.step g at.journal at.now at.disk
@@ -34,9 +34,9 @@ pub record IsDone {D S C : Type 0} (g : Ghosts D) (m : Meaning S C) (time : ℕ 
   pub stay : IfSome (g.content old.disk) (λ _. StayDone g m time (length commands) old.now commands new.disk)
   pub calls : IfSome (g.content old.disk) (λ _. time (length commands) ≤ g.moment new.disk)
 
--- The disk failed in one of the commands: the state is the one after those before it. Each image has these, and that one
--- or not; and those before it stay. They were done in time, and the one in which it failed would have been. The journal
--- has failed.
+-- The disk failed in one of the commands: the state is the one after those before it. Each image has these, and that
+-- one or not; and those before it stay. They were done in time, and the one in which it failed would have been. The
+-- journal has failed.
 pub record IsCut {D S C : Type 0} (g : Ghosts D) (m : Meaning S C) (time : ℕ → ℕ) (commands : List C)
     (old new : KeptOn D S) : Type 0 where
   pub count : ℕ
@@ -49,8 +49,8 @@ pub record IsCut {D S C : Type 0} (g : Ghosts D) (m : Meaning S C) (time : ℕ �
   pub at_most : IfSome (g.content old.disk) (λ _. g.moment new.disk ≤ time (count + 1))
 
 -- These commands were done, or the disk failed in one of them. A crash since the start leaves the state after the first
--- of them, for some number of them, and no fewer than were done when it came: the first so many at the moment that `time`
--- has of that number.
+-- of them, for some number of them, and no fewer than were done when it came: the first so many at the moment that
+-- `time` has of that number.
 pub record DoesBy {D S C : Type 0} (g : Ghosts D) (m : Meaning S C) (failed : Type 0) (time : ℕ → ℕ)
     (commands : List C) (old new : KeptOn D S) : Type 0 where
   pub told : TellsAlike (g.content old.disk) (g.content new.disk)
@@ -65,7 +65,7 @@ by_fours start count = start + 4 * count
 
 -- A state whose journal hadn't failed did these commands, each of which is one record and takes four calls of the disk,
 -- or the disk failed in one of them; whatever number octets without a block number are read with. The journal keeps the
--- state, and its magic and block number stay.
+-- state, and its magic, block number and end stay.
 pub record DoesByFours {D S C : Type 0} (g : Ghosts D) (form : Form S C) (failed : Type 0) (commands : List C)
     (old new : KeptOn D S) : Type 0 where
   pub healthy : old.journal.failed ≡ false
@@ -76,6 +76,7 @@ pub record DoesByFours {D S C : Type 0} (g : Ghosts D) (form : Form S C) (failed
   pub at_most : g.moment new.disk ≤ g.moment old.disk + 4 * length commands
   pub same_magic : new.journal.magic ≡ old.journal.magic
   pub same_blocks : new.journal.blocks ≡ old.journal.blocks
+  pub same_ended : new.journal.ended ≡ old.journal.ended
 
 -- It did these commands, and no other call of the disk. Without commands neither state nor disk is touched.
 pub record Does {D S C : Type 0} (g : Ghosts D) (form : Form S C) (failed : Type 0) (commands : List C)
@@ -91,8 +92,8 @@ pub record CutsOff {D S C : Type 0} (g : Ghosts D) (form : Form S C) (failed : T
   pub first : Does g form ⊥ done old between
   pub second : Does g form failed cut between new
 
--- What a call answers that does one command: `Failed` exactly where the journal had failed, and then nothing is touched;
--- else the command is done, or the disk failed in it.
+-- What a call answers that does one command: `Failed` exactly where the journal had failed, and then nothing is
+-- touched; else the command is done, or the disk failed in it.
 pub record AnswersPut {D S C T : Type 0} (g : Ghosts D) (form : Form S C) (command : C) (old new : KeptOn D S)
     (result : Result T JournalFault) : Type 0 where
   pub failed : IsErrOf result fault.Failed ↔ (old.journal.failed ≡ true)

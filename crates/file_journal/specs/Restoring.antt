@@ -1,5 +1,5 @@
 -- What a recovery of a state makes of a disk, what it answers, and what a crash in it leaves.
-use Rattle.std.specs.Prelude.{◌≡◌, ◌⊎◌, ◌↔◌, ℕ, List, false, Option, IfSome, Result, IsErrOf}
+use Rattle.std.specs.Prelude.{◌≡◌, ◌⊎◌, ◌↔◌, ℕ, List, false, true, Option, IfSome, Result, IsErrOf}
 use Rattle.disk_model.specs.declared.disk.Disk.{Ghosts}
 use Rattle.file_journal.specs.Calls.{Becomes, IsQuietNow, Leaves, Runs, TakesStep}
 use Rattle.file_journal.specs.Form.{Form, StandsFor, standing_of}
@@ -11,12 +11,14 @@ use Rattle.file_journal.specs.declared.faults.StoreFault.{StoreFault}
 use Rattle.file_journal.specs.declared.faults.StoreFault.TheVariants as fault
 
 -- The state that a recovery gives is the one that the content stood for. No octet of a formatted store changed, and any
--- other content was made a formatted one. The journal hasn't failed, and keeps the state on the disk, which is quiet.
+-- other content was made a formatted one. The journal hasn't failed, was read to its end, and keeps the state on the
+-- disk, which is quiet.
 pub record IsRestored {D S C : Type 0} (g : Ghosts D) (form : Form S C) (blocks : ℕ) (disk : D) (new : KeptOn D S)
     : Type 0 where
   pub content : IfSome (g.content disk) (StandsFor form blocks new.now)
   pub octets : TakesStep g disk new.disk (Becomes (after_recovery form.magic blocks))
   pub healthy : new.journal.failed ≡ false
+  pub ended : new.journal.ended ≡ true
   pub stands_at : StandsAt g form new
   pub quiet : IsQuietNow g new.disk
 

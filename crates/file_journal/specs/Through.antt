@@ -7,8 +7,8 @@ use Rattle.file_journal.specs.Form.{Meaning}
 use Rattle.file_journal.specs.Recovery.{IsSyncedFirst}
 
 -- The disk failed behind at least the first so many of these commands and before the end of the last one: each image
--- stands for the state after some number of them, or with one more. Those of that number were done in time, and the next
--- one would have been; since they are done, no crash leaves fewer.
+-- stands for the state after some number of them, or with one more. Those of that number were done in time, and the
+-- next one would have been; since they are done, no crash leaves fewer.
 pub record IsInterrupted {D S C : Type 0} (g : Ghosts D) (m : Meaning S C) (time : ℕ → ℕ) (start : S)
     (commands : List C) (least : ℕ) (disk disk_now : D) : Type 0 where
   pub count : ℕ
@@ -21,10 +21,10 @@ pub record IsInterrupted {D S C : Type 0} (g : Ghosts D) (m : Meaning S C) (time
 
 -- These commands were done to the state for which the disk's content stood, and those of the call in which the disk
 -- failed, if it did, up to there. At every moment since the end of the first sync, which is the moment after the start,
--- each image stands for the state after the first of these commands, for some number of them; since the start, for that,
--- or for what a crash might have left before. The recovery was done at the moment that `time` has of none of them: since
--- the first so many are done, no crash leaves fewer of them. At the end each image stands for the state after all of
--- them, but where the disk failed.
+-- each image stands for the state after the first of these commands, for some number of them; since the start, for
+-- that, or for what a crash might have left before. The recovery was done at the moment that `time` has of none of
+-- them: since the first so many are done, no crash leaves fewer of them. At the end each image stands for the state
+-- after all of them, but where the disk failed.
 pub record StandsThrough {D S C : Type 0} (g : Ghosts D) (m : Meaning S C) (failed : Type 0) (start : S)
     (done cut : List C) (disk disk_now : D) : Type 0 where
   pub allowed : AreAllowed m start (done ++ cut)

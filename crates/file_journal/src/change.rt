@@ -1,13 +1,13 @@
 //! A change of a ledger that one record keeps.
 
-ghost use Rattle.std.specs.Prelude.{◌≡◌, List, [], Some};
+ghost use Rattle.std.specs.Prelude.{◌≡◌, [], Some};
 ghost use Rattle.file_journal.specs.Form.{Form};
-ghost use Rattle.file_journal.specs.Records.{Record, record_of};
+ghost use Rattle.file_journal.specs.Records.{record_of};
 
 use arrayvec::ArrayVec;
 
-/// A change of a ledger that one record keeps. Its record is on the disk before it is made, so where it may be made there
-/// is memory for it: nothing is on the disk that memory can't have.
+/// A change of a ledger that one record keeps. Its record is on the disk before it is made, so where it may be made
+/// there is memory for it: nothing is on the disk that memory can't have.
 pub trait Change<L> {
     /// The states of the ledger.
     ghost State: { Type 0 };
@@ -24,9 +24,6 @@ pub trait Change<L> {
     /// The command that it does to a ledger's state.
     ghost command: { Self → L → Self.Command };
 
-    /// Its record.
-    ghost entry: { Self → L → Record };
-
     /// It may be made of this ledger: the state allows it, and there is memory for what it makes.
     ghost may: { Self → L → Type 0 };
 
@@ -37,20 +34,13 @@ pub trait Change<L> {
     fn write(&self, ledger: &L, room: &mut ArrayVec<u8, 600>) -> u8
         requires empty { room.old.items ≡ [] }
         requires may { may self.now ledger.now }
-        ensures { record_of result room.new.items ≡ entry self.now ledger.now };
+        ensures allowed { form.allowed (state ledger.now) (command self.now ledger.now) }
+        ensures steps { form.step (state ledger.now) (record_of result room.new.items)
+            ≡ Some (form.after (state ledger.now) (command self.now ledger.now)) };
 
     /// Makes it. Takes no memory.
     fn make(&self, ledger: &mut L)
         requires { may self.now ledger.old }
         ensures state { state ledger.new ≡ form.after (state ledger.old) (command self.now ledger.old) }
         ensures makes { makes self.now ledger.old ledger.new };
-
-    /// The state allows its command.
-    ghost allowed: { (change : Self) (ledger : L) → may change ledger
-        → form.allowed (state ledger) (command change ledger) };
-
-    /// Its record takes the state to the one after its command.
-    ghost steps: { (change : Self) (ledger : L) → may change ledger
-        → form.step (state ledger) (entry change ledger)
-        ≡ Some (form.after (state ledger) (command change ledger)) };
 }

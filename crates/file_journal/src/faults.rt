@@ -19,8 +19,8 @@ pub enum RecoverFault {
         found: [u8; 8],
     },
     /// There are more than 16 octets that begin with the magic, and the block number isn't in 1..=65,536; or a gate is
-    /// open, and the record behind it is cut by the end of the disk, has no gate behind it, or has a content length above
-    /// 600; or the disk has become shorter than the gate's place.
+    /// open, and the record behind it is cut by the end of the disk, has no gate behind it, or has a content length
+    /// above 600; or the disk has become shorter than the gate's place.
     #[error("the store is damaged at octet {at}")]
     Damaged {
         /// 8 for the block number, else the place of the gate.
@@ -74,8 +74,8 @@ pub enum StoreFault {
         /// The first eight octets.
         found: [u8; 8],
     },
-    /// The block number isn't in 1..=65,536; or the record behind an open gate is cut, or is one that the state before it
-    /// doesn't allow.
+    /// The block number isn't in 1..=65,536; or the record behind an open gate is cut, or is one that the state before
+    /// it doesn't allow.
     #[error("the store is damaged at octet {at}")]
     Damaged {
         /// 8 for the block number, else the place of the gate.

@@ -20,12 +20,12 @@ pub struct Kept<L> {
 
 impl<L: Ledger> Kept<L> {
     /// Recovers the state from whatever a crash, a fault or a killed program left on the disk: the one that its content
-    /// stands for. It syncs before it reads. A disk of at most 16 octets is formatted with the block number `blocks`, 1 to
-    /// 65,536; one whose formatting was interrupted is formatted to its end. It may be cut at any of its writes and syncs,
-    /// and is then done again. The work is that of the records. Takes memory.
+    /// stands for. It syncs before it reads. A disk of at most 16 octets is formatted with the block number `blocks`, 1
+    /// to 65,536; one whose formatting was interrupted is formatted to its end. It may be cut at any of its writes and
+    /// syncs, and is then done again. The work is that of the records. Takes memory.
     ///
-    /// `NotAStore` and `Damaged` leave the content as it was. After `Disk` and `OutOfMemory` the disk is to be recovered
-    /// again.
+    /// `NotAStore` and `Damaged` leave the content as it was. After `Disk` and `OutOfMemory` the disk is to be
+    /// recovered again.
     pub fn recover<D: Disk>(alloc: Global, disk: &mut D, blocks: u32) -> Result<Kept<L>, StoreFault>
         requires some { 1 ≤ blocks }
         requires most { blocks ≤ 65536 }
@@ -42,9 +42,9 @@ impl<L: Ledger> Kept<L> {
 }
 
 impl<L> Kept<L> {
-    /// Makes a change of the ledger that may be made. Its record is put at the end of the journal and synced, by two writes
-    /// and two syncs, before memory changes: after `Ok` a crash leaves the state after it; before, the one before it or the
-    /// one after it. Takes no memory.
+    /// Makes a change of the ledger that may be made. Its record is put at the end of the journal and synced, by two
+    /// writes and two syncs, before memory changes: after `Ok` a crash leaves the state after it; before, the one
+    /// before it or the one after it. Takes no memory.
     ///
     /// `Disk`: the record may stand or not; the ledger is as it was, and each put answers `Failed` from then on, where
     /// nothing is touched. A new recovery is needed.
@@ -66,8 +66,8 @@ impl<L> Kept<L> {
         }
         let mut room = ArrayVec::new();
         let kind = change.write(&self.ledger, &mut room);
-        // A crash before the record's gate is synced leaves the state before the change, or the one after it: it is told of
-        // only after that. A crash behind it leaves the one after it.
+        // A crash before the record's gate is synced leaves the state before the change, or the one after it: it is
+        // told of only after that. A crash behind it leaves the one after it.
         self.journal.append(disk, kind, room.as_slice())?;
         change.make(&mut self.ledger);
         Ok(())

@@ -41,8 +41,8 @@ pub trait Ledger: Drop {
         ensures state { state result ≡ form.fresh blocks }
         ensures by_records { by_records result };
 
-    /// Applies a record that was read, and answers whether the state allows it; one that it doesn't allow changes nothing.
-    /// The content has at most 600 octets. Takes memory.
+    /// Applies a record that was read, and answers whether the state allows it; one that it doesn't allow changes
+    /// nothing. The content has at most 600 octets. Takes memory.
     ///
     /// `OutOfMemory`: nothing is said of the ledger any more.
     fn apply(&mut self, kind: u8, content: &[u8]) -> Result<bool, OutOfMemory>
@@ -74,10 +74,10 @@ impl Journal {
     /// Reads all records that are left, and applies each to the ledger, in order. No append failed before. It reads
     /// each record once. The ledger may take memory.
     ///
-    /// `Damaged`: what is left comes to damage at this place: a record that the state before it doesn't allow, or, where
-    /// each before it is allowed, an open gate that no whole record with a gate behind it follows. After it and after
-    /// `Disk` the ledger has the state after some of the records, from the first on; after `OutOfMemory` nothing is said
-    /// of it. The journal stays on its disk, and no octet is changed.
+    /// `Damaged`: what is left comes to damage at this place: a record that the state before it doesn't allow, or,
+    /// where each before it is allowed, an open gate that no whole record with a gate behind it follows. After it and
+    /// after `Disk` the ledger has the state after some of the records, from the first on; after `OutOfMemory` nothing
+    /// is said of it. The journal stays on its disk, and no octet is changed.
     pub fn read_into<D: Disk, L: Ledger>(
         &mut self,
         disk: &mut D,

@@ -1,8 +1,8 @@
-use Rattle.std.proofs.Common.{◌≡◌, false, Err, IsErr, IsErrOf, Ok, Result, refl, sym, ◌∙◌, ap, subst}
+use Rattle.std.proofs.Common.{◌≡◌, ℕ, List, false, Err, IsErr, IsErrOf, Ok, Result, refl, sym, ◌∙◌, ap, subst}
 use Rattle.std.proofs.lemmas.Result.{err_from_is_err_and}
 use Rattle.file_journal.specs.Kept.{AnswersPut, StandsAt, kept_on}
 use Rattle.file_journal.specs.Position.{Position}
-use Rattle.file_journal.specs.Records.{Record, record_of}
+use Rattle.file_journal.specs.Records.{record_of}
 use Rattle.file_journal.specs.declared.faults.JournalFault.{JournalFault}
 use Rattle.file_journal.specs.declared.faults.JournalFault.TheVariants as fault
 use Rattle.file_journal.proofs.CallLemmas.{puts_same}
@@ -23,9 +23,8 @@ returns-in_err-append-clause-answers g c =
     let new = c.append.new.disk in
     let command = g.C.Change.command change ledger in
     let entry = record_of c.write-kind.result c.as_slice.result.now in
-    let same : entry ≡ g.C.Change.entry change ledger = ap (record_of c.write-kind.result) c.as_slice.ensures.value ∙ c.write-kind.ensures in
-    let steps = ap (λ (e : Record). form.step now e) same ∙ g.met.C.Change.steps change ledger c.requires.may in
-    let allowed = g.met.C.Change.allowed change ledger c.requires.may in
+    let steps = ap (λ (octets : List ℕ). form.step now (record_of c.write-kind.result octets)) c.as_slice.ensures.value ∙ c.write-kind.ensures.steps in
+    let allowed = c.write-kind.ensures.allowed in
     let healthy : journal.failed ≡ false = sym c.failed.ensures ∙ c.if-failed.false in
     let p = err_from_is_err_and c.from_residual.result c.from_residual.ensures.1 in
     let e = c.in_err-append.field-0.0 in
@@ -61,9 +60,8 @@ returns-clause-answers g c =
     let command = g.C.Change.command change ledger in
     let next = form.after now command in
     let entry = record_of c.write-kind.result c.as_slice.result.now in
-    let same : entry ≡ g.C.Change.entry change ledger = ap (record_of c.write-kind.result) c.as_slice.ensures.value ∙ c.write-kind.ensures in
-    let steps = ap (λ (e : Record). form.step now e) same ∙ g.met.C.Change.steps change ledger c.requires.may in
-    let allowed = g.met.C.Change.allowed change ledger c.requires.may in
+    let steps = ap (λ (octets : List ℕ). form.step now (record_of c.write-kind.result octets)) c.as_slice.ensures.value ∙ c.write-kind.ensures.steps in
+    let allowed = c.write-kind.ensures.allowed in
     let healthy : journal.failed ≡ false = sym c.failed.ensures ∙ c.if-failed.false in
     let made = c.in_ok-append.ensures in
     let stands : StandsAt D form (kept_on next after new) = record {

@@ -141,6 +141,7 @@ returns-clause-restored g c =
       content = all_read D form blocks old mid new first position start now recovered alike fresh only all;
       octets = octets_read D form blocks old mid new first position start now recovered alike fresh only;
       healthy = ap (λ p. p.failed) read.journal ∙ recovered.healthy;
+      ended = read.ended;
       stands_at = state_kept D form blocks old mid new first position start now recovered alike fresh only all read.stands_on read.journal read.ended;
       quiet = quiet_read D form blocks old mid new first position start now recovered alike fresh only;
     }
