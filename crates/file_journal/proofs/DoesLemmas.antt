@@ -1,12 +1,12 @@
 -- What the commands of a call do to a state that is kept, one list of them after another.
 use Rattle.std.proofs.Common.{◌≡◌, inl, inr, ⊎_elim, ℕ, ◌+◌, ◌*◌, ◌<◌, ◌≤◌, Bool, true, false, List, [], ◌∷◌, ◌++◌, length, Result, Ok, Err, IsErr, Some, IfSome, zero, suc, refl, sym, ◌∙◌, ap, subst, arith, length-append}
 use Rattle.disk_model.specs.declared.disk.Disk.{Ghosts}
-use Rattle.file_journal.specs.Calls.{Leaves, TellsAlike}
+use Rattle.file_journal.specs.Calls.{EachImage, Leaves, TellsAlike}
 use Rattle.file_journal.specs.Commands.{AreAllowed, MakesBetween, MakesFirst, StayDone, after_all, after_first}
 use Rattle.file_journal.specs.Form.{Form, Meaning, meaning_of}
 use Rattle.file_journal.specs.Kept.{CutsOff, Does, DoesBy, DoesByFours, IsCut, IsDone, KeptOn, StandsAt, by_fours}
 use Rattle.file_journal.proofs.CallLemmas.{puts_none, puts_on, puts_same}
-use Rattle.file_journal.proofs.CommandLemmas.{allowed_append, after_all_append, first_append, first_then, makes_first, makes_later, makes_longer, makes_second, nothing, stay_at, stay_longer, stay_none, stay_then}
+use Rattle.file_journal.proofs.CommandLemmas.{allowed_append, after_all_append, first_append, first_then, makes_first, makes_later, makes_longer, makes_none, makes_second, nothing, stay_at, stay_longer, stay_none, stay_then}
 use Rattle.file_journal.proofs.MomentLemmas.{joined, started, weaker}
 use Rattle.file_journal.proofs.ToldLemmas.{alike_on, alike_same, at_told, if_told, told_before, told_weaker}
 
@@ -36,6 +36,24 @@ module _ {D S C : Type 0} (g : Ghosts D) (m : Meaning S C) where
       healthy = healthy;
       images = images;
       stay = if_told (g.content kept.disk) _ (λ before told. stay_none m g time kept.now [] kept.disk);
+      calls = ready;
+    };
+    cut = λ failed. absurd (fine failed);
+  }
+
+  -- no command, where other calls of the disk leave what stands for the state
+  pub by_idle : (P : Type 0) (time : ℕ → ℕ) (old new : KeptOn D S) → ¬ P → new.now ≡ old.now → new.journal.failed ≡ false → TellsAlike (g.content old.disk) (g.content new.disk)
+      → Leaves g old.disk new.disk (λ _. m.stands old.now) → EachImage g new.disk (m.stands old.now) → IfSome (g.content old.disk) (λ _. time 0 ≤ g.moment new.disk) → DoesBy g m P time [] old new
+  by_idle P time old new fine same healthy told since images ready = record {
+    told = told;
+    allowed = tt;
+    since = told_weaker (g.content old.disk) _ _ (λ before told left.
+        weaker g.moment g.images_since old.disk new.disk (m.stands old.now) (MakesFirst m old.now []) (λ image here. makes_none m old.now [] image here) left) since;
+    done = λ still. record {
+      state = same;
+      healthy = healthy;
+      images = images;
+      stay = if_told (g.content old.disk) _ (λ before told. stay_none m g time old.now [] new.disk);
       calls = ready;
     };
     cut = λ failed. absurd (fine failed);

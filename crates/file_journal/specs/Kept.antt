@@ -1,5 +1,6 @@
 -- What a call does to a state that is kept in a journal, and to its disk, at every moment of it.
-use Rattle.std.specs.Prelude.{◌≡◌, ◌↔◌, ℕ, ◌+◌, ◌*◌, ◌<◌, ◌≤◌, List, [], ◌∷◌, length, false, true, IfSome, Result, IsErr, IsErrOf}
+use Rattle.std.specs.Prelude.{◌≡◌, ◌↔◌, ℕ, ◌+◌, ◌*◌, ◌<◌, ◌≤◌, List, [], ◌∷◌, length, take, false, true, IfSome, Result, IsErr, IsErrOf}
+use Rattle.px_base.specs.Octets.{IsOctets}
 use Rattle.disk_model.specs.declared.disk.Disk.{Ghosts}
 use Rattle.file_journal.specs.Calls.{EachImage, Leaves, Puts, TellsAlike}
 use Rattle.file_journal.specs.Commands.{AreAllowed, MakesBetween, MakesFirst, StayDone, after_all, after_first}
@@ -24,6 +25,12 @@ kept_on now journal disk = record { now = now; journal = journal; disk = disk }
 pub record StandsAt {D S C : Type 0} (g : Ghosts D) (form : Form S C) (at : KeptOn D S) : Type 0 where
   pub magic_is : at.journal.magic ≡ form.magic
   pub keeps : KeepsState form.fresh form.step g at.journal at.now at.disk
+
+-- The octets are those from before up to the gate at this place, and no fewer: what is other lies beside the journal.
+pub record IsBeside (place : ℕ) (before octets : List ℕ) : Type 0 where
+  pub are_octets : IsOctets octets
+  pub front : take (place + 1) octets ≡ take (place + 1) before
+  pub no_shorter : length before ≤ length octets
 
 -- All commands are done, in time: the state and each image are after all of them, and the first so many stay.
 pub record IsDone {D S C : Type 0} (g : Ghosts D) (m : Meaning S C) (time : ℕ → ℕ) (commands : List C)
