@@ -1,10 +1,9 @@
 mod GotLemmas
+mod KeptLemmas
 mod ListLemmas
-mod NotesLemmas
 pub mod Offered
 mod PutLemmas
 mod RecordLemmas
-mod RecoveryLemmas
 mod SeveralLemmas
 mod StandingLemmas
 mod TaskLemmas

@@ -1,5 +1,5 @@
 -- What a command of a call does to the disk of the notes, at every moment of it.
-use Rattle.std.specs.Prelude.{◌≡◌, ◌⊎◌, ◌↔◌, ℕ, ◌+◌, ◌≤◌, List, true, false, IfSome, IsTrue, Result, IsErr, IsErrOf, OnErr, OnOk}
+use Rattle.std.specs.Prelude.{◌≡◌, ◌⊎◌, ◌↔◌, ℕ, ◌+◌, ◌≤◌, List, true, false, IfSome, IsTrue, Result, IsErr, IsErrOf}
 use Rattle.disk_model.specs.declared.disk.Disk.{Ghosts}
 use Rattle.file_journal.specs.Calls.{Leaves, Puts, images_now}
 use Rattle.file_journal.specs.Position.{Position}
@@ -18,36 +18,6 @@ EachImage g disk P = IfSome (g.content disk) (λ _. (image : List ℕ) → image
 -- the image stands for the notes before the command or after it
 abbrev pub IsBeforeOrAfter : Lists → NotesCommand → List ℕ → Type 0
 IsBeforeOrAfter lists command image = StandsFor image lists ⊎ StandsFor image (after lists command)
-
--- The journal stood on the disk for these notes, which allow the command: now it stands for the notes after it, and so
--- does each image; or, where the disk failed, each image stands for those before or those after. So does what a crash
--- since the start leaves.
-pub record PutsFor {D T E : Type 0} (g : Ghosts D) (new : Position) (disk disk_now : D) (lists : Lists)
-    (command : NotesCommand) (result : Result T E) : Type 0 where
-  pub ok : OnOk result (KeepsState fresh_notes notes_step g new (after lists command) disk_now)
-  pub images : OnOk result (EachImage g disk_now (λ image. StandsFor image (after lists command)))
-  pub err : OnErr result (EachImage g disk_now (IsBeforeOrAfter lists command))
-  pub since : Leaves g disk disk_now (λ _. IsBeforeOrAfter lists command)
-
--- the same for all notes for which the journal stood, and what becomes of journal and counts; it takes four calls of the
--- disk
-pub record PutsCommand {D T E : Type 0} (g : Ghosts D) (old new : Position) (disk disk_now : D)
-    (command : NotesCommand) (result : Result T E) : Type 0 where
-  pub stands :
-      (lists : Lists) → KeepsState fresh_notes notes_step g old lists disk
-      → IsTrue (is_allowed lists command) → PutsFor g new disk disk_now lists command result
-  pub journal : new ≡ record old { place = new.place; failed = new.failed }
-  pub ok : OnOk result (new.failed ≡ false)
-  pub err : OnErr result (new.failed ≡ true)
-  pub calls : OnOk result (IfSome (g.content disk) (λ _. g.moment disk_now ≡ g.moment disk + 4))
-  pub at_most : g.moment disk_now ≤ g.moment disk + 4
-  pub puts : Puts g (IsErr result) disk disk_now
-
--- the same of a journal that hadn't failed
-pub record PutsHealthy {D T E : Type 0} (g : Ghosts D) (old new : Position) (disk disk_now : D)
-    (command : NotesCommand) (result : Result T E) : Type 0 where
-  pub healthy : old.failed ≡ false
-  pub puts : PutsCommand g old new disk disk_now command result
 
 -- The command is done: each image stands for the notes after it. It took four calls of the disk.
 pub record IsDone {D : Type 0} (g : Ghosts D) (old new : NotesState) (disk disk_now : D) (command : NotesCommand)

@@ -1,13 +1,14 @@
 -- The commands of a client's notes as records of their journal. All numbers have four octets, least significant first.
-use Rattle.std.specs.Prelude.{◌≡◌, ℕ, ◌+◌, ◌^◌, ◌<◌, ◌≤◌, ◌==◌, List, [], ◌∷◌, ◌++◌, length, take, drop, slice_index, Bool, ◌&&◌, nat_le, nat_lt, if◌then◌else◌, Option, None, Some}
+use Rattle.std.specs.Prelude.{◌≡◌, ℕ, ◌+◌, ◌^◌, ◌<◌, ◌≤◌, ◌==◌, List, [], ◌∷◌, ◌++◌, length, take, drop, slice_index, Bool, ◌&&◌, nat_le, nat_lt, if◌then◌else◌, Option, None, Some, IsTrue}
 use Rattle.std.specs.Option.{option_and_then, option_map}
 use Rattle.px_base.specs.CallSign.{CallSign, IsCall}
 use Rattle.px_base.specs.Numbers.{le32, le32_octets}
 use Rattle.px_base.specs.Octets.{IsOctets}
 use Rattle.px_base.specs.CallOctets.{call_in, call_octets}
+use Rattle.file_journal.specs.Form.{Form}
 use Rattle.file_journal.specs.Records.{Record, record_of}
 use Rattle.client_notes.specs.Command.{NotesCommand, acked, after, forgot, got, is_allowed, numbered, refused, start}
-use Rattle.client_notes.specs.Notes.{Lists}
+use Rattle.client_notes.specs.Notes.{Lists, no_notes}
 
 -- Start, kind 1: task, the server's call, the own call, length, digest of 32 octets, the name's length in one octet, the
 -- name.
@@ -120,3 +121,14 @@ notes_step lists entry = option_and_then (notes_after lists) (command_of entry)
 -- the magic of a client's notes: `PXNOTES1`
 abbrev pub notes_magic : List ℕ
 notes_magic = 80 ∷ 88 ∷ 78 ∷ 79 ∷ 84 ∷ 69 ∷ 83 ∷ 49 ∷ []
+
+-- the notes that a journal of these commands keeps, whatever its block number is
+abbrev pub notes_form : Form Lists NotesCommand
+notes_form =
+    record {
+      magic = notes_magic;
+      fresh = λ blocks. no_notes;
+      step = notes_step;
+      allowed = λ lists command. IsTrue (is_allowed lists command);
+      after = after;
+    }

@@ -1,19 +1,12 @@
--- The refusals of the journal as those of the notes.
-use Rattle.file_journal.specs.declared.faults.RecoverFault.{RecoverFault}
-use Rattle.file_journal.specs.declared.faults.RecoverFault.TheVariants as recovery
-use Rattle.file_journal.specs.declared.faults.ReadFault.{ReadFault}
-use Rattle.file_journal.specs.declared.faults.ReadFault.TheVariants as read
+-- The refusals of the kept state as those of the notes.
+use Rattle.file_journal.specs.declared.faults.StoreFault as kept
+use Rattle.file_journal.specs.declared.faults.StoreFault.TheVariants as kept_fault
 use Rattle.client_notes.specs.declared.refusals.StoreFault.{StoreFault}
 use Rattle.client_notes.specs.declared.refusals.StoreFault.TheVariants as fault
 
--- why the journal isn't recovered
-abbrev pub fault_of_recovery : RecoverFault → StoreFault
-fault_of_recovery (recovery.NotAStore found) = fault.NotAStore found
-fault_of_recovery (recovery.Damaged at) = fault.Damaged at
-fault_of_recovery recovery.Disk = fault.Disk
-
--- why its records aren't read
-abbrev pub fault_of_read : ReadFault → StoreFault
-fault_of_read (read.Damaged at) = fault.Damaged at
-fault_of_read read.Disk = fault.Disk
-fault_of_read read.OutOfMemory = fault.OutOfMemory
+-- why the notes aren't recovered
+abbrev pub fault_of_store : kept.StoreFault → StoreFault
+fault_of_store (kept_fault.NotAStore found) = fault.NotAStore found
+fault_of_store (kept_fault.Damaged at) = fault.Damaged at
+fault_of_store kept_fault.Disk = fault.Disk
+fault_of_store kept_fault.OutOfMemory = fault.OutOfMemory

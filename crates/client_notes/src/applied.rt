@@ -13,13 +13,12 @@ use crate::command::Command;
 use crate::limits::{LONGEST_FILE, LONGEST_NAME, MOST_GOT, MOST_TASKS};
 use crate::lists::Lists;
 use crate::task::StoredTask;
-use file_journal::Ledger;
 use px_base::{Call, OutOfMemory};
 
 impl Lists {
     /// Applies a command that was read from a record: whether its condition holds. One whose condition doesn't hold
     /// changes nothing, and so does want of memory. Takes memory.
-    fn apply_command(&mut self, command: &Command<'_>) -> Result<bool, OutOfMemory>
+    pub(crate) fn apply_command(&mut self, command: &Command<'_>) -> Result<bool, OutOfMemory>
         requires { IsWritable (command_value command.now) }
         ensures applied { IfOk result (λ done. Applied done self.old self.new (command_value command.now)) }
         ensures err { OnErr result (self.new ≡ self.old) }
@@ -147,19 +146,6 @@ impl Lists {
             && !octets.is_empty()
             && octets.len() <= MOST_GOT
             && self.got(server, number).len() + octets.len() <= LONGEST_FILE as usize
-    }
-}
-
-impl Ledger for Lists {
-    ghost use Rattle.client_notes.specs.Records.{notes_step};
-
-    ghost step = { notes_step };
-
-    fn apply(&mut self, kind: u8, content: &[u8]) -> Result<bool, OutOfMemory> {
-        match Command::read(kind, content) {
-            Some(command) => self.apply_command(&command),
-            None => Ok(false),
-        }
     }
 }
 

@@ -1,20 +1,21 @@
 //! The notes of a client on a disk that may lose power at any moment: the tasks by which it sends files, and the files
 //! that it has got.
 //!
-//! The notes are two lists, and each call that changes them does one of the commands of `specs/Command.antt`. Each command
-//! is a record of a journal (crate `file_journal`), synced before the call answers. A crash leaves the notes before the
-//! command or after it.
+//! The notes are two lists, and each call that changes them does one of the commands of `specs/Command.antt`. Each
+//! command is a record of a journal (crate `file_journal`), synced before the call answers. A crash leaves the notes
+//! before the command or after it.
 #![tactic(auto)]
 
 mod answers;
 mod applied;
+mod changes;
 mod command;
 pub mod laws;
 mod limits;
 mod lists;
+mod noted_lists;
 mod notes;
 mod progress;
-mod put;
 mod reading;
 mod refusals;
 mod task;

@@ -6,28 +6,25 @@ ghost use Rattle.file_journal.specs.Calls.{Becomes, Leaves, Runs, TakesStep};
 ghost use Rattle.file_journal.specs.Journal.{after_recovery};
 ghost use Rattle.client_notes.specs.Answers.{Noting, StartsBy, answer_of, fresh_task, noted_of, start_reaches};
 ghost use Rattle.client_notes.specs.Command.{acked, forgot, got, is_allowed, numbered, refused};
-ghost use Rattle.client_notes.specs.Commands.{command_value};
 ghost use Rattle.client_notes.specs.Limits.{longest_file, most_tasks};
 ghost use Rattle.client_notes.specs.Notes.{got_of, task_count};
-ghost use Rattle.client_notes.specs.OnDisk.{Answers, Does, PutsHealthy, Untouched};
-ghost use Rattle.client_notes.specs.Records.{IsWritable, notes_magic};
+ghost use Rattle.client_notes.specs.OnDisk.{Answers, Does, Untouched};
+ghost use Rattle.client_notes.specs.Records.{notes_magic};
 ghost use Rattle.client_notes.specs.Recovery.{IsRecovered, LeavesAlikeSinceSync, RefusesRecovery, StandsAlike};
 ghost use Rattle.client_notes.specs.State.{IsRead, StandsOn};
 
+use crate::changes::{Brought, Direct};
 use crate::command::Command;
 use crate::limits::{LONGEST_FILE, MOST_TASKS};
 use crate::lists::Lists;
-use crate::put::put_command;
+use crate::noted_lists::NotedLists;
 use crate::task::StoredTask;
 use crate::{Begun, Noted, NotesRefusal, StoreFault};
-use disk_model::{Disk, DiskFault};
-use file_journal::{Journal, JournalFault};
+use disk_model::Disk;
+use file_journal::{JournalFault, Kept};
 use px_base::Call;
 use std::alloc::Global;
 use std::marker::Model;
-
-/// The first eight octets of the notes' disk.
-const MAGIC: [u8; 8] = *b"PXNOTES1";
 
 /// The block number with which the notes' disk is formatted.
 const BLOCKS: u32 = 1;
@@ -36,28 +33,29 @@ const BLOCKS: u32 = 1;
 /// `NotesState`. All tasks and all got octets are kept in memory.
 #[derive(Drop)]
 pub struct Notes {
-    lists: Lists,
-    journal: Journal,
+    kept: Kept<NotedLists>,
 }
 
 impl Model for Notes {
+    ghost use Rattle.std.specs.Prelude.{◌≡◌};
     ghost use Rattle.client_notes.specs.State.{NotesState, IsRead};
+    ghost use Rattle.client_notes.specs.declared.noted_lists.Coming.TheVariants as coming;
 
     ghost Value = { NotesState };
 
-    ghost view = { λ a. record { lists = a.lists; journal = a.journal } };
+    ghost view = { λ a. record { lists = a.kept.ledger.lists; journal = a.kept.journal } };
 
-    ghost invariant = { λ a. IsRead a.journal };
+    ghost invariant = { λ a. IsRead a.kept.journal × (a.kept.ledger.coming ≡ coming.Nothing) };
 }
 
 impl Notes {
     /// Recovers the notes from whatever a crash, a fault or a killed program left on the disk: those that its content
     /// stands for. It syncs before it reads. A disk of at most 16 octets is formatted; one whose formatting was
-    /// interrupted is formatted to its end. It may be cut at any of its writes and syncs, and is then done again. The work
-    /// is that of the records. Takes memory.
+    /// interrupted is formatted to its end. It may be cut at any of its writes and syncs, and is then done again. The
+    /// work is that of the records. Takes memory.
     ///
-    /// `NotAStore` and `Damaged` leave the content as it was. After `Disk` and `OutOfMemory` the disk is to be recovered
-    /// again.
+    /// `NotAStore` and `Damaged` leave the content as it was. After `Disk` and `OutOfMemory` the disk is to be
+    /// recovered again.
     pub fn recover<D: Disk>(alloc: Global, disk: &mut D) -> Result<Notes, StoreFault>
         ensures recovered { IfOk result (IsRecovered D.Disk disk.old disk.new) }
 
@@ -73,21 +71,19 @@ impl Notes {
             → D.content disk.new ≡ D.content disk.old }
         ensures runs { Runs D.Disk (IsErrOf result StoreFault.Disk) disk.old disk.new }
 
-        // A crash since the start leaves what it might have left before, or what stands for the same, and a content of 18
-        // octets or more as it is; since the end of the first sync the latter, but where that sync failed.
+        // A crash since the start leaves what it might have left before, or what stands for the same, and a content of
+        // 18 octets or more as it is; since the end of the first sync the latter, but where that sync failed.
         ensures since_start { Leaves D.Disk disk.old disk.new StandsAlike }
         ensures since_sync { LeavesAlikeSinceSync D.Disk result disk.old disk.new }
     {
-        let mut journal = Journal::recover(disk, MAGIC, BLOCKS)?;
-        let mut lists = Lists::new(alloc);
-        journal.read_into(disk, &mut lists)?;
-        Ok(Notes { lists, journal })
+        let kept = Kept::recover(alloc, disk, BLOCKS)?;
+        Ok(Notes { kept })
     }
 
-    /// Starts the task of a file of this name, 1 to 64 octets, length and digest, from `me` to `server`, or goes on with
-    /// it. The last task of the same server, caller and name decides. A fresh task is noted where there is none, where it
-    /// was refused, or where it was acknowledged with another length or digest. Takes memory, before it touches the disk.
-    /// The work is that of a walk over the tasks, from the last one on.
+    /// Starts the task of a file of this name, 1 to 64 octets, length and digest, from `me` to `server`, or goes on
+    /// with it. The last task of the same server, caller and name decides. A fresh task is noted where there is none,
+    /// where it was refused, or where it was acknowledged with another length or digest. Takes memory, before it
+    /// touches the disk. The work is that of a walk over the tasks, from the last one on.
     ///
     /// `Changed`: it is unfinished with another length or digest. `Full` comes exactly where a fresh task is wanted and
     /// 65,536 stand. `Failed` and `Disk` are looked at last, and only where a fresh task is to be noted.
@@ -108,18 +104,19 @@ impl Notes {
         ensures answers { StartsBy self.old (answer_of self.old.lists server me name.now file_length digest) result }
         ensures untouched { IsTrue (start_reaches result) ⊎ Untouched self.old self.new disk.old disk.new }
 
-        // The command is on the disk before the answer, and a crash at any moment leaves the notes before it or after it.
+        // The command is on the disk before the answer, and a crash at any moment leaves the notes before it or after
+        // it.
         ensures does { IsTrue (start_reaches result) → Does D.Disk (IsErr result) self.old self.new disk.old disk.new
             (fresh_task self.old.lists server me name.now file_length digest) }
         ensures stands_on { StandsOn D.Disk self.new disk.new }
     {
         if let Some(begun) = self
-            .lists
+            .lists()
             .answer(server, me, name.as_bytes(), file_length, &digest)?
         {
             return Ok(begun);
         }
-        if self.lists.task_count() == MOST_TASKS {
+        if self.lists().task_count() == MOST_TASKS {
             return Err(NotesRefusal::Full);
         }
         let task = self.begin(disk, server, me, name.as_bytes(), file_length, &digest)?;
@@ -144,12 +141,13 @@ impl Notes {
         ensures noting { Noting D.Disk self.old self.new disk.old disk.new
             (fresh_task self.old.lists server me name.now file_length digest.now) result }
     {
-        if self.journal.failed() {
+        if self.kept.failed() {
             return Err(NotesRefusal::Failed);
         }
-        let task = self.lists.task_count() + 1;
-        self.lists
-            .add_task(StoredTask::new(server, me, name, file_length, digest))?;
+        let task = self.lists().task_count() + 1;
+        self.kept
+            .ledger
+            .bring_task(StoredTask::new(server, me, name, file_length, digest))?;
         let start = Command::Start {
             task,
             server,
@@ -158,10 +156,12 @@ impl Notes {
             length: file_length,
             digest,
         };
-        match put_command(&mut self.journal, disk, &start) {
+        // A crash before the record's gate is synced leaves the notes without the task, and its number is given again:
+        // the caller hasn't been told of it.
+        match self.kept.put(disk, &Brought { command: start }) {
             Ok(()) => Ok(task),
-            Err(DiskFault) => {
-                self.lists.remove_last_task();
+            Err(_) => {
+                self.kept.ledger.take_back();
                 Err(NotesRefusal::Disk)
             }
         }
@@ -179,9 +179,9 @@ impl Notes {
         requires allowed { IsTrue (is_allowed self.old.lists (numbered task number)) }
         ensures { Answers D.Disk self.old self.new disk.old disk.new (numbered task number) result }
     {
-        self.put(disk, &Command::Numbered { task, number })?;
-        self.lists.set_number(task, number);
-        Ok(())
+        // A crash before the record's gate is synced leaves the task without a number: it is asked for again.
+        let command = Command::Numbered { task, number };
+        self.kept.put(disk, &Direct { command })
     }
 
     /// Notes that the server acknowledged the file of a task, which is unfinished and has a number. Takes no memory.
@@ -190,9 +190,10 @@ impl Notes {
         requires allowed { IsTrue (is_allowed self.old.lists (acked task)) }
         ensures { Answers D.Disk self.old self.new disk.old disk.new (acked task) result }
     {
-        self.put(disk, &Command::Acked { task })?;
-        self.lists.ack(task);
-        Ok(())
+        // A crash before the record's gate is synced leaves the task unfinished: the server acknowledges the file
+        // again.
+        let command = Command::Acked { task };
+        self.kept.put(disk, &Direct { command })
     }
 
     /// Notes that the server refused the file of a task, which is unfinished, with this code. Takes no memory.
@@ -206,9 +207,9 @@ impl Notes {
         requires allowed { IsTrue (is_allowed self.old.lists (refused task code)) }
         ensures { Answers D.Disk self.old self.new disk.old disk.new (refused task code) result }
     {
-        self.put(disk, &Command::Refused { task, code })?;
-        self.lists.refuse(task, code);
-        Ok(())
+        // A crash before the record's gate is synced leaves the task unfinished: the server refuses the file again.
+        let command = Command::Refused { task, code };
+        self.kept.put(disk, &Direct { command })
     }
 
     /// Notes 1 to 512 further octets of the file of this number, which isn't 0, of this server. The file doesn't pass
@@ -225,26 +226,27 @@ impl Notes {
         requires allowed { IsTrue (is_allowed self.old.lists (got server number bytes.now)) }
         ensures { Noting D.Disk self.old self.new disk.old disk.new (got server number bytes.now) result }
     {
-        if self.journal.failed() {
+        if self.kept.failed() {
             return Err(NotesRefusal::Failed);
         }
-        let behind = self.lists.add_got(server, number, bytes)?;
+        self.kept.ledger.bring_got(server, number, bytes)?;
         let got = Command::Got {
             server,
             number,
             octets: bytes,
         };
-        match put_command(&mut self.journal, disk, &got) {
+        // A crash before the record's gate is synced leaves the octets not got: they are asked for again.
+        match self.kept.put(disk, &Brought { command: got }) {
             Ok(()) => Ok(()),
-            Err(DiskFault) => {
-                self.lists.take_back(behind);
+            Err(_) => {
+                self.kept.ledger.take_back();
                 Err(NotesRefusal::Disk)
             }
         }
     }
 
-    /// Notes that what was got of the file of this number of this server is given up: no octet of it is got then. Takes no
-    /// memory.
+    /// Notes that what was got of the file of this number of this server is given up: no octet of it is got then. Takes
+    /// no memory.
     pub fn forgot<D: Disk>(
         &mut self,
         disk: &mut D,
@@ -254,29 +256,16 @@ impl Notes {
         requires { StandsOn D.Disk self.old disk.old }
         ensures { Answers D.Disk self.old self.new disk.old disk.new (forgot server number) result }
     {
-        self.put(disk, &Command::Forgot { server, number })?;
-        self.lists.forget(server, number);
-        Ok(())
+        // A crash before the record's gate is synced leaves what was got of the file: it is given up again.
+        let command = Command::Forgot { server, number };
+        self.kept.put(disk, &Direct { command })
     }
 
-    /// Puts the record of a command whose condition holds, before the lists change.
-    fn put<D: Disk>(&mut self, disk: &mut D, command: &Command<'_>) -> Result<(), JournalFault>
-        requires stands_on { StandsOn D.Disk self.old disk.old }
-        requires allowed { IsTrue (is_allowed self.old.lists (command_value command.now)) }
-        requires writable { IsWritable (command_value command.now) }
-        ensures lists { self.new.lists ≡ self.old.lists }
-        ensures ok { OnOk result
-            (PutsHealthy D.Disk self.old.journal self.new.journal disk.old disk.new (command_value command.now) result) }
-        ensures err { OnErr result
-            (Answers D.Disk self.old self.new disk.old disk.new (command_value command.now) result) }
+    /// The lists that are noted.
+    fn lists(&self) -> &Lists
+        ensures { result.now ≡ self.now.lists }
     {
-        if self.journal.failed() {
-            return Err(JournalFault::Failed);
-        }
-        match put_command(&mut self.journal, disk, command) {
-            Ok(()) => Ok(()),
-            Err(DiskFault) => Err(JournalFault::Disk),
-        }
+        &self.kept.ledger.lists
     }
 
     /// How many octets were got of the file of this number of this server. Takes no memory.
@@ -284,17 +273,17 @@ impl Notes {
         ensures len { result ≡ length (got_of self.now.lists server number) }
         ensures most { result ≤ longest_file }
     {
-        self.lists.got(server, number).len() as u32
+        self.lists().got(server, number).len() as u32
     }
 
-    /// Fills `room` with octets got of the file of this number of this server, from place `at` on. They are there. Takes
-    /// no memory.
+    /// Fills `room` with octets got of the file of this number of this server, from place `at` on. They are there.
+    /// Takes no memory.
     pub fn read_got(&self, server: Call, number: u32, at: u32, room: &mut [u8])
         requires { at + length room.old ≤ length (got_of self.now.lists server number) }
         ensures { FillsRoom (got_of self.now.lists server number) at (length room.old) room.new }
     {
         let at = at as usize;
-        room.copy_from_slice(&self.lists.got(server, number)[at..at + room.len()]);
+        room.copy_from_slice(&self.lists().got(server, number)[at..at + room.len()]);
     }
 
     /// The octets got of the file of this number of this server, as they lie in memory. Takes no memory.
@@ -302,7 +291,7 @@ impl Notes {
         ensures octets { result.now ≡ got_of self.now.lists server number }
         ensures most { length result.now ≤ longest_file }
     {
-        self.lists.got(server, number)
+        self.lists().got(server, number)
     }
 
     /// How the last task of this server, caller and name stands; `None` exactly where there is no such task. Takes no
@@ -310,20 +299,20 @@ impl Notes {
     pub fn noted(&self, server: Call, me: Call, name: &str) -> Option<Noted>
         ensures { result ≡ noted_of self.now.lists server me name.now }
     {
-        self.lists.noted(server, me, name.as_bytes())
+        self.lists().noted(server, me, name.as_bytes())
     }
 
     /// Whether a call answered `Disk`. Takes no memory.
     pub fn failed(&self) -> bool
         ensures { result ≡ self.now.journal.failed }
     {
-        self.journal.failed()
+        self.kept.failed()
     }
 
     /// The journal was read to its end.
     pub(crate) fn read_law(&self)
         ensures { IsRead self.now.journal }
     {
-        let _failed = self.journal.failed();
+        let _failed = self.kept.failed();
     }
 }

@@ -1,13 +1,14 @@
 -- The commands of a store as records of its journal. All numbers have four octets, least significant first.
-use Rattle.std.specs.Prelude.{◌≡◌, ℕ, ◌^◌, ◌<◌, ◌≤◌, ◌==◌, List, [], ◌∷◌, ◌++◌, length, take, drop, Bool, ◌&&◌, nat_le, nat_lt, if◌then◌else◌, Option, None, Some}
+use Rattle.std.specs.Prelude.{◌≡◌, ℕ, ◌^◌, ◌<◌, ◌≤◌, ◌==◌, List, [], ◌∷◌, ◌++◌, length, take, drop, Bool, ◌&&◌, nat_le, nat_lt, if◌then◌else◌, Option, None, Some, IsTrue}
 use Rattle.std.specs.Option.{option_and_then, option_map}
 use Rattle.px_base.specs.CallSign.{CallSign, IsCall}
 use Rattle.px_base.specs.Numbers.{le32, le32_octets}
 use Rattle.px_base.specs.Octets.{IsOctets}
 use Rattle.px_base.specs.CallOctets.{call_octets, call_in}
+use Rattle.file_journal.specs.Form.{Form}
 use Rattle.file_journal.specs.Records.{Record, record_of}
 use Rattle.file_entries.specs.Command.{Command, begin, grow, seal, drop_entry, after, is_allowed}
-use Rattle.file_entries.specs.Store.{Store}
+use Rattle.file_entries.specs.Store.{Store, empty_store}
 
 -- Begin, kind 1: number, the call's six characters and its SSID, length, moment.
 abbrev pub begin_content : ℕ → CallSign → ℕ → ℕ → List ℕ
@@ -85,3 +86,14 @@ store_step store entry = option_and_then (store_after store) (command_of entry)
 -- the magic of a store of files: `PXSTORE0`
 abbrev pub store_magic : List ℕ
 store_magic = 80 ∷ 88 ∷ 83 ∷ 84 ∷ 79 ∷ 82 ∷ 69 ∷ 48 ∷ []
+
+-- the stores that a journal of these commands keeps
+abbrev pub store_form : Form Store Command
+store_form =
+    record {
+      magic = store_magic;
+      fresh = empty_store;
+      step = store_step;
+      allowed = λ store command. IsTrue (is_allowed store command);
+      after = after;
+    }

@@ -51,9 +51,28 @@ impl Recovered {
 }
 
 impl Ledger for Recovered {
-    ghost use Rattle.file_entries.specs.Records.{store_step};
+    ghost use Rattle.file_entries.specs.Command.{Command as StoreCommand};
+    ghost use Rattle.file_entries.specs.Records.{store_form};
+    ghost use Rattle.file_entries.specs.Store.{Store};
+    ghost use Rattle.std.specs.Prelude.{⊤};
 
-    ghost step = { store_step };
+    ghost State = { Store };
+
+    ghost Command = { StoreCommand };
+
+    ghost form = { store_form };
+
+    ghost state = { λ store. store };
+
+    ghost by_records = { λ _. ⊤ };
+
+    fn magic() -> [u8; 8] {
+        *b"PXSTORE0"
+    }
+
+    fn fresh(alloc: Global, blocks: u32) -> Recovered {
+        Recovered::new(alloc, blocks)
+    }
 
     fn apply(&mut self, kind: u8, content: &[u8]) -> Result<bool, OutOfMemory> {
         match Command::read(kind, content) {

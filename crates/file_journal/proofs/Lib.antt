@@ -1,7 +1,11 @@
+mod AmongLemmas
 mod AppendLemmas
 mod CallLemmas
+mod CommandLemmas
+mod DoesLemmas
 mod FormatLemmas
 mod JournalLemmas
+mod KeptLemmas
 mod LedgerLemmas
 mod MomentLemmas
 mod NextLemmas
@@ -11,6 +15,8 @@ mod PositionLemmas
 mod PutLemmas
 mod ReadingLemmas
 mod RecoverLemmas
+mod RestoringLemmas
+mod ThroughLemmas
 mod ToldLemmas
 mod WalkLawLemmas
 mod WalkLemmas

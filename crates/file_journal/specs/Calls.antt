@@ -13,6 +13,10 @@ images_now g disk = g.images_since disk (g.moment disk)
 abbrev pub IsQuietNow : {D : Type 0} → Ghosts D → D → Type 0
 IsQuietNow g disk = IsQuiet (g.content disk) (images_now g disk)
 
+-- each image that a crash since this moment might have left, where the disk tells, has P
+abbrev pub EachImage : {D : Type 0} → Ghosts D → D → (List ℕ → Type 0) → Type 0
+EachImage g disk P = IfSome (g.content disk) (λ _. (image : List ℕ) → images_now g disk image → P image)
+
 -- the content is told now exactly where it was told before
 abbrev pub TellsAlike : Option (List ℕ) → Option (List ℕ) → Type 0
 TellsAlike before now = IsTold now ↔ IsTold before

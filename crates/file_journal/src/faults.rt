@@ -1,6 +1,7 @@
 //! The refusals of a journal.
 
 ghost use Rattle.std.specs.Prelude.{◌≡◌};
+ghost use Rattle.file_journal.specs.Refusals.{fault_of_read, fault_of_recovery};
 ghost use Rattle.file_journal.specs.declared.faults.RecoverFault.TheVariants.{Disk};
 ghost use Rattle.file_journal.specs.declared.faults.ReadFault.TheVariants.{OutOfMemory as NoMemory};
 
@@ -18,8 +19,8 @@ pub enum RecoverFault {
         found: [u8; 8],
     },
     /// There are more than 16 octets that begin with the magic, and the block number isn't in 1..=65,536; or a gate is
-    /// open, and the record behind it is cut by the end of the disk, has no gate behind it, or has a content length above
-    /// 600; or the disk has become shorter than the gate's place.
+    /// open, and the record behind it is cut by the end of the disk, has no gate behind it, or has a content length
+    /// above 600; or the disk has become shorter than the gate's place.
     #[error("the store is damaged at octet {at}")]
     Damaged {
         /// 8 for the block number, else the place of the gate.
@@ -61,6 +62,54 @@ impl From<OutOfMemory> for ReadFault {
 
     fn from(_refused: OutOfMemory) -> ReadFault {
         ReadFault::OutOfMemory
+    }
+}
+
+/// Why a disk's content isn't read as a state that a journal keeps.
+#[derive(Clone, Copy, Debug, PartialEq, Eq, Error)]
+pub enum StoreFault {
+    /// There are more than 16 octets, and they don't begin with the magic.
+    #[error("no store: it begins with {found:?}")]
+    NotAStore {
+        /// The first eight octets.
+        found: [u8; 8],
+    },
+    /// The block number isn't in 1..=65,536; or the record behind an open gate is cut, or is one that the state before
+    /// it doesn't allow.
+    #[error("the store is damaged at octet {at}")]
+    Damaged {
+        /// 8 for the block number, else the place of the gate.
+        at: u64,
+    },
+    /// The disk failed, and its count of faults rose.
+    #[error("the disk failed")]
+    Disk,
+    /// There was no memory for what a record makes of the state.
+    #[error("out of memory")]
+    OutOfMemory,
+}
+
+impl From<RecoverFault> for StoreFault {
+    ghost from_gives = { λ fault result. result ≡ fault_of_recovery fault };
+
+    fn from(fault: RecoverFault) -> StoreFault {
+        match fault {
+            RecoverFault::NotAStore { found } => StoreFault::NotAStore { found },
+            RecoverFault::Damaged { at } => StoreFault::Damaged { at },
+            RecoverFault::Disk => StoreFault::Disk,
+        }
+    }
+}
+
+impl From<ReadFault> for StoreFault {
+    ghost from_gives = { λ fault result. result ≡ fault_of_read fault };
+
+    fn from(fault: ReadFault) -> StoreFault {
+        match fault {
+            ReadFault::Damaged { at } => StoreFault::Damaged { at },
+            ReadFault::Disk => StoreFault::Disk,
+            ReadFault::OutOfMemory => StoreFault::OutOfMemory,
+        }
     }
 }
 

@@ -13,16 +13,16 @@ pub fn reading_law()
 /// What records come to is the state after them, where each is allowed by the state before it; else damage at the gate
 /// of the first that isn't; or, where the reading is broken behind records that are allowed, there. It is nothing else.
 pub fn walk_law<L: Ledger>()
-    ensures { IsOneWalk L.step }
+    ensures { IsOneWalk L.form.step }
 {}
 
 /// A record that a ledger's state allows, put at the end of a store, takes what the store stands for to the state after
 /// it.
 pub fn append_law<L: Ledger>()
-    ensures { IsOneStep L.step }
+    ensures { IsOneStep L.form.step }
 {}
 
 /// The same store stands for the same state of a ledger, also where a recovery gives it its block number.
 pub fn recovery_law<L: Ledger>()
-    ensures { StandsForSame L.step }
+    ensures { StandsForSame L.form.step }
 {}

@@ -2,6 +2,7 @@
 
 ghost use Rattle.std.specs.Prelude.{◌≡◌, ◌+◌, ◌^◌, ◌<◌, ◌≤◌, ℕ, List, length, true, false, Option, None, Some, IfSome, IsErrOf, OnErr, OnOk};
 ghost use Rattle.file_journal.specs.Calls.{Reads};
+ghost use Rattle.file_journal.specs.Form.{Form};
 ghost use Rattle.file_journal.specs.Ledger.{AnswersAll, AppliesNext, AppliesSome};
 ghost use Rattle.file_journal.specs.Position.{StandsOn};
 ghost use Rattle.file_journal.specs.Records.{Record, record_of};
@@ -10,21 +11,48 @@ use crate::{Journal, ReadFault, RecoverFault};
 use arrayvec::ArrayVec;
 use disk_model::Disk;
 use px_base::OutOfMemory;
+use std::alloc::Global;
 
-/// What the records of a journal are applied to, in order.
-pub trait Ledger {
-    /// The state after a record, where the state before it allows that record.
-    ghost step: { Self → Record → Option Self };
+/// What the records of a journal are applied to, in order: it holds the state that they make, and in memory maybe more.
+pub trait Ledger: Drop {
+    /// The states that records make.
+    ghost State: { Type 0 };
 
-    /// Applies a record, and answers whether the state allows it; one that it doesn't allow changes nothing. The
-    /// content has at most 600 octets. Takes memory.
+    /// The commands that change a state, each of which is one record.
+    ghost Command: { Type 0 };
+
+    /// What octets stand for as a state, and what records and commands make of one.
+    ghost form: { Form Self.State Self.Command };
+
+    /// The state that a ledger holds.
+    ghost state: { Self → Self.State };
+
+    /// What a ledger is that records alone made, beside its state.
+    ghost by_records: { Self → Type 0 };
+
+    /// The first eight octets of the disk of a journal of such records.
+    fn magic() -> [u8; 8]
+        ensures { result ≡ form.magic };
+
+    /// The ledger of a store of so many blocks, 1 to 65,536, before the first record. Takes no memory yet.
+    fn fresh(alloc: Global, blocks: u32) -> Self
+        requires some { 1 ≤ blocks }
+        requires most { blocks ≤ 65536 }
+        ensures state { state result ≡ form.fresh blocks }
+        ensures by_records { by_records result };
+
+    /// Applies a record that was read, and answers whether the state allows it; one that it doesn't allow changes
+    /// nothing. The content has at most 600 octets. Takes memory.
     ///
     /// `OutOfMemory`: nothing is said of the ledger any more.
     fn apply(&mut self, kind: u8, content: &[u8]) -> Result<bool, OutOfMemory>
-        requires { length content.now ≤ 600 }
-        ensures allowed { result ≡ Ok true → step self.old (record_of kind content.now) ≡ Some self.new }
-        ensures refused { result ≡ Ok false → step self.old (record_of kind content.now) ≡ None }
-        ensures same { result ≡ Ok false → self.new ≡ self.old };
+        requires most { length content.now ≤ 600 }
+        requires by_records { by_records self.old }
+        ensures allowed { result ≡ Ok true
+            → form.step (state self.old) (record_of kind content.now) ≡ Some (state self.new) }
+        ensures refused { result ≡ Ok false → form.step (state self.old) (record_of kind content.now) ≡ None }
+        ensures same { result ≡ Ok false → self.new ≡ self.old }
+        ensures by_records { OnOk result (by_records self.new) };
 }
 
 /// The fault of a reading, which answers no `NotAStore`.
@@ -46,10 +74,10 @@ impl Journal {
     /// Reads all records that are left, and applies each to the ledger, in order. No append failed before. It reads
     /// each record once. The ledger may take memory.
     ///
-    /// `Damaged`: what is left comes to damage at this place: a record that the state before it doesn't allow, or, where
-    /// each before it is allowed, an open gate that no whole record with a gate behind it follows. After it and after
-    /// `Disk` the ledger has the state after some of the records, from the first on; after `OutOfMemory` nothing is said
-    /// of it. The journal stays on its disk, and no octet is changed.
+    /// `Damaged`: what is left comes to damage at this place: a record that the state before it doesn't allow, or,
+    /// where each before it is allowed, an open gate that no whole record with a gate behind it follows. After it and
+    /// after `Disk` the ledger has the state after some of the records, from the first on; after `OutOfMemory` nothing
+    /// is said of it. The journal stays on its disk, and no octet is changed.
     pub fn read_into<D: Disk, L: Ledger>(
         &mut self,
         disk: &mut D,
@@ -57,14 +85,17 @@ impl Journal {
     ) -> Result<(), ReadFault>
         requires stands_on { StandsOn D.Disk self.old disk.old }
         requires healthy { self.old.failed ≡ false }
+        requires by_records { L.by_records ledger.old }
         ensures stands_on { StandsOn D.Disk self.new disk.new }
         ensures journal { self.new ≡ record self.old { place = self.new.place; ended = self.new.ended } }
         ensures ended { OnOk result (self.new.ended ≡ true) }
 
         // But for a fault of the disk and want of memory, it answers exactly what the records that are left come to.
-        ensures all { AnswersAll L.step self.old ledger.old ledger.new (D.content disk.old) result }
+        ensures all { AnswersAll L.form.step self.old (L.state ledger.old) (L.state ledger.new)
+            (D.content disk.old) result }
+        ensures by_records { OnOk result (L.by_records ledger.new) }
         ensures some { ¬ IsErrOf result ReadFault.OutOfMemory
-            → IfSome (D.content disk.old) (AppliesSome L.step self.old ledger.old ledger.new) }
+            → IfSome (D.content disk.old) (AppliesSome L.form.step self.old (L.state ledger.old) (L.state ledger.new)) }
         ensures reads { Reads D.Disk (IsErrOf result ReadFault.Disk) disk.old disk.new }
     {
         while self.apply_next(disk, ledger)? {}
@@ -79,6 +110,7 @@ impl Journal {
     ) -> Result<bool, ReadFault>
         requires stands_on { StandsOn D.Disk self.old disk.old }
         requires healthy { self.old.failed ≡ false }
+        requires by_records { L.by_records ledger.old }
         ensures stands_on { StandsOn D.Disk self.new disk.new }
         ensures journal { self.new ≡ record self.old { place = self.new.place; ended = self.new.ended } }
         ensures ended { result ≡ Ok false → self.new.ended ≡ true }
@@ -86,7 +118,8 @@ impl Journal {
         ensures fits { self.new.place < 2 ^ 63 }
         ensures next { ¬ IsErrOf result ReadFault.Disk → ¬ IsErrOf result ReadFault.OutOfMemory
             → IfSome (D.content disk.old) (λ octets.
-            AppliesNext L.step self.old self.new ledger.old ledger.new octets result) }
+            AppliesNext L.form.step self.old self.new (L.state ledger.old) (L.state ledger.new) octets result) }
+        ensures by_records { OnOk result (L.by_records ledger.new) }
         ensures same { ¬ IsErrOf result ReadFault.OutOfMemory → OnErr result (ledger.new ≡ ledger.old) }
         ensures reads { Reads D.Disk (IsErrOf result ReadFault.Disk) disk.old disk.new }
     {

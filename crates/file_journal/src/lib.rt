@@ -7,18 +7,23 @@
 //! no checksum is needed, and a crash leaves the records from before an append, or these and the new one.
 //!
 //! Records are kept for what they make of a state: they are applied to a ledger in order, and one that the state before
-//! it doesn't allow is damage at its gate.
+//! it doesn't allow is damage at its gate. A kept state is a ledger with the journal of its records: it is recovered
+//! from whatever stands on the disk, and each change of it is a record that is on the disk before memory has it.
 #![tactic(auto)]
 
+mod change;
 mod faults;
 mod format;
 mod header;
 mod journal;
+mod kept;
 pub mod laws;
 mod ledger;
 mod record;
 mod write;
 
-pub use faults::{JournalFault, ReadFault, RecoverFault};
+pub use change::Change;
+pub use faults::{JournalFault, ReadFault, RecoverFault, StoreFault};
 pub use journal::Journal;
+pub use kept::Kept;
 pub use ledger::Ledger;

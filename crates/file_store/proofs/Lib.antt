@@ -1,6 +1,7 @@
 mod DoesLemmas
 mod EndLemmas
 mod HoldLemmas
+mod KeptLemmas
 pub mod Offered
 mod PutLemmas
 mod ReceiptLemmas

@@ -1,20 +1,23 @@
-use Rattle.std.proofs.Common.{Ok, sym, ◌∙◌, subst}
-use Rattle.std.specs.Prelude.{IsTrue}
+use Rattle.std.proofs.Common.{◌≡◌, Err, Ok, sym, ◌∙◌, subst}
 use Rattle.client_notes.specs.Answers.{Noting}
-use Rattle.client_notes.specs.Command.{got, is_allowed}
-use Rattle.client_notes.specs.State.{NotesState, StandsOn}
-use Rattle.client_notes.proofs.NotesLemmas.{noting-ok}
+use Rattle.client_notes.specs.Command.{got}
+use Rattle.client_notes.specs.State.{NotesState}
+use Rattle.client_notes.specs.declared.refusals.NotesRefusal.TheVariants as refusal
+use Rattle.client_notes.proofs.KeptLemmas.{brought-cut, brought-done}
 use Rattle.client_notes.proofs.notes.Notes.got.Goals as goal
 
 pub returns-in-Ok : goal.returns-in-Ok
 returns-in-Ok g c =
-    let D = g.D.Disk in
-    let old : NotesState = record { lists = c.self.inside.lists; journal = c.self.inside.journal } in
-    let new : NotesState = record { lists = c.add_got.new.self; journal = c.put_command.new.journal } in
+    let new : NotesState = record { lists = c.put.new.self.ledger.lists; journal = c.put.new.self.journal } in
     let command = got c.args.server c.args.number c.args.bytes.now in
-    subst (λ (s : NotesState). Noting D s new c.args.disk.now c.put_command.new.disk command (Ok tt)) c.self.view_is
-    (noting-ok D old new c.args.disk.now c.put_command.new.disk command c.in-Ok.field-0 tt
-    (subst (λ (s : NotesState). StandsOn D s c.args.disk.now) (sym c.self.view_is) c.requires.stands_on)
-    (sym c.failed.ensures ∙ c.if-failed.false)
-    (subst (λ (s : NotesState). IsTrue (is_allowed s.lists command)) (sym c.self.view_is) c.requires.allowed)
-    c.in-Ok.ensures c.in_ok-behind.ensures.got)
+    subst (λ (s : NotesState). Noting g.D.Disk s new c.args.disk.now c.put.new.disk command (Ok (tt {0}))) c.self.view_is
+    (brought-done g.D.Disk c.self.inside.kept.ledger c.bring_got.new.self c.put.new.self.ledger c.self.inside.kept.journal c.put.new.self.journal c.args.disk.now c.put.new.disk command
+    c.in_ok-bring_got.ensures.ok.noted (sym c.failed.ensures ∙ c.if-failed.false) c.in-Ok.field-0 (tt {0}) c.in-Ok.ensures.makes c.in-Ok.ensures.answers)
+
+pub returns-in-Err : goal.returns-in-Err
+returns-in-Err g c =
+    let new : NotesState = record { lists = c.take_back.new.self.lists; journal = c.put.new.self.journal } in
+    let command = got c.args.server c.args.number c.args.bytes.now in
+    subst (λ (s : NotesState). Noting g.D.Disk s new c.args.disk.now c.put.new.disk command (Err refusal.Disk)) c.self.view_is
+    (brought-cut g.D.Disk c.self.inside.kept.ledger c.bring_got.new.self c.put.new.self.ledger c.self.inside.kept.journal c.put.new.self.journal c.args.disk.now c.put.new.disk command
+    c.in_ok-bring_got.ensures.ok.noted (sym c.failed.ensures ∙ c.if-failed.false) c.in-Err.field-0 c.take_back.new.self c.take_back.ensures.lists c.in-Err.ensures.answers)

@@ -11,9 +11,9 @@ use Rattle.file_journal.proofs.journal.Journal.read_into.Goals as goal
 
 pub returns-in_err-apply_next-clause-all : goal.returns-in_err-apply_next-clause-all
 returns-in_err-apply_next-clause-all g c healthy memory =
-    let step = g.L.Ledger.step in
+    let step = g.L.Ledger.form.step in
     let first = c.args.self.now in
-    let before = c.args.ledger.now in
+    let before = g.L.Ledger.state c.args.ledger.now in
     let e = c.in_err-apply_next.field-0.0 in
     let p = err_from_is_err_and c.from_residual.result c.from_residual.ensures.1 in
     let answer : c.from_residual.result ≡ Err e = p.1 ∙ ap Err p.2 in
@@ -21,14 +21,14 @@ returns-in_err-apply_next-clause-all g c healthy memory =
     let on = at_told _ octets told c.loop.invariant.3 in
     let next = at_told _ octets (c.loop.invariant.2.only.same_content ∙ told)
     (c.in_err-apply_next.ensures.next (λ is. healthy (answer ∙ cc is)) (λ is. memory (answer ∙ cc is))) in
-    subst (λ (r : Result (Unit {0}) ReadFault). AppliesAll step first before c.apply_next.new.ledger octets r) (sym answer)
-    (all_damaged step e first before c.apply_next.new.ledger octets
-    (λ at same. on_walk step first c.loop.self before c.loop.ledger octets on ∙ next.damaged at (ap Err same))
+    subst (λ (r : Result (Unit {0}) ReadFault). AppliesAll step first before (g.L.Ledger.state c.apply_next.new.ledger) octets r) (sym answer)
+    (all_damaged step e first before (g.L.Ledger.state c.apply_next.new.ledger) octets
+    (λ at same. on_walk step first c.loop.self before (g.L.Ledger.state c.loop.ledger) octets on ∙ next.damaged at (ap Err same))
     (λ is. healthy (answer ∙ ap Err is)) (λ is. memory (answer ∙ ap Err is))))
 
 pub loop-preserved : goal.loop-preserved
 loop-preserved g c =
-    let step = g.L.Ledger.step in
+    let step = g.L.Ledger.form.step in
     let first = c.args.self.now in
     let new = c.apply_next.new.self in (
       c.apply_next.ensures.stands_on,
@@ -41,18 +41,19 @@ loop-preserved g c =
           let next = at_told _ octets (c.loop.invariant.2.only.same_content ∙ told)
           (c.in_ok-apply_next.ensures.next (λ is. cc is) (λ is. cc is)) in
           let one = next.some (ap Ok c.if-branch.true) in
-          on_more step first c.loop.self c.args.ledger.now c.loop.ledger octets on new c.apply_next.new.ledger one.0 one.1),
+          on_more step first c.loop.self (g.L.Ledger.state c.args.ledger.now) (g.L.Ledger.state c.loop.ledger) octets on new (g.L.Ledger.state c.apply_next.new.ledger) one.0 one.1),
+      c.in_ok-apply_next.ensures.by_records,
     )
 
 pub returns-clause-all : goal.returns-clause-all
 returns-clause-all g c healthy memory =
-    let step = g.L.Ledger.step in
+    let step = g.L.Ledger.form.step in
     let first = c.args.self.now in
-    let before = c.args.ledger.now in
+    let before = g.L.Ledger.state c.args.ledger.now in
     if_told (g.D.Disk.content c.args.disk.now) _ (λ octets told.
     let on = at_told _ octets told c.loop.invariant.3 in
     let next = at_told _ octets (c.loop.invariant.2.only.same_content ∙ told)
     (c.in_ok-apply_next.ensures.next (λ is. cc is) (λ is. cc is)) in
     let none = next.none (ap Ok c.if-branch.false) in
-    all_read step tt first before c.apply_next.new.ledger octets
-    (on_end step first c.loop.self before c.loop.ledger octets on none.0 ∙ ap state (sym none.1)))
+    all_read step tt first before (g.L.Ledger.state c.apply_next.new.ledger) octets
+    (on_end step first c.loop.self before (g.L.Ledger.state c.loop.ledger) octets on none.0 ∙ ap state (sym none.1)))

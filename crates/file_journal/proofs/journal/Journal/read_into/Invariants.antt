@@ -9,7 +9,8 @@ invariant-loop g l =
     StandsOn g.D.Disk l.self l.disk
     × (l.self ≡ record l.fn.self { place = l.self.place; ended = l.self.ended })
     × Reads g.D.Disk ⊥ l.fn.disk l.disk
-    × IfSome (g.D.Disk.content l.fn.disk) (IsOn g.L.Ledger.step l.fn.self l.self l.fn.ledger l.ledger)
+    × IfSome (g.D.Disk.content l.fn.disk) (IsOn g.L.Ledger.form.step l.fn.self l.self (g.L.Ledger.state l.fn.ledger) (g.L.Ledger.state l.ledger))
+    × g.L.Ledger.by_records l.ledger
 
 abbrev pub decreases-loop : goal.decreases-loop
 decreases-loop g l = 2 ^ 63 - l.self.place

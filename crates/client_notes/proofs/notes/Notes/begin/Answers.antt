@@ -1,0 +1,32 @@
+use Rattle.std.proofs.Common.{◌≡◌, ℕ, ◌+◌, Err, Ok, sym, ◌∙◌, ap, subst}
+use Rattle.client_notes.specs.Answers.{Noting, fresh_task}
+use Rattle.client_notes.specs.Command.{NotesCommand, start}
+use Rattle.client_notes.specs.Notes.{Lists, task_count}
+use Rattle.client_notes.specs.State.{NotesState}
+use Rattle.client_notes.specs.declared.refusals.NotesRefusal.TheVariants as refusal
+use Rattle.client_notes.proofs.KeptLemmas.{brought-cut, brought-done}
+use Rattle.client_notes.proofs.notes.Notes.begin.Goals as goal
+
+pub returns-in-Ok-clause-noting : goal.returns-in-Ok-clause-noting
+returns-in-Ok-clause-noting g c =
+    let new : NotesState = record { lists = c.put.new.self.ledger.lists; journal = c.put.new.self.journal } in
+    let task = c.task_count-task.result + 1 in
+    let named : NotesCommand = start task c.args.server c.args.me c.args.name.now c.args.file_length c.args.digest.now in
+    let same : named ≡ fresh_task c.args.self.now.lists c.args.server c.args.me c.args.name.now c.args.file_length c.args.digest.now =
+    ap (λ (n : ℕ). start (n + 1) c.args.server c.args.me c.args.name.now c.args.file_length c.args.digest.now) (c.task_count-task.ensures.count ∙ ap task_count c.lists.ensures) in
+    subst (λ (command : NotesCommand). Noting g.D.Disk c.args.self.now new c.args.disk.now c.put.new.disk command (Ok task)) same
+    (subst (λ (s : NotesState). Noting g.D.Disk s new c.args.disk.now c.put.new.disk named (Ok task)) c.self.view_is
+    (brought-done g.D.Disk c.self.inside.kept.ledger c.bring_task.new.self c.put.new.self.ledger c.self.inside.kept.journal c.put.new.self.journal c.args.disk.now c.put.new.disk named
+    c.in_ok-bring_task.ensures.ok.noted (sym c.failed.ensures ∙ c.if-failed.false) c.in-Ok.field-0 task c.in-Ok.ensures.makes c.in-Ok.ensures.answers))
+
+pub returns-in-Err-clause-noting : goal.returns-in-Err-clause-noting
+returns-in-Err-clause-noting g c =
+    let new : NotesState = record { lists = c.take_back.new.self.lists; journal = c.put.new.self.journal } in
+    let task = c.task_count-task.result + 1 in
+    let named : NotesCommand = start task c.args.server c.args.me c.args.name.now c.args.file_length c.args.digest.now in
+    let same : named ≡ fresh_task c.args.self.now.lists c.args.server c.args.me c.args.name.now c.args.file_length c.args.digest.now =
+    ap (λ (n : ℕ). start (n + 1) c.args.server c.args.me c.args.name.now c.args.file_length c.args.digest.now) (c.task_count-task.ensures.count ∙ ap task_count c.lists.ensures) in
+    subst (λ (command : NotesCommand). Noting {T = ℕ} g.D.Disk c.args.self.now new c.args.disk.now c.put.new.disk command (Err refusal.Disk)) same
+    (subst (λ (s : NotesState). Noting {T = ℕ} g.D.Disk s new c.args.disk.now c.put.new.disk named (Err refusal.Disk)) c.self.view_is
+    (brought-cut g.D.Disk c.self.inside.kept.ledger c.bring_task.new.self c.put.new.self.ledger c.self.inside.kept.journal c.put.new.self.journal c.args.disk.now c.put.new.disk named
+    c.in_ok-bring_task.ensures.ok.noted (sym c.failed.ensures ∙ c.if-failed.false) c.in-Err.field-0 c.take_back.new.self c.take_back.ensures.lists c.in-Err.ensures.answers))

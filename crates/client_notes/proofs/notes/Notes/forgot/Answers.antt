@@ -1,0 +1,16 @@
+use Rattle.std.proofs.Common.{◌≡◌, sym, subst}
+use Rattle.file_journal.specs.Kept.{AnswersPut, kept_on}
+use Rattle.client_notes.specs.Command.{forgot}
+use Rattle.client_notes.specs.Notes.{Lists}
+use Rattle.client_notes.specs.OnDisk.{Answers}
+use Rattle.client_notes.specs.Records.{notes_form}
+use Rattle.client_notes.specs.State.{NotesState}
+use Rattle.client_notes.proofs.KeptLemmas.{put-answers}
+use Rattle.client_notes.proofs.notes.Notes.forgot.Goals as goal
+
+pub returns : goal.returns
+returns g c =
+    let new : NotesState = record { lists = c.put.new.self.ledger.lists; journal = c.put.new.self.journal } in
+    subst (λ (s : NotesState). Answers g.D.Disk s new c.args.disk.now c.put.new.disk (forgot c.args.server c.args.number) c.put.result) c.self.view_is
+    (put-answers g.D.Disk c.self.inside.kept.ledger c.put.new.self.ledger c.self.inside.kept.journal c.put.new.self.journal c.args.disk.now c.put.new.disk (forgot c.args.server c.args.number) c.put.result
+    c.self.invariant.1 c.put.ensures.makes c.put.ensures.err c.put.ensures.answers)

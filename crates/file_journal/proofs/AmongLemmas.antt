@@ -1,0 +1,268 @@
+-- What commands do to a state that is kept where reads come among them.
+use Rattle.std.proofs.Common.{◌≡◌, ◌⊎◌, inl, inr, ⊎_elim, ℕ, ◌+◌, ◌*◌, ◌<◌, ◌≤◌, Bool, true, false, nat_le, List, [], ◌∷◌, ◌++◌, length, Option, IfSome, refl, sym, ◌∙◌, ap, subst, arith, length-append}
+use Rattle.std.proofs.Math.Nat.{add-zero}
+use Rattle.std.proofs.lemmas.Bool.Decides.{leb_tells}
+use Rattle.disk_model.specs.Moments.{TimePasses}
+use Rattle.disk_model.specs.declared.disk.Disk.{Ghosts}
+use Rattle.file_journal.specs.AmongReads.{CountsSome, CutsOffAmongReads, DoesAmongReads, PutsAmongReads, one_if}
+use Rattle.file_journal.specs.Calls.{ChangesReads, CountsFault, Puts, Reads}
+use Rattle.file_journal.specs.Commands.{MakesFirst}
+use Rattle.file_journal.specs.Form.{Form, meaning_of}
+use Rattle.file_journal.specs.Kept.{CutsOff, Does, KeptOn, StandsAt, by_fours, kept_on}
+use Rattle.file_journal.specs.Position.{Position, StandsOn}
+use Rattle.file_journal.specs.Walk.{ImagesStandFor, StandFor}
+use Rattle.file_journal.proofs.CallLemmas.{counts_on, counts_same, reads_now}
+use Rattle.file_journal.proofs.CommandLemmas.{nothing, stay_none}
+use Rattle.file_journal.proofs.DoesLemmas.{does_same, fours_same, fours_then}
+use Rattle.file_journal.proofs.KeptLemmas.{does_none, images_here}
+use Rattle.file_journal.proofs.MomentLemmas.{reads}
+use Rattle.file_journal.proofs.ToldLemmas.{alike_on, alike_same, at_told, if_told}
+
+-- ---- a count of failed reads
+
+-- nothing counted, where nothing is said to have failed
+counts_still : (before now : ℕ) (P : Type 0) → ¬ P → now ≡ before → CountsFault before now P
+counts_still before now P fine same = record { no_less = omega (arith, same); rose = λ failed. absurd (fine failed); same = λ still. same }
+
+-- none failed
+pub some_still : (before now : ℕ) → now ≡ before → CountsSome before now 0
+some_still before now same = record { no_less = omega (arith, same); rose = inl (omega (arith, same)); same = λ none. same }
+
+-- one run, of which a call failed or none did
+pub some_one : (before now : ℕ) (failed : Bool) → CountsFault before now (failed ≡ true) → CountsSome before now (one_if failed)
+some_one before now true counts = record {
+  no_less = counts.no_less;
+  rose =
+      ⊎_elim (λ (last : (nat_le 18446744073709551615 before ≡ true) × (18446744073709551615 ≤ before)). inr (omega (arith, counts.no_less, last.1)))
+      (λ (small : (nat_le 18446744073709551615 before ≡ false) × (before < 18446744073709551615)).
+      let rose : before < now = counts.rose refl small.1 in inl (omega (arith, rose))) (leb_tells 18446744073709551615 before);
+  same = λ none. absurd (cc none);
+}
+some_one before now false counts = some_still before now (counts.same (λ e. cc e))
+
+-- one run and then another
+pub some_then : (before mid now first second : ℕ) → CountsSome before mid first → CountsSome mid now second → CountsSome before now (first + second)
+some_then before mid now first second one other = record {
+  no_less = omega (arith, one.no_less, other.no_less);
+  rose = by one.rose other.rose;
+  same = λ none.
+      let same_mid : mid ≡ before = one.same (omega (arith, none)) in
+      let same_now : now ≡ mid = other.same (omega (arith, none)) in
+      omega (arith, same_mid, same_now);
+}
+  where
+    by : (before + first ≤ mid) ⊎ (18446744073709551615 ≤ mid) → (mid + second ≤ now) ⊎ (18446744073709551615 ≤ now) → (before + (first + second) ≤ now) ⊎ (18446744073709551615 ≤ now)
+    by (inl a) (inl b) = inl (omega (arith, a, b))
+    by (inl a) (inr last) = inr last
+    by (inr last) second_rose = inr (omega (arith, last, other.no_less))
+
+module _ {D : Type 0} (g : Ghosts D) where
+  -- ---- one run of reads and another
+
+  pub changes_none : (disk : D) → ChangesReads g disk disk
+  changes_none disk = record {
+    same_content = refl;
+    same_images = λ image. (λ now. now, λ was. was);
+    same_moment = refl;
+    same_past = λ t image. (λ now. now, λ was. was);
+    same_write_faults = refl;
+  }
+
+  pub changes_on : (old mid new : D) → ChangesReads g old mid → ChangesReads g mid new → ChangesReads g old new
+  changes_on old mid new first second = record {
+    same_content = second.same_content ∙ first.same_content;
+    same_images = λ image. (λ now. (first.same_images image).0 ((second.same_images image).0 now), λ was. (second.same_images image).1 ((first.same_images image).1 was));
+    same_moment = second.same_moment ∙ first.same_moment;
+    same_past = λ t image. (λ now. (first.same_past t image).0 ((second.same_past t image).0 now), λ was. (second.same_past t image).1 ((first.same_past t image).1 was));
+    same_write_faults = second.same_write_faults ∙ first.same_write_faults;
+  }
+
+  -- ---- writes and syncs, with reads among them
+
+  still : (disk : D) → TimePasses g.moment g.images g.images_since disk disk
+  still disk = record { later = omega arith; nothing_else = λ t image le since. inl since; keeps = λ t image le past. past }
+
+  pub puts_among : (P : Type 0) (old new : D) → Puts g P old new → PutsAmongReads g P old new
+  puts_among P old new puts = record {
+    told = puts.told;
+    reads = omega (arith, puts.reads);
+    faults = puts.faults;
+    stops = record {
+      last = puts.stops.last;
+      lasts = puts.stops.lasts;
+      writes = puts.stops.writes;
+      since = ⊎_elim (λ one. inl (one.1, one.2)) (λ only. inr only) puts.stops.since;
+    };
+    lasts = puts.lasts;
+  }
+
+  -- reads alone, and no write that failed
+  pub puts_among_reads : (P Q : Type 0) (old new : D) → ¬ Q → Reads g P old new → PutsAmongReads g Q old new
+  puts_among_reads P Q old new fine run = record {
+    told = alike_same _ _ run.only.same_content;
+    reads = run.faults.no_less;
+    faults = counts_still _ _ Q fine run.only.same_write_faults;
+    stops = record { last = new; lasts = run.lasts; writes = run.only.same_write_faults; since = inl (omega arith, still new) };
+    lasts = run.lasts;
+  }
+
+  pub puts_among_same : (P Q : Type 0) (old new : D) → (P → Q) → (Q → P) → PutsAmongReads g P old new → PutsAmongReads g Q old new
+  puts_among_same P Q old new there back puts = record {
+    told = puts.told;
+    reads = puts.reads;
+    faults = counts_same _ _ P Q there back puts.faults;
+    stops = puts.stops;
+    lasts = puts.lasts;
+  }
+
+  pub puts_among_then : ((first second third : D) → g.lasts first second → g.lasts second third → g.lasts first third) → (P Q : Type 0) (old mid new : D) → ¬ P
+      → PutsAmongReads g P old mid → PutsAmongReads g Q mid new → PutsAmongReads g Q old new
+  puts_among_then on P Q old mid new fine first second = record {
+    told = alike_on _ _ _ first.told second.told;
+    reads = omega (arith, first.reads, second.reads);
+    faults = counts_on _ _ _ Q (first.faults.same fine) second.faults;
+    stops = record {
+      last = second.stops.last;
+      lasts = on old mid second.stops.last first.lasts second.stops.lasts;
+      writes = second.stops.writes ∙ first.faults.same fine;
+      since = second.stops.since;
+    };
+    lasts = on old mid new first.lasts second.lasts;
+  }
+
+  module _ {S C : Type 0} (form : Form S C) where
+    -- ---- what is kept stays so through reads
+
+    pub reads_stand : (now : S) (journal : Position) (old new : D) → ChangesReads g old new → StandsAt g form (kept_on now journal old) → StandsAt g form (kept_on now journal new)
+    reads_stand now journal old new only stands = record {
+      magic_is = stands.magic_is;
+      keeps = record {
+        stands_on = among stands.keeps.stands_on;
+        ended = stands.keeps.ended;
+        content = λ fine. subst (λ (o : Option (List ℕ)). IfSome o (StandFor form.fresh form.step journal now)) (sym only.same_content) (stands.keeps.content fine);
+        images = λ fine. if_told (g.content new) _ (λ octets told image here.
+            at_told (λ _. ImagesStandFor form.fresh form.step g journal now old) octets (sym only.same_content ∙ told) (stands.keeps.images fine) image (reads_now g old new only image here));
+      };
+    }
+      where
+        among : StandsOn g journal old → StandsOn g journal new
+        among (inl failed) = inl failed
+        among (inr on) = inr (if_told (g.content new) _ (λ octets told.
+            let at = at_told (λ (octets : List ℕ). _) octets (sym only.same_content ∙ told) on in
+            (at.0, at.1, λ image here. at.2 image (reads_now g old new only image here))))
+
+    -- ---- commands among reads
+
+    -- commands alone
+    pub among_does : (P : Type 0) (commands : List C) (old new : KeptOn D S) → Does g form P commands old new → DoesAmongReads g form P 0 commands old new
+    among_does P commands old new does = record {
+      fours = does.fours;
+      none = λ is.
+          let same = does.none is in
+          (ap (λ (k : KeptOn D S). k.journal) same, subst (λ (k : KeptOn D S). ChangesReads g old.disk k.disk) (sym same) (changes_none old.disk));
+      puts = puts_among P old.disk new.disk does.puts;
+      reads = some_still _ _ does.puts.reads;
+    }
+
+    -- one run of reads, which failed or didn't
+    pub among_reads : (Q : Type 0) (failed : Bool) (now : S) (journal : Position) (old new : D) → ¬ Q → StandsAt g form (kept_on now journal old) → journal.failed ≡ false → g.lasts old old
+        → Reads g (failed ≡ true) old new → DoesAmongReads g form Q (one_if failed) [] (kept_on now journal old) (kept_on now journal new)
+    among_reads Q failed now journal old new fine stands healthy same run =
+        let after = reads_stand now journal old new run.only stands in
+        let at = run.only.same_moment in
+        record {
+          fours = record {
+            healthy = healthy;
+            by = λ blocks. record {
+              told = alike_same _ _ run.only.same_content;
+              allowed = tt;
+              since = if_told (g.content old) _ (λ before told. reads g.moment g.images_since old new (MakesFirst (meaning_of form blocks) now []) run.only.same_moment run.only.same_past);
+              done = λ still. record {
+                state = refl;
+                healthy = healthy;
+                images = images_here form g blocks (kept_on now journal new) after healthy;
+                stay = if_told (g.content old) _ (λ before told. stay_none (meaning_of form blocks) g (by_fours (g.moment old)) now [] new);
+                calls = if_told (g.content old) _ (λ before told. omega (arith, at));
+              };
+              cut = λ bad. absurd (fine bad);
+            };
+            stands_at = after;
+            calls = λ still. if_told (g.content old) _ (λ before told. omega (arith, at));
+            at_most = omega (arith, at);
+            same_magic = refl;
+            same_blocks = refl;
+            same_ended = refl;
+          };
+          none = λ is. (refl, run.only);
+          puts = puts_among_reads (failed ≡ true) Q old new fine run;
+          reads = some_one _ _ failed run.faults;
+        }
+
+    pub among_same : (P Q : Type 0) (missed other : ℕ) (commands : List C) (old new : KeptOn D S) → (P → Q) → (Q → P) → missed ≡ other → DoesAmongReads g form P missed commands old new
+        → DoesAmongReads g form Q other commands old new
+    among_same P Q missed other commands old new there back same does = record {
+      fours = fours_same g form P Q commands old new there back does.fours;
+      none = does.none;
+      puts = puts_among_same P Q old.disk new.disk there back does.puts;
+      reads = subst (λ (n : ℕ). CountsSome (g.read_faults old.disk) (g.read_faults new.disk) n) same does.reads;
+    }
+
+    -- the same commands, said otherwise
+    pub among_at : (P : Type 0) (missed : ℕ) (these those : List C) (old new : KeptOn D S) → these ≡ those → DoesAmongReads g form P missed these old new → DoesAmongReads g form P missed those old new
+    among_at P missed these those old new same does = subst (λ (commands : List C). DoesAmongReads g form P missed commands old new) same does
+
+    pub cuts_among_same : (P Q : Type 0) (missed other : ℕ) (done cut : List C) (old new : KeptOn D S) → (P → Q) → (Q → P) → missed ≡ other → CutsOffAmongReads g form P missed done cut old new
+        → CutsOffAmongReads g form Q other done cut old new
+    cuts_among_same P Q missed other done cut old new there back same cuts = record {
+      between = cuts.between;
+      first = among_same ⊥ ⊥ missed other done old cuts.between (λ p. p) (λ p. p) same cuts.first;
+      second = does_same g form P Q cut cuts.between new there back cuts.second;
+    }
+
+    -- where no read failed
+    pub cuts_among : (P : Type 0) (done cut : List C) (old new : KeptOn D S) → CutsOff g form P done cut old new → CutsOffAmongReads g form P 0 done cut old new
+    cuts_among P done cut old new cuts = record { between = cuts.between; first = among_does ⊥ done old cuts.between cuts.first; second = cuts.second }
+
+    -- commands that were all done
+    pub cuts_among_none : (P : Type 0) (missed : ℕ) (done : List C) (old new : KeptOn D S) → ¬ P → g.lasts new.disk new.disk → DoesAmongReads g form ⊥ missed done old new
+        → CutsOffAmongReads g form P missed done [] old new
+    cuts_among_none P missed done old new fine same does = record {
+      between = new;
+      first = does;
+      second = does_none form g P new fine does.fours.stands_at ((does.fours.by 0).done (λ never. never)).healthy same;
+    }
+
+    -- ---- one part, and then another
+
+    module _ (on : (first second third : D) → g.lasts first second → g.lasts second third → g.lasts first third) where
+      pub among_then : (P Q : Type 0) (missed other : ℕ) (a b : List C) (old mid new : KeptOn D S) → ¬ P → DoesAmongReads g form P missed a old mid → DoesAmongReads g form Q other b mid new
+          → DoesAmongReads g form Q (missed + other) (a ++ b) old new
+      among_then P Q missed other a b old mid new fine first second = record {
+        fours = fours_then g form P Q a b old mid new fine first.fours second.fours;
+        none = λ is.
+            let empty : length (a ++ b) ≡ 0 = ap length is in
+            let before = first.none (nothing a (omega (arith, length-append a b, empty))) in
+            let later = second.none (nothing b (omega (arith, length-append a b, empty))) in
+            (later.0 ∙ before.0, changes_on old.disk mid.disk new.disk before.1 later.1);
+        puts = puts_among_then on P Q old.disk mid.disk new.disk fine first.puts second.puts;
+        reads = some_then _ _ _ missed other first.reads second.reads;
+      }
+
+      pub cuts_among_then : (P : Type 0) (missed other : ℕ) (these done cut : List C) (old mid new : KeptOn D S) → DoesAmongReads g form ⊥ missed these old mid
+          → CutsOffAmongReads g form P other done cut mid new → CutsOffAmongReads g form P (missed + other) (these ++ done) cut old new
+      cuts_among_then P missed other these done cut old mid new first cuts = record {
+        between = cuts.between;
+        first = among_then ⊥ ⊥ missed other these done old mid cuts.between (λ never. never) first cuts.first;
+        second = cuts.second;
+      }
+
+      pub cuts_among_puts : (P : Type 0) (missed : ℕ) (done cut : List C) (old new : KeptOn D S) → CutsOffAmongReads g form P missed done cut old new → PutsAmongReads g P old.disk new.disk
+      cuts_among_puts P missed done cut old new cuts =
+          puts_among_then on ⊥ P old.disk cuts.between.disk new.disk (λ never. never) cuts.first.puts (puts_among P cuts.between.disk new.disk cuts.second.puts)
+
+      -- all of them together
+      pub cuts_among_all : (P : Type 0) (missed : ℕ) (done cut : List C) (old new : KeptOn D S) → CutsOffAmongReads g form P missed done cut old new
+          → DoesAmongReads g form P missed (done ++ cut) old new
+      cuts_among_all P missed done cut old new cuts =
+          among_same P P (missed + 0) missed (done ++ cut) old new (λ p. p) (λ p. p) (add-zero missed)
+          (among_then ⊥ P missed 0 done cut old cuts.between new (λ never. never) cuts.first (among_does P cut cuts.between new cuts.second))

@@ -1,0 +1,126 @@
+-- What stands on the disk from the recovery of a state on, through commands.
+use Rattle.std.proofs.Common.{◌≡◌, inr, ⊎_elim, ℕ, ◌+◌, ◌*◌, ◌≤◌, List, ◌++◌, length, Some, IfSome, ◌∙◌, subst, arith}
+use Rattle.px_base.specs.Outside.{Rose}
+use Rattle.disk_model.specs.declared.disk.Disk.{Ghosts}
+use Rattle.file_journal.specs.AmongReads.{CountsSome, PutsAmongReads}
+use Rattle.file_journal.specs.Calls.{Leaves, Puts, Runs, TellsAlike}
+use Rattle.file_journal.specs.Commands.{MakesFirst}
+use Rattle.file_journal.specs.Form.{Form, StandsFor, meaning_of}
+use Rattle.file_journal.specs.Kept.{DoesByFours, KeptOn, by_fours}
+use Rattle.file_journal.specs.Recovery.{IsSyncedFirst}
+use Rattle.file_journal.specs.Restoring.{StandsAlike}
+use Rattle.file_journal.specs.Through.{IsInterrupted, StandsThrough, TakesFours}
+use Rattle.file_journal.proofs.CallLemmas.{counts_on, stops_on}
+use Rattle.file_journal.proofs.CommandLemmas.{makes_none}
+use Rattle.file_journal.proofs.DoesLemmas.{fours_least, fours_then}
+use Rattle.file_journal.proofs.MomentLemmas.{joined, weaker}
+use Rattle.file_journal.proofs.ToldLemmas.{alike_on, at_told, if_told, told_before, told_weaker}
+
+-- A recovery that gave a state, and then commands, of which the disk may have cut off the last.
+module _ {D S C : Type 0} (g : Ghosts D) (form : Form S C) (blocks : ℕ) (failed : Type 0) (disk : D) (start between new : KeptOn D S) (done cut : List C)
+    (alike : TellsAlike (g.content disk) (g.content start.disk)) (stood : IfSome (g.content disk) (StandsFor form blocks start.now))
+    (since_start : Leaves g disk start.disk (StandsAlike form blocks)) (since_sync : IfSome (g.content disk) (λ before. IsSyncedFirst g disk start.disk (StandsAlike form blocks before)))
+    (first : DoesByFours g form ⊥ done start between) (second : DoesByFours g form failed cut between new) where
+  all : DoesByFours g form failed (done ++ cut) start new
+  all = fours_then g form ⊥ failed done cut start between new (λ never. never) first second
+
+  -- what stands for the same as the content stands for the state before the first command
+  none_yet : (before image : List ℕ) → g.content disk ≡ Some before → StandsAlike form blocks before image → MakesFirst (meaning_of form blocks) start.now (done ++ cut) image
+  none_yet before image told same =
+      makes_none (meaning_of form blocks) start.now (done ++ cut) image (same.same ∙ at_told (StandsFor form blocks start.now) before told stood)
+
+  later_told : (before : List ℕ) → g.content disk ≡ Some before → (octets : List ℕ) × (g.content start.disk ≡ Some octets)
+  later_told before told = told_before (g.content start.disk) (g.content disk) before (alike.1, alike.0) told
+
+  -- what is so where the recovered content is told
+  since_told : (P : Type 0) → IfSome (g.content start.disk) (λ _. P) → IfSome (g.content disk) (λ _. P)
+  since_told P is = if_told (g.content disk) _ (λ before told. let there = later_told before told in at_told (λ (_ : List ℕ). P) there.0 there.1 is)
+
+  interrupted_here : failed → IsInterrupted g (meaning_of form blocks) (by_fours (g.moment start.disk)) start.now (done ++ cut) (length done) disk new.disk
+  interrupted_here stopped =
+      let cut_off = fours_least g form ⊥ failed done cut start between new (λ never. never) first second stopped blocks in
+      record {
+        count = cut_off.0.count;
+        no_less = cut_off.1;
+        fewer = cut_off.0.fewer;
+        images = cut_off.0.images;
+        stay = since_told _ cut_off.0.stay;
+        calls = since_told _ cut_off.0.calls;
+        at_most = since_told _ cut_off.0.at_most;
+      }
+
+  pub stands_through : StandsThrough g (meaning_of form blocks) failed start.now done cut disk new.disk
+  stands_through = record {
+    allowed = (all.by blocks).allowed;
+    since_sync = if_told (g.content disk) _ (λ before told.
+        let there = later_told before told in
+        let synced = at_told (λ (octets : List ℕ). IsSyncedFirst g disk start.disk (StandsAlike form blocks octets)) before told since_sync in
+        let made = at_told (λ (_ : List ℕ). _) there.0 there.1 (all.by blocks).since in
+        record {
+          later = omega (arith, synced.later, made.later);
+          each = λ image since. ⊎_elim
+              (λ past. none_yet before image told (synced.each image past))
+              (λ here. here)
+              (made.each (g.moment disk + 1) image synced.later since);
+        });
+    since_start = if_told (g.content disk) _ (λ before told.
+        let there = later_told before told in
+        joined g.moment g.images_since disk start.disk new.disk (MakesFirst (meaning_of form blocks) start.now (done ++ cut))
+        (weaker g.moment g.images_since disk start.disk (StandsAlike form blocks before) (MakesFirst (meaning_of form blocks) start.now (done ++ cut)) (λ image same. none_yet before image told same)
+        (at_told (λ (_ : List ℕ). _) before told since_start))
+        (at_told (λ (_ : List ℕ). _) there.0 there.1 (all.by blocks).since));
+    time = by_fours (g.moment start.disk);
+    after_sync = told_weaker (g.content disk) _ _ (λ before told synced. omega (arith, synced.later)) since_sync;
+    stay = λ fine. since_told _ ((all.by blocks).done fine).stay;
+    in_time = λ fine. since_told _ ((all.by blocks).done fine).calls;
+    all_done = λ fine. ((all.by blocks).done fine).images;
+    interrupted = interrupted_here;
+  }
+
+  pub takes_fours : TakesFours stands_through
+  unfolding stands_through
+  takes_fours = record {
+    time_is = λ count. omega arith;
+    calls = λ fine. told_weaker (g.content disk) _ _ (λ before told is. omega (arith, is)) (since_told _ (all.calls fine));
+  }
+
+-- ---- all calls of the disk of both
+
+module _ {D : Type 0} (g : Ghosts D) (on : (first second third : D) → g.lasts first second → g.lasts second third → g.lasts first third) (P failed : Type 0) (old mid new : D) (fine : ¬ P)
+    (first : Runs g P old mid) where
+  -- writes and syncs behind a recovery
+  pub runs_puts : Puts g failed mid new → Runs g failed old new
+  runs_puts second =
+      let same = first.faults.same fine in
+      record {
+        told = alike_on _ _ _ first.told second.told;
+        faults = record {
+          reads = omega (arith, same.0, second.reads);
+          writes = omega (arith, same.1, second.faults.no_less);
+          rose = λ stopped. inr (subst (λ (n : ℕ). Rose n (g.write_faults new)) same.1 (second.faults.rose stopped));
+          same = λ still. (second.reads ∙ same.0, second.faults.same still ∙ same.1);
+        };
+        stops = stops_on g on old mid new first.lasts same.0 same.1 second.stops;
+        lasts = on old mid new first.lasts second.lasts;
+      }
+
+  -- and with reads among them
+  pub runs_among : PutsAmongReads g failed mid new → PutsAmongReads g failed old new
+  runs_among second =
+      let same = first.faults.same fine in
+      record {
+        told = alike_on _ _ _ first.told second.told;
+        reads = omega (arith, same.0, second.reads);
+        faults = counts_on _ _ _ failed same.1 second.faults;
+        stops = record {
+          last = second.stops.last;
+          lasts = on old mid second.stops.last first.lasts second.stops.lasts;
+          writes = second.stops.writes ∙ same.1;
+          since = second.stops.since;
+        };
+        lasts = on old mid new first.lasts second.lasts;
+      }
+
+  -- no more reads that failed are told of than were counted
+  pub runs_missed : (missed : ℕ) → CountsSome (g.read_faults mid) (g.read_faults new) missed → CountsSome (g.read_faults old) (g.read_faults new) missed
+  runs_missed missed second = subst (λ (n : ℕ). CountsSome n (g.read_faults new) missed) (first.faults.same fine).0 second
