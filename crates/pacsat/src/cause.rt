@@ -89,7 +89,8 @@ fn tell_bad_store(rt: &HostRuntime, disk: &str, why: BadStore) {
     }
 }
 
-/// Tells of the files that the words name what the system refused to the shelf, while one was read where `read_alone` holds.
+/// Tells of the files that the words name what the system refused to the shelf: of `pfh-make`'s of the one that is read
+/// alone, where `read_alone` holds.
 fn tell_shelf(rt: &HostRuntime, words: &Words, read_alone: bool, error: Option<SystemError>) {
     let Ok(request) = read(rt.alloc(), words) else {
         return;
