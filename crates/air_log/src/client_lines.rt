@@ -31,7 +31,7 @@ pub(crate) fn show_got(job: &mut Transfer, packet: &Packet<'_>, moment: u32, lin
             return job.pass(octets.len(), moment, lines);
         }
         Packet::SelectResp(count) => {
-            let _ = write!(lines.line, "{count} files selected");
+            let _ = write!(lines.line, "{count} selected");
         }
         Packet::UlAckResp | Packet::UlErrorResp(12) => {
             let _ = write!(lines.line, "acknowledged {number}, ending the link");

@@ -27,8 +27,8 @@ impl<'a, A, O, C> Model for LoggedAir<'a, A, O, C> {
 }
 
 impl<'a, A, O, C> LoggedAir<'a, A, O, C> {
-    /// This air, which shows on `out` the lines of the watcher, if there is one, with the moments of `clock`. A terminal
-    /// is an output on which a line can be written over.
+    /// This air, which shows on `out` the lines of the watcher, if there is one, with the moments of `clock`. A
+    /// terminal is an output on which a line can be written over.
     pub fn new(
         air: A,
         watcher: Option<Watcher<'a>>,

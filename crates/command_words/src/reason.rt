@@ -31,7 +31,7 @@ pub fn refusal_text(alloc: Global, words: &Words) -> Option<String> {
 
 /// What is said where `clap` takes the words.
 const OUT_OF_RANGE: &str =
-    "a call is none (capitals, digits, SSID), a number is out of range, a name is too long, or a disk or air is missing";
+    "a call is none (capitals, digits, SSID), a number is out of range, a name is too long, or there is no disk or air";
 
 /// What `clap` reads the words of this command by.
 fn parser_of<'a>(

@@ -35,7 +35,8 @@ impl Ended {
             Status::AirRead | Status::AirWrite => tell_error(rt, at, air),
             Status::Disk => tell_error(rt, disk, self.disk),
             Status::BadStore(why) => tell_bad_store(rt, disk, why),
-            Status::NoSuch | Status::Shelf => tell_shelf(rt, words, self.shelf),
+            Status::NoSuch => tell_shelf(rt, words, true, self.shelf),
+            Status::Shelf => tell_shelf(rt, words, false, self.shelf),
             _ => {}
         }
     }
@@ -88,8 +89,9 @@ fn tell_bad_store(rt: &HostRuntime, disk: &str, why: BadStore) {
     }
 }
 
-/// Tells of the files that the words name what the system refused to the shelf.
-fn tell_shelf(rt: &HostRuntime, words: &Words, error: Option<SystemError>) {
+/// Tells of the files that the words name what the system refused to the shelf: of `pfh-make`'s of the one that is read
+/// alone, where `read_alone` holds.
+fn tell_shelf(rt: &HostRuntime, words: &Words, read_alone: bool, error: Option<SystemError>) {
     let Ok(request) = read(rt.alloc(), words) else {
         return;
     };
@@ -99,10 +101,12 @@ fn tell_shelf(rt: &HostRuntime, words: &Words, error: Option<SystemError>) {
         Request::Frames { name } | Request::PfhShow { name } | Request::PfhCheck { name } => {
             tell_error(rt, name, error);
         }
+        Request::PfhMake(make) if read_alone => tell_error(rt, make.body, error),
         Request::PfhMake(make) => {
             let (body, kept) = (make.body, make.kept);
-            let _ = eprint!(rt; "pacsat: from {body} to {kept}\n");
-            tell_error(rt, body, error);
+            if let Ok(both) = format!(in rt.alloc(); "{body} or {kept}") {
+                tell_error(rt, both.as_str(), error);
+            }
         }
         _ => {}
     }
