@@ -1,5 +1,5 @@
 -- What is carried out, from the asking to the answer.
-use Rattle.std.proofs.Common.{◌≡◌, ◌⊎◌, ℕ, ◌≤◌, List, [], ◌∷◌, ◌++◌, length, Bool, false, true, Option, Result, Ok, Err, refl, ap, sym, subst, ◌∙◌, inl, inr, suc, arith, append-nil}
+use Rattle.std.proofs.Common.{◌≡◌, ◌⊎◌, ℕ, List, [], ◌∷◌, ◌++◌, length, Bool, false, true, Option, Result, Ok, Err, refl, ap, sym, subst, ◌∙◌, inl, inr, suc, arith, append-nil}
 use Rattle.std.specs.Prelude.{None, IfOk, IsErrOf, OnOk, ⊤}
 use Rattle.px_base.specs.declared.air.Air.{Ghosts as AirGhosts}
 use Rattle.px_base.specs.declared.air.Turn.{Turn}
@@ -218,6 +218,7 @@ module _ {A C D : Type 0} (g : Ghosts D) (lasts : (disk : D) → g.lasts disk di
       where
         last : ButLast h.all.turns h.all.moments
         last = record { earlier = stopped.earlier; before = stopped.before; behind = stopped.behind; but_last = stopped.but_last; split = stopped.split; one_each = stopped.one_each }
+
         out : (whole : List ClientEvent) (those : List NodeEvent) (text : List ℕ) → those ≡ h.all.events → text ≡ h.text → StoppedAt g (record past { whole = whole; events = those; text = text }) how new
             → ((reached : Outcome) (done cut : List NotesCommand) → StopsBehind whole base events how reached h.text done cut
             → StopsBehind (before_last h.all.turns job stopped.least) base events how reached h.text done cut)
@@ -237,6 +238,7 @@ module _ {A C D : Type 0} (g : Ghosts D) (lasts : (disk : D) → g.lasts disk di
               came = λ un. s.came (unhalted un);
               same = s.same;
             }
+
         by : ((h.all.turns ≡ []) × (stopped.least ≡ []) × (stopped.first ≡ []) × (client_course g).halts (party_at from) stopped.more why h.unsaid stopped.last new)
             ⊎ ((then_is : AtDisk ClientStation D) × (client_course g).goes (party_at from) stopped.least stopped.first then_is × (client_course g).halts then_is stopped.more why h.unsaid stopped.last new)
             → Out (Err how)

@@ -9,7 +9,7 @@ use Rattle.ftl0_client.specs.ClientState.{ClientState}
 use Rattle.ftl0_client.specs.ClientStep.{ClientStep}
 use Rattle.ftl0_client.specs.declared.outcome.Outcome.{Outcome}
 use Rattle.ftl0_client.specs.Laws.{OneStepLaw}
-use Rattle.client_node.specs.Carrying.{StopsAt, StopsBehind, StopsOver, text_of}
+use Rattle.client_node.specs.Carrying.{StopsBehind, text_of}
 use Rattle.ftl0_client.specs.Going.{GoesOver}
 use Rattle.client_node.specs.Course.{CameToSome}
 use Rattle.client_node.specs.declared.stop.NodeStop.{NodeStop}

@@ -1,5 +1,5 @@
 -- Where there was no memory, nothing had become of the job: a link that is down brings no packets.
-use Rattle.std.proofs.Common.{◌≡◌, List, [], ◌∷◌, ◌++◌, false, refl, ap, sym, subst, ◌∙◌}
+use Rattle.std.proofs.Common.{◌≡◌, List, [], ◌∷◌, ◌++◌, refl, ap, sym, subst, ◌∙◌}
 use Rattle.std.specs.Prelude.{Option, None, Some}
 use Rattle.std.proofs.lemmas.Bool.{cond_both}
 use Rattle.disk_model.specs.declared.disk.Disk.{Ghosts}
@@ -7,9 +7,7 @@ use Rattle.ax25_frames.specs.FrameText.{FrameValue}
 use Rattle.ax25_link.specs.declared.state.Heard.{Heard}
 use Rattle.ax25_link.specs.declared.state.LinkState.TheVariants.{Down}
 use Rattle.ax25_link.specs.declared.state.Why.{Why}
-use Rattle.ax25_link.specs.Kept.{Kept}
 use Rattle.ax25_link.specs.Rows.{after_frame, heard_of}
-use Rattle.ax25_link.specs.Window.{Window}
 use Rattle.client_notes.specs.Notes.{Lists, is_same_call}
 use Rattle.client_notes.specs.State.{NotesState}
 use Rattle.ftl0_client.specs.Layout.{Item}
@@ -18,19 +16,16 @@ use Rattle.ftl0_client.specs.JobStop.{JobStop}
 use Rattle.ftl0_client.specs.Table.{JobState}
 use Rattle.ftl0_client.specs.Attempt.Attempted as attempted
 use Rattle.ftl0_client.specs.Attempt.Attempted.{Attempted}
-use Rattle.ftl0_client.specs.Attempt.AttemptState.{AttemptState, IsAttempt, StopsAmong}
+use Rattle.ftl0_client.specs.Attempt.AttemptState.{AttemptState, StopsAmong}
 use Rattle.ftl0_client.specs.Attempt.Hearing.{after_hearing, packets_heard, packets_told, with_end}
 use Rattle.ftl0_client.specs.Attempt.Laws.{IsToldDown}
 use Rattle.ftl0_client.specs.Attempt.Taking.{Happened, taking}
-use Rattle.ftl0_client.proofs.attempt.DownLemmas.{outcome-law, still-silent}
+use Rattle.ftl0_client.proofs.attempt.DownLemmas.{still-silent}
 use Rattle.ftl0_client.proofs.attempt.EndedLemmas.{taking-ended, told-job}
-use Rattle.ftl0_client.specs.Calls.{SameAttempt, SameButFrames, SameJob}
-use Rattle.ftl0_client.specs.Client.{Client, asking, attempt_for, client_hearing, client_ticking, refusal_frame}
-use Rattle.ftl0_client.specs.ClientState.{ClientState, IsAttemptOf, IsClient}
+use Rattle.ftl0_client.specs.Client.{Client, attempt_for}
 use Rattle.ftl0_client.specs.Laws.{IsToldDownOf}
 use Rattle.ftl0_client.specs.declared.outcome.Outcome.TheVariants as outcome
 use Rattle.ftl0_client.specs.Outcomes.{outcome_as, outcome_by}
-use Rattle.ftl0_client.proofs.OutcomeLemmas.{outcome-stays}
 
 -- there is something among what has an item in the midst
 pub no-split : {T : Type 0} (before : List T) (item : T) (behind : List T) → [] ≡ before ++ item ∷ behind → ⊥

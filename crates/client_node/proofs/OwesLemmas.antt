@@ -64,8 +64,10 @@ module _ (whole : List ClientEvent) (base : Client) (events : List ClientEvent) 
     where
       noted : List NotesCommand
       noted = (happening now event).noted
+
       more : events ++ event ∷ [] ≡ whole ++ (between ++ event ∷ [])
       more = ap (λ (es : List ClientEvent). es ++ event ∷ []) in_order ∙ append_assoc whole between (event ∷ [])
+
       step : (rest : List FrameValue) (last : Client) → Empties (happening now event).after rest last → ClientStep now event (happening now event).noted rest last
       step rest last sent = record { silent = silent; noted_is = refl; sent = sent }
 

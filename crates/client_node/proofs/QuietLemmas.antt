@@ -1,18 +1,15 @@
 -- What a client that has nothing to send is, and what it tells whatever of its frames was given out.
-use Rattle.std.proofs.Common.{◌≡◌, ℕ, ◌-◌, List, [], ◌∷◌, length, drop, Bool, true, false, not, Option, None, Some}
-use Rattle.std.proofs.Common.{refl, sym, ◌∙◌, ap, subst, length-drop}
+use Rattle.std.proofs.Common.{◌≡◌, List, [], ◌∷◌, Bool, true, false, not, Option, None, Some}
+use Rattle.std.proofs.Common.{refl, sym, ◌∙◌, ap, subst}
 use Rattle.std.proofs.lemmas.Option.{same_Some}
-use Rattle.std.specs.Prelude.{nat_lt, if◌then◌else◌, ◌||◌, ◌&&◌}
+use Rattle.std.specs.Prelude.{◌||◌, ◌&&◌}
 use Rattle.disk_model.specs.declared.disk.Disk.{Ghosts}
 use Rattle.ax25_frames.specs.FrameText.{FrameValue}
-use Rattle.ax25_link.specs.Ends.{Farewell, LinkEnd, Reply}
-use Rattle.ax25_link.specs.Kept.{Kept, StandsFor, has_new_in, is_pending, is_there, kept_of}
-use Rattle.ax25_link.specs.Sending.{Sending, has_new, is_empty, last_sending, later_sending, next_sending}
-use Rattle.ax25_link.specs.Sending.{sending_after, sends_again, sends_new}
-use Rattle.ax25_link.specs.Timer.{is_down, is_up}
+use Rattle.ax25_link.specs.Kept.{Kept, is_pending, is_there}
+use Rattle.ax25_link.specs.Sending.{Sending, next_sending}
+use Rattle.ax25_link.specs.Timer.{is_down}
 use Rattle.ax25_link.specs.Window.{Window}
 use Rattle.client_notes.specs.Notes.{Lists}
-use Rattle.client_notes.specs.State.{NotesState, StandsOn}
 use Rattle.ftl0_client.specs.JobState.{NotesGoWith}
 use Rattle.ftl0_client.specs.Table.{JobState, listing_of}
 use Rattle.ftl0_client.specs.Attempt.Attempted as attempted
@@ -20,12 +17,11 @@ use Rattle.ftl0_client.specs.Attempt.Attempted.{Attempted}
 use Rattle.ftl0_client.specs.Attempt.AttemptState.{AttemptState}
 use Rattle.ax25_link.specs.declared.state.Why.{Why}
 use Rattle.ftl0_client.specs.Calls.{SameAttempt, SameButFrames}
-use Rattle.ftl0_client.specs.Client.{Client, ClientSends, IsSilent, Refused, sends_by, sends_of_attempt, sends_of_link}
+use Rattle.ftl0_client.specs.Client.{Client, ClientSends, Refused, sends_by, sends_of_attempt, sends_of_link}
 use Rattle.ftl0_client.specs.ClientState.{ClientState, GoWithAttempt, IsAttemptOf, IsClient, MayHear, attempt_closed}
 use Rattle.ftl0_client.specs.ClientState.{attempt_pending, client_closed, client_pending, listing_in, outcome_in}
 use Rattle.ftl0_client.specs.ClientStep.{Empties}
 use Rattle.ftl0_client.proofs.KeptLemmas.{may-kept}
-use Rattle.ftl0_client.specs.Laws.{IsToldDownOf}
 use Rattle.ftl0_client.specs.Outcomes.{outcome_as, outcome_by}
 use Rattle.ftl0_client.specs.Going.{is_over, is_over_at}
 use Rattle.client_node.specs.Came.{TellsOf, listing_by}

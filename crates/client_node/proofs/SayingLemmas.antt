@@ -108,6 +108,7 @@ module _ {D : Type 0} (g : Ghosts D) (lasts : (disk : D) → g.lasts disk disk) 
         λ past came. subst (λ (p : Past D). CameOf g p (at new disk)) (further-said past events said (kiss_text octets)) (given-more (further past events said) (h.2 past came)),
       )
       more start events (Some why) said h = absurd (true≢false (sym h.0 ∙ awake))
+
       unsaid : (start : AtDisk ClientStation D) (events : List NodeEvent) (why : Option Halt) (said front : List ℕ) → IsFront front (kiss_text octets) → OwesBy g start events why said (at old disk)
           → HaltsBy g start events (stop_at_put why) true (said ++ front) (at new disk)
       unsaid start events None said front part h = (

@@ -1,5 +1,5 @@
 -- A frame at which the client halts.
-use Rattle.std.proofs.Common.{◌≡◌, ℕ, List, [], ◌∷◌, ◌++◌, length, take, Option, Err, refl, ap, sym, ◌∙◌, subst, append_assoc, append-nil, arith, take-append-drop, drop}
+use Rattle.std.proofs.Common.{◌≡◌, ℕ, List, [], ◌∷◌, ◌++◌, length, take, Option, Err, refl, ap, sym, ◌∙◌, subst, append_assoc, arith, take-append-drop, drop}
 use Rattle.std.specs.Prelude.{None, Some, IsErrOf, ⊤}
 use Rattle.disk_model.specs.declared.disk.Disk.{Ghosts}
 use Rattle.ax25_frames.specs.FrameText.{FrameValue}
@@ -21,13 +21,13 @@ use Rattle.ftl0_client.specs.Attempt.Hearing.{after_hearing, packets_heard}
 use Rattle.ftl0_client.specs.Attempt.Taking.{taking}
 use Rattle.ftl0_client.proofs.attempt.TakingLemmas.{noted-front}
 use Rattle.ftl0_client.specs.Calls.{SameClient, StopsBy}
-use Rattle.ftl0_client.specs.Client.{Client, ClientEvent, attempt_for, client_hearing, hearing_by, hears}
+use Rattle.ftl0_client.specs.Client.{Client, attempt_for, client_hearing, hearing_by, hears}
 use Rattle.ftl0_client.specs.Going.{GoesLaw}
 use Rattle.ftl0_client.specs.Laws.{IsToldDownOf}
 use Rattle.ftl0_client.specs.declared.outcome.Outcome.TheVariants as outcome
 use Rattle.client_node.specs.Carried.{CutsOff}
 use Rattle.client_node.specs.Carrying.{StopsAt}
-use Rattle.client_node.specs.Course.{CameOf, IsFit, OwesBy, Past, StoppedAt, all_events, further}
+use Rattle.client_node.specs.Course.{CameOf, IsFit, Past, StoppedAt, all_events, further}
 use Rattle.client_node.specs.Stops.{halt_of_job, stop_of_node}
 use Rattle.client_node.specs.declared.station.ClientStation.{ClientStation}
 use Rattle.client_node.specs.declared.stop.NodeStop.{NodeStop}
