@@ -1,5 +1,6 @@
 mod CarriedLemmas
 mod CourseLemmas
+mod CutLemmas
 pub mod GoesLemmas
 mod MemoryLemmas
 mod OwesLemmas

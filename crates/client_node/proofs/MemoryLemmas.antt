@@ -1,5 +1,5 @@
 -- Where there was no memory, nothing had become of the job: a link that is down brings no packets.
-use Rattle.std.proofs.Common.{◌≡◌, List, [], ◌∷◌, ◌++◌, false, refl, ap, sym, subst, ◌∙◌}
+use Rattle.std.proofs.Common.{◌≡◌, List, [], ◌∷◌, ◌++◌, refl, ap, sym, subst, ◌∙◌}
 use Rattle.std.specs.Prelude.{Option, None, Some}
 use Rattle.std.proofs.lemmas.Bool.{cond_both}
 use Rattle.disk_model.specs.declared.disk.Disk.{Ghosts}
@@ -7,9 +7,7 @@ use Rattle.ax25_frames.specs.FrameText.{FrameValue}
 use Rattle.ax25_link.specs.declared.state.Heard.{Heard}
 use Rattle.ax25_link.specs.declared.state.LinkState.TheVariants.{Down}
 use Rattle.ax25_link.specs.declared.state.Why.{Why}
-use Rattle.ax25_link.specs.Kept.{Kept}
 use Rattle.ax25_link.specs.Rows.{after_frame, heard_of}
-use Rattle.ax25_link.specs.Window.{Window}
 use Rattle.client_notes.specs.Notes.{Lists, is_same_call}
 use Rattle.client_notes.specs.State.{NotesState}
 use Rattle.ftl0_client.specs.Layout.{Item}
@@ -18,59 +16,21 @@ use Rattle.ftl0_client.specs.JobStop.{JobStop}
 use Rattle.ftl0_client.specs.Table.{JobState}
 use Rattle.ftl0_client.specs.Attempt.Attempted as attempted
 use Rattle.ftl0_client.specs.Attempt.Attempted.{Attempted}
-use Rattle.ftl0_client.specs.Attempt.AttemptState.{AttemptState, IsAttempt, StopsAmong}
+use Rattle.ftl0_client.specs.Attempt.AttemptState.{AttemptState, StopsAmong}
 use Rattle.ftl0_client.specs.Attempt.Hearing.{after_hearing, packets_heard, packets_told, with_end}
 use Rattle.ftl0_client.specs.Attempt.Laws.{IsToldDown}
 use Rattle.ftl0_client.specs.Attempt.Taking.{Happened, taking}
-use Rattle.ftl0_client.proofs.attempt.DownLemmas.{outcome-law, still-silent}
+use Rattle.ftl0_client.proofs.attempt.DownLemmas.{still-silent}
 use Rattle.ftl0_client.proofs.attempt.EndedLemmas.{taking-ended, told-job}
-use Rattle.ftl0_client.specs.Calls.{SameAttempt, SameButFrames, SameJob}
-use Rattle.ftl0_client.specs.Client.{Client, asking, attempt_for, client_hearing, client_ticking, refusal_frame}
-use Rattle.ftl0_client.specs.ClientState.{ClientState, IsAttemptOf, IsClient}
+use Rattle.ftl0_client.specs.Client.{Client, attempt_for}
 use Rattle.ftl0_client.specs.Laws.{IsToldDownOf}
 use Rattle.ftl0_client.specs.declared.outcome.Outcome.TheVariants as outcome
 use Rattle.ftl0_client.specs.Outcomes.{outcome_as, outcome_by}
-use Rattle.ftl0_client.proofs.OutcomeLemmas.{outcome-stays}
 
 -- there is something among what has an item in the midst
 pub no-split : {T : Type 0} (before : List T) (item : T) (behind : List T) → [] ≡ before ++ item ∷ behind → ⊥
 no-split [] item behind h = absurd (cc h)
 no-split (x ∷ before) item behind h = absurd (cc h)
-
--- ---- the end of a link that went down before an outcome is down
-
--- once a job was asked
-pub told-asked : (client : Client) (job : JobState) → IsToldDownOf (asking client job).attempt
-told-asked client job = λ why is. absurd (cc is)
-
--- after a frame
-pub told-heard : (client : Client) (frame : FrameValue) → IsToldDownOf client.attempt → IsToldDownOf (client_hearing client frame).after.attempt
-told-heard client frame told = (outcome-stays outcome-law client frame told).0.down
-
--- after a tick
-pub told-ticked : (client : Client) → IsToldDownOf client.attempt → IsToldDownOf (client_ticking client).attempt
-told-ticked client told = (outcome-stays outcome-law client (refusal_frame client.me (record { to = client.server; final = false })) told).1.down
-
-told-link : (v w : Window) (mid new : AttemptState) (a b : Attempted) → IsAttempt v mid a → IsAttempt w new b → SameJob mid new → IsToldDown a → IsToldDown b
-told-link v w mid new a b mid_is new_is same told why is =
-    let down : a.down ≡ Some why = sym mid_is.down ∙ sym same.down ∙ new_is.down ∙ is in
-    let before : mid.link.state ≡ a.end.state = ap (λ (k : Kept). k.state) mid_is.link.kept in
-    let now : new.link.state ≡ b.end.state = ap (λ (k : Kept). k.state) new_is.link.kept in
-    sym now ∙ same.state ∙ before ∙ told why down
-
-told-attempt : (v w : Window) (mid new : Option AttemptState) (a b : Option Attempted) → IsAttemptOf v mid a → IsAttemptOf w new b → SameAttempt mid new → IsToldDownOf a → IsToldDownOf b
-told-attempt v w mid new a None mid_is new_is same told = tt
-told-attempt v w mid None a (Some b) mid_is new_is same told = absurd new_is
-told-attempt v w None (Some new) a (Some b) mid_is new_is same told = absurd same
-told-attempt v w (Some mid) (Some new) None (Some b) mid_is new_is same told = absurd mid_is
-told-attempt v w (Some mid) (Some new) (Some a) (Some b) mid_is new_is same told = told-link v w mid new a b mid_is new_is same told
-
--- giving out frames changes none of it
-pub told-sent : (mid new : ClientState) (client last : Client) → IsClient mid client → IsClient new last → SameButFrames mid new → IsToldDownOf client.attempt → IsToldDownOf last.attempt
-told-sent mid new client last mid_is new_is same told =
-    told-attempt client.window last.window mid.attempt new.attempt client.attempt last.attempt mid_is.attempt new_is.attempt same.attempt told
-
--- ---- a stop at a packet
 
 module _ (client : Client) (frame : FrameValue) (told : IsToldDownOf client.attempt) (a : Attempted) (hears_it : attempt_for client frame ≡ Some a) where
   -- the attempt before packets are taken

@@ -1,5 +1,5 @@
 -- What the outcome that is answered promises.
-use Rattle.std.proofs.Common.{◌≡◌, ℕ, List, [], ◌∷◌, ◌++◌, Option, Result, Ok, Err, refl, append-nil, ap, sym, subst, ◌∙◌}
+use Rattle.std.proofs.Common.{◌≡◌, ◌⊎◌, inl, inr, ℕ, List, [], ◌∷◌, ◌++◌, Option, Result, Ok, Err, refl, append-nil, ap, sym, subst, ◌∙◌}
 use Rattle.std.specs.List.{AllByRecursion}
 use Rattle.std.specs.Prelude.{◌≢◌, true, IfOk, IsErrOf, ⊤, map}
 use Rattle.ax25_frames.specs.FrameText.{FrameValue}
@@ -25,6 +25,16 @@ use Rattle.client_node.specs.declared.stop.NodeStop.TheVariants as stop
 -- nothing halted the client
 abbrev pub IsUnhalted : Result ⊤ NodeStop → Type 0
 IsUnhalted ended = (¬ IsErrOf ended stop.Disk) × (¬ IsErrOf ended stop.OutOfMemory)
+
+-- nothing halted it, or the answer is why it stopped
+pub unhalted : (ended : Result ⊤ NodeStop) → IsUnhalted ended ⊎ ((why : NodeStop) × ((o : Outcome) → answer_of ended o ≡ Err why))
+unhalted (Ok closed) = inl (λ e. cc e, λ e. cc e)
+unhalted (Err stop.AirRead) = inl (λ e. cc e, λ e. cc e)
+unhalted (Err stop.AirWrite) = inl (λ e. cc e, λ e. cc e)
+unhalted (Err stop.Ended) = inl (λ e. cc e, λ e. cc e)
+unhalted (Err stop.Spent) = inl (λ e. cc e, λ e. cc e)
+unhalted (Err stop.Disk) = inr (stop.Disk, λ o. refl)
+unhalted (Err stop.OutOfMemory) = inr (stop.OutOfMemory, λ o. refl)
 
 -- what a node hears and counts asks nothing
 pub nothing-asked : (events : List NodeEvent) → AllByRecursion AsksNothing (map event_of events)

@@ -1,18 +1,15 @@
 -- What a client that has nothing to send is, and what it tells whatever of its frames was given out.
-use Rattle.std.proofs.Common.{◌≡◌, ℕ, ◌-◌, List, [], ◌∷◌, length, drop, Bool, true, false, not, Option, None, Some}
-use Rattle.std.proofs.Common.{refl, sym, ◌∙◌, ap, subst, length-drop}
+use Rattle.std.proofs.Common.{◌≡◌, List, [], ◌∷◌, Bool, true, false, not, Option, None, Some}
+use Rattle.std.proofs.Common.{refl, sym, ◌∙◌, ap, subst}
 use Rattle.std.proofs.lemmas.Option.{same_Some}
-use Rattle.std.specs.Prelude.{nat_lt, if◌then◌else◌, ◌||◌, ◌&&◌}
+use Rattle.std.specs.Prelude.{◌||◌, ◌&&◌}
 use Rattle.disk_model.specs.declared.disk.Disk.{Ghosts}
 use Rattle.ax25_frames.specs.FrameText.{FrameValue}
-use Rattle.ax25_link.specs.Ends.{Farewell, LinkEnd, Reply}
-use Rattle.ax25_link.specs.Kept.{Kept, StandsFor, has_new_in, is_pending, is_there, kept_of}
-use Rattle.ax25_link.specs.Sending.{Sending, has_new, is_empty, last_sending, later_sending, next_sending}
-use Rattle.ax25_link.specs.Sending.{sending_after, sends_again, sends_new}
-use Rattle.ax25_link.specs.Timer.{is_down, is_up}
+use Rattle.ax25_link.specs.Kept.{Kept, is_pending, is_there}
+use Rattle.ax25_link.specs.Sending.{Sending, next_sending}
+use Rattle.ax25_link.specs.Timer.{is_down}
 use Rattle.ax25_link.specs.Window.{Window}
 use Rattle.client_notes.specs.Notes.{Lists}
-use Rattle.client_notes.specs.State.{NotesState, StandsOn}
 use Rattle.ftl0_client.specs.JobState.{NotesGoWith}
 use Rattle.ftl0_client.specs.Table.{JobState, listing_of}
 use Rattle.ftl0_client.specs.Attempt.Attempted as attempted
@@ -20,71 +17,21 @@ use Rattle.ftl0_client.specs.Attempt.Attempted.{Attempted}
 use Rattle.ftl0_client.specs.Attempt.AttemptState.{AttemptState}
 use Rattle.ax25_link.specs.declared.state.Why.{Why}
 use Rattle.ftl0_client.specs.Calls.{SameAttempt, SameButFrames}
-use Rattle.ftl0_client.specs.Client.{Client, ClientSends, IsSilent, Refused, sends_by, sends_of_attempt, sends_of_link}
+use Rattle.ftl0_client.specs.Client.{Client, ClientSends, Refused, sends_by, sends_of_attempt, sends_of_link}
 use Rattle.ftl0_client.specs.ClientState.{ClientState, GoWithAttempt, IsAttemptOf, IsClient, MayHear, attempt_closed}
 use Rattle.ftl0_client.specs.ClientState.{attempt_pending, client_closed, client_pending, listing_in, outcome_in}
 use Rattle.ftl0_client.specs.ClientStep.{Empties}
-use Rattle.ftl0_client.specs.Laws.{IsToldDownOf}
+use Rattle.ftl0_client.proofs.KeptLemmas.{may-kept}
 use Rattle.ftl0_client.specs.Outcomes.{outcome_as, outcome_by}
 use Rattle.ftl0_client.specs.Going.{is_over, is_over_at}
 use Rattle.client_node.specs.Came.{TellsOf, listing_by}
 
--- ---- a link with nothing pending sends nothing
-
-pub true_no : {X : Type 0} → true ≡ false → X
+true_no : {X : Type 0} → true ≡ false → X
 true_no same = absurd (let x : ⊥ = cc same in x)
-
-later-none : (w : Window) (end : LinkEnd) (again new : Bool) (farewell : Option Farewell) → again ≡ false → new ≡ false → is_there farewell ≡ false
-    → (if again then Some (sends_again w end) else if new then Some (sends_new w end) else last_sending end farewell) ≡ None
-later-none w end true new farewell a n f = true_no a
-later-none w end false true farewell a n f = true_no n
-later-none w end false false None a n f = refl
-later-none w end false false (Some x) a n f = true_no f
-
-after-none : (w : Window) (end : LinkEnd) (reply : Option Reply) → is_there reply ≡ false → later_sending w end ≡ None → sending_after w end reply ≡ None
-after-none w end None none later = later
-after-none w end (Some reply) none later = true_no none
-
-none_of : (a b c d : Bool) → (a || b || c || d) ≡ false → (a ≡ false) × (b ≡ false) × (c ≡ false) × (d ≡ false)
-none_of true b c d h = true_no h
-none_of false true c d h = true_no h
-none_of false false true d h = true_no h
-none_of false false false true h = true_no h
-none_of false false false false h = (refl, refl, refl, refl)
-
-quiet-end : (w : Window) (end : LinkEnd) → is_pending (kept_of w end) ≡ false → next_sending w end ≡ None
-quiet-end w end none =
-    let parts = none_of (is_there end.reply) (nat_lt 0 end.again) (has_new_in (kept_of w end)) (is_there end.farewell) none in
-    let size : length (drop end.acked end.sent) ≡ length end.sent - end.acked = length-drop end.acked end.sent in
-    let new : has_new w end ≡ false =
-    ap (λ (n : ℕ). is_up end.state && nat_lt n w.size && not end.busy && not (is_empty end.queued)) (sym size) ∙ parts.2 in
-    after-none w end end.reply parts.0 (later-none w end (nat_lt 0 end.again) (has_new w end) end.farewell parts.1 new parts.3)
-
-quiet-link : (w : Window) (link : Kept) (end : LinkEnd) → StandsFor w link end → is_pending link ≡ false → next_sending w end ≡ None
-quiet-link w link end stands none = quiet-end w end (ap (λ (x : Kept). is_pending x) (sym stands.kept) ∙ none)
-
--- ---- a client with nothing pending
 
 neither : (a b : Bool) → (a || b) ≡ false → (a ≡ false) × (b ≡ false)
 neither true b h = true_no h
 neither false b h = (refl, h)
-
-stray-none : (o : Option Refused) → is_there o ≡ false → o ≡ None
-stray-none None h = refl
-stray-none (Some refused) h = true_no h
-
-module _ (client : Client) where
-  attempt-silent : (attempt : Option AttemptState) (o : Option Attempted) → IsAttemptOf client.window attempt o → attempt_pending attempt ≡ false → sends_of_attempt client o ≡ None
-  attempt-silent None None is quiet = refl
-  attempt-silent None (Some a) is quiet = absurd is
-  attempt-silent (Some attempt) None is quiet = absurd is
-  attempt-silent (Some attempt) (Some a) is quiet = ap (λ (o : Option Sending). sends_of_link client a o) (quiet-link client.window attempt.link a.end is.link quiet)
-
-  pub silent : (self : ClientState) → IsClient self client → client_pending self ≡ false → IsSilent client
-  silent self is quiet =
-      let parts = neither (is_there self.stray) (attempt_pending self.attempt) quiet in
-      let none : client.stray ≡ None = sym is.stray ∙ stray-none self.stray parts.0 in
-      subst (λ (o : Option Refused). sends_by client o ≡ None) (sym none) (attempt-silent self.attempt client.attempt is.attempt parts.1)
 
 -- ---- it is closed exactly where it is over
 
@@ -174,10 +121,4 @@ goes-still lists (Some old) None same goes = absurd same
 goes-still lists (Some old) (Some new) same goes = subst (λ (j : JobState). NotesGoWith lists j) (sym same.job) goes
 
 pub may-still : {D : Type 0} (g : Ghosts D) (old new : ClientState) (disk : D) → SameButFrames old new → MayHear g old disk → MayHear g new disk
-may-still g old new disk same may =
-    let back = sym same.notes in
-    record {
-      healthy = ap (λ (n : NotesState). n.journal.failed) same.notes ∙ may.healthy;
-      stands_on = subst (λ (n : NotesState). StandsOn g n disk) back may.stands_on;
-      notes_are = goes-still new.notes.lists old.attempt new.attempt same.attempt (subst (λ (n : NotesState). GoWithAttempt n.lists old.attempt) back may.notes_are);
-    }
+may-still g old new disk same may = may-kept g old new disk (record { same = same.same; notes = same.notes; go_with = λ lists. goes-still lists old.attempt new.attempt same.attempt }) may

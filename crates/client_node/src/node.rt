@@ -10,7 +10,7 @@ ghost use Rattle.client_node.specs.Carried.{Became, CarriesOut, MayCarryOut, ans
 ghost use Rattle.client_node.specs.Stops.{ended_as};
 
 use crate::NodeStop;
-use crate::station::ClientStation;
+use crate::station::{ClientStation, sends_nothing};
 use disk_model::Disk;
 use ftl0_client::laws::{goes_law, one_step_law};
 use ftl0_client::{Client, Job, Outcome};
@@ -65,6 +65,7 @@ pub fn carry_out<D: Disk, A: Air, C: Clock>(
     one_step_law();
     goes_law();
     let mut client = client;
+    sends_nothing(&mut client);
     match client.ask(alloc, job) {
         Ok(()) => {}
         Err(_refused) => return (client, Err(NodeStop::OutOfMemory)),

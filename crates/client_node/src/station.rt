@@ -1,13 +1,14 @@
 //! A client as a station.
 
-ghost use Rattle.std.specs.Prelude.{◌≡◌};
-ghost use Rattle.client_node.specs.Course.{client_course};
+ghost use Rattle.std.specs.Prelude.{◌≡◌, false};
+ghost use Rattle.ftl0_client.specs.ClientState.{client_pending};
+ghost use Rattle.client_node.specs.Course.{IsQuiet, client_course};
 ghost use Rattle.client_node.specs.Stops.{halt_of_job};
 
 use arrayvec::ArrayVec;
 use ax25_frames::Frame;
 use disk_model::Disk;
-use ftl0_client::laws::empties_law;
+use ftl0_client::laws::{empties_law, goes_law};
 use ftl0_client::{Client, JobStop};
 use node::{Halt, Station};
 
@@ -26,6 +27,8 @@ impl<D: Disk> Station<D> for ClientStation {
     ghost course = { client_course D.Disk };
 
     fn hear(&mut self, disk: &mut D, frame: &Frame<'_>, _moment: u32) -> Result<(), Halt> {
+        // What it came to before this frame.
+        goes_law();
         match self.client.hear(disk, frame) {
             Ok(()) => Ok(()),
             Err(stop) => {
@@ -54,6 +57,16 @@ impl<D: Disk> Station<D> for ClientStation {
     }
 
     fn is_lawful() {}
+}
+
+/// Nothing is pending, so whichever client it stands for has nothing to send. The client stays as it is.
+pub(crate) fn sends_nothing(client: &mut Client)
+    requires { client_pending client.old ≡ false }
+    ensures quiet { IsQuiet client.old }
+    ensures same { client.new ≡ client.old }
+{
+    let mut frame = ArrayVec::new();
+    let _given = client.next_out(&mut frame);
 }
 
 /// How a stop of the client halts its station.

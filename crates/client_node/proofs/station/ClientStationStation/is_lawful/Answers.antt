@@ -3,4 +3,4 @@ use Rattle.client_node.proofs.CourseLemmas.{lawful}
 use Rattle.client_node.proofs.station.ClientStationStation.is_lawful.Goals as goal
 
 pub returns : goal.returns
-returns g c = lawful g.D.Disk g.met.D.Disk.lasts_same g.met.D.Disk.lasts_on
+returns g c = lawful g.D.Disk

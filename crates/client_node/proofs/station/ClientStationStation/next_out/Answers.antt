@@ -4,15 +4,14 @@ use Rattle.node.specs.Course.{GaveAll, at}
 use Rattle.ftl0_client.specs.ClientState.{ClientState}
 use Rattle.client_node.specs.Course.{client_course}
 use Rattle.client_node.specs.declared.station.ClientStation.{ClientStation}
-use Rattle.client_node.proofs.SayingLemmas.{gave-all, gives-next}
+use Rattle.client_node.proofs.SayingLemmas.{gave-all, gives-next, hands-none}
 use Rattle.client_node.proofs.station.ClientStationStation.next_out.Goals as goal
 
 pub returns-clause-next : goal.returns-clause-next
 returns-clause-next g c is =
     let out = c.next_out-given in
     let new : ClientStation = record { client = out.new.self; halted = c.args.self.now.halted } in
-    gives-next g.D.Disk g.met.D.Disk.lasts_same g.met.D.Disk.lasts_on c.args.self.now c.args._disk.now c.if-self.false new c.if-self.false out.ensures.same _ out.new.out.items out.result is
-    out.ensures.next c.empties_law.ensures
+    gives-next g.D.Disk g.met.D.Disk.lasts_same c.args.self.now new c.args._disk.now c.if-self.false c.if-self.false out.ensures.same _ out.new.out.items out.result is out.ensures.next c.empties_law.ensures
 
 pub returns-clause-all : goal.returns-clause-all
 returns-clause-all g c is =
@@ -20,4 +19,4 @@ returns-clause-all g c is =
     let disk = c.args._disk.now in
     let out = c.next_out-given in
     subst (λ (client : ClientState). GaveAll (client_course g.D.Disk) (at old disk) (at (record { client = client; halted = old.halted }) disk)) (sym (out.ensures.none is).0)
-    (gave-all g.D.Disk g.met.D.Disk.lasts_same g.met.D.Disk.lasts_on old disk c.if-self.false (sym out.ensures.pending ∙ is))
+    (gave-all g.D.Disk old disk c.if-self.false (record { quiet = sym out.ensures.pending ∙ is; silent = hands-none old.client out.new.self _ _ out.result out.ensures.next is }))

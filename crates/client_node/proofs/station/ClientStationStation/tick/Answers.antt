@@ -3,8 +3,8 @@ use Rattle.node.specs.Course.{at}
 use Rattle.node.specs.Events.{ticks}
 use Rattle.ftl0_client.proofs.KeptLemmas.{may-kept}
 use Rattle.client_node.specs.declared.station.ClientStation.{ClientStation}
-use Rattle.client_node.proofs.CourseLemmas.{does-nothing, event-taken}
-use Rattle.client_node.proofs.MemoryLemmas.{told-ticked}
+use Rattle.client_node.proofs.CourseLemmas.{event-taken}
+use Rattle.client_node.proofs.CutLemmas.{does-nothing}
 use Rattle.client_node.proofs.station.ClientStationStation.tick.Goals as goal
 
 pub returns-clause-takes : goal.returns-clause-takes
@@ -14,10 +14,5 @@ returns-clause-takes g c =
     let disk = c.args._disk.now in
     let may = c.requires.may in
     let keeps = c.tick.ensures.keeps in
-    event-taken g.D.Disk g.met.D.Disk.lasts_same g.met.D.Disk.lasts_on (at old disk) (at new disk) c.requires (ticks c.args._moment) c.requires.awake
-    (may-kept g.D.Disk old.client new.client disk keeps may) keeps.same
-    (λ client settled. (
-      c.tick.ensures.ticks client settled.is,
-      told-ticked client settled.told_down,
-      does-nothing g.D.Disk g.met.D.Disk.lasts_same old.client new.client disk keeps.notes may.stands_on may.healthy,
-    ))
+    event-taken g.D.Disk g.met.D.Disk.lasts_on (at old disk) (at new disk) c.requires (ticks c.args._moment) c.requires.awake (may-kept g.D.Disk old.client new.client disk keeps may) keeps.same
+    (λ client is. (c.tick.ensures.ticks client is, does-nothing g.D.Disk g.met.D.Disk.lasts_same old.client.notes new.client.notes disk keeps.notes may.stands_on may.healthy))
