@@ -4,10 +4,12 @@ use Rattle.std.proofs.Common.{arith}
 use Rattle.std.specs.List.{AllByRecursion}
 use Rattle.px_base.specs.declared.air.Turn.{Turn}
 use Rattle.px_base.specs.Polling.{octets_heard, octets_of_turn}
-use Rattle.ftl0_packets.specs.Laws.{IsOneStream}
+use Rattle.ftl0_packets.specs.Laws.{IsReadAsStream}
 use Rattle.px_base.specs.Octets.{IsOctets}
 use Rattle.ftl0_packets.specs.Layout.{Item}
+use Rattle.ftl0_packets.specs.Reading.{packets_of, rest_of}
 use Rattle.ftl0_packets.specs.Stream.{IsPartial, Stream}
+use Rattle.ftl0_packets.proofs.OctetLemmas.{IsOctets-nil}
 use Rattle.ftl0_session.specs.Uploads.Events.{Brings, Event, at_moment, packets_in}
 use Rattle.session_node.proofs.OctetLemmas.{octets_back}
 
@@ -15,6 +17,11 @@ use Rattle.session_node.proofs.OctetLemmas.{octets_back}
 pub stream-partial : (octets : List ℕ) (items : List Item) (rest : List ℕ) → Stream octets items rest → IsPartial rest
 stream-partial octets [] rest h = h.1
 stream-partial octets (item ∷ items) rest h = stream-partial h.1 items rest h.4
+
+-- no octets are less than a whole packet
+pub nothing_partial : IsReadAsStream → IsPartial []
+unfolding rest_of
+nothing_partial law = stream-partial [] (packets_of []) (rest_of []) (law [] IsOctets-nil)
 
 -- and of octets it is octets
 pub stream-octets : (octets : List ℕ) (items : List Item) (rest : List ℕ) → Stream octets items rest → IsOctets octets → IsOctets rest
@@ -24,7 +31,7 @@ stream-octets octets (item ∷ items) rest h all =
     stream-octets h.1 items rest h.4 (octets_back h.0 h.1 (subst P h.3 all))
 
 -- the stream of octets, and of what is left of them with others after it, is the stream of all
-stream-append : (octets others : List ℕ) (items : List Item) (left : List ℕ) (more : List Item) (rest : List ℕ) → Stream octets items left → Stream (left ++ others) more rest → Stream (octets ++ others) (items ++ more) rest
+pub stream-append : (octets others : List ℕ) (items : List Item) (left : List ℕ) (more : List Item) (rest : List ℕ) → Stream octets items left → Stream (left ++ others) more rest → Stream (octets ++ others) (items ++ more) rest
 stream-append octets others [] left more rest h k =
     let P : List ℕ → Type 0 = λ o. Stream (o ++ others) more rest in subst P (sym h.0) k
 stream-append octets others (item ∷ items) left more rest h k = (
@@ -57,39 +64,11 @@ brings-more waiting [] moments more events rest h = h
 brings-more waiting (t ∷ turns) [] more events rest h = absurd h
 brings-more waiting (t ∷ turns) (m ∷ moments) more events rest h = (h.0, h.1, h.2, h.3, h.4, brings-more h.1 turns moments more h.2 rest h.5)
 
--- one turn more
-pub brings-turn : (waiting : List ℕ) (turns : List Turn) (moments : List ℕ) (events : List Event) (left : List ℕ) (next : Turn) (moment : ℕ) (items : List Item) (rest : List ℕ) → length moments ≡ length turns → Brings waiting turns moments events left → Stream (left ++ octets_of_turn next) items rest → Brings waiting (turns ++ next ∷ []) (moments ++ moment ∷ []) (events ++ at_moment moment items) rest
-brings-turn waiting [] [] events left next moment items rest same h stream =
-    let P : List ℕ → Type 0 = λ o. Stream (o ++ octets_of_turn next) items rest in
-    (items, rest, [], subst P h.1 stream, ap (λ e. e ++ at_moment moment items) h.0 ∙ sym (append-nil (at_moment moment items)), (refl, refl))
-brings-turn waiting [] (m ∷ moments) events left next moment items rest same h stream = absurd (omega (arith, same))
-brings-turn waiting (t ∷ turns) [] events left next moment items rest same h stream = absurd h
-brings-turn waiting (t ∷ turns) (m ∷ moments) events left next moment items rest same h stream = (
-  h.0,
-  h.1,
-  h.2 ++ at_moment moment items,
-  h.3,
-  ap (λ e. e ++ at_moment moment items) h.4 ∙ append_assoc (at_moment m h.0) h.2 (at_moment moment items),
-  brings-turn h.1 turns moments h.2 left next moment items rest (omega (arith, same)) h.5 stream,
-)
-
--- turns at the same moments bring the same events
-pub brings-only : IsOneStream → (waiting : List ℕ) (turns : List Turn) (moments : List ℕ) (events others : List Event) (rest left : List ℕ) → Brings waiting turns moments events rest → Brings waiting turns moments others left → events ≡ others
-brings-only law waiting [] moments events others rest left h k = h.0 ∙ sym k.0
-brings-only law waiting (t ∷ turns) [] events others rest left h k = absurd h
-brings-only law waiting (t ∷ turns) (m ∷ moments) events others rest left h k =
-    let one = law (waiting ++ octets_of_turn t) h.0 k.0 h.1 k.1 h.3 k.3 in
-    let P : List ℕ → Type 0 = λ o. Brings o turns moments h.2 rest in
-    h.4 ∙ ap (λ items. at_moment m items ++ h.2) one.0
-    ∙ ap (λ later. at_moment m k.0 ++ later) (brings-only law k.1 turns moments h.2 k.2 rest left (subst P one.1 h.5) k.5) ∙ sym k.4
-
--- and so do turns at moments that are all one
-pub brings-same : IsOneStream → (waiting : List ℕ) (turns : List Turn) (given : ℕ) (moments those : List ℕ) (events others : List Event) (rest left : List ℕ) → AllByRecursion (λ moment. moment ≡ given) moments → AllByRecursion (λ moment. moment ≡ given) those → Brings waiting turns moments events rest → Brings waiting turns those others left → events ≡ others
-brings-same law waiting [] given moments those events others rest left all each h k = h.0 ∙ sym k.0
-brings-same law waiting (t ∷ turns) given [] those events others rest left all each h k = absurd h
-brings-same law waiting (t ∷ turns) given (m ∷ moments) [] events others rest left all each h k = absurd k
-brings-same law waiting (t ∷ turns) given (m ∷ moments) (n ∷ those) events others rest left all each h k =
-    let one = law (waiting ++ octets_of_turn t) h.0 k.0 h.1 k.1 h.3 k.3 in
-    let P : List ℕ → Type 0 = λ o. Brings o turns moments h.2 rest in
-    h.4 ∙ ap (λ items. at_moment m items ++ h.2) one.0 ∙ ap (λ moment. at_moment moment k.0 ++ h.2) (all.0 ∙ sym each.0)
-    ∙ ap (λ later. at_moment n k.0 ++ later) (brings-same law k.1 turns given moments those h.2 k.2 rest left all.1 each.1 (subst P one.1 h.5) k.5) ∙ sym k.4
+-- and so do all turns but the last
+pub brings-init : (waiting : List ℕ) (turns : List Turn) (last : Turn) (moments : List ℕ) (events : List Event) (rest : List ℕ) → Brings waiting (turns ++ last ∷ []) moments events rest
+    → (least : List Event) × (left : List ℕ) × Brings waiting turns moments least left
+brings-init waiting [] last moments events rest h = ([], waiting, (refl, refl))
+brings-init waiting (t ∷ turns) last [] events rest h = absurd h
+brings-init waiting (t ∷ turns) last (m ∷ moments) events rest h =
+    let later = brings-init h.1 turns last moments h.2 rest h.5 in
+    (at_moment m h.0 ++ later.0, later.1, (h.0, h.1, later.0, h.3, refl, later.2))

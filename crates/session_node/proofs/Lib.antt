@@ -1,15 +1,14 @@
 mod AckLemmas
-mod AnswerLemmas
+mod CourseLemmas
+mod Ends
 mod EventLemmas
-mod Invariants
-mod Listening
-mod Moments
-mod NodeLemmas
+mod GivingLemmas
+mod HearingLemmas
 mod OctetLemmas
 pub mod Offered
+mod PacketLemmas
 mod RunLemmas
-mod SayingLemmas
 mod SendingLemmas
-mod Serving
 mod Sessions
 mod Standing
+mod TurnLemmas

@@ -1,19 +1,19 @@
 -- How a session goes on over events, and how it stops.
-use Rattle.std.proofs.Common.{◌≡◌, ℕ, List, [], ◌∷◌, ◌+◌, ◌++◌, map, refl, ap, ap₂, sym, ◌∙◌, subst, append_assoc}
+use Rattle.std.proofs.Common.{◌≡◌, ℕ, List, [], ◌∷◌, ◌+◌, ◌++◌, false, map, refl, ap, ap₂, sym, ◌∙◌, subst, append_assoc}
 use Rattle.std.proofs.Common.{append-nil}
 use Rattle.std.proofs.Math.Nat.{add_assoc}
 use Rattle.std.proofs.lemmas.List.{map-append}
 use Rattle.px_base.specs.CallSign.{CallSign}
 use Rattle.disk_model.specs.declared.disk.Disk.{Ghosts}
 use Rattle.ftl0_packets.specs.Items.{texts}
-use Rattle.ftl0_packets.specs.Layout.{Item, PacketValue, packet_text}
+use Rattle.ftl0_packets.specs.Layout.{PacketValue, packet_text}
 use Rattle.ftl0_session.specs.Lists.Lists.{CallerList}
 use Rattle.file_store.specs.Command.{Command, after_all}
 use Rattle.file_store.specs.Store.{Store}
-use Rattle.file_store.specs.State.{StoreState, store_in}
-use Rattle.file_store.specs.Working.{CutsOffAmongReads}
-use Rattle.file_store.proofs.Offered.{among-same, among-then, cuts-among-then}
-use Rattle.ftl0_session.specs.Uploads.Events.{Event, at_moment}
+use Rattle.file_store.specs.State.{StandsOn, StoreState, store_in}
+use Rattle.file_store.specs.Working.{CutsOffAmongReads, DoesAmongReads}
+use Rattle.file_store.proofs.Offered.{Does-none, among-same, among-then, cuts-among-then, does-among}
+use Rattle.ftl0_session.specs.Uploads.Events.{Event}
 use Rattle.ftl0_session.specs.Run.{Event as MetEvent, RunsOver, event_row, heard_of}
 use Rattle.ftl0_session.specs.Table.{Row, State, failed_reads_told}
 use Rattle.ftl0_session.proofs.WorkingLemmas.{told-append}
@@ -26,11 +26,6 @@ use Rattle.session_node.specs.Running.{RunsOn, StopsBehind, StopsOn, StopsOver}
 pub texts-append : (xs ys : List PacketValue) → texts (xs ++ ys) ≡ texts xs ++ texts ys
 texts-append [] ys = refl
 texts-append (x ∷ xs) ys = ap (λ text. packet_text x ++ text) (texts-append xs ys) ∙ sym (append_assoc (packet_text x) (texts xs) (texts ys))
-
--- packets joined, all at one moment
-pub at_moment-append : (moment : ℕ) (xs ys : List Item) → at_moment moment (xs ++ ys) ≡ at_moment moment xs ++ at_moment moment ys
-at_moment-append moment [] ys = refl
-at_moment-append moment (x ∷ xs) ys = ap (λ events. record { moment = moment; packet = x } ∷ events) (at_moment-append moment xs ys)
 
 -- each event was come to, behind the earlier ones
 pub comes-to :
@@ -119,6 +114,24 @@ module _ (caller : CallSign) where
         between = map heard_of k.before;
         in_order = both;
       }
+
+module _ {D : Type 0} (g : Ghosts D) where
+  -- nothing is done
+  pub does-none : (store : StoreState) (disk : D) → store.journal.failed ≡ false → StandsOn g store disk → g.lasts disk disk → DoesAmongReads g ⊥ 0 store store disk disk []
+  does-none store disk healthy stands lasts = does-among g ⊥ store store disk disk [] (Does-none g ⊥ store disk (λ never. never) stands healthy lasts)
+
+  -- nothing is taken
+  pub runs_none : (caller : CallSign) (store : StoreState) (lists : List CallerList) (disk : D) (state : State) → store.journal.failed ≡ false → StandsOn g store disk → g.lasts disk disk
+      → RunsOn g caller store store lists lists disk disk state state [] []
+  runs_none caller store lists disk state healthy stands lasts = record {
+    met = [];
+    heard = refl;
+    said = [];
+    text_is = refl;
+    commands = [];
+    runs = (refl, refl, refl, refl, refl);
+    does = does-none store disk healthy stands lasts;
+  }
 
 module _ {D : Type 0} (g : Ghosts D) (caller : CallSign) where
   -- a stop at one of some events, with others behind them

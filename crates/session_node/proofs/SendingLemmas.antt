@@ -23,6 +23,7 @@ use Rattle.ftl0_session.specs.Run.{Sends}
 use Rattle.ftl0_session.specs.SessionState.{SessionState, state_in}
 use Rattle.ftl0_session.specs.Table.{DuePacket, State, download_part, due_at, in_session, next_due, state_by}
 use Rattle.ftl0_session.proofs.RowLemmas.{download_part-is}
+use Rattle.session_node.specs.Course.{SendsTo, octets_left}
 use Rattle.session_node.specs.Running.{SendsSome}
 
 -- ---- parts whose reads failed
@@ -45,14 +46,6 @@ with-here true part parts free =
 with-here false part parts free = free
 
 -- ---- packets that are sent one after another
-
--- These packets are sent from the state on, the first as the event's part of this number, up to this state; others may be
--- due in it.
-abbrev pub SendsTo : Store → State → List Failure → ℕ → List PacketValue → State → Type 0
-SendsTo store state failures part [] now = now ≡ state
-SendsTo store state failures part (packet ∷ packets) now =
-    (next : State) × (due_at store state failures part ≡ Some (record { packet = packet; state = next }))
-    × SendsTo store next failures (suc part) packets now
 
 module _ (store : Store) (failures others : List Failure) where
   -- what is due where these list the same reads
@@ -109,25 +102,17 @@ module _ (store : Store) (failures : List Failure) where
 
 -- ---- how much is left
 
--- how many octets are due, and one for DATA_END; none where nothing is due
-abbrev left_of : Store → DownloadState → ℕ
-left_of store state = if is_due state then suc (length (octets_due store state)) else 0
-
--- the same of a session
-abbrev pub left_in : Store → State → ℕ
-left_in store state = left_of store (download_part state)
-
-left-some : (store : Store) (state : DownloadState) → is_due state ≡ true → left_of store state ≡ suc (length (octets_due store state))
+left-some : (store : Store) (state : DownloadState) → is_due state ≡ true → octets_left store state ≡ suc (length (octets_due store state))
 left-some store state is = ap (λ (b : Bool). if b then suc (length (octets_due store state)) else 0) is
 
-left-end : (store : Store) (state : DownloadState) → left_of store (state_at_end state) ≡ 0
+left-end : (store : Store) (state : DownloadState) → octets_left store (state_at_end state) ≡ 0
 left-end store ready = refl
 left-end store (sending number place last) = refl
 left-end store waiting = refl
 left-end store (listing dues) = refl
 
 left-after : (store : Store) (state : DownloadState) → is_due state ≡ true → IsDueIn store state → (length (octets_due store state) == 0) ≡ false
-    → left_of store (state_after 254 state) < suc (length (octets_due store state))
+    → octets_left store (state_after 254 state) < suc (length (octets_due store state))
 left-after store state is lies test =
     let some : 0 < length (octets_due store state) = grind (arith, nat_tests, test) in
     omega (
@@ -139,29 +124,29 @@ left-after store state is lies test =
     )
 
 -- each packet that is sent leaves less
-packet-smaller : (store : Store) (state : DownloadState) (fails : Bool) → is_due state ≡ true → IsDueIn store state → left_of store (due.due_packet store state fails).state < left_of store state
+packet-smaller : (store : Store) (state : DownloadState) (fails : Bool) → is_due state ≡ true → IsDueIn store state → octets_left store (due.due_packet store state fails).state < octets_left store state
 packet-smaller store state fails is lies = by (length (octets_due store state) == 0) (fails && is_read state) refl
   where
     by : (none missed : Bool) → (length (octets_due store state) == 0) ≡ none
         → (let next : due.DuePacket =
         if none then record { packet = data_end; state = state_at_end state } else if missed then record { packet = dl_error_resp 3; state = ready }
         else record { packet = data_part (take 254 (octets_due store state)); state = state_after 254 state } in
-        left_of store next.state < left_of store state)
+        octets_left store next.state < octets_left store state)
     by true missed test = omega (arith, left-end store state, left-some store state is)
     by false true test = omega (arith, left-some store state is)
     by false false test = omega (arith, left-after store state is lies test, left-some store state is)
 
 due-smaller : (store : Store) (state : DownloadState) (fails : Bool) (next : DuePacket) → IsDueIn store state → option_map in_session (due.next_due store state fails) ≡ Some next
-    → left_of store (download_part next.state) < left_of store state
+    → octets_left store (download_part next.state) < octets_left store state
 due-smaller store state fails next lies is = by (is_due state) refl is
   where
     by : (b : Bool) → is_due state ≡ b → option_map in_session (if b then Some (due.due_packet store state fails) else None) ≡ Some next
-        → left_of store (download_part next.state) < left_of store state
+        → octets_left store (download_part next.state) < octets_left store state
     by false free none = absurd (cc none)
     by true here some =
         let same : in_session (due.due_packet store state fails) ≡ next = cc some in
-        let P : DuePacket → Type 0 = λ n. left_of store (download_part n.state) < left_of store state in
-        let Q : DownloadState → Type 0 = λ s. left_of store s < left_of store state in
+        let P : DuePacket → Type 0 = λ n. octets_left store (download_part n.state) < octets_left store state in
+        let Q : DownloadState → Type 0 = λ s. octets_left store s < octets_left store state in
         subst P same (subst Q (sym (download_part-is (due.due_packet store state fails).state)) (packet-smaller store state fails here lies))
 
 -- what is due of a session lies within complete files
@@ -171,6 +156,6 @@ lies-in files (phase.Receiving up) downloads lies = tt
 lies-in files phase.Aborting downloads lies = tt
 
 pub smaller : (files : StoreState) (session : SessionState) (fails : Bool) (next : DuePacket) → IsDueIn (store_in files) session.downloads → next_due (store_in files) (state_in files session) fails ≡ Some next
-    → left_in (store_in files) next.state < left_in (store_in files) (state_in files session)
+    → octets_left (store_in files) (download_part next.state) < octets_left (store_in files) (download_part (state_in files session))
 smaller files session fails next lies is =
     due-smaller (store_in files) (download_part (state_in files session)) fails next (lies-in files session.uploads.phase session.downloads lies) is
