@@ -1,5 +1,5 @@
 -- The course of a session's server is lawful.
-use Rattle.std.proofs.Common.{◌≡◌, ◌⊎◌, inl, inr, ℕ, Bool, false, None, List, [], ◌∷◌, ◌++◌, refl, ap, ap₂, sym, ◌∙◌, subst, append_assoc, append-nil}
+use Rattle.std.proofs.Common.{◌≡◌, inl, inr, ℕ, Bool, false, None, List, [], ◌++◌, refl, ap, ap₂, sym, ◌∙◌, subst, append_assoc, append-nil}
 use Rattle.std.specs.List.{AllByRecursion}
 use Rattle.px_base.specs.CallSign.{CallSign}
 use Rattle.disk_model.specs.declared.disk.Disk.{Ghosts}
@@ -7,10 +7,10 @@ use Rattle.file_store.specs.State.{store_in}
 use Rattle.ftl0_session.specs.Uploads.Events.{Event}
 use Rattle.ftl0_session.specs.Table.{next_due}
 use Rattle.node.specs.Course.{AtDisk, IsLawful}
-use Rattle.node.specs.Inputs.{Input, IsInput, octets_in}
+use Rattle.node.specs.Inputs.{Input, IsInput}
 use Rattle.node.specs.declared.stop.NodeStop.{NodeStop as Stop}
 use Rattle.node.proofs.InputLemmas.{are-octets}
-use Rattle.session_node.specs.Course.{GoesOver, HaltsOver, IsReady, IsStopped, IsUnsaidFirst, session_course, IsUnderWay}
+use Rattle.session_node.specs.Course.{GoesOver, HaltsOver, IsReady, session_course, IsUnderWay}
 use Rattle.session_node.specs.Packets.{events_behind, events_to, waiting_behind}
 use Rattle.session_node.specs.Running.{RunsOn, StopsOn}
 use Rattle.session_node.specs.ServerState.{IsUp, ServerState}

@@ -1,7 +1,7 @@
 -- What ends a session.
 use Rattle.std.proofs.Common.{◌≡◌, List, [], ◌∷◌, ◌++◌, ℕ, Option, ap, sym, ◌∙◌, subst}
 use Rattle.std.specs.List.{AllByRecursion}
-use Rattle.std.specs.Prelude.{Result, Ok, Err, IsErrAnd, IsErrOf}
+use Rattle.std.specs.Prelude.{Result, Err, IsErrAnd, IsErrOf}
 use Rattle.std.proofs.lemmas.Result.{err_from_is_err_and}
 use Rattle.px_base.specs.Outside.{Gains}
 use Rattle.px_base.specs.Polling.{IsOpen}

@@ -1,7 +1,5 @@
 -- The events that turns bring.
-use Rattle.std.proofs.Common.{◌≡◌, ℕ, List, [], ◌∷◌, ◌++◌, length, refl, ap, sym, subst, ◌∙◌, append_assoc, append-nil}
-use Rattle.std.proofs.Common.{arith}
-use Rattle.std.specs.List.{AllByRecursion}
+use Rattle.std.proofs.Common.{◌≡◌, ℕ, List, [], ◌∷◌, ◌++◌, refl, ap, sym, subst, ◌∙◌, append_assoc, append-nil}
 use Rattle.px_base.specs.declared.air.Turn.{Turn}
 use Rattle.px_base.specs.Polling.{octets_heard, octets_of_turn}
 use Rattle.ftl0_packets.specs.Laws.{IsReadAsStream}

@@ -1,7 +1,6 @@
 -- What a session's server gives: its replies, and what is due behind them; and what it leaves where that is cut off.
-use Rattle.std.proofs.Common.{◌≡◌, ◌⊎◌, inl, inr, ℕ, suc, ◌+◌, ◌==◌, ◌<◌, ◌≤◌, List, [], ◌∷◌, ◌++◌, length, Bool, true, false, Option, None, Some}
+use Rattle.std.proofs.Common.{◌≡◌, ◌⊎◌, inl, inr, ℕ, suc, ◌+◌, ◌==◌, ◌<◌, List, [], ◌∷◌, ◌++◌, length, Bool, true, false, Option, None, Some}
 use Rattle.std.proofs.Common.{refl, sym, ap, ap₂, ◌∙◌, subst, append-nil, append_assoc, length-append, arith}
-use Rattle.std.specs.Prelude.{IsTrue}
 use Rattle.std.proofs.Math.Nat.{add-zero, zero-add}
 use Rattle.std.proofs.lemmas.Bool.Decides.{nat_tests}
 use Rattle.px_base.specs.CallSign.{CallSign}
@@ -9,9 +8,8 @@ use Rattle.px_base.specs.Octets.{IsFront}
 use Rattle.disk_model.specs.declared.disk.Disk.{Ghosts}
 use Rattle.ftl0_packets.specs.Items.{texts}
 use Rattle.ftl0_packets.specs.Layout.{PacketValue, packet_text}
-use Rattle.ftl0_session.specs.Lists.Lists.{CallerList}
 use Rattle.file_store.specs.Command.{Command, after_all}
-use Rattle.file_store.specs.State.{StandsOn, StoreState, store_in}
+use Rattle.file_store.specs.State.{StoreState, store_in}
 use Rattle.file_store.specs.Working.{CutsOffAmongReads, DoesAmongReads, one_if}
 use Rattle.file_store.proofs.Offered.{among-at, among-same, among-store, among-then, cuts-among-none, cuts-among-same}
 use Rattle.ftl0_session.specs.Uploads.SessionState.{IsHeld, IsOnlyOut}
@@ -19,11 +17,10 @@ use Rattle.ftl0_session.specs.Downloads.Needs.{AreComplete, IsDueIn}
 use Rattle.ftl0_session.specs.Filling.{PutsDue}
 use Rattle.ftl0_session.specs.Uploads.Events.{Event}
 use Rattle.ftl0_session.specs.Uploads.Failures.{failed_reads, read_fails}
-use Rattle.ftl0_session.specs.Run.{Event as MetEvent}
 use Rattle.ftl0_session.specs.SessionState.{SessionState, state_in}
 use Rattle.ftl0_session.specs.Table.{Row, State, download_part, due_at, next_due, failed_reads_told, tells_failed_read}
 use Rattle.ftl0_session.specs.Taking.{row_over}
-use Rattle.ftl0_session.proofs.WorkingLemmas.{Sent, due-among, due-none, row-at, told-append}
+use Rattle.ftl0_session.proofs.WorkingLemmas.{Sent, due-among, told-append}
 use Rattle.node.specs.Course.{AtDisk, GaveAll, GivesNext, OwesSome, at, stop_at_put, stop_of}
 use Rattle.node.specs.Inputs.{Input}
 use Rattle.node.specs.Turns.{IsUnsaid}
@@ -34,7 +31,7 @@ use Rattle.node.specs.declared.stop.NodeStop.TheVariants as node_stop
 use Rattle.session_node.specs.declared.stop.NodeStop.{NodeStop}
 use Rattle.session_node.specs.declared.stop.NodeStop.TheVariants as stop
 use Rattle.session_node.specs.Course.{GoesOver, HaltsOver, IsAnswered, IsAnswering, IsHalting, IsReady, IsRowOf, IsStopped, IsUnderWay, IsUnsaidFirst, LastOf, Owes, SendsTo, met_with, most_left, octets_left, session_course}
-use Rattle.session_node.specs.Packets.{Hears, events_to}
+use Rattle.session_node.specs.Packets.{events_to}
 use Rattle.session_node.specs.Running.{RunsOn, StopsAt, StopsOn}
 use Rattle.session_node.specs.Server.{IsServer}
 use Rattle.session_node.specs.declared.server.SessionServer.TheInside.{Inside}

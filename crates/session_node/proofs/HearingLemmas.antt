@@ -10,7 +10,7 @@ use Rattle.ftl0_packets.specs.Laws.{IsOneStream, IsReadAsStream}
 use Rattle.ftl0_packets.specs.Layout.{Item, PacketText}
 use Rattle.ftl0_packets.specs.Reading.{is_whole, under_way}
 use Rattle.ftl0_packets.specs.Stream.{IsPartial, Stream}
-use Rattle.ftl0_packets.proofs.OctetLemmas.{IsOctets-nil, IsOctets-take}
+use Rattle.ftl0_packets.proofs.OctetLemmas.{IsOctets-take}
 use Rattle.file_store.specs.Working.{DoesAmongReads}
 use Rattle.file_store.specs.State.{StoreState}
 use Rattle.file_store.proofs.Offered.{cuts-among-none, cuts-among-same}
@@ -25,8 +25,8 @@ use Rattle.node.specs.Course.{at}
 use Rattle.node.specs.Inputs.{Input, octets_at, octets_in}
 use Rattle.node.specs.declared.halt.Halt.TheVariants as halt
 use Rattle.node.proofs.InputLemmas.{octets_in-at}
-use Rattle.session_node.specs.Course.{IsAnswered, IsHalting, IsReady, IsRowOf, IsUnderWay, LastOf, met_with}
-use Rattle.session_node.specs.Packets.{Hears, events_to, waiting_behind}
+use Rattle.session_node.specs.Course.{IsAnswered, IsHalting, IsReady, IsRowOf, IsUnderWay, met_with}
+use Rattle.session_node.specs.Packets.{events_to, waiting_behind}
 use Rattle.session_node.specs.Server.{IsWaiting}
 use Rattle.session_node.specs.ServerState.{ServerState}
 use Rattle.session_node.specs.Stops.{halt_of_session}

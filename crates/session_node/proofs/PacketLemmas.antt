@@ -1,18 +1,17 @@
 -- The packets that what is handed over brings, and those that turns bring.
-use Rattle.std.proofs.Common.{◌≡◌, ℕ, ◌<◌, List, [], ◌∷◌, ◌++◌, length, refl, ap, ap₂, sym, ◌∙◌, subst, append_assoc, append-nil, arith, Bool, true, false}
-use Rattle.std.specs.Prelude.{◌==◌, IsTrue, if◌then◌else◌}
-use Rattle.std.proofs.lemmas.List.Elements.{All-append, All-nil}
+use Rattle.std.proofs.Common.{◌≡◌, ℕ, List, [], ◌∷◌, ◌++◌, length, refl, ap, ap₂, sym, ◌∙◌, subst, append_assoc, append-nil, arith, Bool, true, false}
+use Rattle.std.specs.Prelude.{◌==◌, if◌then◌else◌}
 use Rattle.px_base.specs.Octets.{IsOctets}
 use Rattle.px_base.specs.Polling.{octets_of_turn}
 use Rattle.px_base.specs.declared.air.Turn.{Turn}
 use Rattle.px_base.specs.declared.air.Turn.TheVariants as turn
 use Rattle.ftl0_packets.specs.Laws.{IsOneStream, IsReadAsStream}
 use Rattle.ftl0_packets.specs.Layout.{Item}
-use Rattle.ftl0_packets.specs.Reading.{is_whole, packets_of, rest_of, under_way}
+use Rattle.ftl0_packets.specs.Reading.{packets_of, rest_of}
 use Rattle.ftl0_packets.specs.Stream.{Stream}
 use Rattle.ftl0_packets.proofs.OctetLemmas.{IsOctets-append, IsOctets-nil}
 use Rattle.ftl0_session.specs.Uploads.Events.{Brings, Event, at_moment}
-use Rattle.node.specs.Inputs.{Input, inputs_of, inputs_since, octet, octets_at, octets_in, tick, tick_after, turn_inputs, turn_tick}
+use Rattle.node.specs.Inputs.{Input, inputs_of, inputs_since, octet, octets_at, octets_in, tick, turn_inputs, turn_tick}
 use Rattle.node.proofs.InputLemmas.{octets_in-append, octets_in-at}
 use Rattle.session_node.specs.Packets.{Hears, events_behind, events_to, waiting_behind}
 use Rattle.session_node.specs.Server.{IsWaiting}

@@ -1,6 +1,5 @@
 -- How a session goes on over events, and how it stops.
 use Rattle.std.proofs.Common.{◌≡◌, ℕ, List, [], ◌∷◌, ◌+◌, ◌++◌, false, map, refl, ap, ap₂, sym, ◌∙◌, subst, append_assoc}
-use Rattle.std.proofs.Common.{append-nil}
 use Rattle.std.proofs.Math.Nat.{add_assoc}
 use Rattle.std.proofs.lemmas.List.{map-append}
 use Rattle.px_base.specs.CallSign.{CallSign}

@@ -1,7 +1,6 @@
 -- A session from the recovery of its store to its end.
 use Rattle.std.proofs.Common.{◌≡◌, inl, inr, ⊎_elim, ℕ, List, [], ◌∷◌, ◌++◌, refl, sym, ◌∙◌, ap, subst, arith, Option, None, Some}
 use Rattle.std.specs.Prelude.{Result, Ok, Err, IsErrOf}
-use Rattle.px_base.specs.CallSign.{CallSign}
 use Rattle.px_base.specs.Moments.{MomentsOf}
 use Rattle.px_base.specs.declared.air.Air.{Ghosts as AirGhosts}
 use Rattle.px_base.proofs.Told.{Grows-trans}
@@ -23,10 +22,10 @@ use Rattle.session_node.specs.declared.stop.NodeStop.TheVariants as stop
 use Rattle.session_node.specs.declared.terms.Served.{Served}
 use Rattle.session_node.specs.declared.terms.SessionTerms.{SessionTerms}
 use Rattle.session_node.specs.OnDisk.{EachImage, LeavesStanding, NodeRuns}
-use Rattle.session_node.specs.ServerState.{IsUp, ServerState, new_server}
+use Rattle.session_node.specs.ServerState.{IsUp}
 use Rattle.session_node.specs.SessionRan.{SessionOn, SessionServed, TurnsBy}
 use Rattle.session_node.specs.Stops.{HasAirCause, RefusesSession, stop_of_fault}
-use Rattle.session_node.proofs.Standing.{node_runs, runs_refused, runs_same, session_puts, session_reads, stands_through}
+use Rattle.session_node.proofs.Standing.{node_runs, runs_same, session_puts, session_reads, stands_through}
 
 -- ---- a recovery that is refused
 

@@ -1,5 +1,5 @@
 -- A session, by the turns of its node.
-use Rattle.std.proofs.Common.{◌≡◌, ◌⊎◌, inl, inr, ℕ, max, Bool, true, false, List, [], ◌∷◌, ◌++◌, length, map, slice_index, Option, None, Some, Result, Ok, Err}
+use Rattle.std.proofs.Common.{◌≡◌, ◌⊎◌, inl, inr, ℕ, max, Bool, true, false, List, [], ◌∷◌, ◌++◌, length, slice_index, Option, Some, Result, Ok, Err}
 use Rattle.std.proofs.Common.{refl, sym, ap, ap₂, ◌+◌, ◌∙◌, subst, append_assoc, append-nil, arith}
 use Rattle.std.specs.Prelude.{IsErrOf}
 use Rattle.px_base.specs.CallSign.{CallSign}
@@ -17,13 +17,13 @@ use Rattle.ftl0_session.specs.Uploads.Events.{Brings, Event}
 use Rattle.ftl0_session.specs.Table.{command, failed_reads_told}
 use Rattle.node.specs.Course.{AtDisk, at}
 use Rattle.node.specs.Inputs.{Input, inputs_of, octets_in}
-use Rattle.node.specs.Turns.{AreHandedOver, Brought, IsUnsaid, Lent, MomentsFrom, RanBy, StoppedInLast, TookAll, TookTurns, party_at}
+use Rattle.node.specs.Turns.{AreHandedOver, IsUnsaid, Lent, MomentsFrom, StoppedInLast, TookAll, TookTurns, party_at}
 use Rattle.node.specs.declared.finished.Finished.{Finished}
 use Rattle.node.specs.declared.finished.Finished.TheVariants as finished
 use Rattle.node.specs.declared.stop.NodeStop.{NodeStop as Stop}
 use Rattle.node.specs.declared.stop.NodeStop.TheVariants as node_stop
 use Rattle.node.specs.declared.terms.TurnTerms.{TurnTerms}
-use Rattle.session_node.specs.Course.{GoesOver, HaltsOver, IsStopped, session_course}
+use Rattle.session_node.specs.Course.{GoesOver, HaltsOver, session_course}
 use Rattle.session_node.specs.Packets.{events_behind, events_to, waiting_behind}
 use Rattle.session_node.specs.Running.{StopsBehind, StopsOn}
 use Rattle.session_node.specs.ServerState.{ServerState, new_server}
@@ -219,9 +219,9 @@ module _ {A C D : Type 0} (g : Ghosts D) (air : AirGhosts A) (given : C → Opti
               cuts = cuts-among-none g (IsErrOf (Stopped why) stop.Disk) 0 start new.party.store disk new.disk [] (not-disk unsaid.why_is) (lasts new.disk) unsaid.does;
             })
             | inr stopped ↦ absurd (
-              let stops = (stopped.stops writes writes_n took.is_unsaid).stops in
-              no-event _ _ stops.later (sym (ap (events_to server) no_more) ∙ stops.events_are)
-            )
+                let stops = (stopped.stops writes writes_n took.is_unsaid).stops in
+                no-event _ _ stops.later (sym (ap (events_to server) no_more) ∙ stops.events_are)
+                )
           ]
         where
           no-moment : (ms : List ℕ) → length ms ≡ 0 → ms ≡ []
@@ -236,40 +236,40 @@ module _ {A C D : Type 0} (g : Ghosts D) (air : AirGhosts A) (given : C → Opti
       stopped-later then_is goes halts = elim halts.1 [
         | inl unsaid ↦ absurd (unsaid.some goes.silent)
         | inr stopped ↦ (
-          let mid : ServerState = then_is.it in
-          let stops : StopsOn g terms.caller mid.store new.party.store mid.lists then_is.disk new.disk mid.state (events_to mid h.more) (stop_of_node why) writes writes_n stopped.replies =
-          subst (λ (call : CallSign). StopsOn g call mid.store new.party.store mid.lists then_is.disk new.disk mid.state (events_to mid h.more) (stop_of_node why) writes writes_n stopped.replies)
-          goes.hears.caller (stopped.stops writes writes_n took.is_unsaid) in
-          let both : events ≡ events_to server h.least ++ events_to mid h.more = ap (events_to server) h.events_are ∙ events-then server mid h.least goes.hears h.more in
-          record {
-            are_octets = subst (λ (is : List Input). IsOctets (octets_in is)) (sym h.events_are) (both-octets h.least h.more goes.hears.are_octets halts.0);
-            done = goes.runs.commands ++ stops.done;
-            cut = stops.cut;
-            missed = failed_reads_told goes.runs.said + stops.missed;
-            said = inr (record {
-              replies = goes.replies ++ stopped.replies;
-              text_is =
-                  h.text_is ∙ ap₂ (λ (t u : List ℕ). t ++ u) goes.text_is (stopped.text_is ∙ ap (λ (t : List ℕ). t ++ stopped.replies) goes.silent)
-                  ∙ append_assoc (login_text first) goes.replies stopped.replies;
-              earlier = h.earlier;
-              but_last = h.but_last;
-              least = events_to server h.least;
-              left = waiting_behind [] h.least;
-              brought = brings-at h.earlier h.before h.behind h.least h.split h.one_each h.brought goes.hears.are_octets;
-              ends_over =
-                  ends (events_to server h.least) (goes.replies ++ stopped.replies) (goes.runs.commands ++ stops.done) stops.cut (failed_reads_told goes.runs.said + stops.missed)
-                  (subst
-                  (λ (es : List Event). StopsBehind (events_to server h.least) terms.caller (store_in start) [] command es (stop_of_node why) writes writes_n (goes.replies ++ stopped.replies)
-                  (goes.runs.commands ++ stops.done) stops.cut (failed_reads_told goes.runs.said + stops.missed)) (sym both)
-                  (stops_behind g on terms.caller start mid.store [] mid.lists disk then_is.disk command mid.state (events_to server h.least) goes.replies goes.runs
-                  new.party.store new.disk (events_to mid h.more) (stop_of_node why) writes writes_n stopped.replies stops));
-            });
-            cuts =
-                cuts-among-same g (stop_of_node why ≡ stop.Disk) (IsErrOf (Stopped why) stop.Disk) _ _ start new.party.store disk new.disk (goes.runs.commands ++ stops.done) stops.cut (λ is. ap Err is) (λ is. cc is) refl
-                (cuts_behind g on terms.caller start mid.store [] mid.lists disk then_is.disk command mid.state (events_to server h.least) goes.replies goes.runs
-                new.party.store new.disk (events_to mid h.more) (stop_of_node why) writes writes_n stopped.replies stops);
-          }
-        )
+            let mid : ServerState = then_is.it in
+            let stops : StopsOn g terms.caller mid.store new.party.store mid.lists then_is.disk new.disk mid.state (events_to mid h.more) (stop_of_node why) writes writes_n stopped.replies =
+            subst (λ (call : CallSign). StopsOn g call mid.store new.party.store mid.lists then_is.disk new.disk mid.state (events_to mid h.more) (stop_of_node why) writes writes_n stopped.replies)
+            goes.hears.caller (stopped.stops writes writes_n took.is_unsaid) in
+            let both : events ≡ events_to server h.least ++ events_to mid h.more = ap (events_to server) h.events_are ∙ events-then server mid h.least goes.hears h.more in
+            record {
+              are_octets = subst (λ (is : List Input). IsOctets (octets_in is)) (sym h.events_are) (both-octets h.least h.more goes.hears.are_octets halts.0);
+              done = goes.runs.commands ++ stops.done;
+              cut = stops.cut;
+              missed = failed_reads_told goes.runs.said + stops.missed;
+              said = inr (record {
+                replies = goes.replies ++ stopped.replies;
+                text_is =
+                    h.text_is ∙ ap₂ (λ (t u : List ℕ). t ++ u) goes.text_is (stopped.text_is ∙ ap (λ (t : List ℕ). t ++ stopped.replies) goes.silent)
+                    ∙ append_assoc (login_text first) goes.replies stopped.replies;
+                earlier = h.earlier;
+                but_last = h.but_last;
+                least = events_to server h.least;
+                left = waiting_behind [] h.least;
+                brought = brings-at h.earlier h.before h.behind h.least h.split h.one_each h.brought goes.hears.are_octets;
+                ends_over =
+                    ends (events_to server h.least) (goes.replies ++ stopped.replies) (goes.runs.commands ++ stops.done) stops.cut (failed_reads_told goes.runs.said + stops.missed)
+                    (subst
+                    (λ (es : List Event). StopsBehind (events_to server h.least) terms.caller (store_in start) [] command es (stop_of_node why) writes writes_n (goes.replies ++ stopped.replies)
+                    (goes.runs.commands ++ stops.done) stops.cut (failed_reads_told goes.runs.said + stops.missed)) (sym both)
+                    (stops_behind g on terms.caller start mid.store [] mid.lists disk then_is.disk command mid.state (events_to server h.least) goes.replies goes.runs
+                    new.party.store new.disk (events_to mid h.more) (stop_of_node why) writes writes_n stopped.replies stops));
+              });
+              cuts =
+                  cuts-among-same g (stop_of_node why ≡ stop.Disk) (IsErrOf (Stopped why) stop.Disk) _ _ start new.party.store disk new.disk (goes.runs.commands ++ stops.done) stops.cut (λ is. ap Err is) (λ is. cc is) refl
+                  (cuts_behind g on terms.caller start mid.store [] mid.lists disk then_is.disk command mid.state (events_to server h.least) goes.replies goes.runs
+                  new.party.store new.disk (events_to mid h.more) (stop_of_node why) writes writes_n stopped.replies stops);
+            }
+            )
       ]
 
       stopped : Ended (Stopped why)

@@ -1,11 +1,9 @@
 -- A whole packet is taken, and less than one waits.
-use Rattle.std.proofs.Common.{◌≡◌, ℕ, [], take, Ok, Err, Bool, true, refl, ap, sym, ◌∙◌, subst, Result}
+use Rattle.std.proofs.Common.{[], take, true, sym, subst, Result}
 use Rattle.std.specs.Prelude.{⊤}
 use Rattle.disk_model.proofs.Writes.{octets_from_fits}
 use Rattle.ftl0_packets.specs.Reading.{under_way}
 use Rattle.ftl0_packets.specs.Values.{item_of}
-use Rattle.ftl0_packets.specs.declared.reader.PacketFed.{PacketFed}
-use Rattle.ftl0_packets.specs.declared.reader.PacketFed.TheVariants as fed
 use Rattle.ftl0_packets.proofs.OctetLemmas.{IsOctets-append, IsOctets-take}
 use Rattle.px_base.specs.Octets.{IsOctets}
 use Rattle.ftl0_session.specs.SessionState.{caller_of}

@@ -1,5 +1,5 @@
 -- The replies are given first, and then what is due.
-use Rattle.std.proofs.Common.{◌≡◌, List, ℕ, [], ◌<◌, Bool, true, refl, ap, sym, ◌∙◌, subst}
+use Rattle.std.proofs.Common.{List, ℕ, [], ◌<◌, Bool, refl, ap, sym, ◌∙◌, subst}
 use Rattle.file_store.specs.State.{store_in}
 use Rattle.ftl0_session.specs.Filling.{PutsDue}
 use Rattle.ftl0_session.specs.SessionState.{caller_of, state_in}
