@@ -2,8 +2,6 @@ mod AckLemmas
 mod CourseLemmas
 mod Ends
 mod EventLemmas
-mod GivingLemmas
-mod HearingLemmas
 mod OctetLemmas
 pub mod Offered
 mod PacketLemmas

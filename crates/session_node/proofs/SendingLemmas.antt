@@ -60,25 +60,6 @@ module _ (store : Store) (failures others : List Failure) where
     to-same to.0 (suc part) sent now (λ number low high. same number (omega (arith, low)) (omega (arith, high))) to.2,
   )
 
-  -- the same of all that is sent, and of some of it
-  pub sends-same : (state : State) (part : ℕ) (sent : List PacketValue) (now : State) → ((number : ℕ) → part ≤ number → read_fails failures number ≡ read_fails others number)
-      → Sends store state failures part sent now → Sends store state others part sent now
-  sends-same state part [] now same sends = (sends.0, due-same state part _ (same part (omega arith)) sends.1)
-  sends-same state part (packet ∷ sent) now same sends = (
-    sends.0,
-    due-same state part _ (same part (omega arith)) sends.1,
-    sends-same sends.0 (suc part) sent now (λ number low. same number (omega (arith, low))) sends.2,
-  )
-
-  pub some-same : (state : State) (part : ℕ) (sent : List PacketValue) → ((number : ℕ) → part ≤ number → read_fails failures number ≡ read_fails others number)
-      → SendsSome store state failures part sent → SendsSome store state others part sent
-  some-same state part [] same sends = tt
-  some-same state part (packet ∷ sent) same sends = (
-    sends.0,
-    due-same state part _ (same part (omega arith)) sends.1,
-    some-same sends.0 (suc part) sent (λ number low. same number (omega (arith, low))) sends.2,
-  )
-
 module _ (store : Store) (failures : List Failure) where
   -- one packet more
   pub to-more : (state : State) (part : ℕ) (sent : List PacketValue) (mid : State) (number : ℕ) (next : DuePacket) → number ≡ part + length sent → SendsTo store state failures part sent mid

@@ -17,7 +17,7 @@ use Rattle.ftl0_session.specs.Downloads.Sending.{is_due, octets_due}
 use Rattle.ftl0_session.specs.Downloads.Table.{DownloadState}
 use Rattle.ftl0_session.specs.Table.{Row, State, download_part, due_at, failed_reads_told, fault_reply, next_due}
 use Rattle.ftl0_session.specs.Table.{takes_memory}
-use Rattle.node.specs.Course.{AtDisk, Course}
+use Rattle.node.specs.Course.{AtDisk, Course, at}
 use Rattle.node.specs.Inputs.{Input, octets_in}
 use Rattle.node.specs.Turns.{IsUnsaid}
 use Rattle.node.specs.declared.halt.Halt.{Halt}
@@ -98,27 +98,27 @@ IsAnswered old store lists state [] said commands =
 IsAnswered old store lists state (event ∷ []) said commands = IsAnswering old lists state event said commands
 IsAnswered old store lists state (event ∷ next ∷ events) said commands = ⊥
 
--- It took the packet that these inputs bring, if they bring one; this was said, its replies are still to be said, and
--- maybe more is due behind them.
+-- It took the packet that these inputs bring, if they bring one. This is the text of what it had to say at the start and
+-- of the answer so far; maybe more is due behind it.
 pub record IsUnderWay {D : Type 0} (g : Ghosts D) (old : AtDisk ServerState D) (inputs : List Input) (text : List ℕ)
     (new : AtDisk ServerState D) : Type 0 where
   pub hears : Hears old.it inputs new.it
   pub goes_on : new.it.halted ≡ false
   pub said : List PacketValue
-  pub text_is : text ++ new.it.replies ≡ old.it.replies ++ texts said
+  pub text_is : text ≡ old.it.replies ++ texts said
   pub commands : List Command
   pub answered :
       IsAnswered old.it new.it.store new.it.lists new.it.state (events_to old.it inputs) said commands
   pub does :
       DoesAmongReads g ⊥ (failed_reads_told said) old.it.store new.it.store old.disk new.disk commands
 
--- what a packet still gives at which the session halts, and the commands in one of which the disk failed
+-- what is said by a packet at which the session halts, and the commands in one of which the disk failed
 abbrev pub LastOf : Halt → State → MetEvent → Row → List ℕ → List Command → Type 0
 LastOf halt.Disk state met row text cut = (text ≡ texts (fault_reply state ∷ [])) × (cut ≡ row.commands)
 LastOf halt.OutOfMemory state met row text cut =
     IsTrue (takes_memory met.packet row.state) × (text ≡ []) × (cut ≡ [])
 
--- It halted at the packet that these inputs bring; this was said of the reply to it, and the rest is still to be said.
+-- It halted at the packet that these inputs bring, of whose answer this is the text.
 pub record IsHalting {D : Type 0} (g : Ghosts D) (old : AtDisk ServerState D) (inputs : List Input) (why : Halt)
     (text : List ℕ) (new : AtDisk ServerState D) : Type 0 where
   pub are_octets : IsOctets (octets_in inputs)
@@ -130,16 +130,25 @@ pub record IsHalting {D : Type 0} (g : Ghosts D) (old : AtDisk ServerState D) (i
   pub row : Row
   pub is_row : IsRowOf old.it (met_with event parts) row
   pub cut : List Command
-  pub last : LastOf why old.it.state (met_with event parts) row (text ++ new.it.replies) cut
+  pub last : LastOf why old.it.state (met_with event parts) row text cut
   pub cuts :
       CutsOffAmongReads g (why ≡ halt.Disk) (failed_reads_told row.replies) old.it.store new.it.store old.disk new.disk
       [] cut
 
--- it goes on with what it has to say, or halts behind it
+-- the server at its disk, with nothing to say but what is due
+abbrev pub silenced : {D : Type 0} → AtDisk ServerState D → AtDisk ServerState D
+silenced now = at (record (now.it) { replies = [] }) now.disk
+
+-- with this whole text it goes on, or it halts
+abbrev pub OwesAll :
+    {D : Type 0} → Ghosts D → AtDisk ServerState D → List Input → Option Halt → List ℕ → AtDisk ServerState D → Type 0
+OwesAll g old inputs None text new = IsUnderWay g old inputs text new
+OwesAll g old inputs (Some why) text new = IsHalting g old inputs why text new
+
+-- the same, where this was said of that text, and the rest is still to be said
 abbrev pub Owes :
     {D : Type 0} → Ghosts D → AtDisk ServerState D → List Input → Option Halt → List ℕ → AtDisk ServerState D → Type 0
-Owes g old inputs None text new = IsUnderWay g old inputs text new
-Owes g old inputs (Some why) text new = IsHalting g old inputs why text new
+Owes g old inputs why text new = OwesAll g old inputs why (text ++ new.it.replies) (silenced new)
 
 -- ---- how it stops
 

@@ -1,5 +1,5 @@
 -- The recovery is refused, or the session is served over what it gives.
-use Rattle.std.proofs.Common.{inl, inr, refl, sym, subst, [], Result}
+use Rattle.std.proofs.Common.{inl, inr, refl, sym, subst, [], Result, None}
 use Rattle.std.specs.Prelude.{IsErrOf}
 use Rattle.file_store.specs.declared.refusals.StoreFault.TheVariants as fault
 use Rattle.session_node.specs.declared.stop.NodeStop.{NodeStop}
@@ -8,7 +8,7 @@ use Rattle.session_node.specs.declared.terms.Served.{Served}
 use Rattle.session_node.specs.OnDisk.{NodeRuns}
 use Rattle.node.specs.Course.{at}
 use Rattle.node.specs.Turns.{lent}
-use Rattle.session_node.specs.Course.{IsUnderWay}
+use Rattle.session_node.specs.Course.{Owes}
 use Rattle.session_node.specs.ServerState.{ServerState, new_server}
 use Rattle.session_node.specs.SessionRan.{SessionEnds, SessionOn, SessionServed, login_text}
 use Rattle.session_node.specs.Stops.{HasAirCause, RefusesSession, stop_of_fault}
@@ -78,7 +78,7 @@ take_turns-ended-requires g c =
     let disk = c.recover.new.disk in
     let store = c.in_ok-store.store in
     let server = new_server c.args.terms.now.caller store (login_text c.moment_of-first.result) in
-    subst (λ (s : ServerState). IsUnderWay g.D.Disk (at s disk) [] [] (at s disk)) (sym c.new-server.ensures)
+    subst (λ (s : ServerState). Owes g.D.Disk (at s disk) [] None [] (at s disk)) (sym c.new-server.ensures)
     (owes-first g.D.Disk g.met.D.Disk.lasts_same g.met.D.Disk.lasts_on (at server disk)
     (record { healthy = c.in_ok-store.ensures.recovered.healthy; stands_on = c.in_ok-store.ensures.recovered.stands_on }) refl (λ fails. refl))
 

@@ -1,5 +1,5 @@
 -- A whole packet is taken, and less than one waits.
-use Rattle.std.proofs.Common.{[], take, true, sym, subst, Result}
+use Rattle.std.proofs.Common.{[], None, Some, take, true, sym, subst, Result}
 use Rattle.std.specs.Prelude.{⊤}
 use Rattle.disk_model.proofs.Writes.{octets_from_fits}
 use Rattle.ftl0_packets.specs.Reading.{under_way}
@@ -12,10 +12,10 @@ use Rattle.ftl0_session.specs.declared.stop.ServerStop.{ServerStop}
 use Rattle.node.specs.Course.{at}
 use Rattle.node.specs.Inputs.{octets_at}
 use Rattle.node.specs.declared.halt.Halt.{Halt}
-use Rattle.session_node.specs.Course.{IsHalting, IsReady, IsUnderWay}
+use Rattle.session_node.specs.Course.{IsReady, Owes}
 use Rattle.session_node.specs.Server.{server_state}
 use Rattle.session_node.specs.ServerState.{ServerState}
-use Rattle.session_node.proofs.HearingLemmas.{owes-last, owes-more, owes-taken, under-way-less}
+use Rattle.session_node.proofs.CourseLemmas.{owes-last, owes-more, owes-taken, under-way-less}
 use Rattle.session_node.proofs.OctetLemmas.{octets_under_way}
 use Rattle.session_node.proofs.server.SessionServerParty.hear.Goals as goal
 
@@ -47,7 +47,7 @@ returns-in_default-clause-takes g c =
     let reader = c.feed-taken.new.self in
     let taken = c.feed-taken.result.0 in
     let ready = subst (λ (s : ServerState). IsReady g.D.Disk (at s disk)) (sym c.self.view_is) c.requires.fit in
-    subst (λ (s : ServerState). IsUnderWay g.D.Disk (at s disk) (octets_at c.args.moment (take taken piece)) [] (at (record a { octets = under_way reader }) disk)) c.self.view_is
+    subst (λ (s : ServerState). Owes g.D.Disk (at s disk) (octets_at c.args.moment (take taken piece)) None [] (at (record a { octets = under_way reader }) disk)) c.self.view_is
     (owes-more g.D.Disk g.met.D.Disk.lasts_same g.met.D.Disk.lasts_on c.stream_law.ensures.read c.stream_law.ensures.only c.args.moment a disk ready c.self.invariant.waiting
     piece (octets_from_fits piece c.type_inv.piece) taken reader c.feed-taken.ensures.octets (c.feed-taken.ensures.partial.0 c.in_default.is)
     (under-way-less reader (λ whole. c.in_default.not-Whole (c.feed-taken.ensures.readable.1 whole))))
@@ -66,7 +66,7 @@ returns-in_default-answer-clause-takes g c =
     let takes = subst (λ (r : Result ⊤ ServerStop). TakesPacket g.D.Disk a.caller c.args.moment item (working c.self.inside.session a.store a.lists) now disk new.disk new.replies.items r) c.in_default-answer.is
     c.take-answer.ensures.takes in
     subst
-    (λ (s : ServerState). IsUnderWay g.D.Disk (at s disk) (octets_at c.args.moment (take taken piece)) []
+    (λ (s : ServerState). Owes g.D.Disk (at s disk) (octets_at c.args.moment (take taken piece)) None []
     (at (record { caller = caller_of new.self; store = now.store; lists = now.lists; state = now.state; octets = under_way reader; replies = new.replies.items; halted = a.halted }) new.disk)) c.self.view_is
     (owes-taken g.D.Disk g.met.D.Disk.lasts_same g.met.D.Disk.lasts_on c.stream_law.ensures.read c.stream_law.ensures.only c.args.moment a disk ready c.self.invariant.waiting
     piece (octets_from_fits piece c.type_inv.piece) taken reader c.feed-taken.ensures.octets item c.packet.ensures.text (c.feed-taken.ensures.readable.0 c.in-Whole.is)
@@ -89,5 +89,5 @@ returns-in-Err-clause-halts g c =
     let owes = owes-last g.D.Disk g.met.D.Disk.lasts_same g.met.D.Disk.lasts_on c.stream_law.ensures.read c.stream_law.ensures.only c.args.moment a disk ready c.self.invariant.waiting
     piece (octets_from_fits piece c.type_inv.piece) taken reader c.feed-taken.ensures.octets item c.packet.ensures.text (c.feed-taken.ensures.readable.0 c.in-Whole.is)
     now new.disk new.replies.items (caller_of new.self) c.in-Err.stop takes in
-    let at_why = subst (λ (w : Halt). IsHalting g.D.Disk (at a disk) (octets_at c.args.moment (take taken piece)) w [] (at server new.disk)) (sym c.halt_of.ensures) owes in
-    (taken, subst (λ (s : ServerState). IsHalting g.D.Disk (at s disk) (octets_at c.args.moment (take taken piece)) c.halt_of.result [] (at server new.disk)) c.self.view_is at_why)
+    let at_why = subst (λ (w : Halt). Owes g.D.Disk (at a disk) (octets_at c.args.moment (take taken piece)) (Some w) [] (at server new.disk)) (sym c.halt_of.ensures) owes in
+    (taken, subst (λ (s : ServerState). Owes g.D.Disk (at s disk) (octets_at c.args.moment (take taken piece)) (Some c.halt_of.result) [] (at server new.disk)) c.self.view_is at_why)

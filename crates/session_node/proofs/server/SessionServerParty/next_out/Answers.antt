@@ -8,7 +8,7 @@ use Rattle.node.specs.Course.{GaveAll, GivesNext, OwesSome, at}
 use Rattle.session_node.specs.Course.{most_left, session_course}
 use Rattle.session_node.specs.Server.{server_state}
 use Rattle.session_node.specs.ServerState.{ServerState}
-use Rattle.session_node.proofs.GivingLemmas.{filled, gave-all, gave-last, gives-due, gives-replies, is-nil, less-left, not-nil, owes-up, server-filled}
+use Rattle.session_node.proofs.CourseLemmas.{filled, gave-all, gave-last, gives-due, gives-replies, is-nil, less-left, not-nil, owes-up, server-filled}
 use Rattle.session_node.proofs.server.SessionServerParty.next_out.Goals as goal
 
 pub returns-then-not-is_empty-clause-next : goal.returns-then-not-is_empty-clause-next
@@ -57,8 +57,8 @@ returns-clause-next g c is =
     let state = state_in store c.fill.new.self in
     let caller = caller_of c.fill.new.self in
     let puts = subst (λ (b : Bool). PutsDue g.D.Disk (store_in a.store) disk c.fill.new.disk a.state state c.new-packet.result.items c.fill.new.out.items b) c.if-not-fill.false c.fill.ensures.puts in
-    let gives = gives-due g.D.Disk g.met.D.Disk.lasts_same g.met.D.Disk.lasts_on a disk (is-nil a.replies (sym c.is_empty.ensures ∙ c.if-not-is_empty.false)) c.if-self.false c.fill.new.disk state
-    c.new-packet.result.items c.fill.new.out.items puts in
+    let gives = gives-due g.D.Disk g.met.D.Disk.lasts_same g.met.D.Disk.lasts_on a disk c.if-self.false c.fill.new.disk state
+    c.new-packet.result.items c.fill.new.out.items puts (is-nil a.replies (sym c.is_empty.ensures ∙ c.if-not-is_empty.false)) in
     let at_text = subst (λ (t : List ℕ). GivesNext (session_course g.D.Disk) (at a disk) t (at (record a { state = state }) c.fill.new.disk)) (sym ((c.put_in-2).ensures ∙ (c.deref-2).ensures.0)) gives in
     let same = filled a caller store state (ap (λ u. u.caller) c.fill.ensures.uploads) c.fill.ensures.store in
     let at_new = subst (λ (s : ServerState). GivesNext (session_course g.D.Disk) (at a disk) (c.put_in-2).new.text.items (at s c.fill.new.disk)) (sym same) at_text in
@@ -74,7 +74,7 @@ returns-clause-fewer g c is =
     let puts = subst (λ (b : Bool). PutsDue g.D.Disk (store_in a.store) disk c.fill.new.disk a.state state c.new-packet.result.items c.fill.new.out.items b) c.if-not-fill.false c.fill.ensures.puts in
     let up = owes-up g.D.Disk g.met.D.Disk.lasts_same g.met.D.Disk.lasts_on a disk c.if-self.false
     (subst (λ (s : ServerState). OwesSome (session_course g.D.Disk) (at s disk)) (sym c.self.view_is) c.requires.owes) in
-    let less = less-left g.D.Disk g.met.D.Disk.lasts_same g.met.D.Disk.lasts_on a disk (is-nil a.replies (sym c.is_empty.ensures ∙ c.if-not-is_empty.false)) c.if-self.false c.fill.new.disk state
+    let less = less-left g.D.Disk g.met.D.Disk.lasts_same g.met.D.Disk.lasts_on a disk c.if-self.false c.fill.new.disk state
     c.new-packet.result.items c.fill.new.out.items puts c.self.inside.session refl c.self.invariant.due up in
     let same = filled a caller store state (ap (λ u. u.caller) c.fill.ensures.uploads) c.fill.ensures.store in
     let at_new = subst (λ (s : ServerState). most_left s < most_left a) (sym same) less in
