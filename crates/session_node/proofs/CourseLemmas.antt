@@ -15,8 +15,8 @@ use Rattle.session_node.specs.Packets.{events_behind, events_to, waiting_behind}
 use Rattle.session_node.specs.Running.{RunsOn, StopsOn, StopsAt}
 use Rattle.session_node.specs.ServerState.{IsUp, ServerState}
 use Rattle.session_node.specs.Stops.{stop_of_node, halt_of_session}
-use Rattle.session_node.proofs.PacketLemmas.{both-octets, events-append, events-then, hears-none, hears-then, events-of}
-use Rattle.session_node.proofs.RunLemmas.{does-none, runs_none, runs_on-trans, stops_on-after, stops_on-more, texts-append}
+use Rattle.session_node.proofs.PacketLemmas.{both-octets, events-append, events-then, hears-none, hears-then, events-of, nothing_partial}
+use Rattle.session_node.proofs.RunLemmas.{does-none, runs_none, runs_on-trans, stops_on-after, stops_on-more, texts-append, smaller, to-all, to-more, to-same, to-some, with-here, with-other, with_part}
 use Rattle.std.proofs.Math.Nat.{add-zero, zero-add}
 use Rattle.std.proofs.lemmas.Bool.Decides.{nat_tests}
 use Rattle.px_base.specs.Octets.{IsFront, IsOctets}
@@ -37,14 +37,12 @@ use Rattle.node.specs.declared.halt.Halt.{Halt}
 use Rattle.session_node.specs.declared.stop.NodeStop.{NodeStop}
 use Rattle.session_node.specs.Server.{IsServer, IsWaiting}
 use Rattle.session_node.specs.declared.server.SessionServer.TheInside.{Inside}
-use Rattle.session_node.proofs.SendingLemmas.{smaller, to-all, to-more, to-same, to-some, with-here, with-other, with_part}
 use Rattle.std.specs.Prelude.{Result, Ok, Err, IsTrue, if◌then◌else◌, ⊤}
 use Rattle.ftl0_packets.specs.Laws.{IsOneStream, IsReadAsStream}
 use Rattle.ftl0_packets.specs.Reading.{is_whole, under_way}
 use Rattle.ftl0_packets.specs.Stream.{IsPartial, Stream}
 use Rattle.ftl0_packets.proofs.OctetLemmas.{IsOctets-take, IsOctets-nil}
 use Rattle.ftl0_session.specs.declared.stop.ServerStop.{ServerStop}
-use Rattle.session_node.proofs.EventLemmas.{nothing_partial}
 use Rattle.node.specs.declared.halt.Halt.TheVariants as halt
 use Rattle.node.specs.declared.stop.NodeStop.TheVariants as node_stop
 use Rattle.session_node.specs.declared.stop.NodeStop.TheVariants as stop
@@ -528,15 +526,7 @@ module _ {D : Type 0} (g : Ghosts D) (lasts : (disk : D) → g.lasts disk disk) 
       -- the server behind it
       abbrev server_n : CallSign → Bool → ServerState
       server_n caller halted =
-          record {
-            caller = caller;
-            store = now.store;
-            lists = now.lists;
-            state = now.state;
-            octets = under_way reader;
-            replies = replies;
-            halted = halted;
-          }
+          record { caller = caller; store = now.store; lists = now.lists; state = now.state; octets = under_way reader; replies = replies; halted = halted }
 
       abbrev row : Bool → Row
       row fails = row_over a.caller moment before item fails

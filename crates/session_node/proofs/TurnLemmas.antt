@@ -33,8 +33,7 @@ use Rattle.session_node.specs.declared.stop.NodeStop.{NodeStop}
 use Rattle.session_node.specs.declared.stop.NodeStop.TheVariants as stop
 use Rattle.session_node.specs.declared.terms.Served.{Served}
 use Rattle.session_node.specs.declared.terms.SessionTerms.{SessionTerms}
-use Rattle.session_node.proofs.EventLemmas.{brings-init, brings-more, brings-stream, nothing_partial}
-use Rattle.session_node.proofs.PacketLemmas.{both-octets, brings-of, events-then}
+use Rattle.session_node.proofs.PacketLemmas.{brings-init, brings-more, brings-stream, nothing_partial, both-octets, brings-of, events-then}
 use Rattle.session_node.proofs.RunLemmas.{cuts_behind, stops_behind}
 
 -- the moments of turns of which the first one's was taken before: with it there is one at least

@@ -16,7 +16,7 @@ use Rattle.session_node.specs.Course.{IsReady, Owes}
 use Rattle.session_node.specs.Server.{server_state}
 use Rattle.session_node.specs.ServerState.{ServerState}
 use Rattle.session_node.proofs.CourseLemmas.{owes-last, owes-more, owes-taken, under-way-less}
-use Rattle.session_node.proofs.OctetLemmas.{octets_under_way}
+use Rattle.session_node.proofs.PacketLemmas.{octets_under_way}
 use Rattle.session_node.proofs.server.SessionServerParty.hear.Goals as goal
 
 pub invariant_of-self-in_default : goal.invariant_of-self-in_default
