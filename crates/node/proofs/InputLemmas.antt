@@ -3,7 +3,7 @@ use Rattle.std.proofs.Common.{◌≡◌, ℕ, ◌<◌, List, [], ◌∷◌, ◌+
 use Rattle.std.specs.Prelude.{◌==◌, if◌then◌else◌}
 use Rattle.std.proofs.lemmas.Bool.{ne_eqb}
 use Rattle.std.proofs.lemmas.List.{map-append, take-append-drop}
-use Rattle.std.proofs.lemmas.List.Elements.{recursion_from_All}
+use Rattle.std.proofs.lemmas.List.Elements.{All-from_recursion, recursion_from_All}
 use Rattle.std.specs.List.{AllByRecursion}
 use Rattle.px_base.specs.Octets.{IsOctets}
 use Rattle.px_base.specs.declared.air.Turn.{Turn}
@@ -29,6 +29,15 @@ are-inputs moment (o ∷ octets) h = (h.0, are-inputs moment octets h.1)
 -- octets that are heard may be handed over
 pub octets-inputs : (moment : ℕ) (octets : List ℕ) → IsOctets octets → AllByRecursion IsInput (octets_at moment octets)
 octets-inputs moment octets h = are-inputs moment octets (recursion_from_All (λ o. o < 256) octets h)
+
+-- the octets among inputs are octets
+octets-below : (inputs : List Input) → AllByRecursion IsInput inputs → AllByRecursion (λ o. o < 256) (octets_in inputs)
+octets-below [] h = tt
+octets-below (octet o moment ∷ inputs) h = (h.0, octets-below inputs h.1)
+octets-below (tick moment ∷ inputs) h = octets-below inputs h.1
+
+pub are-octets : (inputs : List Input) → AllByRecursion IsInput inputs → IsOctets (octets_in inputs)
+are-octets inputs h = All-from_recursion (λ o. o < 256) (octets_in inputs) (octets-below inputs h)
 
 -- a tick, where the moment is another one
 pub tick-there : (last moment : ℕ) → ¬ (moment ≡ last) → tick moment ∷ [] ≡ tick_after last moment

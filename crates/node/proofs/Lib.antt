@@ -2,7 +2,7 @@ mod BringsLemmas
 mod DriveLemmas
 mod EventLemmas
 mod Found
-mod InputLemmas
+pub mod InputLemmas
 mod Invariants
 mod OnAirLemmas
 mod SayingLemmas

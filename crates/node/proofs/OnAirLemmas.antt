@@ -16,22 +16,13 @@ use Rattle.node.specs.Station.{StationValue}
 use Rattle.node.specs.declared.halt.Halt.{Halt}
 use Rattle.node.specs.declared.on_air.OnAir.{OnAir}
 use Rattle.node.proofs.BringsLemmas.{brings-octet, brings-then}
-use Rattle.node.proofs.InputLemmas.{octets_at-append, octets_in-append, octets_in-at}
+use Rattle.node.proofs.InputLemmas.{are-octets, octets_at-append, octets_in-append, octets_in-at}
 
 pub octets-nil : IsOctets []
 octets-nil = All-nil (λ o. o < 256)
 
 pub octets-append : (xs ys : List ℕ) → IsOctets xs → IsOctets ys → IsOctets (xs ++ ys)
 octets-append xs ys h k = All-append (λ o. o < 256) xs ys h k
-
--- the octets among inputs are octets
-octets-below : (inputs : List Input) → AllByRecursion IsInput inputs → AllByRecursion (λ o. o < 256) (octets_in inputs)
-octets-below [] h = tt
-octets-below (octet o moment ∷ inputs) h = (h.0, octets-below inputs h.1)
-octets-below (tick moment ∷ inputs) h = octets-below inputs h.1
-
-are-octets : (inputs : List Input) → AllByRecursion IsInput inputs → IsOctets (octets_in inputs)
-are-octets inputs h = All-from_recursion (λ o. o < 256) (octets_in inputs) (octets-below inputs h)
 
 -- whatever inputs come, they bring some events
 some-events : SomeFramesLaw → (me : CallSign) (before : List ℕ) (inputs : List Input) → IsOctets before → AllByRecursion IsInput inputs → (events : List NodeEvent) × Brings me before inputs events

@@ -46,6 +46,12 @@ pub record Course (S D E : Type 0) : Type 1 where
   -- it takes no further turn
   pub is_over : S → Bool
 
+-- It took some events, and gave some of what they bring, or all.
+abbrev pub OwesSome : {S D E : Type 0} → Course S D E → AtDisk S D → Type 0
+OwesSome {S} {D} {E} course now =
+    (start : AtDisk S D) × (events : List E) × (why : Option Halt) × (said : List ℕ)
+    × course.owes start events why said now
+
 -- All was given: it goes on, and is fit for its next event; or it halts.
 abbrev pub Settles : {S D E : Type 0} → Course S D E → AtDisk S D → List E → Option Halt → List ℕ → AtDisk S D → Type 0
 Settles course start events None said now = course.goes start events said now × course.is_fit now

@@ -1,7 +1,7 @@
 //! What a node drives.
 
 ghost use Rattle.std.specs.Prelude.{◌≡◌, ℕ, ◌<◌, ◌≤◌, [], ◌∷◌, length, take, false, true, None, IfErr, IfOk};
-ghost use Rattle.node.specs.Course.{Course, GaveAll, GivesNext, HaltsWithin, IsLawful, at};
+ghost use Rattle.node.specs.Course.{Course, GaveAll, GivesNext, HaltsWithin, IsLawful, OwesSome, at};
 ghost use Rattle.node.specs.Inputs.{Input, IsInput, octets_at, tick};
 
 use crate::Halt;
@@ -38,6 +38,7 @@ pub trait Party<D: Disk> {
 
     /// Replaces `text` by what is to be said next. It is false where nothing is.
     fn next_out(&mut self, disk: &mut D, text: &mut ArrayVec<u8, 2049>) -> bool
+        requires owes { OwesSome course (at self.old disk.old) }
         ensures next { result ≡ true → GivesNext course (at self.old disk.old) text.new.items (at self.new disk.new) }
         ensures fewer { result ≡ true → course.most self.new < course.most self.old }
         ensures all { result ≡ false → GaveAll course (at self.old disk.old) (at self.new disk.new) };

@@ -1,8 +1,8 @@
 //! The turns of a node: octets in from the air, texts out to it, and the clock's moments.
 
-ghost use Rattle.std.specs.Prelude.{◌≡◌, ◌<◌, ◌≤◌, [], ◌∷◌, length, None, OnErr, OnOk};
+ghost use Rattle.std.specs.Prelude.{◌≡◌, ◌<◌, ◌≤◌, [], ◌∷◌, length, IsSome, None, OnErr, OnOk};
 ghost use Rattle.px_base.specs.Moments.{MomentsOf};
-ghost use Rattle.node.specs.Course.{at};
+ghost use Rattle.node.specs.Course.{OwesSome, at};
 ghost use Rattle.node.specs.Inputs.{octets_at, tick_after, turn_inputs};
 ghost use Rattle.node.specs.Turns.{AreHandedOver, IsMomentOf, SaysAll, Takes, TakesPiece, TookTurn, TookTurns, lent};
 
@@ -28,8 +28,9 @@ pub fn take_turns<D: Disk, P: Party<D>, A: Air, C: Clock>(
     terms: &TurnTerms,
 ) -> Result<Finished, NodeStop>
     requires { P.course.owes (at party.old disk.old) [] None [] (at party.old disk.old) }
-    ensures { TookTurns AreHandedOver P.course A.Air C.given (lent party.old disk.old air.old clock.old)
+    ensures turns { TookTurns AreHandedOver P.course A.Air C.given (lent party.old disk.old air.old clock.old)
         (lent party.new disk.new air.new clock.new) terms.now result }
+    ensures clock { IsSome terms.now.given → clock.new ≡ clock.old }
 {
     P::is_lawful();
     put_all(party, disk, air)?;
@@ -54,7 +55,8 @@ pub fn take_turns<D: Disk, P: Party<D>, A: Air, C: Clock>(
 
 /// The moment of this turn, counted from 0: the first one's may have been taken before.
 fn moment_of_turn<C: Clock>(turn: u64, terms: &TurnTerms, clock: &mut C) -> u32
-    ensures { IsMomentOf turn terms.now (C.given clock.old) (C.given clock.new) result }
+    ensures moment { IsMomentOf turn terms.now (C.given clock.old) (C.given clock.new) result }
+    ensures clock { IsSome terms.now.given → clock.new ≡ clock.old }
 {
     match terms.first {
         Some(first) if turn == 0 => first,
@@ -64,7 +66,8 @@ fn moment_of_turn<C: Clock>(turn: u64, terms: &TurnTerms, clock: &mut C) -> u32
 
 /// The moment of a turn: the one that is given, or the clock's.
 fn moment_given<C: Clock>(given: Option<u32>, clock: &mut C) -> u32
-    ensures { MomentsOf given (C.given clock.old) (C.given clock.new) (result ∷ []) }
+    ensures moment { MomentsOf given (C.given clock.old) (C.given clock.new) (result ∷ []) }
+    ensures clock { IsSome given → clock.new ≡ clock.old }
 {
     match given {
         Some(moment) => moment,
@@ -176,6 +179,7 @@ fn put_all<D: Disk, P: Party<D>, A: Air>(
     disk: &mut D,
     air: &mut A,
 ) -> Result<(), AirDown>
+    requires { OwesSome P.course (at party.old disk.old) }
     ensures { SaysAll P.course A.Air air.old air.new (at party.old disk.old) (at party.new disk.new) result }
 {
     let mut text = ArrayVec::new();

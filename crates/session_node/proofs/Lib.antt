@@ -1,15 +1,8 @@
-mod AckLemmas
-mod AnswerLemmas
-mod EventLemmas
-mod Invariants
-mod Listening
-mod Moments
-mod NodeLemmas
-mod OctetLemmas
+mod CourseLemmas
+mod Ends
 pub mod Offered
+mod PacketLemmas
 mod RunLemmas
-mod SayingLemmas
-mod SendingLemmas
-mod Serving
 mod Sessions
 mod Standing
+mod TurnLemmas

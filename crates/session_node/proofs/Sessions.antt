@@ -1,9 +1,9 @@
 -- A session from the recovery of its store to its end.
-use Rattle.std.proofs.Common.{◌≡◌, inl, inr, ⊎_elim, ℕ, List, [], ◌∷◌, ◌++◌, refl, sym, ◌∙◌, ap, subst, arith, Option}
+use Rattle.std.proofs.Common.{◌≡◌, inl, inr, ⊎_elim, ℕ, List, [], ◌∷◌, ◌++◌, refl, sym, ◌∙◌, ap, subst, arith, Option, None, Some}
 use Rattle.std.specs.Prelude.{Result, Ok, Err, IsErrOf}
-use Rattle.px_base.specs.CallSign.{CallSign}
 use Rattle.px_base.specs.Moments.{MomentsOf}
 use Rattle.px_base.specs.declared.air.Air.{Ghosts as AirGhosts}
+use Rattle.px_base.proofs.Told.{Grows-trans}
 use Rattle.px_base.specs.declared.air.Turn.{Turn}
 use Rattle.disk_model.specs.declared.disk.Disk.{Ghosts}
 use Rattle.file_store.specs.Calls.{Becomes, ChangesReads, Leaves, Runs, TakesStep}
@@ -22,11 +22,10 @@ use Rattle.session_node.specs.declared.stop.NodeStop.TheVariants as stop
 use Rattle.session_node.specs.declared.terms.Served.{Served}
 use Rattle.session_node.specs.declared.terms.SessionTerms.{SessionTerms}
 use Rattle.session_node.specs.OnDisk.{EachImage, LeavesStanding, NodeRuns}
-use Rattle.session_node.specs.ServerState.{IsUp, ServerState, new_server}
+use Rattle.session_node.specs.ServerState.{IsUp}
 use Rattle.session_node.specs.SessionRan.{SessionOn, SessionServed, TurnsBy}
 use Rattle.session_node.specs.Stops.{HasAirCause, RefusesSession, stop_of_fault}
-use Rattle.session_node.proofs.Moments.{moments-trans}
-use Rattle.session_node.proofs.Standing.{node_runs, runs_refused, runs_same, session_puts, session_reads, stands_through}
+use Rattle.session_node.proofs.Standing.{node_runs, runs_same, session_puts, session_reads, stands_through}
 
 -- ---- a recovery that is refused
 
@@ -95,13 +94,10 @@ refused_leaves g blocks old now why since_start since_sync untouched untouched_d
 
 -- ---- a session over the store that was recovered
 
--- the server was made over it
-pub on_recovered : {A C D : Type 0} (g : Ghosts D) (air : AirGhosts A) (given : C → Option (List ℕ)) (mid now : D) (before after : A) (clock clock_n : C) (first : ℕ) (terms : SessionTerms)
-    (caller : CallSign) (start new : StoreState) (server : ServerState) (result : Result Served NodeStop) → server ≡ new_server caller start
-    → SessionOn g air given server.store new mid now before after clock clock_n first [] terms result → SessionOn g air given start new mid now before after clock clock_n first [] terms result
-on_recovered g air given mid now before after clock clock_n first terms caller start new server result is h =
-    let P : StoreState → Type 0 = λ s. SessionOn g air given s new mid now before after clock clock_n first [] terms result in
-    subst P (ap (λ (s : ServerState). s.store) is) h
+-- the first moment and those since
+moments-first : (given : Option ℕ) (a m n : Option (List ℕ)) (first : ℕ) (later : List ℕ) → MomentsOf given a m (first ∷ []) → MomentsOf given m n later → MomentsOf given a n (first ∷ later)
+moments-first None a m n first later h k = Grows-trans a m n (first ∷ []) later h k
+moments-first (Some moment) a m n first later h k = ((h.0.0, k.0), k.1 ∙ h.1)
 
 -- no commands but those of two empty lists
 pub append-none : (a b : List Command) → a ++ b ≡ [] → (a ≡ []) × (b ≡ [])
@@ -112,7 +108,7 @@ module _ {A C D : Type 0} (g : Ghosts D) (air : AirGhosts A) (given : C → Opti
     (old mid now : D) (before after : A) (clock clock_m clock_n : C) (first : ℕ) (terms : SessionTerms) (start new : StoreState) (result : Result Served NodeStop)
     (recovered : IsRecovered g terms.limits.blocks old mid start) (ok : Runs g (IsErrOf {T = StoreState} (Ok start) fault.Disk) old mid)
     (told_first : MomentsOf terms.moment (given clock) (given clock_m) (first ∷ []))
-    (on_disk : SessionOn g air given start new mid now before after clock_m clock_n first [] terms result) where
+    (on_disk : SessionOn g air given start new mid now before after clock_m clock_n first terms result) where
   not_failed : IsErrOf {T = StoreState} (Ok start) fault.Disk → ⊥
   not_failed is = cc is
 
@@ -139,7 +135,7 @@ module _ {A C D : Type 0} (g : Ghosts D) (air : AirGhosts A) (given : C → Opti
         cut = on_disk.cut;
         missed = on_disk.missed;
         turns_heard = on_disk.turns_heard;
-        moments_given = moments-trans terms.moment (given clock) (given clock_m) (given clock_n) (first ∷ []) on_disk.later told_first on_disk.moments_given;
+        moments_given = moments-first terms.moment (given clock) (given clock_m) (given clock_n) first on_disk.later told_first on_disk.moments_given;
         text_said = on_disk.text_said;
         ran = on_disk.ran;
         puts =

@@ -1,24 +1,29 @@
--- What stands on the disk through a session: from the recovery on, and at its end.
-use Rattle.std.proofs.Common.{◌≡◌, inl, inr, ⊎_elim, ℕ, ◌+◌, ◌*◌, ◌≤◌, Bool, true, false, List, [], ◌∷◌, ◌++◌, length, refl, sym, ◌∙◌, ap, subst, arith, Option, None, Some, IfSome, length-append}
-use Rattle.std.specs.Prelude.{if◌then◌else◌}
+-- What stands on the disk through a session: from the recovery on, at its end, and of an acknowledged file.
+use Rattle.std.proofs.Common.{◌≡◌, inl, inr, ⊎_elim, ℕ, ◌+◌, ◌*◌, ◌≤◌, Bool, true, false, List, [], ◌∷◌, ◌++◌, length, refl, sym, ◌∙◌, ap, subst, arith, Option, None, Some, IfSome, length-append, ◌⊎◌, append_assoc}
+use Rattle.std.specs.Prelude.{if◌then◌else◌, Result, Ok, Err, IsErrOf}
 use Rattle.std.specs.Option.{option_and_then}
 use Rattle.disk_model.specs.declared.disk.Disk.{Ghosts}
 use Rattle.file_store.specs.Calls.{CountsFault, Leaves, Runs, TellsAlike}
-use Rattle.file_store.specs.Journal as journal
 use Rattle.file_store.specs.Journal.{Standing, journal_of}
 use Rattle.file_store.specs.JournalRecords.{Reading, Record, broken, whole}
 use Rattle.file_store.specs.JournalRecovery.{IsSyncedFirst}
 use Rattle.file_store.specs.Walk.{Stands, damaged_at, on_from, stands_for, stands_of, state, walk, walk_over}
 use Rattle.file_store.proofs.Offered.{alike_on, among-store, at_told, cuts-among-all, if_told, joined, makes-second, stay-on, told_before, told_weaker, weaker}
-use Rattle.file_store.specs.Command.{Command, after, begin, drop_entry, grow, is_allowed, seal}
+use Rattle.file_store.specs.Command.{Command, after, begin, drop_entry, grow, is_allowed, seal, AreAllowed}
 use Rattle.file_store.specs.Records.{command_of, store_after, store_magic, store_step}
 use Rattle.file_store.specs.Store.{Store, empty_store}
-use Rattle.file_store.specs.OnDisk.{MakesFirst}
+use Rattle.file_store.specs.OnDisk.{MakesFirst, MakesBetween, StayDone}
 use Rattle.file_store.specs.Recovery.{StandsAlike}
 use Rattle.file_store.specs.State.{StandsFor, StoreState, standing_of, store_in}
 use Rattle.file_store.specs.Working.{CountsSome, CutsOffAmongReads, DoesAmongReads, PutsAmongReads}
 use Rattle.session_node.specs.OnDisk.{EachImage, NodeRuns, StandsThrough}
 use Rattle.session_node.specs.ServerState.{IsUp}
+use Rattle.ftl0_session.specs.Laws.{AcknowledgedStandsLaw}
+use Rattle.session_node.specs.declared.stop.NodeStop.{NodeStop}
+use Rattle.session_node.specs.declared.terms.Served.{Served}
+use Rattle.session_node.specs.Laws.{AcknowledgedSinceLaw}
+use Rattle.file_store.specs.Journal as journal
+use Rattle.session_node.specs.declared.stop.NodeStop.TheVariants as stop
 
 -- ---- a store's own block number
 
@@ -172,12 +177,7 @@ module _ {D : Type 0} (g : Ghosts D) (on : (first second third : D) → g.lasts 
         told = alike_on _ _ _ first.told second.told;
         reads = omega (arith, same.0, second.reads);
         faults = subst (λ (n : ℕ). CountsFault n (g.write_faults now) failed) same.1 second.faults;
-        stops = record {
-          last = second.stops.last;
-          lasts = on old mid second.stops.last first.lasts second.stops.lasts;
-          writes = second.stops.writes ∙ same.1;
-          since = second.stops.since;
-        };
+        stops = record { last = second.stops.last; lasts = on old mid second.stops.last first.lasts second.stops.lasts; writes = second.stops.writes ∙ same.1; since = second.stops.since };
         lasts = on old mid now first.lasts second.lasts;
       }
 
@@ -205,12 +205,7 @@ runs_refused g failed old now runs = record {
   writes = runs.faults.writes;
   rose = runs.faults.rose;
   same = λ fine. (runs.faults.same fine).1;
-  stops = record {
-    last = runs.stops.last;
-    lasts = runs.stops.lasts;
-    writes = runs.stops.writes;
-    since = ⊎_elim (λ (one : _). inl (one.1, one.2)) (λ only. inr only) runs.stops.since;
-  };
+  stops = record { last = runs.stops.last; lasts = runs.stops.lasts; writes = runs.stops.writes; since = ⊎_elim (λ (one : _). inl (one.1, one.2)) (λ only. inr only) runs.stops.since };
   lasts = runs.lasts;
 }
 
@@ -218,12 +213,48 @@ runs_refused g failed old now runs = record {
 pub runs_same : {D : Type 0} (g : Ghosts D) (P Q : Type 0) → (P → Q) → (Q → P) → (old now : D) → Runs g P old now → Runs g Q old now
 runs_same g P Q there back old now runs = record {
   told = runs.told;
-  faults = record {
-    reads = runs.faults.reads;
-    writes = runs.faults.writes;
-    rose = λ stopped. runs.faults.rose (back stopped);
-    same = λ fine. runs.faults.same (λ p. fine (there p));
-  };
+  faults = record { reads = runs.faults.reads; writes = runs.faults.writes; rose = λ stopped. runs.faults.rose (back stopped); same = λ fine. runs.faults.same (λ p. fine (there p)) };
   stops = runs.stops;
   lasts = runs.lasts;
+}
+
+-- whether the disk failed
+by_disk : (result : Result Served NodeStop) → IsErrOf result stop.Disk ⊎ ¬ IsErrOf result stop.Disk
+by_disk (Ok served) = inr (λ is. cc is)
+by_disk (Err stop.Disk) = inl refl
+by_disk (Err stop.AirRead) = inr (λ is. cc is)
+by_disk (Err stop.AirWrite) = inr (λ is. cc is)
+by_disk (Err (stop.NotAStore found)) = inr (λ is. cc is)
+by_disk (Err (stop.Damaged at)) = inr (λ is. cc is)
+by_disk (Err stop.Spent) = inr (λ is. cc is)
+by_disk (Err stop.OutOfMemory) = inr (λ is. cc is)
+
+-- the commands done stay, whether the disk failed in one behind them or not
+stay_done : {D : Type 0} (g : Ghosts D) (failed : Type 0) (start : Store) (done cut : List Command) (disk disk_n : D) (stands : StandsThrough g failed start done cut disk disk_n) → failed ⊎ ¬ failed
+    → IfSome (g.content disk) (λ _. StayDone g stands.ready (length done) start (done ++ cut) disk_n)
+stay_done g failed start done cut disk disk_n stands (inl stopped) =
+    let end = stands.interrupted stopped in
+    told_weaker (g.content disk) _ _ (λ octets told stay count some most. stay count some (omega (arith, most, end.no_less))) end.stay
+stay_done g failed start done cut disk disk_n stands (inr fine) =
+    told_weaker (g.content disk) _ _ (λ octets told stay count some most. stay count some (omega (arith, most, length-append done cut))) (stands.stay fine)
+
+pub acknowledged_since : {D : Type 0} (g : Ghosts D) → AcknowledgedStandsLaw → AcknowledgedSinceLaw g
+acknowledged_since g law = record {
+  since = λ result start done cut disk disk_n stands caller store lists fails before moment number entry held rest is whole.
+      let ack = law caller start store lists fails before moment number entry held rest is whole in
+      record {
+        row = ack.row;
+        is_row = ack.is_row;
+        replies = ack.replies;
+        since = λ others parts.
+            let all : done ++ cut ≡ before ++ (ack.row.commands ++ (others ++ cut)) =
+            ap (λ (cs : List Command). cs ++ cut) parts ∙ append_assoc before (ack.row.commands ++ others) cut ∙ ap (λ (cs : List Command). before ++ cs) (append_assoc ack.row.commands others cut) in
+            let count : ℕ = length before + length ack.row.commands in
+            let some : 1 ≤ count = omega (arith, ack.some) in
+            let most : count ≤ length done = omega (arith, ap length parts, length-append before (ack.row.commands ++ others), length-append ack.row.commands others) in
+            told_weaker (g.content disk) _ _ (λ octets told stay image left.
+            ack.stands (others ++ cut) count (length (done ++ cut)) image (subst (λ (cs : List Command). AreAllowed start cs) all stands.allowed) (omega arith)
+            (subst (λ (cs : List Command). MakesBetween count (length (done ++ cut)) start cs image) all (stay count some most image left)))
+            (stay_done g (IsErrOf result stop.Disk) start done cut disk disk_n stands (by_disk result));
+      };
 }

@@ -1,6 +1,7 @@
+pub mod Course
 pub mod Laws
-pub mod Node
 pub mod OnDisk
+pub mod Packets
 pub mod Running
 pub mod Server
 pub mod ServerState

@@ -17,6 +17,8 @@ server_state a =
       lists = a.lists;
       state = state_in a.store a.session;
       octets = under_way a.reader;
+      replies = a.replies.items;
+      halted = a.halted;
     }
 
 -- No packet is whole of these octets: they wait for the end of the one under way.

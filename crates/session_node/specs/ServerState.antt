@@ -1,27 +1,34 @@
 -- What a session's server is between two packets.
-use Rattle.std.specs.Prelude.{◌≡◌, ℕ, List, [], ◌++◌, false}
+use Rattle.std.specs.Prelude.{◌≡◌, ℕ, List, [], Bool, false}
 use Rattle.px_base.specs.CallSign.{CallSign}
 use Rattle.disk_model.specs.declared.disk.Disk.{Ghosts}
 use Rattle.ftl0_session.specs.Lists.Lists.{CallerList}
 use Rattle.file_store.specs.State.{StandsOn, StoreState}
 use Rattle.ftl0_session.specs.Table.{State, command}
 
--- whose session it is, the store, the lists of all callers, the session's state, and the octets that were heard and of
--- which no packet was taken yet
+-- whose session it is, the store, the lists of all callers, the session's state, the octets that were heard and of which
+-- no packet was taken yet, the text that is to be said next, and whether it takes nothing more
 pub record ServerState : Type 0 where
   pub caller : CallSign
   pub store : StoreState
   pub lists : List CallerList
   pub state : State
   pub octets : List ℕ
+  pub replies : List ℕ
+  pub halted : Bool
 
--- before the first packet, over this store, without lists
-abbrev pub new_server : CallSign → StoreState → ServerState
-new_server caller store = record { caller = caller; store = store; lists = []; state = command; octets = [] }
-
--- with these octets heard too
-abbrev pub with_octets : ServerState → List ℕ → ServerState
-with_octets server octets = record server { octets = server.octets ++ octets }
+-- before the first packet, over this store, without lists, and with this text to say
+abbrev pub new_server : CallSign → StoreState → List ℕ → ServerState
+new_server caller store text =
+    record {
+      caller = caller;
+      store = store;
+      lists = [];
+      state = command;
+      octets = [];
+      replies = text;
+      halted = false;
+    }
 
 -- The store hasn't failed, and stands on the disk.
 pub record IsUp {D : Type 0} (g : Ghosts D) (store : StoreState) (disk : D) : Type 0 where

@@ -135,10 +135,10 @@ pub record SessionRan (caller : CallSign) (moments : List ℕ) (start : Store) (
       ⊎ IsGreeted caller moments start turns events writes writes_now text done cut missed result
 
 -- What a session of these terms made of an air and a clock, by what these tell, before and now, of what was heard, said
--- and given, and of the disk of its store. The first turn's moment was taken before, and this text said.
+-- and given, and of the disk of its store. The first turn's moment was taken before.
 pub record SessionOn {A C D : Type 0} (g : Ghosts D) (air : AirGhosts A) (given : C → Option (List ℕ))
-    (old new : StoreState) (disk disk_now : D) (before now : A) (clock clock_now : C) (first : ℕ) (said : List ℕ)
-    (terms : SessionTerms) (result : Result Served NodeStop) : Type 0 where
+    (old new : StoreState) (disk disk_now : D) (before now : A) (clock clock_now : C) (first : ℕ) (terms : SessionTerms)
+    (result : Result Served NodeStop) : Type 0 where
   pub turns : List Turn
   pub later : List ℕ
   pub text : List ℕ
@@ -150,7 +150,7 @@ pub record SessionOn {A C D : Type 0} (g : Ghosts D) (air : AirGhosts A) (given 
   pub text_said : Gains (air.said before) (air.said now) text
   pub ran :
       SessionRan terms.caller (first ∷ later) (store_in old) terms.polls turns (air.write_faults before)
-      (air.write_faults now) (said ++ text) done cut missed result
+      (air.write_faults now) text done cut missed result
   pub cuts : CutsOffAmongReads g (IsErrOf result stop.Disk) missed old new disk disk_now done cut
 
 -- The recovery of the store was refused, or there was no memory for the lists: nothing was heard or said, and the clock

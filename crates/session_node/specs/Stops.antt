@@ -1,20 +1,21 @@
 -- How a node's session stops, and what the air counts by that.
-use Rattle.std.specs.Prelude.{◌≡◌, ◌↔◌, ℕ, ◌≤◌, List, Option, IfSome, Result, Ok, Err, IsErrOf, ⊤}
+use Rattle.std.specs.Prelude.{◌≡◌, ◌↔◌, ℕ, ◌≤◌, List, Option, IfSome, Result, Ok, Err, IsErrOf}
 use Rattle.px_base.specs.Outside.{Rose}
-use Rattle.px_base.specs.declared.air.AirDown.{AirDown}
 use Rattle.file_store.specs.Walk.{damaged_at, no_store}
 use Rattle.file_store.specs.State.{standing_of}
 use Rattle.file_store.specs.declared.refusals.StoreFault.{StoreFault}
 use Rattle.file_store.specs.declared.refusals.StoreFault.TheVariants as fault
 use Rattle.ftl0_session.specs.declared.stop.ServerStop.{ServerStop}
 use Rattle.ftl0_session.specs.declared.stop.ServerStop.TheVariants as session_stop
+use Rattle.node.specs.declared.finished.Finished.{Finished}
+use Rattle.node.specs.declared.finished.Finished.TheVariants as finished
+use Rattle.node.specs.declared.halt.Halt.{Halt}
+use Rattle.node.specs.declared.halt.Halt.TheVariants as halt
+use Rattle.node.specs.declared.stop.NodeStop.{NodeStop as Stop}
+use Rattle.node.specs.declared.stop.NodeStop.TheVariants as node_stop
 use Rattle.session_node.specs.declared.stop.NodeStop.{NodeStop}
 use Rattle.session_node.specs.declared.stop.NodeStop.TheVariants as stop
-
--- how a session's stop stops its node
-abbrev pub stop_of_session : ServerStop → NodeStop
-stop_of_session session_stop.Disk = stop.Disk
-stop_of_session session_stop.OutOfMemory = stop.OutOfMemory
+use Rattle.session_node.specs.declared.terms.Served.{Served}
 
 -- how a recovery that is refused stops it
 abbrev pub stop_of_fault : StoreFault → NodeStop
@@ -23,15 +24,24 @@ stop_of_fault (fault.Damaged at) = stop.Damaged at
 stop_of_fault fault.Disk = stop.Disk
 stop_of_fault fault.OutOfMemory = stop.OutOfMemory
 
--- how saying the replies ends a packet that was taken
-abbrev pub said_end : Result ⊤ AirDown → Result ⊤ NodeStop
-said_end (Ok done) = Ok tt
-said_end (Err down) = Err stop.AirWrite
+-- how a session's stop halts its node
+abbrev pub halt_of_session : ServerStop → Halt
+halt_of_session session_stop.Disk = halt.Disk
+halt_of_session session_stop.OutOfMemory = halt.OutOfMemory
 
--- What stopped first: taking the packet, or saying the replies to it.
-abbrev pub first_stop : Result ⊤ ServerStop → Result ⊤ AirDown → Result ⊤ NodeStop
-first_stop (Ok taken) said = said_end said
-first_stop (Err why) said = Err (stop_of_session why)
+-- how a node's stop stops its session
+abbrev pub stop_of_node : Stop → NodeStop
+stop_of_node node_stop.AirRead = stop.AirRead
+stop_of_node node_stop.AirWrite = stop.AirWrite
+stop_of_node node_stop.Disk = stop.Disk
+stop_of_node node_stop.Spent = stop.Spent
+stop_of_node node_stop.OutOfMemory = stop.OutOfMemory
+
+-- How a node's turns end a session. It is never over before them.
+abbrev pub served_by : Result Finished Stop → Result Served NodeStop
+served_by (Ok finished.Over) = Ok (record { turns = 0 })
+served_by (Ok (finished.Closed turns)) = Ok (record { turns = turns })
+served_by (Err why) = Err (stop_of_node why)
 
 -- The air's counts of faults by how a call over it ended: where hearing or saying failed that count rose, and each
 -- other is as it was. After a fault of the disk one reply more was to be said, and that may have failed too.

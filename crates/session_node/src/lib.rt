@@ -2,11 +2,11 @@
 #![tactic(auto)]
 
 pub mod laws;
-mod node;
 mod server;
+mod serving;
 mod stop;
 mod terms;
 
-pub use node::session;
+pub use serving::session;
 pub use stop::NodeStop;
 pub use terms::{Served, SessionTerms};

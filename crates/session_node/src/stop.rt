@@ -1,10 +1,9 @@
 //! Why a session stopped.
 
 ghost use Rattle.std.specs.Prelude.{◌≡◌};
-ghost use Rattle.session_node.specs.Stops.{stop_of_fault, stop_of_session};
+ghost use Rattle.session_node.specs.Stops.{stop_of_fault, stop_of_node};
 
 use file_store::StoreFault;
-use ftl0_session::ServerStop;
 use thiserror::Error;
 
 /// Why a session stopped before the end of the air.
@@ -42,13 +41,16 @@ pub enum NodeStop {
     OutOfMemory,
 }
 
-impl From<ServerStop> for NodeStop {
-    ghost from_gives = { λ stop result. result ≡ stop_of_session stop };
+impl From<node::NodeStop> for NodeStop {
+    ghost from_gives = { λ stop result. result ≡ stop_of_node stop };
 
-    fn from(stop: ServerStop) -> NodeStop {
+    fn from(stop: node::NodeStop) -> NodeStop {
         match stop {
-            ServerStop::Disk => NodeStop::Disk,
-            ServerStop::OutOfMemory => NodeStop::OutOfMemory,
+            node::NodeStop::AirRead => NodeStop::AirRead,
+            node::NodeStop::AirWrite => NodeStop::AirWrite,
+            node::NodeStop::Disk => NodeStop::Disk,
+            node::NodeStop::Spent => NodeStop::Spent,
+            node::NodeStop::OutOfMemory => NodeStop::OutOfMemory,
         }
     }
 }

@@ -23,5 +23,5 @@ returns g c =
           (λ s. TookTurns (NodeEvents c.args.me) g.S.Station.course g.A.Air g.C.Clock.given (lent s c.args.disk.now c.args.air.now c.args.clock.now)
           (lent new.party.station new.disk new.air new.clock) c.args.terms.now ended.result) node.station
           (station-turns g.S.Station.me g.S.Station.course g.A.Air g.C.Clock.given c.args.terms.now c.args.me (lent c.new-node.result c.args.disk.now c.args.air.now c.args.clock.now)
-          (lent new.party new.disk new.air new.clock) ended.result (ap (λ s. g.S.Station.me s) node.station ∙ c.requires.me) node.heard ended.ensures);
+          (lent new.party new.disk new.air new.clock) ended.result (ap (λ s. g.S.Station.me s) node.station ∙ c.requires.me) node.heard ended.ensures.turns);
     }

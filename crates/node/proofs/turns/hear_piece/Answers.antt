@@ -1,5 +1,5 @@
 -- Saying what the party gives ends it.
-use Rattle.std.proofs.Common.{take}
+use Rattle.std.proofs.Common.{take, [], None, Some}
 use Rattle.node.specs.Course.{at}
 use Rattle.node.specs.Inputs.{octets_at}
 use Rattle.node.specs.Turns.{Takes, TakesPiece}
@@ -15,3 +15,12 @@ returns-in_err-put_all-in-Ok g c =
       taken-unsaid g.P.Party.course g.A.Air c.args.air.now c.put_all.new.air (at c.args.party.now c.args.disk.now) (at c.hear.new.self c.hear.new.disk) (at c.put_all.new.party c.put_all.new.disk)
           (octets_at c.args.moment (take c.in-Ok.taken c.args.piece.now)) c.in_err-put_all-in-Ok.field-0.0 c.in-Ok.ensures.takes c.in_err-put_all-in-Ok.ensures,
     )
+
+pub put_all-requires : goal.put_all-requires
+put_all-requires g c =
+    (at c.args.party.now c.args.disk.now, octets_at c.args.moment (take c.in-Ok.taken c.args.piece.now), None, [], c.in-Ok.ensures.takes)
+
+pub put_all-requires-in-Err : goal.put_all-requires-in-Err
+put_all-requires-in-Err g c =
+    let h = c.in-Err.ensures.halts in
+    (at c.args.party.now c.args.disk.now, octets_at c.args.moment (take h.0 c.args.piece.now), Some c.in-Err.why, [], h.1)

@@ -1,5 +1,5 @@
 -- Each text is put, and one that can't be ends it.
-use Rattle.std.proofs.Common.{List, ℕ, subst}
+use Rattle.std.proofs.Common.{List, ℕ, ◌++◌, subst}
 use Rattle.px_base.specs.Outside.{Gains, GainsPrefix}
 use Rattle.node.specs.Course.{at}
 use Rattle.node.specs.Turns.{SaysAll}
@@ -24,3 +24,9 @@ returns-in_err-put g c =
     (says-failed g.P.Party.course g.A.Air c.args.air.now c.loop-text.air (at c.args.party.now c.args.disk.now) (at c.loop-text.party c.loop-text.disk) c.loop-text.invariant
     c.put.new.self (at c.next_out.new.self c.next_out.new.disk) _ c.in_err-put.field-0.0 (c.next_out.ensures.next c.loop-text-test.true)
     (subst (λ (t : List ℕ). GainsPrefix (g.A.Air.said c.loop-text.air) (g.A.Air.said c.put.new.self) t) c.deref.ensures.0 put.err) put.heard put.read_faults put.write_faults)
+
+pub next_out-requires : goal.next_out-requires
+next_out-requires g c =
+    let o = c.requires in
+    let h = c.loop-text.invariant in
+    record { owes = (o.0, o.1, o.2, o.3 ++ h.text, h.owes o.0 o.1 o.2 o.3 o.4) }

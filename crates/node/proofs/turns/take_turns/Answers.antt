@@ -1,5 +1,6 @@
 -- The loop over turns.
-use Rattle.std.proofs.Common.{refl, sym, arith}
+use Rattle.std.proofs.Common.{refl, sym, ◌∙◌, arith, [], None}
+use Rattle.node.specs.Course.{at}
 use Rattle.node.specs.Turns.{AreHandedOver, TookTurns, lent}
 use Rattle.node.specs.declared.stop.NodeStop.TheVariants as stop
 use Rattle.node.proofs.SayingLemmas.{at_exit}
@@ -7,61 +8,68 @@ use Rattle.node.proofs.TurnsLemmas.{turns-closed, turns-more, turns-over, turns-
 use Rattle.node.proofs.turns.take_turns.Goals as goal
 
 pub loop-turn-init : goal.loop-turn-init
-loop-turn-init g c =
-    turns-start g.P.Party.course g.A.Air g.C.Clock.given (lent c.args.party.now c.args.disk.now c.args.air.now c.args.clock.now) c.args.terms.now
-    (lent c.put_all.new.party c.put_all.new.disk c.put_all.new.air c.args.clock.now) refl c.requires c.in_ok-put_all.ensures
+loop-turn-init g c = (
+  turns-start g.P.Party.course g.A.Air g.C.Clock.given (lent c.args.party.now c.args.disk.now c.args.air.now c.args.clock.now) c.args.terms.now
+      (lent c.put_all.new.party c.put_all.new.disk c.put_all.new.air c.args.clock.now) refl c.requires c.in_ok-put_all.ensures,
+  λ asked. refl,
+)
 
-pub returns-in_err-put_all : goal.returns-in_err-put_all
-returns-in_err-put_all g c =
+pub put_all-requires : goal.put_all-requires
+put_all-requires g c = (at c.args.party.now c.args.disk.now, [], None, [], c.requires)
+
+pub returns-in_err-put_all-clause-turns : goal.returns-in_err-put_all-clause-turns
+returns-in_err-put_all-clause-turns g c =
     let old = lent c.args.party.now c.args.disk.now c.args.air.now c.args.clock.now in
     let now = lent c.put_all.new.party c.put_all.new.disk c.put_all.new.air c.args.clock.now in
     at_exit (λ r. TookTurns AreHandedOver g.P.Party.course g.A.Air g.C.Clock.given old now c.args.terms.now r) c.from_residual.result stop.AirWrite c.from_residual.ensures.1
     (turns-unsaid g.P.Party.course g.A.Air g.C.Clock.given old c.args.terms.now now refl c.requires c.in_err-put_all.field-0.0 c.in_err-put_all.ensures)
 
-pub returns-then-is_over : goal.returns-then-is_over
-returns-then-is_over g c =
+pub returns-then-is_over-clause-turns : goal.returns-then-is_over-clause-turns
+returns-then-is_over-clause-turns g c =
     turns-over g.P.Party.course g.A.Air g.C.Clock.given (lent c.args.party.now c.args.disk.now c.args.air.now c.args.clock.now) c.args.terms.now
-    (lent c.loop-turn.party c.loop-turn.disk c.loop-turn.air c.loop-turn.clock) c.loop-turn.last c.loop-turn.turn c.loop-turn.invariant (sym c.if-is_over.ensures) c.loop-turn.auto.turn-end
+    (lent c.loop-turn.party c.loop-turn.disk c.loop-turn.air c.loop-turn.clock) c.loop-turn.last c.loop-turn.turn c.loop-turn.invariant.0 (sym c.if-is_over.ensures) c.loop-turn.auto.turn-end
 
 pub take_turn-requires : goal.take_turn-requires
-take_turn-requires g c = c.loop-turn.invariant.fit
+take_turn-requires g c = c.loop-turn.invariant.0.fit
 
-pub returns-in_err-take_turn : goal.returns-in_err-take_turn
-returns-in_err-take_turn g c =
+pub returns-in_err-take_turn-clause-turns : goal.returns-in_err-take_turn-clause-turns
+returns-in_err-take_turn-clause-turns g c =
     let old = lent c.args.party.now c.args.disk.now c.args.air.now c.args.clock.now in
     let mid = lent c.loop-turn.party c.loop-turn.disk c.loop-turn.air c.loop-turn.clock in
     let now = lent c.take_turn.new.party c.take_turn.new.disk c.take_turn.new.air c.moment_of_turn-moment.new.clock in
     let moment = c.moment_of_turn-moment.result in
     let why = c.in_err-take_turn.field-0.0 in
     at_exit (λ r. TookTurns AreHandedOver g.P.Party.course g.A.Air g.C.Clock.given old now c.args.terms.now r) (c.from_residual-in_err-take_turn).result why (c.from_residual-in_err-take_turn).ensures.1
-    (turns-stopped g.P.Party.course g.A.Air g.C.Clock.given old c.args.terms.now mid c.loop-turn.last c.loop-turn.turn c.loop-turn.invariant c.is_lawful.ensures (sym c.if-is_over.ensures)
-    c.loop-turn-test.true moment c.unwrap_or.result c.unwrap_or.ensures now c.moment_of_turn-moment.ensures why c.in_err-take_turn.ensures)
+    (turns-stopped g.P.Party.course g.A.Air g.C.Clock.given old c.args.terms.now mid c.loop-turn.last c.loop-turn.turn c.loop-turn.invariant.0 c.is_lawful.ensures (sym c.if-is_over.ensures)
+    c.loop-turn-test.true moment c.unwrap_or.result c.unwrap_or.ensures now c.moment_of_turn-moment.ensures.moment why c.in_err-take_turn.ensures)
 
-pub returns-then-not-branch : goal.returns-then-not-branch
-returns-then-not-branch g c =
+pub returns-then-not-branch-clause-turns : goal.returns-then-not-branch-clause-turns
+returns-then-not-branch-clause-turns g c =
     let old = lent c.args.party.now c.args.disk.now c.args.air.now c.args.clock.now in
     let mid = lent c.loop-turn.party c.loop-turn.disk c.loop-turn.air c.loop-turn.clock in
     let now = lent c.take_turn.new.party c.take_turn.new.disk c.take_turn.new.air c.moment_of_turn-moment.new.clock in
     let moment = c.moment_of_turn-moment.result in
-    turns-closed g.P.Party.course g.A.Air g.C.Clock.given old c.args.terms.now mid c.loop-turn.last c.loop-turn.turn c.loop-turn.invariant c.is_lawful.ensures (sym c.if-is_over.ensures)
-    c.loop-turn-test.true moment c.unwrap_or.result c.unwrap_or.ensures now c.moment_of_turn-moment.ensures c.in_ok-take_turn.field-0 c.if-not-branch.true c.in_ok-take_turn.ensures
+    turns-closed g.P.Party.course g.A.Air g.C.Clock.given old c.args.terms.now mid c.loop-turn.last c.loop-turn.turn c.loop-turn.invariant.0 c.is_lawful.ensures (sym c.if-is_over.ensures)
+    c.loop-turn-test.true moment c.unwrap_or.result c.unwrap_or.ensures now c.moment_of_turn-moment.ensures.moment c.in_ok-take_turn.field-0 c.if-not-branch.true c.in_ok-take_turn.ensures
 
 pub loop-turn-preserved : goal.loop-turn-preserved
 loop-turn-preserved g c =
     let old = lent c.args.party.now c.args.disk.now c.args.air.now c.args.clock.now in
     let mid = lent c.loop-turn.party c.loop-turn.disk c.loop-turn.air c.loop-turn.clock in
     let now = lent c.take_turn.new.party c.take_turn.new.disk c.take_turn.new.air c.moment_of_turn-moment.new.clock in
-    let moment = c.moment_of_turn-moment.result in
-    turns-more g.P.Party.course g.A.Air g.C.Clock.given old c.args.terms.now mid c.loop-turn.last c.loop-turn.turn c.loop-turn.invariant c.is_lawful.ensures (sym c.if-is_over.ensures)
-    c.loop-turn-test.true moment c.unwrap_or.result c.unwrap_or.ensures now c.moment_of_turn-moment.ensures c.in_ok-take_turn.field-0 c.if-not-branch.false c.in_ok-take_turn.ensures
+    let moment = c.moment_of_turn-moment.result in (
+      turns-more g.P.Party.course g.A.Air g.C.Clock.given old c.args.terms.now mid c.loop-turn.last c.loop-turn.turn c.loop-turn.invariant.0 c.is_lawful.ensures (sym c.if-is_over.ensures)
+          c.loop-turn-test.true moment c.unwrap_or.result c.unwrap_or.ensures now c.moment_of_turn-moment.ensures.moment c.in_ok-take_turn.field-0 c.if-not-branch.false c.in_ok-take_turn.ensures,
+      λ asked. c.moment_of_turn-moment.ensures.clock asked ∙ c.loop-turn.invariant.1 asked,
+    )
 
-pub returns-then-is_over-2 : goal.returns-then-is_over-2
-returns-then-is_over-2 g c =
+pub returns-then-is_over-2-clause-turns : goal.returns-then-is_over-2-clause-turns
+returns-then-is_over-2-clause-turns g c =
     turns-over g.P.Party.course g.A.Air g.C.Clock.given (lent c.args.party.now c.args.disk.now c.args.air.now c.args.clock.now) c.args.terms.now
-    (lent c.loop-turn.party c.loop-turn.disk c.loop-turn.air c.loop-turn.clock) c.loop-turn.last c.loop-turn.turn c.loop-turn.invariant (sym (c.if-is_over-2).ensures) c.loop-turn.auto.turn-end
+    (lent c.loop-turn.party c.loop-turn.disk c.loop-turn.air c.loop-turn.clock) c.loop-turn.last c.loop-turn.turn c.loop-turn.invariant.0 (sym (c.if-is_over-2).ensures) c.loop-turn.auto.turn-end
 
-pub returns-else-is_over-2 : goal.returns-else-is_over-2
-returns-else-is_over-2 g c =
+pub returns-else-is_over-2-clause-turns : goal.returns-else-is_over-2-clause-turns
+returns-else-is_over-2-clause-turns g c =
     turns-spent g.P.Party.course g.A.Air g.C.Clock.given (lent c.args.party.now c.args.disk.now c.args.air.now c.args.clock.now) c.args.terms.now
-    (lent c.loop-turn.party c.loop-turn.disk c.loop-turn.air c.loop-turn.clock) c.loop-turn.last c.loop-turn.turn c.loop-turn.invariant (sym (c.if-is_over-2).ensures)
+    (lent c.loop-turn.party c.loop-turn.disk c.loop-turn.air c.loop-turn.clock) c.loop-turn.last c.loop-turn.turn c.loop-turn.invariant.0 (sym (c.if-is_over-2).ensures)
     (omega (arith, c.loop-turn.auto.turn-end, c.loop-turn-test.false))

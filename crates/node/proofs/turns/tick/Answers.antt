@@ -1,7 +1,7 @@
 -- Saying what the party gives ends it.
-use Rattle.std.proofs.Common.{List, [], None, subst}
+use Rattle.std.proofs.Common.{List, [], ◌∷◌, None, subst}
 use Rattle.node.specs.Course.{at}
-use Rattle.node.specs.Inputs.{Input, tick_after}
+use Rattle.node.specs.Inputs.{Input, tick, tick_after}
 use Rattle.node.proofs.InputLemmas.{tick-there}
 use Rattle.node.specs.Turns.{Takes}
 use Rattle.node.specs.declared.stop.NodeStop.TheVariants as stop
@@ -16,3 +16,6 @@ returns-in_err-put_all g c =
     (tick_after c.args.last c.args.moment) c.in_err-put_all.field-0.0
     (subst (λ (is : List Input). g.P.Party.course.owes (at c.args.party.now c.args.disk.now) is None [] (at c.tick.new.self c.tick.new.disk)) (tick-there c.args.last c.args.moment c.if-moment-last.false)
     c.tick.ensures) c.in_err-put_all.ensures)
+
+pub put_all-requires : goal.put_all-requires
+put_all-requires g c = (at c.args.party.now c.args.disk.now, tick c.args.moment ∷ [], None, [], c.tick.ensures)

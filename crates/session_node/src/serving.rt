@@ -1,17 +1,19 @@
 //! The session of one caller, from the recovery of its store to its end.
 
-ghost use Rattle.std.specs.Prelude.{◌≡◌, ◌≤◌, IsErrOf, IsSome};
+ghost use Rattle.std.specs.Prelude.{◌≡◌, ◌≢◌, ◌≤◌, [], ◌∷◌, Ok, IsErrOf, IsSome};
+ghost use Rattle.px_base.specs.Moments.{MomentsOf};
 ghost use Rattle.session_node.specs.OnDisk.{NodeRuns};
 ghost use Rattle.session_node.specs.SessionRan.{SessionEnds};
-ghost use Rattle.session_node.specs.Stops.{HasAirCause, RefusesSession};
+ghost use Rattle.session_node.specs.Stops.{HasAirCause, RefusesSession, served_by};
 
-use crate::server::{SessionServer, moment_of};
+use crate::server::SessionServer;
 use crate::{NodeStop, Served, SessionTerms};
 use disk_model::Disk;
 use file_store::FileStore;
 use file_store::laws::state_law;
-use ftl0_session::Replies;
+use ftl0_packets::laws::stream_law;
 use ftl0_session::lists::Lists;
+use node::{Finished, TurnTerms, take_turns};
 use px_base::{Air, Clock};
 use std::alloc::Global;
 
@@ -51,10 +53,39 @@ pub fn session<D: Disk, A: Air, C: Clock>(
         return Err(NodeStop::OutOfMemory);
     };
     state_law(&store);
+    // Whatever is heard is a stream of packets, and no other one.
+    stream_law();
     let first = moment_of(terms.moment, clock);
-    let mut login = Replies::new();
-    let mut server = SessionServer::new(terms.caller, first, store, lists, &mut login);
-    let ended = server.serve(disk, air, clock, first, login.as_slice(), terms);
+    let mut server = SessionServer::new(terms.caller, first, store, lists);
+    let terms = TurnTerms {
+        polls: terms.polls,
+        given: terms.moment,
+        first: Some(first),
+    };
+    let ended = take_turns(&mut server, disk, air, clock, &terms);
     server.end(disk);
-    ended
+    answer_of(ended)
+}
+
+/// The first moment: the one that is given, or the clock's.
+fn moment_of<C: Clock>(given: Option<u32>, clock: &mut C) -> u32
+    ensures moment { MomentsOf given (C.given clock.old) (C.given clock.new) (result ∷ []) }
+    ensures clock { IsSome given → clock.new ≡ clock.old }
+{
+    match given {
+        Some(moment) => moment,
+        None => clock.now(),
+    }
+}
+
+/// How a session ended, by how its node's turns did. It was never over before them.
+fn answer_of(ended: Result<Finished, node::NodeStop>) -> Result<Served, NodeStop>
+    requires { ended ≢ Ok Finished.Over }
+    ensures { result ≡ served_by ended }
+{
+    match ended {
+        Ok(Finished::Closed(turns)) => Ok(Served { turns }),
+        Ok(Finished::Over) => unreachable!(),
+        Err(stop) => Err(NodeStop::from(stop)),
+    }
 }
