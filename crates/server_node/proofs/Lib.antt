@@ -1,4 +1,3 @@
-mod SendingLemmas
 mod ServesLemmas
 mod ServingLemmas
 mod StationLemmas

@@ -1,13 +1,18 @@
 -- How a server goes on over events, and how it stops.
-use Rattle.std.proofs.Common.{ℕ, ◌+◌, List, [], ◌∷◌, ◌++◌, refl, ap, sym, ◌∙◌, subst, append_assoc, append-nil}
+use Rattle.std.proofs.Common.{◌≡◌, ℕ, ◌+◌, List, [], ◌∷◌, ◌++◌, refl, ap, sym, ◌∙◌, subst, append_assoc, append-nil}
 use Rattle.std.proofs.Math.Nat.{add-zero, add_assoc, zero-add}
-use Rattle.ax25_frames.specs.FrameText.{FrameValue}
+use Rattle.ax25_frames.specs.FrameText.{FrameValue, canonical}
 use Rattle.file_store.specs.Command.{Command}
 use Rattle.node.specs.Events.{NodeEvent}
 use Rattle.ftl0_server.specs.Server.{Server}
 use Rattle.session_node.specs.declared.stop.NodeStop.{NodeStop}
 use Rattle.server_node.specs.Serving.{ServesOver, StopsAt, StopsBehind, StopsOver, TakesEvent, text_of}
-use Rattle.server_node.proofs.SendingLemmas.{text-append}
+use Rattle.kiss.specs.KissText.{kiss_text}
+use Rattle.std.proofs.lemmas.List.Concat.{flat_map-append}
+
+-- the text of frames and of others
+pub text-append : (xs ys : List FrameValue) → text_of (xs ++ ys) ≡ text_of xs ++ text_of ys
+text-append xs ys = flat_map-append (λ (frame : FrameValue). kiss_text (canonical frame)) xs ys
 
 -- one event
 pub serves-one : (server : Server) (event : NodeEvent) (done : List Command) (sent : List FrameValue) (told : ℕ) (next : Server)
