@@ -1,5 +1,5 @@
 mod ServesLemmas
-mod ServingLemmas
+mod StartLemmas
 mod StationLemmas
 mod StepLemmas
 mod StoreLemmas

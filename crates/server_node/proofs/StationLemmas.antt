@@ -179,7 +179,7 @@ module _ {D : Type 0} (g : Ghosts D) (lasts : (disk : D) → g.lasts disk disk) 
   none-sent server [] last silent sent = (refl, sent.1)
   none-sent server (frame ∷ frames) last silent sent = absurd (cc (sym silent ∙ sent.1))
 
-  owes-none : (start : AtDisk ServerStation D) → IsUp g start → (server_course g).owes start [] None [] start
+  pub owes-none : (start : AtDisk ServerStation D) → IsUp g start → (server_course g).owes start [] None [] start
   owes-none start up = (up, λ server serving. record {
     made = server;
     stands = serving.is;
