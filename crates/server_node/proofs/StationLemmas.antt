@@ -1,5 +1,6 @@
 -- How a server goes over the events of its node.
 use Rattle.std.proofs.Common.{◌≡◌, ℕ, ◌+◌, Bool, true, false, List, [], ◌∷◌, ◌++◌, Option, None, Some, refl, ap, sym, subst, ◌∙◌, inl, inr, true≢false, append_assoc, append-nil}
+use Rattle.std.proofs.Math.Nat.{zero-add}
 use Rattle.std.specs.Prelude.{◌≢◌, Result, Ok, Err, ⊤}
 use Rattle.kiss.specs.KissText.{kiss_text}
 use Rattle.px_base.specs.Octets.{IsFront}
@@ -14,6 +15,7 @@ use Rattle.node.specs.Events.{NodeEvent}
 use Rattle.node.specs.Turns.{IsUnsaid}
 use Rattle.node.specs.declared.halt.Halt.{Halt}
 use Rattle.node.specs.declared.halt.Halt.TheVariants as halt
+use Rattle.node.specs.declared.stop.NodeStop.{NodeStop as StopOfNode}
 use Rattle.node.specs.declared.stop.NodeStop.TheVariants as node_stop
 use Rattle.ftl0_server.specs.Failures.{failed_reads, failed_write}
 use Rattle.ftl0_server.specs.Connection.Taking.{fails}
@@ -30,7 +32,7 @@ use Rattle.session_node.specs.Running.{IsSaid}
 use Rattle.server_node.specs.Serving.{StopsAt, StopsOver, TakesEvent, failing, text_of}
 use Rattle.server_node.specs.Station.{IsServing, IsUp, OwesOver, OwesRest, RunsOn, StandsBy, StopsOn, WholeBy, server_course, stop_by, with_server}
 use Rattle.server_node.specs.declared.station.ServerStation.{ServerStation}
-use Rattle.server_node.proofs.ServesLemmas.{text-append, serves-append, serves-one, stops-at, stops-behind, stops-longer}
+use Rattle.server_node.proofs.ServesLemmas.{text-append, serves-append, serves-one, stops-at, stops-behind}
 use Rattle.server_node.proofs.StepLemmas.{uncut}
 
 -- how a server answers an event, by the halt of its node
@@ -56,15 +58,34 @@ module _ {D : Type 0} (g : Ghosts D) (lasts : (disk : D) → g.lasts disk disk) 
     abbrev taken : ServerHappened
     taken = happening server event (failed_reads parts)
 
+    moved : (missed : ℕ) (done : List Command) → DoesAmongReads g ⊥ missed old.it.server.store made.store old.disk new.disk done → DoesAmongReads g ⊥ missed old.it.server.store new.it.server.store old.disk new.disk done
+    moved missed done does = subst (λ (store : StoreState). DoesAmongReads g ⊥ missed old.it.server.store store old.disk new.disk done) (sym same) does
+
+    -- It stopped at the event.
+    stopped : (why : StopOfNode) (unsaid : Bool) (text : List ℕ) (done cut : List Command) (missed : ℕ)
+        → ((writes writes_n : ℕ) → IsUnsaid unsaid writes writes_n → StopsAt (stop_by why) server event writes writes_n text done cut missed)
+        → CutsOffAmongReads g (stop_by why ≡ stop.Disk) missed old.it.server.store new.it.server.store old.disk new.disk done cut → (why ≡ node_stop.OutOfMemory → unsaid ≡ false)
+        → StopsOn g server old (event ∷ []) why unsaid text new
+    stopped why unsaid text done cut missed at_event cuts kept = record {
+      done = done;
+      cut = cut;
+      missed = missed;
+      stops = λ writes writes_n is. stops-at (stop_by why) writes writes_n cut server event text done missed (at_event writes writes_n is);
+      cuts = cuts;
+      kept = kept;
+    }
+
+    -- Not by the disk.
+    none-cut : (why : StopOfNode) → ¬ (stop_by why ≡ stop.Disk) → (done : List Command) (missed : ℕ) → DoesAmongReads g ⊥ missed old.it.server.store made.store old.disk new.disk done
+        → CutsOffAmongReads g (stop_by why ≡ stop.Disk) missed old.it.server.store new.it.server.store old.disk new.disk done []
+    none-cut why fine done missed does = cuts-among-none g _ missed old.it.server.store new.it.server.store old.disk new.disk done fine (lasts new.disk) (moved missed done does)
+
     module _ (by : Heard (Ok tt)) (frames : List FrameValue) (last : Server) (sent : Empties taken.after frames last) where
       takes-event : TakesEvent server event frames taken.done taken.missed (settled last)
       takes-event = record {
         parts = parts;
         step = record { silent = serving.silent; done_is = refl; cut_is = sym (uncut parts server event); missed_is = refl; halt_is = sym by.0; last = last; sent = sent; new_is = refl };
       }
-
-      does-event : DoesAmongReads g ⊥ taken.missed old.it.server.store new.it.server.store old.disk new.disk taken.done
-      does-event = subst (λ (store : StoreState). DoesAmongReads g ⊥ taken.missed old.it.server.store store old.disk new.disk taken.done) (sym same) by.2
 
       -- All of it was taken, and its frames were said.
       event-taken : IsServer new.it.server (settled last) → RunsOn g server old (event ∷ []) (text_of frames) new
@@ -76,19 +97,14 @@ module _ {D : Type 0} (g : Ghosts D) (lasts : (disk : D) → g.lasts disk disk) 
         serves = serves-one server event taken.done frames taken.missed (settled last) takes-event;
         text_is = refl;
         serving = record { is = stands; silent = silent-settled last (empties-silent taken.after frames last sent) };
-        does = does-event;
+        does = moved taken.missed taken.done by.2;
       }
 
       -- All of it was taken, and saying its frames failed.
       event-unsaid : (text : List ℕ) → frames ≢ [] → IsFront text (text_of frames) → StopsOn g server old (event ∷ []) node_stop.AirWrite true text new
-      event-unsaid text some is_front = record {
-        done = taken.done;
-        cut = [];
-        missed = taken.missed;
-        stops = λ writes writes_n rose. stops-at stop.AirWrite writes writes_n [] server event text taken.done taken.missed (frames, settled last, takes-event, some, is_front, refl);
-        cuts = cuts-among-none g _ taken.missed old.it.server.store new.it.server.store old.disk new.disk taken.done (λ (e : stop.AirWrite ≡ stop.Disk). cc e) (lasts new.disk) does-event;
-        kept = λ is. cc is;
-      }
+      event-unsaid text some is_front =
+          stopped node_stop.AirWrite true text taken.done [] taken.missed (λ writes writes_n rose. (frames, settled last, takes-event, some, is_front, refl))
+          (none-cut node_stop.AirWrite (λ e. cc e) taken.done taken.missed by.2) (λ is. cc is)
 
     -- The disk failed in it, and the frames of that step were said, or a front of them.
     event-failed : (by : Heard (Err server_stop.Disk)) (frames : List FrameValue) (last : Server) → Empties (failing server event by.0 parts).after frames last → (text : List ℕ) (unsaid : Bool)
@@ -97,34 +113,18 @@ module _ {D : Type 0} (g : Ghosts D) (lasts : (disk : D) → g.lasts disk disk) 
         let failed : ServerHappened = failing server event by.0 parts in
         let step : ServerStep server event (failed_write by.0 ++ failed_reads parts) failed.done failed.cut failed.missed fails frames (settled last) =
         record { silent = serving.silent; done_is = refl; cut_is = refl; missed_is = refl; halt_is = sym by.1; last = last; sent = sent; new_is = refl } in
-        record {
-          done = failed.done;
-          cut = failed.cut;
-          missed = failed.missed;
-          stops = λ writes writes_n is. stops-at stop.Disk writes writes_n failed.cut server event text failed.done failed.missed (by.0, parts, frames, settled last, step, said writes writes_n is);
-          cuts =
-              cuts-among-same g ⊤ (stop.Disk ≡ stop.Disk) failed.missed failed.missed old.it.server.store new.it.server.store old.disk new.disk failed.done failed.cut (λ _. refl) (λ _. tt) refl
-              (subst (λ (store : StoreState). CutsOffAmongReads g ⊤ failed.missed old.it.server.store store old.disk new.disk failed.done failed.cut) (sym same) by.3);
-          kept = λ is. cc is;
-        }
+        stopped node_stop.Disk unsaid text failed.done failed.cut failed.missed (λ writes writes_n is. (by.0, parts, frames, settled last, step, said writes writes_n is))
+        (cuts-among-same g ⊤ (stop.Disk ≡ stop.Disk) failed.missed failed.missed old.it.server.store new.it.server.store old.disk new.disk failed.done failed.cut (λ _. refl) (λ _. tt) refl
+        (subst (λ (store : StoreState). CutsOffAmongReads g ⊤ failed.missed old.it.server.store store old.disk new.disk failed.done failed.cut) (sym same) by.3)) (λ is. cc is)
 
     -- There was no memory for it.
-    unmade : (done : List Command) (missed : ℕ) → StopsAt stop.OutOfMemory server event 0 0 [] done [] missed → DoesAmongReads g ⊥ missed old.it.server.store made.store old.disk new.disk done
-        → StopsOn g server old (event ∷ []) node_stop.OutOfMemory false [] new
-    unmade done missed at_event does = record {
-      done = done;
-      cut = [];
-      missed = missed;
-      stops = λ writes writes_n is. stops-at stop.OutOfMemory writes writes_n [] server event [] done missed at_event;
-      cuts =
-          cuts-among-none g _ missed old.it.server.store new.it.server.store old.disk new.disk done (λ (e : stop.OutOfMemory ≡ stop.Disk). cc e) (lasts new.disk)
-          (subst (λ (store : StoreState). DoesAmongReads g ⊥ missed old.it.server.store store old.disk new.disk done) (sym same) does);
-      kept = λ is. refl;
-    }
-
     event-unmade : Heard (Err server_stop.OutOfMemory) → StopsOn g server old (event ∷ []) node_stop.OutOfMemory false [] new
-    event-unmade (inl does) = unmade [] 0 (inl (refl, refl), refl, refl) does
-    event-unmade (inr by) = let failed : ServerHappened = failing server event by.0 parts in unmade failed.done failed.missed (inr (by.0, parts, by.1, refl, refl), refl, refl) by.2
+    event-unmade (inl does) =
+        stopped node_stop.OutOfMemory false [] [] [] 0 (λ writes writes_n is. (inl (refl, refl), refl, refl)) (none-cut node_stop.OutOfMemory (λ e. cc e) [] 0 does) (λ is. refl)
+    event-unmade (inr by) =
+        let failed : ServerHappened = failing server event by.0 parts in
+        stopped node_stop.OutOfMemory false [] failed.done [] failed.missed (λ writes writes_n is. (inr (by.0, parts, by.1, refl, refl), refl, refl))
+        (none-cut node_stop.OutOfMemory (λ e. cc e) failed.done failed.missed by.2) (λ is. refl)
 
   -- It came, and its frames are to be said.
   module _ (old : AtDisk ServerStation D) (made : ServerState) (disk : D) (event : NodeEvent) (up : IsUp g old) where
@@ -180,16 +180,19 @@ module _ {D : Type 0} (g : Ghosts D) (lasts : (disk : D) → g.lasts disk disk) 
   none-sent server (frame ∷ frames) last silent sent = absurd (cc (sym silent ∙ sent.1))
 
   pub owes-none : (start : AtDisk ServerStation D) → IsUp g start → (server_course g).owes start [] None [] start
-  owes-none start up = (up, λ server serving. record {
-    made = server;
-    stands = serving.is;
-    memory = up.memory;
-    whole = λ frames last self sent same stands settles.
-        let none = none-sent server frames last serving.silent sent in
-        subst (λ (t : List ℕ). RunsOn g server start [] t (with_server start self)) (ap text_of (sym none.0))
-        (runs-none start self server up same (record { is = subst (λ (s : Server). IsServer self s) none.1 stands; silent = serving.silent }));
-    front = λ frames last self text sent same some. absurd (some (none-sent server frames last serving.silent sent).0);
-  })
+  owes-none start up = (
+    up,
+    λ server serving. record {
+      made = server;
+      stands = serving.is;
+      memory = up.memory;
+      whole = λ frames last self sent same stands settles.
+          let none = none-sent server frames last serving.silent sent in
+          subst (λ (t : List ℕ). RunsOn g server start [] t (with_server start self)) (ap text_of (sym none.0))
+          (runs-none start self server up same (record { is = subst (λ (s : Server). IsServer self s) none.1 stands; silent = serving.silent }));
+      front = λ frames last self text sent same some. absurd (some (none-sent server frames last serving.silent sent).0);
+    },
+  )
 
   -- ---- what is said
 
@@ -342,7 +345,10 @@ module _ {D : Type 0} (g : Ghosts D) (lasts : (disk : D) → g.lasts disk disk) 
             missed = first.missed + second.missed;
             stops = λ writes writes_n is.
                 subst (λ (t : List ℕ). StopsOver server (events ++ others) (stop_by why) writes writes_n (t ++ more) (first.commands ++ second.done) second.cut (first.missed + second.missed)) (sym first.text_is)
-                (stops-behind (stop_by why) writes writes_n second.cut server events first.frames first.commands first.missed first.next others more second.done second.missed first.serves (second.stops writes writes_n is)).stops;
+                (subst (λ (es : List NodeEvent). StopsOver server es (stop_by why) writes writes_n (text_of first.frames ++ more) (first.commands ++ second.done) second.cut (first.missed + second.missed))
+                (append-nil (events ++ others))
+                (stops-behind (stop_by why) writes writes_n second.cut server events first.frames first.commands first.missed first.next others [] more second.done second.missed first.serves
+                (second.stops writes writes_n is)).stops);
             cuts =
                 cuts-among-then g on _ first.missed second.missed start.it.server.store mid.it.server.store now.it.server.store start.disk mid.disk now.disk first.commands second.done second.cut
                 first.does second.cuts;
@@ -354,7 +360,9 @@ module _ {D : Type 0} (g : Ghosts D) (lasts : (disk : D) → g.lasts disk disk) 
             done = stop_is.done;
             cut = stop_is.cut;
             missed = stop_is.missed;
-            stops = λ writes writes_n is. stops-longer (stop_by why) writes writes_n stop_is.cut server events others text stop_is.done stop_is.missed (stop_is.stops writes writes_n is);
+            stops = λ writes writes_n is.
+                subst (λ (n : ℕ). StopsOver server (events ++ others) (stop_by why) writes writes_n text stop_is.done stop_is.cut n) (zero-add stop_is.missed)
+                (stops-behind (stop_by why) writes writes_n stop_is.cut server [] [] [] 0 server events others text stop_is.done stop_is.missed (refl, refl, refl, refl) (stop_is.stops writes writes_n is)).stops;
             cuts = stop_is.cuts;
             kept = stop_is.kept;
           };

@@ -1,5 +1,5 @@
 -- What a server did over the turns of its node.
-use Rattle.std.proofs.Common.{◌≡◌, ◌⊎◌, ℕ, ◌+◌, ◌≤◌, IfSome, List, [], ◌∷◌, ◌++◌, length, take, drop, false, Option, None, refl, ap, sym, subst, ◌∙◌, inl, inr, true≢false, length-append, arith}
+use Rattle.std.proofs.Common.{◌≡◌, ◌⊎◌, ℕ, ◌+◌, ◌≤◌, IfSome, List, [], ◌∷◌, ◌++◌, length, take, drop, false, Option, None, refl, ap, sym, subst, ◌∙◌, inl, inr, true≢false, append-nil, length-append, arith}
 use Rattle.std.proofs.lemmas.List.{length-take-le, take-append-drop}
 use Rattle.std.specs.Prelude.{◌≢◌, Result, Ok, Err, IsErrOf}
 use Rattle.px_base.specs.declared.air.Air.{Ghosts as AirGhosts}
@@ -176,9 +176,9 @@ module _ {A C D : Type 0} (g : Ghosts D) (air : AirGhosts A) (given : C → Opti
         did (Err (stop_by why)) done at_stop.cut missed ends (counts (λ is. subst (λ b. IsUnsaid b (air.write_faults old.air) (air.write_faults new.air)) (at_stop.kept is) took.is_unsaid))
         (record { earlier = h.earlier; but_last = h.but_last; before = h.before; behind = h.behind; split = h.split; least = h.least; brought = h.brought })
         (over h.least done at_stop.cut missed
-        (subst (λ (es : List NodeEvent). Behind h.least es took.text) (sym h.events_are)
-        (subst (λ (t : List ℕ). Behind h.least (h.least ++ h.more) t) (sym (h.text_is ∙ ap (λ (t : List ℕ). t ++ h.last) runs.text_is))
-        (stops-behind (stop_by why) (air.write_faults old.air) (air.write_faults new.air) at_stop.cut server h.least runs.frames runs.commands runs.missed runs.next h.more h.last at_stop.done
+        (subst (λ (es : List NodeEvent). Behind h.least es took.text) (append-nil (h.least ++ h.more) ∙ sym h.events_are)
+        (subst (λ (t : List ℕ). Behind h.least ((h.least ++ h.more) ++ []) t) (sym (h.text_is ∙ ap (λ (t : List ℕ). t ++ h.last) runs.text_is))
+        (stops-behind (stop_by why) (air.write_faults old.air) (air.write_faults new.air) at_stop.cut server h.least runs.frames runs.commands runs.missed runs.next h.more [] h.last at_stop.done
         at_stop.missed runs.serves (at_stop.stops (air.write_faults old.air) (air.write_faults new.air) took.is_unsaid)))))
         (cuts-among-same g (stop_by why ≡ stop.Disk) (IsErrOf (Err (stop_by why)) stop.Disk) missed missed store store_n old.disk new.disk done at_stop.cut
         (λ is. ap Err is) (λ is. of_error (stop_by why) stop.Disk (Err (stop_by why)) refl is) refl

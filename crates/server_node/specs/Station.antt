@@ -1,4 +1,5 @@
--- The course of a server as a node drives it: which events it takes, what it says to them, and what it does on its disk.
+-- The course of a server as a node drives it: which events it takes, what it says to them, and what it does on its
+-- disk.
 use Rattle.std.specs.Prelude.{◌≡◌, ◌≢◌, ℕ, List, [], ◌++◌, Bool, true, false, Option, None, Some, Result, Ok, Err}
 use Rattle.px_base.specs.Octets.{IsFront}
 use Rattle.disk_model.specs.declared.disk.Disk.{Ghosts}
@@ -97,8 +98,8 @@ WholeBy g server old events None last text new =
     IsServer new.it.server last → IsServer new.it.server (settled last) → RunsOn g server old events text new
 WholeBy g server old events (Some why) last text new = StopsOn g server old events (stop_of why) false text new
 
--- It took these events, and said this so far of what they give; what it has still to say are the frames that this server
--- sends. What comes of it if all of them are said, or if saying them fails behind a front of their text.
+-- It took these events, and so far said this of what they give; what it has still to say are the frames that this
+-- server sends. And what comes of it where all of them are said, or where saying them fails behind a front of their text.
 pub record OwesRest {D : Type 0} (g : Ghosts D) (server : Server) (old : AtDisk ServerStation D)
     (events : List NodeEvent) (why : Option Halt) (said : List ℕ) (now : AtDisk ServerStation D) : Type 0 where
   pub made : Server
