@@ -1,6 +1,5 @@
-mod SendingLemmas
 mod ServesLemmas
-mod ServingLemmas
+mod StartLemmas
 mod StationLemmas
 mod StepLemmas
 mod StoreLemmas

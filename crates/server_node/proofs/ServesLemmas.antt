@@ -1,13 +1,18 @@
 -- How a server goes on over events, and how it stops.
-use Rattle.std.proofs.Common.{ℕ, ◌+◌, List, [], ◌∷◌, ◌++◌, refl, ap, sym, ◌∙◌, subst, append_assoc, append-nil}
+use Rattle.std.proofs.Common.{◌≡◌, ℕ, ◌+◌, List, [], ◌∷◌, ◌++◌, refl, ap, sym, ◌∙◌, subst, append_assoc, append-nil}
 use Rattle.std.proofs.Math.Nat.{add-zero, add_assoc, zero-add}
-use Rattle.ax25_frames.specs.FrameText.{FrameValue}
+use Rattle.ax25_frames.specs.FrameText.{FrameValue, canonical}
 use Rattle.file_store.specs.Command.{Command}
 use Rattle.node.specs.Events.{NodeEvent}
 use Rattle.ftl0_server.specs.Server.{Server}
 use Rattle.session_node.specs.declared.stop.NodeStop.{NodeStop}
 use Rattle.server_node.specs.Serving.{ServesOver, StopsAt, StopsBehind, StopsOver, TakesEvent, text_of}
-use Rattle.server_node.proofs.SendingLemmas.{text-append}
+use Rattle.kiss.specs.KissText.{kiss_text}
+use Rattle.std.proofs.lemmas.List.Concat.{flat_map-append}
+
+-- the text of frames and of others
+pub text-append : (xs ys : List FrameValue) → text_of (xs ++ ys) ≡ text_of xs ++ text_of ys
+text-append xs ys = flat_map-append (λ (frame : FrameValue). kiss_text (canonical frame)) xs ys
 
 -- one event
 pub serves-one : (server : Server) (event : NodeEvent) (done : List Command) (sent : List FrameValue) (told : ℕ) (next : Server)
@@ -60,40 +65,20 @@ module _ (why : NodeStop) (writes writes_n : ℕ) (cut : List Command) where
     missed_is = sym (zero-add missed);
   }
 
-  -- a stop with further events behind it
-  pub stops-longer : (server : Server) (events others : List NodeEvent) (text : List ℕ) (done : List Command) (missed : ℕ) → StopsOver server events why writes writes_n text done cut missed
-      → StopsOver server (events ++ others) why writes writes_n text done cut missed
-  stops-longer server events others text done missed h = record {
-    before = h.before;
-    next = h.next;
-    later = h.later ++ others;
-    events_are = ap (λ (es : List NodeEvent). es ++ others) h.events_are ∙ append_assoc h.before (h.next ∷ h.later) others;
-    frames = h.frames;
-    commands = h.commands;
-    first_missed = h.first_missed;
-    server_then = h.server_then;
-    serves = h.serves;
-    last = h.last;
-    more = h.more;
-    last_missed = h.last_missed;
-    stops = h.stops;
-    text_is = h.text_is;
-    done_is = h.done_is;
-    missed_is = h.missed_is;
-  }
-
-  -- events, and a stop at one of others, behind them
+  -- events, a stop at one of others, behind them, and further ones behind that
   pub stops-behind :
-      (server : Server) (events : List NodeEvent) (frames : List FrameValue) (commands : List Command) (missed : ℕ) (mid : Server) (others : List NodeEvent) (text : List ℕ) (done : List Command)
+      (server : Server) (events : List NodeEvent) (frames : List FrameValue) (commands : List Command) (missed : ℕ) (mid : Server) (others further : List NodeEvent) (text : List ℕ) (done : List Command)
       (other : ℕ) → ServesOver server events frames commands missed mid → StopsOver mid others why writes writes_n text done cut other
-      → StopsBehind events server (events ++ others) why writes writes_n (text_of frames ++ text) (commands ++ done) cut (missed + other)
-  stops-behind server events frames commands missed mid others text done other h k = record {
+      → StopsBehind events server ((events ++ others) ++ further) why writes writes_n (text_of frames ++ text) (commands ++ done) cut (missed + other)
+  stops-behind server events frames commands missed mid others further text done other h k = record {
     stops =
         record {
           before = events ++ k.before;
           next = k.next;
-          later = k.later;
-          events_are = ap (λ (es : List NodeEvent). events ++ es) k.events_are ∙ sym (append_assoc events k.before (k.next ∷ k.later));
+          later = k.later ++ further;
+          events_are =
+              ap (λ (es : List NodeEvent). (events ++ es) ++ further) k.events_are ∙ ap (λ (es : List NodeEvent). es ++ further) (sym (append_assoc events k.before (k.next ∷ k.later)))
+              ∙ append_assoc (events ++ k.before) (k.next ∷ k.later) further;
           frames = frames ++ k.frames;
           commands = commands ++ k.commands;
           first_missed = missed + k.first_missed;

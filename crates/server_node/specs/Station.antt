@@ -1,11 +1,13 @@
--- The course of a server as a node drives it: which events it takes, what it says to them, and what it does on its disk.
-use Rattle.std.specs.Prelude.{◌≡◌, ℕ, List, [], ◌∷◌, Bool, true, false, Option, None, Some, Result, Ok, Err, ⊤}
+-- The course of a server as a node drives it: which events it takes, what it says to them, and what it does on its
+-- disk.
+use Rattle.std.specs.Prelude.{◌≡◌, ◌≢◌, ℕ, List, [], ◌++◌, Bool, true, false, Option, None, Some, Result, Ok, Err}
+use Rattle.px_base.specs.Octets.{IsFront}
 use Rattle.disk_model.specs.declared.disk.Disk.{Ghosts}
 use Rattle.ax25_frames.specs.FrameText.{FrameValue}
 use Rattle.file_store.specs.Command.{Command}
 use Rattle.file_store.specs.State.{StandsOn}
 use Rattle.file_store.specs.Working.{CutsOffAmongReads, DoesAmongReads}
-use Rattle.node.specs.Course.{AtDisk, Course}
+use Rattle.node.specs.Course.{AtDisk, Course, at, stop_at_put, stop_of}
 use Rattle.node.specs.Events.{NodeEvent}
 use Rattle.node.specs.Turns.{IsUnsaid}
 use Rattle.node.specs.declared.finished.Finished.{Finished}
@@ -14,13 +16,9 @@ use Rattle.node.specs.declared.halt.Halt.{Halt}
 use Rattle.node.specs.declared.halt.Halt.TheVariants as halt
 use Rattle.node.specs.declared.stop.NodeStop.{NodeStop as StopOfNode}
 use Rattle.node.specs.declared.stop.NodeStop.TheVariants as node_stop
-use Rattle.ftl0_server.specs.Calls.{HearsBy}
-use Rattle.ftl0_server.specs.Connection.ConnectionState.{with_reads}
-use Rattle.ftl0_server.specs.Server.{IsSilent, Server, ServerSends, server_next}
+use Rattle.ftl0_server.specs.Server.{IsSilent, Server, settled}
 use Rattle.ftl0_server.specs.ServerState.{IsServer, SendsFor, ServerState, server_most, server_pending}
-use Rattle.ftl0_server.specs.ServerStep.{happening}
-use Rattle.ftl0_server.specs.ServerStop.{ServerStop}
-use Rattle.ftl0_server.specs.ServerStop.TheVariants as server_stop
+use Rattle.ftl0_server.specs.ServerStep.{Empties}
 use Rattle.session_node.specs.declared.stop.NodeStop.{NodeStop}
 use Rattle.session_node.specs.declared.stop.NodeStop.TheVariants as stop
 use Rattle.session_node.specs.declared.terms.Served.{Served}
@@ -40,18 +38,6 @@ abbrev pub EndsAs : Result Finished StopOfNode → Result Served NodeStop → Ty
 EndsAs (Ok finished.Over) result = ⊥
 EndsAs (Ok (finished.Closed turns)) result = result ≡ Ok (record { turns = turns })
 EndsAs (Err why) result = result ≡ Err (stop_by why)
-
--- how the server answers an event, by the halt of its node
-abbrev pub answer_by : Option Halt → Result ⊤ ServerStop
-answer_by None = Ok tt
-answer_by (Some halt.Disk) = Err server_stop.Disk
-answer_by (Some halt.OutOfMemory) = Err server_stop.OutOfMemory
-
--- whether nothing more is said: after want of memory
-abbrev pub silences : Option Halt → Bool
-silences None = false
-silences (Some halt.Disk) = false
-silences (Some halt.OutOfMemory) = true
 
 -- The server stands for that one, which has nothing to send.
 pub record IsServing (self : ServerState) (server : Server) : Type 0 where
@@ -96,46 +82,45 @@ pub record StopsOn {D : Type 0} (g : Ghosts D) (server : Server) (old : AtDisk S
       done cut
   pub kept : why ≡ node_stop.OutOfMemory → unsaid ≡ false
 
--- The server sends these frames one after another, and is this one then.
-abbrev pub Emits : Server → List FrameValue → Server → Type 0
-Emits server [] now = now ≡ server
-Emits server (frame ∷ frames) now =
-    (sends : ServerSends) × (server_next server ≡ Some sends) × (frame ≡ sends.frame) × Emits sends.after frames now
+-- with this server in place of its own
+abbrev pub with_server : {D : Type 0} → AtDisk ServerStation D → ServerState → AtDisk ServerStation D
+with_server a self = at (record { server = self; is_out_of_memory = a.it.is_out_of_memory }) a.disk
 
--- Frames of this server make this text, and what stood for it stands, in this sense, for the one that has sent them.
-pub record HasSent (Stands : ServerState → Server → Type 0) (made : Server) (text : List ℕ) (self : ServerState) :
-    Type 0 where
-  pub frames : List FrameValue
-  pub then_is : Server
-  pub emits : Emits made frames then_is
-  pub stands : Stands self then_is
-  pub text_is : text ≡ text_of frames
+-- what it stands for while it sends: after a fault of the disk only as far as frames go
+abbrev pub StandsBy : Option Halt → ServerState → Server → Type 0
+StandsBy None = IsServer
+StandsBy (Some why) = SendsFor
 
--- the same of whichever server it stood for
-abbrev pub SendsOn : (ServerState → Server → Type 0) → ServerState → List ℕ → ServerState → Type 0
-SendsOn Stands old text new = (made : Server) → Stands old made → HasSent Stands made text new
+-- what comes of it once all is said, and it stands for the server that has sent all: it ran on, or it stopped
+abbrev pub WholeBy : {D : Type 0} → Ghosts D → Server → AtDisk ServerStation D → List NodeEvent → Option Halt → Server
+    → List ℕ → AtDisk ServerStation D → Type 0
+WholeBy g server old events None last text new =
+    IsServer new.it.server last → IsServer new.it.server (settled last) → RunsOn g server old events text new
+WholeBy g server old events (Some why) last text new = StopsOn g server old events (stop_of why) false text new
 
--- An event came, and made that of the server; so far this was said of what it sends then, and the rest is to be said. After
--- want of memory nothing is.
-pub record OwesOf {D : Type 0} (g : Ghosts D) (server : Server) (old : AtDisk ServerStation D) (event : NodeEvent)
-    (why : Option Halt) (said : List ℕ) (new : AtDisk ServerStation D) : Type 0 where
-  pub parts : List ℕ
-  pub made : ServerState
-  pub by :
-      HearsBy g (with_reads (happening server event) parts) old.it.server made old.disk new.disk (answer_by why)
-  pub same_store : new.it.server.store ≡ made.store
-  pub sends : SendsOn SendsFor made said new.it.server
-  pub serves : SendsOn IsServer made said new.it.server
-  pub memory : new.it.is_out_of_memory ≡ silences why
-  pub none : silences why ≡ true → said ≡ []
+-- It took these events, and so far said this of what they give; what it has still to say are the frames that this
+-- server sends. And what comes of it where all of them are said, or where saying them fails behind a front of their text.
+pub record OwesRest {D : Type 0} (g : Ghosts D) (server : Server) (old : AtDisk ServerStation D)
+    (events : List NodeEvent) (why : Option Halt) (said : List ℕ) (now : AtDisk ServerStation D) : Type 0 where
+  pub made : Server
+  pub stands : StandsBy why now.it.server made
+  pub memory : now.it.is_out_of_memory ≡ false
+  pub whole :
+      (frames : List FrameValue) (last : Server) (self : ServerState) → Empties made frames last
+      → self.store ≡ now.it.server.store
+      → WholeBy g server old events why last (said ++ text_of frames) (with_server now self)
+  pub front :
+      (frames : List FrameValue) (last : Server) (self : ServerState) (text : List ℕ) → Empties made frames last
+      → self.store ≡ now.it.server.store → frames ≢ [] → IsFront text (text_of frames)
+      → StopsOn g server old events (stop_at_put why) true (said ++ text) (with_server now self)
 
--- No event came, and nothing is to be said; or one did.
-abbrev pub OwesOver :
-    {D : Type 0} → Ghosts D → Server → AtDisk ServerStation D → List NodeEvent → Option Halt → List ℕ
+-- the same, but that after want of memory nothing is said
+abbrev pub OwesOver : {D : Type 0} → Ghosts D → Server → AtDisk ServerStation D → List NodeEvent → Option Halt → List ℕ
     → AtDisk ServerStation D → Type 0
-OwesOver g server old [] why said new = (why ≡ None) × (said ≡ []) × (new ≡ old)
-OwesOver g server old (event ∷ []) why said new = OwesOf g server old event why said new
-OwesOver g server old (event ∷ next ∷ later) why said new = ⊥
+OwesOver g server old events None said now = OwesRest g server old events None said now
+OwesOver g server old events (Some halt.Disk) said now = OwesRest g server old events (Some halt.Disk) said now
+OwesOver g server old events (Some halt.OutOfMemory) said now =
+    (now.it.is_out_of_memory ≡ true) × StopsOn g server old events node_stop.OutOfMemory false said now
 
 -- the course of a server, whichever one of the definitions it stands for
 abbrev pub server_course : {D : Type 0} → Ghosts D → Course ServerStation D NodeEvent

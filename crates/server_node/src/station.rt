@@ -39,7 +39,7 @@ impl ServerStation {
     }
 }
 
-/// After a fault of the disk the frames of that event are said, code 3 among them; after want of memory none of them is.
+/// After a fault of the disk the frames of that event are said, code 3 among them; after want of memory none is.
 impl<D: Disk> Station<D> for ServerStation {
     ghost me = { λ it. it.server.me };
 

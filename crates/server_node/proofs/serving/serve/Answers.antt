@@ -1,7 +1,7 @@
 -- The recovery is refused, or the server serves over what it gives.
 use Rattle.std.proofs.Common.{inl, inr, refl, sym, subst, Result}
 use Rattle.ftl0_server.specs.ServerState.{ServerState}
-use Rattle.file_store.specs.State.{store_in}
+use Rattle.node.specs.Course.{at}
 use Rattle.node.specs.Turns.{lent}
 use Rattle.session_node.specs.OnDisk.{NodeRuns}
 use Rattle.std.specs.Prelude.{IsErrOf}
@@ -11,8 +11,9 @@ use Rattle.session_node.specs.declared.terms.Served.{Served}
 use Rattle.session_node.specs.Stops.{RefusesSession, stop_of_fault}
 use Rattle.session_node.proofs.Offered.{at_exit, runs_refused}
 use Rattle.server_node.specs.Served.{ServerEnds}
-use Rattle.server_node.proofs.TurnsLemmas.{all-did, never-over}
-use Rattle.server_node.proofs.ServingLemmas.{IsStarted, not_failed, server_exactly, server_runs, server_served, start_exactly, start_leaves, start_runs, start_synced, started_up}
+use Rattle.server_node.proofs.StartLemmas.{IsStarted, not_failed, start_exactly, start_leaves, start_runs, start_synced, started_up}
+use Rattle.server_node.proofs.StationLemmas.{owes-none}
+use Rattle.server_node.proofs.TurnsLemmas.{never-over, serves-all}
 use Rattle.server_node.proofs.serving.serve.Goals as goal
 
 pub drive-station-requires-clause-owes : goal.drive-station-requires-clause-owes
@@ -20,7 +21,8 @@ drive-station-requires-clause-owes g c =
     let h = c.in_ok-server.ensures in
     let started = subst (λ (s : ServerState). IsStarted g.D.Disk c.args.terms.now c.args.disk.now c.start.new.disk s) (sym c.new-station.ensures.server)
     (record { recovered = h.recovered; server = h.server; rules = h.rules; silent = h.silent }) in
-    (started_up g.D.Disk c.args.terms.now c.args.disk.now c.start.new.disk c.new-station.result started c.new-station.ensures.memory, λ server serving. (refl, refl, refl))
+    owes-none g.D.Disk g.met.D.Disk.lasts_same (at c.new-station.result c.start.new.disk)
+    (started_up g.D.Disk c.args.terms.now c.args.disk.now c.start.new.disk c.new-station.result started c.new-station.ensures.memory)
 
 pub served-requires : goal.served-requires
 served-requires g c =
@@ -33,23 +35,12 @@ returns g c =
     let h = c.in_ok-server.ensures in
     let new = c.drive-station.new in
     let terms = c.args.terms.now in
-    let disk = c.args.disk.now in
-    let started = subst (λ (s : ServerState). IsStarted g.D.Disk terms disk c.start.new.disk s) (sym c.new-station.ensures.server)
+    let started = subst (λ (s : ServerState). IsStarted g.D.Disk terms c.args.disk.now c.start.new.disk s) (sym c.new-station.ensures.server)
     (record { recovered = h.recovered; server = h.server; rules = h.rules; silent = h.silent }) in
-    let up = started_up g.D.Disk terms disk c.start.new.disk c.new-station.result started c.new-station.ensures.memory in
-    let mid = lent c.new-station.result c.start.new.disk c.args.air.now c.args.clock.now in
-    let now = lent c.drive-station.result.0 new.disk new.air new.clock in
-    let did = all-did g.D.Disk g.A.Air g.C.Clock.given terms mid now c.drive-station.result.1 c.drive-station.ensures.turns g.met.D.Disk.lasts_same g.met.D.Disk.lasts_on
-    (store_in c.new-station.result.server.store) up (record { is = started.server; silent = refl }) c.served.result c.served.ensures in
-    let fine = not_failed ServerState c.in_ok-server.server in
-    let served = server_served g.D.Disk g.A.Air g.C.Clock.given g.met.D.Disk.lasts_on g.met.D.Disk.earlier disk terms mid now c.served.result started _ fine h.runs did h.octets h.since_start
-    (start_synced g.D.Disk terms.limits.blocks c.in_ok-server.server disk c.start.new.disk h.since_sync) in
-    record {
-      refuses = server_exactly g.D.Disk g.A.Air g.C.Clock.given g.met.D.Disk.lasts_on g.met.D.Disk.earlier disk terms mid now c.served.result started _ fine h.runs did;
-      ends = inr served;
-      counts = did.counts;
-      runs = server_runs g.D.Disk g.A.Air g.C.Clock.given disk new.disk c.args.air.now new.air c.args.clock.now new.clock terms c.served.result served;
-    }
+    let all = serves-all g.D.Disk g.A.Air g.C.Clock.given terms (lent c.new-station.result c.start.new.disk c.args.air.now c.args.clock.now) (lent c.drive-station.result.0 new.disk new.air new.clock)
+    c.drive-station.result.1 c.drive-station.ensures.turns g.met.D.Disk.lasts_same g.met.D.Disk.lasts_on g.met.D.Disk.earlier c.args.disk.now started c.new-station.ensures.memory c.served.result
+    c.served.ensures _ (not_failed ServerState c.in_ok-server.server) h.runs h.octets h.since_start (start_synced g.D.Disk terms.limits.blocks c.in_ok-server.server c.args.disk.now c.start.new.disk h.since_sync) in
+    record { refuses = all.0; ends = inr all.1; counts = all.2; runs = all.3 }
 
 pub returns-in_err-server-clause-refuses : goal.returns-in_err-server-clause-refuses
 returns-in_err-server-clause-refuses g c =

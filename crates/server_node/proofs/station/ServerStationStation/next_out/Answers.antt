@@ -16,4 +16,4 @@ pub returns-clause-next : goal.returns-clause-next
 returns-clause-next g c is =
     let out = c.next_out.ensures in
     gives-next g.D.Disk g.met.D.Disk.lasts_same (at c.args.self.now c.args._disk.now) c.next_out.new.self _ _ c.next_out.result out.pending c.if-self.false out.sends out.next out.same.store c.if-not-next_out.false
-    (λ then_is stands. let ends = c.empties_law.ensures then_is stands in (ends.0, ends.1, ends.2, tt))
+    c.empties_law.ensures

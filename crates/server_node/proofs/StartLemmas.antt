@@ -1,17 +1,13 @@
--- A server from the recovery of its store to its end.
+-- The start of a server: the recovery of its store, and what that leaves on the disk.
 use Rattle.std.proofs.Common.{◌≡◌, inl, inr, ⊎_elim, ℕ, ◌+◌, ◌*◌, ◌≤◌, List, [], ◌∷◌, ◌++◌, length, refl, sym, ◌∙◌, ap, subst, arith, Option, IfSome, false}
-use Rattle.std.specs.Prelude.{Result, Ok, Err, IsErrOf}
-use Rattle.px_base.specs.declared.air.Air.{Ghosts as AirGhosts}
-use Rattle.px_base.specs.declared.air.Turn.{Turn}
+use Rattle.std.specs.Prelude.{Ok, Err, IsErrOf}
 use Rattle.disk_model.specs.declared.disk.Disk.{Ghosts}
-use Rattle.file_store.specs.Calls.{Becomes, ChangesReads, Leaves, Runs, TakesStep, TellsAlike, images_now}
-use Rattle.file_store.specs.Journal.{after_recovery}
+use Rattle.file_store.specs.Calls.{Leaves, Runs, TellsAlike, images_now}
 use Rattle.file_store.specs.JournalRecovery.{IsFailedSync, IsSyncedFirst}
 use Rattle.file_store.specs.Walk.{state}
-use Rattle.file_store.proofs.Offered.{after_first-all, at_told, cuts-among-all, cuts-among-puts, if_told, reads_now, told_before, told_weaker}
+use Rattle.file_store.proofs.Offered.{after_first-all, at_told, cuts-among-all, if_told, reads_now, told_before, told_weaker}
 use Rattle.file_store.specs.Command.{Command}
 use Rattle.file_store.specs.IsStore.{IsStore}
-use Rattle.file_store.specs.Records.{store_magic}
 use Rattle.file_store.specs.Store.{Store}
 use Rattle.file_store.specs.OnDisk.{StayDone, after_first}
 use Rattle.file_store.specs.Recovery.{IsRecovered, LeavesAlikeSinceSync, RefusesRecovery, StandsAlike}
@@ -22,20 +18,16 @@ use Rattle.file_store.specs.declared.refusals.StoreFault.TheVariants as fault
 use Rattle.ftl0_server.specs.Window.{window_of}
 use Rattle.ftl0_server.specs.Server.{new_server}
 use Rattle.ftl0_server.specs.ServerState.{IsServer, ServerState, server_pending}
-use Rattle.session_node.specs.declared.stop.NodeStop.{NodeStop}
 use Rattle.session_node.specs.declared.stop.NodeStop.TheVariants as stop
 use Rattle.session_node.specs.declared.terms.Served.{Served}
-use Rattle.session_node.specs.OnDisk.{EachImage, LeavesStanding, NodeRuns}
-use Rattle.session_node.specs.SessionRan.{TurnsBy}
+use Rattle.session_node.specs.OnDisk.{EachImage, LeavesStanding}
 use Rattle.session_node.specs.Stops.{RefusesSession, stop_of_fault}
-use Rattle.session_node.proofs.Offered.{append-none, node_runs, own_blocks, refused_exactly, refused_leaves, refused_runs, runs_same, session_puts, session_reads, stands_through}
+use Rattle.session_node.proofs.Offered.{own_blocks, refused_exactly, refused_leaves, refused_runs, runs_same}
 use Rattle.server_node.specs.declared.terms.ServerTerms.{ServerTerms}
 use Rattle.server_node.specs.Station.{IsUp}
 use Rattle.server_node.specs.declared.station.ServerStation.{ServerStation}
-use Rattle.server_node.specs.Served.{ServerServed, server_from}
-use Rattle.server_node.proofs.TurnsLemmas.{Did}
+use Rattle.server_node.specs.Served.{server_from}
 use Rattle.node.specs.Course.{at}
-use Rattle.node.specs.Turns.{Lent}
 
 -- ---- a recovery that is refused, whatever it would have given
 
@@ -124,63 +116,6 @@ module _ {D : Type 0} (g : Ghosts D) (on : (first second third : D) → g.lasts 
   -- each image stands for the store that was come to, where the disk didn't fail
   pub left_at_end : (done cut : List Command) → CutsOffAmongReads g failed missed start new mid now done cut → EachImage g now (λ image. StandsFor image (store_in new))
   left_at_end done cut cuts = left_by (done ++ cut) (cuts-among-all g on failed missed start new mid now done cut cuts)
-
-module _ {A C D : Type 0} (g : Ghosts D) (air : AirGhosts A) (given : C → Option (List ℕ)) (on : (first second third : D) → g.lasts first second → g.lasts second third → g.lasts first third)
-    (earlier : (disk : D) (t u : ℕ) (image : List ℕ) → t ≤ u → g.images_since disk u image → g.images_since disk t image) (old : D) (terms : ServerTerms) (mid now : Lent ServerStation D A C)
-    (result : Result Served NodeStop) (started : IsStarted g terms old mid.disk mid.party.server) (failed : Type 0) (fine : ¬ failed) (ok : Runs g failed old mid.disk)
-    (served : Did g air given terms (store_in mid.party.server.store) mid now result) where
-  pub server_served : TakesStep g old mid.disk (Becomes (after_recovery store_magic terms.limits.blocks)) → Leaves g old mid.disk (StandsAlike terms.limits.blocks)
-      → IfSome (g.content old) (λ octets. IsSyncedFirst g old mid.disk (StandsAlike terms.limits.blocks octets)) → ServerServed g air given old now.disk mid.air now.air mid.clock now.clock terms result
-  server_served octets since_start synced =
-      let standing =
-      stands_through g on (IsErrOf result stop.Disk) terms.limits.blocks old mid.disk now.disk mid.party.server.store now.party.server.store served.done served.cut served.missed ok.told started.recovered.content since_start synced
-      served.cuts
-      (λ still. left_at_end g on earlier (IsErrOf result stop.Disk) still terms.limits.blocks old mid.disk now.disk mid.party.server.store now.party.server.store ok.told started.recovered.content synced served.missed served.done
-      served.cut served.cuts) in
-      record {
-        start = store_in mid.party.server.store;
-        rules = started.rules;
-        stood = started.recovered.content;
-        recovered = mid.disk;
-        octets = octets;
-        turns = served.turns;
-        moments = served.moments;
-        text = served.text;
-        done = served.done;
-        cut = served.cut;
-        missed = served.missed;
-        turns_heard = served.turns_heard;
-        moments_given = served.moments_given;
-        text_said = served.text_said;
-        ran = served.ran;
-        puts =
-            session_puts g on (IsErrOf result stop.Disk) terms.limits.blocks old mid.disk now.disk mid.party.server.store now.party.server.store served.done served.cut served.missed ok.told started.recovered.content since_start synced
-            served.cuts failed fine ok
-            (cuts-among-puts g on (IsErrOf result stop.Disk) served.missed mid.party.server.store now.party.server.store mid.disk now.disk served.done served.cut served.cuts);
-        reads =
-            session_reads g on (IsErrOf result stop.Disk) terms.limits.blocks old mid.disk now.disk mid.party.server.store now.party.server.store served.done served.cut served.missed ok.told started.recovered.content since_start synced
-            served.cuts failed fine ok;
-        stands = standing.0;
-        ready = standing.1;
-        none = λ none.
-            let both = append-none served.done served.cut none in
-            subst (λ (d : D). ChangesReads g mid.disk d) (sym (served.cuts.second.none both.1)) (served.cuts.first.none both.0);
-      }
-
-  -- no server is refused that served
-  never_refused : (why : NodeStop) → ((turns : List Turn) → TurnsBy (Err why) terms.polls turns → ⊥) → IsErrOf result why → ⊥
-  never_refused why never is = never served.turns (subst (λ (r : Result Served NodeStop). TurnsBy r terms.polls served.turns) is served.ran.ends)
-
-  pub server_exactly : RefusesSession terms.limits.blocks (g.content old) result
-  server_exactly no_disk no_memory = told_weaker (g.content old) _ _ (λ octets told stood. record {
-    not_a_store = λ found. (λ is. absurd (never_refused (stop.NotAStore found) (λ turns h. h) is), λ none. absurd (cc (sym stood ∙ none)));
-    damaged = λ at. (λ is. absurd (never_refused (stop.Damaged at) (λ turns h. h) is), λ none. absurd (cc (sym stood ∙ none)));
-  }) started.recovered.content
-
--- its calls of the disk
-pub server_runs : {A C D : Type 0} (g : Ghosts D) (air : AirGhosts A) (given : C → Option (List ℕ)) (old now : D) (before after : A) (clock clock_n : C) (terms : ServerTerms) (result : Result Served NodeStop)
-    → ServerServed g air given old now before after clock clock_n terms result → NodeRuns g (IsErrOf result stop.Disk) old now
-server_runs g air given old now before after clock clock_n terms result served = node_runs g (IsErrOf result stop.Disk) old now served.puts
 
 -- the first sync passed, where the recovery did
 pub start_synced : {D T : Type 0} (g : Ghosts D) (blocks : ℕ) (value : T) (old mid : D) → LeavesAlikeSinceSync {T = T} g blocks (Ok value) old mid
