@@ -15,15 +15,15 @@ abbrev pub listing_by : Option Attempted → List ℕ
 listing_by None = []
 listing_by (Some a) = listing_of a.job.work
 
--- Whatever of its frames was given out, the client tells what that one has: the notes, what became of what was asked, and
--- the list that came.
+-- Whatever of its frames was given out, the client tells what that one has: the notes, what became of what was asked,
+-- and the list that came.
 pub record TellsOf (self : ClientState) (client : Client) : Type 0 where
   pub lists : self.notes.lists ≡ client.lists
   pub outcome : outcome_in self.attempt ≡ outcome_by client.attempt
   pub listing : listing_in self.attempt ≡ listing_by client.attempt
 
--- Of these events the first ones were taken, and the client tells what the one then has, of which this is what became of
--- the job.
+-- Of these events the first ones were taken, and the client tells what the one then has, of which this is what became
+-- of the job.
 pub record CameTo (new : ClientState) (client : Client) (events : List ClientEvent) (reached : Outcome) : Type 0 where
   pub some : List ClientEvent
   pub others : List ClientEvent

@@ -24,8 +24,8 @@ event_of (node.ticks moment) = ticks
 abbrev pub text_of : List FrameValue → List ℕ
 text_of frames = flat_map (λ frame. kiss_text (canonical frame)) frames
 
--- This client may find no memory at this event, these commands of which are noted before: at the asking, before anything
--- is noted; and at a frame, where nothing had become of the job before it came. A tick takes no memory.
+-- This client may find no memory at this event, these commands of which are noted before: at the asking, before
+-- anything is noted; and at a frame, where nothing had become of the job before it came. A tick takes no memory.
 abbrev pub MayFindNoMemory : Client → ClientEvent → List NotesCommand → Type 0
 MayFindNoMemory client (asks job) done = done ≡ []
 MayFindNoMemory client (hears frame) done = outcome_by client.attempt ≡ outcome.Working

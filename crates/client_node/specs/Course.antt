@@ -27,8 +27,8 @@ use Rattle.client_node.specs.declared.station.ClientStation.{ClientStation}
 use Rattle.client_node.specs.declared.stop.NodeStop.{NodeStop}
 use Rattle.client_node.specs.declared.stop.NodeStop.TheVariants as stop
 
--- What went before: a client that stood for the base, and its disk; the job that it was asked for, the events that its node
--- then brought, and the text that was said. A stop is behind those events that are whole.
+-- What went before: a client that stood for the base, and its disk; the job that it was asked for, the events that
+-- its node then brought, and the text that was said. A stop is behind those events that are whole.
 pub record Past (D : Type 0) : Type 0 where
   pub client : ClientState
   pub disk : D
@@ -46,8 +46,8 @@ all_events past = asked_first past.job past.events
 abbrev pub further : {D : Type 0} → Past D → List NodeEvent → List ℕ → Past D
 further past events text = record past { events = past.events ++ events; text = past.text ++ text }
 
--- Over these events the base sent these frames so far, noted these commands, and is this one now. Once it has sent what is
--- left it has gone over them; where a put of what is left fails, it stops there, behind the whole ones.
+-- Over these events the base sent these frames so far, noted these commands, and is this one now. Once it has sent
+-- what is left it has gone over them; where a put of what is left fails, it stops there, behind the whole ones.
 pub record Owes (whole : List ClientEvent) (base : Client) (events : List ClientEvent) (frames : List FrameValue)
     (commands : List NotesCommand) (now : Client) : Type 0 where
   pub between : List ClientEvent
@@ -60,7 +60,8 @@ pub record Owes (whole : List ClientEvent) (base : Client) (events : List Client
       → IsFront text (text_of rest)
       → StopsBehind whole base events stop.AirWrite (outcome_by last.attempt) (text_of frames ++ text) commands []
 
--- The station is what came of that: it may have still to send of what the events bring; their commands are noted on the disk.
+-- The station is what came of that: it may have still to send of what the events bring; their commands are noted on
+-- the disk.
 pub record CameOf {D : Type 0} (g : Ghosts D) (past : Past D) (a : AtDisk ClientStation D) : Type 0 where
   pub just : IsNew past.job
   pub go_with : NotesGoWith past.base.lists past.job
@@ -78,7 +79,8 @@ abbrev pub CameToSome : ClientState → Client → List ClientEvent → Outcome 
 CameToSome new base events reached = (came : CameTo new base events reached) × (came.some ≢ [])
 
 -- It stopped at one of those events, behind those that are whole, and this had become of the job.
-pub record StoppedAt {D : Type 0} (g : Ghosts D) (past : Past D) (why : NodeStop) (a : AtDisk ClientStation D) : Type 0 where
+pub record StoppedAt {D : Type 0} (g : Ghosts D) (past : Past D) (why : NodeStop) (a : AtDisk ClientStation D)
+    : Type 0 where
   pub done : List NotesCommand
   pub cut : List NotesCommand
   pub reached : Outcome

@@ -73,9 +73,9 @@ met_with event parts = record { moment = event.moment; packet = event.packet; fa
 abbrev pub IsRowOf : ServerState → MetEvent → Row → Type 0
 IsRowOf server met row = event_row server.caller (store_in server.store) server.lists server.state met ≡ row
 
--- A packet was taken by a server that had nothing else to say, which leaves these lists and this state: the answer to it
--- is its row's replies, and so far these packets that are due behind them. Reads may have failed at some of its parts up
--- to there.
+-- A packet was taken by a server that had nothing else to say, which leaves these lists and this state: the answer to
+-- it is its row's replies, and so far these packets that are due behind them. Reads may have failed at some of its
+-- parts up to there.
 pub record IsAnswering (old : ServerState) (lists : List CallerList) (state : State) (event : Event)
     (said : List PacketValue) (commands : List Command) : Type 0 where
   pub silent : old.replies ≡ []
@@ -98,8 +98,8 @@ IsAnswered old store lists state [] said commands =
 IsAnswered old store lists state (event ∷ []) said commands = IsAnswering old lists state event said commands
 IsAnswered old store lists state (event ∷ next ∷ events) said commands = ⊥
 
--- It took the packet that these inputs bring, if they bring one. This is the text of what it had to say at the start and
--- of the answer so far; maybe more is due behind it.
+-- It took the packet that these inputs bring, if they bring one. This is the text of what it had to say at the start
+-- and of the answer so far; maybe more is due behind it.
 pub record IsUnderWay {D : Type 0} (g : Ghosts D) (old : AtDisk ServerState D) (inputs : List Input) (text : List ℕ)
     (new : AtDisk ServerState D) : Type 0 where
   pub hears : Hears old.it inputs new.it

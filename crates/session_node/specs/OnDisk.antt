@@ -63,8 +63,8 @@ pub record LeavesStanding {D : Type 0} (g : Ghosts D) (blocks : ℕ) (why : Node
   pub damaged : (at : ℕ) → why ≡ stop.Damaged at → g.content disk_now ≡ g.content disk
 
 -- What a session or a server does to its disk from the start on, and whether it ended by the disk. Neither count of
--- faults falls, and that of failed writes and syncs stays where it didn't end so; where it did, one of them rose. A read
--- that failed stops nothing, and no write and no sync comes after one that failed.
+-- faults falls, and that of failed writes and syncs stays where it didn't end so; where it did, one of them rose. A
+-- read that failed stops nothing, and no write and no sync comes after one that failed.
 pub record NodeRuns {D : Type 0} (g : Ghosts D) (failed : Type 0) (disk disk_now : D) : Type 0 where
   pub told : TellsAlike (g.content disk) (g.content disk_now)
   pub reads : g.read_faults disk ≤ g.read_faults disk_now

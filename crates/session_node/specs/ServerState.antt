@@ -6,8 +6,8 @@ use Rattle.ftl0_session.specs.Lists.Lists.{CallerList}
 use Rattle.file_store.specs.State.{StandsOn, StoreState}
 use Rattle.ftl0_session.specs.Table.{State, command}
 
--- whose session it is, the store, the lists of all callers, the session's state, the octets that were heard and of which
--- no packet was taken yet, the text that is to be said next, and whether it takes nothing more
+-- whose session it is, the store, the lists of all callers, the session's state, the octets that were heard and of
+-- which no packet was taken yet, the text that is to be said next, and whether it takes nothing more
 pub record ServerState : Type 0 where
   pub caller : CallSign
   pub store : StoreState

@@ -164,10 +164,10 @@ pub record IsUnrecovered {A C D : Type 0} (g : Ghosts D) (blocks : ℕ) (disk di
   pub leaves : LeavesStanding g blocks (stop_of_fault fault) disk disk_now
   pub runs : Runs g (IsErrOf result stop.Disk) disk disk_now
 
--- A session of these terms was served over the store for which the disk's content stood. Its recovery changed no octet
--- of a formatted store, and made a formatted one of any other content; without commands that is what the disk has at the
--- end. Only a write or a sync that failed ends it by the disk; a read that failed is told by DL_ERROR_RESP with code 3,
--- and the count of failed reads rose by at least as many as were told, and not where none was.
+-- A session of these terms was served over the store for which the disk's content stood. Its recovery changed no
+-- octet of a formatted store, and made a formatted one of any other content; without commands that is what the disk
+-- has at the end. Only a write or a sync that failed ends it by the disk; a read that failed is told by DL_ERROR_RESP
+-- with code 3, and the count of failed reads rose by at least as many as were told, and not where none was.
 pub record SessionServed {A C D : Type 0} (g : Ghosts D) (air : AirGhosts A) (given : C → Option (List ℕ))
     (disk disk_now : D) (before now : A) (clock clock_now : C) (terms : SessionTerms)
     (result : Result Served NodeStop) : Type 0 where

@@ -21,8 +21,8 @@ use node::{Halt, Party};
 use px_base::Call;
 use std::marker::Model;
 
-/// What serves one session: the reader of its packets, its state, the store, the lists of all callers, and what it has to
-/// say first. It must be ended, which parks the session's upload. Contracts see it as a `ServerState`.
+/// What serves one session: the reader of its packets, its state, the store, the lists of all callers, and what it
+/// has to say first. It must be ended, which parks the session's upload. Contracts see it as a `ServerState`.
 pub(crate) struct SessionServer {
     reader: PacketReader,
     session: Session,
@@ -47,8 +47,8 @@ impl Model for SessionServer {
 }
 
 impl SessionServer {
-    /// Before the first packet, over this store, of which no upload is out, and without lists. It has LOGIN_RESP at this
-    /// moment to say. Takes no memory yet.
+    /// Before the first packet, over this store, of which no upload is out, and without lists. It has LOGIN_RESP at
+    /// this moment to say. Takes no memory yet.
     pub(crate) fn new(caller: Call, first: u32, store: FileStore, lists: Lists) -> SessionServer
         requires nothing_out { NothingOut store.files }
         requires no_lists { lists ≡ [] }
@@ -85,9 +85,9 @@ impl SessionServer {
     }
 }
 
-/// A packet is finished by what it hears, and each of its answer's texts is given by itself: first the replies to it, then
-/// each packet that is due behind them, which reads the disk. After a fault of the disk that is the reply with code 3
-/// alone, and nothing after want of memory.
+/// A packet is finished by what it hears, and each of its answer's texts is given by itself: first the replies to it,
+/// then each packet that is due behind them, which reads the disk. After a fault of the disk that is the reply with
+/// code 3 alone, and nothing after want of memory.
 impl<D: Disk> Party<D> for SessionServer {
     ghost course = { session_course D.Disk };
 

@@ -17,13 +17,14 @@ use node::{Finished, TurnTerms, take_turns};
 use px_base::{Air, Clock};
 use std::alloc::Global;
 
-/// Serves one session over FTL0 octets without a link. The store is recovered from the disk first, and the lists are made;
-/// where either is refused nothing is heard or said, and the clock isn't asked. Then LOGIN_RESP is said, and for each
-/// packet the replies to it and all that is due right behind them, up to the end of the air or as many polls as may be
-/// made. Each turn has the moment that is given, or takes one of the clock before its poll; the first turn's is taken
-/// before LOGIN_RESP, which has it. What a packet's row does to the store is on the disk before the replies are said. A
-/// read of the disk that fails is told by code 3, and the session goes on. After a fault of the disk at a write or a sync
-/// the reply with code 3 is said, and the session is over. However it ends, its upload is parked. Takes memory.
+/// Serves one session over FTL0 octets without a link. The store is recovered from the disk first, and the lists are
+/// made; where either is refused nothing is heard or said, and the clock isn't asked. Then LOGIN_RESP is said, and
+/// for each packet the replies to it and all that is due right behind them, up to the end of the air or as many polls
+/// as may be made. Each turn has the moment that is given, or takes one of the clock before its poll; the first
+/// turn's is taken before LOGIN_RESP, which has it. What a packet's row does to the store is on the disk before the
+/// replies are said. A read of the disk that fails is told by code 3, and the session goes on. After a fault of the
+/// disk at a write or a sync the reply with code 3 is said, and the session is over. However it ends, its upload is
+/// parked. Takes memory.
 pub fn session<D: Disk, A: Air, C: Clock>(
     alloc: Global,
     disk: &mut D,
