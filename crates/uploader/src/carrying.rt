@@ -7,10 +7,10 @@ ghost use Rattle.ftl0_client.specs.Client.{Client as ClientValue};
 ghost use Rattle.ftl0_client.specs.ClientState.{IsClient, IsFree, IsOwn};
 ghost use Rattle.client_node.specs.Carried.{MayCarryOut};
 ghost use Rattle.uploader.specs.Ready.{CarriesJob, IsReady, IsUnready};
-ghost use Rattle.uploader.specs.Stops.{by_outcome};
+ghost use Rattle.uploader.specs.Stops.{by_node, by_outcome};
 
 use crate::{ClientTerms, SendStop};
-use client_node::carry_out;
+use client_node::{NodeStop, carry_out};
 use client_notes::Notes;
 use client_notes::laws::state_law;
 use disk_model::Disk;
@@ -34,28 +34,38 @@ pub(crate) fn recover_client<D: Disk>(
 }
 
 /// Asks the client for a job, and carries it out: what it came to, where that is what a command asks for; else why not.
-/// Takes memory.
+/// Gives the client back. Takes memory.
 pub(crate) fn carry<D: Disk, A: Air, C: Clock>(
     alloc: Global,
     terms: &ClientTerms,
-    client: &mut Client,
+    client: Client,
     job: Job,
     disk: &mut D,
     air: &mut A,
     clock: &mut C,
-) -> Result<Outcome, SendStop>
-    requires me { client.old.me ≡ terms.now.me }
-    requires may { MayCarryOut D.Disk client.old disk.old }
-    requires free { IsFree client.old }
+) -> (Client, Result<Outcome, SendStop>)
+    requires me { client.me ≡ terms.now.me }
+    requires may { MayCarryOut D.Disk client disk.old }
+    requires free { IsFree client }
     requires new { IsNew job }
-    requires go_with { NotesGoWith client.old.notes.lists job }
-    requires own { IsOwn client.old job.work }
-    ensures carried { (base : ClientValue) → IsClient client.old base →
-        CarriesJob D.Disk A.Air C.given air.old air.new clock.old clock.new client.old client.new disk.old disk.new job
-        terms.now.polls base result }
+    requires go_with { NotesGoWith client.notes.lists job }
+    requires own { IsOwn client job.work }
+    ensures carried { (base : ClientValue) → IsClient client base →
+        CarriesJob D.Disk A.Air C.given air.old air.new clock.old clock.new client result.0 disk.old disk.new job
+        terms.now.polls base result.1 }
 {
-    let outcome = carry_out(alloc, terms.me, client, job, disk, air, clock, terms.polls)?;
-    answer_of_outcome(outcome)
+    let (client, came) = carry_out(alloc, terms.me, client, job, disk, air, clock, terms.polls);
+    (client, answer_of(came))
+}
+
+/// What a command that asks for a job makes of what it came to.
+fn answer_of(came: Result<Outcome, NodeStop>) -> Result<Outcome, SendStop>
+    ensures { result ≡ by_node came }
+{
+    match came {
+        Ok(outcome) => answer_of_outcome(outcome),
+        Err(stop) => Err(SendStop::from(stop)),
+    }
 }
 
 /// The outcome, if it is one that a command asks for; else the stop that it is.

@@ -50,11 +50,12 @@ pub fn fetch<D: Disk, A: Air, S: Shelf, C: Clock>(
     ensures air { HasAirCauseOf A.read_faults A.write_faults air.old air.new result }
     ensures runs { Runs D.Disk (IsErrOf result SendStop.Disk) disk.old disk.new }
 {
-    let mut client = recover_client(alloc, disk, terms)?;
+    let client = recover_client(alloc, disk, terms)?;
     // What is got of a file is no longer than a file may be.
     let _held = client.notes().got_len(terms.server, number);
     let job = Job::download(terms.server, number);
-    let _fetched = carry(alloc, terms, &mut client, job, disk, air, clock)?;
+    let (client, came) = carry(alloc, terms, client, job, disk, air, clock);
+    let _fetched = came?;
     match shelf.keep(name, client.notes().got_octets(terms.server, number)) {
         Ok(()) => Ok(()),
         Err(_down) => Err(SendStop::Shelf),

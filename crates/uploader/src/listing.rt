@@ -51,12 +51,13 @@ pub fn list<D: Disk, A: Air, O: Out, C: Clock>(
     ensures air { HasAirCauseOf A.read_faults A.write_faults air.old air.new result }
     ensures runs { Runs D.Disk (IsErrOf result SendStop.Disk) disk.old disk.new }
 {
-    let mut client = recover_client(alloc, disk, terms)?;
+    let client = recover_client(alloc, disk, terms)?;
     let Ok(tokens) = FileBytes::copy_of(alloc, tokens) else {
         return Err(SendStop::OutOfMemory);
     };
     let job = Job::list(alloc, tokens);
-    let _listed = carry(alloc, terms, &mut client, job, disk, air, clock)?;
+    let (client, came) = carry(alloc, terms, client, job, disk, air, clock);
+    let _listed = came?;
     match show_lines(client.listing(), out) {
         Ok(()) => Ok(()),
         Err(_down) => Err(SendStop::Out),

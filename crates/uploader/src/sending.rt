@@ -69,42 +69,44 @@ pub fn send<D: Disk, A: Air, S: Shelf, C: Clock>(
         Ok(Begun::Already { number }) => Ok(Sent { number }),
         Ok(Begun::Fresh { task }) => {
             let job = Job::upload(task, 0, file);
-            upload(alloc, terms, &mut client, job, disk, air, clock)
+            upload(alloc, terms, client, job, disk, air, clock).1
         }
         Ok(Begun::Going { task, number }) => {
             let job = Job::upload(task, number, file);
-            upload(alloc, terms, &mut client, job, disk, air, clock)
+            upload(alloc, terms, client, job, disk, air, clock).1
         }
         Err(refusal) => Err(stop_of_refusal(refusal, sum)),
     }
 }
 
-/// Asks the client for an upload, and carries it out: its file's number, where it was acknowledged. Takes memory.
+/// Asks the client for an upload, and carries it out: its file's number, where it was acknowledged.
+/// Gives the client back. Takes memory.
 fn upload<D: Disk, A: Air, C: Clock>(
     alloc: Global,
     terms: &ClientTerms,
-    client: &mut Client,
+    client: Client,
     job: Job,
     disk: &mut D,
     air: &mut A,
     clock: &mut C,
-) -> Result<Sent, SendStop>
-    requires me { client.old.me ≡ terms.now.me }
-    requires may { MayCarryOut D.Disk client.old disk.old }
-    requires free { IsFree client.old }
+) -> (Client, Result<Sent, SendStop>)
+    requires me { client.me ≡ terms.now.me }
+    requires may { MayCarryOut D.Disk client disk.old }
+    requires free { IsFree client }
     requires new { IsNew job }
-    requires go_with { NotesGoWith client.old.notes.lists job }
-    requires own { IsOwn client.old job.work }
+    requires go_with { NotesGoWith client.notes.lists job }
+    requires own { IsOwn client job.work }
     requires upload { IsUpload job.work }
-    ensures uploaded { (base : ClientValue) → IsClient client.old base →
-        UploadsJob D.Disk A.Air C.given air.old air.new clock.old clock.new client.old client.new disk.old disk.new job
-        terms.now.polls base result }
+    ensures uploaded { (base : ClientValue) → IsClient client base →
+        UploadsJob D.Disk A.Air C.given air.old air.new clock.old clock.new client result.0 disk.old disk.new job
+        terms.now.polls base result.1 }
 {
     // The client stands for some client of the definitions.
     client.some_law();
-    match carry(alloc, terms, client, job, disk, air, clock)? {
-        Outcome::Acked { number } => Ok(Sent { number }),
-        _ => unreachable!(),
+    match carry(alloc, terms, client, job, disk, air, clock) {
+        (client, Ok(Outcome::Acked { number })) => (client, Ok(Sent { number })),
+        (_, Ok(_)) => unreachable!(),
+        (client, Err(stop)) => (client, Err(stop)),
     }
 }
 

@@ -13,7 +13,7 @@ use Rattle.client_node.specs.Stops.{ended_as}
 use Rattle.client_node.specs.declared.station.ClientStation.{ClientStation}
 use Rattle.client_node.proofs.CarriedLemmas.{came-asked, carries, may-asked, refused-carries}
 use Rattle.client_node.proofs.CourseLemmas.{owes-none}
-use Rattle.client_node.proofs.node.carry_out.Goals as goal
+use Rattle.client_node.proofs.carrying.carry_out.Goals as goal
 
 pub returns-in-Err-clause-carried : goal.returns-in-Err-clause-carried
 returns-in-Err-clause-carried g c base is =
