@@ -181,26 +181,16 @@ module _ (law : IsReadAsStream) (one : IsOneStream) where
 
   -- ---- turns
 
-  -- a tick brings nothing
-  past-tick : (waiting : List ℕ) (next : Turn) (last moment : ℕ) (inputs : List Input)
-      → (events_behind waiting (turn_tick next last moment ++ inputs) ≡ events_behind waiting inputs) × (waiting_behind waiting (turn_tick next last moment ++ inputs) ≡ waiting_behind waiting inputs)
-      × (octets_in (turn_tick next last moment ++ inputs) ≡ octets_in inputs)
-  past-tick waiting next last moment inputs = by-turn next
-    where
-      by-same : (same : Bool)
-          → (let ticks : List Input = if same then [] else tick moment ∷ [] in
-          (events_behind waiting (ticks ++ inputs) ≡ events_behind waiting inputs) × (waiting_behind waiting (ticks ++ inputs) ≡ waiting_behind waiting inputs)
-          × (octets_in (ticks ++ inputs) ≡ octets_in inputs))
-      by-same true = (refl, refl, refl)
-      by-same false = (refl, refl, refl)
+  by-same : (P : List Input → Type 0) (same : Bool) (moment : ℕ) (inputs : List Input) → P inputs → P (tick moment ∷ inputs) → P ((if same then [] else tick moment ∷ []) ++ inputs)
+  by-same P true moment inputs none one = none
+  by-same P false moment inputs none one = one
 
-      by-turn : (next : Turn)
-          → (events_behind waiting (turn_tick next last moment ++ inputs) ≡ events_behind waiting inputs) × (waiting_behind waiting (turn_tick next last moment ++ inputs) ≡ waiting_behind waiting inputs)
-          × (octets_in (turn_tick next last moment ++ inputs) ≡ octets_in inputs)
-      by-turn (turn.Bytes octets) = by-same (moment == last)
-      by-turn turn.Quiet = by-same (moment == last)
-      by-turn turn.Fail = (refl, refl, refl)
-      by-turn turn.End = (refl, refl, refl)
+  -- what a tick doesn't change holds with a turn's tick, if there is one
+  past-tick : (P : List Input → Type 0) (next : Turn) (last moment : ℕ) (inputs : List Input) → P inputs → P (tick moment ∷ inputs) → P (turn_tick next last moment ++ inputs)
+  past-tick P (turn.Bytes octets) last moment inputs none one = by-same P (moment == last) moment inputs none one
+  past-tick P turn.Quiet last moment inputs none one = by-same P (moment == last) moment inputs none one
+  past-tick P turn.Fail last moment inputs none one = none
+  past-tick P turn.End last moment inputs none one = none
 
   -- what turns hand over brings the packets that the turns bring
   brings-since : (waiting : List ℕ) (last : ℕ) (turns : List Turn) (moments : List ℕ) → length moments ≡ length turns → IsWaiting waiting → IsOctets (octets_in (inputs_since last turns moments))
@@ -214,21 +204,20 @@ module _ (law : IsReadAsStream) (one : IsOneStream) where
       let ticks : List Input = turn_tick t last m in
       let parts : turn_inputs t last m ++ others ≡ here ++ (ticks ++ others) = append_assoc here ticks others in
       let in_parts : octets_in (turn_inputs t last m ++ others) ≡ octets ++ octets_in others =
-      ap octets_in parts ∙ octets_in-append here (ticks ++ others) ∙ ap₂ (λ (xs ys : List ℕ). xs ++ ys) (octets_in-at m octets) (past-tick waiting t last m others).2 in
+      ap octets_in parts ∙ octets_in-append here (ticks ++ others) ∙ ap₂ (λ (xs ys : List ℕ). xs ++ ys) (octets_in-at m octets) (past-tick (λ is. octets_in is ≡ octets_in others) t last m others refl refl) in
       let all_are = subst (λ (o : List ℕ). IsOctets o) in_parts are in
       let front = octets_front octets (octets_in others) all_are in
       let at_once = events-at m waiting octets waits front in
       let all_octets = IsOctets-append waiting octets waits.are_octets front in
       let left : List ℕ = waiting_behind waiting here in
-      let past = past-tick left t last m others in
       let rest = brings-since (rest_of (waiting ++ octets)) m turns moments (omega (arith, same)) (left-waits (waiting ++ octets) all_octets) (octets_back octets (octets_in others) all_are) in (
         packets_of (waiting ++ octets),
         rest_of (waiting ++ octets),
         events_behind (rest_of (waiting ++ octets)) others,
         law (waiting ++ octets) all_octets,
-        ap (events_behind waiting) parts ∙ events-append waiting here (ticks ++ others) ∙ ap₂ (λ (es fs : List Event). es ++ fs) at_once.0 (past.0 ∙ ap (λ o. events_behind o others) at_once.1),
+        ap (events_behind waiting) parts ∙ events-append waiting here (ticks ++ others) ∙ ap₂ (λ (es fs : List Event). es ++ fs) at_once.0 (past-tick (λ is. events_behind left is ≡ events_behind left others) t last m others refl refl ∙ ap (λ o. events_behind o others) at_once.1),
         subst (λ (o : List ℕ). Brings (rest_of (waiting ++ octets)) turns moments (events_behind (rest_of (waiting ++ octets)) others) o)
-            (sym (ap (waiting_behind waiting) parts ∙ waiting-append waiting here (ticks ++ others) ∙ past.1 ∙ ap (λ o. waiting_behind o others) at_once.1)) rest,
+            (sym (ap (waiting_behind waiting) parts ∙ waiting-append waiting here (ticks ++ others) ∙ past-tick (λ is. waiting_behind left is ≡ waiting_behind left others) t last m others refl refl ∙ ap (λ o. waiting_behind o others) at_once.1)) rest,
       )
 
   pub nothing_waits : IsWaiting []

@@ -12,11 +12,9 @@ use Rattle.session_node.specs.Course.{Owes}
 use Rattle.session_node.specs.ServerState.{ServerState, new_server}
 use Rattle.session_node.specs.SessionRan.{SessionEnds, SessionOn, SessionServed, login_text}
 use Rattle.session_node.specs.Stops.{HasAirCause, RefusesSession, stop_of_fault}
-use Rattle.session_node.proofs.Ends.{at_exit}
-use Rattle.session_node.proofs.Sessions.{refused_counts, refused_exactly, refused_leaves, refused_runs, served, served_exactly, served_runs, unlisted_leaves, unlisted_runs}
+use Rattle.session_node.proofs.Sessions.{at_exit, refused_counts, refused_exactly, refused_leaves, refused_runs, served, served_exactly, served_runs, unlisted_leaves, unlisted_runs, never_over, session_counts, session_on}
 use Rattle.session_node.proofs.CourseLemmas.{owes-first}
 use Rattle.session_node.proofs.Standing.{runs_refused}
-use Rattle.session_node.proofs.TurnLemmas.{never_over, session_counts, session_on}
 use Rattle.session_node.proofs.serving.session.Given.{Over}
 use Rattle.session_node.proofs.serving.session.Goals.{After-answer_of}
 use Rattle.session_node.proofs.serving.session.Goals as goal
