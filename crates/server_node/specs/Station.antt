@@ -99,7 +99,8 @@ WholeBy g server old events None last text new =
 WholeBy g server old events (Some why) last text new = StopsOn g server old events (stop_of why) false text new
 
 -- It took these events, and so far said this of what they give; what it has still to say are the frames that this
--- server sends. And what comes of it where all of them are said, or where saying them fails behind a front of their text.
+-- server sends. And what comes of it where all of them are said, or where saying them fails behind a front of their
+-- text.
 pub record OwesRest {D : Type 0} (g : Ghosts D) (server : Server) (old : AtDisk ServerStation D)
     (events : List NodeEvent) (why : Option Halt) (said : List ℕ) (now : AtDisk ServerStation D) : Type 0 where
   pub made : Server
