@@ -73,8 +73,8 @@ returns-in-Ok-Fresh g c =
     let sum = c.sum_of_file-sum.ensures ∙ ap sum_of c.as_slice.ensures in
     let starts = (begun_at g.D.Disk g.met.D.Disk.lasts_same g.met.D.Disk.lasts_on c.args.terms.now c.args.disk.now c.recover_client.new.disk c.start_task.new.disk c.in_ok-client.client c.start_task.new.self c.args.name.now c.in_ok-file.file c.in_ok-client.ensures.ready h.same h.starts c.in-Ok-Fresh.field-0 (begun.Fresh c.in-Ok-Fresh.task) c.in-Ok-Fresh.field-0-is (at_terms g.D.Disk g.met.D.Disk.lasts_same g.met.D.Disk.lasts_on c.args.terms.now c.args.disk.now c.recover_client.new.disk c.start_task.new.disk c.in_ok-client.client c.start_task.new.self c.args.name.now c.in_ok-file.file c.in_ok-client.ensures.ready h.same h.starts c.sum_of_file-sum.result sum (Ok c.in-Ok-Fresh.field-0) (record { answers = h.answers; untouched = h.untouched; does = h.does }))) in
     let is = asked-is g.D.Disk g.met.D.Disk.lasts_same g.met.D.Disk.lasts_on c.args.terms.now c.args.disk.now c.recover_client.new.disk c.start_task.new.disk c.in_ok-client.client c.start_task.new.self c.args.name.now c.in_ok-file.file c.in_ok-client.ensures.ready h.same h.starts in
-    let all = upload_all g.D.Disk g.met.D.Disk.lasts_same g.met.D.Disk.lasts_on c.args.terms.now c.args.disk.now c.recover_client.new.disk c.start_task.new.disk c.in_ok-client.client c.start_task.new.self c.args.name.now c.in_ok-file.file c.in_ok-client.ensures.ready h.same h.starts g.A.Air g.C.Clock.given c.args.air.now c.upload.new.air c.args.clock.now c.upload.new.clock c.upload.new.disk c.upload.new.client c.in-Ok-Fresh.task 0 _
-    c.upload-job.result (made-upload _ c.in-Ok-Fresh.task 0 _ 0 c.in_ok-file.file c.upload-job.ensures c.in-Ok-Fresh.task-is refl) (does_first g.D.Disk g.met.D.Disk.lasts_same g.met.D.Disk.lasts_on c.args.terms.now c.args.disk.now c.recover_client.new.disk c.start_task.new.disk c.in_ok-client.client c.start_task.new.self c.args.name.now c.in_ok-file.file c.in_ok-client.ensures.ready h.same h.starts c.in-Ok-Fresh.task starts) (fresh_task_for g.D.Disk g.met.D.Disk.lasts_same g.met.D.Disk.lasts_on c.args.terms.now c.args.disk.now c.recover_client.new.disk c.start_task.new.disk c.in_ok-client.client c.start_task.new.self c.args.name.now c.in_ok-file.file c.in_ok-client.ensures.ready h.same h.starts c.in-Ok-Fresh.task starts) c.upload.result (c.upload.ensures.uploaded _ is) (g.S.Shelf.held c.args.shelf.now) (g.S.Shelf.faults c.args.shelf.now) (g.S.Shelf.faults c.load_file.new.shelf)
+    let all = upload_all g.D.Disk g.met.D.Disk.lasts_same g.met.D.Disk.lasts_on c.args.terms.now c.args.disk.now c.recover_client.new.disk c.start_task.new.disk c.in_ok-client.client c.start_task.new.self c.args.name.now c.in_ok-file.file c.in_ok-client.ensures.ready h.same h.starts g.A.Air g.C.Clock.given c.args.air.now c.upload.new.air c.args.clock.now c.upload.new.clock c.upload.new.disk c.upload.result.0 c.in-Ok-Fresh.task 0 _
+    c.upload-job.result (made-upload _ c.in-Ok-Fresh.task 0 _ 0 c.in_ok-file.file c.upload-job.ensures c.in-Ok-Fresh.task-is refl) (does_first g.D.Disk g.met.D.Disk.lasts_same g.met.D.Disk.lasts_on c.args.terms.now c.args.disk.now c.recover_client.new.disk c.start_task.new.disk c.in_ok-client.client c.start_task.new.self c.args.name.now c.in_ok-file.file c.in_ok-client.ensures.ready h.same h.starts c.in-Ok-Fresh.task starts) (fresh_task_for g.D.Disk g.met.D.Disk.lasts_same g.met.D.Disk.lasts_on c.args.terms.now c.args.disk.now c.recover_client.new.disk c.start_task.new.disk c.in_ok-client.client c.start_task.new.self c.args.name.now c.in_ok-file.file c.in_ok-client.ensures.ready h.same h.starts c.in-Ok-Fresh.task starts) c.upload.result.1 (c.upload.ensures.uploaded _ is) (g.S.Shelf.held c.args.shelf.now) (g.S.Shelf.faults c.args.shelf.now) (g.S.Shelf.faults c.load_file.new.shelf)
     c.in_ok-file.ensures.loads c.in_ok-file.ensures.sendable (c.in_ok-file.ensures.cause.same (λ e. cc e)) in
     record { file = all.file_is; notes = all.notes; ends = all.ends; held = c.in_ok-file.ensures.held; shelf = all.shelf; air = all.air_is; runs = all.runs }
 
@@ -89,9 +89,9 @@ returns-in-Ok-Going g c =
     let sum = c.sum_of_file-sum.ensures ∙ ap sum_of c.as_slice.ensures in
     let starts = (begun_at g.D.Disk g.met.D.Disk.lasts_same g.met.D.Disk.lasts_on c.args.terms.now c.args.disk.now c.recover_client.new.disk c.start_task.new.disk c.in_ok-client.client c.start_task.new.self c.args.name.now c.in_ok-file.file c.in_ok-client.ensures.ready h.same h.starts c.in-Ok-Going.field-0 (begun.Going c.in-Ok-Going.task c.in-Ok-Going.number) c.in-Ok-Going.field-0-is (at_terms g.D.Disk g.met.D.Disk.lasts_same g.met.D.Disk.lasts_on c.args.terms.now c.args.disk.now c.recover_client.new.disk c.start_task.new.disk c.in_ok-client.client c.start_task.new.self c.args.name.now c.in_ok-file.file c.in_ok-client.ensures.ready h.same h.starts c.sum_of_file-sum.result sum (Ok c.in-Ok-Going.field-0) (record { answers = h.answers; untouched = h.untouched; does = h.does }))) in
     let is = asked-is g.D.Disk g.met.D.Disk.lasts_same g.met.D.Disk.lasts_on c.args.terms.now c.args.disk.now c.recover_client.new.disk c.start_task.new.disk c.in_ok-client.client c.start_task.new.self c.args.name.now c.in_ok-file.file c.in_ok-client.ensures.ready h.same h.starts in
-    let all = upload_all g.D.Disk g.met.D.Disk.lasts_same g.met.D.Disk.lasts_on c.args.terms.now c.args.disk.now c.recover_client.new.disk c.start_task.new.disk c.in_ok-client.client c.start_task.new.self c.args.name.now c.in_ok-file.file c.in_ok-client.ensures.ready h.same h.starts g.A.Air g.C.Clock.given c.args.air.now c.upload-in-Ok-Going.new.air c.args.clock.now c.upload-in-Ok-Going.new.clock c.upload-in-Ok-Going.new.disk c.upload-in-Ok-Going.new.client c.in-Ok-Going.task c.in-Ok-Going.number _
+    let all = upload_all g.D.Disk g.met.D.Disk.lasts_same g.met.D.Disk.lasts_on c.args.terms.now c.args.disk.now c.recover_client.new.disk c.start_task.new.disk c.in_ok-client.client c.start_task.new.self c.args.name.now c.in_ok-file.file c.in_ok-client.ensures.ready h.same h.starts g.A.Air g.C.Clock.given c.args.air.now c.upload-in-Ok-Going.new.air c.args.clock.now c.upload-in-Ok-Going.new.clock c.upload-in-Ok-Going.new.disk c.upload-in-Ok-Going.result.0 c.in-Ok-Going.task c.in-Ok-Going.number _
     c.upload-job-in-Ok-Going.result
-    (made-upload _ c.in-Ok-Going.task c.in-Ok-Going.number _ _ c.in_ok-file.file c.upload-job-in-Ok-Going.ensures c.in-Ok-Going.task-is c.in-Ok-Going.number-is) (does_none g.D.Disk g.met.D.Disk.lasts_same g.met.D.Disk.lasts_on c.args.terms.now c.args.disk.now c.recover_client.new.disk c.start_task.new.disk c.in_ok-client.client c.start_task.new.self c.args.name.now c.in_ok-file.file c.in_ok-client.ensures.ready h.same h.starts (starts_kept g.D.Disk g.met.D.Disk.lasts_same g.met.D.Disk.lasts_on c.args.terms.now c.args.disk.now c.recover_client.new.disk c.start_task.new.disk c.in_ok-client.client c.start_task.new.self c.args.name.now c.in_ok-file.file c.in_ok-client.ensures.ready h.same h.starts (Ok (begun.Going c.in-Ok-Going.task c.in-Ok-Going.number)) refl starts)) (going_task_for g.D.Disk g.met.D.Disk.lasts_same g.met.D.Disk.lasts_on c.args.terms.now c.args.disk.now c.recover_client.new.disk c.start_task.new.disk c.in_ok-client.client c.start_task.new.self c.args.name.now c.in_ok-file.file c.in_ok-client.ensures.ready h.same h.starts c.in-Ok-Going.task c.in-Ok-Going.number starts) c.upload-in-Ok-Going.result (c.upload-in-Ok-Going.ensures.uploaded _ is) (g.S.Shelf.held c.args.shelf.now) (g.S.Shelf.faults c.args.shelf.now) (g.S.Shelf.faults c.load_file.new.shelf)
+    (made-upload _ c.in-Ok-Going.task c.in-Ok-Going.number _ _ c.in_ok-file.file c.upload-job-in-Ok-Going.ensures c.in-Ok-Going.task-is c.in-Ok-Going.number-is) (does_none g.D.Disk g.met.D.Disk.lasts_same g.met.D.Disk.lasts_on c.args.terms.now c.args.disk.now c.recover_client.new.disk c.start_task.new.disk c.in_ok-client.client c.start_task.new.self c.args.name.now c.in_ok-file.file c.in_ok-client.ensures.ready h.same h.starts (starts_kept g.D.Disk g.met.D.Disk.lasts_same g.met.D.Disk.lasts_on c.args.terms.now c.args.disk.now c.recover_client.new.disk c.start_task.new.disk c.in_ok-client.client c.start_task.new.self c.args.name.now c.in_ok-file.file c.in_ok-client.ensures.ready h.same h.starts (Ok (begun.Going c.in-Ok-Going.task c.in-Ok-Going.number)) refl starts)) (going_task_for g.D.Disk g.met.D.Disk.lasts_same g.met.D.Disk.lasts_on c.args.terms.now c.args.disk.now c.recover_client.new.disk c.start_task.new.disk c.in_ok-client.client c.start_task.new.self c.args.name.now c.in_ok-file.file c.in_ok-client.ensures.ready h.same h.starts c.in-Ok-Going.task c.in-Ok-Going.number starts) c.upload-in-Ok-Going.result.1 (c.upload-in-Ok-Going.ensures.uploaded _ is) (g.S.Shelf.held c.args.shelf.now) (g.S.Shelf.faults c.args.shelf.now) (g.S.Shelf.faults c.load_file.new.shelf)
     c.in_ok-file.ensures.loads c.in_ok-file.ensures.sendable (c.in_ok-file.ensures.cause.same (λ e. cc e)) in
     record { file = all.file_is; notes = all.notes; ends = all.ends; held = c.in_ok-file.ensures.held; shelf = all.shelf; air = all.air_is; runs = all.runs }
 
