@@ -105,8 +105,10 @@ fn upload<D: Disk, A: Air, C: Clock>(
     client.some_law();
     let (client, came) = carry(alloc, terms, client, job, disk, air, clock);
     match came {
-        Ok(Outcome::Acked { number }) => (client, Ok(Sent { number })),
-        Ok(_) => unreachable!(),
+        Ok(outcome) => match outcome {
+            Outcome::Acked { number } => (client, Ok(Sent { number })),
+            _ => unreachable!(),
+        },
         Err(stop) => (client, Err(stop)),
     }
 }

@@ -1,7 +1,7 @@
 -- The file isn't loaded, or the recovery is refused; or the task isn't started, or the file was acknowledged before; or it
 -- is uploaded.
 use Rattle.std.proofs.Common.{inl, inr, refl, sym, ap, ◌∙◌, subst, ℕ}
-use Rattle.std.specs.Prelude.{Result, Ok, Err, IsErrOf}
+use Rattle.std.specs.Prelude.{Result, Ok, Err, IfSome, IsErrOf}
 use Rattle.client_notes.specs.Calls.{Runs}
 use Rattle.client_notes.specs.declared.answers.Begun.TheVariants as begun
 use Rattle.uploader.specs.declared.stop.SendStop.{SendStop}
@@ -42,6 +42,12 @@ returns-in-Ok-Already-clause-runs g c =
     let starts = (begun_at g.D.Disk g.met.D.Disk.lasts_same g.met.D.Disk.lasts_on c.args.terms.now c.args.disk.now c.recover_client.new.disk c.start_task.new.disk c.in_ok-client.client c.start_task.new.self c.args.name.now c.in_ok-file.file c.in_ok-client.ensures.ready h.same h.starts c.in-Ok-Already.field-0 (begun.Already c.in-Ok-Already.number) c.in-Ok-Already.field-0-is (at_terms g.D.Disk g.met.D.Disk.lasts_same g.met.D.Disk.lasts_on c.args.terms.now c.args.disk.now c.recover_client.new.disk c.start_task.new.disk c.in_ok-client.client c.start_task.new.self c.args.name.now c.in_ok-file.file c.in_ok-client.ensures.ready h.same h.starts c.sum_of_file-sum.result sum (Ok c.in-Ok-Already.field-0) (record { answers = h.answers; untouched = h.untouched; does = h.does }))) in
     subst (λ (n : ℕ). Runs g.D.Disk (IsErrOf {T = Sent} (Ok (record { number = n })) stop.Disk) c.args.disk.now c.start_task.new.disk) (sym c.in-Ok-Already.number-is)
     (already_runs g.D.Disk g.met.D.Disk.lasts_same g.met.D.Disk.lasts_on c.args.terms.now c.args.disk.now c.recover_client.new.disk c.start_task.new.disk c.in_ok-client.client c.start_task.new.self c.args.name.now c.in_ok-file.file c.in_ok-client.ensures.ready h.same h.starts c.args.air.now c.args.clock.now (record { number = c.in-Ok-Already.number }) starts)
+
+pub returns-in-Err-clause-file : goal.returns-in-Err-clause-file
+returns-in-Err-clause-file g c no_shelf no_memory =
+    subst (λ (s : SendStop). IfSome (g.S.Shelf.held c.args.shelf.now) (λ shelf. LoadsExactly {T = Sent} (content_of shelf c.args.name.now) (Err s))) (sym c.stop_of_refusal.ensures)
+    (told_weaker (g.S.Shelf.held c.args.shelf.now) _ _ (λ shelf told content. start_exactly (content_of shelf c.args.name.now) c.in_ok-file.file content c.in_ok-file.ensures.sendable _ c.in-Err.refusal)
+    c.in_ok-file.ensures.loads)
 
 pub returns-in-Err-clause-ends : goal.returns-in-Err-clause-ends
 returns-in-Err-clause-ends g c =

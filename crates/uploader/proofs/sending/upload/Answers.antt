@@ -1,17 +1,10 @@
 -- The upload stops; or it comes to an outcome, which is that the file was acknowledged.
 use Rattle.std.proofs.Common.{sym, ◌∙◌}
-use Rattle.std.specs.Prelude.{Result, Err}
-use Rattle.ftl0_client.specs.Client.{Client}
-use Rattle.ftl0_client.specs.ClientState.{IsClient}
-use Rattle.uploader.specs.declared.stop.SendStop.{SendStop}
-use Rattle.uploader.specs.declared.terms.Sent.{Sent}
-use Rattle.uploader.specs.Ready.{UploadsJob}
 use Rattle.uploader.proofs.OutcomeLemmas.{acked-alone}
-use Rattle.uploader.proofs.ReadyLemmas.{at_exit}
 use Rattle.uploader.proofs.sending.upload.Goals as goal
 
 pub unreachable-requires : goal.unreachable-requires
 unreachable-requires g c =
     let h = c.carry-client.ensures.carried c.some_law.ensures.0 c.some_law.ensures.1 in
     let acked = acked-alone c.carry-client.result.0.notes.lists c.args.job.work _ h.came _ c.requires.upload h.promises (sym h.answer ∙ c.in-Ok.is) in
-    c.in-Ok.not-Acked acked.0 acked.1
+    c.in_default.not-Acked acked.0 acked.1
