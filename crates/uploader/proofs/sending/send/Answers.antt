@@ -2,17 +2,19 @@
 -- is uploaded.
 use Rattle.std.proofs.Common.{inl, inr, refl, sym, ap, ◌∙◌, subst, ℕ}
 use Rattle.std.specs.Prelude.{Result, Ok, Err, IfSome, IsErrOf}
+use Rattle.px_base.specs.Shelves.{content_of}
 use Rattle.client_notes.specs.Calls.{Runs}
+use Rattle.client_notes.proofs.Offered.{told_weaker}
 use Rattle.client_notes.specs.declared.answers.Begun.TheVariants as begun
 use Rattle.uploader.specs.declared.stop.SendStop.{SendStop}
 use Rattle.uploader.specs.declared.stop.SendStop.TheVariants as stop
 use Rattle.uploader.specs.declared.terms.Sent.{Sent}
 use Rattle.uploader.specs.Carried.{setting}
-use Rattle.uploader.specs.Loading.{sum_of}
+use Rattle.uploader.specs.Loading.{LoadsExactly, sum_of}
 use Rattle.uploader.specs.Sending.{SendEnds}
 use Rattle.uploader.specs.Stops.{stop_of_start}
 use Rattle.uploader.proofs.ReadyLemmas.{at_exit}
-use Rattle.uploader.proofs.SendLemmas.{already_ends, already_runs, asked-is, asked-may, at_terms, begun_at, does_first, does_none, fresh_task_for, going_task_for, made-may, made-upload, refused_ends, refused_runs, runs_still, starts_kept, unfit-disk, upload_all}
+use Rattle.uploader.proofs.SendLemmas.{already_ends, already_runs, asked-is, asked-may, at_terms, begun_at, does_first, does_none, fresh_task_for, going_task_for, made-may, made-upload, refused_ends, refused_runs, runs_still, start_exactly, starts_kept, unfit-disk, upload_all}
 use Rattle.uploader.proofs.sending.send.Goals as goal
 
 pub returns-in_err-file-clause-runs : goal.returns-in_err-file-clause-runs
