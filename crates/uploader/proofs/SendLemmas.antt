@@ -76,6 +76,14 @@ loaded_exactly content file there sendable result no_such no_long no_bad = recor
   bad_file = λ code. (λ e. absurd (no_bad code e), λ bad. let same : bad.0 ≡ file = cc (sym bad.1 ∙ there) in absurd (cc (sym sendable.faultless ∙ sym (ap fault_code same) ∙ bad.3)));
 }
 
+-- a task that isn't started tells nothing of the file
+pub start_exactly : (content : Option (List ℕ)) (file : List ℕ) → content ≡ Some file → IsSendable file → (given : FileSum) (why : NotesRefusal) → LoadsExactly {T = Sent} content (Err (stop_of_start given why))
+start_exactly content file there sendable given (refusal.Changed length digest) = loaded_exactly content file there sendable _ (λ e. cc e) (λ e. cc e) (λ code e. cc e)
+start_exactly content file there sendable given refusal.Full = loaded_exactly content file there sendable _ (λ e. cc e) (λ e. cc e) (λ code e. cc e)
+start_exactly content file there sendable given refusal.Disk = loaded_exactly content file there sendable _ (λ e. cc e) (λ e. cc e) (λ code e. cc e)
+start_exactly content file there sendable given refusal.Failed = loaded_exactly content file there sendable _ (λ e. cc e) (λ e. cc e) (λ code e. cc e)
+start_exactly content file there sendable given refusal.OutOfMemory = loaded_exactly content file there sendable _ (λ e. cc e) (λ e. cc e) (λ code e. cc e)
+
 -- and so it is of what the disk's content stands for
 recovered_exactly : (content : Option (List ℕ)) (start : Lists) (result : Result Sent SendStop) → IfSome content (λ before. standing_of before ≡ state start)
     → ((found : List ℕ) → ¬ (result ≡ Err (stop.NotAStore found))) → ((at : ℕ) → ¬ (result ≡ Err (stop.Damaged at))) → RefusesNotes content result

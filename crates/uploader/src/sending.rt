@@ -103,10 +103,13 @@ fn upload<D: Disk, A: Air, C: Clock>(
 {
     // The client stands for some client of the definitions.
     client.some_law();
-    match carry(alloc, terms, client, job, disk, air, clock) {
-        (client, Ok(Outcome::Acked { number })) => (client, Ok(Sent { number })),
-        (_, Ok(_)) => unreachable!(),
-        (client, Err(stop)) => (client, Err(stop)),
+    let (client, came) = carry(alloc, terms, client, job, disk, air, clock);
+    match came {
+        Ok(outcome) => match outcome {
+            Outcome::Acked { number } => (client, Ok(Sent { number })),
+            _ => unreachable!(),
+        },
+        Err(stop) => (client, Err(stop)),
     }
 }
 
