@@ -291,7 +291,7 @@ module _ {A C D : Type 0} (g : Ghosts D) (air : AirGhosts A) (given : C → Opti
             (cuts-among-same g (stop_of_node why ≡ stop.Disk) (IsErrOf (Stopped why) stop.Disk) missed missed start new.party.store disk new.disk done stops.cut (λ is. ap Err is) (λ is. cc is) refl
             (cuts_behind g on terms.caller start mid.store [] mid.lists disk then_is.disk command mid.state (events_to server h.least) goes.replies goes.runs
             new.party.store new.disk (events_to mid h.more) (stop_of_node why) writes writes_n stopped.replies stops))
-          )
+            )
       ]
 
       stopped : On (Stopped why)
