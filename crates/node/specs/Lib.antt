@@ -1,4 +1,5 @@
 pub mod Course
+pub mod Lent
 pub mod Events
 pub mod Inputs
 pub mod Station
