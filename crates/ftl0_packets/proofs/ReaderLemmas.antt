@@ -9,13 +9,9 @@ use Rattle.ftl0_packets.specs.Layout.{Item, PacketText}
 use Rattle.ftl0_packets.specs.Reading.{text_len, is_whole, under_way, read_item, packets_of, rest_of}
 use Rattle.ftl0_packets.specs.Filling.{IsBuffer, IsFilling}
 use Rattle.ftl0_packets.specs.Stream.{IsPartial}
-use Rattle.ftl0_packets.proofs.OctetLemmas.{IsOctets-append, IsOctets-take, IsOctets-nil, octet_at}
+use Rattle.ftl0_packets.proofs.OctetLemmas.{IsOctets-append, IsOctets-take}
 use Rattle.ftl0_packets.proofs.TextLemmas.{text_len-append, text_len-whole, length-whole, IsText-PacketText, PacketText-whole}
 use Rattle.ftl0_packets.proofs.StreamLemmas.{packets_of-whole, rest_of-whole, IsPartial-less, less-IsPartial}
-
--- no packet has more than 2,049 octets
-text_len-most : (text : List ℕ) → IsOctets text → text_len text ≤ 2049
-text_len-most text octets = let octet = octet_at text octets in omega (arith, octet 0, octet 1)
 
 -- a packet that isn't whole yet doesn't end where it is, whatever follows
 pub text_len-more : (front more : List ℕ) → length front < text_len front → length front < text_len (front ++ more)
@@ -53,14 +49,6 @@ module _ (front bytes : List ℕ) (taken : ℕ) (less : length front < text_len 
         octets = IsOctets-append front (take taken bytes) octets (IsOctets-take taken bytes more);
       }
 
--- what is under way fills the buffer no more than what is there
-pub IsFilling-under_way : (text : List ℕ) → IsFilling text → IsFilling (under_way text)
-IsFilling-under_way text filling =
-    elim (is_whole text) as (λ (b : Bool). IsFilling (cond b [] text)) [
-      | true ↦ record { within = omega arith; octets = IsOctets-nil }
-      | false ↦ filling
-    ]
-
 -- less than a whole packet, where the buffer holds no whole one
 pub less-not_whole : (text : List ℕ) → IsFilling text → is_whole text ≡ false → length text < text_len text
 less-not_whole text filling w =
@@ -76,33 +64,14 @@ under_way-less text filling = under_way-less-at text filling (is_whole text) ref
     under_way-less-at text filling true e = omega arith
     under_way-less-at text filling false e = less-not_whole text filling e
 
--- what of the buffer is kept before more octets are put to it
-pub under_way-kept : (buffer text : List ℕ) (len begun : ℕ) (whole : Bool) → text ≡ take len buffer → len ≤ length buffer → is_whole text ≡ whole
-    → begun ≡ cond whole 0 len → (begun ≡ length (under_way text)) × (take begun buffer ≡ under_way text)
-under_way-kept buffer text len begun true is fits w none =
-    let front : under_way text ≡ [] = ap (λ (b : Bool). cond b [] text) w in
-    (none ∙ sym (ap length front), ap (λ (n : ℕ). take n buffer) none ∙ sym front)
-under_way-kept buffer text len begun false is fits w all =
-    let front : under_way text ≡ text = ap (λ (b : Bool). cond b [] text) w in
-    (omega (arith, ap length front, ap length is, length-take len buffer), ap (λ (n : ℕ). take n buffer) all ∙ sym is ∙ sym front)
-
--- the buffer after octets were put to the text under way
-pub IsBuffer-filled : (text bytes before buffer : List ℕ) (begun taken end : ℕ) → IsFilling text → IsOctets bytes
-    → (begun ≡ length (under_way text)) × (take begun before ≡ under_way text) → end ≡ text_len (under_way text ++ bytes)
-    → taken ≡ min (end - begun) (length bytes) → take (begun + taken) buffer ≡ take begun before ++ take taken bytes → length buffer ≡ 2049
-    → IsBuffer buffer (begun + taken) end
-IsBuffer-filled text bytes before buffer begun taken end filling octets kept ends count put room =
-    let less = under_way-less text filling in
-    let number : taken ≡ min (text_len (under_way text ++ bytes) - length (under_way text)) (length bytes) = rw (sym kept.0, sym ends) count in
-    let all : take (begun + taken) buffer ≡ under_way text ++ take taken bytes = put ∙ ap (λ (xs : List ℕ). xs ++ take taken bytes) kept.1 in
-    let front = (IsFilling-under_way text filling).octets in
-    let most = text_len-most (under_way text ++ bytes) (IsOctets-append (under_way text) bytes front octets) in
-    let below = text_len-more (under_way text) bytes less in
-    let same = kept.0 in
+-- the buffer after octets were put to the packet under way
+pub IsBuffer-filled : (front bytes text : List ℕ) (taken end : ℕ) → IsFilling front → length front < text_len front → IsOctets bytes
+    → end ≡ text_len (front ++ bytes) → taken ≡ min (end - length front) (length bytes) → text ≡ front ++ take taken bytes → IsBuffer text end
+IsBuffer-filled front bytes text taken end filling less octets ends count put =
+    let number : taken ≡ min (text_len (front ++ bytes) - length front) (length bytes) = subst (λ (n : ℕ). taken ≡ min (n - length front) (length bytes)) ends count in
     record {
-      fits = omega arith;
-      filling = subst IsFilling (sym all) (IsFilling-filled (under_way text) bytes taken less number front octets);
-      ends = ends ∙ sym (text_len-filled (under_way text) bytes taken less number) ∙ ap text_len (sym all);
+      filling = subst IsFilling (sym put) (IsFilling-filled front bytes taken less number filling.octets octets);
+      ends = ends ∙ sym (text_len-filled front bytes taken less number) ∙ ap text_len (sym put);
     }
 
 -- the answer for what the buffer holds

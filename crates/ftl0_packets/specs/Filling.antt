@@ -1,5 +1,5 @@
 -- What the reader's buffer holds.
-use Rattle.std.specs.Prelude.{◌≡◌, ℕ, ◌≤◌, List, length, take}
+use Rattle.std.specs.Prelude.{◌≡◌, ℕ, ◌≤◌, List, length}
 use Rattle.px_base.specs.Octets.{IsOctets}
 use Rattle.ftl0_packets.specs.Reading.{text_len}
 
@@ -8,8 +8,7 @@ pub record IsFilling (text : List ℕ) : Type 0 where
   pub within : length text ≤ text_len text
   pub octets : IsOctets text
 
--- so many octets at the front are of a packet, which has so many to its end
-pub record IsBuffer (buffer : List ℕ) (len text_end : ℕ) : Type 0 where
-  pub fits : len ≤ length buffer
-  pub filling : IsFilling (take len buffer)
-  pub ends : text_end ≡ text_len (take len buffer)
+-- these octets are of a packet, which has so many to its end
+pub record IsBuffer (text : List ℕ) (text_end : ℕ) : Type 0 where
+  pub filling : IsFilling text
+  pub ends : text_end ≡ text_len text

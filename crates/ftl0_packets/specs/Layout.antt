@@ -1,5 +1,5 @@
 -- The layout of FTL0 packets (FTL0 1990, packet format): two octets of header, then the information.
-use Rattle.std.specs.Prelude.{◌≡◌, ℕ, ◌+◌, ◌*◌, ◌/◌, ◌%◌, ◌^◌, ◌<◌, ◌==◌, List, [], ◌∷◌, ◌++◌, length, Bool, false, ◌&&◌, ◌||◌, nat_le, nat_lt, if◌then◌else◌, Result, Ok, Err, IsTrue, ⊤}
+use Rattle.std.specs.Prelude.{◌≡◌, ℕ, ◌+◌, ◌*◌, ◌/◌, ◌%◌, ◌^◌, ◌<◌, ◌==◌, List, [], ◌∷◌, ◌++◌, length, Bool, false, ◌||◌, nat_lt, if◌then◌else◌, Result, Ok, Err, ⊤}
 use Rattle.px_base.specs.Numbers.{le16_octets, le32_octets}
 use Rattle.px_base.specs.Octets.{IsOctets}
 use Rattle.ftl0_packets.specs.declared.packet.Malformed.{Malformed}

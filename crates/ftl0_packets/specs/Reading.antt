@@ -1,5 +1,5 @@
 -- How octets are read as packets (FTL0 1990, packet format): the header says where a packet ends.
-use Rattle.std.specs.Prelude.{◌≡◌, ℕ, zero, suc, ◌+◌, ◌*◌, ◌/◌, ◌%◌, ◌==◌, List, [], ◌∷◌, length, take, drop, slice_index, Bool, ◌&&◌, nat_le, not, if◌then◌else◌, Ok, Err}
+use Rattle.std.specs.Prelude.{◌≡◌, ℕ, zero, suc, ◌+◌, ◌*◌, ◌/◌, ◌%◌, ◌==◌, List, [], ◌∷◌, length, take, drop, slice_index, Bool, nat_le, not, if◌then◌else◌, Ok, Err}
 use Rattle.ftl0_packets.specs.declared.packet.Malformed.{Malformed}
 use Rattle.px_base.specs.Numbers.{le16, le32}
 use Rattle.ftl0_packets.specs.Layout.{PacketValue, data_part, data_end, login_resp, upload_cmd, ul_go_resp, ul_error_resp, ul_ack_resp, ul_nak_resp, download_cmd, dl_error_resp, dl_aborted_resp, dl_completed_resp, dl_ack_cmd, dl_nak_cmd, dir_short_cmd, dir_long_cmd, select_cmd, select_resp, has_length, Item}

@@ -9,6 +9,7 @@ ghost use Rattle.ftl0_packets.specs.Values.{item_of};
 
 use crate::text::{HEADER_LEN, MOST_OCTETS, header_text_len, read_text, text_len};
 use crate::{Malformed, Packet};
+use arrayvec::ArrayVec;
 use std::marker::Model;
 
 /// Whether a packet is whole now.
@@ -24,23 +25,21 @@ pub enum PacketFed {
 /// octets ended.
 #[derive(Debug, Drop)]
 pub struct PacketReader {
-    /// The octets of a whole packet, or of a part from its front, and after them what is left of earlier ones.
-    buffer: [u8; MOST_OCTETS],
-    /// How many octets of the packet are there.
-    len: usize,
+    /// The octets of a whole packet, or of a part from its front.
+    text: ArrayVec<u8, MOST_OCTETS>,
     /// How many octets the packet has that begins so. An octet that isn't there yet counts as 0.
     end: usize,
 }
 
 impl Model for PacketReader {
-    ghost use Rattle.std.specs.Prelude.{List, ℕ, take};
+    ghost use Rattle.std.specs.Prelude.{List, ℕ};
     ghost use Rattle.ftl0_packets.specs.Filling.{IsBuffer};
 
     ghost Value = { List ℕ };
 
-    ghost view = { λ a. take a.len a.buffer };
+    ghost view = { λ a. a.text.items };
 
-    ghost invariant = { λ a. IsBuffer a.buffer a.len a.end };
+    ghost invariant = { λ a. IsBuffer a.text.items a.end };
 }
 
 impl PacketReader {
@@ -51,8 +50,7 @@ impl PacketReader {
         ensures left { rest_of (under_way result) ≡ [] }
     {
         PacketReader {
-            buffer: [0; MOST_OCTETS],
-            len: 0,
+            text: ArrayVec::new(),
             end: HEADER_LEN,
         }
     }
@@ -100,14 +98,14 @@ impl PacketReader {
         ensures malformed { IsErr result ↔ IsTrue (is_malformed self.now) }
         ensures fault { IfErr result (λ fault. fault ≡ malformed_in self.now) }
     {
-        read_text(&self.buffer[..self.len])
+        read_text(self.text.as_slice())
     }
 
     /// Whether the packet is whole.
     fn is_whole(&self) -> bool
         ensures { result ≡ is_whole_text self.now }
     {
-        self.len == self.end
+        self.text.len() == self.end
     }
 
     /// Whether the packet is whole, as `feed` says it.
@@ -121,6 +119,17 @@ impl PacketReader {
         }
     }
 
+    /// Lets a whole packet go, so that the next one may begin.
+    fn begin_next(&mut self)
+        ensures under_way { self.new ≡ under_way self.old }
+        ensures less { length self.new < octets_of_text self.new }
+    {
+        if self.is_whole() {
+            self.text.clear();
+            self.end = HEADER_LEN;
+        }
+    }
+
     /// Puts octets to the packet under way up to its end, and says how many.
     fn take_octets(&mut self, bytes: &[u8]) -> usize
         ensures taken { result ≤ length bytes.now }
@@ -129,32 +138,22 @@ impl PacketReader {
         ensures filling { IsFilling self.new }
         ensures all { length self.new < octets_of_text self.new → result ≡ length bytes.now }
     {
-        let begun = if self.is_whole() { 0 } else { self.len };
-        let end = self.end_with(begun, bytes);
-        let taken = (end - begun).min(bytes.len());
-        put_at(&mut self.buffer, begun, &bytes[..taken]);
-        self.len = begun + taken;
-        self.end = end;
+        self.begin_next();
+        self.end = end_of(self.text.as_slice(), self.end, bytes);
+        let taken = (self.end - self.text.len()).min(bytes.len());
+        self.text.try_extend_from_slice(&bytes[..taken]).unwrap();
         taken
-    }
-
-    /// How many octets the packet has that begins with the first `begun` octets of the buffer, and then these.
-    fn end_with(&self, begun: usize, bytes: &[u8]) -> usize
-        requires { begun ≡ length (under_way self.now) }
-        ensures { result ≡ octets_of_text (under_way self.now ++ bytes.now) }
-    {
-        match begun {
-            0 => text_len(bytes),
-            1 => header_text_len(self.buffer[0], bytes.first().copied().unwrap_or(0)),
-            _ => self.end,
-        }
     }
 }
 
-/// Writes octets over those of the buffer from this place on.
-fn put_at(buffer: &mut [u8; MOST_OCTETS], at: usize, octets: &[u8])
-    requires { at + length octets.now ≤ 2049 }
-    ensures { take (at + length octets.now) buffer.new ≡ take at buffer.old ++ octets.now }
+/// How many octets the packet has that begins with this front, and then these; it has so many where two stand there.
+fn end_of(front: &[u8], end: usize, bytes: &[u8]) -> usize
+    requires { 2 ≤ length front.now → end ≡ octets_of_text front.now }
+    ensures { result ≡ octets_of_text (front.now ++ bytes.now) }
 {
-    buffer[at..at + octets.len()].copy_from_slice(octets);
+    match front {
+        [] => text_len(bytes),
+        [first] => header_text_len(*first, bytes.first().copied().unwrap_or(0)),
+        _ => end,
+    }
 }
