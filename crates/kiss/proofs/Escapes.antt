@@ -1,11 +1,13 @@
 -- Escapes are read back, and nothing else is read.
-use Rattle.std.proofs.Common.{◌≡◌, ◌≢◌, ◌<◌, ◌+◌, ℕ, List, [], ◌∷◌, ◌++◌, Option, Some, None, length, refl, sym, ap, ◌∙◌, ⊎_elim, arith, append-nil, append_assoc, length-append, get_or, drop}
+use Rattle.std.proofs.Common.{◌≡◌, ◌≢◌, ◌<◌, ◌+◌, ℕ, List, [], ◌∷◌, ◌++◌, Option, Some, None, length, refl, sym, ap, ◌∙◌, ⊎_elim, arith, append-nil, append_assoc, length-append, get_or, drop, All}
 use Rattle.std.specs.Option.{option_map}
 use Rattle.std.proofs.lemmas.Bool.{cases_eq, eq-eqb, ne_eqb, lt-ltb}
 use Rattle.std.proofs.lemmas.List.Concat.{flat_map-append}
 use Rattle.std.proofs.lemmas.List.{drop-drop}
+use Rattle.std.proofs.lemmas.List.Elements.{All-tail}
 use Rattle.kiss.specs.declared.whole.Part.TheVariants.{Dropped}
 use Rattle.kiss.specs.KissText.{fend, fesc, tfend, tfesc, escape_octet, escape, with_front, unescape, part_of, most_octets, HasNoFend}
+use Rattle.kiss.specs.ReaderMemory.{IsPlain}
 
 -- what is no FESC stands for itself
 unescape-plain : (x : ℕ) (rest : List ℕ) → x ≢ fesc → unescape (x ∷ rest) ≡ option_map (λ octets. x ∷ octets) (unescape rest)
@@ -82,6 +84,16 @@ escape-push text x = flat_map-append escape_octet text (x ∷ []) ∙ ap (λ (ba
 
 pub escape-push_itself : (text : List ℕ) (x : ℕ) → x ≢ fend → x ≢ fesc → escape (text ++ x ∷ []) ≡ escape text ++ x ∷ []
 escape-push_itself text x no_end no_escape = escape-push text x ∙ ap (λ (back : List ℕ). escape text ++ back) (escape_octet-itself x no_end no_escape)
+
+-- octets that stand for themselves, after others
+pub escape-run : (text run : List ℕ) → All IsPlain run → escape (text ++ run) ≡ escape text ++ run
+escape-run text [] plain = ap escape (append-nil text) ∙ sym (append-nil (escape text))
+escape-run text (x ∷ run) plain =
+    let (no_end, no_escape) = plain 0 x (omega arith) in
+    ap escape (sym (append_assoc text (x ∷ []) run))
+    ∙ escape-run (text ++ x ∷ []) run (All-tail IsPlain x run plain)
+    ∙ ap (λ (front : List ℕ). front ++ run) (escape-push_itself text x no_end no_escape)
+    ∙ append_assoc (escape text) (x ∷ []) run
 
 option_map_some : {f : List ℕ → List ℕ} (read : Option (List ℕ)) (text : List ℕ) → option_map f read ≡ Some text
     → (octets : List ℕ) × (read ≡ Some octets) × (f octets ≡ text)

@@ -49,6 +49,10 @@ HasTypeOctet state.Escaped text = Unit {0}
 HasTypeOctet state.Spoilt text = Unit {0}
 HasTypeOctet state.Framed text = 0 < length text
 
+-- within a part the octet stands for itself
+abbrev pub IsPlain : ℕ → Type 0
+IsPlain octet = (octet ≢ fend) × (octet ≢ fesc)
+
 -- one octet takes a reader's memory to this state and text, and ends what the answer says
 pub record IsStep (before : State) (text : List ℕ) (octet : ℕ) (now : State) (text_now : List ℕ) (answer : KissFed) : Type 0 where
   pub parts : (later : List ℕ) → kiss_parts (heard_in before text ++ octet ∷ later)

@@ -1,9 +1,9 @@
 //! Reading KISS text an octet at a time.
 
-ghost use Rattle.std.specs.Prelude.{◌≡◌, ◌≢◌, ◌↔◌, ℕ, List, [], ◌∷◌, ◌++◌, length, ◌<◌, ◌≤◌, IsSome, Some, None};
+ghost use Rattle.std.specs.Prelude.{◌≡◌, ◌≢◌, ◌↔◌, ℕ, List, [], ◌∷◌, ◌++◌, length, take, All, ◌<◌, ◌≤◌, IsSome, Some, None};
 ghost use Rattle.kiss.specs.KissText.{fend, fesc, kiss_parts, kiss_frames, escape};
 ghost use Rattle.kiss.specs.Hearing.{parts_ended, frames_ended};
-ghost use Rattle.kiss.specs.ReaderMemory.{heard_in, frame_in, hearing, parts_ended_in, parts_of_text, IsStep};
+ghost use Rattle.kiss.specs.ReaderMemory.{heard_in, frame_in, hearing, parts_ended_in, parts_of_text, IsPlain, IsStep};
 
 use crate::octets::{DATA_ON_PORT_0, FEND, FESC, TFEND, TFESC};
 use arrayvec::ArrayVec;
@@ -103,6 +103,27 @@ impl KissReader {
         fed
     }
 
+    /// Takes octets from the front, as far as they stand for themselves within a part, and says how many: maybe none. They
+    /// end nothing. It does at once what [`feed`](KissReader::feed) does an octet at a time. Takes no memory.
+    #[inline]
+    pub fn pass(&mut self, octets: &[u8]) -> usize
+        ensures within { result ≤ length octets.now }
+        ensures heard { self.new.heard ≡ self.old.heard ++ take result octets.now }
+        ensures none { result ≡ 0 → self.new ≡ self.old }
+        ensures frame { 0 < result → self.new.frame ≡ None }
+
+        // Neither they nor fewer of them end anything.
+        ensures no_part { (n : ℕ) → n ≤ result → kiss_parts (self.old.heard ++ take n octets.now) ≡ [] }
+        ensures no_frame { (n : ℕ) → n ≤ result → kiss_frames (self.old.heard ++ take n octets.now) ≡ [] }
+    {
+        if self.state != State::Within {
+            return 0;
+        }
+        let count = plain_front(octets).min(self.text.remaining_capacity());
+        self.text.try_extend_from_slice(&octets[..count]).unwrap();
+        count
+    }
+
     /// The octets of the frame after its type octet, at most 400. The last `feed` has to have
     /// answered `Frame`. Takes no memory.
     pub fn frame(&self) -> &[u8]
@@ -112,6 +133,18 @@ impl KissReader {
     {
         &self.text[1..]
     }
+}
+
+/// How many octets at the front stand for themselves within a part: those before the first FEND or FESC.
+#[inline]
+fn plain_front(octets: &[u8]) -> usize
+    ensures within { result ≤ length octets.now }
+    ensures plain { All IsPlain (take result octets.now) }
+{
+    octets
+        .iter()
+        .position(|octet| *octet == FEND || *octet == FESC)
+        .unwrap_or(octets.len())
 }
 
 /// Keeps an octet of a part that stands for itself. Most octets do, so `feed` looks at them first.
