@@ -1,5 +1,5 @@
 -- What is handed over brings events.
-use Rattle.std.proofs.Common.{◌≡◌, ℕ, List, [], ◌∷◌, ◌++◌, length, Bool, true, false, Option, None, Some, IfSome, refl, sym, ap, ◌∙◌, subst, inl, inr, append_assoc, append-nil, arith}
+use Rattle.std.proofs.Common.{◌≡◌, ℕ, List, [], ◌∷◌, ◌++◌, length, take, suc, ◌≤◌, Bool, true, false, Option, None, Some, IfSome, refl, sym, ap, ◌∙◌, subst, inl, inr, append_assoc, append-nil, arith}
 use Rattle.std.proofs.lemmas.List.{map-append}
 use Rattle.std.specs.Prelude.{IsSome, IsTrue, option_to_list, ◌==◌, if◌then◌else◌}
 use Rattle.px_base.specs.CallSign.{CallSign}
@@ -88,6 +88,19 @@ brings-then me before (tick moment ∷ xs) ys es fs h k = (h.0 ++ fs, ap (λ (e 
 -- one octet more brings these frames
 pub brings-octet : (me : CallSign) (before : List ℕ) (o moment : ℕ) (frames : List FrameValue) → Finishes me before (o ∷ []) frames → Brings me before (octet o moment ∷ []) (heard_at moment frames)
 brings-octet me before o moment frames h = (frames, [], h, sym (append-nil (heard_at moment frames)), refl)
+
+-- octets that end no frame of KISS text, nor fewer of them, bring nothing
+pub brings-run : (me : CallSign) (before : List ℕ) (moment : ℕ) (run : List ℕ) → ((n : ℕ) → n ≤ length run → kiss_frames (before ++ take n run) ≡ kiss_frames before)
+    → Brings me before (octets_at moment run) []
+brings-run me before moment [] none = refl
+brings-run me before moment (o ∷ run) none =
+    let one : kiss_frames (before ++ o ∷ []) ≡ kiss_frames before = none 1 (omega arith) in (
+      [],
+      [],
+      ([], one ∙ sym (append-nil (kiss_frames before)), refl),
+      refl,
+      brings-run me (before ++ o ∷ []) moment run (λ n below. ap kiss_frames (append_assoc before (o ∷ []) (take n run)) ∙ none (suc n) (omega arith) ∙ sym one),
+    )
 
 brings-split : (me : CallSign) (before : List ℕ) (xs ys : List Input) (es : List NodeEvent) → Brings me before (xs ++ ys) es
     → (first : List NodeEvent) × (later : List NodeEvent) × (es ≡ first ++ later) × Brings me before xs first × Brings me (before ++ octets_in xs) ys later

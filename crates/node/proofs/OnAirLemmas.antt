@@ -1,7 +1,8 @@
 -- The course of a station on the air.
-use Rattle.std.proofs.Common.{◌≡◌, ◌<◌, ◌+◌, ℕ, Option, None, Some, List, [], ◌∷◌, ◌++◌, refl, sym, ap, ◌∙◌, subst, append_assoc, append-nil, take}
+use Rattle.std.proofs.Common.{◌≡◌, ◌<◌, ◌+◌, ℕ, Option, None, Some, List, [], ◌∷◌, ◌++◌, refl, sym, ap, ◌∙◌, subst, append_assoc, append-nil, take, drop, length, ◌-◌, arith, length-drop}
 use Rattle.std.specs.List.{AllByRecursion}
 use Rattle.std.specs.Prelude.{⊤}
+use Rattle.std.proofs.lemmas.List.{drop-take, take-append-drop, take-take, take_all}
 use Rattle.std.proofs.lemmas.List.Elements.{All-append, All-from_recursion, All-nil, All-take}
 use Rattle.px_base.specs.CallSign.{CallSign}
 use Rattle.px_base.specs.Octets.{IsOctets}
@@ -11,11 +12,11 @@ use Rattle.node.specs.Events.{Finishes, NodeEvent, heard_at, ticks}
 use Rattle.node.specs.Inputs.{Input, IsInput, octet, octets_at, octets_in, tick}
 use Rattle.node.specs.Laws.{SomeFramesLaw}
 use Rattle.node.specs.OnAir.{Brings, BringsOver, HasHeardSome, StaysOnAir, inner, on_air}
-use Rattle.node.specs.Reading.{HasHeard}
+use Rattle.node.specs.Reading.{HasHeard, HearsRun}
 use Rattle.node.specs.Station.{StationValue}
 use Rattle.node.specs.declared.halt.Halt.{Halt}
 use Rattle.node.specs.declared.on_air.OnAir.{OnAir}
-use Rattle.node.proofs.BringsLemmas.{brings-octet, brings-then}
+use Rattle.node.proofs.BringsLemmas.{brings-octet, brings-run, brings-then}
 use Rattle.node.proofs.InputLemmas.{are-octets, octets_at-append, octets_in-append, octets_in-at}
 
 pub octets-nil : IsOctets []
@@ -178,6 +179,38 @@ module _ {S D : Type 0} (me : S → CallSign) (a b : AtDisk (OnAir S) D) (xs : L
         let first = h.brings all heard in
         ([], first.1, (first.0, subst (λ (s : AtDisk S D). course.owes (inner a) [] None [] s) (sym h.same) (law.owes_none (inner a) fit))),
   )
+
+-- so many octets, and then so many of the rest
+take-then : (n m : ℕ) (piece : List ℕ) → take (n + m) piece ≡ take n piece ++ take m (drop n piece)
+take-then n m piece =
+    sym (take-append-drop n (take (n + m) piece))
+    ∙ ap (λ (xs : List ℕ). xs ++ drop n (take (n + m) piece)) (take-take n (n + m) piece (omega arith))
+    ∙ ap (λ (xs : List ℕ). take n piece ++ xs) (drop-take n m piece)
+
+-- octets of a piece behind those that were fed, none of which ended a frame of KISS text
+pub feeding-run : {S D : Type 0} (me : S → CallSign) (a b : AtDisk (OnAir S) D) (moment : ℕ) (piece : List ℕ) (count run : ℕ) → IsFeeding me a (octets_at moment (take count piece)) b
+    → (reader : StationValue) → reader.me ≡ b.it.reader.me
+    → HearsRun b.it.reader (take run (take (length piece - count) (drop count piece))) reader
+    → IsFeeding me a (octets_at moment (take (count + run) piece)) (at (record { reader = reader; station = b.it.station }) b.disk)
+feeding-run me a b moment piece count run h reader reader_me hears =
+    let xs = octets_at moment (take count piece) in
+    let more = take run (drop count piece) in
+    let rest : take (length piece - count) (drop count piece) ≡ drop count piece = take_all _ (drop count piece) (omega (arith, length-drop count piece)) in
+    let is : octets_at moment (take (count + run) piece) ≡ xs ++ octets_at moment more =
+    ap (octets_at moment) (take-then count run piece) ∙ octets_at-append moment (take count piece) more in
+    let octets : octets_in (octets_at moment (take (count + run) piece)) ≡ octets_in xs ++ more =
+    ap octets_in is ∙ octets_in-append xs (octets_at moment more) ∙ ap (λ (os : List ℕ). octets_in xs ++ os) (octets_in-at moment more) in
+    record {
+      same = h.same;
+      own = reader_me ∙ h.own;
+      brings = λ all heard.
+          let first = h.brings all heard in
+          let then_is = subst (λ (os : List ℕ). HearsRun b.it.reader (take run os) reader) rest hears (all ++ octets_in xs) first.0 in (
+            subst (λ (os : List ℕ). HasHeard reader os) (append_assoc all (octets_in xs) more ∙ ap (λ (os : List ℕ). all ++ os) (sym octets)) then_is.0,
+            subst (λ (ins : List Input). Brings (me a.it.station) all ins []) (sym is)
+                (brings-then (me a.it.station) all xs (octets_at moment more) [] [] first.1 (brings-run (me a.it.station) (all ++ octets_in xs) moment more then_is.1)),
+          );
+    }
 
 -- one octet more of a piece
 pub octets-more : (moment : ℕ) (piece : List ℕ) (n o : ℕ) → take (n + 1) piece ≡ take n piece ++ o ∷ [] → octets_at moment (take (n + 1) piece) ≡ octets_at moment (take n piece) ++ octet o moment ∷ []

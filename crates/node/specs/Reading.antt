@@ -1,5 +1,5 @@
 -- What a station's reader has heard, and what an octet brings to it.
-use Rattle.std.specs.Prelude.{◌≡◌, ℕ, List, [], ◌∷◌, ◌++◌, Bool, true, false, Option, None, Some}
+use Rattle.std.specs.Prelude.{◌≡◌, ℕ, ◌≤◌, List, [], ◌∷◌, ◌++◌, length, take, Bool, true, false, Option, None, Some}
 use Rattle.std.specs.Option.{option_to_list}
 use Rattle.px_base.specs.CallSign.{CallSign}
 use Rattle.kiss.specs.KissText.{kiss_frames}
@@ -24,6 +24,14 @@ HearsOctet old octet new ended =
     (octets : List ℕ) → HasHeard old octets
     → HasHeard new (octets ++ octet ∷ [])
     × (kiss_frames (octets ++ octet ∷ []) ≡ kiss_frames octets ++ texts_ended ended new)
+
+-- Octets came: whatever octets the reader has heard, it has heard these too, and neither they nor fewer of them ended a
+-- frame of KISS text.
+abbrev pub HearsRun : StationValue → List ℕ → StationValue → Type 0
+HearsRun old run new =
+    (octets : List ℕ) → HasHeard old octets
+    → HasHeard new (octets ++ run)
+    × ((n : ℕ) → n ≤ length run → kiss_frames (octets ++ take n run) ≡ kiss_frames octets)
 
 -- the frame for the station that has these octets, or that none has
 abbrev pub Finds : CallSign → List ℕ → Option FrameValue → Type 0

@@ -39,14 +39,21 @@ impl<D: Disk, S: Station<D>> Party<D> for OnAir<S> {
 
     fn hear(&mut self, disk: &mut D, piece: &[u8], moment: u32) -> Result<usize, Halt> {
         S::is_lawful();
-        for (count, octet) in piece.iter().enumerate() {
-            if !self.reader.feed(*octet) {
+        let mut count = 0;
+        while count < piece.len() {
+            count += self.reader.pass(&piece[count..]);
+            if count == piece.len() {
+                return Ok(count);
+            }
+            let octet = piece[count];
+            count += 1;
+            if !self.reader.feed(octet) {
                 continue;
             }
             match self.reader.frame() {
                 Some(frame) => {
                     return match self.station.hear(disk, &frame, moment) {
-                        Ok(()) => Ok(count + 1),
+                        Ok(()) => Ok(count),
                         Err(why) => Err(why),
                     };
                 }

@@ -1,11 +1,11 @@
 //! A station's reader of frames.
 
-ghost use Rattle.std.specs.Prelude.{◌≡◌, ◌↔◌, [], IfSome, IsSome, IsTrue};
+ghost use Rattle.std.specs.Prelude.{◌≡◌, ◌↔◌, ◌≤◌, [], length, take, IfSome, IsSome, IsTrue};
 ghost use Rattle.std.specs.Option.{option_map};
 ghost use Rattle.ax25_frames.specs.Values.{value_of};
 ghost use Rattle.ax25_frames.specs.Kinds.{FitsControl};
 ghost use Rattle.node.specs.Events.{IsFor};
-ghost use Rattle.node.specs.Reading.{Finds, HasHeard, HearsOctet};
+ghost use Rattle.node.specs.Reading.{Finds, HasHeard, HearsOctet, HearsRun};
 
 use ax25_frames::{Frame, read_frame};
 use kiss::{KissFed, KissReader};
@@ -49,6 +49,17 @@ impl StationReader {
         ensures ended { IsTrue result ↔ IsSome self.new.ended }
     {
         matches!(self.reader.feed(octet), KissFed::Frame)
+    }
+
+    /// Takes octets from the front that end no frame of KISS text, and says how many: maybe none. It does at once what
+    /// [`feed`](StationReader::feed) does an octet at a time. Takes no memory.
+    #[inline]
+    pub fn pass(&mut self, octets: &[u8]) -> usize
+        ensures me { self.new.me ≡ self.old.me }
+        ensures within { result ≤ length octets.now }
+        ensures hears { HearsRun self.old (take result octets.now) self.new }
+    {
+        self.reader.pass(octets)
     }
 
     /// The frame for the station that the last octet ended, if what it ended is one. The last `feed` has to have
