@@ -15,9 +15,10 @@ pub struct TooLong;
 
 /// Replaces `out` by the KISS text of the frame `bytes` as data on port 0: FEND, the type octet,
 /// the octets escaped, FEND ("Asynchronous Frame Format", "Transparency"). It has at most 803
-/// octets. [`TooLong`] exactly where `bytes` has more than 400 octets; `out` is unchanged then.
+/// octets, for which there has to be room. [`TooLong`] exactly where `bytes` has more than 400 octets; `out` is unchanged then.
 /// Takes no memory.
-pub fn write_frame(bytes: &[u8], out: &mut ArrayVec<u8, 810>) -> Result<(), TooLong>
+pub fn write_frame<const N: usize>(bytes: &[u8], out: &mut ArrayVec<u8, N>) -> Result<(), TooLong>
+    requires { 803 ≤ N }
     ensures too_long { IsErr result ↔ (400 < length bytes.now) }
     ensures text { OnOk result (out.new.items ≡ kiss_text bytes.now) }
     ensures unchanged { OnErr result (out.new ≡ out.old) }
@@ -36,8 +37,8 @@ pub fn write_frame(bytes: &[u8], out: &mut ArrayVec<u8, 810>) -> Result<(), TooL
 }
 
 /// Adds an octet as it is sent inside a frame ("Transparency").
-fn push_escaped(octet: u8, out: &mut ArrayVec<u8, 810>)
-    requires { array_vec_len out.old + 2 ≤ 810 }
+fn push_escaped<const N: usize>(octet: u8, out: &mut ArrayVec<u8, N>)
+    requires { array_vec_len out.old + 2 ≤ N }
     ensures octets { out.new.items ≡ out.old.items ++ escape_octet octet }
     ensures len { array_vec_len out.new ≤ array_vec_len out.old + 2 }
 {

@@ -72,15 +72,9 @@ impl<D: Disk, S: Station<D>> Party<D> for OnAir<S> {
         if !self.station.next_out(disk, &mut frame) {
             return false;
         }
-        let mut said = ArrayVec::new();
-        match write_frame(&frame, &mut said) {
-            Ok(()) => {}
-            Err(_long) => unreachable!(),
-        }
-        text.clear();
-        match text.try_extend_from_slice(&said) {
+        match write_frame(&frame, text) {
             Ok(()) => true,
-            Err(_full) => unreachable!(),
+            Err(_long) => unreachable!(),
         }
     }
 

@@ -6,10 +6,31 @@ ghost use Rattle.node.specs.Course.{OwesSome, at};
 ghost use Rattle.node.specs.Inputs.{octets_at, tick_after, turn_inputs};
 ghost use Rattle.node.specs.Turns.{AreHandedOver, IsMomentOf, SaysAll, Takes, TakesPiece, TookTurn, TookTurns, lent};
 
-use crate::{Finished, NodeStop, Party, TurnTerms};
+use crate::{Finished, MOST_SAID, NodeStop, Party, TurnTerms};
 use arrayvec::ArrayVec;
 use disk_model::Disk;
 use px_base::{Air, AirDown, Clock, Polled, ROOM};
+
+/// What a party gives is written here.
+type Text = ArrayVec<u8, MOST_SAID>;
+
+/// What the turns of a node are made with, kept from one to the next.
+#[derive(Drop)]
+struct Buffers {
+    /// What a poll reads.
+    room: [u8; ROOM],
+    /// What the party gives.
+    text: Text,
+}
+
+impl Buffers {
+    fn new() -> Buffers {
+        Buffers {
+            room: [0; ROOM],
+            text: ArrayVec::new(),
+        }
+    }
+}
 
 /// Says what the party has to give, and takes turns until it is over, or up to the end of the air, or as many polls
 /// as may be made. A turn takes its moment, and then one poll. The octets are handed to the party, from their front
@@ -33,15 +54,22 @@ pub fn take_turns<D: Disk, P: Party<D>, A: Air, C: Clock>(
     ensures clock { IsSome terms.now.given → clock.new ≡ clock.old }
 {
     P::is_lawful();
-    put_all(party, disk, air)?;
-    let mut room = [0; ROOM];
+    let mut buffers = Buffers::new();
+    put_all(party, disk, air, &mut buffers.text)?;
     let mut last = None;
     for turn in 0..terms.polls {
         if party.is_over() {
             return Ok(Finished::Over);
         }
         let moment = moment_of_turn(turn, terms, clock);
-        if !take_turn(party, disk, air, &mut room, moment, last.unwrap_or(moment))? {
+        if !take_turn(
+            party,
+            disk,
+            air,
+            &mut buffers,
+            moment,
+            last.unwrap_or(moment),
+        )? {
             return Ok(Finished::Closed(turn + 1));
         }
         last = Some(moment);
@@ -81,7 +109,7 @@ fn take_turn<D: Disk, P: Party<D>, A: Air>(
     party: &mut P,
     disk: &mut D,
     air: &mut A,
-    room: &mut [u8; ROOM],
+    buffers: &mut Buffers,
     moment: u32,
     last: u32,
 ) -> Result<bool, NodeStop>
@@ -90,14 +118,15 @@ fn take_turn<D: Disk, P: Party<D>, A: Air>(
         (λ next. turn_inputs next last moment) result }
 {
     P::is_lawful();
-    match air.poll(room) {
+    let text = &mut buffers.text;
+    match air.poll(&mut buffers.room) {
         Ok(Polled::Bytes(count)) => {
-            hear_octets(party, disk, air, &room[..count], moment)?;
-            tick(party, disk, air, moment, last)?;
+            hear_octets(party, disk, air, &buffers.room[..count], moment, text)?;
+            tick(party, disk, air, moment, last, text)?;
             Ok(true)
         }
         Ok(Polled::Quiet) => {
-            tick(party, disk, air, moment, last)?;
+            tick(party, disk, air, moment, last, text)?;
             Ok(true)
         }
         Ok(Polled::End) => Ok(false),
@@ -112,6 +141,7 @@ fn hear_octets<D: Disk, P: Party<D>, A: Air>(
     air: &mut A,
     octets: &[u8],
     moment: u32,
+    text: &mut Text,
 ) -> Result<(), NodeStop>
     requires { P.course.is_fit (at party.old disk.old) }
     ensures { Takes P.course A.Air air.old air.new (at party.old disk.old) (at party.new disk.new)
@@ -120,7 +150,7 @@ fn hear_octets<D: Disk, P: Party<D>, A: Air>(
     P::is_lawful();
     let mut piece = octets;
     while !piece.is_empty() {
-        let taken = hear_piece(party, disk, air, piece, moment)?;
+        let taken = hear_piece(party, disk, air, piece, moment, text)?;
         piece = piece.split_at(taken).1;
     }
     Ok(())
@@ -133,6 +163,7 @@ fn hear_piece<D: Disk, P: Party<D>, A: Air>(
     air: &mut A,
     piece: &[u8],
     moment: u32,
+    text: &mut Text,
 ) -> Result<usize, NodeStop>
     requires some { 0 < length piece.now }
     requires fit { P.course.is_fit (at party.old disk.old) }
@@ -141,12 +172,12 @@ fn hear_piece<D: Disk, P: Party<D>, A: Air>(
 {
     match party.hear(disk, piece, moment) {
         Ok(taken) => {
-            put_all(party, disk, air)?;
+            put_all(party, disk, air, text)?;
             Ok(taken)
         }
         Err(why) => {
             // What it halts by is the answer, whatever becomes of saying the rest.
-            let _ = put_all(party, disk, air);
+            let _ = put_all(party, disk, air, text);
             Err(NodeStop::from(why))
         }
     }
@@ -159,6 +190,7 @@ fn tick<D: Disk, P: Party<D>, A: Air>(
     air: &mut A,
     moment: u32,
     last: u32,
+    text: &mut Text,
 ) -> Result<(), NodeStop>
     requires { P.course.is_fit (at party.old disk.old) }
     ensures { Takes P.course A.Air air.old air.new (at party.old disk.old) (at party.new disk.new)
@@ -169,7 +201,7 @@ fn tick<D: Disk, P: Party<D>, A: Air>(
         return Ok(());
     }
     party.tick(disk, moment);
-    put_all(party, disk, air)?;
+    put_all(party, disk, air, text)?;
     Ok(())
 }
 
@@ -178,13 +210,13 @@ fn put_all<D: Disk, P: Party<D>, A: Air>(
     party: &mut P,
     disk: &mut D,
     air: &mut A,
+    text: &mut Text,
 ) -> Result<(), AirDown>
     requires { OwesSome P.course (at party.old disk.old) }
     ensures { SaysAll P.course A.Air air.old air.new (at party.old disk.old) (at party.new disk.new) result }
 {
-    let mut text = ArrayVec::new();
-    while party.next_out(disk, &mut text) {
-        air.put(&text)?;
+    while party.next_out(disk, text) {
+        air.put(text)?;
     }
     Ok(())
 }

@@ -3,8 +3,8 @@ use Rattle.node.specs.Course.{at}
 use Rattle.node.proofs.Invariants.{IsSaying}
 use Rattle.node.proofs.turns.put_all.Given as goal
 
-abbrev pub invariant-loop-text : goal.invariant-loop-text
-invariant-loop-text g l = IsSaying g.P.Party.course g.A.Air l.fn.air l.air (at l.fn.party l.fn.disk) (at l.party l.disk)
+abbrev pub invariant-loop-air : goal.invariant-loop-air
+invariant-loop-air g l = IsSaying g.P.Party.course g.A.Air l.fn.air l.air (at l.fn.party l.fn.disk) (at l.party l.disk)
 
-abbrev pub decreases-loop-text : goal.decreases-loop-text
-decreases-loop-text g l = g.P.Party.course.most l.party
+abbrev pub decreases-loop-air : goal.decreases-loop-air
+decreases-loop-air g l = g.P.Party.course.most l.party

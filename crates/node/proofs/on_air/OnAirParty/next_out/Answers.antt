@@ -1,5 +1,5 @@
 -- What the station gives is given as KISS text.
-use Rattle.std.proofs.Common.{◌≡◌, List, ℕ, ◌++◌, ap, sym, ◌∙◌, subst}
+use Rattle.std.proofs.Common.{◌≡◌, List, ℕ, ap, sym, ◌∙◌, subst}
 use Rattle.kiss.specs.KissText.{kiss_text}
 use Rattle.node.specs.Course.{GivesNext, at}
 use Rattle.node.proofs.OnAirLemmas.{gave-all, gives-next}
@@ -11,8 +11,6 @@ returns-then-not-next_out-clause-all g c is =
 
 pub returns-clause-next : goal.returns-clause-next
 returns-clause-next g c is =
-    let text : kiss_text c.next_out.new.frame.items ≡ c.try_extend_from_slice.new.self.items =
-    ap kiss_text (sym c.deref.ensures.0) ∙ sym c.in-Ok.ensures.text ∙ sym (c.deref-2).ensures.0 ∙ sym (ap (λ (t : List ℕ). t ++ (c.deref-2).result.now) c.clear.ensures)
-    ∙ sym (c.in-Ok-try_extend_from_slice).ensures.ok in
-    gives-next g.S.Station.me g.S.Station.course (at c.args.self.now c.args.disk.now) c.next_out.new.self c.next_out.new.disk c.next_out.ensures.me c.try_extend_from_slice.new.self.items
-    (subst (λ (t : List ℕ). GivesNext g.S.Station.course (at c.args.self.now.station c.args.disk.now) t (at c.next_out.new.self c.next_out.new.disk)) text (c.next_out.ensures.next c.if-not-next_out.false))
+    let said : kiss_text c.next_out.new.frame.items ≡ c.write_frame.new.out.items = ap kiss_text (sym c.deref.ensures.0) ∙ sym c.in-Ok.ensures.text in
+    gives-next g.S.Station.me g.S.Station.course (at c.args.self.now c.args.disk.now) c.next_out.new.self c.next_out.new.disk c.next_out.ensures.me c.write_frame.new.out.items
+    (subst (λ (t : List ℕ). GivesNext g.S.Station.course (at c.args.self.now.station c.args.disk.now) t (at c.next_out.new.self c.next_out.new.disk)) said (c.next_out.ensures.next c.if-not-next_out.false))
