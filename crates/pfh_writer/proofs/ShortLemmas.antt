@@ -1,10 +1,17 @@
 -- The rules of the mandatory items, one after another.
-use Rattle.std.proofs.Common.{◌≡◌, ℕ, ◌+◌, ◌<◌, List, [], ◌∷◌, ◌++◌, length, take, drop, get_or, map, sym, ap, ◌∙◌, subst, arith, append_assoc}
+use Rattle.std.proofs.Common.{◌≡◌, ℕ, ◌+◌, ◌<◌, List, [], ◌∷◌, ◌++◌, length, take, drop, get_or, map, refl, sym, ap, ◌∙◌, subst, arith, append_assoc, length-append, Bool, false, cond, Option, unwrap_or, lit<, lit≤}
+use Rattle.std.proofs.Math.Seq.{drop-append_seam, take-append_seam}
+use Rattle.std.specs.Prelude.{◌==◌}
 use Rattle.std.specs.List.{AllByRecursion}
 use Rattle.std.proofs.lemmas.List.{append-nil, take_more, drop_more, map_push}
-use Rattle.pfh_items.specs.Layout.{ItemValue, IsItem, AreItems, item_text, items_text}
+use Rattle.px_base.specs.Numbers.{le16_octets}
+use Rattle.pfh_items.specs.Faults.{StandsOnce, content_of}
+use Rattle.pfh_items.specs.Layout.{AreItems, HeaderText, IsItem, ItemValue, end_item, header_start, header_text, item_text, items_text}
+use Rattle.pfh_items.specs.Table.{mandatory_items}
 use Rattle.pfh_items.specs.declared.table.MandatoryItem.{MandatoryItem}
-use Rattle.pfh_writer.proofs.ItemsLemmas.{items_text-append, AreItems-append}
+use Rattle.pfh_items.proofs.Offered.{IsOctets-le16}
+use Rattle.pfh_writer.specs.Short.{HasEachOnce, short_item}
+use Rattle.pfh_writer.proofs.ItemsLemmas.{AreItems-append, field-once, items_text-append}
 
 -- the length of these items' texts
 abbrev pub rules_len : List MandatoryItem → ℕ
@@ -39,3 +46,79 @@ module _ (f : MandatoryItem → ItemValue) (rules : List MandatoryItem) (i : ℕ
 
   pub are_more : AreItems (map f (take i rules)) → IsItem (f (get_or rules i d)) → AreItems (map f (take (i + 1) rules))
   are_more are is = subst AreItems (sym items_more) (AreItems-append (map f (take i rules)) (f (get_or rules i d) ∷ []) are (is, tt))
+
+-- ---- the sum of a short form
+
+-- the rule is of another item than header_checksum
+abbrev IsPlainRule : MandatoryItem → Type 0
+IsPlainRule rule = (rule.id == 0x0A) ≡ false
+
+module _ (items : List ItemValue) where
+  -- the rules before that of header_checksum, and that behind it
+  abbrev firsts : List MandatoryItem
+  firsts = take 9 mandatory_items
+
+  abbrev last : ItemValue
+  last = record { id = 0x0B; content = content_of 0x0B items }
+
+  -- the short form with this sum
+  abbrev pub with_sum : ℕ → List ItemValue
+  with_sum sum = map (short_item items sum) mandatory_items
+
+  -- what stands before the sum in a short form, and behind it
+  abbrev before-sum : List ℕ
+  before-sum = header_start ++ (items_text (map (short_item items 0) firsts) ++ 0x0A ∷ 0 ∷ 2 ∷ [])
+
+  abbrev behind-sum : List ℕ
+  behind-sum = items_text (last ∷ []) ++ end_item
+
+  -- a short form is what stands before its sum, the sum, and what stands behind it
+  text-parts : (sum : ℕ) → header_text (with_sum sum) ≡ before-sum ++ (le16_octets sum ++ behind-sum)
+  text-parts sum =
+      let front = items_text (map (short_item items 0) firsts) in
+      let sum_item : List ℕ = 0x0A ∷ 0 ∷ 2 ∷ le16_octets sum in
+      ap (λ (t : List ℕ). header_start ++ (t ++ end_item)) (items_text-append (map (short_item items 0) firsts) (record { id = 0x0A; content = le16_octets sum } ∷ last ∷ []))
+      ∙ ap (λ (t : List ℕ). header_start ++ t)
+      (append_assoc front (sum_item ++ items_text (last ∷ [])) end_item ∙ sym (append_assoc front (0x0A ∷ 0 ∷ 2 ∷ []) (le16_octets sum ++ behind-sum)))
+
+  text-len : (rules : List MandatoryItem) → AllByRecursion (StandsOnce items) rules → AllByRecursion IsPlainRule rules
+      → length (items_text (map (short_item items 0) rules)) ≡ rules_len rules
+  text-len [] once plain = refl
+  text-len (rule ∷ rules) once plain =
+      let content : content_of rule.id items ≡ once.0.0 = ap (λ (o : Option (List ℕ)). unwrap_or o []) (field-once items rule once.0) in
+      let item : short_item items 0 rule ≡ record { id = rule.id; content = content_of rule.id items } = ap (λ (b : Bool). cond b (record { id = rule.id; content = 0 ∷ 0 ∷ [] }) (record { id = rule.id; content = content_of rule.id items })) plain.0 in
+      omega (
+        arith,
+        length-append (item_text (short_item items 0 rule)) (items_text (map (short_item items 0) rules)),
+        ap (λ (i : ItemValue). length (item_text i)) item,
+        ap length content,
+        once.0.2,
+        text-len rules once.1 plain.1,
+      )
+
+  module _ (once : HasEachOnce items) where
+    before-len : length before-sum ≡ 63
+    before-len =
+        let o = once in
+        let onces : AllByRecursion (StandsOnce items) firsts =
+        (o.0, (o.1.0, (o.1.1.0, (o.1.1.1.0, (o.1.1.1.1.0, (o.1.1.1.1.1.0, (o.1.1.1.1.1.1.0, (o.1.1.1.1.1.1.1.0, (o.1.1.1.1.1.1.1.1.0, tt))))))))) in
+        let plain : AllByRecursion IsPlainRule firsts = (refl, (refl, (refl, (refl, (refl, (refl, (refl, (refl, (refl, tt))))))))) in
+        let front = items_text (map (short_item items 0) firsts) in
+        omega (arith, text-len firsts onces plain, length-append header_start (front ++ 0x0A ∷ 0 ∷ 2 ∷ []), length-append front (0x0A ∷ 0 ∷ 2 ∷ []))
+
+    -- the short form with sum 0, in which another sum is put in its place
+    pub sum-put : (form : List ℕ) (sum : ℕ) → HeaderText (with_sum 0) form → HeaderText (with_sum sum) (take 63 form ++ (le16_octets sum ++ drop 2 (drop 63 form)))
+    sum-put form sum is =
+        let are = is.are_items in
+        let sum_item : IsItem (record { id = 0x0A; content = le16_octets sum }) =
+        record { id = lit< tt; octets = IsOctets-le16 sum; most = lit≤ tt; no_end = λ e. absurd (omega (arith, e)) } in
+        let parts : form ≡ before-sum ++ (0 ∷ 0 ∷ behind-sum) = is.text ∙ text-parts 0 in
+        let n = before-len in
+        let front : take 63 form ≡ before-sum = ap (take 63) parts ∙ subst (λ (m : ℕ). take m (before-sum ++ (0 ∷ 0 ∷ behind-sum)) ≡ before-sum) n (take-append_seam before-sum (0 ∷ 0 ∷ behind-sum)) in
+        let back : drop 2 (drop 63 form) ≡ behind-sum =
+        ap (λ (xs : List ℕ). drop 2 (drop 63 xs)) parts
+        ∙ ap (drop 2) (subst (λ (m : ℕ). drop m (before-sum ++ (0 ∷ 0 ∷ behind-sum)) ≡ 0 ∷ 0 ∷ behind-sum) n (drop-append_seam before-sum (0 ∷ 0 ∷ behind-sum))) in
+        record {
+          are_items = (are.0, (are.1.0, (are.1.1.0, (are.1.1.1.0, (are.1.1.1.1.0, (are.1.1.1.1.1.0, (are.1.1.1.1.1.1.0, (are.1.1.1.1.1.1.1.0, (are.1.1.1.1.1.1.1.1.0, (sum_item, (are.1.1.1.1.1.1.1.1.1.1.0, tt)))))))))));
+          text = ap (λ (xs : List ℕ). xs ++ (le16_octets sum ++ drop 2 (drop 63 form))) front ∙ ap (λ (xs : List ℕ). before-sum ++ (le16_octets sum ++ xs)) back ∙ sym (text-parts sum);
+        }

@@ -9,30 +9,30 @@ use Rattle.pfh_writer.proofs.short.form_of.Goals as goal
 
 pub push_rule-requires-clause-once : goal.push_rule-requires-clause-once
 push_rule-requires-clause-once c =
-    (rule_now (short_item c.args.header.now.items c.args.header_sum) mandatory_items c.loop-rule.rule-index _ c.loop-rule-test.true
+    (rule_now (short_item c.args.header.now.items 0) mandatory_items c.loop-rule.rule-index _ c.loop-rule-test.true
     (StandsOnce c.args.header.now.items) c.loop-rule.invariant.once).0
 
 pub push_rule-requires-clause-rule : goal.push_rule-requires-clause-rule
 push_rule-requires-clause-rule c =
-    (rule_now (short_item c.args.header.now.items c.args.header_sum) mandatory_items c.loop-rule.rule-index _ c.loop-rule-test.true
+    (rule_now (short_item c.args.header.now.items 0) mandatory_items c.loop-rule.rule-index _ c.loop-rule-test.true
     IsRule c.loop-rule.invariant.rules).0
 
 pub loop-rule-preserved : goal.loop-rule-preserved
 loop-rule-preserved c = record {
   once =
-      (rule_now (short_item c.args.header.now.items c.args.header_sum) mandatory_items c.loop-rule.rule-index any c.loop-rule-test.true
+      (rule_now (short_item c.args.header.now.items 0) mandatory_items c.loop-rule.rule-index any c.loop-rule-test.true
       (StandsOnce c.args.header.now.items) c.loop-rule.invariant.once).1;
   rules =
-      (rule_now (short_item c.args.header.now.items c.args.header_sum) mandatory_items c.loop-rule.rule-index any c.loop-rule-test.true IsRule
+      (rule_now (short_item c.args.header.now.items 0) mandatory_items c.loop-rule.rule-index any c.loop-rule-test.true IsRule
       c.loop-rule.invariant.rules).1;
   text =
-      text_more (short_item c.args.header.now.items c.args.header_sum) mandatory_items c.loop-rule.rule-index _ c.loop-rule-test.true _ _ header_start
+      text_more (short_item c.args.header.now.items 0) mandatory_items c.loop-rule.rule-index _ c.loop-rule-test.true _ _ header_start
       c.loop-rule.invariant.text c.push_rule.ensures.text;
   are_items =
-      are_more (short_item c.args.header.now.items c.args.header_sum) mandatory_items c.loop-rule.rule-index _ c.loop-rule-test.true
+      are_more (short_item c.args.header.now.items 0) mandatory_items c.loop-rule.rule-index _ c.loop-rule-test.true
       c.loop-rule.invariant.are_items c.push_rule.ensures.item;
   room =
-      room_more (short_item c.args.header.now.items c.args.header_sum) mandatory_items c.loop-rule.rule-index _ c.loop-rule-test.true _ _
+      room_more (short_item c.args.header.now.items 0) mandatory_items c.loop-rule.rule-index _ c.loop-rule-test.true _ _
       c.loop-rule.invariant.room c.push_rule.ensures.len;
 }
   where

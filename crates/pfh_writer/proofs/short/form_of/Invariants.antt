@@ -13,7 +13,7 @@ abbrev pub invariant-loop-rule : goal.invariant-loop-rule
 invariant-loop-rule l = record {
   once : AllByRecursion (StandsOnce l.header.items) (drop l.rule-index mandatory_items);
   rules : AllByRecursion IsRule (drop l.rule-index mandatory_items);
-  text : l.form.items ≡ header_start ++ items_text (map (short_item l.header.items l.header_sum) (take l.rule-index mandatory_items));
-  are_items : AreItems (map (short_item l.header.items l.header_sum) (take l.rule-index mandatory_items));
+  text : l.form.items ≡ header_start ++ items_text (map (short_item l.header.items 0) (take l.rule-index mandatory_items));
+  are_items : AreItems (map (short_item l.header.items 0) (take l.rule-index mandatory_items));
   room : array_vec_len l.form + rules_len (drop l.rule-index mandatory_items) ≡ 70;
 }
