@@ -1,12 +1,12 @@
 -- What the commands of a call do to a state that is kept, one list of them after another.
-use Rattle.std.proofs.Common.{◌≡◌, inl, inr, ⊎_elim, ℕ, ◌+◌, ◌*◌, ◌<◌, ◌≤◌, Bool, true, false, List, [], ◌∷◌, ◌++◌, length, Result, Ok, Err, IsErr, Some, IfSome, zero, suc, refl, sym, ◌∙◌, ap, subst, arith, length-append}
+use Rattle.std.proofs.Common.{◌≡◌, ℕ, ◌+◌, ◌*◌, ◌≤◌, false, List, [], ◌++◌, length, Some, IfSome, zero, suc, refl, sym, ◌∙◌, ap, subst, arith, length-append}
 use Rattle.disk_model.specs.declared.disk.Disk.{Ghosts}
 use Rattle.file_journal.specs.Calls.{EachImage, Leaves, TellsAlike}
-use Rattle.file_journal.specs.Commands.{AreAllowed, MakesBetween, MakesFirst, StayDone, after_all, after_first}
+use Rattle.file_journal.specs.Commands.{AreAllowed, MakesFirst, StayDone, after_all, after_first}
 use Rattle.file_journal.specs.Form.{Form, Meaning, meaning_of}
-use Rattle.file_journal.specs.Kept.{CutsOff, Does, DoesBy, DoesByFours, IsCut, IsDone, KeptOn, StandsAt, by_fours}
-use Rattle.file_journal.proofs.CallLemmas.{puts_none, puts_on, puts_same}
-use Rattle.file_journal.proofs.CommandLemmas.{allowed_append, after_all_append, first_append, first_then, makes_first, makes_later, makes_longer, makes_none, makes_second, nothing, stay_at, stay_longer, stay_none, stay_then}
+use Rattle.file_journal.specs.Kept.{CutsOff, Does, DoesBy, DoesByFours, IsCut, IsDone, KeptOn, by_fours}
+use Rattle.file_journal.proofs.CallLemmas.{puts_on, puts_same}
+use Rattle.file_journal.proofs.CommandLemmas.{allowed_append, after_all_append, first_append, first_then, makes_first, makes_later, makes_longer, makes_none, makes_second, nothing, stay_longer, stay_none, stay_then}
 use Rattle.file_journal.proofs.MomentLemmas.{joined, started, weaker}
 use Rattle.file_journal.proofs.ToldLemmas.{alike_on, alike_same, at_told, if_told, told_before, told_weaker}
 

@@ -1,19 +1,19 @@
 -- What a state that a journal keeps stands for, and what putting one record does to it.
-use Rattle.std.proofs.Common.{◌≡◌, ◌⊎◌, inl, inr, ⊎_elim, ℕ, ◌+◌, ◌*◌, ◌≤◌, Bool, true, false, true≢false, List, [], ◌∷◌, length, Option, Some, IfSome, Result, Ok, Err, IsErr, IsErrOf, OnOk, refl, sym, ◌∙◌, ap, subst, arith}
+use Rattle.std.proofs.Common.{◌≡◌, ◌⊎◌, inl, inr, ⊎_elim, ℕ, ◌+◌, ◌*◌, ◌≤◌, true, false, true≢false, List, [], ◌∷◌, Some, IfSome, Err, IsErrOf, refl, sym, ◌∙◌, ap, subst, arith}
 use Rattle.disk_model.specs.declared.disk.Disk.{Ghosts}
-use Rattle.file_journal.specs.Appending.{Appends, LeavesAppending, LeavesBeforeOrAfter}
-use Rattle.file_journal.specs.Calls.{EachImage, Leaves, Puts, TakesStep, TellsAlike, images_now}
+use Rattle.file_journal.specs.Appending.{LeavesAppending, LeavesBeforeOrAfter}
+use Rattle.file_journal.specs.Calls.{EachImage, Leaves, TellsAlike, images_now}
 use Rattle.file_journal.specs.Commands.{MakesBetween, MakesFirst, StayDone}
 use Rattle.file_journal.specs.Form.{Form, StandsFor, meaning_of}
-use Rattle.file_journal.specs.Journal.{IsBeforeOrAfter, Standing, journal_of, store, store_of}
-use Rattle.file_journal.specs.Kept.{Does, DoesBy, DoesByFours, IsBeside, KeptOn, StandsAt, by_fours, kept_on}
+use Rattle.file_journal.specs.Journal.{IsBeforeOrAfter, Standing, journal_of, store_of}
+use Rattle.file_journal.specs.Kept.{Does, DoesByFours, IsBeside, KeptOn, StandsAt, by_fours, kept_on}
 use Rattle.file_journal.specs.Position.{Position, StandsOn, left_to_read}
 use Rattle.file_journal.specs.Records.{Reading, Record, with_records}
-use Rattle.file_journal.specs.Walk.{StandFor, number_or, stands_of, state, walk}
+use Rattle.file_journal.specs.Walk.{StandFor, stands_of, state}
 use Rattle.file_journal.specs.declared.faults.JournalFault.{JournalFault}
 use Rattle.file_journal.specs.declared.faults.JournalFault.TheVariants as fault
 use Rattle.file_journal.proofs.AppendLemmas.{AllEnd, Ends, all_end, ends_at, ends_kept, ends_store}
-use Rattle.file_journal.proofs.CallLemmas.{puts_none, puts_same}
+use Rattle.file_journal.proofs.CallLemmas.{puts_none}
 use Rattle.file_journal.proofs.CommandLemmas.{makes_one, stay_none}
 use Rattle.file_journal.proofs.DoesLemmas.{by_none}
 use Rattle.file_journal.proofs.MomentLemmas.{weaker}

@@ -1,12 +1,13 @@
 -- What is read from a gate on.
-use Rattle.std.proofs.Common.{◌≡◌, ◌≢◌, ◌⊎◌, inl, inr, ⊎_elim, ℕ, zero, suc, ◌+◌, ◌-◌, ◌*◌, ◌/◌, ◌%◌, ◌<◌, ◌≤◌, true, false, ◌==◌, nat_le, nat_lt, if◌then◌else◌, List, [], ◌∷◌, ◌++◌, length, get_or, take, drop, refl, sym, ◌∙◌, ap, ap₂, subst, arith, append_assoc, append-nil, length-append, length-drop, take-append-drop, drop-drop, get_or-drop, get_or-take, ne_eqb}
+use Rattle.std.proofs.Common.{◌≡◌, ◌≢◌, ◌⊎◌, min, inl, inr, ⊎_elim, ℕ, zero, suc, ◌+◌, ◌-◌, ◌*◌, ◌/◌, ◌%◌, ◌<◌, ◌≤◌, true, false, ◌==◌, nat_le, nat_lt, if◌then◌else◌, List, [], ◌∷◌, ◌++◌, length, get_or, take, drop, refl, sym, ◌∙◌, ap, ap₂, subst, arith, append_assoc, append-nil, length-append, length-drop, take-append-drop, drop-drop, get_or-drop, get_or-take, ne_eqb}
 use Rattle.std.proofs.lemmas.Bool.{cond-true, cond-false, cases_Bool, cases_eq, cases_lt, and_parts, and_from, and_left, and_right, leb-true, ltb-true, le-leb, lt-leb, lt-ltb, le-ltb, both_ways}
-use Rattle.std.proofs.lemmas.List.{take_at, drop_at, drop_more, drop_all, length-take-le}
+use Rattle.std.proofs.lemmas.List.{take_at, drop_at, drop_more, drop_all, drop-take, length-take, length-take-le, take-take, take_all}
 use Rattle.std.proofs.lemmas.List.Elements.{All-take, All-drop, All-head, All-tail}
 use Rattle.std.specs.List.{AllByRecursion}
 use Rattle.px_base.specs.Numbers.{le16}
 use Rattle.px_base.specs.Octets.{IsOctets}
-use Rattle.file_journal.specs.Records.{Record, IsRecord, record_text, records_text, StartsClosed, StartsCut, Reading, whole, broken, StandsFrom, record_len, starts_whole, record_in, with_record, with_records, reading_within, reading_from}
+use Rattle.file_journal.specs.Finding.{BeginsRecord}
+use Rattle.file_journal.specs.Records.{HasRecord, Record, IsRecord, record_text, records_text, StartsClosed, StartsCut, Reading, whole, broken, StandsFrom, record_len, starts_whole, record_in, with_record, with_records, reading_within, reading_from}
 
 -- what is made of what follows a gate's record
 abbrev step_of : ℕ → ℕ → List ℕ → Reading → Reading
@@ -277,16 +278,81 @@ pub not_whole : (octets : List ℕ) → (600 < le16 octets 1) ⊎ (length octets
 not_whole octets (inl long) = and_left (nat_le (le16 octets 1) 600) (nat_lt (record_len octets) (length octets)) (lt-leb (le16 octets 1) 600 long)
 not_whole octets (inr short) = and_right (nat_le (le16 octets 1) 600) (nat_lt (record_len octets) (length octets)) (le-ltb (record_len octets) (length octets) short)
 
--- what was read of a gate, and of the front of a record
-pub gate_read : (place : ℕ) (octets room : List ℕ) → room ≡ take 1 (drop place octets) → get_or room 0 0 ≡ get_or octets place 0
-gate_read place octets room is =
-    ap (λ (l : List ℕ). get_or l 0 0) is ∙ get_or-take 1 (drop place octets) 0 0 (omega arith) ∙ get_or-drop place octets 0 0
-    ∙ ap (λ (i : ℕ). get_or octets i 0) (let same : place + 0 ≡ place = omega arith in same)
+-- whether a record with a gate behind it stands at the front is seen in 604 octets
+starts_whole-front : (octets : List ℕ) (n : ℕ) → n ≡ min 604 (length octets) → starts_whole (take n octets) ≡ starts_whole octets
+starts_whole-front octets n is = elim (cases_lt (length octets) 604) [
+  | inl few ↦ ap starts_whole (take_all n octets (omega (arith, is)))
+  | inr many ↦
+      let at : (i : ℕ) → i < 604 → get_or (take n octets) i 0 ≡ get_or octets i 0 = λ i lt. get_or-take n octets i 0 (omega (arith, is)) in
+      let number : le16 (take n octets) 1 ≡ le16 octets 1 = omega (arith, at 1 (omega arith), at 2 (omega arith)) in
+      let size : length (take n octets) ≡ 604 = omega (arith, length-take n octets, is) in
+      elim (cases_Bool (starts_whole octets)) [
+        | inl is_whole ↦
+            let parts = whole_parts octets is_whole in
+            and_from _ _ (le-leb (le16 (take n octets) 1) 600 (omega (arith, number, parts.0)))
+            (lt-ltb (record_len (take n octets)) (length (take n octets)) (omega (arith, number, parts.0, size)))
+            ∙ sym is_whole
+        | inr cut ↦ elim (cases_Bool (starts_whole (take n octets))) [
+          | inl is_whole ↦
+              let parts = whole_parts (take n octets) is_whole in
+              absurd (both_ways (starts_whole octets) cut
+              (and_from _ _ (le-leb (le16 octets 1) 600 (omega (arith, number, parts.0))) (lt-ltb (record_len octets) (length octets) (omega (arith, number, parts.0, many)))))
+          | inr none ↦ none ∙ sym cut
+        ]
+      ]
+]
 
-pub front_read : (rest room : List ℕ) → room ≡ take 3 rest → (get_or room 0 0 ≡ get_or rest 0 0) × (le16 room 1 ≡ le16 rest 1)
-front_read rest room is =
-    let at : (i : ℕ) → i < 3 → get_or room i 0 ≡ get_or rest i 0 = λ i lt. ap (λ (l : List ℕ). get_or l i 0) is ∙ get_or-take 3 rest i 0 lt in
-    (at 0 (omega arith), omega (arith, at 1 (omega arith), at 2 (omega arith)))
+-- What is read from a gate on, in which the record is seen.
+module _ (place count : ℕ) (octets front : List ℕ) (there : place < length octets) (is_count : count ≡ min 605 (length octets - place))
+    (is_front : front ≡ take count (drop place octets)) where
+  front-at : (i : ℕ) → i < count → get_or front i 0 ≡ get_or octets (place + i) 0
+  front-at i lt = ap (λ (l : List ℕ). get_or l i 0) is_front ∙ get_or-take count (drop place octets) i 0 lt ∙ get_or-drop place octets i 0
+
+  front-gate : get_or front 0 0 ≡ get_or octets place 0
+  front-gate = front-at 0 (omega (arith, is_count)) ∙ ap (λ (i : ℕ). get_or octets i 0) (let same : place + 0 ≡ place = omega arith in same)
+
+  front-size : length front ≡ count
+  front-size = ap length is_front ∙ length-take-le count (drop place octets) (omega (arith, is_count, length-drop place octets))
+
+  -- the octets from a place of it on
+  front-drop : (i n : ℕ) → i + n ≤ count → take n (drop i front) ≡ take n (drop (place + i) octets)
+  front-drop i n most =
+      ap (λ (l : List ℕ). take n (drop i l)) is_front
+      ∙ ap (λ (m : ℕ). take n (drop i (take m (drop place octets)))) (let parts : count ≡ i + (count - i) = omega arith in parts)
+      ∙ ap (take n) (drop-take i (count - i) (drop place octets)) ∙ take-take n (count - i) (drop i (drop place octets)) (omega arith)
+      ∙ ap (take n) (drop-drop i place octets)
+
+  pub found-closed : get_or front 0 0 ≢ 1 → reading_from place (drop place octets) ≡ whole []
+  found-closed shut = read_closed place octets there (λ is_open. shut (front-gate ∙ is_open))
+
+  pub found-damaged : get_or front 0 0 ≡ 1 → starts_whole (drop 1 front) ≡ false → reading_from place (drop place octets) ≡ broken [] place
+  found-damaged is_open cut =
+      let rest = drop (place + 1) octets in
+      let whole_front : drop 1 front ≡ take (count - 1) rest =
+      ap (drop 1) is_front ∙ ap (λ (m : ℕ). drop 1 (take m (drop place octets))) (let parts : count ≡ 1 + (count - 1) = omega (arith, is_count) in parts)
+      ∙ drop-take 1 (count - 1) (drop place octets) ∙ ap (take (count - 1)) (drop-drop 1 place octets) in
+      read_cut place octets there (sym front-gate ∙ is_open)
+      (sym (starts_whole-front rest (count - 1) (omega (arith, is_count, length-drop (place + 1) octets))) ∙ ap starts_whole (sym whole_front) ∙ cut)
+
+  -- an octet of what stands behind the gate
+  front-rest : (i : ℕ) → i + 1 < count → get_or front (i + 1) 0 ≡ get_or (drop (place + 1) octets) i 0
+  front-rest i lt =
+      front-at (i + 1) lt ∙ ap (λ (n : ℕ). get_or octets n 0) (let same : place + (i + 1) ≡ place + 1 + i = omega arith in same)
+      ∙ sym (get_or-drop (place + 1) octets i 0)
+
+  pub found-record : (kind n : ℕ) → BeginsRecord front kind n → HasRecord place (record { kind = kind; content = take n (drop 4 front) }) octets
+  found-record kind n is =
+      let size = front-size in
+      let whole_is = is.whole in
+      let content : take n (drop 4 front) ≡ take n (drop (place + 4) octets) = front-drop 4 n (omega arith) in
+      let len : length (take n (drop 4 front)) ≡ n = length-take-le n (drop 4 front) (omega (arith, length-drop 4 front)) in
+      let number : n ≡ le16 (drop (place + 1) octets) 1 = omega (arith, is.len_is, front-rest 1 (omega arith), front-rest 2 (omega arith)) in
+      record {
+        there = omega (arith, len, is_count);
+        reading =
+            read_one place octets kind n there (sym front-gate ∙ is.gate) (is.kind_is ∙ front-rest 0 (omega arith)) number is.most (omega (arith, is_count))
+            ∙ ap₂ (λ (l : List ℕ) (i : ℕ). with_record (record { kind = kind; content = l }) (reading_from (place + 4 + i) (drop (place + 4 + i) octets))) (sym content) (sym len);
+      }
 
 -- a reading that begins with a record isn't one without, and begins with no other
 pub no_record : (entry : Record) (reading : Reading) → with_record entry reading ≡ whole [] → ⊥

@@ -20,7 +20,7 @@ use Rattle.file_journal.specs.Recovery as recovering
 use Rattle.file_journal.specs.Recovery.{IsFailedSync, IsRecovering, IsSyncedFirst, Recovers}
 use Rattle.file_journal.specs.Refusals.{fault_of_read, fault_of_recovery}
 use Rattle.file_journal.specs.Restoring.{LeavesAlikeSinceSync, RefusesExactly, StandsAlike}
-use Rattle.file_journal.specs.Walk.{Stands, damaged_at, no_store, stands_of, state, walk_left}
+use Rattle.file_journal.specs.Walk.{damaged_at, no_store, stands_of, state, walk_left}
 use Rattle.file_journal.specs.declared.faults.RecoverFault.{RecoverFault}
 use Rattle.file_journal.specs.declared.faults.RecoverFault.TheVariants as recovery
 use Rattle.file_journal.specs.declared.faults.ReadFault.{ReadFault}

@@ -9,6 +9,7 @@ pub mod Journal
 pub mod Kept
 pub mod Laws
 pub mod Ledger
+pub mod Finding
 pub mod Next
 pub mod Position
 pub mod Records

@@ -3,8 +3,9 @@
 ghost use Rattle.std.specs.Prelude.{◌≡◌, ◌+◌, ◌^◌, ◌<◌, ◌≤◌, ℕ, List, [], ◌∷◌, ◌++◌, length, slice_index, take, drop, true, false, IfOk, IfSome, OnOk, OnErr, IsErrOf, None};
 ghost use Rattle.file_journal.specs.Appending.{IsPutting, OpensGate};
 ghost use Rattle.file_journal.specs.Calls.{Makes, Reads};
+ghost use Rattle.file_journal.specs.Finding.{IsFound};
 ghost use Rattle.file_journal.specs.Next.{FindsRecord, RefusesAt};
-ghost use Rattle.file_journal.specs.Records.{StartsRecord, reading_at, record_of, record_text, whole};
+ghost use Rattle.file_journal.specs.Records.{reading_at, record_of, record_text, whole};
 
 use crate::RecoverFault;
 use crate::write::write_synced;
@@ -21,6 +22,9 @@ const CLOSED: u8 = 0;
 
 /// The most octets that the content of a record has.
 const MAX_CONTENT: usize = 600;
+
+/// The most octets from one gate to the next, both among them.
+const MOST_READ: usize = 605;
 
 /// A record's octets behind its gate, and the next gate.
 pub(crate) type RecordText = ArrayVec<u8, 604>;
@@ -57,60 +61,44 @@ pub(crate) fn put_record<D: Disk>(disk: &mut D, place: u64, octets: &[u8]) -> Re
     write_synced(disk, place, &[OPEN])
 }
 
-/// What stands at the front of a record.
+/// What stands from a gate on.
 #[derive(Clone, Copy)]
-struct Start {
-    kind: u8,
-    /// The length of the content in octets, at most 600.
-    len: usize,
+enum Found {
+    /// A gate that isn't open.
+    Closed,
+    /// An open gate, and no whole record with a gate behind it.
+    Damaged,
+    /// An open gate, and a record with a gate behind it.
+    Record {
+        kind: u8,
+        /// The length of the content in octets, at most 600.
+        len: usize,
+    },
 }
 
-/// Whether the gate at this place is open. Where the disk has ended before it, the store is damaged there.
-fn is_open<D: Disk>(disk: &mut D, place: u64, end: u64) -> Result<bool, RecoverFault>
-    requires { IfSome (D.content disk.old) (λ octets. end ≡ length octets) }
-    ensures there { OnOk result (place < end) }
-    ensures open { result ≡ Ok true → IfSome (D.content disk.old) (λ octets. slice_index octets place ≡ 1) }
-    ensures closed { result ≡ Ok false → IfSome (D.content disk.old) (λ octets. reading_at place octets ≡ whole []) }
-    ensures refuses { RefusesAt place (D.content disk.old) result }
-    ensures reads { Reads D.Disk (IsErrOf result RecoverFault.Disk) disk.old disk.new }
+/// What the octets from a gate on begin with.
+fn found_in(octets: &[u8]) -> Found
+    requires { 0 < length octets.now }
+    ensures { IsFound octets.now result }
 {
-    if place >= end {
-        return Err(RecoverFault::Damaged { at: place });
+    if octets[0] != OPEN {
+        return Found::Closed;
     }
-    let mut gate = [0];
-    disk.read(place, &mut gate)?;
-    Ok(gate[0] == OPEN)
-}
-
-/// Reads what stands at the front of the record behind the open gate at this place, where the record is whole and a
-/// gate stands behind it.
-fn read_start<D: Disk>(disk: &mut D, place: u64, end: u64) -> Result<Start, RecoverFault>
-    requires end { IfSome (D.content disk.old) (λ octets. end ≡ length octets) }
-    requires there { place < end }
-    requires gate { IfSome (D.content disk.old) (λ octets. slice_index octets place ≡ 1) }
-    ensures fits { IfOk result (λ start. (start.len ≤ 600) × (place + 4 + start.len < end)) }
-    ensures start { IfOk result (λ start. IfSome (D.content disk.old) (StartsRecord place start.kind start.len)) }
-    ensures refuses { RefusesAt place (D.content disk.old) result }
-    ensures reads { Reads D.Disk (IsErrOf result RecoverFault.Disk) disk.old disk.new }
-{
-    let damaged = RecoverFault::Damaged { at: place };
-    if end - place <= 4 {
-        return Err(damaged);
+    if octets.len() <= 4 {
+        return Found::Damaged;
     }
-    let mut octets = [0; 3];
-    disk.read(place + 1, &mut octets)?;
-    let len = le16(&octets, 1);
-    if usize::from(len) > MAX_CONTENT || end - place - 4 <= u64::from(len) {
-        return Err(damaged);
+    let len = usize::from(le16(octets, 2));
+    if len > MAX_CONTENT || octets.len() - 4 <= len {
+        return Found::Damaged;
     }
-    Ok(Start {
-        kind: octets[0],
-        len: usize::from(len),
-    })
+    Found::Record {
+        kind: octets[1],
+        len,
+    }
 }
 
 /// Reads the record behind the gate at this place: its kind, with its content in `room`; `None` exactly where the gate
-/// isn't open. Only a record replaces what is in `room`.
+/// isn't open. Only a record replaces what is in `room`. It asks for the length once, and reads once.
 pub(crate) fn read_record<D: Disk>(
     disk: &mut D,
     place: u64,
@@ -126,13 +114,20 @@ pub(crate) fn read_record<D: Disk>(
     ensures reads { Reads D.Disk (IsErrOf result RecoverFault.Disk) disk.old disk.new }
 {
     let end = disk.len()?;
-    if !is_open(disk, place, end)? {
-        return Ok(None);
+    if place >= end {
+        return Err(RecoverFault::Damaged { at: place });
     }
-    let start = read_start(disk, place, end)?;
-    let mut content = [0; MAX_CONTENT];
-    disk.read(place + 4, &mut content[..start.len])?;
-    room.clear();
-    room.try_extend_from_slice(&content[..start.len]).unwrap();
-    Ok(Some(start.kind))
+    let mut octets = [0; MOST_READ];
+    let count = (end - place).min(MOST_READ as u64) as usize;
+    let front = &mut octets[..count];
+    disk.read(place, front)?;
+    match found_in(front) {
+        Found::Closed => Ok(None),
+        Found::Damaged => Err(RecoverFault::Damaged { at: place }),
+        Found::Record { kind, len } => {
+            room.clear();
+            room.try_extend_from_slice(&front[4..4 + len]).unwrap();
+            Ok(Some(kind))
+        }
+    }
 }

@@ -1,4 +1,4 @@
-use Rattle.std.proofs.Common.{◌≡◌, ℕ, List, false, Err, IsErr, IsErrOf, Ok, Result, refl, sym, ◌∙◌, ap, subst}
+use Rattle.std.proofs.Common.{◌≡◌, ℕ, List, false, Err, IsErr, Ok, Result, refl, sym, ◌∙◌, ap, subst}
 use Rattle.std.proofs.lemmas.Result.{err_from_is_err_and}
 use Rattle.file_journal.specs.Kept.{AnswersPut, StandsAt, kept_on}
 use Rattle.file_journal.specs.Position.{Position}
