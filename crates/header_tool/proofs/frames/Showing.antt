@@ -1,6 +1,7 @@
 -- What is shown of the parts so far, and how showing goes on, ends, and stops at a fault.
-use Rattle.std.proofs.Common.{◌≡◌, ℕ, suc, ◌+◌, ◌<◌, List, [], ◌∷◌, ◌++◌, length, drop, slice_index, refl, sym, ap, ◌∙◌}
-use Rattle.std.proofs.Common.{subst, arith, append_assoc, append-nil, drop-cons}
+use Rattle.std.proofs.Common.{◌≡◌, ℕ, suc, ◌+◌, ◌<◌, List, [], ◌∷◌, ◌++◌, length, take, drop, ◌-◌, slice_index, refl, sym, ap, ◌∙◌}
+use Rattle.std.proofs.Common.{subst, arith, append_assoc, append-nil, drop-cons, length-drop, drop-drop, take-append-drop}
+use Rattle.std.proofs.lemmas.List.{take_all}
 use Rattle.std.specs.Prelude.{Option, Result, Ok, Err, IsErr, MatchResult, OnOk, OnErr}
 use Rattle.px_base.specs.Outside.{Gains, GainsPrefix}
 use Rattle.px_base.proofs.Told.{Gains-none, Gains-trans, GainsPrefix-after}
@@ -64,6 +65,28 @@ module _ {O : Type 0} (shown : O → Option (List ℕ)) (faults : O → ℕ) (re
         gathered = record { put = []; whole = sym nothing; gains = Gains-none (shown old) };
         same_faults = refl;
         untouched = λ _. (refl, nothing);
+      }
+
+  -- octets that end no part, with what the reader knew before
+  pub showing-passed : (heard waited : List ℕ) (at n : ℕ) (mid : O) → IsShowing shown faults recorded old heard (drop at recorded) waited mid
+      → (heard_n : List ℕ) → heard_n ≡ heard ++ take n (take (length recorded - at) (drop at recorded)) → kiss_parts heard_n ≡ []
+      → IsShowing shown faults recorded old heard_n (drop (at + n) recorded) waited mid
+  showing-passed heard waited at n mid h heard_n is none =
+      let left = drop at recorded in
+      let whole : take (length recorded - at) left ≡ left = take_all _ left (omega (arith, length-drop at recorded)) in
+      let split : heard ++ left ≡ heard_n ++ drop (at + n) recorded =
+      ap (λ (x : List ℕ). heard ++ x) (sym (take-append-drop n left) ∙ ap (λ (x : List ℕ). take n left ++ x) (drop-drop n at recorded))
+      ∙ sym (append_assoc heard (take n left) (drop (at + n) recorded))
+      ∙ ap (λ (x : List ℕ). (heard ++ take n x) ++ drop (at + n) recorded) (sym whole) ∙ ap (λ (x : List ℕ). x ++ drop (at + n) recorded) (sym is) in
+      record {
+        ended = h.ended;
+        text = h.text;
+        lines = h.lines;
+        parts = h.parts ∙ ap (λ (x : List ℕ). h.ended ++ kiss_parts x) split;
+        no_part = none;
+        gathered = h.gathered;
+        same_faults = h.same_faults;
+        untouched = h.untouched;
       }
 
   -- the parts after one more octet

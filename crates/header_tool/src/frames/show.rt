@@ -38,9 +38,14 @@ pub fn show_frames<O: Out>(recorded: &[u8], out: &mut O) -> Result<(), OutDown>
     one_text();
     let mut reader = KissReader::new();
     let mut lines = Lines::new();
-    for &octet in recorded {
-        let fed = reader.feed(octet);
-        gather(fed, &reader, &mut lines, out)?;
+    let mut count = 0;
+    while count < recorded.len() {
+        count += reader.pass(&recorded[count..]);
+        if count < recorded.len() {
+            let fed = reader.feed(recorded[count]);
+            count += 1;
+            gather(fed, &reader, &mut lines, out)?;
+        }
     }
     put_last(&lines, out)
 }
