@@ -1,6 +1,7 @@
 //! Reading KISS text an octet at a time.
 
-ghost use Rattle.std.specs.Prelude.{◌≡◌, ◌≢◌, ◌↔◌, ℕ, List, [], ◌∷◌, ◌++◌, length, take, All, ◌<◌, ◌≤◌, IsSome, Some, None};
+ghost use Rattle.std.specs.Prelude.{◌≡◌, ◌≢◌, ◌↔◌, ℕ, List, [], ◌∷◌, ◌++◌, length, ◌<◌, ◌≤◌, IsSome, Some, None};
+ghost use Rattle.std.specs.Prelude.{All, take};
 ghost use Rattle.kiss.specs.KissText.{fend, fesc, kiss_parts, kiss_frames, escape};
 ghost use Rattle.kiss.specs.Hearing.{parts_ended, frames_ended};
 ghost use Rattle.kiss.specs.ReaderMemory.{heard_in, frame_in, hearing, parts_ended_in, parts_of_text, IsPlain, IsStep};
@@ -103,8 +104,8 @@ impl KissReader {
         fed
     }
 
-    /// Takes octets from the front, as far as they stand for themselves within a part, and says how many: maybe none. They
-    /// end nothing. It does at once what [`feed`](KissReader::feed) does an octet at a time. Takes no memory.
+    /// Takes octets from the front, as far as they stand for themselves within a part, and says how many: maybe none.
+    /// They end nothing. It does at once what [`feed`](KissReader::feed) does an octet at a time. Takes no memory.
     #[inline]
     pub fn pass(&mut self, octets: &[u8]) -> usize
         ensures within { result ≤ length octets.now }

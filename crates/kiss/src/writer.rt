@@ -15,8 +15,8 @@ pub struct TooLong;
 
 /// Replaces `out` by the KISS text of the frame `bytes` as data on port 0: FEND, the type octet,
 /// the octets escaped, FEND ("Asynchronous Frame Format", "Transparency"). It has at most 803
-/// octets, for which there has to be room. [`TooLong`] exactly where `bytes` has more than 400 octets; `out` is unchanged then.
-/// Takes no memory.
+/// octets, for which there has to be room. [`TooLong`] exactly where `bytes` has more than 400
+/// octets; `out` is unchanged then. Takes no memory.
 pub fn write_frame<const N: usize>(bytes: &[u8], out: &mut ArrayVec<u8, N>) -> Result<(), TooLong>
     requires { 803 ≤ N }
     ensures too_long { IsErr result ↔ (400 < length bytes.now) }

@@ -1,60 +1,19 @@
 -- A built file keeps all rules.
-use Rattle.std.proofs.Common.{◌≡◌, ℕ, ◌+◌, ◌%◌, ◌^◌, ◌<◌, ◌≤◌, ◌==◌, List, [], ◌∷◌, ◌++◌, length, Bool, true, false, cond, sum, refl, sym, ap, ◌∙◌, subst, arith, append_assoc, length-append}
+use Rattle.std.proofs.Common.{◌≡◌, drop, ℕ, ◌+◌, ◌%◌, ◌^◌, ◌<◌, ◌≤◌, ◌==◌, List, [], ◌∷◌, ◌++◌, length, true, cond, sum, refl, sym, ap, ◌∙◌, subst, arith, append_assoc, length-append}
 use Rattle.std.specs.List.{AllByRecursion}
 use Rattle.std.proofs.lemmas.List.{append-nil, map-append}
 use Rattle.px_base.specs.Numbers.{le16, le32, le16_octets, le32_octets, sum16}
-use Rattle.pfh_items.specs.Faults.{items_with, content_of, with_content, header_sum, Stands, StandsOnce, IsFaultless}
+use Rattle.pfh_items.specs.Faults.{items_with, content_of, with_content, header_sum, StandsOnce, IsFaultless}
 use Rattle.pfh_items.specs.Layout.{ItemValue, AreItems, item_text, items_text, end_item, header_start, header_text}
 use Rattle.pfh_items.specs.Stamp.{renewed}
 use Rattle.pfh_items.specs.Table.{mandatory_items, is_mandatory}
-use Rattle.pfh_items.specs.declared.table.MandatoryItem.{MandatoryItem}
 use Rattle.pfh_writer.specs.Built.{BuilderValue, AreOthers, item, mandatory_saying, items_saying, built_len, built_file_len, built_items}
-use Rattle.pfh_writer.proofs.ItemsLemmas.{items_text-append, AreItems-append}
+use Rattle.pfh_writer.proofs.ItemsLemmas.{AreItems-append, all_stand, header_sum-renewed, items_text-append, le16_of, length-items_text, sum16_below}
 use Rattle.pfh_writer.proofs.OthersLemmas.{none_with, content_stays}
 use Rattle.pfh_writer.proofs.SumLemmas.{sum-append}
 
--- the length of items' texts, by the lengths of their data
-abbrev text_len : List ItemValue → ℕ
-text_len [] = 0
-text_len (first ∷ items) = (3 + length first.content) + text_len items
-
-length-items_text : (items : List ItemValue) → length (items_text items) ≡ text_len items
-length-items_text [] = refl
-length-items_text (first ∷ items) = let rest = length-items_text items in omega (arith, length-append first.content (items_text items))
-
--- new data in place of new data
-with_content-twice : (id : ℕ) (content other : List ℕ) (items : List ItemValue)
-    → with_content id content (with_content id other items) ≡ with_content id content items
-with_content-twice id content other [] = refl
-with_content-twice id content other (first ∷ items) =
-    ap (λ (i : ItemValue). i ∷ with_content id content (with_content id other items)) (by (first.id == id) refl)
-    ∙ ap (λ (l : List ItemValue). cond (first.id == id) (item first.id content) first ∷ l) (with_content-twice id content other items)
-  where
-    by : (b : Bool) → (first.id == id) ≡ b
-        → cond ((cond b (item first.id other) first).id == id) (item (cond b (item first.id other) first).id content) (cond b (item first.id other) first)
-        ≡ cond b (item first.id content) first
-    by true e = ap (λ (b : Bool). cond b (item first.id content) (item first.id other)) e
-    by false e = ap (λ (b : Bool). cond b (item first.id content) first) e
-
-header_sum-renewed : (content : List ℕ) (items : List ItemValue) → header_sum (with_content 0x0A content items) ≡ header_sum items
-header_sum-renewed content items = ap (λ (l : List ItemValue). sum16 (header_text l)) (with_content-twice 0x0A (0 ∷ (0 ∷ [])) content items)
-
-le16_of : (n : ℕ) → n < 65536 → le16 (le16_octets n) 0 ≡ n
-le16_of n h = omega arith
-
 le32_of : (n : ℕ) → n < 2 ^ 32 → le32 (le32_octets n) 0 ≡ n
 le32_of n h = omega arith
-
-sum16_below : (octets : List ℕ) → sum16 octets < 65536
-sum16_below octets = omega arith
-
--- what stands once stands
-all_stand : (items : List ItemValue) (rules : List MandatoryItem) → AllByRecursion (StandsOnce items) rules → AllByRecursion (Stands items) rules
-all_stand items [] once = tt
-all_stand items (rule ∷ rules) once = (λ none. absurd (nothing (sym once.0.1 ∙ none)), all_stand items rules once.1)
-  where
-    nothing : {i : ItemValue} → i ∷ [] ≡ [] → ⊥
-    nothing e = cc
 
 -- the octets of AA 55 and the mandatory items, one after another
 regroup : (s a b c d e f g h i j k : List ℕ)
@@ -129,6 +88,14 @@ module _ (b : BuilderValue) (octets : List ℕ) (are : AreOthers octets b.others
       sym
       (ap (λ (l : List ItemValue). length (header_text (l ++ b.others))) same_zero ∙ len_header 0 0 0 (0 ∷ (0 ∷ [])) refl)
 
+  parts_with : (content : List ℕ) (file_size body_sum body_offset : ℕ)
+      → with_content 0x0A content (items_saying b file_size body_sum body_offset)
+      ≡ with_content 0x0A content (mandatory_saying b file_size body_sum body_offset) ++ b.others
+  parts_with content file_size body_sum body_offset =
+      map-append (λ (i : ItemValue). cond (i.id == 0x0A) (item i.id content) i) (mandatory_saying b file_size body_sum body_offset) b.others
+      ∙ ap (λ (l : List ItemValue). with_content 0x0A content (mandatory_saying b file_size body_sum body_offset) ++ l)
+      (content_stays 0x0A content b.others refl are.optional)
+
   -- the sum of the header, by the sums of its parts
   pub header_sum-parts : (file_size body_sum body_offset : ℕ) (first : List ℕ)
       → first ≡ header_start ++ items_text (with_content 0x0A (le16_octets 0) (mandatory_saying b file_size body_sum body_offset))
@@ -150,18 +117,10 @@ module _ (b : BuilderValue) (octets : List ℕ) (are : AreOthers octets b.others
       (sym (append_assoc (items_text (with_content 0x0A (0 ∷ (0 ∷ [])) (mandatory_saying b file_size body_sum body_offset))) (items_text b.others) end_item)
       ∙ ap (λ (t : List ℕ). t ++ end_item)
       (sym (items_text-append (with_content 0x0A (0 ∷ (0 ∷ [])) (mandatory_saying b file_size body_sum body_offset)) b.others))))
-      ∙ ap (λ (l : List ItemValue). sum16 (header_text l)) (sym (parts (0 ∷ (0 ∷ [])) file_size body_sum body_offset))
+      ∙ ap (λ (l : List ItemValue). sum16 (header_text l)) (sym (parts_with (0 ∷ (0 ∷ [])) file_size body_sum body_offset))
     where
       numbers : (x y : ℕ) → (x % 65536 + y % 65536) % 65536 ≡ (x + (y + 0)) % 65536
       numbers x y = omega arith
-
-      parts : (content : List ℕ) (file_size body_sum body_offset : ℕ)
-          → with_content 0x0A content (items_saying b file_size body_sum body_offset)
-          ≡ with_content 0x0A content (mandatory_saying b file_size body_sum body_offset) ++ b.others
-      parts content file_size body_sum body_offset =
-          map-append (λ (i : ItemValue). cond (i.id == 0x0A) (item i.id content) i) (mandatory_saying b file_size body_sum body_offset) b.others
-          ∙ ap (λ (l : List ItemValue). with_content 0x0A content (mandatory_saying b file_size body_sum body_offset) ++ l)
-          (content_stays 0x0A content b.others refl are.optional)
 
   once : (id : ℕ) (one : ItemValue) → is_mandatory id ≡ true → one ∷ items_with id b.others ≡ one ∷ []
   once id one is = ap (λ (l : List ItemValue). one ∷ l) (none_with id b.others is are.optional)
@@ -170,34 +129,16 @@ module _ (b : BuilderValue) (octets : List ℕ) (are : AreOthers octets b.others
     -- each mandatory item stands once
     all_once : AllByRecursion (StandsOnce (with_content 0x0A content (mandatory_saying b file_size body_sum body_offset) ++ b.others)) mandatory_items
     unfolding mandatory_saying
-    all_once = (
-      (0 ∷ (0 ∷ (0 ∷ (0 ∷ []))), once 0x01 _ refl, refl),
-      (
-        (b.name, once 0x02 _ refl, name_len),
-        (
-          (b.ext, once 0x03 _ refl, ext_len),
-          (
-            (le32_octets file_size, once 0x04 _ refl, refl),
-            (
-              (le32_octets b.created, once 0x05 _ refl, refl),
-              (
-                (le32_octets b.modified, once 0x06 _ refl, refl),
-                (
-                  (b.seu ∷ [], once 0x07 _ refl, refl),
-                  (
-                    (b.file_type ∷ [], once 0x08 _ refl, refl),
-                    (
-                      (le16_octets body_sum, once 0x09 _ refl, refl),
-                      ((content, once 0x0A _ refl, two), ((le16_octets body_offset, once 0x0B _ refl, refl), tt)),
-                    ),
-                  ),
-                ),
-              ),
-            ),
-          ),
-        ),
-      ),
-    )
+    all_once =
+        let w = with_content 0x0A content (mandatory_saying b file_size body_sum body_offset) ++ b.others in
+        let last : AllByRecursion (StandsOnce w) (drop 8 mandatory_items) =
+        ((le16_octets body_sum, once 0x09 _ refl, refl), ((content, once 0x0A _ refl, two), ((le16_octets body_offset, once 0x0B _ refl, refl), tt))) in
+        let mid : AllByRecursion (StandsOnce w) (drop 6 mandatory_items) = ((b.seu ∷ [], once 0x07 _ refl, refl), ((b.file_type ∷ [], once 0x08 _ refl, refl), last)) in
+        let times : AllByRecursion (StandsOnce w) (drop 4 mandatory_items) =
+        ((le32_octets b.created, once 0x05 _ refl, refl), ((le32_octets b.modified, once 0x06 _ refl, refl), mid)) in
+        let names : AllByRecursion (StandsOnce w) (drop 1 mandatory_items) =
+        ((b.name, once 0x02 _ refl, name_len), ((b.ext, once 0x03 _ refl, ext_len), ((le32_octets file_size, once 0x04 _ refl, refl), times))) in
+        ((0 ∷ (0 ∷ (0 ∷ (0 ∷ []))), once 0x01 _ refl, refl), names)
 
     size_at : content_of 0x04 (with_content 0x0A content (mandatory_saying b file_size body_sum body_offset) ++ b.others) ≡ le32_octets file_size
     unfolding mandatory_saying
@@ -214,14 +155,6 @@ module _ (b : BuilderValue) (octets : List ℕ) (are : AreOthers octets b.others
     offset_at : content_of 0x0B (with_content 0x0A content (mandatory_saying b file_size body_sum body_offset) ++ b.others) ≡ le16_octets body_offset
     unfolding mandatory_saying
     offset_at = refl
-
-  parts_with : (content : List ℕ) (file_size body_sum body_offset : ℕ)
-      → with_content 0x0A content (items_saying b file_size body_sum body_offset)
-      ≡ with_content 0x0A content (mandatory_saying b file_size body_sum body_offset) ++ b.others
-  parts_with content file_size body_sum body_offset =
-      map-append (λ (i : ItemValue). cond (i.id == 0x0A) (item i.id content) i) (mandatory_saying b file_size body_sum body_offset) b.others
-      ∙ ap (λ (l : List ItemValue). with_content 0x0A content (mandatory_saying b file_size body_sum body_offset) ++ l)
-      (content_stays 0x0A content b.others refl are.optional)
 
   -- a file with the mandatory items, the others and the body keeps all rules, where what it says is so
   faultless : (body file first : List ℕ) (file_size body_sum body_offset sum : ℕ)

@@ -1,14 +1,13 @@
 -- A file without fault has none once it is stamped.
-use Rattle.std.proofs.Common.{◌≡◌, ℕ, ◌+◌, ◌<◌, ◌==◌, List, [], ◌∷◌, ◌++◌, length, map, Bool, true, false, cond, Option, None, refl, sym, ap, ◌∙◌, subst, arith, length-append}
+use Rattle.std.proofs.Common.{◌≡◌, ℕ, ◌+◌, ◌==◌, List, [], ◌∷◌, ◌++◌, length, map, Bool, true, false, cond, Option, None, refl, sym, ap, ◌∙◌, subst, arith, length-append}
 use Rattle.std.specs.Prelude.{option_map}
 use Rattle.std.specs.List.{AllByRecursion}
-use Rattle.std.specs.Option.{unwrap_or}
 use Rattle.px_base.specs.CallSign.{IsCall}
 use Rattle.px_base.specs.Numbers.{le16, le16_octets, le32, sum16}
 use Rattle.pfh_items.specs.declared.fault.FileFault.{FileFault}
 use Rattle.pfh_items.specs.declared.table.Form.TheVariants.{Number}
 use Rattle.pfh_items.specs.declared.table.MandatoryItem.{MandatoryItem}
-use Rattle.pfh_items.specs.Faults.{IsFaultless, Stands, StandsOnce, code_of, content_of, fault_code, header_sum, items_with, with_content}
+use Rattle.pfh_items.specs.Faults.{IsFaultless, StandsOnce, code_of, content_of, fault_code, header_sum, items_with, with_content}
 use Rattle.pfh_items.specs.Layout.{ItemValue, AreItems, header_text}
 use Rattle.pfh_items.specs.Stamp.{StampValue, stamped, stamped_item, stamped_items}
 use Rattle.pfh_items.specs.Table.{mandatory_items}
@@ -16,47 +15,8 @@ use Rattle.pfh_items.proofs.Offered.{AreItems-stamped_items, first_fault-none, i
 use Rattle.pfh_writer.specs.Given.{stamped_sum}
 use Rattle.pfh_writer.specs.Stamping.{given_data, given_item}
 use Rattle.pfh_writer.proofs.FilledLemmas.{given_items, length-given_data, length-given_items}
-use Rattle.pfh_writer.proofs.ItemsLemmas.{field-once}
+use Rattle.pfh_writer.proofs.ItemsLemmas.{all_stand, content-once, header_sum-renewed, le16_of, sum16_below}
 use Rattle.pfh_writer.proofs.StampedLemmas.{length-header}
-
--- ---- items that stand once
-
--- the data of an item that stands once
-content-once : (items : List ItemValue) (rule : MandatoryItem) (content : List ℕ) → items_with rule.id items ≡ item_at rule.id content ∷ []
-    → length content ≡ rule.len → content_of rule.id items ≡ content
-content-once items rule content same len = ap (λ (o : Option (List ℕ)). unwrap_or o []) (field-once items rule (content, same, len))
-
--- what stands once stands
-all_stand : (items : List ItemValue) (rules : List MandatoryItem) → AllByRecursion (StandsOnce items) rules → AllByRecursion (Stands items) rules
-all_stand items [] once = tt
-all_stand items (rule ∷ rules) once = (λ none. absurd (nothing (sym once.0.1 ∙ none)), all_stand items rules once.1)
-  where
-    nothing : {i : ItemValue} → i ∷ [] ≡ [] → ⊥
-    nothing e = cc
-
--- ---- the renewed sum
-
-with_content-twice : (id : ℕ) (content other : List ℕ) (items : List ItemValue)
-    → with_content id content (with_content id other items) ≡ with_content id content items
-with_content-twice id content other [] = refl
-with_content-twice id content other (first ∷ items) =
-    ap (λ (i : ItemValue). i ∷ with_content id content (with_content id other items)) (by (first.id == id) refl)
-    ∙ ap (λ (l : List ItemValue). cond (first.id == id) (item_at first.id content) first ∷ l) (with_content-twice id content other items)
-  where
-    by : (b : Bool) → (first.id == id) ≡ b
-        → cond ((cond b (item_at first.id other) first).id == id) (item_at (cond b (item_at first.id other) first).id content) (cond b (item_at first.id other) first)
-        ≡ cond b (item_at first.id content) first
-    by true e = ap (λ (b : Bool). cond b (item_at first.id content) (item_at first.id other)) e
-    by false e = ap (λ (b : Bool). cond b (item_at first.id content) first) e
-
-header_sum-renewed : (content : List ℕ) (items : List ItemValue) → header_sum (with_content 0x0A content items) ≡ header_sum items
-header_sum-renewed content items = ap (λ (l : List ItemValue). sum16 (header_text l)) (with_content-twice 0x0A (0 ∷ (0 ∷ [])) content items)
-
-le16_of : (n : ℕ) → n < 65536 → le16 (le16_octets n) 0 ≡ n
-le16_of n h = omega arith
-
-sum16_below : (octets : List ℕ) → sum16 octets < 65536
-sum16_below octets = omega arith
 
 -- ---- the items that a stamper gives
 
@@ -88,7 +48,7 @@ module _ (stamp : StampValue) (sum : ℕ) where
     given_content : (rule : MandatoryItem) (once : StandsOnce items rule)
         → content_of rule.id (map (given_item stamp sum) items) ≡ given_data stamp sum rule.id (length once.0) once.0
     given_content rule once =
-        content-once (map (given_item stamp sum) items) rule (given_data stamp sum rule.id (length once.0) once.0) (given_once items rule once) (given_len rule once)
+        content-once (map (given_item stamp sum) items) rule (given_data stamp sum rule.id (length once.0) once.0, given_once items rule once, given_len rule once)
 
 -- ---- the stamped file
 
@@ -114,7 +74,7 @@ module _ (stamp : StampValue) (call : IsCall stamp.by) (items : List ItemValue) 
   same_content : (rule : MandatoryItem) (once : StandsOnce items rule) → given_data stamp sum rule.id (length once.0) once.0 ≡ once.0
       → content_of rule.id given ≡ content_of rule.id items
   same_content rule once same =
-      given_content stamp sum call items rule once ∙ same ∙ sym (content-once items rule once.0 once.1 once.2)
+      given_content stamp sum call items rule once ∙ same ∙ sym (content-once items rule once)
 
   file_size : le32 (content_of 0x04 given) 0 ≡ length (header_text given ++ body)
   file_size =

@@ -2,7 +2,7 @@
 use Rattle.std.proofs.Common.{◌≡◌, ℕ, ◌+◌, ◌-◌, ◌*◌, ◌%◌, ◌≤◌, ◌==◌, ◌&&◌, List, [], ◌∷◌, ◌++◌, length, map, take, drop, get_or, sum, Bool, true, false, cond, Option, Some, None, refl, sym, ap, ◌∙◌, subst, arith, append_assoc, length-append, length-drop}
 use Rattle.std.specs.Option.{unwrap_or}
 use Rattle.std.proofs.lemmas.Bool.{eq-eqb, leb-true}
-use Rattle.std.proofs.lemmas.List.{take_at, drop_at, take_all, drop_all, append-nil, take-append-drop, get_or-append_right, get_or_append_left, nil_from_length}
+use Rattle.std.proofs.lemmas.List.{take_at, drop_at, take_all, drop_all, append-nil, take-append-drop, get_or-append_right, get_or_append_left}
 use Rattle.px_base.specs.CallSign.{IsCall}
 use Rattle.px_base.specs.Numbers.{le16, le16_octets}
 use Rattle.pfh_items.specs.Faults.{IsFaultless, StandsOnce, header_sum, items_with}
@@ -99,17 +99,6 @@ fills_front stamp old id len change count content given id_is len_is count_is co
             ∙ sums
             ∙ ap (λ (t : List ℕ). sum t % 65536) same_given;
       };
-}
-
--- octets that begin with no item, as id 0 and no data were read
-pub stays_at_end : (old : List ℕ) (id len : ℕ) → id ≡ le16 old 0 → len ≡ get_or old 2 0 → id ≡ 0 → len ≡ 0 → StaysAtEnd old old
-stays_at_end old id len id_is len_is id_zero len_zero = record {
-  no_item = λ item later is same.
-      let below = is.id in
-      let same_id : id ≡ item.id = id_is ∙ ap (λ (t : List ℕ). le16 t 0) same ∙ omega arith in
-      let same_len : len ≡ length item.content = len_is ∙ ap (λ (t : List ℕ). get_or t 2 0) same in
-      is.no_end (sym same_id ∙ id_zero) (nil_from_length item.content (sym same_len ∙ len_zero));
-  same = refl;
 }
 
 module _ (stamp : StampValue) (old now : List ℕ) (at sum_at change : ℕ) (w : Walked stamp old now at sum_at change) where

@@ -1,13 +1,14 @@
 -- Texts of items, one after another.
-use Rattle.std.proofs.Common.{◌≡◌, ℕ, ◌==◌, List, [], ◌∷◌, ◌++◌, length, drop, filter, Bool, true, false, cond, Option, Some, find, refl, sym, ap, ◌∙◌, subst, append_assoc}
+use Rattle.std.proofs.Common.{◌≡◌, ℕ, ◌+◌, ◌<◌, ◌==◌, List, [], ◌∷◌, ◌++◌, length, drop, filter, Bool, true, false, cond, Option, Some, find, refl, sym, ap, ◌∙◌, subst, append_assoc, length-append, arith, unwrap_or}
 use Rattle.std.specs.List.{AllByRecursion}
 use Rattle.std.specs.Option.{option_map}
 use Rattle.std.proofs.lemmas.Bool.{false≢true}
-use Rattle.pfh_items.specs.Faults.{items_with, field_of, StandsOnce}
-use Rattle.pfh_items.specs.Layout.{ItemValue, IsItem, AreItems, item_text, items_text, end_item}
+use Rattle.px_base.specs.Numbers.{le16, le16_octets, sum16}
+use Rattle.pfh_items.specs.Faults.{content_of, field_of, header_sum, items_with, Stands, StandsOnce, with_content}
+use Rattle.pfh_items.specs.Layout.{ItemValue, IsItem, AreItems, end_item, header_text, item_text, items_text}
 use Rattle.pfh_items.specs.Walk.{item_in, item_len, starts_end}
 use Rattle.pfh_items.specs.declared.table.MandatoryItem.{MandatoryItem}
-use Rattle.pfh_items.proofs.Offered.{drop-text, item_in-text, starts_end-text}
+use Rattle.pfh_items.proofs.Offered.{drop-text, item_at, item_in-text, starts_end-text}
 
 pub items_text-append : (items others : List ItemValue) → items_text (items ++ others) ≡ items_text items ++ items_text others
 items_text-append [] others = refl
@@ -89,3 +90,47 @@ find-filter p (first ∷ items) item same = by (find-filter p items item) (p fir
 pub field-once : (items : List ItemValue) (rule : MandatoryItem) (once : StandsOnce items rule) → field_of rule.id items ≡ Some once.0
 field-once items rule once =
     ap (λ (found : Option ItemValue). option_map (λ (i : ItemValue). i.content) found) (find-filter (λ (i : ItemValue). i.id == rule.id) items _ once.1)
+
+-- the length of items' texts, by the lengths of their data
+abbrev pub text_len : List ItemValue → ℕ
+text_len [] = 0
+text_len (first ∷ items) = (3 + length first.content) + text_len items
+
+pub length-items_text : (items : List ItemValue) → length (items_text items) ≡ text_len items
+length-items_text [] = refl
+length-items_text (first ∷ items) = let rest = length-items_text items in omega (arith, length-append first.content (items_text items))
+
+-- new data in place of new data
+with_content-twice : (id : ℕ) (content other : List ℕ) (items : List ItemValue)
+    → with_content id content (with_content id other items) ≡ with_content id content items
+with_content-twice id content other [] = refl
+with_content-twice id content other (first ∷ items) =
+    ap (λ (i : ItemValue). i ∷ with_content id content (with_content id other items)) (by (first.id == id) refl)
+    ∙ ap (λ (l : List ItemValue). cond (first.id == id) (item_at first.id content) first ∷ l) (with_content-twice id content other items)
+  where
+    by : (b : Bool) → (first.id == id) ≡ b
+        → cond ((cond b (item_at first.id other) first).id == id) (item_at (cond b (item_at first.id other) first).id content) (cond b (item_at first.id other) first)
+        ≡ cond b (item_at first.id content) first
+    by true e = ap (λ (b : Bool). cond b (item_at first.id content) (item_at first.id other)) e
+    by false e = ap (λ (b : Bool). cond b (item_at first.id content) first) e
+
+pub header_sum-renewed : (content : List ℕ) (items : List ItemValue) → header_sum (with_content 0x0A content items) ≡ header_sum items
+header_sum-renewed content items = ap (λ (l : List ItemValue). sum16 (header_text l)) (with_content-twice 0x0A (0 ∷ (0 ∷ [])) content items)
+
+pub le16_of : (n : ℕ) → n < 65536 → le16 (le16_octets n) 0 ≡ n
+le16_of n h = omega arith
+
+pub sum16_below : (octets : List ℕ) → sum16 octets < 65536
+sum16_below octets = omega arith
+
+-- what stands once stands
+pub all_stand : (items : List ItemValue) (rules : List MandatoryItem) → AllByRecursion (StandsOnce items) rules → AllByRecursion (Stands items) rules
+all_stand items [] once = tt
+all_stand items (rule ∷ rules) once = (λ none. absurd (nothing (sym once.0.1 ∙ none)), all_stand items rules once.1)
+  where
+    nothing : {i : ItemValue} → i ∷ [] ≡ [] → ⊥
+    nothing e = cc
+
+-- the data of an item that stands once
+pub content-once : (items : List ItemValue) (rule : MandatoryItem) (once : StandsOnce items rule) → content_of rule.id items ≡ once.0
+content-once items rule once = ap (λ (o : Option (List ℕ)). unwrap_or o []) (field-once items rule once)

@@ -1,17 +1,18 @@
 -- The rules of the mandatory items, one after another.
-use Rattle.std.proofs.Common.{◌≡◌, ℕ, ◌+◌, ◌<◌, List, [], ◌∷◌, ◌++◌, length, take, drop, get_or, map, refl, sym, ap, ◌∙◌, subst, arith, append_assoc, length-append, Bool, false, cond, Option, unwrap_or, lit<, lit≤}
+use Rattle.std.proofs.Common.{◌≡◌, ℕ, ◌+◌, ◌<◌, List, [], ◌∷◌, ◌++◌, length, take, drop, get_or, map, sym, ap, ◌∙◌, subst, arith, append_assoc, length-append, lit<, lit≤}
 use Rattle.std.proofs.Math.Seq.{drop-append_seam, take-append_seam}
-use Rattle.std.specs.Prelude.{◌==◌}
 use Rattle.std.specs.List.{AllByRecursion}
 use Rattle.std.proofs.lemmas.List.{append-nil, take_more, drop_more, map_push}
 use Rattle.px_base.specs.Numbers.{le16_octets}
 use Rattle.pfh_items.specs.Faults.{StandsOnce, content_of}
 use Rattle.pfh_items.specs.Layout.{AreItems, HeaderText, IsItem, ItemValue, end_item, header_start, header_text, item_text, items_text}
 use Rattle.pfh_items.specs.Table.{mandatory_items}
+use Rattle.pfh_items.specs.declared.table.Form.{Form}
+use Rattle.pfh_items.specs.declared.table.Form.TheVariants.{Number, Text}
 use Rattle.pfh_items.specs.declared.table.MandatoryItem.{MandatoryItem}
 use Rattle.pfh_items.proofs.Offered.{IsOctets-le16}
 use Rattle.pfh_writer.specs.Short.{HasEachOnce, short_item}
-use Rattle.pfh_writer.proofs.ItemsLemmas.{AreItems-append, field-once, items_text-append}
+use Rattle.pfh_writer.proofs.ItemsLemmas.{AreItems-append, content-once, items_text-append, length-items_text}
 
 -- the length of these items' texts
 abbrev pub rules_len : List MandatoryItem → ℕ
@@ -49,10 +50,6 @@ module _ (f : MandatoryItem → ItemValue) (rules : List MandatoryItem) (i : ℕ
 
 -- ---- the sum of a short form
 
--- the rule is of another item than header_checksum
-abbrev IsPlainRule : MandatoryItem → Type 0
-IsPlainRule rule = (rule.id == 0x0A) ≡ false
-
 module _ (items : List ItemValue) where
   -- the rules before that of header_checksum, and that behind it
   abbrev firsts : List MandatoryItem
@@ -81,30 +78,29 @@ module _ (items : List ItemValue) where
       ∙ ap (λ (t : List ℕ). header_start ++ t)
       (append_assoc front (sum_item ++ items_text (last ∷ [])) end_item ∙ sym (append_assoc front (0x0A ∷ 0 ∷ 2 ∷ []) (le16_octets sum ++ behind-sum)))
 
-  text-len : (rules : List MandatoryItem) → AllByRecursion (StandsOnce items) rules → AllByRecursion IsPlainRule rules
-      → length (items_text (map (short_item items 0) rules)) ≡ rules_len rules
-  text-len [] once plain = refl
-  text-len (rule ∷ rules) once plain =
-      let content : content_of rule.id items ≡ once.0.0 = ap (λ (o : Option (List ℕ)). unwrap_or o []) (field-once items rule once.0) in
-      let item : short_item items 0 rule ≡ record { id = rule.id; content = content_of rule.id items } = ap (λ (b : Bool). cond b (record { id = rule.id; content = 0 ∷ 0 ∷ [] }) (record { id = rule.id; content = content_of rule.id items })) plain.0 in
-      omega (
-        arith,
-        length-append (item_text (short_item items 0 rule)) (items_text (map (short_item items 0) rules)),
-        ap (λ (i : ItemValue). length (item_text i)) item,
-        ap length content,
-        once.0.2,
-        text-len rules once.1 plain.1,
-      )
+  content-len : (form : Form) (id n : ℕ) → StandsOnce items (record { id = id; len = n; form = form }) → length (content_of id items) ≡ n
+  content-len form id n once = ap length (content-once items (record { id = id; len = n; form = form }) once) ∙ once.2
 
   module _ (once : HasEachOnce items) where
     before-len : length before-sum ≡ 63
     before-len =
         let o = once in
-        let onces : AllByRecursion (StandsOnce items) firsts =
-        (o.0, (o.1.0, (o.1.1.0, (o.1.1.1.0, (o.1.1.1.1.0, (o.1.1.1.1.1.0, (o.1.1.1.1.1.1.0, (o.1.1.1.1.1.1.1.0, (o.1.1.1.1.1.1.1.1.0, tt))))))))) in
-        let plain : AllByRecursion IsPlainRule firsts = (refl, (refl, (refl, (refl, (refl, (refl, (refl, (refl, (refl, tt))))))))) in
         let front = items_text (map (short_item items 0) firsts) in
-        omega (arith, text-len firsts onces plain, length-append header_start (front ++ 0x0A ∷ 0 ∷ 2 ∷ []), length-append front (0x0A ∷ 0 ∷ 2 ∷ []))
+        omega (
+          arith,
+          length-items_text (map (short_item items 0) firsts),
+          length-append header_start (front ++ 0x0A ∷ 0 ∷ 2 ∷ []),
+          length-append front (0x0A ∷ 0 ∷ 2 ∷ []),
+          content-len Number 1 4 o.0,
+          content-len Text 2 8 o.1.0,
+          content-len Text 3 3 o.1.1.0,
+          content-len Number 4 4 o.1.1.1.0,
+          content-len Number 5 4 o.1.1.1.1.0,
+          content-len Number 6 4 o.1.1.1.1.1.0,
+          content-len Number 7 1 o.1.1.1.1.1.1.0,
+          content-len Number 8 1 o.1.1.1.1.1.1.1.0,
+          content-len Number 9 2 o.1.1.1.1.1.1.1.1.0,
+        )
 
     -- the short form with sum 0, in which another sum is put in its place
     pub sum-put : (form : List ℕ) (sum : ℕ) → HeaderText (with_sum 0) form → HeaderText (with_sum sum) (take 63 form ++ (le16_octets sum ++ drop 2 (drop 63 form)))

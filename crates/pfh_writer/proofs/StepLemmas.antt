@@ -127,9 +127,6 @@ module _ (stamp : StampValue) (sum : ℕ) where
   -- an octet of data
   module _ (id len at octet : ℕ) (fed given content : List ℕ) (call : IsCall stamp.by) (below : octet < 256) (is : IsCutData id len at content)
       (p : PassesItems stamp sum (le16_octets id ++ len ∷ content) (le16_octets id ++ len ∷ take at (given_data stamp sum id len content)) fed given) where
-    next_octet : ℕ
-    next_octet = octet_in (fixed_data stamp sum id len) at octet
-
     with_octet :
         PassesItems stamp sum (le16_octets id ++ len ∷ (content ++ octet ∷ []))
         (le16_octets id ++ len ∷ take (at + 1) (given_data stamp sum id len (content ++ octet ∷ []))) (fed ++ octet ∷ [])

@@ -1,5 +1,5 @@
 -- The header of a file that keeps all rules.
-use Rattle.std.proofs.Common.{◌≡◌, ℕ, ◌≤◌, List, [], ◌++◌, length, drop, sym, ap, ◌∙◌, arith}
+use Rattle.std.proofs.Common.{◌≡◌, ℕ, List, [], ◌++◌, drop, sym, ap, ◌∙◌}
 use Rattle.std.proofs.lemmas.List.{append-nil, append_cancel_right}
 use Rattle.pfh_items.specs.Faults.{IsFaultless}
 use Rattle.pfh_items.specs.Layout.{ItemValue, AreItems, header_text}
@@ -20,8 +20,3 @@ walk_is items rest octets are same =
 pub walk_of_header : (items : List ItemValue) (octets : List ℕ) → AreItems items → octets ≡ header_text items
     → (items_from 0 (drop 2 octets)).items ≡ items
 walk_of_header items octets are same = walk_is items [] octets are (same ∙ sym (append-nil (header_text items)))
-
-pub header_long : (items : List ItemValue) (rest octets : List ℕ) → octets ≡ header_text items ++ rest → 2 ≤ length octets
-header_long items rest octets same =
-    let len = ap length (same ∙ after_start items rest) in
-    omega arith

@@ -6,14 +6,17 @@ use Rattle.pfh_writer.proofs.short.push_rule.Goals as goal
 none_there : {content : List ℕ} → None ≡ Some content → ⊥
 none_there e = cc
 
+never : (c : goal.In_default) → ⊥
+never c = none_there (c.in_default.ensures ∙ field-once c.args.header.now.items c.args.rule.now c.requires.once)
+
 pub returns-in_default-clause-text : goal.returns-in_default-clause-text
-returns-in_default-clause-text c = absurd (none_there (c.in_default.ensures ∙ field-once c.args.header.now.items c.args.rule.now c.requires.once))
+returns-in_default-clause-text c = absurd (never c)
 
 pub returns-in_default-clause-len : goal.returns-in_default-clause-len
-returns-in_default-clause-len c = absurd (none_there (c.in_default.ensures ∙ field-once c.args.header.now.items c.args.rule.now c.requires.once))
+returns-in_default-clause-len c = absurd (never c)
 
 pub returns-in_default-clause-item : goal.returns-in_default-clause-item
-returns-in_default-clause-item c = absurd (none_there (c.in_default.ensures ∙ field-once c.args.header.now.items c.args.rule.now c.requires.once))
+returns-in_default-clause-item c = absurd (never c)
 
 pub push_item-requires : goal.push_item-requires
 push_item-requires c =
