@@ -10,13 +10,8 @@ use Rattle.pfh_items.proofs.Offered.{after_start, items_from-whole}
 pub header_is : (items : List ItemValue) (body header : List ℕ) → IsFaultless items body (header ++ body) → header ≡ header_text items
 header_is items body header is = append_cancel_right header (header_text items) body is.file_text.text
 
--- the items that are read after the first two octets
-pub walk_is : (items : List ItemValue) (rest octets : List ℕ) → AreItems items → octets ≡ header_text items ++ rest
-    → (items_from 0 (drop 2 octets)).items ≡ items
-walk_is items rest octets are same =
-    ap (λ (t : List ℕ). (items_from 0 (drop 2 t)).items) (same ∙ after_start items rest)
-    ∙ ap (λ (walk : ItemList). walk.items) (items_from-whole items 0 rest are)
-
-pub walk_of_header : (items : List ItemValue) (octets : List ℕ) → AreItems items → octets ≡ header_text items
-    → (items_from 0 (drop 2 octets)).items ≡ items
-walk_of_header items octets are same = walk_is items [] octets are (same ∙ sym (append-nil (header_text items)))
+-- the items that are read after the first two octets of a header
+pub walk_of_header : (items : List ItemValue) (octets : List ℕ) → AreItems items → octets ≡ header_text items → (items_from 0 (drop 2 octets)).items ≡ items
+walk_of_header items octets are same =
+    ap (λ (t : List ℕ). (items_from 0 (drop 2 t)).items) (same ∙ sym (append-nil (header_text items)) ∙ after_start items [])
+    ∙ ap (λ (walk : ItemList). walk.items) (items_from-whole items 0 [] are)

@@ -69,8 +69,8 @@ add_to_sum-requires c =
     sum_within (stamp_of c.new-server.result) call c.args.file.now c.loop-item.file c.loop-item.at c.loop-item.sum_at c.loop-item.change c.loop-item.invariant
     c.fill_front.new.octets _ stays (put_is c.loop-item.at c.loop-item.file c.fill_front.new.octets)
 
-computed : (c : goal.After-slice_known-2-1) → c.add_to_sum.new.file ≡ stamped (stamp_at c.args.number c.args.by c.args.moment) c.args.file.now
-computed c =
+pub returns-clause-computed : goal.returns-clause-computed
+returns-clause-computed c =
     let call = server_call c.new-server.result _ c.new-server.ensures.items c.new-server.ensures.call in
     let stays = subst (λ (t : List ℕ). StaysAtEnd t c.fill_front.new.octets) (part_is c.loop-item.at c.loop-item.file) c.in_default.ensures.none in
     c.add_to_sum.ensures
@@ -78,10 +78,7 @@ computed c =
     c.fill_front.new.octets _ stays (put_is c.loop-item.at c.loop-item.file c.fill_front.new.octets)
     ∙ ap (λ (s : StampValue). stamped s c.args.file.now) c.new-server.ensures.items
 
-pub returns-clause-computed : goal.returns-clause-computed
-returns-clause-computed c = computed c
-
 pub returns-clause-relation : goal.returns-clause-relation
 returns-clause-relation c =
     (one_stamp (stamp_at c.args.number c.args.by c.args.moment) c.args.file.now c.add_to_sum.new.file c.requires.0 c.requires.1
-    c.requires.2.file_text c.new-server.ensures.call).1 (computed c)
+    c.requires.2.file_text c.new-server.ensures.call).1 (returns-clause-computed c)
