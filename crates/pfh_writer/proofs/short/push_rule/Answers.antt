@@ -1,13 +1,10 @@
-use Rattle.std.proofs.Common.{◌≡◌, ℕ, ◌+◌, List, length, Some, None, ap, ◌∙◌, arith, lit<}
+use Rattle.std.proofs.Common.{◌≡◌, ℕ, ◌+◌, length, Some, ap, ◌∙◌, arith, lit<}
 use Rattle.arrayvec.specs.ArrayVec.{array_vec_len}
 use Rattle.pfh_writer.proofs.ItemsLemmas.{field-once}
 use Rattle.pfh_writer.proofs.short.push_rule.Goals as goal
 
-none_there : {content : List ℕ} → None ≡ Some content → ⊥
-none_there e = cc
-
 never : (c : goal.In_default) → ⊥
-never c = none_there (c.in_default.ensures ∙ field-once c.args.header.now.items c.args.rule.now c.requires.once)
+never c = let none = c.in_default.ensures ∙ field-once c.args.header.now.items c.args.rule.now c.requires.once in cc
 
 pub returns-in_default-clause-text : goal.returns-in_default-clause-text
 returns-in_default-clause-text c = absurd (never c)
