@@ -7,7 +7,7 @@ _pacsat_files() {
     send) echo 3 ;;
     fetch) echo 4 ;;
     frames | pfh-show | pfh-check) echo 1 ;;
-    pfh-make) echo 1 2 ;;
+    pfh-make | pfh-body) echo 1 2 ;;
     esac
 }
 
@@ -35,7 +35,7 @@ _pacsat() {
     case "$at" in
     1) COMPREPLY=($(compgen -f -W "none --help --version" -- "$word")) ;;
     2) COMPREPLY=($(compgen -W "- none 127.0.0.1:8001" -- "$word")) ;;
-    3) COMPREPLY=($(compgen -W "serve session send fetch list frames pfh-make pfh-show pfh-check" -- "$word")) ;;
+    3) COMPREPLY=($(compgen -W "serve session send fetch list frames pfh-make pfh-body pfh-show pfh-check" -- "$word")) ;;
     *)
         case "$before" in --*) return ;; esac
         case "$word" in

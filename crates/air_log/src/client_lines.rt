@@ -6,7 +6,7 @@ use crate::transfer::{Transfer, Work};
 use ftl0_packets::Packet;
 use std::fmt::Write;
 
-/// Shows what the client asks for and sends.
+/// Shows what the client asks for. How far an upload is the server's acknowledgements tell.
 pub(crate) fn show_sent(job: &mut Transfer, packet: &Packet<'_>, moment: u32, lines: &mut Lines) {
     match packet {
         Packet::UploadCmd { number, length } => {
@@ -17,7 +17,6 @@ pub(crate) fn show_sent(job: &mut Transfer, packet: &Packet<'_>, moment: u32, li
             *job = Transfer::new(Work::Download, *number, 0);
             job.begin(*number, *offset, moment, lines);
         }
-        Packet::DataPart(octets) => job.pass(octets.len(), moment, lines),
         _ => {}
     }
 }

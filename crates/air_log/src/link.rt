@@ -6,6 +6,7 @@ use crate::packet_stream::PacketStream;
 use crate::server_lines::{show_asked, show_said};
 use crate::transfer::{Transfer, Work};
 use ax25_frames::{Frame, Kind};
+use ftl0_packets::Packet;
 use px_base::Call;
 use std::fmt::Write;
 
@@ -14,6 +15,9 @@ use std::fmt::Write;
 const MOST_TRIES: u32 = 10;
 
 const TRY_SECONDS: u32 = 10;
+
+/// How many sequence numbers I frames have (AX.25 2.0, 2.4.4).
+const NUMBERS: usize = 8;
 
 /// Which command waits for its UA.
 #[derive(Clone, Copy, PartialEq, Eq)]
@@ -45,6 +49,10 @@ pub(crate) struct Link {
     heard: PacketStream,
     said: PacketStream,
     transfer: Transfer,
+    /// How many octets of a file the I frames have that this end said, by N(S), as long as they aren't acknowledged;
+    /// and the N(S) of the first one that isn't.
+    sent: [usize; NUMBERS],
+    unacknowledged: u8,
 }
 
 impl Link {
@@ -60,6 +68,8 @@ impl Link {
             heard: PacketStream::new(),
             said: PacketStream::new(),
             transfer: Transfer::new(Work::Nothing, 0, 0),
+            sent: [0; NUMBERS],
+            unacknowledged: 0,
         }
     }
 
@@ -81,6 +91,9 @@ impl Link {
 
     /// Shows what a frame of the station tells, at this moment.
     pub(crate) fn hear(&mut self, kind: &Kind<'_>, moment: u32, lines: &mut Lines) {
+        if let Some(nr) = acknowledged_by(kind) {
+            self.acknowledge(nr, moment, lines);
+        }
         match kind {
             Kind::Sabm => self.wish = Wish::TheirConnect,
             Kind::Disc if self.up => self.wish = Wish::TheirDisconnect,
@@ -151,6 +164,8 @@ impl Link {
         self.heard = PacketStream::new();
         self.said = PacketStream::new();
         self.transfer = Transfer::new(Work::Nothing, 0, 0);
+        self.sent = [0; NUMBERS];
+        self.unacknowledged = 0;
         if !self.client {
             let _ = write!(lines.line, "{} ", self.peer);
         }
@@ -169,10 +184,28 @@ impl Link {
         lines.end(false);
     }
 
+    /// Shows how far a transfer is, where the I frames before this N(R) are acknowledged (AX.25 2.0, 2.4.4).
+    fn acknowledge(&mut self, nr: u8, moment: u32, lines: &mut Lines) {
+        let mut octets = 0_usize;
+        for _ in 0..NUMBERS {
+            if self.unacknowledged == nr {
+                break;
+            }
+            let place = usize::from(self.unacknowledged % 8);
+            octets = octets.saturating_add(self.sent[place]);
+            self.sent[place] = 0;
+            self.unacknowledged = (self.unacknowledged % 8 + 1) % 8;
+        }
+        if octets > 0 {
+            self.transfer.pass(octets, moment, lines);
+        }
+    }
+
     /// Shows the packets that end in the octets of an I frame, which was heard or said.
     fn pass(&mut self, heard: bool, ns: u8, octets: &[u8], moment: u32, lines: &mut Lines) {
         let (up, client, peer) = (self.up, self.client, self.peer);
         let mut transfer = self.transfer;
+        let mut sent = 0_usize;
         let stream = if heard {
             &mut self.heard
         } else {
@@ -187,11 +220,33 @@ impl Link {
             };
             match (client, heard) {
                 (true, true) => show_got(&mut transfer, &packet, moment, lines),
-                (true, false) => show_sent(&mut transfer, &packet, moment, lines),
+                (true, false) => {
+                    show_sent(&mut transfer, &packet, moment, lines);
+                    sent = sent.saturating_add(octets_of_file(&packet));
+                }
                 (false, true) => show_asked(&mut transfer, peer, &packet, lines),
                 (false, false) => show_said(&mut transfer, peer, &packet, lines),
             }
         }
         self.transfer = transfer;
+        if !heard {
+            self.sent[usize::from(ns % 8)] = sent;
+        }
+    }
+}
+
+/// The N(R) of a frame, if it has one.
+fn acknowledged_by(kind: &Kind<'_>) -> Option<u8> {
+    match kind {
+        Kind::I { nr, .. } | Kind::Rr { nr } | Kind::Rnr { nr } | Kind::Rej { nr } => Some(*nr),
+        _ => None,
+    }
+}
+
+/// How many octets of a file a packet has.
+fn octets_of_file(packet: &Packet<'_>) -> usize {
+    match packet {
+        Packet::DataPart(octets) => octets.len(),
+        _ => 0,
     }
 }

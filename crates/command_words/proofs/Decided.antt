@@ -14,7 +14,7 @@ use Rattle.command_words.specs.Lines.{are_apart, are_places, is_option_name}
 use Rattle.header_tool.specs.Made.{MakeValue, spec_refusal}
 use Rattle.command_words.specs.Making.{MakeOptions, MakeSays, MakeText, make_options, options_given}
 use Rattle.command_words.specs.Numbers.{GivesNumber, IsDigit, IsNumberOr, NumberText, default_blocks, default_k, default_polls, number_after}
-use Rattle.command_words.specs.Words.{CallGiven, IsAir, IsHostPort, NameText, ServeText, SessionText, serve_options, session_options}
+use Rattle.command_words.specs.Words.{BodyText, CallGiven, IsAir, IsHostPort, NameText, ServeText, SessionText, serve_options, session_options}
 use Rattle.command_words.proofs.Bytes.{after_first-append, before_first-append, before_first-lacks, has_byte-append, split_at_byte}
 use Rattle.command_words.proofs.HostPorts.{all_lack, lack_all}
 use Rattle.command_words.proofs.Uses.{Text, Uses, text_eq, text_same}
@@ -266,6 +266,20 @@ name_decided others = elim (line_decided [] (codes "name" ∷ []) refl refl othe
   | inr none ↦ inr (λ (name, text). none text.line)
 ]
 
+-- a list of two texts
+pub two_texts : (texts : List Text) → length texts ≡ 2 → (one : Text) × (other : Text) × (texts ≡ one ∷ other ∷ [])
+two_texts [] e = absurd (omega arith)
+two_texts (one ∷ []) e = absurd (omega arith)
+two_texts (one ∷ other ∷ []) e = (one, other, refl)
+two_texts (one ∷ other ∷ more ∷ texts) e = absurd (omega arith)
+
+-- NAME and OUT are there, or not
+pub body_decided : (others : List Text) → Decided ((name kept : Text) × BodyText name kept others)
+body_decided others = elim (line_decided [] (codes "name" ∷ codes "out" ∷ []) refl refl others) [
+  | inl line ↦ let (name, kept, places) = two_texts (line_places line) line.counted in inl (name, kept, record { line = line; places = places })
+  | inr none ↦ inr (λ (name, kept, text). none text.line)
+]
+
 -- ---- the words after `pfh-make`
 
 says_decided : (options : MakeOptions) → Decided ((spec : MakeValue) × MakeSays options spec)
@@ -295,12 +309,6 @@ says_decided options = named options.name refl
 -- the words after `pfh-make` ask for a file, or not
 abbrev pub GivesMake : List Text → Type 0
 GivesMake others = (body : Text) × (kept : Text) × (spec : MakeValue) × MakeText body kept spec others
-
-pub two_texts : (texts : List Text) → length texts ≡ 2 → (one : Text) × (other : Text) × (texts ≡ one ∷ other ∷ [])
-two_texts [] e = absurd (omega arith)
-two_texts (one ∷ []) e = absurd (omega arith)
-two_texts (one ∷ other ∷ []) e = (one, other, refl)
-two_texts (one ∷ other ∷ more ∷ texts) e = absurd (omega arith)
 
 none_decided : {A : Type 0} (value : Option A) → Decided (value ≡ None)
 none_decided None = inl refl

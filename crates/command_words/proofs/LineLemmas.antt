@@ -13,7 +13,7 @@ use Rattle.clap.proofs.WalkLemmas.{first_value-rows}
 use Rattle.command_words.specs.declared.request.Refusal.{Refusal}
 use Rattle.command_words.specs.Clients.{client_options}
 use Rattle.command_words.specs.Grammar.{Line}
-use Rattle.command_words.specs.Lines.{IsFound, IsLine, are_apart, client_app, client_places, command_of, fetch_app, fetch_places, make_app, serve_app, session_app}
+use Rattle.command_words.specs.Lines.{body_app, IsFound, IsLine, are_apart, client_app, client_places, command_of, fetch_app, fetch_places, make_app, serve_app, session_app}
 use Rattle.command_words.specs.Making.{make_options}
 use Rattle.command_words.specs.Words.{serve_options, session_options}
 use Rattle.command_words.proofs.Uses.{Text, Uses, values}
@@ -86,6 +86,9 @@ fetch_line app e = record { command = codes "fetch"; written = e; placed = refl;
 
 pub make_line : (app : App) → app ≡ make_app → IsLine app (codes "body" ∷ codes "kept" ∷ []) make_options
 make_line app e = record { command = codes "pfh-make"; written = e; placed = refl; apart = refl }
+
+pub body_line : (app : App) → app ≡ body_app → IsLine app (codes "name" ∷ codes "out" ∷ []) []
+body_line app e = record { command = codes "pfh-body"; written = e; placed = refl; apart = refl }
 
 -- the texts behind what is got
 copied-map : (o : Option (Bor Text)) → option_copied o ≡ option_map (λ s. s.now) o

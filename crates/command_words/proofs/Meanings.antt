@@ -28,7 +28,7 @@ use Rattle.command_words.specs.declared.air.AirWord.TheVariants.{HostPort, Nothi
 use Rattle.command_words.specs.Disks.{IsDiskOf}
 use Rattle.command_words.specs.declared.disk.DiskWord.{DiskWord}
 use Rattle.command_words.specs.declared.disk.DiskWord.TheVariants.{Fresh, Named}
-use Rattle.command_words.specs.Words.{AreInRange, CallGiven, InSet, IsAir, IsHostPort, IsMake, IsNamed, IsUnbuilt, IsUsage, NeedsAir, NeedsNeither, ServeText, SessionText, serve_options, session_options, unbuilt_commands}
+use Rattle.command_words.specs.Words.{AreInRange, CallGiven, InSet, IsAir, IsBody, IsHostPort, IsMake, IsNamed, IsUnbuilt, IsUsage, NeedsAir, NeedsNeither, ServeText, SessionText, serve_options, session_options, unbuilt_commands}
 use Rattle.command_words.proofs.Bytes.{has_byte-append}
 use Rattle.command_words.proofs.Uses.{Text, Uses, text_eq, text_same, values}
 use Rattle.command_words.proofs.Machine.{is_name, is_name-from}
@@ -317,6 +317,7 @@ AreOf word.Serve words = AsksServe words
 AreOf (word.Client command) words = AsksBy command words
 AreOf (word.Named command) words = (name : Text) × IsNamed (word_of command) words name
 AreOf word.PfhMake words = (body kept : Text) × (spec : MakeValue) × IsMake words body kept spec
+AreOf word.PfhBody words = (name kept : Text) × IsBody words name kept
 AreOf word.Unbuilt words = IsUnbuilt words
 
 -- words in the command set are those of some command,
@@ -330,7 +331,8 @@ of_set (inr (inr (inr (inl (inr (inr list)))))) = (word.Client client.List, list
 of_set (inr (inr (inr (inr (inl frames))))) = (word.Named Frames, frames)
 of_set (inr (inr (inr (inr (inr (inl check)))))) = (word.Named PfhCheck, check)
 of_set (inr (inr (inr (inr (inr (inr (inl show))))))) = (word.Named PfhShow, show)
-of_set (inr (inr (inr (inr (inr (inr (inr make))))))) = (word.PfhMake, make)
+of_set (inr (inr (inr (inr (inr (inr (inr (inl make)))))))) = (word.PfhMake, make)
+of_set (inr (inr (inr (inr (inr (inr (inr (inr body)))))))) = (word.PfhBody, body)
 
 -- which their third word names
 pub third_word : {words : List Text} (command : CommandWord) → AreOf command words
@@ -342,6 +344,7 @@ third_word (word.Client client.Fetch) (terms, number, name, asks) = (asks.disk, 
 third_word (word.Client client.List) (terms, tokens, asks) = (asks.disk, asks.air, codes "list", asks.others, asks.written, refl)
 third_word (word.Named command) (name, asks) = (asks.disk, asks.air, word_of command, asks.others, asks.written, refl)
 third_word word.PfhMake (body, kept, spec, asks) = (asks.disk, asks.air, codes "pfh-make", asks.others, asks.written, refl)
+third_word word.PfhBody (name, kept, asks) = (asks.disk, asks.air, codes "pfh-body", asks.others, asks.written, refl)
 third_word word.Unbuilt other = (other.disk, other.air, other.command, other.others, other.written, other.unbuilt)
 
 pub command_in : {words : List Text} {d a c : Text} {others : List Text} → words ≡ d ∷ a ∷ c ∷ others → (command : CommandWord) → AreOf command words
@@ -363,7 +366,8 @@ named_by c =
     (cond (bytes_eq c (codes "frames")) (Some (word.Named Frames))
     (cond (bytes_eq c (codes "pfh-check")) (Some (word.Named PfhCheck))
     (cond (bytes_eq c (codes "pfh-show")) (Some (word.Named PfhShow))
-    (cond (bytes_eq c (codes "pfh-make")) (Some word.PfhMake) None)))))))))
+    (cond (bytes_eq c (codes "pfh-make")) (Some word.PfhMake)
+    (cond (bytes_eq c (codes "pfh-body")) (Some word.PfhBody) None))))))))))
 
 pub names : (c : Text) (command : CommandWord) → IsCommandOf c command → named_by c ≡ Some command
 names c word.Session is = ap named_by is
@@ -375,6 +379,7 @@ names c (word.Named Frames) is = ap named_by is
 names c (word.Named PfhCheck) is = ap named_by is
 names c (word.Named PfhShow) is = ap named_by is
 names c word.PfhMake is = ap named_by is
+names c word.PfhBody is = ap named_by is
 names c word.Unbuilt is = rw (is_name-from unbuilt_commands c is) refl
 
 one_command : (c : Text) (one other : CommandWord) → IsCommandOf c one → IsCommandOf c other → one ≡ other
@@ -413,6 +418,10 @@ name_usage command whole none = usage_of (word.Named command) refl whole (λ (na
 pub make_usage : {words : List Text} {d a : Text} {others : List Text} → words ≡ d ∷ a ∷ codes "pfh-make" ∷ others
     → ((body kept : Text) (spec : MakeValue) → IsMake (d ∷ a ∷ codes "pfh-make" ∷ others) body kept spec → ⊥) → IsUsage words
 make_usage whole none = usage_of word.PfhMake refl whole (λ (body, kept, spec, asks). none body kept spec asks)
+
+pub body_usage : {words : List Text} {d a : Text} {others : List Text} → words ≡ d ∷ a ∷ codes "pfh-body" ∷ others
+    → ((name kept : Text) → IsBody (d ∷ a ∷ codes "pfh-body" ∷ others) name kept → ⊥) → IsUsage words
+body_usage whole none = usage_of word.PfhBody refl whole (λ (name, kept, asks). none name kept asks)
 
 -- nor where their command is none
 pub no_command_usage : {words : List Text} {d a c : Text} {others : List Text} → words ≡ d ∷ a ∷ c ∷ others

@@ -13,7 +13,7 @@ use Rattle.command_words.specs.declared.command.NameCommand.TheVariants.{Frames,
 use Rattle.command_words.specs.Disks.{IsDiskOf}
 use Rattle.command_words.specs.declared.disk.DiskWord.{DiskWord}
 use Rattle.command_words.specs.Grammar.{line_value}
-use Rattle.command_words.specs.Laws.{AsksFrames, AsksServe, AsksSession, Determined, OnlyMake, OnlyOne}
+use Rattle.command_words.specs.Laws.{AsksFrames, AsksServe, AsksSession, Determined, OnlyBody, OnlyMake, OnlyOne}
 use Rattle.command_words.specs.Making.{options_given}
 use Rattle.command_words.specs.Numbers.{GivesNumber, default_blocks, default_k, default_polls}
 use Rattle.command_words.specs.declared.request.SessionRequest.{SessionRequest}
@@ -21,9 +21,9 @@ use Rattle.command_words.specs.declared.serve.ServeRequest.{ServeRequest}
 use Rattle.command_words.specs.Words.{AsksClient, AsksHeader, CallGiven, IsAir, IsNamed, IsServe, IsSession, IsUnbuilt, IsUsage, NameText, NeedsAir, NeedsNeither, unbuilt_commands}
 use Rattle.command_words.proofs.Uses.{Text, text_eq, text_same}
 use Rattle.command_words.proofs.Machine.{is_name, is_name-from, is_name-to}
-use Rattle.command_words.proofs.Meanings.{AreOf, air_from, air_in, air_text, client_usage, disk_in, disk_of, make_says, make_usage, name_usage, neither_from, neither_text, no_command_usage, not_both, number_one, of_set, one_disk, same_call, same_places, says_one, serve_given, serve_usage, session_given, session_usage, third_word}
+use Rattle.command_words.proofs.Meanings.{AreOf, air_from, air_in, air_text, body_usage, client_usage, disk_in, disk_of, make_says, make_usage, name_usage, neither_from, neither_text, no_command_usage, not_both, number_one, of_set, one_disk, same_call, same_places, says_one, serve_given, serve_usage, session_given, session_usage, third_word}
 use Rattle.command_words.proofs.ClientTexts.{by_decided, fetch_same, list_same, send_same}
-use Rattle.command_words.proofs.Decided.{Decided, air_decided, file_decided, make_decided, name_decided, serve_decided, session_decided}
+use Rattle.command_words.proofs.Decided.{Decided, air_decided, body_decided, file_decided, make_decided, name_decided, serve_decided, session_decided}
 
 -- ---- two lines
 
@@ -81,10 +81,11 @@ serve_same asked other one two =
 
 -- words that ask for a header are of no other command
 header_apart : (words : List Text) (other : CommandWord) → (other ≡ word.Named PfhCheck → ⊥) → (other ≡ word.Named PfhShow → ⊥) → (other ≡ word.PfhMake → ⊥)
-    → AreOf other words → AsksHeader words → ⊥
-header_apart words other no_check no_show no_make asks (inl check) = not_both words other (word.Named PfhCheck) no_check asks check
-header_apart words other no_check no_show no_make asks (inr (inl show)) = not_both words other (word.Named PfhShow) no_show asks show
-header_apart words other no_check no_show no_make asks (inr (inr make)) = not_both words other word.PfhMake no_make asks make
+    → (other ≡ word.PfhBody → ⊥) → AreOf other words → AsksHeader words → ⊥
+header_apart words other no_check no_show no_make no_body asks (inl check) = not_both words other (word.Named PfhCheck) no_check asks check
+header_apart words other no_check no_show no_make no_body asks (inr (inl show)) = not_both words other (word.Named PfhShow) no_show asks show
+header_apart words other no_check no_show no_make no_body asks (inr (inr (inl make))) = not_both words other word.PfhMake no_make asks make
+header_apart words other no_check no_show no_make no_body asks (inr (inr (inr body))) = not_both words other word.PfhBody no_body asks body
 
 -- words that ask for something of a client are of no other command
 client_apart : (words : List Text) (other : CommandWord) → ((command : ClientCommand) → other ≡ word.Client command → ⊥) → AreOf other words → AsksClient words → ⊥
@@ -96,7 +97,8 @@ client_apart words other differ asks (inr (inr list)) = not_both words other (wo
 client_headers : (words : List Text) → AsksClient words → AsksHeader words → ⊥
 client_headers words client (inl check) = client_apart words (word.Named PfhCheck) (λ command same. cc) check client
 client_headers words client (inr (inl show)) = client_apart words (word.Named PfhShow) (λ command same. cc) show client
-client_headers words client (inr (inr make)) = client_apart words word.PfhMake (λ command same. cc) make client
+client_headers words client (inr (inr (inl make))) = client_apart words word.PfhMake (λ command same. cc) make client
+client_headers words client (inr (inr (inr body))) = client_apart words word.PfhBody (λ command same. cc) body client
 
 pub only_one : (words : List Text) → OnlyOne words
 only_one words = record {
@@ -110,23 +112,26 @@ only_one words = record {
   unbuilt_serve = λ unbuilt serve. not_both words word.Unbuilt word.Serve (λ same. cc) unbuilt serve;
   unbuilt_client = λ unbuilt client. client_apart words word.Unbuilt (λ command same. cc) unbuilt client;
   unbuilt_frames = λ unbuilt frames. not_both words word.Unbuilt (word.Named Frames) (λ same. cc) unbuilt frames;
-  unbuilt_header = λ unbuilt header. header_apart words word.Unbuilt (λ same. cc) (λ same. cc) (λ same. cc) unbuilt header;
+  unbuilt_header = λ unbuilt header. header_apart words word.Unbuilt (λ same. cc) (λ same. cc) (λ same. cc) (λ same. cc) unbuilt header;
   session_serve = λ session serve. not_both words word.Session word.Serve (λ same. cc) session serve;
   session_client = λ session client. client_apart words word.Session (λ command same. cc) session client;
   session_frames = λ session frames. not_both words word.Session (word.Named Frames) (λ same. cc) session frames;
-  session_header = λ session header. header_apart words word.Session (λ same. cc) (λ same. cc) (λ same. cc) session header;
+  session_header = λ session header. header_apart words word.Session (λ same. cc) (λ same. cc) (λ same. cc) (λ same. cc) session header;
   serve_client = λ serve client. client_apart words word.Serve (λ command same. cc) serve client;
   serve_frames = λ serve frames. not_both words word.Serve (word.Named Frames) (λ same. cc) serve frames;
-  serve_header = λ serve header. header_apart words word.Serve (λ same. cc) (λ same. cc) (λ same. cc) serve header;
+  serve_header = λ serve header. header_apart words word.Serve (λ same. cc) (λ same. cc) (λ same. cc) (λ same. cc) serve header;
   client_frames = λ client frames. client_apart words (word.Named Frames) (λ command same. cc) frames client;
   client_header = λ client header. client_headers words client header;
-  frames_header = λ frames header. header_apart words (word.Named Frames) (λ same. cc) (λ same. cc) (λ same. cc) frames header;
+  frames_header = λ frames header. header_apart words (word.Named Frames) (λ same. cc) (λ same. cc) (λ same. cc) (λ same. cc) frames header;
   send_fetch = λ send fetch. not_both words (word.Client client.Send) (word.Client client.Fetch) (λ same. cc) send fetch;
   send_list = λ send list. not_both words (word.Client client.Send) (word.Client client.List) (λ same. cc) send list;
   fetch_list = λ fetch list. not_both words (word.Client client.Fetch) (word.Client client.List) (λ same. cc) fetch list;
   check_show = λ name other check show. not_both words (word.Named PfhCheck) (word.Named PfhShow) (λ same. cc) (name, check) (other, show);
   check_make = λ name body kept spec check make. not_both words (word.Named PfhCheck) word.PfhMake (λ same. cc) (name, check) (body, kept, spec, make);
   show_make = λ name body kept spec show make. not_both words (word.Named PfhShow) word.PfhMake (λ same. cc) (name, show) (body, kept, spec, make);
+  check_body = λ name other kept check body. not_both words (word.Named PfhCheck) word.PfhBody (λ same. cc) (name, check) (other, kept, body);
+  show_body = λ name other kept show body. not_both words (word.Named PfhShow) word.PfhBody (λ same. cc) (name, show) (other, kept, body);
+  make_body = λ body kept name other spec make is. not_both words word.PfhMake word.PfhBody (λ same. cc) (body, kept, spec, make) (name, other, is);
 }
 
 -- ---- determined
@@ -161,6 +166,13 @@ make_same words body other kept another spec later one two =
     let names : kept ≡ another = cc in
     (bodies, names, says_one (options_given (line_value first.line)) spec later first.says says)
 
+-- and those of `pfh-body` ask for one body
+body_same : (words : List Text) → OnlyBody words
+body_same words name other kept another one two =
+    let (others, first, second) = neither_same one two in
+    let both : name ∷ kept ∷ [] ≡ other ∷ another ∷ [] = sym first.places ∙ same_places [] (codes "name" ∷ codes "out" ∷ []) refl refl first.line second.line ∙ second.places in
+    (cc, cc)
+
 pub determined : (words : List Text) → Determined words
 determined words = record {
   session = λ asked other one two. session_same asked other one two;
@@ -172,6 +184,7 @@ determined words = record {
   check = λ name other one two. named_same (codes "pfh-check") words name other one two;
   show = λ name other one two. named_same (codes "pfh-show") words name other one two;
   make = λ body other kept another spec later one two. make_same words body other kept another spec later one two;
+  body = λ name other kept another one two. body_same words name other kept another one two;
 }
 
 -- ---- some meaning
@@ -255,8 +268,17 @@ make_meant : (disk air : Text) (others : List Text) → Meant (disk ∷ air ∷ 
 make_meant disk air others = elim (make_decided others) [
   | inr none ↦ inl (make_usage refl (λ body kept spec asks. none (body, kept, spec, (neither_text asks).0)))
   | inl (body, kept, spec, text) ↦ elim (form_decided air) [
-    | inl is ↦ inr (inr (inr (inr (inr (inr (inr (inr (body, kept, spec, neither_from disk air others is text))))))))
+    | inl is ↦ inr (inr (inr (inr (inr (inr (inr (inr (inl (body, kept, spec, neither_from disk air others is text)))))))))
     | inr none ↦ inl (make_usage refl (λ b k other asks. none (neither_text asks).1))
+  ]
+]
+
+body_meant : (disk air : Text) (others : List Text) → Meant (disk ∷ air ∷ codes "pfh-body" ∷ others)
+body_meant disk air others = elim (body_decided others) [
+  | inr none ↦ inl (body_usage refl (λ name kept asks. none (name, kept, (neither_text asks).0)))
+  | inl (name, kept, text) ↦ elim (form_decided air) [
+    | inl is ↦ inr (inr (inr (inr (inr (inr (inr (inr (inr (name, kept, neither_from disk air others is text)))))))))
+    | inr none ↦ inl (body_usage refl (λ n k asks. none (neither_text asks).1))
   ]
 ]
 
@@ -308,11 +330,14 @@ command_decided c = elim (cases_Bool (is_name unbuilt_commands c)) [
       | inl is ↦ inl (word.Serve, text_same c (codes "serve") is)
       | inr no_serve ↦ elim (cases_Bool (bytes_eq c (codes "pfh-make"))) [
         | inl is ↦ inl (word.PfhMake, text_same c (codes "pfh-make") is)
-        | inr no_make ↦ elim (client_word_decided c) [
-          | inl (command, is) ↦ inl (word.Client command, is)
-          | inr no_client ↦ elim (name_word_decided c) [
-            | inl (command, is) ↦ inl (word.Named command, is)
-            | inr no_name ↦ inr (λ (command, is). none command is no_other no_session no_serve no_make no_client no_name)
+        | inr no_make ↦ elim (cases_Bool (bytes_eq c (codes "pfh-body"))) [
+          | inl is ↦ inl (word.PfhBody, text_same c (codes "pfh-body") is)
+          | inr no_body ↦ elim (client_word_decided c) [
+            | inl (command, is) ↦ inl (word.Client command, is)
+            | inr no_client ↦ elim (name_word_decided c) [
+              | inl (command, is) ↦ inl (word.Named command, is)
+              | inr no_name ↦ inr (λ (command, is). none command is no_other no_session no_serve no_make no_body no_client no_name)
+            ]
           ]
         ]
       ]
@@ -321,14 +346,15 @@ command_decided c = elim (cases_Bool (is_name unbuilt_commands c)) [
 ]
   where
     none : (command : CommandWord) → IsCommandOf c command → is_name unbuilt_commands c ≡ false → bytes_eq c (codes "session") ≡ false
-        → bytes_eq c (codes "serve") ≡ false → bytes_eq c (codes "pfh-make") ≡ false → ((command : ClientCommand) × (c ≡ client_word command) → ⊥)
+        → bytes_eq c (codes "serve") ≡ false → bytes_eq c (codes "pfh-make") ≡ false → bytes_eq c (codes "pfh-body") ≡ false → ((command : ClientCommand) × (c ≡ client_word command) → ⊥)
         → ((command : NameCommand) × (c ≡ word_of command) → ⊥) → ⊥
-    none word.Session is no_other no_session no_serve no_make no_client no_name = true≢false (sym (text_eq c (codes "session") is) ∙ no_session)
-    none word.Serve is no_other no_session no_serve no_make no_client no_name = true≢false (sym (text_eq c (codes "serve") is) ∙ no_serve)
-    none (word.Client command) is no_other no_session no_serve no_make no_client no_name = no_client (command, is)
-    none (word.Named command) is no_other no_session no_serve no_make no_client no_name = no_name (command, is)
-    none word.PfhMake is no_other no_session no_serve no_make no_client no_name = true≢false (sym (text_eq c (codes "pfh-make") is) ∙ no_make)
-    none word.Unbuilt is no_other no_session no_serve no_make no_client no_name = true≢false (sym (is_name-from unbuilt_commands c is) ∙ no_other)
+    none word.Session is no_other no_session no_serve no_make no_body no_client no_name = true≢false (sym (text_eq c (codes "session") is) ∙ no_session)
+    none word.Serve is no_other no_session no_serve no_make no_body no_client no_name = true≢false (sym (text_eq c (codes "serve") is) ∙ no_serve)
+    none (word.Client command) is no_other no_session no_serve no_make no_body no_client no_name = no_client (command, is)
+    none (word.Named command) is no_other no_session no_serve no_make no_body no_client no_name = no_name (command, is)
+    none word.PfhMake is no_other no_session no_serve no_make no_body no_client no_name = true≢false (sym (text_eq c (codes "pfh-make") is) ∙ no_make)
+    none word.PfhBody is no_other no_session no_serve no_make no_body no_client no_name = true≢false (sym (text_eq c (codes "pfh-body") is) ∙ no_body)
+    none word.Unbuilt is no_other no_session no_serve no_make no_body no_client no_name = true≢false (sym (is_name-from unbuilt_commands c is) ∙ no_other)
 
 meant_by : (d a c : Text) (others : List Text) (command : CommandWord) → IsCommandOf c command → Meant (d ∷ a ∷ c ∷ others)
 meant_by d a c others word.Session is = subst (λ (t : Text). Meant (d ∷ a ∷ t ∷ others)) (sym is) (session_meant d a others)
@@ -336,6 +362,7 @@ meant_by d a c others word.Serve is = subst (λ (t : Text). Meant (d ∷ a ∷ t
 meant_by d a c others (word.Client command) is = subst (λ (t : Text). Meant (d ∷ a ∷ t ∷ others)) (sym is) (client_meant command d a others)
 meant_by d a c others (word.Named command) is = subst (λ (t : Text). Meant (d ∷ a ∷ t ∷ others)) (sym is) (command_meant command d a others)
 meant_by d a c others word.PfhMake is = subst (λ (t : Text). Meant (d ∷ a ∷ t ∷ others)) (sym is) (make_meant d a others)
+meant_by d a c others word.PfhBody is = subst (λ (t : Text). Meant (d ∷ a ∷ t ∷ others)) (sym is) (body_meant d a others)
 meant_by d a c others word.Unbuilt is = inr (inl (record { disk = d; air = a; command = c; others = others; written = refl; unbuilt = is }))
 
 pub has_meaning : (words : List Text) → Meant words

@@ -8,10 +8,12 @@ use Rattle.command_words.specs.declared.client.ListRequest.{ListRequest}
 use Rattle.command_words.specs.declared.client.SendRequest.{SendRequest}
 use Rattle.command_words.specs.declared.disk.DiskWord.TheVariants.{Named}
 use Rattle.command_words.specs.declared.request.Request.{Request}
-use Rattle.command_words.specs.declared.request.Request.TheVariants.{Client, Frames, PfhCheck, PfhMake, PfhShow, Serve, Session}
+use Rattle.command_words.specs.declared.request.Request.TheVariants.{Client, Frames, Serve, Session}
+use Rattle.command_words.specs.declared.request.Request.TheVariants.{PfhBody, PfhCheck, PfhMake, PfhShow}
 use Rattle.command_words.specs.Clients.{ClientTerms, HexText}
 use Rattle.command_words.specs.Disks.{IsDiskOf}
-use Rattle.command_words.specs.Words.{IsAir, IsCheck, IsFetch, IsFrames, IsList, IsMake, IsSend, IsServe, IsSession, IsShow}
+use Rattle.command_words.specs.Words.{IsAir, IsFetch, IsList, IsSend, IsServe, IsSession}
+use Rattle.command_words.specs.Words.{IsBody, IsCheck, IsFrames, IsMake, IsShow}
 
 -- the terms of each request of a client
 abbrev pub send_terms : SendRequest → ClientTerms
@@ -39,6 +41,7 @@ AsksFor words (Frames name) = IsFrames words name.now
 AsksFor words (PfhCheck name) = IsCheck words name.now
 AsksFor words (PfhShow name) = IsShow words name.now
 AsksFor words (PfhMake request) = IsMake words request.body.now request.kept.now (make_value request.header)
+AsksFor words (PfhBody request) = IsBody words request.name.now request.kept.now
 
 -- Behind a DISK that names a file, an AIR and this command, these words ask for this.
 abbrev pub AsksBehind : List ℕ → List (List ℕ) → Request → Type 0

@@ -27,6 +27,7 @@ IsCommandOf text word.Serve = text ≡ codes "serve"
 IsCommandOf text (word.Client command) = text ≡ client_word command
 IsCommandOf text (word.Named command) = text ≡ word_of command
 IsCommandOf text word.PfhMake = text ≡ codes "pfh-make"
+IsCommandOf text word.PfhBody = text ≡ codes "pfh-body"
 IsCommandOf text word.Unbuilt = Contains unbuilt_commands text
 
 -- the words ask for what this client's command does

@@ -4,7 +4,9 @@ use Rattle.header_tool.specs.Made.{MakeValue}
 use Rattle.command_words.specs.declared.request.SessionRequest.{SessionRequest}
 use Rattle.command_words.specs.declared.serve.ServeRequest.{ServeRequest}
 use Rattle.command_words.specs.Clients.{ClientTerms}
-use Rattle.command_words.specs.Words.{AsksClient, AsksFetch, AsksHeader, AsksList, AsksSend, IsCheck, IsFetch, IsFrames, IsList, IsMake, IsSend, IsServe, IsSession, IsShow, IsUnbuilt, IsUsage}
+use Rattle.command_words.specs.Words.{AsksClient, AsksFetch, AsksHeader, AsksList, AsksSend}
+use Rattle.command_words.specs.Words.{IsFetch, IsList, IsSend, IsServe, IsSession, IsUnbuilt, IsUsage}
+use Rattle.command_words.specs.Words.{IsBody, IsCheck, IsFrames, IsMake, IsShow}
 
 -- the words ask for a session
 abbrev pub AsksSession : List (List ℕ) → Type 0
@@ -56,12 +58,22 @@ pub record OnlyOne (words : List (List ℕ)) : Type 0 where
   pub check_show : (name other : List ℕ) → IsCheck words name → IsShow words other → ⊥
   pub check_make : (name body kept : List ℕ) (spec : MakeValue) → IsCheck words name → IsMake words body kept spec → ⊥
   pub show_make : (name body kept : List ℕ) (spec : MakeValue) → IsShow words name → IsMake words body kept spec → ⊥
+  pub check_body : (name other kept : List ℕ) → IsCheck words name → IsBody words other kept → ⊥
+  pub show_body : (name other kept : List ℕ) → IsShow words name → IsBody words other kept → ⊥
+  pub make_body :
+      (body kept name other : List ℕ) (spec : MakeValue) → IsMake words body kept spec → IsBody words name other → ⊥
 
 -- the words of `pfh-make` ask for one file, of one body and one header
 abbrev pub OnlyMake : List (List ℕ) → Type 0
 OnlyMake words =
     (body other kept another : List ℕ) (spec later : MakeValue) → IsMake words body kept spec → IsMake words other another later
     → (body ≡ other) × (kept ≡ another) × (spec ≡ later)
+
+-- those of `pfh-body` for the body of one file, under one name
+abbrev pub OnlyBody : List (List ℕ) → Type 0
+OnlyBody words =
+    (name other kept another : List ℕ) → IsBody words name kept → IsBody words other another
+    → (name ≡ other) × (kept ≡ another)
 
 -- the words of `send` ask for one file
 abbrev pub OnlySend : List (List ℕ) → Type 0
@@ -94,3 +106,4 @@ pub record Determined (words : List (List ℕ)) : Type 0 where
   pub check : (name other : List ℕ) → IsCheck words name → IsCheck words other → name ≡ other
   pub show : (name other : List ℕ) → IsShow words name → IsShow words other → name ≡ other
   pub make : OnlyMake words
+  pub body : OnlyBody words

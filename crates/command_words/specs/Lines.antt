@@ -59,6 +59,10 @@ fetch_places = codes "server" ∷ codes "me" ∷ codes "number" ∷ codes "name"
 abbrev pub make_app : App
 make_app = command_of (codes "pfh-make") (codes "body" ∷ codes "kept" ∷ []) make_options
 
+-- the command `pfh-body`
+abbrev pub body_app : App
+body_app = command_of (codes "pfh-body") (codes "name" ∷ codes "out" ∷ []) []
+
 -- an option's name is some text without `=`, and no place's
 abbrev pub is_option_name : List (List ℕ) → List ℕ → Bool
 is_option_name places [] = false

@@ -21,7 +21,7 @@ unbuilt_commands = codes "rehearse" ∷ []
 abbrev pub built_commands : List (List ℕ)
 built_commands =
     codes "session" ∷ codes "serve" ∷ codes "send" ∷ codes "fetch" ∷ codes "list" ∷ codes "frames" ∷ codes "pfh-check"
-    ∷ codes "pfh-show" ∷ codes "pfh-make" ∷ []
+    ∷ codes "pfh-show" ∷ codes "pfh-make" ∷ codes "pfh-body" ∷ []
 
 -- Host and port: text without a colon, a colon, and the number of a port.
 pub record IsHostPort (air : List ℕ) : Type 0 where
@@ -161,11 +161,24 @@ IsShow words name = IsNamed (codes "pfh-show") words name
 abbrev pub IsMake : List (List ℕ) → List ℕ → List ℕ → MakeValue → Type 0
 IsMake words body kept spec = NeedsNeither (codes "pfh-make") (MakeText body kept spec) words
 
--- the words ask for a file's header: to check it, to show it or to make it
+-- The words after `pfh-body` are NAME and OUT alone.
+pub record BodyText (name kept : List ℕ) (others : List (List ℕ)) : Type 0 where
+  pub line : Line [] others 2
+  pub places : line_places line ≡ name ∷ kept ∷ []
+
+-- the words are `DISK AIR pfh-body NAME OUT`
+abbrev pub IsBody : List (List ℕ) → List ℕ → List ℕ → Type 0
+IsBody words name kept = NeedsNeither (codes "pfh-body") (BodyText name kept) words
+
+-- the words ask for a file that is made of another one: of a body and a header, or the body of a file
+abbrev pub AsksMake : List (List ℕ) → Type 0
+AsksMake words =
+    ((body kept : List ℕ) × (spec : MakeValue) × IsMake words body kept spec)
+    ⊎ ((name kept : List ℕ) × IsBody words name kept)
+
+-- the words ask for a file's header: to check it, to show it, to make it or to leave it out
 abbrev pub AsksHeader : List (List ℕ) → Type 0
-AsksHeader words =
-    ((name : List ℕ) × IsCheck words name)
-    ⊎ (((name : List ℕ) × IsShow words name) ⊎ ((body kept : List ℕ) × (spec : MakeValue) × IsMake words body kept spec))
+AsksHeader words = ((name : List ℕ) × IsCheck words name) ⊎ (((name : List ℕ) × IsShow words name) ⊎ AsksMake words)
 
 -- The words name a command that isn't built yet, with whatever other words.
 pub record IsUnbuilt (words : List (List ℕ)) : Type 0 where

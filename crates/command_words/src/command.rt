@@ -22,6 +22,8 @@ pub(crate) enum CommandWord {
     Named(NameCommand),
     /// The making of a file.
     PfhMake,
+    /// The body of a file.
+    PfhBody,
     /// What isn't built yet.
     Unbuilt,
 }
@@ -67,6 +69,9 @@ pub(crate) fn read_command(word: &str) -> Option<CommandWord>
     }
     if word == "pfh-make" {
         return Some(CommandWord::PfhMake);
+    }
+    if word == "pfh-body" {
+        return Some(CommandWord::PfhBody);
     }
     if is_unbuilt(word) {
         return Some(CommandWord::Unbuilt);

@@ -7,6 +7,7 @@
 #![tactic(auto)]
 
 mod air;
+mod body;
 mod client;
 mod client_line;
 mod command;
@@ -23,6 +24,7 @@ mod terms;
 mod words;
 
 pub use air::{AirWord, read_air};
+pub use body::BodyRequest;
 pub use client::{ClientRequest, FetchRequest, ListRequest, SendRequest};
 pub use disk::DiskWord;
 pub use make::MakeRequest;

@@ -3,10 +3,12 @@
 ghost use Rattle.std.specs.Prelude.{◌≡◌, List, [], ◌∷◌, false, IfOk, IsErrOf, codes, drop, map, option_copied, string_bytes};
 ghost use Rattle.clap.specs.Words.{app_of, kind_of, rule_of, with_rule};
 ghost use Rattle.command_words.specs.Grammar.{Line};
-ghost use Rattle.command_words.specs.Lines.{FindsLine, MakeLine, RefusesLine, ServeLine, SessionLine, command_of, make_app, option_of, options_added, place_of, serve_app, session_app};
+ghost use Rattle.command_words.specs.Lines.{FindsLine, MakeLine, RefusesLine, ServeLine, SessionLine, command_of};
+ghost use Rattle.command_words.specs.Lines.{body_app, make_app, option_of, options_added, place_of, serve_app, session_app};
 ghost use Rattle.command_words.specs.Making.{make_options};
-ghost use Rattle.command_words.specs.Words.{NameText, serve_options, session_options};
+ghost use Rattle.command_words.specs.Words.{BodyText, NameText, serve_options, session_options};
 
+use crate::body::BodyRequest;
 use crate::request::Refusal;
 use clap::error::ErrorKind;
 use clap::{Arg, ArgAction, ArgMatches, Command, Error};
@@ -146,6 +148,22 @@ pub(crate) fn read_make<'a>(alloc: Global, line: &'a [String]) -> Result<MakeTex
     })
 }
 
+/// Reads the words from `pfh-body` on. Takes memory.
+pub(crate) fn read_body<'a>(alloc: Global, line: &'a [String]) -> Result<BodyRequest<'a>, Refusal>
+    ensures texts { IfOk result (λ asked. BodyText asked.name.now asked.kept.now (drop 1 (map string_bytes line.now))) }
+    ensures usage { IsErrOf result Refusal.Usage → Line [] (drop 1 (map string_bytes line.now)) 2 → ⊥ }
+    ensures built { IsErrOf result Refusal.NotBuilt → ⊥ }
+{
+    let matches = read_line(body_command(alloc)?, line)?;
+    let Some(name) = matches.get_str("name") else {
+        return Err(Refusal::Usage);
+    };
+    let Some(kept) = matches.get_str("out") else {
+        return Err(Refusal::Usage);
+    };
+    Ok(BodyRequest { name, kept })
+}
+
 /// The command `session` with its place and its options.
 pub(crate) fn session_command<'a>(alloc: Global) -> Result<Command<'a>, AllocError>
     ensures { IfOk result (λ command. app_of command ≡ session_app) }
@@ -177,6 +195,13 @@ pub(crate) fn make_command<'a>(alloc: Global) -> Result<Command<'a>, AllocError>
         "title",
     ];
     with_options(alloc, command, &options)
+}
+
+/// The command `pfh-body` with its two places.
+pub(crate) fn body_command<'a>(alloc: Global) -> Result<Command<'a>, AllocError>
+    ensures { IfOk result (λ command. app_of command ≡ body_app) }
+{
+    line_command(alloc, "pfh-body", "name")?.arg(place(alloc, "out"))
 }
 
 /// A command with one place and no options yet.

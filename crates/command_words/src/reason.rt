@@ -3,7 +3,7 @@
 use crate::air::read_air;
 use crate::client_line::{client_command, fetch_command};
 use crate::command::{ClientCommand, CommandWord, read_command};
-use crate::line::{line_command, make_command, serve_command, session_command};
+use crate::line::{body_command, line_command, make_command, serve_command, session_command};
 use crate::words::Words;
 use clap::Command;
 use std::alloc::{AllocError, Global};
@@ -31,7 +31,8 @@ pub fn refusal_text(alloc: Global, words: &Words) -> Option<String> {
 
 /// What is said where `clap` takes the words.
 const OUT_OF_RANGE: &str =
-    "a call is none (capitals, digits, SSID), a number is out of range, a name is too long, or there is no disk or air";
+    "a call is none (capitals, digits, SSID), HEX isn't hexadecimal, a number is out of range, a name is too long, \
+     or there is no disk or air";
 
 /// What `clap` reads the words of this command by.
 fn parser_of<'a>(
@@ -45,6 +46,7 @@ fn parser_of<'a>(
         CommandWord::Client(ClientCommand::Fetch) => fetch_command(alloc),
         CommandWord::Client(_) => client_command(alloc, word),
         CommandWord::PfhMake => make_command(alloc),
+        CommandWord::PfhBody => body_command(alloc),
         CommandWord::Named(_) | CommandWord::Unbuilt => line_command(alloc, word, "name"),
     }
 }

@@ -9,6 +9,7 @@ ghost use Rattle.command_words.specs.Laws.{AsksSession};
 ghost use Rattle.command_words.specs.Words.{IsNamed, IsUnbuilt, IsUsage, NamesBuilt, SessionText};
 
 use crate::air::{names_air, read_air};
+use crate::body::{BodyRequest, body_request};
 use crate::client::{ClientRequest, client_request};
 use crate::command::{CommandWord, NameCommand, read_command};
 use crate::disk::{DiskWord, read_disk};
@@ -71,6 +72,8 @@ pub enum Request<'a> {
     },
     /// A file that is made of a body.
     PfhMake(MakeRequest<'a>),
+    /// The body of a file.
+    PfhBody(BodyRequest<'a>),
 }
 
 /// Why the words ask for nothing.
@@ -127,6 +130,7 @@ pub fn read(alloc: Global, words: &Words) -> Result<Request<'_>, Refusal>
         }
         Some(CommandWord::Named(named)) => name_request(alloc, named, air.as_str(), line),
         Some(CommandWord::PfhMake) => make_request(alloc, air.as_str(), line),
+        Some(CommandWord::PfhBody) => body_request(alloc, air.as_str(), line),
         Some(CommandWord::Unbuilt) => Err(Refusal::NotBuilt),
         None => Err(Refusal::Usage),
     }

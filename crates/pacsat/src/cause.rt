@@ -89,8 +89,8 @@ fn tell_bad_store(rt: &HostRuntime, disk: &str, why: BadStore) {
     }
 }
 
-/// Tells of the files that the words name what the system refused to the shelf: of `pfh-make`'s of the one that is read
-/// alone, where `read_alone` holds.
+/// Tells of the files that the words name what the system refused to the shelf: of those of `pfh-make` and `pfh-body`
+/// of the one that is read alone, where `read_alone` holds.
 fn tell_shelf(rt: &HostRuntime, words: &Words, read_alone: bool, error: Option<SystemError>) {
     let Ok(request) = read(rt.alloc(), words) else {
         return;
@@ -102,12 +102,16 @@ fn tell_shelf(rt: &HostRuntime, words: &Words, read_alone: bool, error: Option<S
             tell_error(rt, name, error);
         }
         Request::PfhMake(make) if read_alone => tell_error(rt, make.body, error),
-        Request::PfhMake(make) => {
-            let (body, kept) = (make.body, make.kept);
-            if let Ok(both) = format!(in rt.alloc(); "{body} or {kept}") {
-                tell_error(rt, both.as_str(), error);
-            }
-        }
+        Request::PfhMake(make) => tell_either(rt, make.body, make.kept, error),
+        Request::PfhBody(body) if read_alone => tell_error(rt, body.name, error),
+        Request::PfhBody(body) => tell_either(rt, body.name, body.kept, error),
         _ => {}
+    }
+}
+
+/// Tells what the system refused to one of two files.
+fn tell_either(rt: &HostRuntime, read: &str, kept: &str, error: Option<SystemError>) {
+    if let Ok(both) = format!(in rt.alloc(); "{read} or {kept}") {
+        tell_error(rt, both.as_str(), error);
     }
 }

@@ -18,6 +18,7 @@ usage: pacsat DISK AIR serve ME [--k N] [--blocks N] [--polls N]
        pacsat DISK AIR frames NAME
        pacsat DISK AIR pfh-make BODY NAME --name T [--ext T] [--type N] [--time N]
               [--source T] [--destination T] [--title T]
+       pacsat DISK AIR pfh-body NAME OUT
        pacsat DISK AIR pfh-show NAME
        pacsat DISK AIR pfh-check NAME
        pacsat --version | --help
@@ -38,6 +39,7 @@ fetch      gets the file NUMBER of SERVER, and keeps it as NAME
 list       lists the files of SERVER that the selection HEX holds of
 frames     shows a line for each AX.25 frame in recorded KISS text
 pfh-make   makes the file NAME of BODY and a header
+pfh-body   keeps the body of the file NAME as OUT
 pfh-show   shows the header of NAME, and whether the file keeps all rules
 pfh-check  shows the latter alone
 

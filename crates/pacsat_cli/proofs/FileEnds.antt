@@ -4,7 +4,7 @@ use Rattle.std.specs.Prelude.{Option, None, Some}
 use Rattle.pacsat_cli.specs.declared.files.FileCommand.{FileCommand}
 use Rattle.pacsat_cli.specs.declared.status.RefusedBy.TheVariants as by
 use Rattle.pacsat_cli.specs.declared.status.Status.{Status}
-use Rattle.pacsat_cli.specs.declared.status.Status.TheVariants.{Done, Refused, Usage, AirRead, AirWrite, Disk, NoSuch, FileChanged, BadStore, OutOfMemory, Spent, Out, Shelf, LinkDown, Strange, NotesFull, TooLong, NotBuilt}
+use Rattle.pacsat_cli.specs.declared.status.Status.TheVariants.{Done, Refused, NoSuch, OutOfMemory, Out, Shelf, TooLong}
 use Rattle.pacsat_cli.specs.Files.{FileEnd, FileText, IsNoSuchBy, IsShownBy, IsTooLongBy, end_of, most_octets}
 
 -- content that isn't there isn't content that may be shown
@@ -31,19 +31,7 @@ no_such-end command content text TooLong h none = absurd (let e = sym h.1 ∙ no
 no_such-end command content text Out h none = absurd (text-none command content h.0 h.1 h.2 none)
 no_such-end command content text Shelf h none = inr (0, omega arith, refl)
 no_such-end command content text OutOfMemory h none = inr (1, omega arith, refl)
-no_such-end command content text Usage h none = absurd h
-no_such-end command content text AirRead h none = absurd h
-no_such-end command content text AirWrite h none = absurd h
-no_such-end command content text Disk h none = absurd h
-no_such-end command content text (BadStore why) h none = absurd h
-no_such-end command content text Spent h none = absurd h
-no_such-end command content text NotBuilt h none = absurd h
-no_such-end command content text (Refused (by.Server code)) h none = absurd h
-no_such-end command content text (Refused (by.Fault code)) h none = absurd h
-no_such-end command content text (FileChanged kept given) h none = absurd h
-no_such-end command content text LinkDown h none = absurd h
-no_such-end command content text (Strange kind) h none = absurd h
-no_such-end command content text NotesFull h none = absurd h
+no_such-end command content text s h none = absurd h
 
 pub too_long-end : (command : FileCommand) (content : Option (List ℕ)) (text : List ℕ) (s : Status) → FileEnd command content text s → IsTooLongBy s command content
 too_long-end command content text Done h octets there long = absurd (text-long command content text Done octets h there long)
@@ -53,19 +41,7 @@ too_long-end command content text TooLong h octets there long = inl refl
 too_long-end command content text Out h octets there long = absurd (text-long command content h.0 h.1 octets h.2 there long)
 too_long-end command content text Shelf h octets there long = inr (0, omega arith, refl)
 too_long-end command content text OutOfMemory h octets there long = inr (1, omega arith, refl)
-too_long-end command content text Usage h octets there long = absurd h
-too_long-end command content text AirRead h octets there long = absurd h
-too_long-end command content text AirWrite h octets there long = absurd h
-too_long-end command content text Disk h octets there long = absurd h
-too_long-end command content text (BadStore why) h octets there long = absurd h
-too_long-end command content text Spent h octets there long = absurd h
-too_long-end command content text NotBuilt h octets there long = absurd h
-too_long-end command content text (Refused (by.Server code)) h octets there long = absurd h
-too_long-end command content text (Refused (by.Fault code)) h octets there long = absurd h
-too_long-end command content text (FileChanged kept given) h octets there long = absurd h
-too_long-end command content text LinkDown h octets there long = absurd h
-too_long-end command content text (Strange kind) h octets there long = absurd h
-too_long-end command content text NotesFull h octets there long = absurd h
+too_long-end command content text s h octets there long = absurd h
 
 pub shown-end : (command : FileCommand) (content : Option (List ℕ)) (text : List ℕ) (s : Status) → FileEnd command content text s → IsShownBy s command content
 shown-end command content text Done h octets there short = inl (text-end command content text Done octets h there)
@@ -77,16 +53,4 @@ shown-end command content text TooLong h octets there short =
 shown-end command content text Shelf h octets there short = inr (0, omega arith, refl)
 shown-end command content text Out h octets there short = inr (1, omega arith, refl)
 shown-end command content text OutOfMemory h octets there short = inr (2, omega arith, refl)
-shown-end command content text Usage h octets there short = absurd h
-shown-end command content text AirRead h octets there short = absurd h
-shown-end command content text AirWrite h octets there short = absurd h
-shown-end command content text Disk h octets there short = absurd h
-shown-end command content text (BadStore why) h octets there short = absurd h
-shown-end command content text Spent h octets there short = absurd h
-shown-end command content text NotBuilt h octets there short = absurd h
-shown-end command content text (Refused (by.Server code)) h octets there short = absurd h
-shown-end command content text (Refused (by.Fault code)) h octets there short = absurd h
-shown-end command content text (FileChanged kept given) h octets there short = absurd h
-shown-end command content text LinkDown h octets there short = absurd h
-shown-end command content text (Strange kind) h octets there short = absurd h
-shown-end command content text NotesFull h octets there short = absurd h
+shown-end command content text s h octets there short = absurd h

@@ -1,12 +1,12 @@
 -- Words ask for one thing to do.
 use Rattle.std.proofs.Common.{◌≡◌, ℕ, List, refl, inl, inr}
 use Rattle.command_words.specs.Laws.{AsksServe, AsksSession, Determined, OnlyOne}
-use Rattle.command_words.specs.Words.{AsksClient, IsUnbuilt, IsUsage}
+use Rattle.command_words.specs.Words.{AsksClient, AsksMake, IsUnbuilt, IsUsage}
 use Rattle.pacsat_cli.specs.declared.files.FileCommand.{FileCommand}
 use Rattle.pacsat_cli.specs.declared.files.FileCommand.TheVariants.{Frames, Show, Check}
 use Rattle.pacsat_cli.specs.Run.{AreRefused}
 use Rattle.pacsat_cli.specs.Sessions.{AsksNode, AsksStore}
-use Rattle.pacsat_cli.specs.Tasks.{AsksFile, AsksMake, AsksText}
+use Rattle.pacsat_cli.specs.Tasks.{AsksFile, AsksText}
 
 module _ (words : List (List ℕ)) (only : OnlyOne words) where
   -- words that ask for the text of a file are in the command set and built, and ask for no session and no service
@@ -36,8 +36,10 @@ module _ (words : List (List ℕ)) (only : OnlyOne words) where
   -- nor for a file that is made
   pub file-make : AsksFile words → AsksMake words → ⊥
   file-make (Frames, name, is) make = only.frames_header (name, is) (inr (inr make))
-  file-make (Show, name, is) (body, kept, asked, make) = only.show_make name body kept asked is make
-  file-make (Check, name, is) (body, kept, asked, make) = only.check_make name body kept asked is make
+  file-make (Show, name, is) (inl (body, kept, asked, make)) = only.show_make name body kept asked is make
+  file-make (Show, name, is) (inr (other, kept, body)) = only.show_body name other kept is body
+  file-make (Check, name, is) (inl (body, kept, asked, make)) = only.check_make name body kept asked is make
+  file-make (Check, name, is) (inr (other, kept, body)) = only.check_body name other kept is body
 
   -- and so do those that ask for a file that is made
   pub usage-make : IsUsage words → AsksMake words → ⊥

@@ -31,26 +31,8 @@ isnt_file_status status.NotesFull = true
 isnt_file_status s = false
 
 never : (command : FileCommand) (other : Status) → isnt_file_status other ≡ true → is_file_status command other ≡ true → ⊥
-never command status.Usage isnt is = cc
-never command status.AirRead isnt is = cc
-never command status.AirWrite isnt is = cc
-never command status.Disk isnt is = cc
-never command (status.BadStore why) isnt is = cc
-never command status.Spent isnt is = cc
-never command status.NotBuilt isnt is = cc
-never command status.Done isnt is = cc
 never command (status.Refused by.Shown) isnt is = cc
-never command (status.Refused (by.Server code)) isnt is = cc
-never command (status.Refused (by.Fault code)) isnt is = cc
-never command (status.FileChanged kept given) isnt is = cc
-never command status.LinkDown isnt is = cc
-never command (status.Strange kind) isnt is = cc
-never command status.NotesFull isnt is = cc
-never command status.NoSuch isnt is = cc
-never command status.TooLong isnt is = cc
-never command status.Out isnt is = cc
-never command status.Shelf isnt is = cc
-never command status.OutOfMemory isnt is = cc
+never command s isnt is = cc
 
 module _ {O : Type 0} (shown : O → Option (List ℕ)) (faults : O → ℕ) (command : FileCommand) (held : Option Holding) (name : List ℕ) (before mid : O) (s : Status) (ended : FileShown shown faults command held name before mid s) where
   -- such a command ends with no other command's status

@@ -1,15 +1,18 @@
 -- What a run did, where the words ask for a file that is made.
-use Rattle.std.proofs.Common.{◌≡◌, ℕ, List, refl, ap, subst, Bool, true, false}
+use Rattle.std.proofs.Common.{◌≡◌, ℕ, List, refl, ap, subst, inl, inr, Bool, true, false}
 use Rattle.std.specs.Prelude.{Option}
 use Rattle.px_base.specs.Shelves.{Holding}
-use Rattle.command_words.specs.Laws.{Determined}
-use Rattle.command_words.specs.Words.{IsMake}
-use Rattle.header_tool.specs.Made.{MakeValue}
+use Rattle.command_words.specs.Laws.{Determined, OnlyOne}
+use Rattle.command_words.specs.Words.{AsksMake}
+use Rattle.header_tool.specs.Made.{MakeValue, make_value}
+use Rattle.pacsat_cli.specs.declared.making.MakeCommand.{MakeCommand}
+use Rattle.pacsat_cli.specs.declared.making.MakeCommand.TheVariants.{Make, Body}
 use Rattle.pacsat_cli.specs.declared.status.RefusedBy.TheVariants as by
 use Rattle.pacsat_cli.specs.declared.status.Status.{Status}
 use Rattle.pacsat_cli.specs.declared.status.Status.TheVariants as status
+use Rattle.pacsat_cli.specs.Bodies.{BodyEnd, BodyRan}
 use Rattle.pacsat_cli.specs.Making.{MakeEnd, MakeRan}
-use Rattle.pacsat_cli.specs.Tasks.{RunsMake}
+use Rattle.pacsat_cli.specs.Tasks.{AsksMaking, MakingRan, MayMake, RunsBody, RunsMake}
 
 -- whether a make can end with this status
 abbrev pub is_make_status : Status → Bool
@@ -18,6 +21,7 @@ is_make_status status.NoSuch = true
 is_make_status status.TooLong = true
 is_make_status status.Shelf = true
 is_make_status status.OutOfMemory = true
+is_make_status (status.Refused (by.Fault code)) = true
 is_make_status s = false
 
 make-status : (IsFile : List ℕ → Type 0) (name : List ℕ) (before now : Option Holding) (s : Status) → MakeEnd IsFile name before now s → is_make_status s ≡ true
@@ -26,35 +30,44 @@ make-status IsFile name before now status.NoSuch h = refl
 make-status IsFile name before now status.TooLong h = refl
 make-status IsFile name before now status.Shelf h = refl
 make-status IsFile name before now status.OutOfMemory h = refl
-make-status IsFile name before now (status.Refused by.Shown) h = absurd h
-make-status IsFile name before now (status.Refused (by.Server code)) h = absurd h
-make-status IsFile name before now (status.Refused (by.Fault code)) h = absurd h
-make-status IsFile name before now (status.FileChanged kept given) h = absurd h
-make-status IsFile name before now status.LinkDown h = absurd h
-make-status IsFile name before now (status.Strange kind) h = absurd h
-make-status IsFile name before now status.NotesFull h = absurd h
-make-status IsFile name before now status.Usage h = absurd h
-make-status IsFile name before now status.AirRead h = absurd h
-make-status IsFile name before now status.AirWrite h = absurd h
-make-status IsFile name before now status.Disk h = absurd h
-make-status IsFile name before now (status.BadStore why) h = absurd h
-make-status IsFile name before now status.Spent h = absurd h
-make-status IsFile name before now status.Out h = absurd h
-make-status IsFile name before now status.NotBuilt h = absurd h
+make-status IsFile name before now s h = absurd h
 
-module _ (spec : MakeValue) (body name : List ℕ) (before now : Option Holding) (s : Status) (ran : MakeRan spec body name before now s) where
-  -- a make ends with no other command's status
-  pub make-not : (other : Status) → is_make_status other ≡ false → s ≡ other → ⊥
-  make-not other isnt is = let yes = make-status _ name before now s ran.ends in let same = ap is_make_status is in absurd (cc)
+body-status : (IsFile : List ℕ → Type 0) (name : List ℕ) (before now : Option Holding) (s : Status) → BodyEnd IsFile name before now s → is_make_status s ≡ true
+body-status IsFile name before now (status.Refused (by.Fault code)) h = refl
+body-status IsFile name before now s h = make-status IsFile name before now s h
 
--- the words ask for this file alone
-pub make-runs :
-    {S : Type 0} (words : List (List ℕ)) (holds : S → Option Holding) (shelf shelf_now : S) (body name : List ℕ) (asked : MakeValue) (s : Status)
-    → IsMake words body name asked → Determined words → MakeRan asked body name (holds shelf) (holds shelf_now) s
-    → RunsMake words holds shelf shelf_now s
-make-runs words holds shelf shelf_now body name asked s is determined ran = λ other another later too.
-    let same = determined.make body other name another asked later is too in
-    let at_body : List ℕ → Type 0 = λ b. MakeRan asked b name (holds shelf) (holds shelf_now) s in
-    let at_name : List ℕ → Type 0 = λ n. MakeRan asked other n (holds shelf) (holds shelf_now) s in
-    let at_asked : MakeValue → Type 0 = λ a. MakeRan a other another (holds shelf) (holds shelf_now) s in
-    subst at_asked same.2 (subst at_name same.1 (subst at_body same.0 ran))
+making-status : (command : MakeCommand) (before now : Option Holding) (s : Status) → MakingRan command before now s → is_make_status s ≡ true
+making-status (Make request) before now s ran = make-status _ request.kept.now before now s ran.ends
+making-status (Body request) before now s ran = body-status _ request.kept.now before now s ran.ends
+
+-- a make ends with no other command's status
+pub make-not : (command : MakeCommand) (before now : Option Holding) (s : Status) → MakingRan command before now s → (other : Status) → is_make_status other ≡ false → s ≡ other → ⊥
+make-not command before now s ran other isnt is = let yes = making-status command before now s ran in let same = ap is_make_status is in absurd (cc)
+
+module _ (words : List (List ℕ)) where
+  pub asks-make : (command : MakeCommand) → AsksMaking words command → AsksMake words
+  asks-make (Make request) is = inl (request.body.now, request.kept.now, make_value request.header, is)
+  asks-make (Body request) is = inr (request.name.now, request.kept.now, is)
+
+  pub may-make : (command : MakeCommand) → AsksMaking words command → MayMake command
+  may-make (Make request) is = is.text.possible
+  may-make (Body request) is = tt
+
+  -- the words ask for this file alone
+  module _ {S : Type 0} (holds : S → Option Holding) (shelf shelf_now : S) (s : Status) (only : OnlyOne words) (determined : Determined words) where
+    pub make-runs : (command : MakeCommand) → AsksMaking words command → MakingRan command (holds shelf) (holds shelf_now) s → RunsMake words holds shelf shelf_now s
+    make-runs (Make request) is ran = λ other another later too.
+        let same = determined.make request.body.now other request.kept.now another (make_value request.header) later is too in
+        let at_body : List ℕ → Type 0 = λ b. MakeRan (make_value request.header) b request.kept.now (holds shelf) (holds shelf_now) s in
+        let at_name : List ℕ → Type 0 = λ n. MakeRan (make_value request.header) other n (holds shelf) (holds shelf_now) s in
+        let at_asked : MakeValue → Type 0 = λ a. MakeRan a other another (holds shelf) (holds shelf_now) s in
+        subst at_asked same.2 (subst at_name same.1 (subst at_body same.0 ran))
+    make-runs (Body request) is ran = λ other another later too. absurd (only.make_body other another request.name.now request.kept.now later too is)
+
+    pub body-runs : (command : MakeCommand) → AsksMaking words command → MakingRan command (holds shelf) (holds shelf_now) s → RunsBody words holds shelf shelf_now s
+    body-runs (Make request) is ran = λ other another too. absurd (only.make_body request.body.now request.kept.now other another (make_value request.header) is too)
+    body-runs (Body request) is ran = λ other another too.
+        let same = determined.body request.name.now other request.kept.now another is too in
+        let at_name : List ℕ → Type 0 = λ n. BodyRan n request.kept.now (holds shelf) (holds shelf_now) s in
+        let at_kept : List ℕ → Type 0 = λ k. BodyRan other k (holds shelf) (holds shelf_now) s in
+        subst at_kept same.1 (subst at_name same.0 ran)

@@ -11,13 +11,14 @@ use Rattle.command_words.specs.declared.request.SessionRequest.{SessionRequest}
 use Rattle.command_words.specs.declared.serve.ServeRequest.{ServeRequest}
 use Rattle.px_base.proofs.Told.{Gains-none}
 use Rattle.command_words.specs.Laws.{OnlyOne}
-use Rattle.command_words.specs.Words.{AsksClient, IsMake, IsServe, IsSession, IsUnbuilt, IsUsage, NamesBuilt}
+use Rattle.command_words.specs.Words.{AsksClient, AsksMake, IsServe, IsSession, IsUnbuilt, IsUsage, NamesBuilt}
 use Rattle.command_words.specs.declared.request.Refusal.{Refusal}
 use Rattle.command_words.specs.declared.request.Refusal.TheVariants as refusal
 use Rattle.header_tool.specs.Made.{MakeValue}
 use Rattle.pacsat_cli.specs.declared.status.Status.{Status}
 use Rattle.pacsat_cli.specs.declared.status.Status.TheVariants as status
 use Rattle.pacsat_cli.specs.declared.files.FileCommand.{FileCommand}
+use Rattle.pacsat_cli.specs.Bodies.{BodyRan, IsOrHindered, body_status}
 use Rattle.pacsat_cli.specs.Clients.{RunsFetch, RunsList, RunsSend}
 use Rattle.pacsat_cli.specs.Files.{FileEnd, FileShown, IsNoSuchBy, IsShownBy, IsTooLongBy}
 use Rattle.pacsat_cli.specs.Making.{IsMakeStatus, MakeRan}
@@ -26,7 +27,7 @@ use Rattle.pacsat_cli.specs.Servers.{RunsServe, WhereServed}
 use Rattle.pacsat_cli.specs.Sessions.{HasDiskCause, HasStoreCause, IsDoneBy, IsSpentBy, RunsSession, WhereHeard}
 use Rattle.pacsat_cli.specs.Status.{line_of}
 use Rattle.pacsat_cli.specs.Stops.{status_of_refusal}
-use Rattle.pacsat_cli.specs.Tasks.{AsksText, RunsFile, RunsMake, WhereHeld}
+use Rattle.pacsat_cli.specs.Tasks.{AsksText, RunsBody, RunsFile, RunsMake, WhereHeld}
 use Rattle.pacsat_cli.proofs.NodeEnds.{Goes, is_early_status, node-complete}
 use Rattle.pacsat_cli.proofs.OneTask.{unbuilt-file, unbuilt-make, usage-file, usage-make}
 
@@ -95,10 +96,10 @@ module _ (words : List (List ℕ)) (only : OnlyOne words) where
   file-memory refusal.NotBuilt h command name is = absurd (unbuilt-file words only h (command, name, is))
   file-memory refusal.OutOfMemory h command name is = refl
 
-  make-memory : (why : Refusal) → MeansOf words why → (body name : List ℕ) (asked : MakeValue) → IsMake words body name asked → status_of_refusal why ≡ status.OutOfMemory
-  make-memory refusal.Usage h body name asked is = absurd (usage-make words only h (body, name, asked, is))
-  make-memory refusal.NotBuilt h body name asked is = absurd (unbuilt-make words only h (body, name, asked, is))
-  make-memory refusal.OutOfMemory h body name asked is = refl
+  make-memory : (why : Refusal) → MeansOf words why → AsksMake words → status_of_refusal why ≡ status.OutOfMemory
+  make-memory refusal.Usage h make = absurd (usage-make words only h make)
+  make-memory refusal.NotBuilt h make = absurd (unbuilt-make words only h make)
+  make-memory refusal.OutOfMemory h make = refl
 
   client-memory : (why : Refusal) → MeansOf words why → AsksClient words → status_of_refusal why ≡ status.OutOfMemory
   client-memory refusal.Usage h client = absurd (only.usage_client h client)
@@ -200,5 +201,14 @@ module _ (words : List (List ℕ)) (only : OnlyOne words) where
     pub refused-made : {S : Type 0} (holds : S → Option Holding) (shelf : S) → RunsMake words holds shelf shelf (status_of_refusal why)
     refused-made holds shelf = λ body name asked is.
         let at_status : Status → Type 0 = λ s. MakeRan asked body name (holds shelf) (holds shelf) s in
-        subst at_status (sym (make-memory why h body name asked is))
+        subst at_status (sym (make-memory why h (inl (body, name, asked, is))))
         (record { ends = refl; told = memory_status asked body (holds shelf) })
+
+    memory_body : (name : List ℕ) (held : Option Holding) → IfSome held (λ shelf. IsOrHindered (body_status (content_of shelf name)) status.OutOfMemory)
+    memory_body name None = tt
+    memory_body name (Some shelf) = inr (1, omega arith, refl)
+
+    pub refused-body : {S : Type 0} (holds : S → Option Holding) (shelf : S) → RunsBody words holds shelf shelf (status_of_refusal why)
+    refused-body holds shelf = λ name kept is.
+        let at_status : Status → Type 0 = λ s. BodyRan name kept (holds shelf) (holds shelf) s in
+        subst at_status (sym (make-memory why h (inr (name, kept, is)))) (record { ends = refl; told = memory_body name (holds shelf) })

@@ -1,14 +1,18 @@
 -- What the words ask a run to do, and what a run did of it.
-use Rattle.std.specs.Prelude.{◌≡◌, ◌⊎◌, ℕ, List, Option, Some}
+use Rattle.std.specs.Prelude.{◌≡◌, ◌⊎◌, ℕ, List, Option, Some, None}
 use Rattle.px_base.specs.Shelves.{Holding, content_of}
 use Rattle.command_words.specs.Asked.{AsksClientFor}
-use Rattle.command_words.specs.Words.{AsksClient, AsksFetch, IsCheck, IsFrames, IsMake, IsServe, IsSession, IsShow}
-use Rattle.header_tool.specs.Made.{MakeValue, make_value}
+use Rattle.command_words.specs.Words.{AsksClient, AsksFetch, AsksMake, IsBody, IsMake, IsServe, IsSession}
+use Rattle.command_words.specs.Words.{IsCheck, IsFrames, IsShow}
+use Rattle.header_tool.specs.Made.{MakeValue, make_value, spec_refusal}
 use Rattle.pacsat_cli.specs.declared.files.FileCommand.{FileCommand}
 use Rattle.pacsat_cli.specs.declared.files.FileCommand.TheVariants as command
+use Rattle.pacsat_cli.specs.declared.making.MakeCommand.{MakeCommand}
+use Rattle.pacsat_cli.specs.declared.making.MakeCommand.TheVariants as making
 use Rattle.pacsat_cli.specs.declared.status.Status.{Status}
 use Rattle.pacsat_cli.specs.declared.task.Task.{Task}
 use Rattle.pacsat_cli.specs.declared.task.Task.TheVariants.{Session, Serve, File, Make, Client}
+use Rattle.pacsat_cli.specs.Bodies.{BodyRan}
 use Rattle.pacsat_cli.specs.Files.{FileRan}
 use Rattle.pacsat_cli.specs.Making.{MakeRan}
 
@@ -22,16 +26,28 @@ AsksText words command.Check name = IsCheck words name
 abbrev pub AsksFile : List (List ℕ) → Type 0
 AsksFile words = (command : FileCommand) × (name : List ℕ) × AsksText words command name
 
--- the words ask for a file that is made of BODY and a header, and kept under a name
-abbrev pub AsksMake : List (List ℕ) → Type 0
-AsksMake words = (body name : List ℕ) × (spec : MakeValue) × IsMake words body name spec
+-- the words ask for a file that is made so
+abbrev pub AsksMaking : List (List ℕ) → MakeCommand → Type 0
+AsksMaking words (making.Make request) = IsMake words request.body.now request.kept.now (make_value request.header)
+AsksMaking words (making.Body request) = IsBody words request.name.now request.kept.now
+
+-- such a file may be made: its header isn't refused
+abbrev pub MayMake : MakeCommand → Type 0
+MayMake (making.Make request) = spec_refusal (make_value request.header) ≡ None
+MayMake (making.Body request) = Unit
+
+-- such a file was made and kept, or was not, and this is the status
+abbrev pub MakingRan : MakeCommand → Option Holding → Option Holding → Status → Type 0
+MakingRan (making.Make request) before now status =
+    MakeRan (make_value request.header) request.body.now request.kept.now before now status
+MakingRan (making.Body request) before now status = BodyRan request.name.now request.kept.now before now status
 
 -- the words ask for this
 abbrev pub AsksTask : List (List ℕ) → Task → Type 0
 AsksTask words (Session request) = IsSession words request
 AsksTask words (Serve request) = IsServe words request
 AsksTask words (File command name) = AsksText words command name.now
-AsksTask words (Make request) = IsMake words request.body.now request.kept.now (make_value request.header)
+AsksTask words (Make command) = AsksMaking words command
 AsksTask words (Client request) = AsksClientFor words request.now
 
 -- the words ask for a file that is kept on the shelf: one that is made, or one that is fetched
@@ -59,3 +75,8 @@ abbrev pub RunsMake : {S : Type 0} → List (List ℕ) → (S → Option Holding
 RunsMake words held before now status =
     (body name : List ℕ) (spec : MakeValue) → IsMake words body name spec
     → MakeRan spec body name (held before) (held now) status
+
+-- where they ask for the body of a file, it is kept so
+abbrev pub RunsBody : {S : Type 0} → List (List ℕ) → (S → Option Holding) → S → S → Status → Type 0
+RunsBody words held before now status =
+    (name kept : List ℕ) → IsBody words name kept → BodyRan name kept (held before) (held now) status

@@ -1,19 +1,48 @@
-//! The command `pfh-make`.
+//! The commands that keep a file on the shelf which is made of another one: `pfh-make` and `pfh-body`.
 
 ghost use Rattle.std.specs.Prelude.{◌≡◌, None};
 ghost use Rattle.header_tool.specs.Made.{make_value, spec_refusal};
-ghost use Rattle.pacsat_cli.specs.Making.{OctetsMade, FileKept, MakeRan};
+ghost use Rattle.pacsat_cli.specs.Bodies.{BodyRan, OctetsBody};
+ghost use Rattle.pacsat_cli.specs.Making.{FileKept, MakeRan, OctetsMade};
 ghost use Rattle.pacsat_cli.specs.Run.{HasStatusCause};
+ghost use Rattle.pacsat_cli.specs.Tasks.{MakingRan, MayMake};
 
-use crate::Status;
 use crate::files::MOST_OCTETS;
 use crate::status::status_of_load;
-use header_tool::{MakeRefusal, MakeSpec, make};
+use crate::{RefusedBy, Status};
+use command_words::{BodyRequest, MakeRequest};
+use header_tool::{MakeRefusal, MakeSpec, body_of, make};
 use px_base::Shelf;
 use std::alloc::Global;
 
+/// A command that keeps a file which is made of another one.
+#[derive(Clone, Copy)]
+pub(crate) enum MakeCommand<'a> {
+    /// `pfh-make`: a file of a body and a header.
+    Make(MakeRequest<'a>),
+    /// `pfh-body`: the body of a file.
+    Body(BodyRequest<'a>),
+}
+
+/// Makes the command's file, and keeps it. Takes memory for the one that it is made of, and `pfh-make` for the one that
+/// is made.
+pub(crate) fn run_making<S: Shelf>(
+    alloc: Global,
+    command: &MakeCommand<'_>,
+    shelf: &mut S,
+) -> Status
+    requires { MayMake command.now }
+    ensures made { MakingRan command.now (S.held shelf.old) (S.held shelf.new) result }
+    ensures shelf { HasStatusCause Status.Shelf (S.faults shelf.old) (S.faults shelf.new) result }
+{
+    match command {
+        MakeCommand::Make(make) => run_make(alloc, &make.header, make.body, make.kept, shelf),
+        MakeCommand::Body(body) => run_body(alloc, body.name, body.kept, shelf),
+    }
+}
+
 /// Makes a file of the body that the shelf has under one name, and keeps it under the other. Takes memory for both.
-pub(crate) fn run_make<S: Shelf>(
+fn run_make<S: Shelf>(
     alloc: Global,
     spec: &MakeSpec<'_>,
     body: &str,
@@ -47,6 +76,28 @@ fn make_of<S: Shelf>(
         Err(MakeRefusal::TooLong { .. }) => Status::TooLong,
         Err(MakeRefusal::OutOfMemory) => Status::OutOfMemory,
         Err(_) => unreachable!(),
+    }
+}
+
+/// Keeps the body of the file that the shelf has under one name under the other. Takes memory for the file.
+fn run_body<S: Shelf>(alloc: Global, name: &str, kept: &str, shelf: &mut S) -> Status
+    ensures body { BodyRan name.now kept.now (S.held shelf.old) (S.held shelf.new) result }
+    ensures shelf { HasStatusCause Status.Shelf (S.faults shelf.old) (S.faults shelf.new) result }
+{
+    match shelf.load(alloc, name, MOST_OCTETS) {
+        Ok(file) => keep_body(file.as_slice(), kept, shelf),
+        Err(refusal) => status_of_load(refusal),
+    }
+}
+
+/// Keeps the body of this file under this name, or refuses the file by its first fault.
+fn keep_body<S: Shelf>(file: &[u8], name: &str, shelf: &mut S) -> Status
+    ensures body { OctetsBody file.now name.now (S.held shelf.old) (S.held shelf.new) result }
+    ensures shelf { HasStatusCause Status.Shelf (S.faults shelf.old) (S.faults shelf.new) result }
+{
+    match body_of(file) {
+        Ok(body) => keep(name, body, shelf),
+        Err(fault) => Status::Refused(RefusedBy::Fault { code: fault.code }),
     }
 }
 

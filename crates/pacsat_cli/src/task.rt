@@ -5,9 +5,9 @@ ghost use Rattle.command_words.specs.Asked.{AsksFor};
 ghost use Rattle.pacsat_cli.specs.Tasks.{AsksTask};
 
 use crate::files::FileCommand;
+use crate::making::MakeCommand;
 use command_words::{
-    ClientRequest, FetchRequest, ListRequest, MakeRequest, Request, SendRequest, ServeRequest,
-    SessionRequest,
+    ClientRequest, FetchRequest, ListRequest, Request, SendRequest, ServeRequest, SessionRequest,
 };
 
 /// What a run does, by what the words ask for.
@@ -24,8 +24,8 @@ pub(crate) enum Task<'a> {
         /// The file's name.
         name: &'a str,
     },
-    /// Makes a file, and keeps it on the shelf.
-    Make(MakeRequest<'a>),
+    /// Makes a file of another one, and keeps it on the shelf.
+    Make(MakeCommand<'a>),
     /// Carries out a client's command.
     Client(&'a ClientRequest<'a>),
 }
@@ -49,7 +49,8 @@ pub(crate) fn task_of<'a>(request: &'a Request<'a>) -> Task<'a>
             command: FileCommand::Check,
             name: *name,
         },
-        Request::PfhMake(make) => Task::Make(*make),
+        Request::PfhMake(make) => Task::Make(MakeCommand::Make(*make)),
+        Request::PfhBody(body) => Task::Make(MakeCommand::Body(*body)),
         Request::Client(client) => Task::Client(client),
     }
 }

@@ -2,7 +2,7 @@
 
 ghost use Rattle.std.specs.Prelude.{◌≡◌, ◌≤◌, [], ◌∷◌};
 ghost use Rattle.command_words.specs.Laws.{AsksServe, AsksSession};
-ghost use Rattle.command_words.specs.Words.{AsksClient, AsksList, IsUnbuilt, IsUsage, NamesBuilt};
+ghost use Rattle.command_words.specs.Words.{AsksClient, AsksList, AsksMake, IsUnbuilt, IsUsage, NamesBuilt};
 ghost use Rattle.ftl0_session.specs.Laws.{AcknowledgedStandsLaw};
 ghost use Rattle.px_base.specs.Outside.{Rose};
 ghost use Rattle.session_node.specs.Laws.{AcknowledgedSinceLaw};
@@ -18,11 +18,11 @@ ghost use Rattle.pacsat_cli.specs.Sessions.{HasWriteCause};
 ghost use Rattle.pacsat_cli.specs.Sessions.{IsDoneAtEnd, IsDoneBy, IsSpentBy, RunsSession, WhereHeard};
 ghost use Rattle.pacsat_cli.specs.Status.{line_of};
 ghost use Rattle.pacsat_cli.specs.Stops.{status_of_refusal};
-ghost use Rattle.pacsat_cli.specs.Tasks.{AsksFile, AsksKept, AsksMake, AsksShown, RunsFile, RunsMake, WhereHeld};
+ghost use Rattle.pacsat_cli.specs.Tasks.{AsksFile, AsksKept, AsksShown, RunsBody, RunsFile, RunsMake, WhereHeld};
 
 use crate::clients::run_client;
 use crate::files::run_file;
-use crate::making::run_make;
+use crate::making::run_making;
 use crate::serving::{run_serve, run_session};
 use crate::task::{Task, task_of};
 use crate::{Status, Words};
@@ -41,8 +41,9 @@ use std::alloc::Global;
 /// These commands are built: `serve`, the server of up to eight sessions on the air, with a store on the disk; `session`,
 /// one session over FTL0 octets without a link, with a store on the disk, or, where DISK is `none`, on a fresh one in
 /// memory; `send`, `fetch` and `list`, the commands of a client of a server on the air, with its notes on the disk; `frames`,
-/// `pfh-show` and `pfh-check`, which show a text of a file on the shelf; and `pfh-make`, which makes a file of one on the
-/// shelf and keeps it there. A place for a bench after the clock comes with the command that uses it. Takes memory.
+/// `pfh-show` and `pfh-check`, which show a text of a file on the shelf; and `pfh-make` and `pfh-body`, which make a
+/// file of one on the shelf, with a header or without it, and keep it there. A place for a bench after the clock comes
+/// with the command that uses it. Takes memory.
 pub fn run<D: Disk, A: Air, S: Shelf, O: Out, C: Clock>(
     alloc: Global,
     words: &Words,
@@ -133,9 +134,11 @@ pub fn run<D: Disk, A: Air, S: Shelf, O: Out, C: Clock>(
     ensures too_long { WhereHeld words.now (S.held shelf.old) (IsTooLongBy result) }
     ensures files_done { WhereHeld words.now (S.held shelf.old) (IsShownBy result) }
 
-    // `pfh-make` keeps the file that is made of BODY's content and the words, and leaves all else on the shelf as it was,
-    // or ends with a status that has its cause; neither air nor clock is touched.
+    // `pfh-make` keeps the file that is made of BODY's content and the words, `pfh-body` the body of NAME's content.
+    // Each leaves all else on the shelf as it was, or ends with a status that has its cause; it touches neither air nor
+    // clock.
     ensures made { RunsMake words.now S.held shelf.old shelf.new result }
+    ensures body { RunsBody words.now S.held shelf.old shelf.new result }
     ensures made_alone { AsksMake words.now → (air.new ≡ air.old) × (clock.new ≡ clock.old) }
 
     // A fault is answered only where its count rose; and where it isn't answered, its count stayed, but for the
@@ -194,8 +197,8 @@ pub fn run<D: Disk, A: Air, S: Shelf, O: Out, C: Clock>(
             show_line(status, out);
             status
         }
-        Task::Make(request) => {
-            let status = run_make(alloc, &request.header, request.body, request.kept, shelf);
+        Task::Make(command) => {
+            let status = run_making(alloc, &command, shelf);
             show_line(status, out);
             status
         }

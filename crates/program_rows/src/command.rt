@@ -1,6 +1,6 @@
-//! Rows of the program's words over a fresh disk in memory: each has the words, the shelf's one name and content, the
-//! numbers of the calls of the shelf and of the output that fail, and the clock's moments, parted by `;`. For each row
-//! the status's number, the octets said and the lines shown are printed, and what the shelf then has under the name
+//! Rows of the program's words over a fresh disk in memory: each has the words, the shelf's names with their contents,
+//! the numbers of the calls of the shelf and of the output that fail, and the clock's moments, parted by `;`. For each
+//! row the status's number, the octets said and the lines shown are printed, and what the shelf then has under the name
 //! `kept`, if it has that.
 
 ghost use Rattle.std.specs.Prelude.{◌≤◌, length, IfOk};
@@ -70,20 +70,27 @@ fn kept_text(alloc: Global, shelf: &MemoryShelf) -> Result<String> {
     Ok(format!(in alloc; ";{octets}")?)
 }
 
-/// A shelf whose calls with these numbers fail. It has nothing, or one name with its content, which is given in
-/// hexadecimal, or as one octet, `*` and how often it stands; `keep` is its first call.
+/// A shelf whose calls with these numbers fail. It has nothing, or names with their contents, parted by `,`; its first
+/// calls are a `keep` of each.
 fn read_shelf(alloc: Global, text: &str, failing: &[u64]) -> Result<MemoryShelf> {
     let mut shelf = MemoryShelf::new(alloc, failing)?;
     if text.is_empty() {
         return Ok(shelf);
     }
-    let (name, content) = text.split_once(' ').context("no content")?;
-    let octets = match content.split_once('*') {
-        Some((octet, count)) => repeated(alloc, octet, count.parse::<usize>()?)?,
-        None => hex::decode(alloc, content)?,
-    };
-    shelf.keep(written(name), octets.as_slice())?;
+    for named in text.split(',') {
+        let (name, content) = named.split_once(' ').context("no content")?;
+        let octets = read_content(alloc, content)?;
+        shelf.keep(written(name), octets.as_slice())?;
+    }
     Ok(shelf)
+}
+
+/// A content, which is given in hexadecimal, or as one octet, `*` and how often it stands.
+fn read_content(alloc: Global, content: &str) -> Result<Vec<u8>> {
+    match content.split_once('*') {
+        Some((octet, count)) => repeated(alloc, octet, count.parse::<usize>()?),
+        None => Ok(hex::decode(alloc, content)?),
+    }
 }
 
 /// So many octets, each the one that is given in hexadecimal.

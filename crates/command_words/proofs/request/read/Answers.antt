@@ -10,7 +10,7 @@ use Rattle.command_words.specs.Words.{built_commands}
 use Rattle.command_words.specs.declared.command.NameCommand.{NameCommand}
 use Rattle.command_words.specs.declared.command.NameCommand.TheVariants.{Frames, PfhCheck, PfhShow}
 use Rattle.command_words.proofs.Uses.{Text}
-use Rattle.command_words.proofs.Meanings.{client_usage, make_usage, name_usage, no_command_usage, serve_usage, session_usage, three_words}
+use Rattle.command_words.proofs.Meanings.{body_usage, client_usage, make_usage, name_usage, no_command_usage, serve_usage, session_usage, three_words}
 use Rattle.command_words.proofs.request.read.Goals as goal
 
 -- ---- a session
@@ -108,6 +108,23 @@ returns-in-Some-PfhMake c = record {
   usage = λ usage. make_usage (make_words c) (c.make_request.ensures.usage usage (string_bytes c.disk-item.result));
   unbuilt = λ unbuilt. absurd (c.make_request.ensures.built unbuilt);
   memory = λ _. (_, _, _, _, make_words c, (8, lit< tt, refl));
+}
+
+-- ---- `pfh-body`
+
+body_words : (c : goal.After-body_request)
+    → c.args.words.now ≡ string_bytes c.disk-item.result ∷ c.as_str-in-Some-PfhBody.result.now ∷ codes "pfh-body" ∷ drop 1 (map string_bytes (take (length c.as_slice-texts.result.now - 2) (drop 2 c.as_slice-texts.result.now)))
+body_words c =
+    sym c.as_slice-texts.ensures ∙ three_words c.as_slice-texts.result.now c.disk-item.result c.air-item.result c.command-item.result _ _ _ c.in-len3-up.len_at_least c.disk-item.is c.air-item.is c.command-item.is
+    refl c.as_str-in-Some-PfhBody.ensures.value (sym (rw c.in-Some-PfhBody.field-0-is at c.in-Some-PfhBody.ensures.some) ∙ c.as_str.ensures.value)
+
+pub returns-in-Some-PfhBody : goal.returns-in-Some-PfhBody
+returns-in-Some-PfhBody c = record {
+  asks = subst (λ (ws : List Text). IfOk c.body_request.result (AsksFor ws)) (sym (body_words c))
+      (IfOk-weaker c.body_request.result _ _ (λ request asks. asks (string_bytes c.disk-item.result)) c.body_request.ensures.asks);
+  usage = λ usage. body_usage (body_words c) (c.body_request.ensures.usage usage (string_bytes c.disk-item.result));
+  unbuilt = λ unbuilt. absurd (c.body_request.ensures.built unbuilt);
+  memory = λ _. (_, _, _, _, body_words c, (9, lit< tt, refl));
 }
 
 -- ---- what isn't built, and what is no command

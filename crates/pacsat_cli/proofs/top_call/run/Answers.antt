@@ -1,21 +1,20 @@
 -- Each task by what it did, and refused words by why they were.
 use Rattle.std.proofs.Common.{◌≡◌, ℕ, List, refl, ap, sym, arith, inl, inr, Err}
 use Rattle.command_words.specs.Laws.{AsksServe, AsksSession}
-use Rattle.command_words.specs.Words.{AsksClient}
-use Rattle.header_tool.specs.Made.{make_value}
+use Rattle.command_words.specs.Words.{AsksClient, AsksMake}
 use Rattle.pacsat_cli.specs.declared.files.FileCommand.{FileCommand}
 use Rattle.pacsat_cli.specs.declared.status.Status.TheVariants as status
 use Rattle.pacsat_cli.specs.Status.{line_of}
 use Rattle.pacsat_cli.specs.Stops.{status_of_refusal}
-use Rattle.pacsat_cli.specs.Tasks.{AsksFile, AsksMake, AsksText}
+use Rattle.pacsat_cli.specs.Tasks.{AsksFile, AsksText}
 use Rattle.uploader.specs.Carried.{setting}
 use Rattle.pacsat_cli.proofs.ExactCarried.{fetch-exactly, list-exactly}
 use Rattle.pacsat_cli.proofs.ExactSend.{send-exactly, send-refuses, send-starts}
 use Rattle.pacsat_cli.proofs.OneTask.{file-client, file-make, make-client, node-client, refused-client, node-file, node-make, one-text, serve-file, serve-make, session-file, session-make, unbuilt-file, unbuilt-make, usage-file, usage-make}
 use Rattle.pacsat_cli.proofs.RunClient.{asks-client, client-alone, client-did, client-done, client-fetches, client-held, client-lists, client-not, client-rose, client-sends, client-store, may-run}
 use Rattle.pacsat_cli.proofs.RunFile.{file-done, file-no_such, file-not, file-rose, file-runs, file-shown, file-too_long}
-use Rattle.pacsat_cli.proofs.RunMake.{make-not, make-runs}
-use Rattle.pacsat_cli.proofs.RunRefused.{means, refused-bad_store, refused-complete, refused-disk, refused-fetch, refused-files, refused-list, refused-made, refused-no_such, refused-not, refused-send, refused-serve, refused-serve_complete, refused-serve_spent, refused-session, refused-shown, refused-spent, refused-too_long, refused-unbuilt, refused-unbuilt_told, refused-unread, refused-usage, refused-usage_told}
+use Rattle.pacsat_cli.proofs.RunMake.{asks-make, body-runs, make-not, make-runs, may-make}
+use Rattle.pacsat_cli.proofs.RunRefused.{means, refused-bad_store, refused-body, refused-complete, refused-disk, refused-fetch, refused-files, refused-list, refused-made, refused-no_such, refused-not, refused-send, refused-serve, refused-serve_complete, refused-serve_spent, refused-session, refused-shown, refused-spent, refused-too_long, refused-unbuilt, refused-unbuilt_told, refused-unread, refused-usage, refused-usage_told}
 use Rattle.pacsat_cli.proofs.RunServe.{serve-bad_store, serve-complete, serve-disk, serve-done, serve-not, serve-read, serve-runs, serve-spent, serve-write}
 use Rattle.pacsat_cli.proofs.RunSession.{asked_moment, most_blocks, session-alone, session-bad_store, session-complete, session-disk, session-done, session-not, session-read, session-runs, session-spent, session-write, some_blocks}
 use Rattle.pacsat_cli.proofs.top_call.run.Goals as goal
@@ -68,6 +67,7 @@ returns-in-Err g c =
       too_long = refused-too_long words only why h held;
       files_done = refused-shown words only why h held;
       made = refused-made words only why h g.S.Shelf.held c.args.shelf.now;
+      body = refused-body words only why h g.S.Shelf.held c.args.shelf.now;
       made_alone = λ _. (refl, refl);
       air_read = record { rose = λ e. absurd (refused-not why status.AirRead refl e); same = λ _ _. refl };
       air_write = record { rose = λ e. absurd (refused-not why status.AirWrite refl e); same = λ _ _ _ _. refl };
@@ -133,7 +133,8 @@ returns-in-Session g c =
       no_such = λ command name shelf is. absurd (session-file words only session (command, name, is));
       too_long = λ command name shelf is. absurd (session-file words only session (command, name, is));
       files_done = λ command name shelf is. absurd (session-file words only session (command, name, is));
-      made = λ body name spec is. absurd (session-make words only session (body, name, spec, is));
+      made = λ body name spec is. absurd (session-make words only session (inl (body, name, spec, is)));
+      body = λ name kept is. absurd (session-make words only session (inr (name, kept, is)));
       made_alone = λ make. absurd (session-make words only session make);
       air_read = session-read g.D.Disk g.A.Air g.C.Clock.given c.args.disk.now ran.new.disk c.args.air.now ran.new.air c.args.clock.now ran.new.clock asked ran.result words asks only determined over;
       air_write = session-write g.D.Disk g.A.Air g.C.Clock.given c.args.disk.now ran.new.disk c.args.air.now ran.new.air c.args.clock.now ran.new.clock asked ran.result words asks only determined over;
@@ -198,7 +199,8 @@ returns-in-Serve g c =
       no_such = λ command name shelf is. absurd (serve-file words only serve (command, name, is));
       too_long = λ command name shelf is. absurd (serve-file words only serve (command, name, is));
       files_done = λ command name shelf is. absurd (serve-file words only serve (command, name, is));
-      made = λ body name spec is. absurd (serve-make words only serve (body, name, spec, is));
+      made = λ body name spec is. absurd (serve-make words only serve (inl (body, name, spec, is)));
+      body = λ name kept is. absurd (serve-make words only serve (inr (name, kept, is)));
       made_alone = λ make. absurd (serve-make words only serve make);
       air_read = serve-read g.D.Disk g.A.Air g.C.Clock.given c.args.disk.now ran.new.disk c.args.air.now ran.new.air c.args.clock.now ran.new.clock asked ran.result words asks only determined over;
       air_write = serve-write g.D.Disk g.A.Air g.C.Clock.given c.args.disk.now ran.new.disk c.args.air.now ran.new.air c.args.clock.now ran.new.clock asked ran.result words asks only determined over;
@@ -261,7 +263,8 @@ returns-in-File g c =
       no_such = file-no_such g.O.Out.shown g.O.Out.faults command held name c.args.out.now ran.new.out ran.result ran.ensures.shown words one;
       too_long = file-too_long g.O.Out.shown g.O.Out.faults command held name c.args.out.now ran.new.out ran.result ran.ensures.shown words one;
       files_done = file-shown g.O.Out.shown g.O.Out.faults command held name c.args.out.now ran.new.out ran.result ran.ensures.shown words one;
-      made = λ body kept asked is. absurd (file-make words only file (body, kept, asked, is));
+      made = λ body kept asked is. absurd (file-make words only file (inl (body, kept, asked, is)));
+      body = λ name kept is. absurd (file-make words only file (inr (name, kept, is)));
       made_alone = λ make. absurd (file-make words only file make);
       air_read = record { rose = λ e. absurd (isnt status.AirRead refl e); same = λ _ _. refl };
       air_write = record { rose = λ e. absurd (isnt status.AirWrite refl e); same = λ _ _ _ _. refl };
@@ -283,26 +286,21 @@ returns-in-File g c =
       shown = λ others. absurd (others (inl file));
     }
 
-pub run_make-status-requires : goal.run_make-status-requires
-run_make-status-requires g c =
-    let asks = c.in-Make.ensures c.args.words.now c.in-Ok.ensures.asks in
-    asks.text.possible
+pub run_making-status-requires : goal.run_making-status-requires
+run_making-status-requires g c = may-make c.args.words.now c.in-Make.command (c.in-Make.ensures c.args.words.now c.in-Ok.ensures.asks)
 
 pub returns-in-Make : goal.returns-in-Make
 returns-in-Make g c =
-    let request = c.in-Make.request in
-    let body = request.body.now in
-    let kept = request.kept.now in
-    let asked = make_value request.header in
+    let command = c.in-Make.command in
     let words = c.args.words.now in
     let asks = c.in-Make.ensures words c.in-Ok.ensures.asks in
     let only = c.one_meaning.ensures.only_one words in
     let determined = c.one_meaning.ensures.determined words in
-    let make : AsksMake words = (body, kept, asked, asks) in
-    let ran = c.run_make-status in
+    let make : AsksMake words = asks-make words command asks in
+    let ran = c.run_making-status in
     let made = ran.ensures.made in
     let line = c.show_line-in-Make.ensures in
-    let isnt = make-not asked body kept (g.S.Shelf.held c.args.shelf.now) (g.S.Shelf.held ran.new.shelf) ran.result made in
+    let isnt = make-not command (g.S.Shelf.held c.args.shelf.now) (g.S.Shelf.held ran.new.shelf) ran.result made in
     record {
       usage = λ e. absurd (isnt status.Usage refl e);
       usage_told = λ usage. absurd (usage-make words only usage make);
@@ -337,7 +335,8 @@ returns-in-Make g c =
       no_such = λ command name shelf is. absurd (file-make words only (command, name, is) make);
       too_long = λ command name shelf is. absurd (file-make words only (command, name, is) make);
       files_done = λ command name shelf is. absurd (file-make words only (command, name, is) make);
-      made = make-runs words g.S.Shelf.held c.args.shelf.now ran.new.shelf body kept asked ran.result asks determined made;
+      made = make-runs words g.S.Shelf.held c.args.shelf.now ran.new.shelf ran.result only determined command asks made;
+      body = body-runs words g.S.Shelf.held c.args.shelf.now ran.new.shelf ran.result only determined command asks made;
       made_alone = λ _. (refl, refl);
       air_read = record { rose = λ e. absurd (isnt status.AirRead refl e); same = λ _ _. refl };
       air_write = record { rose = λ e. absurd (isnt status.AirWrite refl e); same = λ _ _ _ _. refl };
@@ -411,7 +410,8 @@ returns-in-Client g c =
       no_such = λ command file shelf is. absurd (file-client words only (command, file, is) client);
       too_long = λ command file shelf is. absurd (file-client words only (command, file, is) client);
       files_done = λ command file shelf is. absurd (file-client words only (command, file, is) client);
-      made = λ body kept spec is. absurd (make-client words only (body, kept, spec, is) client);
+      made = λ body kept spec is. absurd (make-client words only (inl (body, kept, spec, is)) client);
+      body = λ name kept is. absurd (make-client words only (inr (name, kept, is)) client);
       made_alone = λ make. absurd (make-client words only make client);
       air_read = did.read;
       air_write = did.write;

@@ -1,0 +1,135 @@
+"""A disk in memory that may stop, what a crash leaves of it, and a journal on it (docs/FORMATS.md, "The journal")."""
+
+import struct
+
+from journal import FIRST_GATE, header, walk
+
+WIDTH = 2**64
+
+
+class Stopped(Exception):
+    """The disk failed a call."""
+
+
+class Disk:
+    """A disk of these octets, which passes so many calls of write and sync, or all of them. The first write that fails leaves
+    its range open."""
+
+    def __init__(self, octets, passes=None):
+        self.octets, self.synced, self.since, self.passes, self.torn = octets, octets, [], passes, False
+
+    def counted(self):
+        """Counts a call of write or sync, and tells whether it passes."""
+        if self.passes is None:
+            return True
+        self.passes -= 1
+        return self.passes >= 0
+
+    def write(self, at, octets):
+        if not self.counted():
+            if not self.torn:
+                self.since.append((at, len(octets), None))
+                self.torn = True
+            raise Stopped()
+        self.since.append((at, len(octets), octets))
+        self.octets = self.octets.ljust(at, b"\0")
+        self.octets = self.octets[:at] + octets + self.octets[at + len(octets) :]
+
+    def sync(self):
+        if not self.counted():
+            raise Stopped()
+        self.synced, self.since = self.octets, []
+
+    def write_synced(self, at, octets):
+        self.write(at, octets)
+        self.sync()
+
+    def crashed(self, pick):
+        """The octets that a crash leaves, as the number picks them."""
+        if pick % 4 == 1:
+            return self.octets
+        if pick % 4 == 0:
+            return self.synced
+        draws = draw(pick)
+        greatest = max([len(self.synced)] + [at + count for at, count, _ in self.since])
+        fills = pick // 4 % 256 if pick % 4 == 2 else None
+
+        def octet(old, new):
+            if fills is not None:
+                return fills
+            which = next(draws) % 4
+            return old if which == 0 else new if which == 1 else next(draws) % 256
+
+        least = len(self.synced)
+        length = greatest if fills is not None else least + next(draws) % (greatest - least + 1)
+        image = bytearray(self.synced) + bytes([octet(0, 0)]) * (length - least)
+        for at, count, octets in self.since:
+            for place in range(min(at, length), min(at + count, length)):
+                old = image[place]
+                image[place] = octet(old, old if octets is None else octets[place - at])
+        return bytes(image)
+
+
+def draw(number):
+    """The numbers that SplitMix64 draws."""
+    while True:
+        number = (number + 0x9E3779B97F4A7C15) % WIDTH
+        mixed = (number ^ (number >> 30)) * 0xBF58476D1CE4E5B9 % WIDTH
+        mixed = (mixed ^ (mixed >> 27)) * 0x94D049BB133111EB % WIDTH
+        yield mixed ^ (mixed >> 31)
+
+
+class Journal:
+    """A journal on a disk: recovered, and appended to."""
+
+    def __init__(self, disk, magic, blocks, take):
+        self.disk, self.failed = disk, False
+        disk.sync()
+        octets = disk.octets
+        self.gate = FIRST_GATE
+
+        def taken(kind, content):
+            take(kind, content)
+            self.gate += 4 + len(content)
+
+        walk(octets, magic, taken)
+        if len(octets) <= 16:
+            disk.write_synced(0, header(magic, blocks))
+            self.format_gates()
+        elif len(octets) == 17:
+            if octets[15] % 2 == 1:
+                disk.write_synced(15, b"\0")
+            self.format_gates()
+
+    def format_gates(self):
+        self.disk.write_synced(16, b"\0")
+        self.disk.write_synced(17, b"\0")
+
+    def append(self, record):
+        """Appends a record, and fails from the first fault on."""
+        try:
+            self.disk.write_synced(self.gate + 1, record + b"\0")
+            self.disk.write_synced(self.gate, b"\1")
+        except Stopped:
+            self.failed = True
+            raise
+        self.gate += 1 + len(record)
+
+
+def octets_of(text):
+    """Words of hexadecimal digits; behind `*` how often a word's octets stand; behind `+` how many records like it there are,
+    the first number of each greater by one than that of the one before."""
+    octets = []
+    for word in text.split():
+        if "*" in word:
+            digits, _, count = word.partition("*")
+            octets.append(bytes.fromhex(digits) * int(count))
+        elif "+" in word:
+            digits, _, count = word.partition("+")
+            record = bytes.fromhex(digits)
+            first = struct.unpack("<I", record[4:8])[0]
+            for further in range(int(count)):
+                octets.append(record[:4] + struct.pack("<I", (first + further) % 2**32) + record[8:])
+        else:
+            octets.append(bytes.fromhex(word))
+    return b"".join(octets)

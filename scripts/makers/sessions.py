@@ -1,0 +1,349 @@
+"""The session of one caller, over a store on a disk ("The session of one caller" and "Selections" in docs/FORMATS.md)."""
+
+import struct
+
+from disks import Journal, Stopped
+from journal import call_octets
+from rows import sum16
+from stores import LONGEST, MAGIC, MANDATORY, Store, begin, blocks_of, drop, first_fault, grow, seal
+
+DATA, DATA_END, LOGIN, UPLOAD, UL_GO, UL_ERROR, UL_ACK, UL_NAK, DOWNLOAD, DL_ERROR = range(10)
+DL_ABORTED, DL_COMPLETED, DL_ACK, DL_NAK, DIR_SHORT, DIR_LONG, SELECT, SELECT_RESP = range(10, 18)
+LENGTHS = {DATA_END: 0, LOGIN: 5, UPLOAD: 8, UL_GO: 8, UL_ERROR: 1, UL_ACK: 0, UL_NAK: 1, DOWNLOAD: 9, DL_ERROR: 1}
+LENGTHS.update({DL_ABORTED: 0, DL_COMPLETED: 0, DL_ACK: 0, DL_NAK: 0, DIR_SHORT: 4, DIR_LONG: 4, SELECT_RESP: 2})
+NUMBERS = {0x01, 0x04, 0x05, 0x06, 0x07, 0x08, 0x09, 0x0A, 0x0B, 0x12, 0x13, 0x16, 0x17, 0x18}
+PIECE = 254
+MOST_LISTS = 64
+
+
+class DiskFailed(Exception):
+    """A write or a sync of the store's disk failed."""
+
+
+def packet(kind, information=b""):
+    return bytes([len(information) & 0xFF, len(information) >> 8 << 5 | kind]) + information
+
+
+def error(kind, code):
+    return packet(kind, bytes([code]))
+
+
+# ---- headers
+
+
+def items_of(octets):
+    """The items of a header, and where it ends."""
+    items, at = [], 2
+    while True:
+        number, length = struct.unpack("<HB", octets[at : at + 3])
+        content = octets[at + 3 : at + 3 + length]
+        at += 3 + length
+        if number == 0 and length == 0:
+            return items, at
+        items.append((number, content))
+
+
+def header_of(items):
+    """The octets of a header with these items, and its sum renewed."""
+    text = b"\xaa\x55" + b"".join(struct.pack("<HB", number, len(content)) + content for number, content in items) + b"\0\0\0"
+    cleared = b"\xaa\x55" + b"".join(
+        struct.pack("<HB", number, len(content)) + (b"\0\0" if number == 0x0A else content) for number, content in items
+    )
+    total = struct.pack("<H", sum16(cleared))
+    at = 2
+    for number, content in items:
+        if number == 0x0A:
+            return text[: at + 3] + total + text[at + 5 :]
+        at += 3 + len(content)
+    return text
+
+
+def stamped(octets, number, caller, moment):
+    """The file as a server keeps it."""
+    items, end = items_of(octets)
+    stamps = {(0x01, 4): struct.pack("<I", number), (0x11, 6): caller[:6], (0x12, 4): struct.pack("<I", moment)}
+    return header_of([(key, stamps.get((key, len(content)), content)) for key, content in items]) + octets[end:]
+
+
+def short_form(octets):
+    items = dict(reversed(items_of(octets)[0]))
+    return header_of([(number, items[number]) for number, _ in MANDATORY])
+
+
+# ---- selections
+
+
+def selected(tokens, items):
+    """Whether a selection holds of a header's items, or None where it has a fault."""
+    stack, at, count = [], 0, 0
+    while at < len(tokens):
+        count += 1
+        kind = tokens[at]
+        if count > 64 or kind not in range(0x10, 0x16) and kind not in (0x20, 0x21, 0x22):
+            return None
+        if kind < 0x20:
+            if at + 4 > len(tokens) or at + 4 + tokens[at + 3] > len(tokens):
+                return None
+            number = struct.unpack("<H", tokens[at + 1 : at + 3])[0]
+            constant = tokens[at + 4 : at + 4 + tokens[at + 3]]
+            at += 4 + len(constant)
+            stack.append(any(satisfies(kind, key, content, constant) for key, content in items if key == number))
+            continue
+        at += 1
+        if len(stack) < (1 if kind == 0x22 else 2):
+            return None
+        last = stack.pop()
+        if kind == 0x22:
+            stack.append(not last)
+        else:
+            first = stack.pop()
+            stack.append(first and last if kind == 0x20 else first or last)
+    return stack[0] if len(stack) == 1 else None
+
+
+def satisfies(kind, number, content, constant):
+    if number in NUMBERS:
+        if len(content) != len(constant):
+            return False
+        content, constant = content[::-1], constant[::-1]
+    return {
+        0x10: content == constant,
+        0x11: content != constant,
+        0x12: content < constant,
+        0x13: content <= constant,
+        0x14: content > constant,
+        0x15: content >= constant,
+    }[kind]
+
+
+# ---- the store on a disk
+
+
+class FileStore(Store):
+    """A store whose commands are records of a journal; what came of an upload and isn't held waits in memory."""
+
+    def __init__(self, disk, blocks):
+        self.entries, self.next, self.blocks = {}, 1, blocks
+        if len(disk.octets) > 16:
+            self.blocks = struct.unpack("<I", disk.octets[8:12])[0]
+        self.journal = Journal(disk, MAGIC, blocks, self.take)
+
+    def begun(self, number, rest):
+        super().begun(number, rest)
+        self.entries[number].update(caller=rest[:7], waiting=b"", octets=None)
+
+    def sealed(self, number, rest):
+        super().sealed(number, rest)
+        entry = self.entries[number]
+        entry["octets"] = stamped(entry["held"], number, entry["caller"], struct.unpack("<I", rest)[0])
+
+    def put(self, record):
+        try:
+            self.journal.append(record)
+        except Stopped:
+            raise DiskFailed()
+        self.take(record[0], record[3:])
+
+    def complete(self, number):
+        entry = self.entries.get(number)
+        return entry["octets"] if entry and entry["complete"] else None
+
+    def text(self):
+        """What it holds: the number of the next file, and each entry."""
+        text = "next %d" % self.next
+        for number, entry in sorted(self.entries.items()):
+            call = entry["caller"][:6].decode().rstrip() + ("-%d" % entry["caller"][6] if entry["caller"][6] else "")
+            end = "complete %04x" % sum16(entry["octets"]) if entry["complete"] else "held %d" % len(entry["held"])
+            text += " %d:%s:%d:%s" % (number, call, entry["length"], end)
+        return text
+
+
+# ---- the session
+
+
+class Session:
+    """What a caller's packets give: replies, and then what is due. On a link that is sent as there is room for it, and else
+    said right behind the replies. The selections of all callers stand beside the sessions."""
+
+    def __init__(self, store, caller, lists=None, linked=False):
+        self.store, self.caller, self.state, self.linked = store, call_octets(caller), "Command", linked
+        self.lists = {} if lists is None else lists
+        self.number, self.waiting, self.over, self.due, self.after = None, b"", False, [], None
+
+    @property
+    def selection(self):
+        return self.lists.get(self.caller, [])
+
+    def take_selected(self, count):
+        self.lists[self.caller] = self.selection[count:]
+
+    def set_selection(self, numbers):
+        """Sets the caller's list, which goes last; of more than 64 lists the first one goes."""
+        self.lists.pop(self.caller, None)
+        self.lists[self.caller] = numbers
+        if len(self.lists) > MOST_LISTS:
+            del self.lists[next(iter(self.lists))]
+
+    def login(self, moment):
+        return packet(LOGIN, struct.pack("<IB", moment, 4 | (8 if self.selection else 0)))
+
+    def feed(self, octet):
+        """The kind and the information of the packet that an octet ends, if it ends one."""
+        self.waiting += bytes([octet])
+        if len(self.waiting) < 2:
+            return None
+        length = self.waiting[0] | self.waiting[1] >> 5 << 8
+        if len(self.waiting) < 2 + length:
+            return None
+        whole, self.waiting = self.waiting, b""
+        return whole[1] & 0x1F, whole[2:]
+
+    def take(self, kind, information, moment):
+        """The replies to a packet, and the DATA that are due behind them, and how that ends."""
+        if kind not in LENGTHS and kind not in (DATA, SELECT) or LENGTHS.get(kind, len(information)) != len(information):
+            return self.no_row(kind)
+        try:
+            row = {
+                "Command": self.in_command,
+                "Receiving": self.in_receiving,
+                "Aborting": self.in_aborting,
+                "Sending": self.in_sending,
+                "Listing": self.in_listing,
+                "Waiting": self.in_waiting,
+            }
+            return row[self.state](kind, information, moment)
+        except DiskFailed:
+            code = error(UL_NAK if self.state == "Receiving" else UL_ERROR, 3)
+            self.over = True
+            return [code]
+
+    def no_row(self, kind):
+        return [error(UL_ERROR if kind in (DATA, DATA_END, UPLOAD) else DL_ERROR, 1)]
+
+    def in_command(self, kind, information, moment):
+        if kind == UPLOAD:
+            return [self.upload(*struct.unpack("<II", information), moment)]
+        if kind == DOWNLOAD:
+            return self.download(*struct.unpack("<IIB", information))
+        if kind in (DIR_SHORT, DIR_LONG):
+            return self.directory(kind, *struct.unpack("<I", information))
+        if kind == SELECT:
+            return [self.select(information)]
+        return self.no_row(kind)
+
+    def upload(self, number, length, moment):
+        store = self.store
+        if number == 0:
+            full = len(store.entries) == 1024 or store.next == 2**32 - 1
+            if length > LONGEST or full or blocks_of(length) > store.free():
+                return error(UL_ERROR, 13)
+            number = store.next
+            store.put(begin(number, length, moment=moment, call=self.caller))
+        else:
+            entry = store.entries.get(number)
+            if entry is None:
+                return error(UL_ERROR, 4)
+            if entry["caller"] != self.caller or entry["length"] != length:
+                return error(UL_ERROR, 2)
+            if entry["complete"]:
+                return error(UL_ERROR, 12)
+        self.state, self.number = "Receiving", number
+        return packet(UL_GO, struct.pack("<II", number, len(store.entries[number]["held"])))
+
+    def park(self):
+        if self.state == "Receiving":
+            self.store.entries[self.number]["waiting"] = b""
+
+    def in_receiving(self, kind, information, moment):
+        store, entry = self.store, self.store.entries[self.number]
+        if kind == DATA:
+            if len(entry["held"]) + len(entry["waiting"]) + len(information) > entry["length"]:
+                self.park()
+                self.state = "Aborting"
+                return [error(UL_NAK, 1)]
+            entry["waiting"] += information
+            while len(entry["waiting"]) >= 512:
+                store.put(grow(entry["waiting"][:512], self.number))
+                entry["waiting"] = entry["waiting"][512:]
+            return []
+        if kind != DATA_END:
+            return self.no_row(kind)
+        if len(entry["held"]) + len(entry["waiting"]) < entry["length"]:
+            self.park()
+            self.state = "Command"
+            return [error(UL_NAK, 16)]
+        if entry["waiting"]:
+            store.put(grow(entry["waiting"], self.number))
+            entry["waiting"] = b""
+        code = first_fault(entry["held"])
+        store.put(seal(self.number, moment) if code is None else drop(self.number))
+        self.state = "Command"
+        return [packet(UL_ACK) if code is None else error(UL_NAK, code)]
+
+    def in_aborting(self, kind, information, moment):
+        if kind == DATA_END:
+            self.state = "Command"
+        return [] if kind in (DATA, DATA_END) else self.no_row(kind)
+
+    def in_waiting(self, kind, information, moment):
+        if kind not in (DL_ACK, DL_NAK):
+            return self.no_row(kind)
+        self.state = "Command"
+        return [packet(DL_COMPLETED if kind == DL_ACK else DL_ABORTED)]
+
+    def in_sending(self, kind, information, moment):
+        if kind != DL_NAK:
+            return self.no_row(kind)
+        self.state, self.due = "Command", []
+        return [packet(DL_ABORTED)]
+
+    def in_listing(self, kind, information, moment):
+        return self.no_row(kind)
+
+    def data(self, octets, state, after):
+        """The octets in DATA, and the end of them: said now, or due in this state; the state after them."""
+        pieces = [octets[at : at + PIECE] for at in range(0, len(octets), PIECE)]
+        packets = [packet(DATA, piece) for piece in pieces] + [packet(DATA_END)]
+        self.after = after
+        self.state, self.due = (state, packets) if self.linked else (after, [])
+        return [] if self.linked else packets
+
+    def next_due(self):
+        """The next packet that is due."""
+        first = self.due.pop(0)
+        if not self.due:
+            self.state = self.after
+        return first
+
+    def download(self, number, offset, lock):
+        if lock != 0:
+            return [error(DL_ERROR, 10)]
+        if number == 0 and not self.selection:
+            return [error(DL_ERROR, 11)]
+        octets = self.store.complete(number or self.selection[0])
+        if octets is None:
+            return [error(DL_ERROR, 4)]
+        if offset > len(octets):
+            return [error(DL_ERROR, 2)]
+        if number == 0:
+            self.take_selected(1)
+        return self.data(octets[offset:], "Sending", "Waiting")
+
+    def directory(self, kind, number):
+        if number == 0 and not self.selection:
+            return [error(DL_ERROR, 11)]
+        if number != 0 and self.store.complete(number) is None:
+            return [error(DL_ERROR, 4)]
+        numbers = [number] if number else self.selection[:10]
+        if not number:
+            self.take_selected(10)
+        files = [self.store.complete(each) for each in numbers]
+        headers = [short_form(octets) if kind == DIR_SHORT else octets[: items_of(octets)[1]] for octets in files]
+        return self.data(b"".join(headers), "Listing", "Command")
+
+    def select(self, tokens):
+        if selected(tokens, []) is None:
+            return error(DL_ERROR, 8)
+        numbers = sorted(number for number in self.store.entries if self.store.complete(number) is not None)
+        self.set_selection([number for number in numbers if selected(tokens, items_of(self.store.complete(number))[0])])
+        return packet(SELECT_RESP, struct.pack("<H", len(self.selection)))
