@@ -13,12 +13,12 @@ use Rattle.file_store.specs.State.{standing_of}
 use Rattle.file_store.specs.Working.{CountsSome}
 use Rattle.file_store.specs.declared.refusals.StoreFault.{StoreFault}
 use Rattle.file_store.specs.declared.refusals.StoreFault.TheVariants as fault
-use Rattle.session_node.specs.SessionRan.{SessionEnds, SessionRan}
-use Rattle.session_node.specs.Stops.{HasAirCause, EndsExactly, RefusesSession, stop_of_fault}
-use Rattle.session_node.specs.declared.stop.NodeStop.{NodeStop}
-use Rattle.session_node.specs.declared.stop.NodeStop.TheVariants as stop
-use Rattle.session_node.specs.declared.terms.Served.{Served}
-use Rattle.session_node.specs.declared.terms.SessionTerms.{SessionTerms}
+use Rattle.server_node.specs.Sessions.SessionRan.{SessionEnds, SessionRan}
+use Rattle.server_node.specs.Stops.{HasAirCause, EndsExactly, RefusesSession, stop_of_fault}
+use Rattle.server_node.specs.declared.stop.NodeStop.{NodeStop}
+use Rattle.server_node.specs.declared.stop.NodeStop.TheVariants as stop
+use Rattle.server_node.specs.declared.terms.Served.{Served}
+use Rattle.server_node.specs.declared.terms.SessionTerms.{SessionTerms}
 use Rattle.pacsat_cli.specs.Sessions.{OverMemory}
 use Rattle.pacsat_cli.specs.Stops.{status_in_memory, status_of}
 

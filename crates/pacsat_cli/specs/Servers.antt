@@ -3,12 +3,12 @@ use Rattle.std.specs.Prelude.{◌≡◌, ◌⊎◌, ℕ, List, ◌++◌, Option,
 use Rattle.px_base.specs.declared.air.Air.{Ghosts as AirGhosts}
 use Rattle.px_base.specs.declared.air.Turn.{Turn}
 use Rattle.disk_model.specs.declared.disk.Disk.{Ghosts}
-use Rattle.session_node.specs.OnDisk.{NodeRuns}
-use Rattle.session_node.specs.Stops.{HasAirCause, RefusesSession}
-use Rattle.session_node.specs.declared.stop.NodeStop.{NodeStop}
-use Rattle.session_node.specs.declared.stop.NodeStop.TheVariants as stop
-use Rattle.session_node.specs.declared.terms.Served.{Served}
-use Rattle.server_node.specs.Served.{ServerEnds}
+use Rattle.server_node.specs.OnDisk.{NodeRuns}
+use Rattle.server_node.specs.Stops.{HasAirCause, RefusesSession}
+use Rattle.server_node.specs.declared.stop.NodeStop.{NodeStop}
+use Rattle.server_node.specs.declared.stop.NodeStop.TheVariants as stop
+use Rattle.server_node.specs.declared.terms.Served.{Served}
+use Rattle.server_node.specs.OnAir.Served.{ServerEnds}
 use Rattle.server_node.specs.declared.terms.ServerTerms.{ServerTerms}
 use Rattle.command_words.specs.declared.serve.ServeRequest.{ServeRequest}
 use Rattle.command_words.specs.Words.{IsServe}

@@ -17,13 +17,13 @@ use Rattle.file_store.specs.Command.{Command}
 use Rattle.file_store.specs.Store.{empty_store}
 use Rattle.file_store.specs.State.{standing_of}
 use Rattle.file_store.specs.Working.{CountsSome}
-use Rattle.session_node.specs.OnDisk.{NodeRuns}
-use Rattle.session_node.specs.SessionRan.{SessionEnds, SessionRan}
-use Rattle.session_node.specs.Stops.{HasAirCause, RefusesSession}
-use Rattle.session_node.specs.declared.stop.NodeStop.{NodeStop}
-use Rattle.session_node.specs.declared.stop.NodeStop.TheVariants as stop
-use Rattle.session_node.specs.declared.terms.Served.{Served}
-use Rattle.session_node.specs.declared.terms.SessionTerms.{SessionTerms}
+use Rattle.server_node.specs.OnDisk.{NodeRuns}
+use Rattle.server_node.specs.Sessions.SessionRan.{SessionEnds, SessionRan}
+use Rattle.server_node.specs.Stops.{HasAirCause, RefusesSession}
+use Rattle.server_node.specs.declared.stop.NodeStop.{NodeStop}
+use Rattle.server_node.specs.declared.stop.NodeStop.TheVariants as stop
+use Rattle.server_node.specs.declared.terms.Served.{Served}
+use Rattle.server_node.specs.declared.terms.SessionTerms.{SessionTerms}
 use Rattle.command_words.specs.declared.disk.DiskWord.{DiskWord}
 use Rattle.command_words.specs.declared.disk.DiskWord.TheVariants.{Fresh, Named}
 use Rattle.command_words.specs.declared.request.SessionRequest.{SessionRequest}

@@ -5,7 +5,7 @@ ghost use Rattle.command_words.specs.Laws.{AsksServe, AsksSession};
 ghost use Rattle.command_words.specs.Words.{AsksClient, AsksList, IsUnbuilt, IsUsage, NamesBuilt};
 ghost use Rattle.ftl0_session.specs.Laws.{AcknowledgedStandsLaw};
 ghost use Rattle.px_base.specs.Outside.{Rose};
-ghost use Rattle.session_node.specs.Laws.{AcknowledgedSinceLaw};
+ghost use Rattle.server_node.specs.Sessions.Laws.{AcknowledgedSinceLaw};
 ghost use Rattle.uploader.specs.Carried.{setting};
 ghost use Rattle.pacsat_cli.specs.Clients.{RunsFetch, RunsList, RunsSend};
 ghost use Rattle.pacsat_cli.specs.Exactly.{FetchEndsExactly, ListEndsExactly, SendEndsExactly, SendRefuses};
@@ -33,7 +33,7 @@ use ftl0_client::laws::{one_step_law, stays_law};
 use ftl0_session::laws::acknowledged_stands_law;
 use node::laws::one_run_law;
 use px_base::{Air, Clock, Out, Shelf};
-use session_node::laws::acknowledged_since_law;
+use server_node::laws::acknowledged_since_law;
 use std::alloc::Global;
 
 /// Does what the words ask for, over this disk, air, shelf, output and clock, and shows the status's line on the output.

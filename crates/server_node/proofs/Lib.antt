@@ -1,6 +1,1 @@
-mod ServesLemmas
-mod StartLemmas
-mod StationLemmas
-mod StepLemmas
-mod StoreLemmas
-mod TurnsLemmas
+mod Standing

@@ -1,4 +1,4 @@
-pub mod Laws
-pub mod Served
-pub mod Serving
-pub mod Station
+pub mod OnAir
+pub mod OnDisk
+pub mod Sessions
+pub mod Stops

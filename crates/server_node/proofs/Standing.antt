@@ -1,0 +1,260 @@
+-- What stands on the disk through a session: from the recovery on, at its end, and of an acknowledged file.
+use Rattle.std.proofs.Common.{◌≡◌, inl, inr, ⊎_elim, ℕ, ◌+◌, ◌*◌, ◌≤◌, Bool, true, false, List, [], ◌∷◌, ◌++◌, length, refl, sym, ◌∙◌, ap, subst, arith, Option, None, Some, IfSome, length-append, ◌⊎◌, append_assoc}
+use Rattle.std.specs.Prelude.{if◌then◌else◌, Result, Ok, Err, IsErrOf}
+use Rattle.std.specs.Option.{option_and_then}
+use Rattle.disk_model.specs.declared.disk.Disk.{Ghosts}
+use Rattle.file_store.specs.Calls.{CountsFault, Leaves, Runs, TellsAlike}
+use Rattle.file_store.specs.Journal.{Standing, journal_of}
+use Rattle.file_store.specs.JournalRecords.{Reading, Record, broken, whole}
+use Rattle.file_store.specs.JournalRecovery.{IsSyncedFirst}
+use Rattle.file_store.specs.Walk.{Stands, damaged_at, on_from, stands_for, stands_of, state, walk, walk_over}
+use Rattle.file_store.proofs.Offered.{alike_on, among-store, at_told, cuts-among-all, if_told, joined, makes-second, stay-on, told_before, told_weaker, weaker}
+use Rattle.file_store.specs.Command.{Command, after, begin, drop_entry, grow, is_allowed, seal, AreAllowed}
+use Rattle.file_store.specs.Records.{command_of, store_after, store_magic, store_step}
+use Rattle.file_store.specs.Store.{Store, empty_store}
+use Rattle.file_store.specs.OnDisk.{MakesFirst, MakesBetween, StayDone}
+use Rattle.file_store.specs.Recovery.{StandsAlike}
+use Rattle.file_store.specs.State.{StandsFor, StoreState, standing_of, store_in}
+use Rattle.file_store.specs.Working.{CountsSome, CutsOffAmongReads, DoesAmongReads, PutsAmongReads}
+use Rattle.server_node.specs.OnDisk.{EachImage, NodeRuns, StandsThrough}
+use Rattle.server_node.specs.Sessions.ServerState.{IsUp}
+use Rattle.ftl0_session.specs.Laws.{AcknowledgedStandsLaw}
+use Rattle.server_node.specs.declared.stop.NodeStop.{NodeStop}
+use Rattle.server_node.specs.declared.terms.Served.{Served}
+use Rattle.server_node.specs.Sessions.Laws.{AcknowledgedSinceLaw}
+use Rattle.file_store.specs.Journal as journal
+use Rattle.server_node.specs.declared.stop.NodeStop.TheVariants as stop
+
+-- ---- a store's own block number
+
+after_blocks : (store : Store) (command : Command) → (after store command).blocks ≡ store.blocks
+after_blocks store (begin number caller file_length moment) = refl
+after_blocks store (grow number octets) = refl
+after_blocks store (seal number moment) = refl
+after_blocks store (drop_entry number) = refl
+
+if_some : (b : Bool) (x y : Store) → (if b then Some x else None) ≡ Some y → y ≡ x
+if_some true x y h = cc h
+if_some false x y h = absurd (cc h)
+
+step_blocks : (store next : Store) (entry : Record) → store_step store entry ≡ Some next → next.blocks ≡ store.blocks
+step_blocks store next entry h = by_command (command_of entry) h
+  where
+    by_command : (o : Option Command) → option_and_then (store_after store) o ≡ Some next → next.blocks ≡ store.blocks
+    by_command None h = absurd (cc h)
+    by_command (Some command) h = ap (λ (s : Store). s.blocks) (if_some (is_allowed store command) (after store command) next h) ∙ after_blocks store command
+
+same_state : (s t : Store) → state t ≡ state s → s.blocks ≡ t.blocks
+same_state s t h = cc h
+
+-- a record that the store allows, and what follows it
+on_blocks : (before s : Store) (e : Record) (place : ℕ) (on : Store → Stands Store) → ((next : Store) → on next ≡ state s → s.blocks ≡ next.blocks) → (o : Option Store)
+    → store_step before e ≡ o → on_from place o on ≡ state s → s.blocks ≡ before.blocks
+on_blocks before s e place on later None is h = absurd (cc h)
+on_blocks before s e place on later (Some next) is h = later next h ∙ step_blocks before next e is
+
+walk_over_blocks : (on : Store → Stands Store) (s : Store) → ((t : Store) → on t ≡ state s → s.blocks ≡ t.blocks) → (before : Store) (place : ℕ) (entries : List Record)
+    → walk_over store_step on before place entries ≡ state s → s.blocks ≡ before.blocks
+walk_over_blocks on s at_end before place [] h = at_end before h
+walk_over_blocks on s at_end before place (e ∷ entries) h =
+    on_blocks before s e place (λ next. walk_over store_step on next (place + 4 + length e.content) entries)
+    (λ next later. walk_over_blocks on s at_end next (place + 4 + length e.content) entries later) (store_step before e) refl h
+
+walk_blocks : (reading : Reading) (before s : Store) (place : ℕ) → walk store_step before place reading ≡ state s → s.blocks ≡ before.blocks
+walk_blocks (whole entries) before s place h = walk_over_blocks (λ next. state next) s (λ t is. same_state s t is) before place entries h
+walk_blocks (broken entries at) before s place h = walk_over_blocks (λ next. damaged_at at) s (λ t is. absurd (cc is)) before place entries h
+
+own_standing : (standing : Standing) (blocks : ℕ) (s : Store) → stands_of empty_store store_step blocks standing ≡ state s → stands_of empty_store store_step s.blocks standing ≡ state s
+own_standing (journal.no_store found) blocks s h = h
+own_standing journal.bad_number blocks s h = h
+own_standing (journal.store (Some number) reading) blocks s h = h
+own_standing (journal.store None reading) blocks s h =
+    let P : ℕ → Type 0 = λ n. walk store_step (empty_store n) 16 reading ≡ state s in
+    subst P (sym (walk_blocks reading (empty_store blocks) s 16 h)) h
+
+-- octets that stand for a store stand for it with its own block number
+pub own_blocks : (blocks : ℕ) (image : List ℕ) (s : Store) → standing_of blocks image ≡ state s → StandsFor image s
+own_blocks blocks image s h = own_standing (journal_of store_magic image) blocks s h
+
+-- each image of a disk on which the store stands stands for it
+pub images_stand : {D : Type 0} (g : Ghosts D) (store : StoreState) (disk : D) → store.journal.magic ≡ store_magic → IsUp g store disk → EachImage g disk (λ image. StandsFor image (store_in store))
+images_stand g store disk magic_is up = told_weaker (g.content disk) _ _ (λ octets told each image here.
+    let at_magic : List ℕ → Type 0 = λ magic. stands_for empty_store store_step magic store.journal.blocks image ≡ state (store_in store) in
+    own_blocks store.journal.blocks image (store_in store) (subst at_magic magic_is (each image here))) (up.stands_on.images up.healthy)
+
+-- what stands for the store stands for it after none of the commands
+makes_none : (start : Store) (commands : List Command) (image : List ℕ) → StandsFor image start → MakesFirst start commands image
+makes_none start commands image h = (0, omega arith, omega arith, h)
+
+-- ---- from the recovery on
+
+module _ {D : Type 0} (g : Ghosts D) (on : (first second third : D) → g.lasts first second → g.lasts second third → g.lasts first third) (failed : Type 0) (blocks : ℕ) (old mid now : D)
+    (start new : StoreState) (done cut : List Command) (missed : ℕ) (alike : TellsAlike (g.content old) (g.content mid))
+    (stood : IfSome (g.content old) (λ before. standing_of blocks before ≡ state (store_in start)))
+    (since_start : Leaves g old mid (StandsAlike blocks)) (since_sync : IfSome (g.content old) (λ before. IsSyncedFirst g old mid (StandsAlike blocks before)))
+    (cuts : CutsOffAmongReads g failed missed start new mid now done cut) where
+  all_does : DoesAmongReads g failed missed start new mid now (done ++ cut)
+  all_does = cuts-among-all g on failed missed start new mid now done cut cuts
+
+  -- what stands for the same as the content stands for the store before the first command
+  none_yet : (before image : List ℕ) → g.content old ≡ Some before → StandsAlike blocks before image → MakesFirst (store_in start) (done ++ cut) image
+  none_yet before image told same =
+      makes_none (store_in start) (done ++ cut) image (own_blocks blocks image (store_in start) (same.same ∙ at_told (λ (octets : List ℕ). standing_of blocks octets ≡ state (store_in start)) before told stood))
+
+  -- the commands are of the store that the recovery gave
+  later_told : (before : List ℕ) → g.content old ≡ Some before → (middle : List ℕ) × (g.content mid ≡ Some middle)
+  later_told before told = told_before (g.content mid) (g.content old) before (alike.1, alike.0) told
+
+  -- and so is what the first commands left
+  last_told : (octets : List ℕ) → g.content mid ≡ Some octets → (last : List ℕ) × (g.content cuts.disk_then ≡ Some last)
+  last_told octets told = told_before (g.content cuts.disk_then) (g.content mid) octets (cuts.first.puts.told.1, cuts.first.puts.told.0) told
+
+  -- what stands through the session, from the moment on at which the recovery was done
+  pub stands_through : (¬ failed → EachImage g now (λ image. StandsFor image (store_in new)))
+      → (stands : StandsThrough g failed (store_in start) done cut old now) × (stands.ready ≡ g.moment mid)
+  stands_through at_end = (
+    record {
+      allowed = all_does.allowed;
+      since_sync = if_told (g.content old) _ (λ before told.
+          let middle = later_told before told in
+          let synced = at_told (λ (octets : List ℕ). IsSyncedFirst g old mid (StandsAlike blocks octets)) before told since_sync in
+          let made = at_told (λ (_ : List ℕ). _) middle.0 middle.1 all_does.since in
+          record {
+            later = omega (arith, synced.later, made.later);
+            each = λ image since. ⊎_elim
+                (λ past. none_yet before image told (synced.each image past))
+                (λ here. here)
+                (made.each (g.moment old + 1) image synced.later since);
+          });
+      since_start = if_told (g.content old) _ (λ before told.
+          let middle = later_told before told in
+          joined g.moment g.images_since old mid now (MakesFirst (store_in start) (done ++ cut))
+          (weaker g.moment g.images_since old mid (StandsAlike blocks before) (MakesFirst (store_in start) (done ++ cut)) (λ image same. none_yet before image told same)
+          (at_told _ before told since_start))
+          (at_told (λ (_ : List ℕ). _) middle.0 middle.1 all_does.since));
+      ready = g.moment mid;
+      after_sync = told_weaker (g.content old) _ _ (λ before told synced. synced.later) since_sync;
+      stay = λ fine. if_told (g.content old) _ (λ before told. let middle = later_told before told in at_told (λ (_ : List ℕ). _) middle.0 middle.1 (all_does.stay fine));
+      calls = λ fine. if_told (g.content old) _ (λ before told. let middle = later_told before told in at_told (λ (_ : List ℕ). _) middle.0 middle.1 (all_does.calls fine));
+      all_done = λ fine. told_weaker (g.content now) _ _ (λ octets told each image here.
+          subst (λ (s : Store). StandsFor image s) (all_does.done fine).0 (each image here)) (at_end fine);
+      interrupted = λ stopped.
+          let end = cuts.second.cut stopped in
+          let is = among-store g missed start cuts.store_then mid cuts.disk_then done cuts.first in
+          record {
+            count = length done + end.count;
+            no_less = omega arith;
+            fewer = omega (arith, end.fewer, length-append done cut);
+            images = told_weaker (g.content now) _ _ (λ octets told each image here.
+                makes-second end.count (end.count + 1) (length done + end.count) (length done + end.count + 1) (store_in start) (store_in cuts.store_then) done cut image is (omega arith) (omega arith) (each image here)) end.images;
+            stay = if_told (g.content old) _ (λ before told.
+                let middle = later_told before told in
+                let last = last_told middle.0 middle.1 in
+                stay-on g (g.moment mid) end.count (store_in start) (store_in cuts.store_then) done cut cuts.disk_then now is (at_told (λ (_ : List ℕ). _) middle.0 middle.1 (cuts.first.calls (λ never. never)))
+                (at_told (λ (_ : List ℕ). _) middle.0 middle.1 (cuts.first.stay (λ never. never))) (at_told (λ (_ : List ℕ). _) last.0 last.1 cuts.second.since) (at_told (λ (_ : List ℕ). _) last.0 last.1 end.stay));
+            calls = if_told (g.content old) _ (λ before told.
+                let middle = later_told before told in
+                let last = last_told middle.0 middle.1 in
+                let first : g.moment cuts.disk_then ≡ g.moment mid + 4 * length done = at_told (λ (_ : List ℕ). _) middle.0 middle.1 (cuts.first.calls (λ never. never)) in
+                let second : g.moment cuts.disk_then + 4 * end.count ≤ g.moment now = at_told (λ (_ : List ℕ). _) last.0 last.1 end.calls in
+                omega arith);
+            at_most = if_told (g.content old) _ (λ before told.
+                let middle = later_told before told in
+                let last = last_told middle.0 middle.1 in
+                let first : g.moment cuts.disk_then ≡ g.moment mid + 4 * length done = at_told (λ (_ : List ℕ). _) middle.0 middle.1 (cuts.first.calls (λ never. never)) in
+                let second : g.moment now ≤ g.moment cuts.disk_then + 4 * (end.count + 1) = at_told (λ (_ : List ℕ). _) last.0 last.1 end.at_most in
+                omega arith);
+          };
+    },
+    refl,
+  )
+
+  -- only a write or a sync that failed ends the session by the disk
+  pub session_puts : (P : Type 0) → ¬ P → Runs g P old mid → PutsAmongReads g failed mid now → PutsAmongReads g failed old now
+  session_puts P never first second =
+      let same = first.faults.same never in
+      record {
+        told = alike_on _ _ _ first.told second.told;
+        reads = omega (arith, same.0, second.reads);
+        faults = subst (λ (n : ℕ). CountsFault n (g.write_faults now) failed) same.1 second.faults;
+        stops = record { last = second.stops.last; lasts = on old mid second.stops.last first.lasts second.stops.lasts; writes = second.stops.writes ∙ same.1; since = second.stops.since };
+        lasts = on old mid now first.lasts second.lasts;
+      }
+
+  -- and no more reads that failed are told of than were counted
+  pub session_reads : (P : Type 0) → ¬ P → Runs g P old mid → CountsSome (g.read_faults old) (g.read_faults now) missed
+  session_reads P never first = subst (λ (n : ℕ). CountsSome n (g.read_faults now) missed) (first.faults.same never).0 all_does.reads
+
+-- what a session does to its disk, by its writes and syncs
+pub node_runs : {D : Type 0} (g : Ghosts D) (failed : Type 0) (old now : D) → PutsAmongReads g failed old now → NodeRuns g failed old now
+node_runs g failed old now puts = record {
+  told = puts.told;
+  reads = puts.reads;
+  writes = puts.faults.no_less;
+  rose = λ stopped. inr (puts.faults.rose stopped);
+  same = puts.faults.same;
+  stops = puts.stops;
+  lasts = puts.lasts;
+}
+
+-- and by a recovery that is all that it does
+pub runs_refused : {D : Type 0} (g : Ghosts D) (failed : Type 0) (old now : D) → Runs g failed old now → NodeRuns g failed old now
+runs_refused g failed old now runs = record {
+  told = runs.told;
+  reads = runs.faults.reads;
+  writes = runs.faults.writes;
+  rose = runs.faults.rose;
+  same = λ fine. (runs.faults.same fine).1;
+  stops = record { last = runs.stops.last; lasts = runs.stops.lasts; writes = runs.stops.writes; since = ⊎_elim (λ (one : _). inl (one.1, one.2)) (λ only. inr only) runs.stops.since };
+  lasts = runs.lasts;
+}
+
+-- how the failure is named makes no difference
+pub runs_same : {D : Type 0} (g : Ghosts D) (P Q : Type 0) → (P → Q) → (Q → P) → (old now : D) → Runs g P old now → Runs g Q old now
+runs_same g P Q there back old now runs = record {
+  told = runs.told;
+  faults = record { reads = runs.faults.reads; writes = runs.faults.writes; rose = λ stopped. runs.faults.rose (back stopped); same = λ fine. runs.faults.same (λ p. fine (there p)) };
+  stops = runs.stops;
+  lasts = runs.lasts;
+}
+
+-- whether the disk failed
+by_disk : (result : Result Served NodeStop) → IsErrOf result stop.Disk ⊎ ¬ IsErrOf result stop.Disk
+by_disk (Ok served) = inr (λ is. cc is)
+by_disk (Err stop.Disk) = inl refl
+by_disk (Err stop.AirRead) = inr (λ is. cc is)
+by_disk (Err stop.AirWrite) = inr (λ is. cc is)
+by_disk (Err (stop.NotAStore found)) = inr (λ is. cc is)
+by_disk (Err (stop.Damaged at)) = inr (λ is. cc is)
+by_disk (Err stop.Spent) = inr (λ is. cc is)
+by_disk (Err stop.OutOfMemory) = inr (λ is. cc is)
+
+-- the commands done stay, whether the disk failed in one behind them or not
+stay_done : {D : Type 0} (g : Ghosts D) (failed : Type 0) (start : Store) (done cut : List Command) (disk disk_n : D) (stands : StandsThrough g failed start done cut disk disk_n) → failed ⊎ ¬ failed
+    → IfSome (g.content disk) (λ _. StayDone g stands.ready (length done) start (done ++ cut) disk_n)
+stay_done g failed start done cut disk disk_n stands (inl stopped) =
+    let end = stands.interrupted stopped in
+    told_weaker (g.content disk) _ _ (λ octets told stay count some most. stay count some (omega (arith, most, end.no_less))) end.stay
+stay_done g failed start done cut disk disk_n stands (inr fine) =
+    told_weaker (g.content disk) _ _ (λ octets told stay count some most. stay count some (omega (arith, most, length-append done cut))) (stands.stay fine)
+
+pub acknowledged_since : {D : Type 0} (g : Ghosts D) → AcknowledgedStandsLaw → AcknowledgedSinceLaw g
+acknowledged_since g law = record {
+  since = λ result start done cut disk disk_n stands caller store lists fails before moment number entry held rest is whole.
+      let ack = law caller start store lists fails before moment number entry held rest is whole in
+      record {
+        row = ack.row;
+        is_row = ack.is_row;
+        replies = ack.replies;
+        since = λ others parts.
+            let all : done ++ cut ≡ before ++ (ack.row.commands ++ (others ++ cut)) =
+            ap (λ (cs : List Command). cs ++ cut) parts ∙ append_assoc before (ack.row.commands ++ others) cut ∙ ap (λ (cs : List Command). before ++ cs) (append_assoc ack.row.commands others cut) in
+            let count : ℕ = length before + length ack.row.commands in
+            let some : 1 ≤ count = omega (arith, ack.some) in
+            let most : count ≤ length done = omega (arith, ap length parts, length-append before (ack.row.commands ++ others), length-append ack.row.commands others) in
+            told_weaker (g.content disk) _ _ (λ octets told stay image left.
+            ack.stands (others ++ cut) count (length (done ++ cut)) image (subst (λ (cs : List Command). AreAllowed start cs) all stands.allowed) (omega arith)
+            (subst (λ (cs : List Command). MakesBetween count (length (done ++ cut)) start cs image) all (stay count some most image left)))
+            (stay_done g (IsErrOf result stop.Disk) start done cut disk disk_n stands (by_disk result));
+      };
+}

@@ -1,0 +1,334 @@
+-- How a session goes on over events and sends what is due, and how it stops.
+use Rattle.std.proofs.Common.{◌≡◌, ℕ, List, [], ◌∷◌, ◌+◌, ◌++◌, false, map, refl, ap, ap₂, sym, ◌∙◌, subst, append_assoc, suc, ◌==◌, ◌<◌, ◌≤◌, length, take, Bool, true, ◌&&◌, ◌||◌, Option, None, Some, length-drop, arith}
+use Rattle.std.proofs.Math.Nat.{add_assoc}
+use Rattle.std.proofs.lemmas.List.{map-append}
+use Rattle.px_base.specs.CallSign.{CallSign}
+use Rattle.disk_model.specs.declared.disk.Disk.{Ghosts}
+use Rattle.ftl0_packets.specs.Items.{texts}
+use Rattle.ftl0_packets.specs.Layout.{PacketValue, packet_text, data_end, data_part, dl_error_resp}
+use Rattle.ftl0_session.specs.Lists.Lists.{CallerList}
+use Rattle.file_store.specs.Command.{Command, after_all}
+use Rattle.file_store.specs.Store.{Store}
+use Rattle.file_store.specs.State.{StandsOn, StoreState, store_in}
+use Rattle.file_store.specs.Working.{CutsOffAmongReads, DoesAmongReads}
+use Rattle.file_store.proofs.Offered.{Does-none, among-same, among-then, cuts-among-then, does-among}
+use Rattle.ftl0_session.specs.Uploads.Events.{Event}
+use Rattle.ftl0_session.specs.Run.{Event as MetEvent, RunsOver, event_row, heard_of, Sends}
+use Rattle.ftl0_session.specs.Table.{Row, State, failed_reads_told, DuePacket, download_part, due_at, in_session, next_due, state_by}
+use Rattle.ftl0_session.proofs.WorkingLemmas.{told-append}
+use Rattle.server_node.specs.declared.stop.NodeStop.{NodeStop}
+use Rattle.server_node.specs.Sessions.Laws.{ComesTo}
+use Rattle.server_node.specs.Sessions.Running.{RunsOn, StopsBehind, StopsOn, StopsOver, SendsSome}
+use Rattle.std.specs.Prelude.{if◌then◌else◌}
+use Rattle.std.specs.Option.{option_map}
+use Rattle.std.proofs.lemmas.Bool.Decides.{nat_tests}
+use Rattle.ftl0_session.specs.declared.uploads.phase.Phase.{Phase}
+use Rattle.ftl0_session.specs.Uploads.Failures.{Failure, failed_reads, read_fails}
+use Rattle.ftl0_session.specs.Uploads.SessionState.{state_of}
+use Rattle.ftl0_session.specs.Downloads.Needs.{IsDueIn}
+use Rattle.ftl0_session.specs.Downloads.Sending.{is_due, is_read, octets_due, state_after, state_at_end}
+use Rattle.ftl0_session.specs.Downloads.Table.{DownloadState, listing, ready, sending, waiting}
+use Rattle.ftl0_session.proofs.downloads.DueLemmas.{octets_due-after}
+use Rattle.ftl0_session.proofs.downloads.SentLemmas.{is_due-after}
+use Rattle.ftl0_session.specs.SessionState.{SessionState, state_in}
+use Rattle.ftl0_session.proofs.RowLemmas.{download_part-is}
+use Rattle.server_node.specs.Sessions.Course.{SendsTo, octets_left}
+use Rattle.server_node.specs.declared.stop.NodeStop.TheVariants as stop
+use Rattle.ftl0_session.specs.declared.uploads.phase.Phase.TheVariants as phase
+use Rattle.ftl0_session.specs.Downloads.Sending as due
+
+-- texts of packets joined are joined texts
+pub texts-append : (xs ys : List PacketValue) → texts (xs ++ ys) ≡ texts xs ++ texts ys
+texts-append [] ys = refl
+texts-append (x ∷ xs) ys = ap (λ text. packet_text x ++ text) (texts-append xs ys) ∙ sym (append_assoc (packet_text x) (texts xs) (texts ys))
+
+-- each event was come to, behind the earlier ones
+pub comes-to :
+    (caller : CallSign) (store : Store) (lists : List CallerList) (state : State) (earlier : List MetEvent) (next : MetEvent) (later : List MetEvent) (said : List PacketValue) (commands : List Command)
+    (now : Store) (lists_n : List CallerList) (last : State)
+    → RunsOver caller store lists state (earlier ++ next ∷ later) said commands now lists_n last → ComesTo caller store lists state earlier next commands
+comes-to caller store lists state [] next later said commands now lists_n last h = record {
+  said = [];
+  before = [];
+  store_then = store;
+  lists_then = lists;
+  state_then = state;
+  runs = (refl, refl, refl, refl, refl);
+  others = h.4;
+  commands_are = h.8 ∙ ap (λ (row : Row). row.commands ++ h.4) (sym h.5);
+}
+comes-to caller store lists state (e ∷ earlier) next later said commands now lists_n last h =
+    let on = comes-to caller (after_all store h.0.commands) h.0.lists h.2 earlier next later h.3 h.4 now lists_n last h.9 in
+    record {
+      said = h.0.replies ++ (h.1 ++ on.said);
+      before = h.0.commands ++ on.before;
+      store_then = on.store_then;
+      lists_then = on.lists_then;
+      state_then = on.state_then;
+      runs = (h.0, h.1, h.2, on.said, on.before, h.5, h.6, refl, refl, on.runs);
+      others = on.others;
+      commands_are =
+          h.8 ∙ ap (λ (cs : List Command). h.0.commands ++ cs) on.commands_are
+          ∙ sym (append_assoc h.0.commands on.before ((event_row caller on.store_then on.lists_then on.state_then next).commands ++ on.others));
+    }
+
+module _ (caller : CallSign) where
+  -- events and then others
+  pub runs-trans :
+      (store : Store) (lists : List CallerList) (state : State) (events : List MetEvent) (said : List PacketValue) (commands : List Command) (mid : Store) (lists_m : List CallerList) (between : State)
+      (others : List MetEvent) (more : List PacketValue) (further : List Command) (now : Store) (lists_n : List CallerList) (next : State)
+      → RunsOver caller store lists state events said commands mid lists_m between → RunsOver caller mid lists_m between others more further now lists_n next
+      → RunsOver caller store lists state (events ++ others) (said ++ more) (commands ++ further) now lists_n next
+  runs-trans store lists state [] said commands mid lists_m between others more further now lists_n next h k = rw (h.0, h.1, sym h.2, sym h.3, sym h.4) k
+  runs-trans store lists state (e ∷ events) said commands mid lists_m between others more further now lists_n next h k = (
+    h.0,
+    h.1,
+    h.2,
+    h.3 ++ more,
+    h.4 ++ further,
+    h.5,
+    h.6,
+    ap (λ s. s ++ more) h.7 ∙ append_assoc h.0.replies (h.1 ++ h.3) more ∙ ap (λ s. h.0.replies ++ s) (append_assoc h.1 h.3 more),
+    ap (λ c. c ++ further) h.8 ∙ append_assoc h.0.commands h.4 further,
+    runs-trans (after_all store h.0.commands) h.0.lists h.2 events h.3 h.4 mid lists_m between others more further now lists_n next h.9 k,
+  )
+
+  -- events, and a stop at one of others, behind them
+  pub stops_after :
+      (store : Store) (lists : List CallerList) (state : State) (met : List MetEvent) (said : List PacketValue) (commands : List Command) (mid : Store) (lists_m : List CallerList) (between : State)
+      (others : List Event) (why : NodeStop) (writes writes_n : ℕ) (more : List ℕ) (done cut : List Command) (missed : ℕ)
+      → RunsOver caller store lists state met said commands mid lists_m between → StopsOver caller mid lists_m between others why writes writes_n more done cut missed
+      → StopsBehind (map heard_of met) caller store lists state (map heard_of met ++ others) why writes writes_n (texts said ++ more) (commands ++ done) cut (failed_reads_told said + missed)
+  stops_after store lists state met said commands mid lists_m between others why writes writes_n more done cut missed h k =
+      let both : map heard_of (met ++ k.before) ≡ map heard_of met ++ map heard_of k.before = map-append heard_of met k.before in
+      record {
+        stops =
+            record {
+              before = met ++ k.before;
+              next = k.next;
+              later = k.later;
+              events_are =
+                  ap (λ es. map heard_of met ++ es) k.events_are ∙ sym (append_assoc (map heard_of met) (map heard_of k.before) (heard_of k.next ∷ k.later))
+                  ∙ ap (λ es. es ++ heard_of k.next ∷ k.later) (sym both);
+              said = said ++ k.said;
+              commands = commands ++ k.commands;
+              store_then = k.store_then;
+              lists_then = k.lists_then;
+              state_then = k.state_then;
+              runs = runs-trans store lists state met said commands mid lists_m between k.before k.said k.commands k.store_then k.lists_then k.state_then h k.runs;
+              last = k.last;
+              more = k.more;
+              last_missed = k.last_missed;
+              stops = k.stops;
+              text_is = ap (λ t. texts said ++ t) k.text_is ∙ sym (append_assoc (texts said) (texts k.said) k.last) ∙ ap (λ t. t ++ k.last) (sym (texts-append said k.said));
+              done_is = ap (λ c. commands ++ c) k.done_is ∙ sym (append_assoc commands k.commands k.more);
+              missed_is =
+                  ap (λ n. failed_reads_told said + n) k.missed_is ∙ sym (add_assoc (failed_reads_told said) (failed_reads_told k.said) k.last_missed)
+                  ∙ ap (λ n. n + k.last_missed) (sym (told-append said k.said));
+            };
+        between = map heard_of k.before;
+        in_order = both;
+      }
+
+module _ {D : Type 0} (g : Ghosts D) where
+  -- nothing is done
+  pub does-none : (store : StoreState) (disk : D) → store.journal.failed ≡ false → StandsOn g store disk → g.lasts disk disk → DoesAmongReads g ⊥ 0 store store disk disk []
+  does-none store disk healthy stands lasts = does-among g ⊥ store store disk disk [] (Does-none g ⊥ store disk (λ never. never) stands healthy lasts)
+
+  -- nothing is taken
+  pub runs_none : (caller : CallSign) (store : StoreState) (lists : List CallerList) (disk : D) (state : State) → store.journal.failed ≡ false → StandsOn g store disk → g.lasts disk disk
+      → RunsOn g caller store store lists lists disk disk state state [] []
+  runs_none caller store lists disk state healthy stands lasts = record {
+    met = [];
+    heard = refl;
+    said = [];
+    text_is = refl;
+    commands = [];
+    runs = (refl, refl, refl, refl, refl);
+    does = does-none store disk healthy stands lasts;
+  }
+
+module _ {D : Type 0} (g : Ghosts D) (caller : CallSign) where
+  -- a stop at one of some events, with others behind them
+  pub stops_on-more :
+      (a c : StoreState) (lists : List CallerList) (d f : D) (state : State) (events more : List Event) (why : NodeStop) (writes writes_n : ℕ) (text : List ℕ)
+      → StopsOn g caller a c lists d f state events why writes writes_n text → StopsOn g caller a c lists d f state (events ++ more) why writes writes_n text
+  stops_on-more a c lists d f state events more why writes writes_n text h = record {
+    done = h.done;
+    cut = h.cut;
+    missed = h.missed;
+    stops =
+        record {
+          before = h.stops.before;
+          next = h.stops.next;
+          later = h.stops.later ++ more;
+          events_are = ap (λ es. es ++ more) h.stops.events_are ∙ append_assoc (map heard_of h.stops.before) (heard_of h.stops.next ∷ h.stops.later) more;
+          said = h.stops.said;
+          commands = h.stops.commands;
+          store_then = h.stops.store_then;
+          lists_then = h.stops.lists_then;
+          state_then = h.stops.state_then;
+          runs = h.stops.runs;
+          last = h.stops.last;
+          more = h.stops.more;
+          last_missed = h.stops.last_missed;
+          stops = h.stops.stops;
+          text_is = h.stops.text_is;
+          done_is = h.stops.done_is;
+          missed_is = h.stops.missed_is;
+        };
+    cuts = h.cuts;
+  }
+
+module _ {D : Type 0} (g : Ghosts D) (on : (first second third : D) → g.lasts first second → g.lasts second third → g.lasts first third) (caller : CallSign)
+    (a b : StoreState) (l m : List CallerList) (d e : D) (state between : State) (events : List Event) (text : List ℕ) (h : RunsOn g caller a b l m d e state between events text) where
+  -- the same with what is done on the disk
+  pub runs_on-trans :
+      (c : StoreState) (n : List CallerList) (f : D) (next : State) (others : List Event) (more : List ℕ) → RunsOn g caller b c m n e f between next others more
+      → RunsOn g caller a c l n d f state next (events ++ others) (text ++ more)
+  runs_on-trans c n f next others more k = record {
+    met = h.met ++ k.met;
+    heard = map-append heard_of h.met k.met ∙ ap₂ (λ es os. es ++ os) h.heard k.heard;
+    said = h.said ++ k.said;
+    text_is = ap₂ (λ t u. t ++ u) h.text_is k.text_is ∙ sym (texts-append h.said k.said);
+    commands = h.commands ++ k.commands;
+    runs = runs-trans caller (store_in a) l state h.met h.said h.commands (store_in b) m between k.met k.said k.commands (store_in c) n next h.runs k.runs;
+    does =
+        among-same g ⊥ ⊥ (failed_reads_told h.said + failed_reads_told k.said) (failed_reads_told (h.said ++ k.said)) a c d f (h.commands ++ k.commands) (λ never. never) (λ never. never)
+        (sym (told-append h.said k.said))
+        (among-then g on ⊥ ⊥ (failed_reads_told h.said) (failed_reads_told k.said) a b c d e f h.commands k.commands (λ never. never) h.does k.does);
+  }
+
+  module _ (c : StoreState) (f : D) (others : List Event) (why : NodeStop) (writes writes_n : ℕ) (more : List ℕ) (k : StopsOn g caller b c m e f between others why writes writes_n more) where
+    -- events that were taken, and a stop at one of others
+    pub stops_behind :
+        StopsBehind events caller (store_in a) l state (events ++ others) why writes writes_n (text ++ more) (h.commands ++ k.done) k.cut (failed_reads_told h.said + k.missed)
+    stops_behind =
+        let at_text : List ℕ → Type 0 =
+        λ t. StopsBehind events caller (store_in a) l state (events ++ others) why writes writes_n (t ++ more) (h.commands ++ k.done) k.cut (failed_reads_told h.said + k.missed) in
+        let at_events : List Event → Type 0 =
+        λ es. StopsBehind es caller (store_in a) l state (es ++ others) why writes writes_n (texts h.said ++ more) (h.commands ++ k.done) k.cut (failed_reads_told h.said + k.missed) in
+        subst at_text (sym h.text_is)
+        (subst at_events h.heard
+        (stops_after caller (store_in a) l state h.met h.said h.commands (store_in b) m between others why writes writes_n more k.done k.cut k.missed h.runs k.stops))
+
+    pub cuts_behind : CutsOffAmongReads g (why ≡ stop.Disk) (failed_reads_told h.said + k.missed) a c d f (h.commands ++ k.done) k.cut
+    cuts_behind = cuts-among-then g on (why ≡ stop.Disk) (failed_reads_told h.said) k.missed a b c d e f h.commands k.done k.cut h.does k.cuts
+
+    pub stops_on-after : StopsOn g caller a c l d f state (events ++ others) why writes writes_n (text ++ more)
+    stops_on-after = record { done = h.commands ++ k.done; cut = k.cut; missed = failed_reads_told h.said + k.missed; stops = stops_behind.stops; cuts = cuts_behind }
+
+-- ---- parts whose reads failed
+
+-- with this part, where its read failed
+abbrev pub with_part : Bool → ℕ → List ℕ → List ℕ
+with_part true part parts = part ∷ parts
+with_part false part parts = parts
+
+-- no other part is listed by that
+pub with-other : (fails : Bool) (part : ℕ) (parts : List ℕ) (number : ℕ) → (part == number) ≡ false → read_fails (failed_reads (with_part fails part parts)) number ≡ read_fails (failed_reads parts) number
+with-other true part parts number other = ap (λ (b : Bool). (b && true) || read_fails (failed_reads parts) number) other
+with-other false part parts number other = refl
+
+-- it is where its read failed, and only there
+pub with-here : (fails : Bool) (part : ℕ) (parts : List ℕ) → read_fails (failed_reads parts) part ≡ false → read_fails (failed_reads (with_part fails part parts)) part ≡ fails
+with-here true part parts free =
+    let same : (part == part) ≡ true = grind (arith, nat_tests) in
+    ap (λ (b : Bool). (b && true) || read_fails (failed_reads parts) part) same
+with-here false part parts free = free
+
+-- ---- packets that are sent one after another
+
+module _ (store : Store) (failures others : List Failure) where
+  -- what is due where these list the same reads
+  due-same : (state : State) (part : ℕ) (o : Option DuePacket) → read_fails failures part ≡ read_fails others part → due_at store state failures part ≡ o → due_at store state others part ≡ o
+  due-same state part o same is = ap (λ (b : Bool). next_due store state b) (sym same) ∙ is
+
+  pub to-same : (state : State) (part : ℕ) (sent : List PacketValue) (now : State) → ((number : ℕ) → part ≤ number → number < part + length sent → read_fails failures number ≡ read_fails others number)
+      → SendsTo store state failures part sent now → SendsTo store state others part sent now
+  to-same state part [] now same to = to
+  to-same state part (packet ∷ sent) now same to = (
+    to.0,
+    due-same state part _ (same part (omega arith) (omega arith)) to.1,
+    to-same to.0 (suc part) sent now (λ number low high. same number (omega (arith, low)) (omega (arith, high))) to.2,
+  )
+
+module _ (store : Store) (failures : List Failure) where
+  -- one packet more
+  pub to-more : (state : State) (part : ℕ) (sent : List PacketValue) (mid : State) (number : ℕ) (next : DuePacket) → number ≡ part + length sent → SendsTo store state failures part sent mid
+      → due_at store mid failures number ≡ Some next → SendsTo store state failures part (sent ++ next.packet ∷ []) next.state
+  to-more state part [] mid number next at to is =
+      let first : part ≡ number = omega (arith, at) in
+      (next.state, ap₂ (λ (s : State) (n : ℕ). due_at store s failures n) (sym to) first ∙ is, refl)
+  to-more state part (packet ∷ sent) mid number next at to is = (to.0, to.1, to-more to.0 (suc part) sent mid number next (omega (arith, at)) to.2 is)
+
+  -- nothing more is due
+  pub to-all : (state : State) (part : ℕ) (sent : List PacketValue) (now : State) → ((fails : Bool) → next_due store now fails ≡ None) → SendsTo store state failures part sent now
+      → Sends store state failures part sent now
+  to-all state part [] now none to = (to, ap (λ (s : State). due_at store s failures part) (sym to) ∙ none (read_fails failures part))
+  to-all state part (packet ∷ sent) now none to = (to.0, to.1, to-all to.0 (suc part) sent now none to.2)
+
+  -- more may be
+  pub to-some : (state : State) (part : ℕ) (sent : List PacketValue) (now : State) → SendsTo store state failures part sent now → SendsSome store state failures part sent
+  to-some state part [] now to = tt
+  to-some state part (packet ∷ sent) now to = (to.0, to.1, to-some to.0 (suc part) sent now to.2)
+
+-- ---- how much is left
+
+left-some : (store : Store) (state : DownloadState) → is_due state ≡ true → octets_left store state ≡ suc (length (octets_due store state))
+left-some store state is = ap (λ (b : Bool). if b then suc (length (octets_due store state)) else 0) is
+
+left-end : (store : Store) (state : DownloadState) → octets_left store (state_at_end state) ≡ 0
+left-end store ready = refl
+left-end store (sending number place last) = refl
+left-end store waiting = refl
+left-end store (listing dues) = refl
+
+left-after : (store : Store) (state : DownloadState) → is_due state ≡ true → IsDueIn store state → (length (octets_due store state) == 0) ≡ false
+    → octets_left store (state_after 254 state) < suc (length (octets_due store state))
+left-after store state is lies test =
+    let some : 0 < length (octets_due store state) = grind (arith, nat_tests, test) in
+    omega (
+      arith,
+      some,
+      left-some store (state_after 254 state) (is_due-after state 254 ∙ is),
+      ap (λ (l : List ℕ). length l) (octets_due-after store state 254 lies),
+      length-drop 254 (octets_due store state),
+    )
+
+-- each packet that is sent leaves less
+packet-smaller : (store : Store) (state : DownloadState) (fails : Bool) → is_due state ≡ true → IsDueIn store state → octets_left store (due.due_packet store state fails).state < octets_left store state
+packet-smaller store state fails is lies = by (length (octets_due store state) == 0) (fails && is_read state) refl
+  where
+    by : (none missed : Bool) → (length (octets_due store state) == 0) ≡ none
+        → (let next : due.DuePacket =
+        if none then record { packet = data_end; state = state_at_end state } else if missed then record { packet = dl_error_resp 3; state = ready }
+        else record { packet = data_part (take 254 (octets_due store state)); state = state_after 254 state } in
+        octets_left store next.state < octets_left store state)
+    by true missed test = omega (arith, left-end store state, left-some store state is)
+    by false true test = omega (arith, left-some store state is)
+    by false false test = omega (arith, left-after store state is lies test, left-some store state is)
+
+due-smaller : (store : Store) (state : DownloadState) (fails : Bool) (next : DuePacket) → IsDueIn store state → option_map in_session (due.next_due store state fails) ≡ Some next
+    → octets_left store (download_part next.state) < octets_left store state
+due-smaller store state fails next lies is = by (is_due state) refl is
+  where
+    by : (b : Bool) → is_due state ≡ b → option_map in_session (if b then Some (due.due_packet store state fails) else None) ≡ Some next
+        → octets_left store (download_part next.state) < octets_left store state
+    by false free none = absurd (cc none)
+    by true here some =
+        let same : in_session (due.due_packet store state fails) ≡ next = cc some in
+        let P : DuePacket → Type 0 = λ n. octets_left store (download_part n.state) < octets_left store state in
+        let Q : DownloadState → Type 0 = λ s. octets_left store s < octets_left store state in
+        subst P same (subst Q (sym (download_part-is (due.due_packet store state fails).state)) (packet-smaller store state fails here lies))
+
+-- what is due of a session lies within complete files
+pub lies-in : (files : StoreState) (here : Phase) (downloads : DownloadState) → IsDueIn (store_in files) downloads → IsDueIn (store_in files) (download_part (state_by (state_of files here) downloads))
+lies-in files phase.Command downloads lies = subst (λ (d : DownloadState). IsDueIn (store_in files) d) (sym (download_part-is downloads)) lies
+lies-in files (phase.Receiving up) downloads lies = tt
+lies-in files phase.Aborting downloads lies = tt
+
+pub smaller : (files : StoreState) (session : SessionState) (fails : Bool) (next : DuePacket) → IsDueIn (store_in files) session.downloads → next_due (store_in files) (state_in files session) fails ≡ Some next
+    → octets_left (store_in files) (download_part next.state) < octets_left (store_in files) (download_part (state_in files session))
+smaller files session fails next lies is =
+    due-smaller (store_in files) (download_part (state_in files session)) fails next (lies-in files session.uploads.phase session.downloads lies) is
