@@ -4,7 +4,7 @@ use Rattle.std.specs.Prelude.{Result, Ok, Err, if◌then◌else◌}
 use Rattle.px_base.specs.Polling.{EndsWith, HasEnd}
 use Rattle.px_base.specs.declared.air.Turn.{Turn}
 use Rattle.px_base.specs.declared.air.Turn.TheVariants as turn
-use Rattle.server_node.specs.Sessions.SessionRan.{TurnsBy}
+use Rattle.server_node.specs.Served.{TurnsBy}
 use Rattle.server_node.specs.Stops.{CountsBy}
 use Rattle.server_node.specs.declared.stop.NodeStop.{NodeStop}
 use Rattle.server_node.specs.declared.stop.NodeStop.TheVariants as stop

@@ -11,7 +11,7 @@ use Rattle.file_store.specs.Working.{PutsAmongReads}
 use Rattle.file_store.specs.declared.refusals.StoreFault.{StoreFault}
 use Rattle.file_store.specs.declared.refusals.StoreFault.TheVariants as fault
 use Rattle.server_node.specs.OnDisk.{NodeRuns}
-use Rattle.server_node.specs.Sessions.SessionRan.{TurnsBy}
+use Rattle.server_node.specs.Served.{TurnsBy}
 use Rattle.server_node.specs.Stops.{CountsBy, EndsExactly, RefusesSession, stop_of_fault}
 use Rattle.server_node.specs.declared.stop.NodeStop.{NodeStop}
 use Rattle.server_node.specs.declared.stop.NodeStop.TheVariants as stop

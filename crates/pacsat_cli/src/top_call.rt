@@ -4,6 +4,7 @@ ghost use Rattle.std.specs.Prelude.{◌≡◌, ◌≤◌, [], ◌∷◌};
 ghost use Rattle.command_words.specs.Laws.{AsksServe, AsksSession};
 ghost use Rattle.command_words.specs.Words.{AsksClient, AsksList, IsUnbuilt, IsUsage, NamesBuilt};
 ghost use Rattle.ftl0_session.specs.Laws.{AcknowledgedStandsLaw};
+ghost use Rattle.node.specs.Lent.{lent, seen};
 ghost use Rattle.px_base.specs.Outside.{Rose};
 ghost use Rattle.server_node.specs.Sessions.Laws.{AcknowledgedSinceLaw};
 ghost use Rattle.uploader.specs.Carried.{setting};
@@ -68,8 +69,8 @@ pub fn run<D: Disk, A: Air, S: Shelf, O: Out, C: Clock>(
     // the disk that failed is told by code 3. At every moment since the first sync of the recovery each image stands for
     // that store after the first of the session's commands, none skipped. Or there was no memory to read the words. With a
     // moment given the clock isn't asked.
-    ensures session { RunsSession words.now D.Disk A.Air C.given disk.old disk.new air.old air.new clock.old clock.new
-        result }
+    ensures session { RunsSession words.now (seen D.Disk A.Air C.given) (lent disk.old air.old clock.old)
+        (lent disk.new air.new clock.new) result }
     ensures session_alone { AsksSession words.now → shelf.new ≡ shelf.old }
     ensures clock_unasked { AsksMoment words.now → clock.new ≡ clock.old }
 
@@ -77,7 +78,8 @@ pub fn run<D: Disk, A: Air, S: Shelf, O: Out, C: Clock>(
     // from the store for which its disk's content stands, and ends with a status that has its cause. At every moment since
     // the first sync of the recovery each image stands for that store after the first of the server's commands, none skipped.
     // Or there was no memory to read the words.
-    ensures serve { RunsServe words.now D.Disk A.Air C.given disk.old disk.new air.old air.new clock.old clock.new result }
+    ensures serve { RunsServe words.now (seen D.Disk A.Air C.given) (lent disk.old air.old clock.old)
+        (lent disk.new air.new clock.new) result }
     ensures serve_alone { AsksServe words.now → shelf.new ≡ shelf.old }
 
     // A client says the KISS text of the frames that its definition gives for what is asked and for the frames and ticks of

@@ -1,1 +1,4 @@
+mod Ending
 mod Standing
+mod Starting
+mod StepsLemmas

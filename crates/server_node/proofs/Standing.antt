@@ -3,21 +3,20 @@ use Rattle.std.proofs.Common.{◌≡◌, inl, inr, ⊎_elim, ℕ, ◌+◌, ◌*�
 use Rattle.std.specs.Prelude.{if◌then◌else◌, Result, Ok, Err, IsErrOf}
 use Rattle.std.specs.Option.{option_and_then}
 use Rattle.disk_model.specs.declared.disk.Disk.{Ghosts}
-use Rattle.file_store.specs.Calls.{CountsFault, Leaves, Runs, TellsAlike}
+use Rattle.file_store.specs.Calls.{CountsFault, Leaves, Runs, TellsAlike, images_now}
 use Rattle.file_store.specs.Journal.{Standing, journal_of}
 use Rattle.file_store.specs.JournalRecords.{Reading, Record, broken, whole}
 use Rattle.file_store.specs.JournalRecovery.{IsSyncedFirst}
 use Rattle.file_store.specs.Walk.{Stands, damaged_at, on_from, stands_for, stands_of, state, walk, walk_over}
-use Rattle.file_store.proofs.Offered.{alike_on, among-store, at_told, cuts-among-all, if_told, joined, makes-second, stay-on, told_before, told_weaker, weaker}
+use Rattle.file_store.proofs.Offered.{after_first-all, reads_now, alike_on, among-store, at_told, cuts-among-all, if_told, joined, makes-second, stay-on, told_before, told_weaker, weaker}
 use Rattle.file_store.specs.Command.{Command, after, begin, drop_entry, grow, is_allowed, seal, AreAllowed}
 use Rattle.file_store.specs.Records.{command_of, store_after, store_magic, store_step}
 use Rattle.file_store.specs.Store.{Store, empty_store}
-use Rattle.file_store.specs.OnDisk.{MakesFirst, MakesBetween, StayDone}
+use Rattle.file_store.specs.OnDisk.{MakesFirst, MakesBetween, StayDone, after_first}
 use Rattle.file_store.specs.Recovery.{StandsAlike}
 use Rattle.file_store.specs.State.{StandsFor, StoreState, standing_of, store_in}
 use Rattle.file_store.specs.Working.{CountsSome, CutsOffAmongReads, DoesAmongReads, PutsAmongReads}
 use Rattle.server_node.specs.OnDisk.{EachImage, NodeRuns, StandsThrough}
-use Rattle.server_node.specs.Sessions.ServerState.{IsUp}
 use Rattle.ftl0_session.specs.Laws.{AcknowledgedStandsLaw}
 use Rattle.server_node.specs.declared.stop.NodeStop.{NodeStop}
 use Rattle.server_node.specs.declared.terms.Served.{Served}
@@ -76,19 +75,14 @@ own_standing (journal.store None reading) blocks s h =
 pub own_blocks : (blocks : ℕ) (image : List ℕ) (s : Store) → standing_of blocks image ≡ state s → StandsFor image s
 own_blocks blocks image s h = own_standing (journal_of store_magic image) blocks s h
 
--- each image of a disk on which the store stands stands for it
-pub images_stand : {D : Type 0} (g : Ghosts D) (store : StoreState) (disk : D) → store.journal.magic ≡ store_magic → IsUp g store disk → EachImage g disk (λ image. StandsFor image (store_in store))
-images_stand g store disk magic_is up = told_weaker (g.content disk) _ _ (λ octets told each image here.
-    let at_magic : List ℕ → Type 0 = λ magic. stands_for empty_store store_step magic store.journal.blocks image ≡ state (store_in store) in
-    own_blocks store.journal.blocks image (store_in store) (subst at_magic magic_is (each image here))) (up.stands_on.images up.healthy)
-
 -- what stands for the store stands for it after none of the commands
 makes_none : (start : Store) (commands : List Command) (image : List ℕ) → StandsFor image start → MakesFirst start commands image
 makes_none start commands image h = (0, omega arith, omega arith, h)
 
 -- ---- from the recovery on
 
-module _ {D : Type 0} (g : Ghosts D) (on : (first second third : D) → g.lasts first second → g.lasts second third → g.lasts first third) (failed : Type 0) (blocks : ℕ) (old mid now : D)
+module _ {D : Type 0} (g : Ghosts D) (on : (first second third : D) → g.lasts first second → g.lasts second third → g.lasts first third)
+    (earlier : (disk : D) (t u : ℕ) (image : List ℕ) → t ≤ u → g.images_since disk u image → g.images_since disk t image) (failed : Type 0) (blocks : ℕ) (old mid now : D)
     (start new : StoreState) (done cut : List Command) (missed : ℕ) (alike : TellsAlike (g.content old) (g.content mid))
     (stood : IfSome (g.content old) (λ before. standing_of blocks before ≡ state (store_in start)))
     (since_start : Leaves g old mid (StandsAlike blocks)) (since_sync : IfSome (g.content old) (λ before. IsSyncedFirst g old mid (StandsAlike blocks before)))
@@ -109,10 +103,30 @@ module _ {D : Type 0} (g : Ghosts D) (on : (first second third : D) → g.lasts 
   last_told : (octets : List ℕ) → g.content mid ≡ Some octets → (last : List ℕ) × (g.content cuts.disk_then ≡ Some last)
   last_told octets told = told_before (g.content cuts.disk_then) (g.content mid) octets (cuts.first.puts.told.1, cuts.first.puts.told.0) told
 
+  -- at the end each image stands for the store that was come to, where the disk didn't fail
+  left_by : ¬ failed → (commands : List Command) → DoesAmongReads g failed missed start new mid now commands → EachImage g now (λ image. StandsFor image (store_in new))
+  left_by fine [] does = if_told (g.content now) _ (λ octets told image here.
+      let middle = told_before (g.content mid) (g.content now) octets does.puts.told told in
+      let first = told_before (g.content old) (g.content mid) middle.0 alike middle.1 in
+      let synced = at_told (λ (before : List ℕ). IsSyncedFirst g old mid (StandsAlike blocks before)) first.0 first.1 since_sync in
+      let there : images_now g mid image = reads_now g mid now (does.none refl) image here in
+      let same = (synced.each image (earlier mid (g.moment old + 1) (g.moment mid) image synced.later there)).same in
+      subst (λ (s : Store). StandsFor image s) (sym (does.done fine).0)
+      (own_blocks blocks image (store_in start) (same ∙ at_told (λ (before : List ℕ). standing_of blocks before ≡ state (store_in start)) first.0 first.1 stood)))
+  left_by fine (command ∷ commands) does = if_told (g.content now) _ (λ octets told image here.
+      let all : List Command = command ∷ commands in
+      let middle = told_before (g.content mid) (g.content now) octets does.puts.told told in
+      let calls : g.moment now ≡ g.moment mid + 4 * length all = at_told (λ (_ : List ℕ). g.moment now ≡ g.moment mid + 4 * length all) middle.0 middle.1 (does.calls fine) in
+      let stay : StayDone g (g.moment mid) (length all) (store_in start) all now =
+      at_told (λ (_ : List ℕ). StayDone g (g.moment mid) (length all) (store_in start) all now) middle.0 middle.1 (does.stay fine) in
+      let left = stay (length all) (omega arith) (omega arith) image (subst (λ (t : ℕ). g.images_since now t image) calls here) in
+      let count : left.0 ≡ length all = omega (arith, left.1, left.2) in
+      subst (λ (s : Store). StandsFor image s)
+      (ap (λ (n : ℕ). after_first n (store_in start) all) count ∙ after_first-all all (store_in start) ∙ sym (does.done fine).0) left.3)
+
   -- what stands through the session, from the moment on at which the recovery was done
-  pub stands_through : (¬ failed → EachImage g now (λ image. StandsFor image (store_in new)))
-      → (stands : StandsThrough g failed (store_in start) done cut old now) × (stands.ready ≡ g.moment mid)
-  stands_through at_end = (
+  pub stands_through : (stands : StandsThrough g failed (store_in start) done cut old now) × (stands.ready ≡ g.moment mid)
+  stands_through = (
     record {
       allowed = all_does.allowed;
       since_sync = if_told (g.content old) _ (λ before told.
@@ -137,7 +151,7 @@ module _ {D : Type 0} (g : Ghosts D) (on : (first second third : D) → g.lasts 
       stay = λ fine. if_told (g.content old) _ (λ before told. let middle = later_told before told in at_told (λ (_ : List ℕ). _) middle.0 middle.1 (all_does.stay fine));
       calls = λ fine. if_told (g.content old) _ (λ before told. let middle = later_told before told in at_told (λ (_ : List ℕ). _) middle.0 middle.1 (all_does.calls fine));
       all_done = λ fine. told_weaker (g.content now) _ _ (λ octets told each image here.
-          subst (λ (s : Store). StandsFor image s) (all_does.done fine).0 (each image here)) (at_end fine);
+          subst (λ (s : Store). StandsFor image s) (all_does.done fine).0 (each image here)) (left_by fine (done ++ cut) all_does);
       interrupted = λ stopped.
           let end = cuts.second.cut stopped in
           let is = among-store g missed start cuts.store_then mid cuts.disk_then done cuts.first in
@@ -240,8 +254,9 @@ stay_done g failed start done cut disk disk_n stands (inr fine) =
 
 pub acknowledged_since : {D : Type 0} (g : Ghosts D) → AcknowledgedStandsLaw → AcknowledgedSinceLaw g
 acknowledged_since g law = record {
-  since = λ result start done cut disk disk_n stands caller store lists fails before moment number entry held rest is whole.
-      let ack = law caller start store lists fails before moment number entry held rest is whole in
+  since = λ result start done cut disk disk_n stands file is whole.
+      let before : List Command = file.before in
+      let ack = law file.caller start file.store file.lists file.fails before file.moment file.number file.entry file.held file.rest is whole in
       record {
         row = ack.row;
         is_row = ack.is_row;

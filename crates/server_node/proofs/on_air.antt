@@ -1,5 +1,4 @@
 mod ServesLemmas
-mod StartLemmas
 mod StationLemmas
 mod StepLemmas
 pub mod StoreLemmas

@@ -1,6 +1,5 @@
 -- How a server goes over the events of its node.
 use Rattle.std.proofs.Common.{◌≡◌, ℕ, ◌+◌, Bool, true, false, List, [], ◌∷◌, ◌++◌, Option, None, Some, refl, ap, sym, subst, ◌∙◌, inl, inr, true≢false, append_assoc, append-nil}
-use Rattle.std.proofs.Math.Nat.{zero-add}
 use Rattle.std.specs.Prelude.{◌≢◌, Result, Ok, Err, ⊤}
 use Rattle.kiss.specs.KissText.{kiss_text}
 use Rattle.px_base.specs.Octets.{IsFront}
@@ -9,13 +8,12 @@ use Rattle.ax25_frames.specs.FrameText.{FrameValue, canonical}
 use Rattle.file_store.specs.Command.{Command}
 use Rattle.file_store.specs.State.{StoreState}
 use Rattle.file_store.specs.Working.{CutsOffAmongReads, DoesAmongReads}
-use Rattle.file_store.proofs.Offered.{among-healthy, among-then, cuts-among-none, cuts-among-same, cuts-among-then, does-among, Does-none}
+use Rattle.file_store.proofs.Offered.{among-healthy, cuts-among-none, cuts-among-same}
 use Rattle.node.specs.Course.{AtDisk, GaveAll, GivesNext, IsLawful, at, stop_at_put}
 use Rattle.node.specs.Events.{NodeEvent}
-use Rattle.node.specs.Turns.{IsUnsaid}
 use Rattle.node.specs.declared.halt.Halt.{Halt}
 use Rattle.node.specs.declared.halt.Halt.TheVariants as halt
-use Rattle.node.specs.declared.stop.NodeStop.{NodeStop as StopOfNode}
+use Rattle.node.specs.declared.stop.NodeStop.{NodeStop as Stop}
 use Rattle.node.specs.declared.stop.NodeStop.TheVariants as node_stop
 use Rattle.ftl0_server.specs.Failures.{failed_reads, failed_write}
 use Rattle.ftl0_server.specs.Connection.Taking.{fails}
@@ -27,13 +25,13 @@ use Rattle.ftl0_server.specs.Server.{IsSilent, Server, ServerHappened, ServerSen
 use Rattle.ftl0_server.specs.ServerState.{IsServer, SendsFor, ServerState, server_pending}
 use Rattle.ftl0_server.specs.ServerStep.{Empties, ServerStep, happening}
 use Rattle.ftl0_server.proofs.FitsLemmas.{empties-silent, silent-settled}
-use Rattle.server_node.specs.declared.stop.NodeStop.TheVariants as stop
 use Rattle.server_node.specs.Sessions.Running.{IsSaid}
-use Rattle.server_node.specs.OnAir.Serving.{StopsAt, StopsOver, TakesEvent, failing, text_of}
-use Rattle.server_node.specs.Stops.{stop_of_node}
-use Rattle.server_node.specs.OnAir.Station.{IsServing, IsUp, OwesOver, OwesRest, RunsOn, StandsBy, StopsOn, WholeBy, server_course, with_server}
+use Rattle.server_node.specs.OnAir.Serving.{StopsAt, TakesEvent, failing, server_steps, text_of}
+use Rattle.server_node.specs.OnAir.Station.{ComesOn, HaltsOn, IsServing, IsUp, OwesOver, OwesRest, StandsBy, WholeBy, server_course, serving_at, with_server}
+use Rattle.server_node.specs.Steps.{RunsOn, made, with_store}
 use Rattle.server_node.specs.declared.on_air.station.ServerStation.{ServerStation}
-use Rattle.server_node.proofs.on_air.ServesLemmas.{text-append, serves-append, serves-one, stops-at, stops-behind}
+use Rattle.server_node.proofs.StepsLemmas.{runs-none, runs-on, stop-one, stops-more, stops-on}
+use Rattle.server_node.proofs.on_air.ServesLemmas.{are_steps, serves-one}
 use Rattle.server_node.proofs.on_air.StepLemmas.{uncut}
 
 -- how a server answers an event, by the halt of its node
@@ -51,34 +49,27 @@ silenced_by before (Some halt.OutOfMemory) = true
 module _ {D : Type 0} (g : Ghosts D) (lasts : (disk : D) → g.lasts disk disk) where
   -- ---- one event
 
-  module _ (old new : AtDisk ServerStation D) (event : NodeEvent) (server : Server) (serving : IsServing old.it.server server) (made : ServerState) (parts : List ℕ) (same : new.it.server.store ≡ made.store) where
+  module _ (old new : AtDisk ServerStation D) (event : NodeEvent) (server : Server) (serving : IsServing old.it.server server) (made_so : ServerState) (parts : List ℕ) (same : new.it.server.store ≡ made_so.store) where
     abbrev Heard : Result ⊤ ServerStop → Type 0
-    Heard result = HearsBy g (with_reads (happening server event) parts) old.it.server made old.disk new.disk result
+    Heard result = HearsBy g (with_reads (happening server event) parts) old.it.server made_so old.disk new.disk result
 
     -- what it makes of the server where no write and no sync fails
     abbrev taken : ServerHappened
     taken = happening server event (failed_reads parts)
 
-    moved : (missed : ℕ) (done : List Command) → DoesAmongReads g ⊥ missed old.it.server.store made.store old.disk new.disk done → DoesAmongReads g ⊥ missed old.it.server.store new.it.server.store old.disk new.disk done
+    moved : (missed : ℕ) (done : List Command) → DoesAmongReads g ⊥ missed old.it.server.store made_so.store old.disk new.disk done → DoesAmongReads g ⊥ missed old.it.server.store new.it.server.store old.disk new.disk done
     moved missed done does = subst (λ (store : StoreState). DoesAmongReads g ⊥ missed old.it.server.store store old.disk new.disk done) (sym same) does
 
     -- It stopped at the event.
-    stopped : (why : StopOfNode) (unsaid : Bool) (text : List ℕ) (done cut : List Command) (missed : ℕ)
-        → ((writes writes_n : ℕ) → IsUnsaid unsaid writes writes_n → StopsAt (stop_of_node why) server event writes writes_n text done cut missed)
-        → CutsOffAmongReads g (stop_of_node why ≡ stop.Disk) missed old.it.server.store new.it.server.store old.disk new.disk done cut → (why ≡ node_stop.OutOfMemory → unsaid ≡ false)
-        → StopsOn g server old (event ∷ []) why unsaid text new
-    stopped why unsaid text done cut missed at_event cuts kept = record {
-      done = done;
-      cut = cut;
-      missed = missed;
-      stops = λ writes writes_n is. stops-at (stop_of_node why) writes writes_n cut server event text done missed (at_event writes writes_n is);
-      cuts = cuts;
-      kept = kept;
-    }
+    stopped : (why : Stop) (unsaid : Bool) (text : List ℕ) (done cut : List Command) (missed : ℕ) → StopsAt why unsaid server event (made text done missed) cut
+        → CutsOffAmongReads g (why ≡ node_stop.Disk) missed old.it.server.store new.it.server.store old.disk new.disk done cut → (why ≡ node_stop.OutOfMemory → unsaid ≡ false)
+        → HaltsOn g server old (event ∷ []) why unsaid text new
+    stopped why unsaid text done cut missed at_event cuts kept =
+        record { done = done; cut = cut; missed = missed; stops = stop-one server_steps are_steps why unsaid server event (made text done missed) cut at_event; cuts = cuts; kept = kept }
 
     -- Not by the disk.
-    none-cut : (why : StopOfNode) → ¬ (stop_of_node why ≡ stop.Disk) → (done : List Command) (missed : ℕ) → DoesAmongReads g ⊥ missed old.it.server.store made.store old.disk new.disk done
-        → CutsOffAmongReads g (stop_of_node why ≡ stop.Disk) missed old.it.server.store new.it.server.store old.disk new.disk done []
+    none-cut : (why : Stop) → ¬ (why ≡ node_stop.Disk) → (done : List Command) (missed : ℕ) → DoesAmongReads g ⊥ missed old.it.server.store made_so.store old.disk new.disk done
+        → CutsOffAmongReads g (why ≡ node_stop.Disk) missed old.it.server.store new.it.server.store old.disk new.disk done []
     none-cut why fine done missed does = cuts-among-none g _ missed old.it.server.store new.it.server.store old.disk new.disk done fine (lasts new.disk) (moved missed done does)
 
     module _ (by : Heard (Ok tt)) (frames : List FrameValue) (last : Server) (sent : Empties taken.after frames last) where
@@ -89,42 +80,36 @@ module _ {D : Type 0} (g : Ghosts D) (lasts : (disk : D) → g.lasts disk disk) 
       }
 
       -- All of it was taken, and its frames were said.
-      event-taken : IsServer new.it.server (settled last) → RunsOn g server old (event ∷ []) (text_of frames) new
+      event-taken : IsServer new.it.server (settled last) → ComesOn g server old (event ∷ []) (text_of frames) new
       event-taken stands = record {
-        frames = frames;
-        commands = taken.done;
-        missed = taken.missed;
         next = settled last;
-        serves = serves-one server event taken.done frames taken.missed (settled last) takes-event;
-        text_is = refl;
         serving = record { is = stands; silent = silent-settled last (empties-silent taken.after frames last sent) };
-        does = moved taken.missed taken.done by.2;
+        runs = record { done = taken.done; missed = taken.missed; goes = serves-one server event taken.done frames taken.missed (settled last) takes-event; does = moved taken.missed taken.done by.2 };
       }
 
       -- All of it was taken, and saying its frames failed.
-      event-unsaid : (text : List ℕ) → frames ≢ [] → IsFront text (text_of frames) → StopsOn g server old (event ∷ []) node_stop.AirWrite true text new
+      event-unsaid : (text : List ℕ) → frames ≢ [] → IsFront text (text_of frames) → HaltsOn g server old (event ∷ []) node_stop.AirWrite true text new
       event-unsaid text some is_front =
-          stopped node_stop.AirWrite true text taken.done [] taken.missed (λ writes writes_n rose. (frames, settled last, takes-event, some, is_front, refl))
+          stopped node_stop.AirWrite true text taken.done [] taken.missed (frames, settled last, takes-event, some, is_front, refl)
           (none-cut node_stop.AirWrite (λ e. cc e) taken.done taken.missed by.2) (λ is. cc is)
 
     -- The disk failed in it, and the frames of that step were said, or a front of them.
     event-failed : (by : Heard (Err server_stop.Disk)) (frames : List FrameValue) (last : Server) → Empties (failing server event by.0 parts).after frames last → (text : List ℕ) (unsaid : Bool)
-        → ((writes writes_n : ℕ) → IsUnsaid unsaid writes writes_n → IsSaid writes writes_n (text_of frames) text) → StopsOn g server old (event ∷ []) node_stop.Disk unsaid text new
+        → IsSaid unsaid (text_of frames) text → HaltsOn g server old (event ∷ []) node_stop.Disk unsaid text new
     event-failed by frames last sent text unsaid said =
         let failed : ServerHappened = failing server event by.0 parts in
         let step : ServerStep server event (failed_write by.0 ++ failed_reads parts) failed.done failed.cut failed.missed fails frames (settled last) =
         record { silent = serving.silent; done_is = refl; cut_is = refl; missed_is = refl; halt_is = sym by.1; last = last; sent = sent; new_is = refl } in
-        stopped node_stop.Disk unsaid text failed.done failed.cut failed.missed (λ writes writes_n is. (by.0, parts, frames, settled last, step, said writes writes_n is))
-        (cuts-among-same g ⊤ (stop.Disk ≡ stop.Disk) failed.missed failed.missed old.it.server.store new.it.server.store old.disk new.disk failed.done failed.cut (λ _. refl) (λ _. tt) refl
+        stopped node_stop.Disk unsaid text failed.done failed.cut failed.missed (by.0, parts, frames, settled last, step, said)
+        (cuts-among-same g ⊤ (node_stop.Disk ≡ node_stop.Disk) failed.missed failed.missed old.it.server.store new.it.server.store old.disk new.disk failed.done failed.cut (λ _. refl) (λ _. tt) refl
         (subst (λ (store : StoreState). CutsOffAmongReads g ⊤ failed.missed old.it.server.store store old.disk new.disk failed.done failed.cut) (sym same) by.3)) (λ is. cc is)
 
     -- There was no memory for it.
-    event-unmade : Heard (Err server_stop.OutOfMemory) → StopsOn g server old (event ∷ []) node_stop.OutOfMemory false [] new
-    event-unmade (inl does) =
-        stopped node_stop.OutOfMemory false [] [] [] 0 (λ writes writes_n is. (inl (refl, refl), refl, refl)) (none-cut node_stop.OutOfMemory (λ e. cc e) [] 0 does) (λ is. refl)
+    event-unmade : Heard (Err server_stop.OutOfMemory) → HaltsOn g server old (event ∷ []) node_stop.OutOfMemory false [] new
+    event-unmade (inl does) = stopped node_stop.OutOfMemory false [] [] [] 0 (inl (refl, refl), refl, refl) (none-cut node_stop.OutOfMemory (λ e. cc e) [] 0 does) (λ is. refl)
     event-unmade (inr by) =
         let failed : ServerHappened = failing server event by.0 parts in
-        stopped node_stop.OutOfMemory false [] failed.done [] failed.missed (λ writes writes_n is. (inr (by.0, parts, by.1, refl, refl), refl, refl))
+        stopped node_stop.OutOfMemory false [] failed.done [] failed.missed (inr (by.0, parts, by.1, refl, refl), refl, refl)
         (none-cut node_stop.OutOfMemory (λ e. cc e) failed.done failed.missed by.2) (λ is. refl)
 
   -- It came, and its frames are to be said.
@@ -146,9 +131,9 @@ module _ {D : Type 0} (g : Ghosts D) (lasts : (disk : D) → g.lasts disk disk) 
       stands = by.2;
       memory = up.memory;
       whole = λ frames last self sent same.
-          event-failed old (with_server (heard (Some halt.Disk)) self) event server serving made parts same by frames last sent (text_of frames) false (λ writes writes_n is. inl (refl, is));
+          event-failed old (with_server (heard (Some halt.Disk)) self) event server serving made parts same by frames last sent (text_of frames) false refl;
       front = λ frames last self text sent same some is_front.
-          event-failed old (with_server (heard (Some halt.Disk)) self) event server serving made parts same by frames last sent text true (λ writes writes_n rose. inr (is_front, rose));
+          event-failed old (with_server (heard (Some halt.Disk)) self) event server serving made parts same by frames last sent text true is_front;
     }
     owes-by (Some halt.OutOfMemory) server serving parts by = (refl, event-unmade old (heard (Some halt.OutOfMemory)) event server serving made parts refl by)
 
@@ -158,22 +143,17 @@ module _ {D : Type 0} (g : Ghosts D) (lasts : (disk : D) → g.lasts disk disk) 
 
   -- ---- no events
 
-  runs-none : (start : AtDisk ServerStation D) (self : ServerState) (server : Server) → IsUp g start → self.store ≡ start.it.server.store → IsServing self server → RunsOn g server start [] [] (with_server start self)
-  runs-none start self server up same serving = record {
-    frames = [];
-    commands = [];
-    missed = 0;
+  comes-none : (start : AtDisk ServerStation D) (self : ServerState) (server : Server) → IsUp g start → self.store ≡ start.it.server.store → IsServing self server → ComesOn g server start [] [] (with_server start self)
+  comes-none start self server up same serving = record {
     next = server;
-    serves = (refl, refl, refl, refl);
-    text_is = refl;
     serving = serving;
-    does =
-        subst (λ (store : StoreState). DoesAmongReads g ⊥ 0 start.it.server.store store start.disk start.disk []) (sym same)
-        (does-among g ⊥ start.it.server.store start.it.server.store start.disk start.disk [] (Does-none g ⊥ start.it.server.store start.disk (λ never. never) up.stands_on up.healthy (lasts start.disk)));
+    runs =
+        subst (λ (store : StoreState). RunsOn g server_steps (serving_at server start) (with_store server store start.disk) [] []) (sym same)
+        (runs-none server_steps are_steps g server start.it.server.store start.disk up.healthy up.stands_on (lasts start.disk));
   }
 
   pub goes-none : (start : AtDisk ServerStation D) → IsUp g start → (server_course g).goes start [] [] start
-  goes-none start up server serving = runs-none start start.it.server server up refl serving
+  goes-none start up server serving = comes-none start start.it.server server up refl serving
 
   -- a server that has nothing to send sends nothing
   none-sent : (server : Server) (frames : List FrameValue) (last : Server) → IsSilent server → Empties server frames last → (frames ≡ []) × (last ≡ server)
@@ -189,8 +169,8 @@ module _ {D : Type 0} (g : Ghosts D) (lasts : (disk : D) → g.lasts disk disk) 
       memory = up.memory;
       whole = λ frames last self sent same stands settles.
           let none = none-sent server frames last serving.silent sent in
-          subst (λ (t : List ℕ). RunsOn g server start [] t (with_server start self)) (ap text_of (sym none.0))
-          (runs-none start self server up same (record { is = subst (λ (s : Server). IsServer self s) none.1 stands; silent = serving.silent }));
+          subst (λ (t : List ℕ). ComesOn g server start [] t (with_server start self)) (ap text_of (sym none.0))
+          (comes-none start self server up same (record { is = subst (λ (s : Server). IsServer self s) none.1 stands; silent = serving.silent }));
       front = λ frames last self text sent same some. absurd (some (none-sent server frames last serving.silent sent).0);
     },
   )
@@ -239,7 +219,7 @@ module _ {D : Type 0} (g : Ghosts D) (lasts : (disk : D) → g.lasts disk disk) 
               (ap (λ (o : List ℕ). said ++ (kiss_text o ++ text_of frames)) (sym next.3) ∙ sym (append_assoc said (kiss_text out_n) (text_of frames)))
               (h.whole (next.0.frame ∷ frames) last self (next.0, next.1, refl, sent) (same ∙ store));
           front = λ frames last self text sent same some is_front.
-              subst (λ (t : List ℕ). StopsOn g server start events (stop_at_put why) true t (with_server old self)) (sym (append_assoc said (kiss_text out_n) text))
+              subst (λ (t : List ℕ). HaltsOn g server start events (stop_at_put why) true t (with_server old self)) (sym (append_assoc said (kiss_text out_n) text))
               (h.front (next.0.frame ∷ frames) last self (kiss_text out_n ++ text) (next.0, next.1, refl, sent) (same ∙ store) (λ e. cc e) (
                 is_front.0,
                 ap (λ (t : List ℕ). kiss_text (canonical next.0.frame) ++ t) is_front.1 ∙ ap (λ (o : List ℕ). kiss_text o ++ (text ++ is_front.0)) (sym next.3)
@@ -249,7 +229,7 @@ module _ {D : Type 0} (g : Ghosts D) (lasts : (disk : D) → g.lasts disk disk) 
 
         -- Saying it failed.
         rest-cut : ((then_is : Server) → StandsBy why server_n then_is → (frames : List FrameValue) × (last : Server) × Empties then_is frames last) → (front : List ℕ) → IsFront front (kiss_text out_n)
-            → StopsOn g server start events (stop_at_put why) true (said ++ front) new
+            → HaltsOn g server start events (stop_at_put why) true (said ++ front) new
         rest-cut ends front is_front =
             let later = ends next.0.after next.2 in
             h.front (next.0.frame ∷ later.0) later.1 server_n front (next.0, next.1, refl, later.2) store (λ e. cc e) (
@@ -297,8 +277,8 @@ module _ {D : Type 0} (g : Ghosts D) (lasts : (disk : D) → g.lasts disk disk) 
           let same = (no-next start events said h.0.server is None (h.1 h.0.server h.0.serving)).1 in (
             runs-on,
             record {
-              healthy = among-healthy g runs.missed start.it.server.store server_n.store start.disk old.disk runs.commands runs.does;
-              stands_on = runs.does.stands_on;
+              healthy = among-healthy g runs.runs.missed start.it.server.store server_n.store start.disk old.disk runs.runs.done runs.runs.does;
+              stands_on = runs.runs.does.stands_on;
               silent = ap server_pending same ∙ sym pending ∙ is;
               memory = fine;
               server = runs.next;
@@ -325,46 +305,13 @@ module _ {D : Type 0} (g : Ghosts D) (lasts : (disk : D) → g.lasts disk disk) 
           let first = h server serving in
           let second = k first.next first.serving in
           record {
-            frames = first.frames ++ second.frames;
-            commands = first.commands ++ second.commands;
-            missed = first.missed + second.missed;
             next = second.next;
-            serves =
-                serves-append server events first.frames first.commands first.missed first.next others second.frames second.commands second.missed second.next first.serves second.serves;
-            text_is = ap (λ (t : List ℕ). t ++ more) first.text_is ∙ ap (λ (t : List ℕ). text_of first.frames ++ t) second.text_is ∙ sym (text-append first.frames second.frames);
             serving = second.serving;
-            does =
-                among-then g on ⊥ ⊥ first.missed second.missed start.it.server.store mid.it.server.store now.it.server.store start.disk mid.disk now.disk first.commands second.commands
-                (λ never. never) first.does second.does;
+            runs = runs-on server_steps are_steps g on (serving_at server start) (serving_at first.next mid) (serving_at second.next now) events others text more first.runs second.runs;
           };
       halts_behind = λ start mid now events others text more why unsaid h k server serving.
           let first = h server serving in
-          let second = k first.next first.serving in
-          record {
-            done = first.commands ++ second.done;
-            cut = second.cut;
-            missed = first.missed + second.missed;
-            stops = λ writes writes_n is.
-                subst (λ (t : List ℕ). StopsOver server (events ++ others) (stop_of_node why) writes writes_n (t ++ more) (first.commands ++ second.done) second.cut (first.missed + second.missed)) (sym first.text_is)
-                (subst (λ (es : List NodeEvent). StopsOver server es (stop_of_node why) writes writes_n (text_of first.frames ++ more) (first.commands ++ second.done) second.cut (first.missed + second.missed))
-                (append-nil (events ++ others))
-                (stops-behind (stop_of_node why) writes writes_n second.cut server events first.frames first.commands first.missed first.next others [] more second.done second.missed first.serves
-                (second.stops writes writes_n is)).stops);
-            cuts =
-                cuts-among-then g on _ first.missed second.missed start.it.server.store mid.it.server.store now.it.server.store start.disk mid.disk now.disk first.commands second.done second.cut
-                first.does second.cuts;
-            kept = second.kept;
-          };
+          stops-on server_steps are_steps why unsaid g on (serving_at server start) (serving_at first.next mid) (at now.it.server.store now.disk) events others text more first.runs (k first.next first.serving);
       halts_before = λ start now events others text why unsaid any h server serving.
-          let stop_is = h server serving in
-          record {
-            done = stop_is.done;
-            cut = stop_is.cut;
-            missed = stop_is.missed;
-            stops = λ writes writes_n is.
-                subst (λ (n : ℕ). StopsOver server (events ++ others) (stop_of_node why) writes writes_n text stop_is.done stop_is.cut n) (zero-add stop_is.missed)
-                (stops-behind (stop_of_node why) writes writes_n stop_is.cut server [] [] [] 0 server events others text stop_is.done stop_is.missed (refl, refl, refl, refl) (stop_is.stops writes writes_n is)).stops;
-            cuts = stop_is.cuts;
-            kept = stop_is.kept;
-          };
+          stops-more server_steps are_steps why unsaid g (serving_at server start) (at now.it.server.store now.disk) events others text (h server serving);
     }

@@ -1,22 +1,25 @@
 -- The course of a session's server: that it is lawful, what the server owes by what it hears, and what it gives.
-use Rattle.std.proofs.Common.{◌≡◌, inl, inr, ℕ, Bool, false, None, List, [], ◌++◌, refl, ap, ap₂, sym, ◌∙◌, subst, append_assoc, append-nil, ◌⊎◌, suc, ◌+◌, ◌==◌, ◌<◌, ◌∷◌, length, true, Option, Some, length-append, arith, ◌≤◌, take}
+use Rattle.std.proofs.Common.{◌≡◌, inl, inr, ℕ, Bool, false, None, List, [], ◌++◌, refl, ap, ap₂, sym, ◌∙◌, subst, append_assoc, append-nil, ◌⊎◌, suc, ◌+◌, ◌==◌, ◌<◌, ◌∷◌, length, true, Option, Some, length-append, arith, ◌≤◌, take, map}
 use Rattle.std.specs.List.{AllByRecursion}
 use Rattle.px_base.specs.CallSign.{CallSign}
 use Rattle.disk_model.specs.declared.disk.Disk.{Ghosts}
 use Rattle.file_store.specs.State.{store_in, StoreState}
 use Rattle.ftl0_session.specs.Uploads.Events.{Event, at_moment}
+use Rattle.ftl0_session.specs.Run.{Event as MetEvent, RunsOver, heard_of}
 use Rattle.ftl0_session.specs.Table.{next_due, Row, State, download_part, due_at, failed_reads_told, tells_failed_read}
 use Rattle.node.specs.Course.{AtDisk, IsLawful, GaveAll, GivesNext, OwesSome, at, stop_at_put, stop_of}
 use Rattle.node.specs.Inputs.{Input, IsInput, octets_at, octets_in}
 use Rattle.node.specs.declared.stop.NodeStop.{NodeStop as Stop}
 use Rattle.node.proofs.InputLemmas.{are-octets, octets_in-at}
-use Rattle.server_node.specs.Sessions.Course.{GoesOver, HaltsOver, IsReady, session_course, IsUnderWay, IsAnswered, IsAnswering, IsHalting, IsRowOf, IsStopped, IsUnsaidFirst, LastOf, Owes, OwesAll, SendsTo, met_with, most_left, octets_left}
+use Rattle.server_node.specs.Sessions.Course.{GoesOver, HaltsOver, IsReady, session_course, IsUnderWay, IsAnswered, IsAnswering, IsHalting, IsRowOf, IsStopped, IsUnsaidFirst, LastOf, Owes, OwesAll, SendsTo, met_with, most_left, octets_left, session_at, session_in}
 use Rattle.server_node.specs.Sessions.Packets.{events_behind, events_to, waiting_behind}
-use Rattle.server_node.specs.Sessions.Running.{RunsOn, StopsOn, StopsAt}
+use Rattle.server_node.specs.Sessions.Running.{StopsAt, session_steps}
+use Rattle.server_node.specs.Steps.{RunsOn, StopsOn, StopsOver, made}
 use Rattle.server_node.specs.Sessions.ServerState.{IsUp, ServerState}
-use Rattle.server_node.specs.Stops.{stop_of_node, halt_of_session}
+use Rattle.server_node.specs.Stops.{halt_of_session}
 use Rattle.server_node.proofs.sessions.PacketLemmas.{both-octets, events-append, events-then, hears-none, hears-then, events-of, nothing_partial}
-use Rattle.server_node.proofs.sessions.RunLemmas.{does-none, runs_none, runs_on-trans, stops_on-after, stops_on-more, texts-append, smaller, to-all, to-more, to-same, to-some, with-here, with-other, with_part}
+use Rattle.server_node.proofs.StepsLemmas.{does-none, runs-none, runs-on, stop-one, stops-more, stops-on}
+use Rattle.server_node.proofs.sessions.RunLemmas.{are_steps, texts-append, smaller, to-all, to-more, to-same, to-some, with-here, with-other, with_part}
 use Rattle.std.proofs.Math.Nat.{add-zero, zero-add}
 use Rattle.std.proofs.lemmas.Bool.Decides.{nat_tests}
 use Rattle.px_base.specs.Octets.{IsFront, IsOctets}
@@ -32,9 +35,7 @@ use Rattle.ftl0_session.specs.Uploads.Failures.{failed_reads, read_fails}
 use Rattle.ftl0_session.specs.SessionState.{SessionState, state_in}
 use Rattle.ftl0_session.specs.Taking.{row_over, TakesPacket, Working}
 use Rattle.ftl0_session.proofs.WorkingLemmas.{Sent, due-among, told-append, row-at, taken-among, taken-cut, taken-none}
-use Rattle.node.specs.Turns.{IsUnsaid}
 use Rattle.node.specs.declared.halt.Halt.{Halt}
-use Rattle.server_node.specs.declared.stop.NodeStop.{NodeStop}
 use Rattle.server_node.specs.Sessions.Server.{IsServer, IsWaiting}
 use Rattle.server_node.specs.declared.sessions.server.SessionServer.TheInside.{Inside}
 use Rattle.std.specs.Prelude.{Result, Ok, Err, IsTrue, if◌then◌else◌, ⊤}
@@ -45,7 +46,6 @@ use Rattle.ftl0_packets.proofs.OctetLemmas.{IsOctets-take, IsOctets-nil}
 use Rattle.ftl0_session.specs.declared.stop.ServerStop.{ServerStop}
 use Rattle.node.specs.declared.halt.Halt.TheVariants as halt
 use Rattle.node.specs.declared.stop.NodeStop.TheVariants as node_stop
-use Rattle.server_node.specs.declared.stop.NodeStop.TheVariants as stop
 use Rattle.ftl0_session.specs.declared.stop.ServerStop.TheVariants as session_stop
 
 -- ---- texts
@@ -95,7 +95,7 @@ module _ {D : Type 0} (g : Ghosts D) (lasts : (disk : D) → g.lasts disk disk) 
     silent = ready.silent;
     replies = [];
     text_is = sym (append-nil a.it.replies ∙ ready.silent);
-    runs = runs_none g a.it.caller a.it.store a.it.lists a.disk a.it.state ready.up.healthy ready.up.stands_on (lasts a.disk);
+    runs = runs-none (session_steps a.it.caller) (are_steps a.it.caller) g (session_in a.it) a.it.store a.disk ready.up.healthy ready.up.stands_on (lasts a.disk);
   }
 
   module _ (a b c : AtDisk ServerState D) (xs ys : List Input) (text more : List ℕ) (h : GoesOver g a xs text b) where
@@ -104,20 +104,16 @@ module _ {D : Type 0} (g : Ghosts D) (lasts : (disk : D) → g.lasts disk disk) 
     text-then replies is = ap₂ (λ (t u : List ℕ). t ++ u) h.text_is (said-behind b.it.replies more replies h.silent is) ∙ append_assoc a.it.replies h.replies replies
 
     goes-on : GoesOver g b ys more c → GoesOver g a (xs ++ ys) (text ++ more) c
-    goes-on k =
-        let at_caller : CallSign → Type 0 = λ call. RunsOn g call b.it.store c.it.store b.it.lists c.it.lists b.disk c.disk b.it.state c.it.state (events_to b.it ys) k.replies in
-        let at_events : List Event → Type 0 =
-        λ events. RunsOn g a.it.caller a.it.store c.it.store a.it.lists c.it.lists a.disk c.disk a.it.state c.it.state events (h.replies ++ k.replies) in
-        record {
-          hears = hears-then a.it b.it xs h.hears c.it ys k.hears;
-          silent = k.silent;
-          replies = h.replies ++ k.replies;
-          text_is = text-then k.replies k.text_is;
-          runs =
-              subst at_events (sym (events-then a.it b.it xs h.hears ys))
-              (runs_on-trans g on a.it.caller a.it.store b.it.store a.it.lists b.it.lists a.disk b.disk a.it.state b.it.state (events_to a.it xs) h.replies h.runs
-              c.it.store c.it.lists c.disk c.it.state (events_to b.it ys) k.replies (subst at_caller h.hears.caller k.runs));
-        }
+    goes-on k = record {
+      hears = hears-then a.it b.it xs h.hears c.it ys k.hears;
+      silent = k.silent;
+      replies = h.replies ++ k.replies;
+      text_is = text-then k.replies k.text_is;
+      runs =
+          subst (λ (es : List Event). RunsOn g (session_steps a.it.caller) (session_at a) (session_at c) es (h.replies ++ k.replies)) (sym (events-then a.it b.it xs h.hears ys))
+          (runs-on (session_steps a.it.caller) (are_steps a.it.caller) g on (session_at a) (session_at b) (session_at c) (events_to a.it xs) (events_to b.it ys) h.replies k.replies h.runs
+          (subst (λ (call : CallSign). RunsOn g (session_steps call) (session_at b) (session_at c) (events_to b.it ys) k.replies) h.hears.caller k.runs));
+    }
 
     halts-behind : (why : Stop) (unsaid : Bool) → HaltsOver g b ys why unsaid more c → HaltsOver g a (xs ++ ys) why unsaid (text ++ more) c
     halts-behind why unsaid k = (
@@ -127,15 +123,10 @@ module _ {D : Type 0} (g : Ghosts D) (lasts : (disk : D) → g.lasts disk disk) 
         | inr stopped ↦ inr (record {
           replies = h.replies ++ stopped.replies;
           text_is = text-then stopped.replies stopped.text_is;
-          whole = stopped.whole;
-          stops = λ writes writes_n failed.
-              let at_caller : CallSign → Type 0 =
-              λ call. StopsOn g call b.it.store c.it.store b.it.lists b.disk c.disk b.it.state (events_to b.it ys) (stop_of_node why) writes writes_n stopped.replies in
-              let at_events : List Event → Type 0 =
-              λ events. StopsOn g a.it.caller a.it.store c.it.store a.it.lists a.disk c.disk a.it.state events (stop_of_node why) writes writes_n (h.replies ++ stopped.replies) in
-              subst at_events (sym (events-then a.it b.it xs h.hears ys))
-              (stops_on-after g on a.it.caller a.it.store b.it.store a.it.lists b.it.lists a.disk b.disk a.it.state b.it.state (events_to a.it xs) h.replies h.runs
-              c.it.store c.disk (events_to b.it ys) (stop_of_node why) writes writes_n stopped.replies (subst at_caller h.hears.caller (stopped.stops writes writes_n failed)));
+          stops =
+              subst (λ (es : List Event). StopsOn g (session_steps a.it.caller) (session_at a) (at c.it.store c.disk) es why unsaid (h.replies ++ stopped.replies)) (sym (events-then a.it b.it xs h.hears ys))
+              (stops-on (session_steps a.it.caller) (are_steps a.it.caller) why unsaid g on (session_at a) (session_at b) (at c.it.store c.disk) (events_to a.it xs) (events_to b.it ys) h.replies stopped.replies h.runs
+              (subst (λ (call : CallSign). StopsOn g (session_steps call) (session_at b) (at c.it.store c.disk) (events_to b.it ys) why unsaid stopped.replies) h.hears.caller stopped.stops));
         })
       ],
     )
@@ -149,13 +140,10 @@ module _ {D : Type 0} (g : Ghosts D) (lasts : (disk : D) → g.lasts disk disk) 
       | inr stopped ↦ inr (record {
         replies = stopped.replies;
         text_is = stopped.text_is;
-        whole = stopped.whole;
-        stops = λ writes writes_n failed.
-            let at_events : List Event → Type 0 =
-            λ events. StopsOn g a.it.caller a.it.store c.it.store a.it.lists a.disk c.disk a.it.state events (stop_of_node why) writes writes_n stopped.replies in
-            subst at_events (sym (events-append a.it.octets xs ys))
-            (stops_on-more g a.it.caller a.it.store c.it.store a.it.lists a.disk c.disk a.it.state (events_to a.it xs) (events_behind (waiting_behind a.it.octets xs) ys) (stop_of_node why)
-            writes writes_n stopped.replies (stopped.stops writes writes_n failed));
+        stops =
+            subst (λ (es : List Event). StopsOn g (session_steps a.it.caller) (session_at a) (at c.it.store c.disk) es why unsaid stopped.replies) (sym (events-append a.it.octets xs ys))
+            (stops-more (session_steps a.it.caller) (are_steps a.it.caller) why unsaid g (session_at a) (at c.it.store c.disk) (events_to a.it xs) (events_behind (waiting_behind a.it.octets xs) ys) stopped.replies
+            stopped.stops);
       })
     ],
   )
@@ -189,73 +177,54 @@ server-filled a store session h k due is = record {
 
 -- ---- a stop at the one packet that was taken
 
-module _ {D : Type 0} (g : Ghosts D) (old : ServerState) (new : StoreState) (disk disk_n : D) (events : List Event) (event : Event) (only : events ≡ event ∷ []) (parts : List ℕ) (row : Row)
-    (is_row : IsRowOf old (met_with event parts) row) where
-  stop-at : (why : NodeStop) (writes writes_n : ℕ) (text : List ℕ) (done cut : List Command) (missed : ℕ)
-      → StopsAt why (store_in old.store) old.state (met_with event parts) row writes writes_n text done cut missed
-      → CutsOffAmongReads g (why ≡ stop.Disk) missed old.store new disk disk_n done cut
-      → StopsOn g old.caller old.store new old.lists disk disk_n old.state events why writes writes_n text
-  stop-at why writes writes_n text done cut missed stops cuts = record {
+module _ {D : Type 0} (g : Ghosts D) (old : AtDisk ServerState D) (new : AtDisk StoreState D) (events : List Event) (event : Event) (only : events ≡ event ∷ []) (parts : List ℕ) (row : Row)
+    (is_row : IsRowOf old.it (met_with event parts) row) (why : Stop) (unsaid : Bool) (text : List ℕ) where
+  stop-at : (done cut : List Command) (missed : ℕ) → StopsAt why unsaid (session_in old.it) (met_with event parts) row (made text done missed) cut
+      → CutsOffAmongReads g (why ≡ node_stop.Disk) missed old.it.store new.it old.disk new.disk done cut → (why ≡ node_stop.OutOfMemory → unsaid ≡ false)
+      → StopsOn g (session_steps old.it.caller) (session_at old) new events why unsaid text
+  stop-at done cut missed stops cuts kept = record {
     done = done;
     cut = cut;
     missed = missed;
     stops =
-        record {
-          before = [];
-          next = met_with event parts;
-          later = [];
-          events_are = only;
-          said = [];
-          commands = [];
-          store_then = store_in old.store;
-          lists_then = old.lists;
-          state_then = old.state;
-          runs = (refl, refl, refl, refl, refl);
-          last = text;
-          more = done;
-          last_missed = missed;
-          stops = subst (λ (r : Row). StopsAt why (store_in old.store) old.state (met_with event parts) r writes writes_n text done cut missed) (sym is_row) stops;
-          text_is = refl;
-          done_is = refl;
-          missed_is = sym (zero-add missed);
-        };
+        subst (λ (es : List Event). StopsOver (session_steps old.it.caller) (session_in old.it) es why unsaid (made text done missed) cut) (sym only)
+        (stop-one (session_steps old.it.caller) (are_steps old.it.caller) why unsaid (session_in old.it) event (made text done missed) cut
+        (record { met = met_with event parts; heard = refl; stops = subst (λ (r : Row). StopsAt why unsaid (session_in old.it) (met_with event parts) r (made text done missed) cut) (sym is_row) stops }));
     cuts = cuts;
+    kept = kept;
   }
 
 module _ {D : Type 0} (g : Ghosts D) (lasts : (disk : D) → g.lasts disk disk) (start : AtDisk ServerState D) (inputs : List Input) (now : AtDisk ServerState D) where
   -- ---- it halts, and its last reply was said whole, or a put of it failed
 
-  module _ (why : Halt) (text : List ℕ) (h : IsHalting g start inputs why text now) (how : Stop) (unsaid : Bool) (said : List ℕ) (there : why ≡ halt.Disk → stop_of_node how ≡ stop.Disk)
-      (back : stop_of_node how ≡ stop.Disk → why ≡ halt.Disk) where
-    stops-so : (how ≡ node_stop.OutOfMemory → unsaid ≡ false)
-        → ((writes writes_n : ℕ) → IsUnsaid unsaid writes writes_n
-        → StopsAt (stop_of_node how) (store_in start.it.store) start.it.state (met_with h.event h.parts) h.row writes writes_n said [] h.cut (failed_reads_told h.row.replies))
-        → HaltsOver g start inputs how unsaid said now
-    stops-so whole stops = (
-      h.are_octets,
-      inr (record {
-        replies = said;
-        text_is = ap (λ (t : List ℕ). t ++ said) (sym h.silent);
-        whole = whole;
-        stops = λ writes writes_n failed.
-            let missed : ℕ = failed_reads_told h.row.replies in
-            stop-at g start.it now.it.store start.disk now.disk (events_to start.it inputs) h.event h.only h.parts h.row h.is_row (stop_of_node how) writes writes_n said [] h.cut missed (stops writes writes_n failed)
-            (cuts-among-same g (why ≡ halt.Disk) (stop_of_node how ≡ stop.Disk) missed missed start.it.store now.it.store start.disk now.disk [] h.cut there back refl h.cuts);
-      }),
-    )
+  stops-so : (why : Halt) (text : List ℕ) (h : IsHalting g start inputs why text now) (unsaid : Bool) (said : List ℕ) → (stop_of why ≡ node_stop.OutOfMemory → unsaid ≡ false)
+      → StopsAt (stop_of why) unsaid (session_in start.it) (met_with h.event h.parts) h.row (made said [] (failed_reads_told h.row.replies)) h.cut → HaltsOver g start inputs (stop_of why) unsaid said now
+  stops-so why text h unsaid said kept stops = (
+    h.are_octets,
+    inr (record {
+      replies = said;
+      text_is = ap (λ (t : List ℕ). t ++ said) (sym h.silent);
+      stops =
+          let missed : ℕ = failed_reads_told h.row.replies in
+          stop-at g start (at now.it.store now.disk) (events_to start.it inputs) h.event h.only h.parts h.row h.is_row (stop_of why) unsaid said [] h.cut missed stops
+          (cuts-among-same g (why ≡ halt.Disk) (stop_of why ≡ node_stop.Disk) missed missed start.it.store now.it.store start.disk now.disk [] h.cut (ap stop_of) (by-disk why) refl h.cuts) kept;
+    }),
+  )
+    where
+      by-disk : (why : Halt) → stop_of why ≡ node_stop.Disk → why ≡ halt.Disk
+      by-disk halt.Disk is = refl
+      by-disk halt.OutOfMemory is = absurd (cc is)
 
   halts-whole : (why : Halt) (text : List ℕ) → IsHalting g start inputs why text now → HaltsOver g start inputs (stop_of why) false text now
-  halts-whole halt.Disk text h =
-      stops-so halt.Disk text h node_stop.Disk false text (λ is. refl) (λ is. refl) (λ is. refl) (λ writes writes_n same. (inl (h.last.0, same), refl, h.last.1, refl))
+  halts-whole halt.Disk text h = stops-so halt.Disk text h false text (λ is. refl) (h.last.0, refl, refl, h.last.1)
   halts-whole halt.OutOfMemory text h =
-      stops-so halt.OutOfMemory text h node_stop.OutOfMemory false text (λ is. absurd (cc is)) (λ is. absurd (cc is)) (λ is. refl) (λ writes writes_n same. (h.last.0, h.last.1, refl, h.last.2, refl))
+      stops-so halt.OutOfMemory text h false text (λ is. refl) (h.last.0, ap (λ (t : List ℕ). made t [] (failed_reads_told h.row.replies)) h.last.1, h.last.2)
 
   -- a put failed, behind a front of this text
   module _ (said text front : List ℕ) (some : text ≡ [] → ⊥) (is_front : IsFront front text) where
     halts-cut : (why : Option Halt) → OwesAll g start inputs why (said ++ text) now → HaltsOver g start inputs (stop_at_put why) true (said ++ front) now
     halts-cut (Some halt.Disk) h =
-        stops-so halt.Disk (said ++ text) h node_stop.Disk true (said ++ front) (λ is. refl) (λ is. refl) (λ is. absurd (cc is))
-        (λ writes writes_n rose. (inr (front-behind said text front _ is_front h.last.0, rose), refl, h.last.1, refl))
+        stops-so halt.Disk (said ++ text) h true (said ++ front) (λ is. absurd (cc is)) (front-behind said text front _ is_front h.last.0, refl, refl, h.last.1)
     halts-cut (Some halt.OutOfMemory) h = absurd (some-last said text some h.last.1)
     halts-cut None h = (h.hears.are_octets, by (events_to start.it inputs) refl h.answered)
       where
@@ -280,9 +249,8 @@ module _ {D : Type 0} (g : Ghosts D) (lasts : (disk : D) → g.lasts disk disk) 
             inr (record {
               replies = said ++ front;
               text_is = ap (λ (t : List ℕ). t ++ (said ++ front)) (sym an.silent);
-              whole = λ memory. absurd (cc memory);
-              stops = λ writes writes_n rose.
-                  stop-at g start.it now.it.store start.disk now.disk (events_to start.it inputs) event is an.parts an.row an.is_row stop.AirWrite writes writes_n (said ++ front) an.row.commands [] (failed_reads_told answer) (
+              stops =
+                  stop-at g start (at now.it.store now.disk) (events_to start.it inputs) event is an.parts an.row an.is_row node_stop.AirWrite true (said ++ front) an.row.commands [] (failed_reads_told answer) (
                     an.sent,
                     to-some (after_all (store_in start.it.store) an.row.commands) (failed_reads an.parts) an.row.state 1 an.sent now.it.state an.sends,
                     (λ none. some-last said text some (whole ∙ none)),
@@ -291,8 +259,8 @@ module _ {D : Type 0} (g : Ghosts D) (lasts : (disk : D) → g.lasts disk disk) 
                     refl,
                     refl,
                   )
-                  (cuts-among-none g (stop.AirWrite ≡ stop.Disk) (failed_reads_told answer) start.it.store now.it.store start.disk now.disk an.row.commands (λ e. cc e) (lasts now.disk)
-                  (does (failed_reads_told answer) an.row.commands (ap failed_reads_told an.said_is) an.commands_are));
+                  (cuts-among-none g (node_stop.AirWrite ≡ node_stop.Disk) (failed_reads_told answer) start.it.store now.it.store start.disk now.disk an.row.commands (λ e. cc e) (lasts now.disk)
+                  (does (failed_reads_told answer) an.row.commands (ap failed_reads_told an.said_is) an.commands_are)) (λ memory. absurd (cc memory));
             })
         by (event ∷ next ∷ events) is never = absurd never
 
@@ -305,17 +273,23 @@ module _ {D : Type 0} (g : Ghosts D) (lasts : (disk : D) → g.lasts disk disk) 
     record { up = record { healthy = (h.does.done (λ never. never)).1; stands_on = h.does.stands_on }; goes_on = h.goes_on; silent = silent; none_due = none_due },
   )
     where
+      ran : (events : List Event) (met : List MetEvent) → map heard_of met ≡ events
+          → RunsOver start.it.caller (store_in start.it.store) start.it.lists start.it.state met h.said h.commands (store_in now.it.store) now.it.lists now.it.state
+          → RunsOn g (session_steps start.it.caller) (session_at start) (session_at now) events (texts h.said)
+      ran events met heard runs =
+          record { done = h.commands; missed = failed_reads_told h.said; goes = record { met = met; heard = heard; said = h.said; text_is = refl; missed_is = refl; runs = runs }; does = h.does }
+
       by : (events : List Event) → IsAnswered start.it now.it.store now.it.lists now.it.state events h.said h.commands
-          → RunsOn g start.it.caller start.it.store now.it.store start.it.lists now.it.lists start.disk now.disk start.it.state now.it.state events (texts h.said)
-      by [] none =
-          record { met = []; heard = refl; said = h.said; text_is = refl; commands = h.commands; runs = (none.0, none.1, ap store_in none.2, none.3, none.4); does = h.does }
+          → RunsOn g (session_steps start.it.caller) (session_at start) (session_at now) events (texts h.said)
+      by [] none = ran [] [] refl (none.0, none.1, ap store_in none.2, none.3, none.4)
       by (event ∷ []) an =
           let store : store_in now.it.store ≡ after_all (store_in start.it.store) an.row.commands =
           among-store g (failed_reads_told h.said) start.it.store now.it.store start.disk now.disk h.commands h.does ∙ ap (after_all (store_in start.it.store)) an.commands_are in
           let sends = to-all (after_all (store_in start.it.store) an.row.commands) (failed_reads an.parts) an.row.state 1 an.sent now.it.state
           (λ fails. ap (λ s. next_due s now.it.state fails) (sym store) ∙ none_due fails) an.sends in
           let said = an.said_is ∙ ap (λ (ps : List PacketValue). an.row.replies ++ ps) (sym (append-nil an.sent)) in
-          record { met = met_with event an.parts ∷ []; heard = refl; said = h.said; text_is = refl; commands = h.commands; runs = (an.row, an.sent, now.it.state, [], [], an.is_row, sends, said, an.commands_are ∙ sym (append-nil an.row.commands), (refl, refl, store, an.lists_are, refl)); does = h.does }
+          ran (event ∷ []) (met_with event an.parts ∷ []) refl
+          (an.row, an.sent, now.it.state, [], [], an.is_row, sends, said, an.commands_are ∙ sym (append-nil an.row.commands), (refl, refl, store, an.lists_are, refl))
       by (event ∷ next ∷ events) never = absurd never
 
 module _ {D : Type 0} (g : Ghosts D) (lasts : (disk : D) → g.lasts disk disk) (on : (first second third : D) → g.lasts first second → g.lasts second third → g.lasts first third)

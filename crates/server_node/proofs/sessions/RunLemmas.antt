@@ -1,24 +1,19 @@
 -- How a session goes on over events and sends what is due, and how it stops.
 use Rattle.std.proofs.Common.{◌≡◌, ℕ, List, [], ◌∷◌, ◌+◌, ◌++◌, false, map, refl, ap, ap₂, sym, ◌∙◌, subst, append_assoc, suc, ◌==◌, ◌<◌, ◌≤◌, length, take, Bool, true, ◌&&◌, ◌||◌, Option, None, Some, length-drop, arith}
-use Rattle.std.proofs.Math.Nat.{add_assoc}
 use Rattle.std.proofs.lemmas.List.{map-append}
 use Rattle.px_base.specs.CallSign.{CallSign}
-use Rattle.disk_model.specs.declared.disk.Disk.{Ghosts}
 use Rattle.ftl0_packets.specs.Items.{texts}
 use Rattle.ftl0_packets.specs.Layout.{PacketValue, packet_text, data_end, data_part, dl_error_resp}
 use Rattle.ftl0_session.specs.Lists.Lists.{CallerList}
 use Rattle.file_store.specs.Command.{Command, after_all}
 use Rattle.file_store.specs.Store.{Store}
-use Rattle.file_store.specs.State.{StandsOn, StoreState, store_in}
-use Rattle.file_store.specs.Working.{CutsOffAmongReads, DoesAmongReads}
-use Rattle.file_store.proofs.Offered.{Does-none, among-same, among-then, cuts-among-then, does-among}
-use Rattle.ftl0_session.specs.Uploads.Events.{Event}
+use Rattle.file_store.specs.State.{StoreState, store_in}
 use Rattle.ftl0_session.specs.Run.{Event as MetEvent, RunsOver, event_row, heard_of, Sends}
 use Rattle.ftl0_session.specs.Table.{Row, State, failed_reads_told, DuePacket, download_part, due_at, in_session, next_due, state_by}
 use Rattle.ftl0_session.proofs.WorkingLemmas.{told-append}
-use Rattle.server_node.specs.declared.stop.NodeStop.{NodeStop}
 use Rattle.server_node.specs.Sessions.Laws.{ComesTo}
-use Rattle.server_node.specs.Sessions.Running.{RunsOn, StopsBehind, StopsOn, StopsOver, SendsSome}
+use Rattle.server_node.specs.Sessions.Running.{SendsSome, session_steps}
+use Rattle.server_node.proofs.StepsLemmas.{AreSteps}
 use Rattle.std.specs.Prelude.{if◌then◌else◌}
 use Rattle.std.specs.Option.{option_map}
 use Rattle.std.proofs.lemmas.Bool.Decides.{nat_tests}
@@ -33,7 +28,6 @@ use Rattle.ftl0_session.proofs.downloads.SentLemmas.{is_due-after}
 use Rattle.ftl0_session.specs.SessionState.{SessionState, state_in}
 use Rattle.ftl0_session.proofs.RowLemmas.{download_part-is}
 use Rattle.server_node.specs.Sessions.Course.{SendsTo, octets_left}
-use Rattle.server_node.specs.declared.stop.NodeStop.TheVariants as stop
 use Rattle.ftl0_session.specs.declared.uploads.phase.Phase.TheVariants as phase
 use Rattle.ftl0_session.specs.Downloads.Sending as due
 
@@ -93,130 +87,18 @@ module _ (caller : CallSign) where
     runs-trans (after_all store h.0.commands) h.0.lists h.2 events h.3 h.4 mid lists_m between others more further now lists_n next h.9 k,
   )
 
-  -- events, and a stop at one of others, behind them
-  pub stops_after :
-      (store : Store) (lists : List CallerList) (state : State) (met : List MetEvent) (said : List PacketValue) (commands : List Command) (mid : Store) (lists_m : List CallerList) (between : State)
-      (others : List Event) (why : NodeStop) (writes writes_n : ℕ) (more : List ℕ) (done cut : List Command) (missed : ℕ)
-      → RunsOver caller store lists state met said commands mid lists_m between → StopsOver caller mid lists_m between others why writes writes_n more done cut missed
-      → StopsBehind (map heard_of met) caller store lists state (map heard_of met ++ others) why writes writes_n (texts said ++ more) (commands ++ done) cut (failed_reads_told said + missed)
-  stops_after store lists state met said commands mid lists_m between others why writes writes_n more done cut missed h k =
-      let both : map heard_of (met ++ k.before) ≡ map heard_of met ++ map heard_of k.before = map-append heard_of met k.before in
-      record {
-        stops =
-            record {
-              before = met ++ k.before;
-              next = k.next;
-              later = k.later;
-              events_are =
-                  ap (λ es. map heard_of met ++ es) k.events_are ∙ sym (append_assoc (map heard_of met) (map heard_of k.before) (heard_of k.next ∷ k.later))
-                  ∙ ap (λ es. es ++ heard_of k.next ∷ k.later) (sym both);
-              said = said ++ k.said;
-              commands = commands ++ k.commands;
-              store_then = k.store_then;
-              lists_then = k.lists_then;
-              state_then = k.state_then;
-              runs = runs-trans store lists state met said commands mid lists_m between k.before k.said k.commands k.store_then k.lists_then k.state_then h k.runs;
-              last = k.last;
-              more = k.more;
-              last_missed = k.last_missed;
-              stops = k.stops;
-              text_is = ap (λ t. texts said ++ t) k.text_is ∙ sym (append_assoc (texts said) (texts k.said) k.last) ∙ ap (λ t. t ++ k.last) (sym (texts-append said k.said));
-              done_is = ap (λ c. commands ++ c) k.done_is ∙ sym (append_assoc commands k.commands k.more);
-              missed_is =
-                  ap (λ n. failed_reads_told said + n) k.missed_is ∙ sym (add_assoc (failed_reads_told said) (failed_reads_told k.said) k.last_missed)
-                  ∙ ap (λ n. n + k.last_missed) (sym (told-append said k.said));
-            };
-        between = map heard_of k.before;
-        in_order = both;
-      }
-
-module _ {D : Type 0} (g : Ghosts D) where
-  -- nothing is done
-  pub does-none : (store : StoreState) (disk : D) → store.journal.failed ≡ false → StandsOn g store disk → g.lasts disk disk → DoesAmongReads g ⊥ 0 store store disk disk []
-  does-none store disk healthy stands lasts = does-among g ⊥ store store disk disk [] (Does-none g ⊥ store disk (λ never. never) stands healthy lasts)
-
-  -- nothing is taken
-  pub runs_none : (caller : CallSign) (store : StoreState) (lists : List CallerList) (disk : D) (state : State) → store.journal.failed ≡ false → StandsOn g store disk → g.lasts disk disk
-      → RunsOn g caller store store lists lists disk disk state state [] []
-  runs_none caller store lists disk state healthy stands lasts = record {
-    met = [];
-    heard = refl;
-    said = [];
-    text_is = refl;
-    commands = [];
-    runs = (refl, refl, refl, refl, refl);
-    does = does-none store disk healthy stands lasts;
+  pub are_steps : AreSteps (session_steps caller)
+  are_steps = record {
+    none = λ s. record { met = []; heard = refl; said = []; text_is = refl; missed_is = refl; runs = (refl, refl, refl, refl, refl) };
+    on = λ a b c xs ys m n h k. record {
+      met = h.met ++ k.met;
+      heard = map-append heard_of h.met k.met ∙ ap₂ (λ es os. es ++ os) h.heard k.heard;
+      said = h.said ++ k.said;
+      text_is = ap₂ (λ t u. t ++ u) h.text_is k.text_is ∙ sym (texts-append h.said k.said);
+      missed_is = ap₂ (λ t u. t + u) h.missed_is k.missed_is ∙ sym (told-append h.said k.said);
+      runs = runs-trans a.store a.lists a.state h.met h.said m.done b.store b.lists b.state k.met k.said n.done c.store c.lists c.state h.runs k.runs;
+    };
   }
-
-module _ {D : Type 0} (g : Ghosts D) (caller : CallSign) where
-  -- a stop at one of some events, with others behind them
-  pub stops_on-more :
-      (a c : StoreState) (lists : List CallerList) (d f : D) (state : State) (events more : List Event) (why : NodeStop) (writes writes_n : ℕ) (text : List ℕ)
-      → StopsOn g caller a c lists d f state events why writes writes_n text → StopsOn g caller a c lists d f state (events ++ more) why writes writes_n text
-  stops_on-more a c lists d f state events more why writes writes_n text h = record {
-    done = h.done;
-    cut = h.cut;
-    missed = h.missed;
-    stops =
-        record {
-          before = h.stops.before;
-          next = h.stops.next;
-          later = h.stops.later ++ more;
-          events_are = ap (λ es. es ++ more) h.stops.events_are ∙ append_assoc (map heard_of h.stops.before) (heard_of h.stops.next ∷ h.stops.later) more;
-          said = h.stops.said;
-          commands = h.stops.commands;
-          store_then = h.stops.store_then;
-          lists_then = h.stops.lists_then;
-          state_then = h.stops.state_then;
-          runs = h.stops.runs;
-          last = h.stops.last;
-          more = h.stops.more;
-          last_missed = h.stops.last_missed;
-          stops = h.stops.stops;
-          text_is = h.stops.text_is;
-          done_is = h.stops.done_is;
-          missed_is = h.stops.missed_is;
-        };
-    cuts = h.cuts;
-  }
-
-module _ {D : Type 0} (g : Ghosts D) (on : (first second third : D) → g.lasts first second → g.lasts second third → g.lasts first third) (caller : CallSign)
-    (a b : StoreState) (l m : List CallerList) (d e : D) (state between : State) (events : List Event) (text : List ℕ) (h : RunsOn g caller a b l m d e state between events text) where
-  -- the same with what is done on the disk
-  pub runs_on-trans :
-      (c : StoreState) (n : List CallerList) (f : D) (next : State) (others : List Event) (more : List ℕ) → RunsOn g caller b c m n e f between next others more
-      → RunsOn g caller a c l n d f state next (events ++ others) (text ++ more)
-  runs_on-trans c n f next others more k = record {
-    met = h.met ++ k.met;
-    heard = map-append heard_of h.met k.met ∙ ap₂ (λ es os. es ++ os) h.heard k.heard;
-    said = h.said ++ k.said;
-    text_is = ap₂ (λ t u. t ++ u) h.text_is k.text_is ∙ sym (texts-append h.said k.said);
-    commands = h.commands ++ k.commands;
-    runs = runs-trans caller (store_in a) l state h.met h.said h.commands (store_in b) m between k.met k.said k.commands (store_in c) n next h.runs k.runs;
-    does =
-        among-same g ⊥ ⊥ (failed_reads_told h.said + failed_reads_told k.said) (failed_reads_told (h.said ++ k.said)) a c d f (h.commands ++ k.commands) (λ never. never) (λ never. never)
-        (sym (told-append h.said k.said))
-        (among-then g on ⊥ ⊥ (failed_reads_told h.said) (failed_reads_told k.said) a b c d e f h.commands k.commands (λ never. never) h.does k.does);
-  }
-
-  module _ (c : StoreState) (f : D) (others : List Event) (why : NodeStop) (writes writes_n : ℕ) (more : List ℕ) (k : StopsOn g caller b c m e f between others why writes writes_n more) where
-    -- events that were taken, and a stop at one of others
-    pub stops_behind :
-        StopsBehind events caller (store_in a) l state (events ++ others) why writes writes_n (text ++ more) (h.commands ++ k.done) k.cut (failed_reads_told h.said + k.missed)
-    stops_behind =
-        let at_text : List ℕ → Type 0 =
-        λ t. StopsBehind events caller (store_in a) l state (events ++ others) why writes writes_n (t ++ more) (h.commands ++ k.done) k.cut (failed_reads_told h.said + k.missed) in
-        let at_events : List Event → Type 0 =
-        λ es. StopsBehind es caller (store_in a) l state (es ++ others) why writes writes_n (texts h.said ++ more) (h.commands ++ k.done) k.cut (failed_reads_told h.said + k.missed) in
-        subst at_text (sym h.text_is)
-        (subst at_events h.heard
-        (stops_after caller (store_in a) l state h.met h.said h.commands (store_in b) m between others why writes writes_n more k.done k.cut k.missed h.runs k.stops))
-
-    pub cuts_behind : CutsOffAmongReads g (why ≡ stop.Disk) (failed_reads_told h.said + k.missed) a c d f (h.commands ++ k.done) k.cut
-    cuts_behind = cuts-among-then g on (why ≡ stop.Disk) (failed_reads_told h.said) k.missed a b c d e f h.commands k.done k.cut h.does k.cuts
-
-    pub stops_on-after : StopsOn g caller a c l d f state (events ++ others) why writes writes_n (text ++ more)
-    stops_on-after = record { done = h.commands ++ k.done; cut = k.cut; missed = failed_reads_told h.said + k.missed; stops = stops_behind.stops; cuts = cuts_behind }
 
 -- ---- parts whose reads failed
 

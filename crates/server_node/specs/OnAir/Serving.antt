@@ -1,18 +1,19 @@
 -- How a server goes on over the events of its node: which frames it says, and which commands of the store it does, up
 -- to a stop.
-use Rattle.std.specs.Prelude.{◌≡◌, ◌≢◌, ◌⊎◌, ℕ, ◌+◌, List, [], ◌∷◌, ◌++◌, flat_map}
+use Rattle.std.specs.Prelude.{◌≡◌, ◌≢◌, ◌⊎◌, ℕ, ◌+◌, List, [], ◌∷◌, ◌++◌, flat_map, Bool}
 use Rattle.px_base.specs.Octets.{IsFront}
 use Rattle.kiss.specs.KissText.{kiss_text}
 use Rattle.ax25_frames.specs.FrameText.{FrameValue, canonical}
 use Rattle.file_store.specs.Command.{Command}
 use Rattle.node.specs.Events.{NodeEvent}
+use Rattle.node.specs.declared.stop.NodeStop.{NodeStop as Stop}
+use Rattle.node.specs.declared.stop.NodeStop.TheVariants as node_stop
 use Rattle.ftl0_server.specs.Failures.{failed_reads, failed_write}
 use Rattle.ftl0_server.specs.Connection.Taking.{fails, goes_on}
 use Rattle.ftl0_server.specs.Server.{Server, ServerHappened}
 use Rattle.ftl0_server.specs.ServerStep.{ServerStep, happening}
-use Rattle.server_node.specs.declared.stop.NodeStop.{NodeStop}
-use Rattle.server_node.specs.declared.stop.NodeStop.TheVariants as stop
 use Rattle.server_node.specs.Sessions.Running.{IsSaid}
+use Rattle.server_node.specs.Steps.{Made, Steps}
 
 -- the KISS text of frames, one after another
 abbrev pub text_of : List FrameValue → List ℕ
@@ -36,64 +37,41 @@ ServesOver server (event ∷ events) frames commands missed now =
     × (frames ≡ sent ++ more) × (commands ≡ done ++ others) × (missed ≡ (told + later))
     × ServesOver next events more others later now
 
+-- the same, by all that was said and done
+pub record ServesAs (server : Server) (events : List NodeEvent) (all : Made) (now : Server) : Type 0 where
+  pub frames : List FrameValue
+  pub text_is : all.text ≡ text_of frames
+  pub serves : ServesOver server events frames all.done all.missed now
+
 -- what this event makes of the server where a write or a sync fails at this part, and reads at those
 abbrev pub failing : Server → NodeEvent → ℕ → List ℕ → ServerHappened
 failing server event part parts = happening server event (failed_write part ++ failed_reads parts)
 
--- A stop at this event: the text said of its frames, the commands done, those in one of which the disk failed, and
--- how many parts told that a read failed. Where saying failed the event's commands are done, and a front of its frames'
--- text was said. Where the disk failed, at a write or a sync of one of its packets and nowhere else, the frames of that
--- step were said. Where there is no memory none was, and no command is done, as for a new session, or those before one
--- of its packets.
-abbrev pub StopsAt :
-    NodeStop → Server → NodeEvent → ℕ → ℕ → List ℕ → List Command → List Command → ℕ → Type 0
-StopsAt stop.AirWrite server event writes writes_now text done cut missed =
-    (frames : List FrameValue) × (next : Server) × TakesEvent server event frames done missed next
-    × (frames ≢ []) × IsFront text (text_of frames) × (cut ≡ [])
-StopsAt stop.Disk server event writes writes_now text done cut missed =
+-- A stop at this event: what was said and done at it, the commands in one of which the disk failed, and how many parts
+-- told that a read failed. Where saying failed the event's commands are done, and a front of its frames' text was said.
+-- Where the disk failed, at a write or a sync of one of its packets and nowhere else, the frames of that step were
+-- said. Where there is no memory none was, and no command is done, as for a new session, or those before one of its
+-- packets.
+abbrev pub StopsAt : Stop → Bool → Server → NodeEvent → Made → List Command → Type 0
+StopsAt node_stop.AirWrite unsaid server event all cut =
+    (frames : List FrameValue) × (next : Server) × TakesEvent server event frames all.done all.missed next
+    × (frames ≢ []) × IsFront all.text (text_of frames) × (cut ≡ [])
+StopsAt node_stop.Disk unsaid server event all cut =
     (part : ℕ) × (parts : List ℕ) × (frames : List FrameValue) × (next : Server)
-    × ServerStep server event (failed_write part ++ failed_reads parts) done cut missed fails frames next
-    × IsSaid writes writes_now (text_of frames) text
-StopsAt stop.OutOfMemory server event writes writes_now text done cut missed =
-    (((done ≡ []) × (missed ≡ 0)) ⊎ ((part : ℕ) × (parts : List ℕ)
-    × ((failing server event part parts).halt ≡ fails) × (done ≡ (failing server event part parts).done)
-    × (missed ≡ (failing server event part parts).missed)))
-    × (text ≡ []) × (cut ≡ [])
-StopsAt stop.AirRead server event writes writes_now text done cut missed = ⊥
-StopsAt stop.Spent server event writes writes_now text done cut missed = ⊥
-StopsAt (stop.NotAStore found) server event writes writes_now text done cut missed = ⊥
-StopsAt (stop.Damaged at) server event writes writes_now text done cut missed = ⊥
+    × ServerStep server event (failed_write part ++ failed_reads parts) all.done cut all.missed fails frames next
+    × IsSaid unsaid (text_of frames) all.text
+StopsAt node_stop.OutOfMemory unsaid server event all cut =
+    (((all.done ≡ []) × (all.missed ≡ 0)) ⊎ ((part : ℕ) × (parts : List ℕ)
+    × ((failing server event part parts).halt ≡ fails) × (all.done ≡ (failing server event part parts).done)
+    × (all.missed ≡ (failing server event part parts).missed)))
+    × (all.text ≡ []) × (cut ≡ [])
+StopsAt node_stop.AirRead unsaid server event all cut = ⊥
+StopsAt node_stop.Spent unsaid server event all cut = ⊥
 
--- The server stopped at one of these events. At none of those before it did it stop: all their frames were said and all
--- their commands done; of those after it nothing was taken. Reads may have failed at any of them.
-pub record StopsOver (server : Server) (events : List NodeEvent) (why : NodeStop) (writes writes_now : ℕ)
-    (text : List ℕ) (done cut : List Command) (missed : ℕ) : Type 0 where
-  pub before : List NodeEvent
-  pub next : NodeEvent
-  pub later : List NodeEvent
-  pub events_are : events ≡ before ++ next ∷ later
-  pub frames : List FrameValue
-  pub commands : List Command
-  pub first_missed : ℕ
-  pub server_then : Server
-  pub serves : ServesOver server before frames commands first_missed server_then
-  pub last : List ℕ
-  pub more : List Command
-  pub last_missed : ℕ
-  pub stops : StopsAt why server_then next writes writes_now last more cut last_missed
-  pub text_is : text ≡ text_of frames ++ last
-  pub done_is : done ≡ commands ++ more
-  pub missed_is : missed ≡ (first_missed + last_missed)
-
--- The same, where all of these events were taken before the stop.
-pub record StopsBehind (least : List NodeEvent) (server : Server) (events : List NodeEvent) (why : NodeStop)
-    (writes writes_now : ℕ) (text : List ℕ) (done cut : List Command) (missed : ℕ) : Type 0 where
-  pub stops : StopsOver server events why writes writes_now text done cut missed
-  pub between : List NodeEvent
-  pub in_order : stops.before ≡ least ++ between
-
--- all events were taken, all frames were said, and all commands done
-abbrev pub TakesAll : Server → List NodeEvent → List ℕ → List Command → List Command → ℕ → Type 0
-TakesAll server events text done cut missed =
-    (frames : List FrameValue) × (now : Server) × ServesOver server events frames done missed now
-    × (text ≡ text_of frames) × (cut ≡ [])
+-- a server over the events of its node
+abbrev pub server_steps : Steps Server NodeEvent
+server_steps =
+    record {
+      goes = λ server events all now. ServesAs server events all now;
+      stops = λ why unsaid server event all cut. StopsAt why unsaid server event all cut;
+    }

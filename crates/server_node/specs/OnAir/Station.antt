@@ -4,22 +4,18 @@ use Rattle.std.specs.Prelude.{◌≡◌, ◌≢◌, ℕ, List, [], ◌++◌, Boo
 use Rattle.px_base.specs.Octets.{IsFront}
 use Rattle.disk_model.specs.declared.disk.Disk.{Ghosts}
 use Rattle.ax25_frames.specs.FrameText.{FrameValue}
-use Rattle.file_store.specs.Command.{Command}
 use Rattle.file_store.specs.State.{StandsOn}
-use Rattle.file_store.specs.Working.{CutsOffAmongReads, DoesAmongReads}
 use Rattle.node.specs.Course.{AtDisk, Course, at, stop_at_put, stop_of}
 use Rattle.node.specs.Events.{NodeEvent}
-use Rattle.node.specs.Turns.{IsUnsaid}
 use Rattle.node.specs.declared.halt.Halt.{Halt}
 use Rattle.node.specs.declared.halt.Halt.TheVariants as halt
-use Rattle.node.specs.declared.stop.NodeStop.{NodeStop as StopOfNode}
+use Rattle.node.specs.declared.stop.NodeStop.{NodeStop as Stop}
 use Rattle.node.specs.declared.stop.NodeStop.TheVariants as node_stop
 use Rattle.ftl0_server.specs.Server.{IsSilent, Server, settled}
 use Rattle.ftl0_server.specs.ServerState.{IsServer, SendsFor, ServerState, server_most, server_pending}
 use Rattle.ftl0_server.specs.ServerStep.{Empties}
-use Rattle.server_node.specs.declared.stop.NodeStop.TheVariants as stop
-use Rattle.server_node.specs.Stops.{stop_of_node}
-use Rattle.server_node.specs.OnAir.Serving.{ServesOver, StopsOver, text_of}
+use Rattle.server_node.specs.Steps.{RunsOn, StopsOn, WithStore, with_store}
+use Rattle.server_node.specs.OnAir.Serving.{server_steps, text_of}
 use Rattle.server_node.specs.declared.on_air.station.ServerStation.{ServerStation}
 
 -- The server stands for that one, which has nothing to send.
@@ -36,34 +32,23 @@ pub record IsUp {D : Type 0} (g : Ghosts D) (a : AtDisk ServerStation D) : Type 
   pub server : Server
   pub serving : IsServing a.it.server server
 
--- From one server to another these events were taken: their frames make this text, and the commands are done on the
--- disk. The disk's count of failed reads rose by at least as many as the parts told of, and not where none was told of.
-pub record RunsOn {D : Type 0} (g : Ghosts D) (server : Server) (old : AtDisk ServerStation D)
-    (events : List NodeEvent) (text : List ℕ) (new : AtDisk ServerStation D) : Type 0 where
-  pub frames : List FrameValue
-  pub commands : List Command
-  pub missed : ℕ
-  pub next : Server
-  pub serves : ServesOver server events frames commands missed next
-  pub text_is : text ≡ text_of frames
-  pub serving : IsServing new.it.server next
-  pub does : DoesAmongReads g ⊥ missed old.it.server.store new.it.server.store old.disk new.disk commands
+-- the server that it stands for, with its store at the disk
+abbrev pub serving_at : {D : Type 0} → Server → AtDisk ServerStation D → WithStore Server D
+serving_at server a = with_store server a.it.server.store a.disk
 
--- It stopped at one of these events: this was said, and the commands up to there are done on the disk. After want of
--- memory no put fails.
-pub record StopsOn {D : Type 0} (g : Ghosts D) (server : Server) (old : AtDisk ServerStation D)
-    (events : List NodeEvent) (why : StopOfNode) (unsaid : Bool) (text : List ℕ) (new : AtDisk ServerStation D) :
-    Type 0 where
-  pub done : List Command
-  pub cut : List Command
-  pub missed : ℕ
-  pub stops :
-      (writes writes_now : ℕ) → IsUnsaid unsaid writes writes_now
-      → StopsOver server events (stop_of_node why) writes writes_now text done cut missed
-  pub cuts :
-      CutsOffAmongReads g (stop_of_node why ≡ stop.Disk) missed old.it.server.store new.it.server.store old.disk new.disk
-      done cut
-  pub kept : why ≡ node_stop.OutOfMemory → unsaid ≡ false
+-- It came from one server to another over these events, and said this.
+pub record ComesOn {D : Type 0} (g : Ghosts D) (server : Server) (old : AtDisk ServerStation D)
+    (events : List NodeEvent) (text : List ℕ) (new : AtDisk ServerStation D) : Type 0 where
+  pub next : Server
+  pub serving : IsServing new.it.server next
+  pub runs : RunsOn g server_steps (serving_at server old) (serving_at next new) events text
+
+-- It stopped at one of these events, and said this.
+abbrev pub HaltsOn :
+    {D : Type 0} → Ghosts D → Server → AtDisk ServerStation D → List NodeEvent → Stop → Bool → List ℕ
+    → AtDisk ServerStation D → Type 0
+HaltsOn g server old events why unsaid text new =
+    StopsOn g server_steps (serving_at server old) (at new.it.server.store new.disk) events why unsaid text
 
 -- with this server in place of its own
 abbrev pub with_server : {D : Type 0} → AtDisk ServerStation D → ServerState → AtDisk ServerStation D
@@ -78,8 +63,8 @@ StandsBy (Some why) = SendsFor
 abbrev pub WholeBy : {D : Type 0} → Ghosts D → Server → AtDisk ServerStation D → List NodeEvent → Option Halt → Server
     → List ℕ → AtDisk ServerStation D → Type 0
 WholeBy g server old events None last text new =
-    IsServer new.it.server last → IsServer new.it.server (settled last) → RunsOn g server old events text new
-WholeBy g server old events (Some why) last text new = StopsOn g server old events (stop_of why) false text new
+    IsServer new.it.server last → IsServer new.it.server (settled last) → ComesOn g server old events text new
+WholeBy g server old events (Some why) last text new = HaltsOn g server old events (stop_of why) false text new
 
 -- It took these events, and so far said this of what they give; what it has still to say are the frames that this
 -- server sends. And what comes of it where all of them are said, or where saying them fails behind a front of their
@@ -96,7 +81,7 @@ pub record OwesRest {D : Type 0} (g : Ghosts D) (server : Server) (old : AtDisk 
   pub front :
       (frames : List FrameValue) (last : Server) (self : ServerState) (text : List ℕ) → Empties made frames last
       → self.store ≡ now.it.server.store → frames ≢ [] → IsFront text (text_of frames)
-      → StopsOn g server old events (stop_at_put why) true (said ++ text) (with_server now self)
+      → HaltsOn g server old events (stop_at_put why) true (said ++ text) (with_server now self)
 
 -- the same, but that after want of memory nothing is said
 abbrev pub OwesOver : {D : Type 0} → Ghosts D → Server → AtDisk ServerStation D → List NodeEvent → Option Halt → List ℕ
@@ -104,7 +89,7 @@ abbrev pub OwesOver : {D : Type 0} → Ghosts D → Server → AtDisk ServerStat
 OwesOver g server old events None said now = OwesRest g server old events None said now
 OwesOver g server old events (Some halt.Disk) said now = OwesRest g server old events (Some halt.Disk) said now
 OwesOver g server old events (Some halt.OutOfMemory) said now =
-    (now.it.is_out_of_memory ≡ true) × StopsOn g server old events node_stop.OutOfMemory false said now
+    (now.it.is_out_of_memory ≡ true) × HaltsOn g server old events node_stop.OutOfMemory false said now
 
 -- the course of a server, whichever one of the definitions it stands for
 abbrev pub server_course : {D : Type 0} → Ghosts D → Course ServerStation D NodeEvent
@@ -112,12 +97,12 @@ server_course g =
     record {
       is_fit = λ a. IsUp g a;
       goes = λ old events text new.
-          (server : Server) → IsServing old.it.server server → RunsOn g server old events text new;
+          (server : Server) → IsServing old.it.server server → ComesOn g server old events text new;
       owes = λ old events why said new.
           IsUp g old
           × ((server : Server) → IsServing old.it.server server → OwesOver g server old events why said new);
       halts = λ old events why unsaid text new.
-          (server : Server) → IsServing old.it.server server → StopsOn g server old events why unsaid text new;
+          (server : Server) → IsServing old.it.server server → HaltsOn g server old events why unsaid text new;
       most = λ it. server_most it.server;
       is_over = λ it. false;
     }

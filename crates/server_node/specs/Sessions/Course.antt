@@ -19,15 +19,14 @@ use Rattle.ftl0_session.specs.Table.{Row, State, download_part, due_at, failed_r
 use Rattle.ftl0_session.specs.Table.{takes_memory}
 use Rattle.node.specs.Course.{AtDisk, Course, at}
 use Rattle.node.specs.Inputs.{Input, octets_in}
-use Rattle.node.specs.Turns.{IsUnsaid}
 use Rattle.node.specs.declared.halt.Halt.{Halt}
 use Rattle.node.specs.declared.halt.Halt.TheVariants as halt
 use Rattle.node.specs.declared.stop.NodeStop.{NodeStop as Stop}
 use Rattle.node.specs.declared.stop.NodeStop.TheVariants as node_stop
 use Rattle.server_node.specs.Sessions.Packets.{Hears, events_to}
-use Rattle.server_node.specs.Sessions.Running.{RunsOn, StopsOn}
+use Rattle.server_node.specs.Sessions.Running.{Session, session_steps}
+use Rattle.server_node.specs.Steps.{RunsOn, StopsOn, WithStore, with_store}
 use Rattle.server_node.specs.Sessions.ServerState.{IsUp, ServerState}
-use Rattle.server_node.specs.Stops.{stop_of_node}
 
 -- how many octets are due, and one for DATA_END; none where nothing is due
 abbrev pub octets_left : Store → DownloadState → ℕ
@@ -44,6 +43,13 @@ pub record IsReady {D : Type 0} (g : Ghosts D) (now : AtDisk ServerState D) : Ty
   pub silent : now.it.replies ≡ []
   pub none_due : (fails : Bool) → next_due (store_in now.it.store) now.it.state fails ≡ None
 
+-- its session, with its store at its disk
+abbrev pub session_in : ServerState → Session
+session_in server = record { store = store_in server.store; lists = server.lists; state = server.state }
+
+abbrev pub session_at : {D : Type 0} → AtDisk ServerState D → WithStore Session D
+session_at now = with_store (session_in now.it) now.it.store now.disk
+
 -- It went over the packets that these inputs bring, behind what it had to say at the start, and all was said.
 pub record GoesOver {D : Type 0} (g : Ghosts D) (old : AtDisk ServerState D) (inputs : List Input) (text : List ℕ)
     (new : AtDisk ServerState D) : Type 0 where
@@ -51,9 +57,7 @@ pub record GoesOver {D : Type 0} (g : Ghosts D) (old : AtDisk ServerState D) (in
   pub silent : new.it.replies ≡ []
   pub replies : List ℕ
   pub text_is : text ≡ old.it.replies ++ replies
-  pub runs :
-      RunsOn g old.it.caller old.it.store new.it.store old.it.lists new.it.lists old.disk new.disk old.it.state
-      new.it.state (events_to old.it inputs) replies
+  pub runs : RunsOn g (session_steps old.it.caller) (session_at old) (session_at new) (events_to old.it inputs) replies
 
 -- ---- what it has still to say
 
@@ -160,17 +164,14 @@ pub record IsUnsaidFirst {D : Type 0} (g : Ghosts D) (old : AtDisk ServerState D
   pub why_is : why ≡ node_stop.AirWrite
   pub does : DoesAmongReads g ⊥ 0 old.it.store new.it.store old.disk new.disk []
 
--- It stopped at one of the packets that these inputs bring, behind what it had to say at the start, whatever the air
--- counts by whether a put failed. Without memory nothing was to be said.
+-- It stopped at one of the packets that these inputs bring, behind what it had to say at the start.
 pub record IsStopped {D : Type 0} (g : Ghosts D) (old : AtDisk ServerState D) (inputs : List Input) (why : Stop)
     (unsaid : Bool) (text : List ℕ) (new : AtDisk ServerState D) : Type 0 where
   pub replies : List ℕ
   pub text_is : text ≡ old.it.replies ++ replies
-  pub whole : why ≡ node_stop.OutOfMemory → unsaid ≡ false
   pub stops :
-      (writes writes_now : ℕ) → IsUnsaid unsaid writes writes_now
-      → StopsOn g old.it.caller old.it.store new.it.store old.it.lists old.disk new.disk old.it.state
-      (events_to old.it inputs) (stop_of_node why) writes writes_now replies
+      StopsOn g (session_steps old.it.caller) (session_at old) (at new.it.store new.disk) (events_to old.it inputs) why
+      unsaid replies
 
 abbrev pub HaltsOver :
     {D : Type 0} → Ghosts D → AtDisk ServerState D → List Input → Stop → Bool → List ℕ → AtDisk ServerState D → Type 0

@@ -43,27 +43,40 @@ pub record RunsLaw : Type 0 where
       → RunsOver caller start lists state (earlier ++ next ∷ later) said commands now lists_now last
       → ComesTo caller start lists state earlier next commands
 
+-- DATA_END of a file of which all octets came, those that are held and the rest: whose upload it is, which commands
+-- were done before, over which store and lists it comes, whether a read fails, and when it comes.
+pub record FileEnd : Type 0 where
+  pub caller : CallSign
+  pub before : List Command
+  pub store : Store
+  pub lists : List CallerList
+  pub fails : Bool
+  pub moment : ℕ
+  pub number : ℕ
+  pub entry : Entry
+  pub held : List ℕ
+  pub rest : List ℕ
+
 -- DATA_END's row replies UL_ACK_RESP. Where the row's commands are among those done, behind those before, the file's
 -- entry is complete with the octets that came, stamped, in each image that a crash leaves since the last call of the
 -- disk for them: four for each command since the recovery was done.
-pub record AcknowledgedSince {D : Type 0} (g : Ghosts D) (caller : CallSign) (store : Store) (lists : List CallerList)
-    (fails : Bool) (before done : List Command) (moment number : ℕ) (entry : Entry) (file rest : List ℕ) (ready : ℕ)
+pub record AcknowledgedSince {D : Type 0} (g : Ghosts D) (file : FileEnd) (done : List Command) (ready : ℕ)
     (disk disk_now : D) : Type 0 where
   pub row : Row
-  pub is_row : session_row caller moment store lists (receiving number rest) (Ok data_end) fails ≡ row
+  pub is_row :
+      session_row file.caller file.moment file.store file.lists (receiving file.number file.rest) (Ok data_end)
+      file.fails
+      ≡ row
   pub replies : row.replies ≡ ul_ack_resp ∷ []
   pub since :
-      (others : List Command) → done ≡ before ++ (row.commands ++ others)
-      → IfSome (g.content disk) (λ _. LeavesSince (ready + 4 * (length before + length row.commands))
-      (g.images_since disk_now) (HasEntry number (kept entry file moment)))
+      (others : List Command) → done ≡ file.before ++ (row.commands ++ others)
+      → IfSome (g.content disk) (λ _. LeavesSince (ready + 4 * (length file.before + length row.commands))
+      (g.images_since disk_now) (HasEntry file.number (kept file.entry (file.held ++ file.rest) file.moment)))
 
 -- So it is in every session, however it ended, and whether reads failed in it.
 pub record AcknowledgedSinceLaw {D : Type 0} (g : Ghosts D) : Type 0 where
   pub since :
       (result : Result Served NodeStop) (start : Store) (done cut : List Command) (disk disk_now : D)
-      (stands : StandsThrough g (IsErrOf result stop.Disk) start done cut disk disk_now) (caller : CallSign)
-      (store : Store) (lists : List CallerList) (fails : Bool) (before : List Command) (moment number : ℕ)
-      (entry : Entry) (held rest : List ℕ)
-      → store ≡ after_all start before → IsWhole store number entry held rest
-      → AcknowledgedSince g caller store lists fails before done moment number entry (held ++ rest) rest stands.ready
-      disk disk_now
+      (stands : StandsThrough g (IsErrOf result stop.Disk) start done cut disk disk_now) (file : FileEnd)
+      → file.store ≡ after_all start file.before → IsWhole file.store file.number file.entry file.held file.rest
+      → AcknowledgedSince g file done stands.ready disk disk_now

@@ -2,6 +2,7 @@
 
 ghost use Rattle.std.specs.Prelude.{◌≤◌, IsErrOf};
 ghost use Rattle.ftl0_server.specs.Window.{IsGoodK};
+ghost use Rattle.node.specs.Lent.{lent, seen};
 ghost use Rattle.server_node.specs.OnAir.Served.{ServerEnds};
 ghost use Rattle.server_node.specs.OnDisk.{NodeRuns};
 ghost use Rattle.server_node.specs.Stops.{HasAirCause, RefusesSession};
@@ -41,8 +42,8 @@ pub fn serve<D: Disk, A: Air, C: Clock>(
 
     // It was refused, or the server served: what was said to what was heard, and what stands on the disk at each
     // moment.
-    ensures ends { ServerEnds D.Disk A.Air C.given disk.old disk.new air.old air.new clock.old clock.new terms.now
-        result }
+    ensures ends { ServerEnds (seen D.Disk A.Air C.given) (lent disk.old air.old clock.old)
+        (lent disk.new air.new clock.new) terms.now result }
 
     // Each cause rose in a count.
     ensures counts { HasAirCause A.read_faults A.write_faults air.old air.new result }

@@ -2,17 +2,14 @@
 
 ghost use Rattle.std.specs.Prelude.{◌≡◌, ◌≤◌, [], length};
 ghost use Rattle.file_store.specs.Files.{NothingOut};
-ghost use Rattle.file_store.specs.State.{StandsFor, store_in};
 ghost use Rattle.server_node.specs.Sessions.Course.{session_course};
-ghost use Rattle.server_node.specs.OnDisk.{EachImage};
-ghost use Rattle.server_node.specs.Sessions.ServerState.{IsUp, new_server};
+ghost use Rattle.server_node.specs.Sessions.ServerState.{new_server};
 ghost use Rattle.server_node.specs.Sessions.SessionRan.{login_text};
 ghost use Rattle.server_node.specs.Stops.{halt_of_session};
 
 use arrayvec::ArrayVec;
 use disk_model::Disk;
 use file_store::FileStore;
-use file_store::laws::state_law;
 use ftl0_packets::laws::stream_law;
 use ftl0_packets::{PacketFed, PacketReader};
 use ftl0_session::lists::Lists;
@@ -66,12 +63,8 @@ impl SessionServer {
         }
     }
 
-    /// Ends the session, which parks its upload, and leaves the disk as it is. What stands on the disk then stands for
-    /// the store. Takes no memory.
-    pub(crate) fn end<D: Disk>(self, disk: &D)
-        ensures { IsUp D.Disk self.store disk.now
-            → EachImage D.Disk disk.now (λ image. StandsFor image (store_in self.store)) }
-    {
+    /// Ends the session, which parks its upload. Takes no memory.
+    pub(crate) fn end(self) {
         let SessionServer {
             reader: _,
             session,
@@ -80,7 +73,6 @@ impl SessionServer {
             replies: _,
             halted: _,
         } = self;
-        state_law(&store);
         session.end(&mut store);
     }
 }

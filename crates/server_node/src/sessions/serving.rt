@@ -1,6 +1,7 @@
 //! The session of one caller, from the recovery of its store to its end.
 
 ghost use Rattle.std.specs.Prelude.{◌≡◌, ◌≤◌, [], ◌∷◌, IsErrOf, IsSome};
+ghost use Rattle.node.specs.Lent.{lent, seen};
 ghost use Rattle.px_base.specs.Moments.{MomentsOf};
 ghost use Rattle.server_node.specs.OnDisk.{NodeRuns};
 ghost use Rattle.server_node.specs.Sessions.SessionRan.{SessionEnds};
@@ -42,8 +43,8 @@ pub fn session<D: Disk, A: Air, C: Clock>(
 
     // It was refused, or the session was served: what was said to what was heard, and what stands on the disk at each
     // moment.
-    ensures ends { SessionEnds D.Disk A.Air C.given disk.old disk.new air.old air.new clock.old clock.new terms.now
-        result }
+    ensures ends { SessionEnds (seen D.Disk A.Air C.given) (lent disk.old air.old clock.old)
+        (lent disk.new air.new clock.new) terms.now result }
     ensures clock { IsSome terms.now.moment → clock.new ≡ clock.old }
 
     // Each cause rose in a count.
@@ -65,7 +66,7 @@ pub fn session<D: Disk, A: Air, C: Clock>(
         first: Some(first),
     };
     let ended = take_turns(&mut server, disk, air, clock, &terms);
-    server.end(disk);
+    server.end();
     answer_of(ended)
 }
 

@@ -1,0 +1,88 @@
+-- A run of a session or a server, from the recovery of its store to its end: what it says, what it does to its disk,
+-- and why it ends.
+use Rattle.std.specs.Prelude.{◌≡◌, ◌⊎◌, ℕ, List, [], ◌++◌, length, Bool, Option, IfSome, Result, Ok, Err, IsErrOf}
+use Rattle.std.specs.List.{AllByRecursion}
+use Rattle.px_base.specs.Moments.{MomentsOf}
+use Rattle.px_base.specs.Outside.{Gains}
+use Rattle.px_base.specs.Polling.{EndsWith, HearsAll, IsOpen}
+use Rattle.px_base.specs.declared.air.Turn.{Turn}
+use Rattle.px_base.specs.declared.air.Turn.TheVariants as turn
+use Rattle.file_store.specs.Calls.{Becomes, ChangesReads, Runs, TakesStep}
+use Rattle.file_store.specs.Command.{Command}
+use Rattle.file_store.specs.IsStore.{IsStore}
+use Rattle.file_store.specs.Journal.{after_recovery}
+use Rattle.file_store.specs.Records.{store_magic}
+use Rattle.file_store.specs.State.{standing_of}
+use Rattle.file_store.specs.Store.{Store}
+use Rattle.file_store.specs.Walk.{state}
+use Rattle.file_store.specs.Working.{CountsSome, PutsAmongReads}
+use Rattle.file_store.specs.declared.refusals.StoreFault.{StoreFault}
+use Rattle.node.specs.Lent.{Lent, Seen}
+use Rattle.node.specs.Turns.{IsUnsaid}
+use Rattle.server_node.specs.declared.stop.NodeStop.{NodeStop}
+use Rattle.server_node.specs.declared.stop.NodeStop.TheVariants as stop
+use Rattle.server_node.specs.declared.terms.Served.{Served}
+use Rattle.server_node.specs.OnDisk.{LeavesStanding, StandsThrough}
+use Rattle.server_node.specs.Steps.{Made}
+use Rattle.server_node.specs.Stops.{stop_of_fault}
+
+-- The turns, of which there are at most so many, by how the serving ended.
+abbrev pub TurnsBy : Result Served NodeStop → ℕ → List Turn → Type 0
+TurnsBy (Ok served) polls turns = EndsWith turns turn.End × (served.turns ≡ length turns)
+TurnsBy (Err stop.AirRead) polls turns = EndsWith turns turn.Fail
+TurnsBy (Err stop.AirWrite) polls turns = AllByRecursion IsOpen turns
+TurnsBy (Err stop.Disk) polls turns = AllByRecursion IsOpen turns
+TurnsBy (Err stop.Spent) polls turns = (length turns ≡ polls) × AllByRecursion IsOpen turns
+TurnsBy (Err stop.OutOfMemory) polls turns = AllByRecursion IsOpen turns
+TurnsBy (Err (stop.NotAStore found)) polls turns = ⊥
+TurnsBy (Err (stop.Damaged at)) polls turns = ⊥
+
+-- What a run came to: its turns and their moments; all that was said and done, the commands in one of which the disk
+-- failed, if it did, and whether a put failed.
+pub record Run : Type 0 where
+  pub turns : List Turn
+  pub moments : List ℕ
+  pub all : Made
+  pub cut : List Command
+  pub unsaid : Bool
+
+-- The recovery of the store was refused, or there was no memory for the lists: nothing was heard or said, and the clock
+-- wasn't asked. Where the disk didn't fail no count of its faults rose.
+pub record IsUnrecovered {A C D : Type 0} (seen : Seen D A C) (blocks : ℕ) (old new : Lent D A C)
+    (result : Result Served NodeStop) : Type 0 where
+  pub fault : StoreFault
+  pub answer : result ≡ Err (stop_of_fault fault)
+  pub air : new.air ≡ old.air
+  pub clock : new.clock ≡ old.clock
+  pub leaves : LeavesStanding seen.disk blocks (stop_of_fault fault) old.disk new.disk
+  pub runs : Runs seen.disk (IsErrOf result stop.Disk) old.disk new.disk
+
+-- It was served over the store for which the disk's content stood. Its recovery changed no octet of a formatted store,
+-- and made a formatted one of any other content; without commands that is what the disk has at the end. Only a write or
+-- a sync that failed ends it by the disk; a read that failed is told by DL_ERROR_RESP with code 3, and the count of
+-- failed reads rose by at least as many as were told, and not where none was.
+pub record IsServed {A C D : Type 0} (seen : Seen D A C) (blocks : ℕ) (given : Option ℕ)
+    (Ran : Store → Run → Type 0) (old new : Lent D A C) (result : Result Served NodeStop) : Type 0 where
+  pub start : Store
+  pub rules : IsStore start
+  pub stood : IfSome (seen.disk.content old.disk) (λ octets. standing_of blocks octets ≡ state start)
+  pub recovered : D
+  pub octets : TakesStep seen.disk old.disk recovered (Becomes (after_recovery store_magic blocks))
+  pub run : Run
+  pub turns_heard : HearsAll (seen.air.heard old.air) (seen.air.heard new.air) run.turns
+  pub moments_given : MomentsOf given (seen.given old.clock) (seen.given new.clock) run.moments
+  pub text_said : Gains (seen.air.said old.air) (seen.air.said new.air) run.all.text
+  pub is_unsaid : IsUnsaid run.unsaid (seen.air.write_faults old.air) (seen.air.write_faults new.air)
+  pub ran : Ran start run
+  pub puts : PutsAmongReads seen.disk (IsErrOf result stop.Disk) old.disk new.disk
+  pub reads : CountsSome (seen.disk.read_faults old.disk) (seen.disk.read_faults new.disk) run.all.missed
+  pub stands : StandsThrough seen.disk (IsErrOf result stop.Disk) start run.all.done run.cut old.disk new.disk
+  pub ready : stands.ready ≡ seen.disk.moment recovered
+  pub none : run.all.done ++ run.cut ≡ [] → ChangesReads seen.disk recovered new.disk
+
+-- Either of the two.
+abbrev pub Ends :
+    {A C D : Type 0} → Seen D A C → ℕ → Option ℕ → (Store → Run → Type 0) → Lent D A C → Lent D A C
+    → Result Served NodeStop → Type 0
+Ends seen blocks given Ran old new result =
+    IsUnrecovered seen blocks old new result ⊎ IsServed seen blocks given Ran old new result
