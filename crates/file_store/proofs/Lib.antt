@@ -1,3 +1,4 @@
+mod BlocksLemmas
 mod DoesLemmas
 mod EndLemmas
 mod HoldLemmas

@@ -1,4 +1,5 @@
 -- The lemmas that crates above may use.
+pub use Rattle.file_store.proofs.BlocksLemmas.{own_blocks}
 pub use Rattle.file_store.proofs.DoesLemmas.{after_first-all, after_first-then, Does-moved, Does-none, Does-same, makes-first, makes-second, makes-within, stay-on}
 pub use Rattle.file_store.proofs.ReceiptLemmas.{stays}
 pub use Rattle.file_store.proofs.RecoveryLemmas.{reads-none}

@@ -1,5 +1,4 @@
 mod ServesLemmas
 mod StationLemmas
-mod StepLemmas
 pub mod StoreLemmas
 mod TurnsLemmas

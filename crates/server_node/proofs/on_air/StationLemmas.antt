@@ -24,7 +24,7 @@ use Rattle.ftl0_server.specs.Calls.{HandsOut, HandsOutNext, Hears, HearsBy}
 use Rattle.ftl0_server.specs.Server.{IsSilent, Server, ServerHappened, ServerSends, server_next, settled}
 use Rattle.ftl0_server.specs.ServerState.{IsServer, SendsFor, ServerState, server_pending}
 use Rattle.ftl0_server.specs.ServerStep.{Empties, ServerStep, happening}
-use Rattle.ftl0_server.proofs.FitsLemmas.{empties-silent, silent-settled}
+use Rattle.ftl0_server.proofs.Offered.{empties-silent, silent-settled, uncut}
 use Rattle.server_node.specs.Sessions.Running.{IsSaid}
 use Rattle.server_node.specs.OnAir.Serving.{StopsAt, TakesEvent, failing, server_steps, text_of}
 use Rattle.server_node.specs.OnAir.Station.{ComesOn, HaltsOn, IsServing, IsUp, OwesOver, OwesRest, StandsBy, WholeBy, server_course, serving_at, with_server}
@@ -32,7 +32,6 @@ use Rattle.server_node.specs.Steps.{RunsOn, made, with_store}
 use Rattle.server_node.specs.declared.on_air.station.ServerStation.{ServerStation}
 use Rattle.server_node.proofs.StepsLemmas.{runs-none, runs-on, stop-one, stops-more, stops-on}
 use Rattle.server_node.proofs.on_air.ServesLemmas.{are_steps, serves-one}
-use Rattle.server_node.proofs.on_air.StepLemmas.{uncut}
 
 -- how a server answers an event, by the halt of its node
 abbrev answer_by : Option Halt → Result ⊤ ServerStop

@@ -5,21 +5,24 @@ use Rattle.px_base.specs.CallSign.{CallSign}
 use Rattle.disk_model.specs.declared.disk.Disk.{Ghosts}
 use Rattle.file_store.specs.State.{store_in, StoreState}
 use Rattle.ftl0_session.specs.Uploads.Events.{Event, at_moment}
+use Rattle.ftl0_session.specs.Answering.{SendsTo, octets_left}
 use Rattle.ftl0_session.specs.Run.{Event as MetEvent, RunsOver, heard_of}
 use Rattle.ftl0_session.specs.Table.{next_due, Row, State, download_part, due_at, failed_reads_told, tells_failed_read}
 use Rattle.node.specs.Course.{AtDisk, IsLawful, GaveAll, GivesNext, OwesSome, at, stop_at_put, stop_of}
 use Rattle.node.specs.Inputs.{Input, IsInput, octets_at, octets_in}
 use Rattle.node.specs.declared.stop.NodeStop.{NodeStop as Stop}
 use Rattle.node.proofs.InputLemmas.{are-octets, octets_in-at}
-use Rattle.server_node.specs.Sessions.Course.{GoesOver, HaltsOver, IsReady, session_course, IsUnderWay, IsAnswered, IsAnswering, IsHalting, IsRowOf, IsStopped, IsUnsaidFirst, LastOf, Owes, OwesAll, SendsTo, met_with, most_left, octets_left, session_at, session_in}
+use Rattle.server_node.specs.Sessions.Course.{GoesOver, HaltsOver, IsReady, session_course, IsUnderWay, IsAnswered, IsAnswering, IsHalting, IsRowOf, IsStopped, IsUnsaidFirst, LastOf, Owes, OwesAll, met_with, most_left, session_at, session_in}
 use Rattle.server_node.specs.Sessions.Packets.{events_behind, events_to, waiting_behind}
 use Rattle.server_node.specs.Sessions.Running.{StopsAt, session_steps}
 use Rattle.server_node.specs.Steps.{RunsOn, StopsOn, StopsOver, made}
 use Rattle.server_node.specs.Sessions.ServerState.{IsUp, ServerState}
 use Rattle.server_node.specs.Stops.{halt_of_session}
-use Rattle.server_node.proofs.sessions.PacketLemmas.{both-octets, events-append, events-then, hears-none, hears-then, events-of, nothing_partial}
+use Rattle.server_node.proofs.sessions.PacketLemmas.{both-octets, events-append, events-then, hears-none, hears-then, events-of}
 use Rattle.server_node.proofs.StepsLemmas.{does-none, runs-none, runs-on, stop-one, stops-more, stops-on}
-use Rattle.server_node.proofs.sessions.RunLemmas.{are_steps, texts-append, smaller, to-all, to-more, to-same, to-some, with-here, with-other, with_part}
+use Rattle.server_node.proofs.sessions.RunLemmas.{are_steps}
+use Rattle.ftl0_packets.proofs.SplitLemmas.{nothing_partial, texts-append}
+use Rattle.ftl0_session.proofs.Offered.{smaller, to-all, to-more, to-same, to-some, with-here, with-other, with_part}
 use Rattle.std.proofs.Math.Nat.{add-zero, zero-add}
 use Rattle.std.proofs.lemmas.Bool.Decides.{nat_tests}
 use Rattle.px_base.specs.Octets.{IsFront, IsOctets}
@@ -39,7 +42,6 @@ use Rattle.node.specs.declared.halt.Halt.{Halt}
 use Rattle.server_node.specs.Sessions.Server.{IsServer, IsWaiting}
 use Rattle.server_node.specs.declared.sessions.server.SessionServer.TheInside.{Inside}
 use Rattle.std.specs.Prelude.{Result, Ok, Err, IsTrue, if◌then◌else◌, ⊤}
-use Rattle.ftl0_packets.specs.Laws.{IsOneStream, IsReadAsStream}
 use Rattle.ftl0_packets.specs.Reading.{is_whole, under_way}
 use Rattle.ftl0_packets.specs.Stream.{IsPartial, Stream}
 use Rattle.ftl0_packets.proofs.OctetLemmas.{IsOctets-take, IsOctets-nil}
@@ -454,14 +456,14 @@ under-way-less octets less = by (is_whole octets) refl less
     by false is h = under-way octets false is
 
 module _ {D : Type 0} (g : Ghosts D) (lasts : (disk : D) → g.lasts disk disk) (on : (first second third : D) → g.lasts first second → g.lasts second third → g.lasts first third)
-    (law : IsReadAsStream) (one : IsOneStream) (moment : ℕ) (a : ServerState) (disk : D) (ready : IsReady g (at a disk)) (waits : IsWaiting a.octets)
+    (moment : ℕ) (a : ServerState) (disk : D) (ready : IsReady g (at a disk)) (waits : IsWaiting a.octets)
     (piece : List ℕ) (are : IsOctets piece) (taken : ℕ) (reader : List ℕ) (fed : reader ≡ a.octets ++ take taken piece) where
   abbrev inputs : List Input
   inputs = octets_at moment (take taken piece)
 
   heard : (items : List Item) → Stream reader items (under_way reader) → (events_to a inputs ≡ at_moment moment items) × (waiting_behind a.octets inputs ≡ under_way reader)
   heard items stream =
-      events-of law one moment a.octets (take taken piece) items (under_way reader) waits (IsOctets-take taken piece are) (subst (λ (o : List ℕ). Stream o items (under_way reader)) fed stream)
+      events-of moment a.octets (take taken piece) items (under_way reader) waits (IsOctets-take taken piece are) (subst (λ (o : List ℕ). Stream o items (under_way reader)) fed stream)
 
   inputs-octets : IsOctets (octets_in inputs)
   inputs-octets = subst (λ (o : List ℕ). IsOctets o) (sym (octets_in-at moment (take taken piece))) (IsOctets-take taken piece are)
@@ -488,7 +490,7 @@ module _ {D : Type 0} (g : Ghosts D) (lasts : (disk : D) → g.lasts disk disk) 
     only : (events_to a inputs ≡ event ∷ []) × (waiting_behind a.octets inputs ≡ under_way reader)
     only =
         let none = under-way-whole reader whole in
-        heard (item ∷ []) (reader, [], packet, sym (append-nil reader), (sym none, subst (λ (o : List ℕ). IsPartial o) (sym none) (nothing_partial law)))
+        heard (item ∷ []) (reader, [], packet, sym (append-nil reader), (sym none, subst (λ (o : List ℕ). IsPartial o) (sym none) nothing_partial))
 
     abbrev before : Working
     before = record { store = a.store; lists = a.lists; state = a.state }

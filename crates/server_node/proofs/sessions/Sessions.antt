@@ -7,7 +7,6 @@ use Rattle.px_base.specs.Octets.{IsFront, IsOctets}
 use Rattle.px_base.specs.declared.air.Turn.{Turn}
 use Rattle.px_base.proofs.Told.{Grows-trans}
 use Rattle.disk_model.specs.declared.disk.Disk.{Ghosts}
-use Rattle.ftl0_packets.specs.Laws.{IsOneStream, IsReadAsStream}
 use Rattle.file_store.specs.Command.{Command}
 use Rattle.file_store.specs.State.{StoreState, store_in}
 use Rattle.file_store.specs.Store.{Store}
@@ -37,7 +36,9 @@ use Rattle.server_node.specs.Sessions.ServerState.{ServerState, new_server}
 use Rattle.server_node.specs.Sessions.SessionRan.{IsGreeted, IsUngreeted, SessionRan, login_text}
 use Rattle.server_node.proofs.Ending.{Did, Stopped, Taken, but_last, did-by, disk-stop, never-over}
 use Rattle.server_node.proofs.StepsLemmas.{behind-all, cuts-all}
-use Rattle.server_node.proofs.sessions.PacketLemmas.{both-octets, brings-init, brings-more, brings-of, brings-stream, events-then, nothing_partial}
+use Rattle.ftl0_packets.proofs.SplitLemmas.{nothing_partial}
+use Rattle.ftl0_session.proofs.Offered.{brings-init, brings-more, brings-stream}
+use Rattle.server_node.proofs.sessions.PacketLemmas.{both-octets, brings-of, events-then}
 use Rattle.server_node.proofs.sessions.RunLemmas.{are_steps}
 
 -- the moments of turns of which the first one's was taken before: with it there is one at least
@@ -125,7 +126,7 @@ module _ {A C D : Type 0} (seen : Seen D A C) (terms : SessionTerms) (first : �
         never-over {S = Session} {F = Event} AreHandedOver (session_course g) (λ p. refl) seen.air air new.air (at server mid) (party_at new) took.all took.text took.unsaid terms.polls (session_steps terms.caller)
         (first_session (store_in start)) (events_to server took.all.events) (λ r. ⊥) ended took.ran
 
-    module _ (law : IsReadAsStream) (one : IsOneStream) (lasts : (disk : D) → g.lasts disk disk) (on : (first second third : D) → g.lasts first second → g.lasts second third → g.lasts first third) (disk : D) (clock_o : C)
+    module _ (lasts : (disk : D) → g.lasts disk disk) (on : (first second third : D) → g.lasts first second → g.lasts second third → g.lasts first third) (disk : D) (clock_o : C)
         (told : MomentsOf terms.moment (seen.given clock_o) (seen.given clock) (first ∷ [])) where
       abbrev events : List Event
       events = events_to server took.all.events
@@ -149,7 +150,7 @@ module _ {A C D : Type 0} (seen : Seen D A C) (terms : SessionTerms) (first : �
       brings-at : (turns : List Turn) (front behind : List ℕ) (inputs : List Input) → took.all.moments ≡ front ++ behind → length front ≡ length turns → inputs ≡ inputs_of turns front → IsOctets (octets_in inputs)
           → Brings [] turns all_moments (events_to server inputs) (waiting_behind [] inputs)
       brings-at turns front behind inputs split same is are =
-          let here = brings-of law one turns front same (subst (λ (is : List Input). IsOctets (octets_in is)) is are) in
+          let here = brings-of turns front same (subst (λ (is : List Input). IsOctets (octets_in is)) is are) in
           let of_inputs = subst (λ (is : List Input). Brings [] turns front (events_behind [] is) (waiting_behind [] is)) (sym is) here in
           subst (λ (ms : List ℕ). Brings [] turns ms (events_to server inputs) (waiting_behind [] inputs))
           (sym (moments.are ∙ ap (λ (ms : List ℕ). ms ++ moments.more) split ∙ append_assoc front behind moments.more))
@@ -176,7 +177,7 @@ module _ {A C D : Type 0} (seen : Seen D A C) (terms : SessionTerms) (first : �
               events = events;
               rest = waiting_behind [] took.all.events;
               brings = brings are;
-              stream = brings-stream [] took.all.turns all_moments events (waiting_behind [] took.all.events) (nothing_partial law) (brings are);
+              stream = brings-stream [] took.all.turns all_moments events (waiting_behind [] took.all.events) nothing_partial (brings are);
               bound = took.bound;
               ends = ends;
               said = said;

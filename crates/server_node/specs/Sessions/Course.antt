@@ -11,11 +11,10 @@ use Rattle.file_store.specs.Store.{Store}
 use Rattle.file_store.specs.State.{StoreState, store_in}
 use Rattle.file_store.specs.Working.{CutsOffAmongReads, DoesAmongReads}
 use Rattle.ftl0_session.specs.Uploads.Events.{Event}
-use Rattle.ftl0_session.specs.Uploads.Failures.{Failure, failed_reads, read_fails}
+use Rattle.ftl0_session.specs.Uploads.Failures.{failed_reads, read_fails}
 use Rattle.ftl0_session.specs.Run.{Event as MetEvent, event_row}
-use Rattle.ftl0_session.specs.Downloads.Sending.{is_due, octets_due}
-use Rattle.ftl0_session.specs.Downloads.Table.{DownloadState}
-use Rattle.ftl0_session.specs.Table.{Row, State, download_part, due_at, failed_reads_told, fault_reply, next_due}
+use Rattle.ftl0_session.specs.Answering.{SendsTo, octets_left}
+use Rattle.ftl0_session.specs.Table.{Row, State, download_part, failed_reads_told, fault_reply, next_due}
 use Rattle.ftl0_session.specs.Table.{takes_memory}
 use Rattle.node.specs.Course.{AtDisk, Course, at}
 use Rattle.node.specs.Inputs.{Input, octets_in}
@@ -27,10 +26,6 @@ use Rattle.server_node.specs.Sessions.Packets.{Hears, events_to}
 use Rattle.server_node.specs.Sessions.Running.{Session, session_steps}
 use Rattle.server_node.specs.Steps.{RunsOn, StopsOn, WithStore, with_store}
 use Rattle.server_node.specs.Sessions.ServerState.{IsUp, ServerState}
-
--- how many octets are due, and one for DATA_END; none where nothing is due
-abbrev pub octets_left : Store → DownloadState → ℕ
-octets_left store state = if is_due state then suc (length (octets_due store state)) else 0
 
 -- the server, with how much it has still to say: of the replies, and of what is due behind them
 abbrev pub most_left : ServerState → ℕ
@@ -60,14 +55,6 @@ pub record GoesOver {D : Type 0} (g : Ghosts D) (old : AtDisk ServerState D) (in
   pub runs : RunsOn g (session_steps old.it.caller) (session_at old) (session_at new) (events_to old.it inputs) replies
 
 -- ---- what it has still to say
-
--- These packets are sent from the state on, one after another, the first as the event's part of this number, up to this
--- state; others may be due in it.
-abbrev pub SendsTo : Store → State → List Failure → ℕ → List PacketValue → State → Type 0
-SendsTo store state failures part [] now = now ≡ state
-SendsTo store state failures part (packet ∷ packets) now =
-    (next : State) × (due_at store state failures part ≡ Some (record { packet = packet; state = next }))
-    × SendsTo store next failures (suc part) packets now
 
 -- an event at some of whose parts reads failed
 abbrev pub met_with : Event → List ℕ → MetEvent

@@ -8,9 +8,9 @@ use Rattle.ftl0_session.specs.Lists.Lists.{CallerList}
 use Rattle.file_store.specs.Command.{Command, after_all}
 use Rattle.file_store.specs.Store.{Store}
 use Rattle.ftl0_session.specs.Uploads.Events.{Event}
-use Rattle.ftl0_session.specs.Uploads.Failures.{Failure}
+use Rattle.ftl0_session.specs.Answering.{SendsSome}
 use Rattle.ftl0_session.specs.Run.{Event as MetEvent, RunsOver, event_row, heard_of}
-use Rattle.ftl0_session.specs.Table.{Row, State, command, due_at, failed_reads_told, fault_reply, takes_memory}
+use Rattle.ftl0_session.specs.Table.{Row, State, command, failed_reads_told, fault_reply, takes_memory}
 use Rattle.node.specs.declared.stop.NodeStop.{NodeStop as Stop}
 use Rattle.node.specs.declared.stop.NodeStop.TheVariants as node_stop
 use Rattle.server_node.specs.Steps.{Made, Steps, made}
@@ -29,14 +29,6 @@ pub record Session : Type 0 where
 -- before its first packet, over this store and no lists
 abbrev pub first_session : Store → Session
 first_session store = record { store = store; lists = []; state = command }
-
--- These packets are sent from the state on, one after another, the first as the event's part of this number; others may
--- be due behind them.
-abbrev pub SendsSome : Store → State → List Failure → ℕ → List PacketValue → Type 0
-SendsSome store state failures part [] = ⊤
-SendsSome store state failures part (packet ∷ packets) =
-    (next : State) × (due_at store state failures part ≡ Some (record { packet = packet; state = next }))
-    × SendsSome store next failures (suc part) packets
 
 -- A stop at an event with this row of its packet: what was said and done at it, and the commands in one of which the
 -- disk failed. Where there is no memory, the packet gave nothing. Where saying failed, the commands are done, and a

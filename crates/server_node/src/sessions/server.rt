@@ -10,7 +10,6 @@ ghost use Rattle.server_node.specs.Stops.{halt_of_session};
 use arrayvec::ArrayVec;
 use disk_model::Disk;
 use file_store::FileStore;
-use ftl0_packets::laws::stream_law;
 use ftl0_packets::{PacketFed, PacketReader};
 use ftl0_session::lists::Lists;
 use ftl0_session::{Replies, ServerStop, Session};
@@ -84,8 +83,6 @@ impl<D: Disk> Party<D> for SessionServer {
     ghost course = { session_course D.Disk };
 
     fn hear(&mut self, disk: &mut D, piece: &[u8], moment: u32) -> Result<usize, Halt> {
-        // Whatever is heard is a stream of packets, and no other one.
-        stream_law();
         let (taken, fed) = self.reader.feed(piece);
         if let PacketFed::Whole = fed {
             let answer = self.session.take(

@@ -13,7 +13,6 @@ use crate::{NodeStop, Served, SessionTerms};
 use disk_model::Disk;
 use file_store::FileStore;
 use file_store::laws::state_law;
-use ftl0_packets::laws::stream_law;
 use ftl0_session::lists::Lists;
 use node::{TurnTerms, take_turns};
 use px_base::{Air, Clock};
@@ -56,8 +55,6 @@ pub fn session<D: Disk, A: Air, C: Clock>(
         return Err(NodeStop::OutOfMemory);
     };
     state_law(&store);
-    // Whatever is heard is a stream of packets, and no other one.
-    stream_law();
     let first = moment_of(terms.moment, clock);
     let mut server = SessionServer::new(terms.caller, first, store, lists);
     let terms = TurnTerms {

@@ -1,5 +1,5 @@
 -- From the law of a session over events.
-use Rattle.ftl0_session.proofs.RunLemmas.{commands}
+use Rattle.ftl0_session.proofs.Offered.{commands}
 use Rattle.server_node.proofs.sessions.RunLemmas.{comes-to}
 use Rattle.server_node.proofs.laws.runs_law.Goals as goal
 

@@ -16,7 +16,7 @@ use Rattle.server_node.specs.Sessions.Course.{IsReady, Owes}
 use Rattle.server_node.specs.Sessions.Server.{server_state}
 use Rattle.server_node.specs.Sessions.ServerState.{ServerState}
 use Rattle.server_node.proofs.sessions.CourseLemmas.{owes-last, owes-more, owes-taken, under-way-less}
-use Rattle.server_node.proofs.sessions.PacketLemmas.{octets_under_way}
+use Rattle.ftl0_packets.proofs.SplitLemmas.{octets_under_way}
 use Rattle.server_node.proofs.sessions.server.SessionServerParty.hear.Goals as goal
 
 pub invariant_of-self-in_default : goal.invariant_of-self-in_default
@@ -48,7 +48,7 @@ returns-in_default-clause-takes g c =
     let taken = c.feed-taken.result.0 in
     let ready = subst (λ (s : ServerState). IsReady g.D.Disk (at s disk)) (sym c.self.view_is) c.requires.fit in
     subst (λ (s : ServerState). Owes g.D.Disk (at s disk) (octets_at c.args.moment (take taken piece)) None [] (at (record a { octets = under_way reader }) disk)) c.self.view_is
-    (owes-more g.D.Disk g.met.D.Disk.lasts_same g.met.D.Disk.lasts_on c.stream_law.ensures.read c.stream_law.ensures.only c.args.moment a disk ready c.self.invariant.waiting
+    (owes-more g.D.Disk g.met.D.Disk.lasts_same g.met.D.Disk.lasts_on c.args.moment a disk ready c.self.invariant.waiting
     piece (octets_from_fits piece c.type_inv.piece) taken reader c.feed-taken.ensures.octets (c.feed-taken.ensures.partial.0 c.in_default.is)
     (under-way-less reader (λ whole. c.in_default.not-Whole (c.feed-taken.ensures.readable.1 whole))))
 
@@ -68,7 +68,7 @@ returns-in_default-answer-clause-takes g c =
     subst
     (λ (s : ServerState). Owes g.D.Disk (at s disk) (octets_at c.args.moment (take taken piece)) None []
     (at (record { caller = caller_of new.self; store = now.store; lists = now.lists; state = now.state; octets = under_way reader; replies = new.replies.items; halted = a.halted }) new.disk)) c.self.view_is
-    (owes-taken g.D.Disk g.met.D.Disk.lasts_same g.met.D.Disk.lasts_on c.stream_law.ensures.read c.stream_law.ensures.only c.args.moment a disk ready c.self.invariant.waiting
+    (owes-taken g.D.Disk g.met.D.Disk.lasts_same g.met.D.Disk.lasts_on c.args.moment a disk ready c.self.invariant.waiting
     piece (octets_from_fits piece c.type_inv.piece) taken reader c.feed-taken.ensures.octets item c.packet.ensures.text (c.feed-taken.ensures.readable.0 c.in-Whole.is)
     now new.disk new.replies.items (caller_of new.self) a.halted c.take-answer.ensures.caller ready.goes_on takes)
 
@@ -86,7 +86,7 @@ returns-in-Err-clause-halts g c =
     let takes = subst (λ (r : Result ⊤ ServerStop). TakesPacket g.D.Disk a.caller c.args.moment item (working c.self.inside.session a.store a.lists) now disk new.disk new.replies.items r) c.in-Err.is
     c.take-answer.ensures.takes in
     let server : ServerState = record { caller = caller_of new.self; store = now.store; lists = now.lists; state = now.state; octets = under_way reader; replies = new.replies.items; halted = true } in
-    let owes = owes-last g.D.Disk g.met.D.Disk.lasts_same g.met.D.Disk.lasts_on c.stream_law.ensures.read c.stream_law.ensures.only c.args.moment a disk ready c.self.invariant.waiting
+    let owes = owes-last g.D.Disk g.met.D.Disk.lasts_same g.met.D.Disk.lasts_on c.args.moment a disk ready c.self.invariant.waiting
     piece (octets_from_fits piece c.type_inv.piece) taken reader c.feed-taken.ensures.octets item c.packet.ensures.text (c.feed-taken.ensures.readable.0 c.in-Whole.is)
     now new.disk new.replies.items (caller_of new.self) c.in-Err.stop takes in
     let at_why = subst (λ (w : Halt). Owes g.D.Disk (at a disk) (octets_at c.args.moment (take taken piece)) (Some w) [] (at server new.disk)) (sym c.halt_of.ensures) owes in
