@@ -1,7 +1,7 @@
 -- Octets that are read in parts: their packets and their rest are those of all of them.
 use Rattle.std.proofs.Common.{◌≡◌, ℕ, List, [], ◌∷◌, ◌++◌, length, Bool, true, false, refl, sym, ap, ◌∙◌, subst, append_assoc}
 use Rattle.std.proofs.Math.Seq.{drop-append_seam, take-append_seam}
-use Rattle.std.specs.Prelude.{if◌then◌else◌}
+use Rattle.std.specs.Prelude.{IsTrue, if◌then◌else◌}
 use Rattle.std.proofs.lemmas.List.Concat.{flat_map-append}
 use Rattle.px_base.specs.Octets.{IsOctets}
 use Rattle.ftl0_packets.specs.Items.{texts}
@@ -26,6 +26,17 @@ octets_under_way xs h = by (is_whole xs)
     by : (b : Bool) → IsOctets (if b then [] else xs)
     by true = IsOctets-nil
     by false = h
+
+-- of a whole packet nothing is, and all of less than one
+pub under-way-whole : (octets : List ℕ) → IsTrue (is_whole octets) → under_way octets ≡ []
+under-way-whole octets whole = ap (λ (w : Bool). if w then [] else octets) whole
+
+pub under-way-less : (octets : List ℕ) → (IsTrue (is_whole octets) → ⊥) → under_way octets ≡ octets
+under-way-less octets less = by (is_whole octets) refl
+  where
+    by : (b : Bool) → is_whole octets ≡ b → under_way octets ≡ octets
+    by true is = absurd (less is)
+    by false is = ap (λ (w : Bool). if w then [] else octets) is
 
 -- the rest of a stream is less than a whole packet
 pub stream-partial : (octets : List ℕ) (items : List Item) (rest : List ℕ) → Stream octets items rest → IsPartial rest

@@ -1,21 +1,25 @@
 -- The answer to a packet while it is sent: its parts whose reads failed, what is due of it, and how much is left.
-use Rattle.std.proofs.Common.{◌≡◌, ℕ, suc, List, [], ◌∷◌, ◌+◌, ◌++◌, ◌==◌, ◌<◌, ◌≤◌, length, take, Bool, true, false, ◌&&◌, ◌||◌, Option, None, Some, refl, ap, ap₂, sym, ◌∙◌, subst, length-drop, arith}
+use Rattle.std.proofs.Common.{◌≡◌, ℕ, suc, List, [], ◌∷◌, ◌+◌, ◌++◌, ◌==◌, ◌<◌, ◌≤◌, length, take, Bool, true, false, ◌&&◌, ◌||◌, Option, None, Some, refl, ap, ap₂, sym, ◌∙◌, subst, append-nil, append_assoc, length-append, length-drop, arith}
 use Rattle.std.specs.Option.{option_map}
 use Rattle.std.specs.Prelude.{if◌then◌else◌}
 use Rattle.std.proofs.lemmas.Bool.Decides.{nat_tests}
+use Rattle.px_base.specs.CallSign.{CallSign}
 use Rattle.ftl0_packets.specs.Layout.{PacketValue, data_end, data_part, dl_error_resp}
+use Rattle.file_store.specs.Command.{Command, after_all}
 use Rattle.file_store.specs.State.{StoreState, store_in}
 use Rattle.file_store.specs.Store.{Store}
 use Rattle.ftl0_session.specs.declared.uploads.phase.Phase.{Phase}
 use Rattle.ftl0_session.specs.declared.uploads.phase.Phase.TheVariants as phase
-use Rattle.ftl0_session.specs.Answering.{SendsSome, SendsTo, octets_left}
+use Rattle.ftl0_session.specs.Answering.{IsAnswering, SendsSome, SendsTo, Session, met_with, octets_left}
+use Rattle.ftl0_session.specs.Lists.Lists.{CallerList}
+use Rattle.ftl0_session.specs.Uploads.Events.{Event as Heard}
 use Rattle.ftl0_session.specs.Downloads.Needs.{IsDueIn}
 use Rattle.ftl0_session.specs.Downloads.Sending.{is_due, is_read, octets_due, state_after, state_at_end}
 use Rattle.ftl0_session.specs.Downloads.Sending as due
 use Rattle.ftl0_session.specs.Downloads.Table.{DownloadState, listing, ready, sending, waiting}
-use Rattle.ftl0_session.specs.Run.{Sends}
+use Rattle.ftl0_session.specs.Run.{RunsOver, Sends, event_row}
 use Rattle.ftl0_session.specs.SessionState.{SessionState, state_in}
-use Rattle.ftl0_session.specs.Table.{DuePacket, State, download_part, due_at, in_session, next_due, state_by}
+use Rattle.ftl0_session.specs.Table.{DuePacket, Row, State, session_row, download_part, due_at, in_session, next_due, state_by}
 use Rattle.ftl0_session.specs.Uploads.Failures.{Failure, failed_reads, read_fails}
 use Rattle.ftl0_session.specs.Uploads.SessionState.{state_of}
 use Rattle.ftl0_session.proofs.RowLemmas.{download_part-is}
@@ -30,12 +34,12 @@ with_part true part parts = part ∷ parts
 with_part false part parts = parts
 
 -- no other part is listed by that
-pub with-other : (fails : Bool) (part : ℕ) (parts : List ℕ) (number : ℕ) → (part == number) ≡ false → read_fails (failed_reads (with_part fails part parts)) number ≡ read_fails (failed_reads parts) number
+with-other : (fails : Bool) (part : ℕ) (parts : List ℕ) (number : ℕ) → (part == number) ≡ false → read_fails (failed_reads (with_part fails part parts)) number ≡ read_fails (failed_reads parts) number
 with-other true part parts number other = ap (λ (b : Bool). (b && true) || read_fails (failed_reads parts) number) other
 with-other false part parts number other = refl
 
 -- it is where its read failed, and only there
-pub with-here : (fails : Bool) (part : ℕ) (parts : List ℕ) → read_fails (failed_reads parts) part ≡ false → read_fails (failed_reads (with_part fails part parts)) part ≡ fails
+with-here : (fails : Bool) (part : ℕ) (parts : List ℕ) → read_fails (failed_reads parts) part ≡ false → read_fails (failed_reads (with_part fails part parts)) part ≡ fails
 with-here true part parts free =
     let same : (part == part) ≡ true = grind (arith, nat_tests) in
     ap (λ (b : Bool). (b && true) || read_fails (failed_reads parts) part) same
@@ -48,7 +52,7 @@ module _ (store : Store) (failures others : List Failure) where
   due-same : (state : State) (part : ℕ) (o : Option DuePacket) → read_fails failures part ≡ read_fails others part → due_at store state failures part ≡ o → due_at store state others part ≡ o
   due-same state part o same is = ap (λ (b : Bool). next_due store state b) (sym same) ∙ is
 
-  pub to-same : (state : State) (part : ℕ) (sent : List PacketValue) (now : State) → ((number : ℕ) → part ≤ number → number < part + length sent → read_fails failures number ≡ read_fails others number)
+  to-same : (state : State) (part : ℕ) (sent : List PacketValue) (now : State) → ((number : ℕ) → part ≤ number → number < part + length sent → read_fails failures number ≡ read_fails others number)
       → SendsTo store state failures part sent now → SendsTo store state others part sent now
   to-same state part [] now same to = to
   to-same state part (packet ∷ sent) now same to = (
@@ -59,7 +63,7 @@ module _ (store : Store) (failures others : List Failure) where
 
 module _ (store : Store) (failures : List Failure) where
   -- one packet more
-  pub to-more : (state : State) (part : ℕ) (sent : List PacketValue) (mid : State) (number : ℕ) (next : DuePacket) → number ≡ part + length sent → SendsTo store state failures part sent mid
+  to-more : (state : State) (part : ℕ) (sent : List PacketValue) (mid : State) (number : ℕ) (next : DuePacket) → number ≡ part + length sent → SendsTo store state failures part sent mid
       → due_at store mid failures number ≡ Some next → SendsTo store state failures part (sent ++ next.packet ∷ []) next.state
   to-more state part [] mid number next at to is =
       let first : part ≡ number = omega (arith, at) in
@@ -67,15 +71,89 @@ module _ (store : Store) (failures : List Failure) where
   to-more state part (packet ∷ sent) mid number next at to is = (to.0, to.1, to-more to.0 (suc part) sent mid number next (omega (arith, at)) to.2 is)
 
   -- nothing more is due
-  pub to-all : (state : State) (part : ℕ) (sent : List PacketValue) (now : State) → ((fails : Bool) → next_due store now fails ≡ None) → SendsTo store state failures part sent now
+  to-all : (state : State) (part : ℕ) (sent : List PacketValue) (now : State) → ((fails : Bool) → next_due store now fails ≡ None) → SendsTo store state failures part sent now
       → Sends store state failures part sent now
   to-all state part [] now none to = (to, ap (λ (s : State). due_at store s failures part) (sym to) ∙ none (read_fails failures part))
   to-all state part (packet ∷ sent) now none to = (to.0, to.1, to-all to.0 (suc part) sent now none to.2)
 
   -- more may be
-  pub to-some : (state : State) (part : ℕ) (sent : List PacketValue) (now : State) → SendsTo store state failures part sent now → SendsSome store state failures part sent
+  to-some : (state : State) (part : ℕ) (sent : List PacketValue) (now : State) → SendsTo store state failures part sent now → SendsSome store state failures part sent
   to-some state part [] now to = tt
   to-some state part (packet ∷ sent) now to = (to.0, to.1, to-some to.0 (suc part) sent now to.2)
+
+-- ---- the answer to a packet
+
+not-here : (number n : ℕ) → n < number → (number == n) ≡ false
+not-here number n low = grind (arith, nat_tests)
+
+not-there : (number n : ℕ) → number < n → (number == n) ≡ false
+not-there number n high = grind (arith, nat_tests)
+
+module _ (caller : CallSign) (start : Session) (event : Heard) where
+  -- the row by whether a read fails at the packet itself
+  pub row-first : (fails : Bool) → event_row caller start.store start.lists start.state (met_with event (with_part fails 0 [])) ≡ session_row caller event.moment start.store start.lists start.state event.packet fails
+  row-first fails = ap (λ (b : Bool). session_row caller event.moment start.store start.lists start.state event.packet b) (with-here fails 0 [] refl)
+
+  pub answer-first : (fails : Bool) (lists : List CallerList) (state : State) → (let row : Row = session_row caller event.moment start.store start.lists start.state event.packet fails in
+      lists ≡ row.lists → state ≡ row.state → IsAnswering caller start event row.replies row.commands lists state)
+  answer-first fails lists state lists_are state_is = record {
+    parts = with_part fails 0 [];
+    row = _;
+    is_row = row-first fails;
+    sent = [];
+    none_later = λ n later. with-other fails 0 [] n (not-there 0 n (omega (arith, later)));
+    sends = state_is;
+    said_is = sym (append-nil _);
+    commands_are = refl;
+    lists_are = lists_are;
+  }
+
+  module _ (said : List PacketValue) (commands : List Command) (lists : List CallerList) (state : State) (h : IsAnswering caller start event said commands lists state) where
+    abbrev then_is : Store
+    then_is = after_all start.store h.row.commands
+
+    -- the next packet of it, which is due
+    pub answer-more : (fails : Bool) (next : DuePacket) → next_due (after_all start.store commands) state fails ≡ Some next → IsAnswering caller start event (said ++ next.packet ∷ []) commands lists next.state
+    answer-more fails next is =
+        let number : ℕ = 1 + length h.sent in
+        let parts : List ℕ = with_part fails number h.parts in
+        let other : (n : ℕ) → (number == n) ≡ false → read_fails (failed_reads parts) n ≡ read_fails (failed_reads h.parts) n = λ n not. with-other fails number h.parts n not in
+        let longer : length (h.sent ++ next.packet ∷ []) ≡ length h.sent + 1 = length-append h.sent (next.packet ∷ []) in
+        record {
+          parts = parts;
+          row = h.row;
+          is_row = ap (λ (b : Bool). session_row caller event.moment start.store start.lists start.state event.packet b) (other 0 (not-here number 0 (omega arith))) ∙ h.is_row;
+          sent = h.sent ++ next.packet ∷ [];
+          none_later = λ n later. other n (not-there number n (omega (arith, later, longer))) ∙ h.none_later n (omega (arith, later, longer));
+          sends =
+              to-more then_is (failed_reads parts) h.row.state 1 h.sent state number next refl
+              (to-same then_is (failed_reads h.parts) (failed_reads parts) h.row.state 1 h.sent state (λ n low high. sym (other n (not-here number n (omega (arith, high))))) h.sends)
+              (ap₂ (λ (b : Bool) (cs : List Command). next_due (after_all start.store cs) state b) (with-here fails number h.parts (h.none_later number (omega arith))) (sym h.commands_are) ∙ is);
+          said_is = ap (λ (ps : List PacketValue). ps ++ next.packet ∷ []) h.said_is ∙ append_assoc h.row.replies h.sent (next.packet ∷ []);
+          commands_are = h.commands_are;
+          lists_are = h.lists_are;
+        }
+
+    -- all of it
+    pub answer-all : (now : Store) → now ≡ after_all start.store commands → ((fails : Bool) → next_due now state fails ≡ None)
+        → RunsOver caller start.store start.lists start.state (met_with event h.parts ∷ []) said commands now lists state
+    answer-all now is none =
+        let store : now ≡ then_is = is ∙ ap (after_all start.store) h.commands_are in (
+          h.row,
+          h.sent,
+          state,
+          [],
+          [],
+          h.is_row,
+          to-all then_is (failed_reads h.parts) h.row.state 1 h.sent state (λ fails. ap (λ s. next_due s state fails) (sym store) ∙ none fails) h.sends,
+          h.said_is ∙ ap (λ (ps : List PacketValue). h.row.replies ++ ps) (sym (append-nil h.sent)),
+          h.commands_are ∙ sym (append-nil h.row.commands),
+          (refl, refl, store, h.lists_are, refl),
+        )
+
+    -- some of what is due
+    pub answer-some : SendsSome then_is h.row.state (failed_reads h.parts) 1 h.sent
+    answer-some = to-some then_is (failed_reads h.parts) h.row.state 1 h.sent state h.sends
 
 -- ---- how much is left
 

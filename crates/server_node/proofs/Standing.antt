@@ -1,6 +1,6 @@
 -- What stands on the disk through a session: from the recovery on, at its end, and of an acknowledged file.
-use Rattle.std.proofs.Common.{◌≡◌, inl, inr, ⊎_elim, ℕ, ◌+◌, ◌*◌, ◌≤◌, Bool, true, false, List, [], ◌∷◌, ◌++◌, length, refl, sym, ◌∙◌, ap, subst, arith, Option, None, Some, IfSome, length-append, ◌⊎◌, append_assoc}
-use Rattle.std.specs.Prelude.{if◌then◌else◌, Result, Ok, Err, IsErrOf}
+use Rattle.std.proofs.Common.{◌≡◌, inl, inr, ⊎_elim, ℕ, ◌+◌, ◌*◌, ◌≤◌, List, [], ◌∷◌, ◌++◌, length, refl, sym, ◌∙◌, ap, subst, arith, Some, IfSome, length-append, ◌⊎◌, append_assoc}
+use Rattle.std.specs.Prelude.{Result, Ok, Err, IsErrOf}
 use Rattle.disk_model.specs.declared.disk.Disk.{Ghosts}
 use Rattle.file_store.specs.Calls.{CountsFault, Leaves, Runs, TellsAlike, images_now}
 use Rattle.file_store.specs.JournalRecovery.{IsSyncedFirst}

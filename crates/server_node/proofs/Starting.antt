@@ -1,5 +1,5 @@
 -- The start of a session or a server: a recovery that is refused, and what one leaves that gives a store.
-use Rattle.std.proofs.Common.{◌≡◌, inl, inr, ⊎_elim, refl, ap, sym, ◌∙◌, subst, arith, Result, Ok, Err, List, ℕ, Option, None, Some}
+use Rattle.std.proofs.Common.{◌≡◌, inl, inr, ⊎_elim, refl, ap, sym, ◌∙◌, subst, arith, Result, Ok, Err, List, ℕ, Option}
 use Rattle.std.specs.Prelude.{IsErrAnd, IsErrOf}
 use Rattle.std.proofs.lemmas.Result.{err_from_is_err_and}
 use Rattle.disk_model.specs.declared.disk.Disk.{Ghosts}

@@ -1,5 +1,5 @@
 -- A server goes over its events one after another.
-use Rattle.std.proofs.Common.{◌≡◌, ℕ, ◌+◌, List, [], ◌∷◌, ◌++◌, refl, ap, ap₂, sym, ◌∙◌, subst, append_assoc, append-nil}
+use Rattle.std.proofs.Common.{ℕ, ◌+◌, List, [], ◌∷◌, ◌++◌, refl, ap, ap₂, sym, ◌∙◌, subst, append_assoc, append-nil}
 use Rattle.std.proofs.Math.Nat.{add-zero, add_assoc, zero-add}
 use Rattle.ax25_frames.specs.FrameText.{FrameValue, canonical}
 use Rattle.file_store.specs.Command.{Command}

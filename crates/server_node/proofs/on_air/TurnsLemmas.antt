@@ -1,22 +1,21 @@
 -- What a server did over the turns of its node.
-use Rattle.std.proofs.Common.{◌≡◌, ◌⊎◌, ℕ, ◌+◌, ◌≤◌, List, [], ◌∷◌, ◌++◌, length, take, drop, false, true, Option, None, refl, ap, sym, subst, ◌∙◌, inl, inr, length-append, arith}
+use Rattle.std.proofs.Common.{◌≡◌, ◌⊎◌, ℕ, ◌+◌, List, [], ◌∷◌, ◌++◌, length, take, drop, false, None, refl, ap, sym, subst, ◌∙◌, inl, inr, length-append, arith}
 use Rattle.std.proofs.lemmas.List.{length-take-le, take-append-drop}
 use Rattle.std.specs.Prelude.{◌≢◌, Result, Ok, Err, IsErrOf}
 use Rattle.px_base.specs.declared.air.Turn.{Turn}
 use Rattle.disk_model.specs.declared.disk.Disk.{Ghosts}
 use Rattle.file_store.specs.Command.{Command}
-use Rattle.file_store.specs.State.{StoreState, store_in}
+use Rattle.file_store.specs.State.{store_in}
 use Rattle.file_store.specs.Store.{Store}
 use Rattle.file_store.specs.Working.{CutsOffAmongReads}
 use Rattle.file_store.proofs.Offered.{cuts-among-none}
 use Rattle.node.specs.Course.{AtDisk, at}
 use Rattle.node.specs.Events.{NodeEvent, NodeEvents}
-use Rattle.node.specs.Lent.{Lent, Seen, lent}
-use Rattle.node.specs.Turns.{IsButLast, IsUnsaid, Lent as Driven, RanBy, StoppedInLast, TookAll, TookTurns, party_at}
+use Rattle.node.specs.Lent.{Seen, lent}
+use Rattle.node.specs.Turns.{IsButLast, IsUnsaid, Lent as Driven, StoppedInLast, TookTurns, party_at}
 use Rattle.node.specs.declared.finished.Finished.{Finished}
 use Rattle.node.specs.declared.finished.Finished.TheVariants as finished
 use Rattle.node.specs.declared.stop.NodeStop.{NodeStop as Stop}
-use Rattle.node.specs.declared.stop.NodeStop.TheVariants as node_stop
 use Rattle.node.specs.declared.terms.TurnTerms.{TurnTerms}
 use Rattle.ftl0_server.specs.Server.{Server}
 use Rattle.ftl0_server.specs.ServerState.{IsServer, ServerState, server_pending}
@@ -27,7 +26,7 @@ use Rattle.server_node.specs.declared.terms.Served.{Served}
 use Rattle.server_node.specs.declared.terms.ServerTerms.{ServerTerms}
 use Rattle.server_node.specs.declared.on_air.station.ServerStation.{ServerStation}
 use Rattle.server_node.specs.Served.{Run, TurnsBy}
-use Rattle.server_node.specs.Steps.{EndsOver, Made, StopsBehind, TakesAll, made}
+use Rattle.server_node.specs.Steps.{EndsOver, Made, StopsBehind, made}
 use Rattle.server_node.specs.Stops.{HasAirCause, served_by, stop_of_node}
 use Rattle.server_node.specs.OnAir.Served.{ServerRan, server_from}
 use Rattle.server_node.specs.OnAir.Serving.{server_steps}

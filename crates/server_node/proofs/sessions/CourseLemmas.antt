@@ -1,18 +1,18 @@
 -- The course of a session's server: that it is lawful, what the server owes by what it hears, and what it gives.
-use Rattle.std.proofs.Common.{◌≡◌, inl, inr, ℕ, Bool, false, None, List, [], ◌++◌, refl, ap, ap₂, sym, ◌∙◌, subst, append_assoc, append-nil, ◌⊎◌, suc, ◌+◌, ◌==◌, ◌<◌, ◌∷◌, length, true, Option, Some, length-append, arith, ◌≤◌, take, map}
+use Rattle.std.proofs.Common.{◌≡◌, inl, inr, ℕ, Bool, false, None, List, [], ◌++◌, refl, ap, ap₂, sym, ◌∙◌, subst, append_assoc, append-nil, ◌⊎◌, suc, ◌+◌, ◌==◌, ◌<◌, ◌∷◌, length, true, Option, Some, arith, take, map}
 use Rattle.std.specs.List.{AllByRecursion}
 use Rattle.px_base.specs.CallSign.{CallSign}
 use Rattle.disk_model.specs.declared.disk.Disk.{Ghosts}
 use Rattle.file_store.specs.State.{store_in, StoreState}
 use Rattle.ftl0_session.specs.Uploads.Events.{Event, at_moment}
-use Rattle.ftl0_session.specs.Answering.{SendsTo, octets_left}
+use Rattle.ftl0_session.specs.Answering.{IsAnswering, met_with, octets_left}
 use Rattle.ftl0_session.specs.Run.{Event as MetEvent, RunsOver, heard_of}
-use Rattle.ftl0_session.specs.Table.{next_due, Row, State, download_part, due_at, failed_reads_told, tells_failed_read}
+use Rattle.ftl0_session.specs.Table.{next_due, Row, State, download_part, failed_reads_told, tells_failed_read}
 use Rattle.node.specs.Course.{AtDisk, IsLawful, GaveAll, GivesNext, OwesSome, at, stop_at_put, stop_of}
 use Rattle.node.specs.Inputs.{Input, IsInput, octets_at, octets_in}
 use Rattle.node.specs.declared.stop.NodeStop.{NodeStop as Stop}
 use Rattle.node.proofs.InputLemmas.{are-octets, octets_in-at}
-use Rattle.server_node.specs.Sessions.Course.{GoesOver, HaltsOver, IsReady, session_course, IsUnderWay, IsAnswered, IsAnswering, IsHalting, IsRowOf, IsStopped, IsUnsaidFirst, LastOf, Owes, OwesAll, met_with, most_left, session_at, session_in}
+use Rattle.server_node.specs.Sessions.Course.{GoesOver, HaltsOver, IsReady, session_course, IsUnderWay, IsAnswered, IsHalting, IsRowOf, IsStopped, IsUnsaidFirst, LastOf, Owes, OwesAll, most_left, session_at, session_in}
 use Rattle.server_node.specs.Sessions.Packets.{events_behind, events_to, waiting_behind}
 use Rattle.server_node.specs.Sessions.Running.{StopsAt, session_steps}
 use Rattle.server_node.specs.Steps.{RunsOn, StopsOn, StopsOver, made}
@@ -21,27 +21,26 @@ use Rattle.server_node.specs.Stops.{halt_of_session}
 use Rattle.server_node.proofs.sessions.PacketLemmas.{both-octets, events-append, events-then, hears-none, hears-then, events-of}
 use Rattle.server_node.proofs.StepsLemmas.{does-none, runs-none, runs-on, stop-one, stops-more, stops-on}
 use Rattle.server_node.proofs.sessions.RunLemmas.{are_steps}
-use Rattle.ftl0_packets.proofs.SplitLemmas.{nothing_partial, texts-append}
-use Rattle.ftl0_session.proofs.Offered.{smaller, to-all, to-more, to-same, to-some, with-here, with-other, with_part}
-use Rattle.std.proofs.Math.Nat.{add-zero, zero-add}
+use Rattle.ftl0_packets.proofs.SplitLemmas.{nothing_partial, texts-append, under-way-whole}
+use Rattle.ftl0_session.proofs.Offered.{answer-all, answer-first, answer-more, answer-some, row-first, smaller, with_part}
+use Rattle.std.proofs.Math.Nat.{add-zero}
 use Rattle.std.proofs.lemmas.Bool.Decides.{nat_tests}
 use Rattle.px_base.specs.Octets.{IsFront, IsOctets}
 use Rattle.ftl0_packets.specs.Items.{texts}
 use Rattle.ftl0_packets.specs.Layout.{PacketValue, packet_text, Item, PacketText}
-use Rattle.file_store.specs.Command.{Command, after_all}
+use Rattle.file_store.specs.Command.{Command}
 use Rattle.file_store.specs.Working.{CutsOffAmongReads, DoesAmongReads, one_if}
 use Rattle.file_store.proofs.Offered.{among-at, among-same, among-store, among-then, cuts-among-none, cuts-among-same}
 use Rattle.ftl0_session.specs.Uploads.SessionState.{IsHeld, IsOnlyOut}
 use Rattle.ftl0_session.specs.Downloads.Needs.{AreComplete, IsDueIn}
 use Rattle.ftl0_session.specs.Filling.{PutsDue}
-use Rattle.ftl0_session.specs.Uploads.Failures.{failed_reads, read_fails}
 use Rattle.ftl0_session.specs.SessionState.{SessionState, state_in}
 use Rattle.ftl0_session.specs.Taking.{row_over, TakesPacket, Working}
-use Rattle.ftl0_session.proofs.WorkingLemmas.{Sent, due-among, told-append, row-at, taken-among, taken-cut, taken-none}
+use Rattle.ftl0_session.proofs.WorkingLemmas.{Sent, due-among, told-append, taken-among, taken-cut, taken-none}
 use Rattle.node.specs.declared.halt.Halt.{Halt}
 use Rattle.server_node.specs.Sessions.Server.{IsServer, IsWaiting}
 use Rattle.server_node.specs.declared.sessions.server.SessionServer.TheInside.{Inside}
-use Rattle.std.specs.Prelude.{Result, Ok, Err, IsTrue, if◌then◌else◌, ⊤}
+use Rattle.std.specs.Prelude.{Result, Ok, Err, IsTrue, ⊤}
 use Rattle.ftl0_packets.specs.Reading.{is_whole, under_way}
 use Rattle.ftl0_packets.specs.Stream.{IsPartial, Stream}
 use Rattle.ftl0_packets.proofs.OctetLemmas.{IsOctets-take, IsOctets-nil}
@@ -246,23 +245,24 @@ module _ {D : Type 0} (g : Ghosts D) (lasts : (disk : D) → g.lasts disk disk) 
               does = does 0 [] (ap failed_reads_told none.0) none.1;
             })
         by (event ∷ []) is an =
-            let answer : List PacketValue = an.row.replies ++ an.sent in
-            let whole : said ++ text ≡ texts answer = said-behind start.it.replies (said ++ text) (texts h.said) an.silent h.text_is ∙ ap texts an.said_is in
+            let row : Row = an.1.row in
+            let answer : List PacketValue = row.replies ++ an.1.sent in
+            let whole : said ++ text ≡ texts answer = said-behind start.it.replies (said ++ text) (texts h.said) an.0 h.text_is ∙ ap texts an.1.said_is in
             inr (record {
               replies = said ++ front;
-              text_is = ap (λ (t : List ℕ). t ++ (said ++ front)) (sym an.silent);
+              text_is = ap (λ (t : List ℕ). t ++ (said ++ front)) (sym an.0);
               stops =
-                  stop-at g start (at now.it.store now.disk) (events_to start.it inputs) event is an.parts an.row an.is_row node_stop.AirWrite true (said ++ front) an.row.commands [] (failed_reads_told answer) (
-                    an.sent,
-                    to-some (after_all (store_in start.it.store) an.row.commands) (failed_reads an.parts) an.row.state 1 an.sent now.it.state an.sends,
+                  stop-at g start (at now.it.store now.disk) (events_to start.it inputs) event is an.1.parts row an.1.is_row node_stop.AirWrite true (said ++ front) row.commands [] (failed_reads_told answer) (
+                    an.1.sent,
+                    answer-some start.it.caller (session_in start.it) event h.said h.commands now.it.lists now.it.state an.1,
                     (λ none. some-last said text some (whole ∙ none)),
                     front-behind said text front (texts answer) is_front whole,
                     refl,
                     refl,
                     refl,
                   )
-                  (cuts-among-none g (node_stop.AirWrite ≡ node_stop.Disk) (failed_reads_told answer) start.it.store now.it.store start.disk now.disk an.row.commands (λ e. cc e) (lasts now.disk)
-                  (does (failed_reads_told answer) an.row.commands (ap failed_reads_told an.said_is) an.commands_are)) (λ memory. absurd (cc memory));
+                  (cuts-among-none g (node_stop.AirWrite ≡ node_stop.Disk) (failed_reads_told answer) start.it.store now.it.store start.disk now.disk row.commands (λ e. cc e) (lasts now.disk)
+                  (does (failed_reads_told answer) row.commands (ap failed_reads_told an.1.said_is) an.1.commands_are)) (λ memory. absurd (cc memory));
             })
         by (event ∷ next ∷ events) is never = absurd never
 
@@ -285,13 +285,9 @@ module _ {D : Type 0} (g : Ghosts D) (lasts : (disk : D) → g.lasts disk disk) 
           → RunsOn g (session_steps start.it.caller) (session_at start) (session_at now) events (texts h.said)
       by [] none = ran [] [] refl (none.0, none.1, ap store_in none.2, none.3, none.4)
       by (event ∷ []) an =
-          let store : store_in now.it.store ≡ after_all (store_in start.it.store) an.row.commands =
-          among-store g (failed_reads_told h.said) start.it.store now.it.store start.disk now.disk h.commands h.does ∙ ap (after_all (store_in start.it.store)) an.commands_are in
-          let sends = to-all (after_all (store_in start.it.store) an.row.commands) (failed_reads an.parts) an.row.state 1 an.sent now.it.state
-          (λ fails. ap (λ s. next_due s now.it.state fails) (sym store) ∙ none_due fails) an.sends in
-          let said = an.said_is ∙ ap (λ (ps : List PacketValue). an.row.replies ++ ps) (sym (append-nil an.sent)) in
-          ran (event ∷ []) (met_with event an.parts ∷ []) refl
-          (an.row, an.sent, now.it.state, [], [], an.is_row, sends, said, an.commands_are ∙ sym (append-nil an.row.commands), (refl, refl, store, an.lists_are, refl))
+          ran (event ∷ []) (met_with event an.1.parts ∷ []) refl
+          (answer-all start.it.caller (session_in start.it) event h.said h.commands now.it.lists now.it.state an.1 (store_in now.it.store)
+          (among-store g (failed_reads_told h.said) start.it.store now.it.store start.disk now.disk h.commands h.does) none_due)
       by (event ∷ next ∷ events) never = absurd never
 
 module _ {D : Type 0} (g : Ghosts D) (lasts : (disk : D) → g.lasts disk disk) (on : (first second third : D) → g.lasts first second → g.lasts second third → g.lasts first third)
@@ -349,47 +345,17 @@ module _ {D : Type 0} (g : Ghosts D) (lasts : (disk : D) → g.lasts disk disk) 
       abbrev said_n : List PacketValue
       said_n = h.said ++ packet.next.packet ∷ []
 
-      answer-more : (event : Event) → IsAnswering start.it a.lists a.state event h.said h.commands → IsAnswering start.it a.lists state_n event said_n h.commands
-      answer-more event an =
-          let store : store_in a.store ≡ after_all (store_in start.it.store) an.row.commands =
-          among-store g (failed_reads_told h.said) start.it.store a.store start.disk disk h.commands h.does ∙ ap (after_all (store_in start.it.store)) an.commands_are in
-          let number : ℕ = 1 + length an.sent in
-          let parts : List ℕ = with_part puts.fails number an.parts in
-          let other : (n : ℕ) → (number == n) ≡ false → read_fails (failed_reads parts) n ≡ read_fails (failed_reads an.parts) n = λ n not. with-other puts.fails number an.parts n not in
-          let before = to-same (after_all (store_in start.it.store) an.row.commands) (failed_reads an.parts) (failed_reads parts) an.row.state 1 an.sent a.state
-          (λ n low high. sym (other n (not-here number n (omega (arith, high))))) an.sends in
-          let here : due_at (after_all (store_in start.it.store) an.row.commands) a.state (failed_reads parts) number ≡ Some packet.next =
-          ap (λ (b : Bool). next_due (after_all (store_in start.it.store) an.row.commands) a.state b) (with-here puts.fails number an.parts (an.none_later number (omega arith)))
-          ∙ ap (λ s. next_due s a.state puts.fails) (sym store) ∙ packet.is_next in
-          record {
-            silent = an.silent;
-            parts = parts;
-            row = an.row;
-            is_row = ap (λ (b : Bool). row_over start.it.caller event.moment (record { store = start.it.store; lists = start.it.lists; state = start.it.state }) event.packet b) (other 0 (not-here number 0 (omega arith))) ∙ an.is_row;
-            sent = an.sent ++ packet.next.packet ∷ [];
-            none_later = λ n later.
-                let longer : length (an.sent ++ packet.next.packet ∷ []) ≡ length an.sent + 1 = length-append an.sent (packet.next.packet ∷ []) in
-                other n (not-there number n (omega (arith, later, longer))) ∙ an.none_later n (omega (arith, later, longer));
-            sends =
-                subst (λ (s : State). SendsTo (after_all (store_in start.it.store) an.row.commands) an.row.state (failed_reads parts) 1 (an.sent ++ packet.next.packet ∷ []) s) (sym packet.state_is)
-                (to-more (after_all (store_in start.it.store) an.row.commands) (failed_reads parts) an.row.state 1 an.sent a.state number packet.next refl before here);
-            said_is = ap (λ (ps : List PacketValue). ps ++ packet.next.packet ∷ []) an.said_is ∙ append_assoc an.row.replies an.sent (packet.next.packet ∷ []);
-            commands_are = an.commands_are;
-            lists_are = an.lists_are;
-          }
-        where
-          not-here : (number n : ℕ) → n < number → (number == n) ≡ false
-          not-here number n low = grind (arith, nat_tests)
-
-          not-there : (number n : ℕ) → number < n → (number == n) ≡ false
-          not-there number n high = grind (arith, nat_tests)
-
       answered-more : (events : List Event) → IsAnswered start.it a.store a.lists a.state events h.said h.commands → IsAnswered start.it a.store a.lists state_n events said_n h.commands
       answered-more [] none =
           let is : next_due (store_in start.it.store) start.it.state puts.fails ≡ Some packet.next =
           ap₂ (λ s st. next_due (store_in s) st puts.fails) (sym none.2) (sym none.4) ∙ packet.is_next in
           let e : None ≡ Some packet.next = sym (none.5 puts.fails) ∙ is in absurd (cc e)
-      answered-more (event ∷ []) an = answer-more event an
+      answered-more (event ∷ []) an = (
+        an.0,
+        subst (λ (s : State). IsAnswering start.it.caller (session_in start.it) event said_n h.commands a.lists s) (sym packet.state_is)
+            (answer-more start.it.caller (session_in start.it) event h.said h.commands a.lists a.state an.1 puts.fails packet.next
+            (ap (λ s. next_due s a.state puts.fails) (sym (among-store g (failed_reads_told h.said) start.it.store a.store start.disk disk h.commands h.does)) ∙ packet.is_next)),
+      )
       answered-more (event ∷ next ∷ events) never = absurd never
 
       goes-due : IsUnderWay g start inputs (text ++ out_n) (given [])
@@ -436,24 +402,6 @@ module _ {D : Type 0} (g : Ghosts D) (lasts : (disk : D) → g.lasts disk disk) 
         cut start inputs (Some why) text front is_front h = absurd (not-both a.halted h.halted going)
 
 -- ---- what it owes by what it hears
-
--- what is under way of a whole packet, and of less than one
-under-way : (octets : List ℕ) (b : Bool) → is_whole octets ≡ b → under_way octets ≡ (if b then [] else octets)
-under-way octets b is = ap (λ (w : Bool). if w then [] else octets) is
-
-under-way-whole : (octets : List ℕ) → IsTrue (is_whole octets) → under_way octets ≡ []
-under-way-whole octets whole = by (is_whole octets) refl whole
-  where
-    by : (b : Bool) → is_whole octets ≡ b → IsTrue b → under_way octets ≡ []
-    by true is h = under-way octets true is
-    by false is h = absurd (cc h)
-
-pub under-way-less : (octets : List ℕ) → (IsTrue (is_whole octets) → ⊥) → under_way octets ≡ octets
-under-way-less octets less = by (is_whole octets) refl less
-  where
-    by : (b : Bool) → is_whole octets ≡ b → (IsTrue b → ⊥) → under_way octets ≡ octets
-    by true is h = absurd (h refl)
-    by false is h = under-way octets false is
 
 module _ {D : Type 0} (g : Ghosts D) (lasts : (disk : D) → g.lasts disk disk) (on : (first second third : D) → g.lasts first second → g.lasts second third → g.lasts first third)
     (moment : ℕ) (a : ServerState) (disk : D) (ready : IsReady g (at a disk)) (waits : IsWaiting a.octets)
@@ -507,9 +455,6 @@ module _ {D : Type 0} (g : Ghosts D) (lasts : (disk : D) → g.lasts disk disk) 
       abbrev row : Bool → Row
       row fails = row_over a.caller moment before item fails
 
-      is-row : (fails : Bool) → IsRowOf a (met_with event (with_part fails 0 [])) (row fails)
-      is-row fails = sym (row-at a.caller moment item before (failed_reads (with_part fails 0 [])) 0 fails (with-here fails 0 [] refl))
-
       pub owes-taken : (caller : CallSign) (halted : Bool) → caller ≡ a.caller → halted ≡ false → Takes (Ok tt) → Owes g (at a disk) inputs None [] (at (server_n caller halted) disk_n)
       owes-taken caller halted same going takes = record {
         hears = record { caller = same; are_octets = inputs-octets; waits = sym only.1 };
@@ -519,23 +464,9 @@ module _ {D : Type 0} (g : Ghosts D) (lasts : (disk : D) → g.lasts disk disk) 
         commands = (row takes.fails).commands;
         answered =
             subst (λ (es : List Event). IsAnswered a now.store now.lists now.state es (row takes.fails).replies (row takes.fails).commands) (sym only.0)
-            (record {
-              silent = ready.silent;
-              parts = with_part takes.fails 0 [];
-              row = row takes.fails;
-              is_row = is-row takes.fails;
-              sent = [];
-              none_later = λ n later. with-other takes.fails 0 [] n (later-part n later);
-              sends = takes.answers.2;
-              said_is = sym (append-nil (row takes.fails).replies);
-              commands_are = refl;
-              lists_are = takes.answers.1;
-            });
+            (ready.silent, answer-first a.caller (session_in a) event takes.fails now.lists now.state takes.answers.1 takes.answers.2);
         does = taken-among g on a.caller moment item before now disk disk_n replies ready.up.healthy ready.up.stands_on tt takes;
       }
-        where
-          later-part : (n : ℕ) → 1 ≤ n → (0 == n) ≡ false
-          later-part n later = grind (arith, nat_tests)
 
       -- the session stopped at it
       halting : (caller : CallSign) (why : Halt) (fails : Bool) (cut : List Command) → LastOf why a.state (met_with event (with_part fails 0 [])) (row fails) replies cut
@@ -548,7 +479,7 @@ module _ {D : Type 0} (g : Ghosts D) (lasts : (disk : D) → g.lasts disk disk) 
         only = only.0;
         parts = with_part fails 0 [];
         row = row fails;
-        is_row = is-row fails;
+        is_row = row-first a.caller (session_in a) event fails;
         cut = cut;
         last = last;
         cuts = cuts;

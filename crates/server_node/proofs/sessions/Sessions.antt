@@ -1,5 +1,5 @@
 -- A session by the turns of its node.
-use Rattle.std.proofs.Common.{◌≡◌, ap, sym, ◌∙◌, subst, ◌⊎◌, inl, inr, ℕ, max, Bool, true, false, List, [], ◌∷◌, ◌++◌, length, slice_index, Option, Some, Result, Ok, Err, refl, ap₂, ◌+◌, append_assoc, append-nil, arith, None}
+use Rattle.std.proofs.Common.{◌≡◌, ap, sym, ◌∙◌, subst, ◌⊎◌, inl, inr, ℕ, max, List, [], ◌∷◌, ◌++◌, length, Option, Some, Result, Ok, Err, refl, ap₂, ◌+◌, append_assoc, append-nil, arith, None}
 use Rattle.std.specs.Prelude.{◌≢◌, IsErrOf}
 use Rattle.px_base.specs.CallSign.{CallSign}
 use Rattle.px_base.specs.Moments.{MomentsOf}
@@ -15,23 +15,23 @@ use Rattle.file_store.proofs.Offered.{cuts-among-none}
 use Rattle.ftl0_session.specs.Uploads.Events.{Brings, Event}
 use Rattle.node.specs.Course.{AtDisk, at}
 use Rattle.node.specs.Inputs.{Input, inputs_of, octets_in}
-use Rattle.node.specs.Lent.{Lent, Seen, lent}
-use Rattle.node.specs.Turns.{AreHandedOver, IsButLast, IsUnsaid, Lent as Driven, MomentsFrom, StoppedInLast, TookTurns, party_at}
+use Rattle.node.specs.Lent.{Seen, lent}
+use Rattle.node.specs.Turns.{AreHandedOver, IsButLast, IsUnsaid, Lent as Driven, MomentsFrom, TookTurns, party_at}
 use Rattle.node.specs.declared.finished.Finished.{Finished}
 use Rattle.node.specs.declared.finished.Finished.TheVariants as finished
 use Rattle.node.specs.declared.stop.NodeStop.{NodeStop as Stop}
-use Rattle.node.specs.declared.stop.NodeStop.TheVariants as node_stop
 use Rattle.node.specs.declared.terms.TurnTerms.{TurnTerms}
 use Rattle.server_node.specs.declared.stop.NodeStop.{NodeStop}
 use Rattle.server_node.specs.declared.stop.NodeStop.TheVariants as stop
 use Rattle.server_node.specs.declared.terms.Served.{Served}
 use Rattle.server_node.specs.declared.terms.SessionTerms.{SessionTerms}
 use Rattle.server_node.specs.Served.{Run, TurnsBy}
-use Rattle.server_node.specs.Steps.{EndsOver, Made, StopsBehind, StopsOn, Steps, TakesAll, made}
+use Rattle.server_node.specs.Steps.{Made, StopsBehind, StopsOn, Steps, made}
 use Rattle.server_node.specs.Stops.{HasAirCause, served_by, stop_of_node}
 use Rattle.server_node.specs.Sessions.Course.{GoesOver, HaltsOver, session_at, session_course}
 use Rattle.server_node.specs.Sessions.Packets.{events_behind, events_to, waiting_behind}
-use Rattle.server_node.specs.Sessions.Running.{Session, first_session, session_steps}
+use Rattle.ftl0_session.specs.Answering.{Session}
+use Rattle.server_node.specs.Sessions.Running.{first_session, session_steps}
 use Rattle.server_node.specs.Sessions.ServerState.{ServerState, new_server}
 use Rattle.server_node.specs.Sessions.SessionRan.{IsGreeted, IsUngreeted, SessionRan, login_text}
 use Rattle.server_node.proofs.Ending.{Did, Stopped, Taken, but_last, did-by, disk-stop, never-over}

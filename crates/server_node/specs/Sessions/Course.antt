@@ -1,19 +1,17 @@
 -- The course of a session's server: which packets it takes, and what it says and does by them.
-use Rattle.std.specs.Prelude.{◌≡◌, ◌≢◌, ◌⊎◌, ℕ, suc, ◌+◌, ◌≤◌, List, [], ◌∷◌, ◌++◌, length, Bool, true, false}
-use Rattle.std.specs.Prelude.{Option, None, Some, IsTrue, if◌then◌else◌}
+use Rattle.std.specs.Prelude.{◌≡◌, ◌≢◌, ◌⊎◌, ℕ, ◌+◌, List, [], ◌∷◌, ◌++◌, length, Bool, true, false}
+use Rattle.std.specs.Prelude.{Option, None, Some, IsTrue}
 use Rattle.px_base.specs.Octets.{IsFront, IsOctets}
 use Rattle.disk_model.specs.declared.disk.Disk.{Ghosts}
 use Rattle.ftl0_packets.specs.Items.{texts}
 use Rattle.ftl0_packets.specs.Layout.{PacketValue}
 use Rattle.ftl0_session.specs.Lists.Lists.{CallerList}
-use Rattle.file_store.specs.Command.{Command, after_all}
-use Rattle.file_store.specs.Store.{Store}
+use Rattle.file_store.specs.Command.{Command}
 use Rattle.file_store.specs.State.{StoreState, store_in}
 use Rattle.file_store.specs.Working.{CutsOffAmongReads, DoesAmongReads}
 use Rattle.ftl0_session.specs.Uploads.Events.{Event}
-use Rattle.ftl0_session.specs.Uploads.Failures.{failed_reads, read_fails}
 use Rattle.ftl0_session.specs.Run.{Event as MetEvent, event_row}
-use Rattle.ftl0_session.specs.Answering.{SendsTo, octets_left}
+use Rattle.ftl0_session.specs.Answering.{IsAnswering, Session, met_with, octets_left}
 use Rattle.ftl0_session.specs.Table.{Row, State, download_part, failed_reads_told, fault_reply, next_due}
 use Rattle.ftl0_session.specs.Table.{takes_memory}
 use Rattle.node.specs.Course.{AtDisk, Course, at}
@@ -23,7 +21,7 @@ use Rattle.node.specs.declared.halt.Halt.TheVariants as halt
 use Rattle.node.specs.declared.stop.NodeStop.{NodeStop as Stop}
 use Rattle.node.specs.declared.stop.NodeStop.TheVariants as node_stop
 use Rattle.server_node.specs.Sessions.Packets.{Hears, events_to}
-use Rattle.server_node.specs.Sessions.Running.{Session, session_steps}
+use Rattle.server_node.specs.Sessions.Running.{session_steps}
 use Rattle.server_node.specs.Steps.{RunsOn, StopsOn, WithStore, with_store}
 use Rattle.server_node.specs.Sessions.ServerState.{IsUp, ServerState}
 
@@ -56,37 +54,19 @@ pub record GoesOver {D : Type 0} (g : Ghosts D) (old : AtDisk ServerState D) (in
 
 -- ---- what it has still to say
 
--- an event at some of whose parts reads failed
-abbrev pub met_with : Event → List ℕ → MetEvent
-met_with event parts = record { moment = event.moment; packet = event.packet; failures = failed_reads parts }
-
--- the row of an event's packet by that
+-- the row of an event's packet
 abbrev pub IsRowOf : ServerState → MetEvent → Row → Type 0
 IsRowOf server met row = event_row server.caller (store_in server.store) server.lists server.state met ≡ row
 
--- A packet was taken by a server that had nothing else to say, which leaves these lists and this state: the answer to
--- it is its row's replies, and so far these packets that are due behind them. Reads may have failed at some of its
--- parts up to there.
-pub record IsAnswering (old : ServerState) (lists : List CallerList) (state : State) (event : Event)
-    (said : List PacketValue) (commands : List Command) : Type 0 where
-  pub silent : old.replies ≡ []
-  pub parts : List ℕ
-  pub row : Row
-  pub is_row : IsRowOf old (met_with event parts) row
-  pub sent : List PacketValue
-  pub none_later : (number : ℕ) → 1 + length sent ≤ number → read_fails (failed_reads parts) number ≡ false
-  pub sends : SendsTo (after_all (store_in old.store) row.commands) row.state (failed_reads parts) 1 sent state
-  pub said_is : said ≡ row.replies ++ sent
-  pub commands_are : commands ≡ row.commands
-  pub lists_are : lists ≡ row.lists
-
--- No packet was taken, and nothing is due; or one was, and this is its answer so far.
+-- No packet was taken, and nothing is due; or one was, where nothing else was to be said, and this is its answer so
+-- far.
 abbrev pub IsAnswered :
     ServerState → StoreState → List CallerList → State → List Event → List PacketValue → List Command → Type 0
 IsAnswered old store lists state [] said commands =
     (said ≡ []) × (commands ≡ []) × (store ≡ old.store) × (lists ≡ old.lists) × (state ≡ old.state)
     × ((fails : Bool) → next_due (store_in old.store) old.state fails ≡ None)
-IsAnswered old store lists state (event ∷ []) said commands = IsAnswering old lists state event said commands
+IsAnswered old store lists state (event ∷ []) said commands =
+    (old.replies ≡ []) × IsAnswering old.caller (session_in old) event said commands lists state
 IsAnswered old store lists state (event ∷ next ∷ events) said commands = ⊥
 
 -- It took the packet that these inputs bring, if they bring one. This is the text of what it had to say at the start

@@ -1,16 +1,15 @@
 -- How a session goes over events: what it says, and which commands of the store it does, up to a stop.
-use Rattle.std.specs.Prelude.{◌≡◌, ◌≢◌, ℕ, suc, List, [], ◌∷◌, ◌++◌, map, Bool, true, false, Some, IsTrue, ⊤}
+use Rattle.std.specs.Prelude.{◌≡◌, ◌≢◌, ℕ, List, [], ◌∷◌, ◌++◌, map, Bool, true, false, IsTrue}
 use Rattle.px_base.specs.CallSign.{CallSign}
 use Rattle.px_base.specs.Octets.{IsFront}
 use Rattle.ftl0_packets.specs.Items.{texts}
 use Rattle.ftl0_packets.specs.Layout.{PacketValue}
-use Rattle.ftl0_session.specs.Lists.Lists.{CallerList}
 use Rattle.file_store.specs.Command.{Command, after_all}
 use Rattle.file_store.specs.Store.{Store}
 use Rattle.ftl0_session.specs.Uploads.Events.{Event}
-use Rattle.ftl0_session.specs.Answering.{SendsSome}
+use Rattle.ftl0_session.specs.Answering.{SendsSome, Session}
 use Rattle.ftl0_session.specs.Run.{Event as MetEvent, RunsOver, event_row, heard_of}
-use Rattle.ftl0_session.specs.Table.{Row, State, command, failed_reads_told, fault_reply, takes_memory}
+use Rattle.ftl0_session.specs.Table.{Row, command, failed_reads_told, fault_reply, takes_memory}
 use Rattle.node.specs.declared.stop.NodeStop.{NodeStop as Stop}
 use Rattle.node.specs.declared.stop.NodeStop.TheVariants as node_stop
 use Rattle.server_node.specs.Steps.{Made, Steps, made}
@@ -19,12 +18,6 @@ use Rattle.server_node.specs.Steps.{Made, Steps, made}
 abbrev pub IsSaid : Bool → List ℕ → List ℕ → Type 0
 IsSaid false reply text = text ≡ reply
 IsSaid true reply text = IsFront text reply
-
--- a session between two packets: the store, the lists of all callers, and its state
-pub record Session : Type 0 where
-  pub store : Store
-  pub lists : List CallerList
-  pub state : State
 
 -- before its first packet, over this store and no lists
 abbrev pub first_session : Store → Session

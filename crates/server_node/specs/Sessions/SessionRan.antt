@@ -1,5 +1,5 @@
 -- What a session says over its turns, and why it ends.
-use Rattle.std.specs.Prelude.{◌≡◌, ◌⊎◌, ℕ, ◌≤◌, max, List, [], ◌++◌, length, slice_index, false, Result, Err, IsErrOf}
+use Rattle.std.specs.Prelude.{◌≡◌, ◌⊎◌, ℕ, ◌≤◌, max, List, [], ◌++◌, length, slice_index, false, Result, IsErrOf}
 use Rattle.px_base.specs.Octets.{IsFront}
 use Rattle.px_base.specs.Polling.{octets_heard}
 use Rattle.px_base.specs.declared.air.Turn.{Turn}

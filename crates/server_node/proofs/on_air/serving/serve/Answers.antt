@@ -1,5 +1,5 @@
 -- The recovery is refused, or the server serves over what it gives.
-use Rattle.std.proofs.Common.{None, refl, sym, subst, Result}
+use Rattle.std.proofs.Common.{None, sym, subst, Result}
 use Rattle.ftl0_server.specs.ServerState.{ServerState}
 use Rattle.node.specs.Course.{at}
 use Rattle.node.specs.Lent.{lent as lent_so, seen}

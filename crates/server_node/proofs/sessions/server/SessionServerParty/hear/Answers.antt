@@ -15,8 +15,8 @@ use Rattle.node.specs.declared.halt.Halt.{Halt}
 use Rattle.server_node.specs.Sessions.Course.{IsReady, Owes}
 use Rattle.server_node.specs.Sessions.Server.{server_state}
 use Rattle.server_node.specs.Sessions.ServerState.{ServerState}
-use Rattle.server_node.proofs.sessions.CourseLemmas.{owes-last, owes-more, owes-taken, under-way-less}
-use Rattle.ftl0_packets.proofs.SplitLemmas.{octets_under_way}
+use Rattle.server_node.proofs.sessions.CourseLemmas.{owes-last, owes-more, owes-taken}
+use Rattle.ftl0_packets.proofs.SplitLemmas.{octets_under_way, under-way-less}
 use Rattle.server_node.proofs.sessions.server.SessionServerParty.hear.Goals as goal
 
 pub invariant_of-self-in_default : goal.invariant_of-self-in_default
