@@ -1,6 +1,6 @@
 -- What the commands of a call do to a disk, one list of them after another.
-use Rattle.std.proofs.Common.{◌≡◌, inl, inr, ⊎_elim, ℕ, ◌+◌, ◌-◌, ◌*◌, ◌<◌, ◌≤◌, Bool, true, false, List, [], ◌∷◌, ◌++◌, length, take, Result, Ok, Err, IsErr, OnErr, OnOk, IfSome, refl, sym, ◌∙◌, ap, subst, arith, length-append}
-use Rattle.std.specs.Prelude.{IsTrue, nat_le}
+use Rattle.std.proofs.Common.{◌≡◌, ⊎_elim, ℕ, ◌+◌, ◌-◌, ◌*◌, ◌<◌, ◌≤◌, Bool, true, false, List, [], ◌∷◌, ◌++◌, length, take, IfSome, refl, sym, ◌∙◌, ap, subst, arith, length-append}
+use Rattle.std.specs.Prelude.{nat_le}
 use Rattle.std.proofs.lemmas.Bool.Decides.{leb_tells}
 use Rattle.std.proofs.lemmas.List.{take-append-le, take_all}
 use Rattle.std.proofs.Math.Seq.{take-append-add}
@@ -9,13 +9,12 @@ use Rattle.disk_model.specs.declared.disk.Disk.{Ghosts}
 use Rattle.file_journal.specs.Calls.{Leaves, images_now}
 use Rattle.file_journal.specs.Position.{Position}
 use Rattle.file_journal.specs.Walk.{KeepsState}
-use Rattle.file_journal.proofs.Offered.{at_told, failed_keeps, if_told, joined, puts_none, puts_on, puts_same, started, told_before, told_weaker, weaker}
-use Rattle.file_entries.specs.Command.{AreAllowed, Command, after, after_all, is_allowed}
+use Rattle.file_journal.proofs.Offered.{at_told, if_told, joined, puts_none, puts_on, puts_same, started, told_before, told_weaker, weaker}
+use Rattle.file_entries.specs.Command.{AreAllowed, Command, after, after_all}
 use Rattle.file_entries.specs.Records.{store_step}
 use Rattle.file_entries.specs.Store.{Store, empty_store}
 use Rattle.file_entries.proofs.Offered.{after_all-append, AreAllowed-append}
 use Rattle.file_store.specs.OnDisk.{Does, MakesBetween, MakesFirst, StayDone, after_first}
-use Rattle.file_store.specs.Putting.{IsBeforeOrAfter, PutsCommand}
 use Rattle.file_store.specs.State.{StandsFor, StandsOn, StoreState, store_in}
 
 -- a list of no length
@@ -35,10 +34,6 @@ after_first-then count a b store = ap (after_all store) (take-append-add a b cou
 
 pub after_first-all : (commands : List Command) (store : Store) → after_first (length commands) store commands ≡ after_all store commands
 after_first-all commands store = ap (after_all store) (take_all (length commands) commands (omega arith))
-
-pub makes-one : (store : Store) (command : Command) (image : List ℕ) → IsBeforeOrAfter store command image → MakesBetween 0 1 store (command ∷ []) image
-makes-one store command image (inl before) = (0, omega arith, omega arith, before)
-makes-one store command image (inr now) = (1, omega arith, omega arith, now)
 
 pub makes-first : (low high : ℕ) (store : Store) (a b : List Command) (image : List ℕ) → high ≤ length a → MakesBetween low high store a image → MakesBetween low high store (a ++ b) image
 makes-first low high store a b image most makes =
@@ -60,13 +55,6 @@ makes-second low high least most store middle a b image at below above makes = (
 
 module _ {D : Type 0} (g : Ghosts D) where
   -- ---- the commands that are done stay
-
-  -- since the one command is done
-  pub stay-one : (store : Store) (command : Command) (disk disk_now : D) → g.moment disk_now ≡ g.moment disk + 4
-      → ((image : List ℕ) → images_now g disk_now image → StandsFor image (after store command)) → StayDone g (g.moment disk) 1 store (command ∷ []) disk_now
-  stay-one store command disk disk_now at each count some most image left =
-      let now : g.moment disk + 4 * count ≡ g.moment disk_now = omega (arith, at) in
-      (1, omega arith, omega arith, each image (subst (λ (t : ℕ). g.images_since disk_now t image) now left))
 
   -- with further commands behind them
   pub stay-longer : (start done : ℕ) (store : Store) (a b : List Command) (disk_now : D) → StayDone g start done store a disk_now → StayDone g start done store (a ++ b) disk_now
@@ -94,55 +82,6 @@ module _ {D : Type 0} (g : Ghosts D) where
       makes-second (count - length a) (length b) count (length (a ++ b)) store middle a b image at (omega (arith, more)) (omega arith)
       (second (count - length a) (omega (arith, more)) (omega (arith, more, most)) image (subst (λ (t : ℕ). g.images_since disk_now t image) later left)))
       (leb_tells count (length a))
-
-  -- ---- one command
-
-  pub Does-one : {T E : Type 0} (result : Result T E) (old new : StoreState) (disk disk_now : D) (command : Command)
-      → StandsOn g old disk → IsTrue (is_allowed (store_in old) command)
-      → PutsCommand g old.journal new.journal disk disk_now command result
-      → OnOk result (store_in new ≡ after (store_in old) command) → OnErr result (store_in new ≡ store_in old)
-      → Does g (IsErr result) old new disk disk_now (command ∷ [])
-  Does-one (Ok x) old new disk disk_now command stands ok puts made kept =
-      let for = puts.stands (store_in old) stands ok in
-      record {
-        stands_on = subst (λ (s : Store). KeepsState empty_store store_step g new.journal s disk_now) (sym made) for.ok;
-        allowed = (ok, tt);
-        since = told_weaker (g.content disk) _ _ (λ before told left.
-            weaker g.moment g.images_since disk disk_now _ (MakesFirst (store_in old) (command ∷ [])) (λ image here. makes-one (store_in old) command image here) left) for.since;
-        stay = λ fine. if_told (g.content disk) _ (λ before told.
-            let now = told_before (g.content disk_now) (g.content disk) before (puts.puts.told.1, puts.puts.told.0) told in
-            stay-one (store_in old) command disk disk_now (at_told _ before told puts.calls) (at_told _ now.0 now.1 for.images));
-        calls = λ fine. puts.calls;
-        none = λ is. absurd (cc is);
-        puts = puts.puts;
-        done = λ fine. (made, puts.ok);
-        cut = λ failed. absurd (cc failed);
-        same_magic = ap (λ (p : Position). p.magic) puts.journal;
-      }
-  Does-one (Err e) old new disk disk_now command stands ok puts made kept =
-      let for = puts.stands (store_in old) stands ok in
-      record {
-        stands_on = failed_keeps g empty_store store_step new.journal (store_in new) disk_now puts.err (inl puts.err);
-        allowed = (ok, tt);
-        since = told_weaker (g.content disk) _ _ (λ before told left.
-            weaker g.moment g.images_since disk disk_now _ (MakesFirst (store_in old) (command ∷ [])) (λ image here. makes-one (store_in old) command image here) left) for.since;
-        stay = λ fine. absurd (fine refl);
-        calls = λ fine. absurd (fine refl);
-        none = λ is. absurd (cc is);
-        puts = puts.puts;
-        done = λ fine. absurd (fine refl);
-        cut = λ failed. record {
-          count = 0;
-          fewer = omega arith;
-          store = kept;
-          failed = puts.err;
-          images = told_weaker (g.content disk_now) _ _ (λ now told each image here. makes-one (store_in old) command image (each image here)) for.err;
-          stay = if_told (g.content disk) _ (λ before told count some most image left. absurd (omega (arith, some, most)));
-          calls = told_weaker (g.content disk) _ _ (λ before told left. omega (arith, left.later)) for.since;
-          at_most = if_told (g.content disk) _ (λ before told. omega (arith, puts.at_most));
-        };
-        same_magic = ap (λ (p : Position). p.magic) puts.journal;
-      }
 
   -- ---- no command
 

@@ -1,8 +1,8 @@
 -- A store of files as a state that is kept: what its commands do to the disk, said as the store says it.
-use Rattle.std.proofs.Common.{◌≡◌, ℕ, ◌+◌, ◌*◌, ◌≤◌, List, [], ◌∷◌, length, take, Some, IfSome, refl, sym, ◌∙◌, ap, subst, arith}
+use Rattle.std.proofs.Common.{◌≡◌, ℕ, ◌+◌, List, [], ◌∷◌, length, take, refl, ◌∙◌, ap, subst}
 use Rattle.disk_model.specs.declared.disk.Disk.{Ghosts}
 use Rattle.file_journal.specs.AmongReads as kept_among
-use Rattle.file_journal.specs.Calls.{Leaves, images_now}
+use Rattle.file_journal.specs.Calls.{Leaves}
 use Rattle.file_journal.specs.Commands as kept_commands
 use Rattle.file_journal.specs.Form.{meaning_of}
 use Rattle.file_journal.specs.Kept as kept
@@ -13,10 +13,10 @@ use Rattle.file_entries.specs.Command.{AreAllowed, Command, after, after_all}
 use Rattle.file_entries.specs.Files.{NothingOut}
 use Rattle.file_entries.specs.Records.{store_form}
 use Rattle.file_entries.specs.Store.{Store}
-use Rattle.file_store.specs.OnDisk.{Does, IsCut, MakesBetween, MakesFirst, StayDone, after_first}
+use Rattle.file_store.specs.OnDisk.{Does, IsCut, MakesBetween, MakesFirst, StayDone}
 use Rattle.file_store.specs.Recovery.{IsRecovered}
 use Rattle.file_store.specs.State.{StandsFor, StoreState, standing_of, store_in}
-use Rattle.file_store.specs.Working.{CountsSome, DoesAmongReads, PutsAmongReads}
+use Rattle.file_store.specs.Working.{DoesAmongReads}
 use Rattle.file_store.proofs.PutLemmas.{after-blocks}
 
 -- the store after commands, said either way

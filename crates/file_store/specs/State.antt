@@ -12,6 +12,10 @@ pub record StoreState : Type 0 where
   pub files : Files
   pub journal : Position
 
+-- a store by its parts
+abbrev pub state_from : Files → Position → StoreState
+state_from files journal = record { files = files; journal = journal }
+
 -- the store that it is
 abbrev pub store_in : StoreState → Store
 store_in self = store_of self.files

@@ -13,7 +13,7 @@ use Rattle.file_store.proofs.file_store.FileStore.append.Goals as goal
 
 pub hold_blocks-requires-clause-fits : goal.hold_blocks-requires-clause-fits
 hold_blocks-requires-clause-fits g c =
-    let mid : StoreState = record { files = c.bring.new.self.files; journal = c.self.inside.journal } in
+    let mid : StoreState = record { files = c.bring.new.self.files; journal = c.self.inside.kept.journal } in
     let brought = c.in_default.ensures.ok in
     brought-fits c.args.self.now mid c.args.up c.args.bytes.now c.number-number.result c.number-number.ensures c.requires.holds (omega (arith, c.missing.ensures.missing, c.if-bytes-missing.false))
     (brought.store ∙ ap store_in c.self.view_is)
@@ -60,9 +60,9 @@ returns-in-Err-hold_blocks-clause-does g c reaches =
     let up = c.args.up in
     let bytes = c.args.bytes.now in
     let number = c.number-number.result in
-    let brought : StoreState = record { files = c.bring.new.self.files; journal = c.self.inside.journal } in
+    let brought : StoreState = record { files = c.bring.new.self.files; journal = c.self.inside.kept.journal } in
     let held = c.hold_blocks.new.self in
-    let new : StoreState = record { files = c.park-in-Err-hold_blocks.new.self.files; journal = c.self-2.inside.journal } in
+    let new : StoreState = record { files = c.park-in-Err-hold_blocks.new.self.files; journal = c.self-2.inside.kept.journal } in
     let came = c.in_default.ensures.ok in
     let first : store_in brought ≡ store_in self = came.store ∙ ap store_in c.self.view_is in
     let here : rest_in brought number ≡ option_map (λ (r : List ℕ). r ++ bytes) (rest_in self number) =
@@ -80,7 +80,7 @@ pub returns-in-Err-hold_blocks-clause-uploads : goal.returns-in-Err-hold_blocks-
 returns-in-Err-hold_blocks-clause-uploads g c =
     let D = g.D.Disk in
     let self = c.args.self.now in
-    let new : StoreState = record { files = c.park-in-Err-hold_blocks.new.self.files; journal = c.self-2.inside.journal } in
+    let new : StoreState = record { files = c.park-in-Err-hold_blocks.new.self.files; journal = c.self-2.inside.kept.journal } in
     let up = c.args.up in
     let bytes = c.args.bytes.now in
     let rests : KeepsRests self.files new.files up.number = search rules in
@@ -90,7 +90,7 @@ pub returns-in-Err-hold_blocks-clause-kept : goal.returns-in-Err-hold_blocks-cla
 returns-in-Err-hold_blocks-clause-kept g c =
     let D = g.D.Disk in
     let self = c.args.self.now in
-    let new : StoreState = record { files = c.park-in-Err-hold_blocks.new.self.files; journal = c.self-2.inside.journal } in
+    let new : StoreState = record { files = c.park-in-Err-hold_blocks.new.self.files; journal = c.self-2.inside.kept.journal } in
     let up = c.args.up in
     let bytes = c.args.bytes.now in
     does-complete D true self new c.args.disk.now c.hold_blocks.new.disk (appending self up bytes) up.number (appending-of self up bytes) (returns-in-Err-hold_blocks-clause-does g c refl) up refl c.requires.holds

@@ -84,7 +84,7 @@ pub returns-in-Err-clause-uploads : goal.returns-in-Err-clause-uploads
 returns-in-Err-clause-uploads g c =
     let D = g.D.Disk in
     let self = c.args.self.now in
-    let new : StoreState = record { files = c.park-in-Err.new.self.files; journal = c.self-2.inside.journal } in
+    let new : StoreState = record { files = c.park-in-Err.new.self.files; journal = c.self-2.inside.kept.journal } in
     let up = c.args.up in
     let moment = c.args.moment in
     let does : Does D (true ≡ true) self new c.args.disk.now c.end_file.new.disk (sealing self up moment) = search rules in
@@ -95,7 +95,7 @@ pub returns-in-Err-clause-kept : goal.returns-in-Err-clause-kept
 returns-in-Err-clause-kept g c =
     let D = g.D.Disk in
     let self = c.args.self.now in
-    let new : StoreState = record { files = c.park-in-Err.new.self.files; journal = c.self-2.inside.journal } in
+    let new : StoreState = record { files = c.park-in-Err.new.self.files; journal = c.self-2.inside.kept.journal } in
     let up = c.args.up in
     let moment = c.args.moment in
     let does : Does D (true ≡ true) self new c.args.disk.now c.end_file.new.disk (sealing self up moment) = search rules in
