@@ -4,7 +4,7 @@ use Rattle.file_entries.specs.Command.{Command}
 use Rattle.file_entries.specs.Files.{store_of}
 use Rattle.file_entries.specs.Records.{IsWritable, record_of_command}
 use Rattle.file_store.specs.Changes.{command_by}
-use Rattle.file_store.proofs.PutLemmas.{written-step}
+use Rattle.file_store.proofs.StandingLemmas.{written-step}
 use Rattle.file_store.proofs.change.EntriesChangeChangeEntries.write.Goals as goal
 
 pub returns-clause-steps : goal.returns-clause-steps
