@@ -1,5 +1,5 @@
 -- The end of a session or a server, by the turns of its node, and what stands on the disk then.
-use Rattle.std.proofs.Common.{◌≡◌, ℕ, ◌≤◌, List, [], ◌∷◌, ◌++◌, Bool, true, false, refl, ap, sym, ◌∙◌, subst, inl, inr, ⊎_elim}
+use Rattle.std.proofs.Common.{◌≡◌, ℕ, List, [], ◌∷◌, ◌++◌, Bool, true, false, refl, ap, sym, ◌∙◌, subst, inl, inr, ⊎_elim}
 use Rattle.std.specs.Prelude.{◌≢◌, Result, Ok, Err, IsErrOf, IfSome, Option}
 use Rattle.disk_model.specs.declared.disk.Disk.{Ghosts}
 use Rattle.px_base.specs.Moments.{MomentsOf}
@@ -15,7 +15,7 @@ use Rattle.file_store.specs.State.{StoreState, store_in}
 use Rattle.file_store.specs.Store.{Store}
 use Rattle.file_store.specs.Working.{CutsOffAmongReads, PutsAmongReads}
 use Rattle.file_store.specs.declared.refusals.StoreFault.TheVariants as fault
-use Rattle.file_store.proofs.Offered.{cuts-among-puts, cuts-among-same, told_weaker}
+use Rattle.file_store.proofs.Offered.{cuts-among-all, cuts-among-puts, cuts-among-same, own-number, told_weaker}
 use Rattle.node.specs.Course.{AtDisk, Course}
 use Rattle.node.specs.Lent.{Lent, Seen}
 use Rattle.node.specs.Turns.{HasAirCause as NodeHasCause, IsButLast, IsUnsaid, RanBy, StoppedInLast, TookAll, TurnsBy as NodeTurnsBy, Brought}
@@ -26,11 +26,16 @@ use Rattle.node.specs.declared.stop.NodeStop.TheVariants as node_stop
 use Rattle.server_node.specs.declared.stop.NodeStop.{NodeStop}
 use Rattle.server_node.specs.declared.stop.NodeStop.TheVariants as stop
 use Rattle.server_node.specs.declared.terms.Served.{Served}
-use Rattle.server_node.specs.OnDisk.{StandsThrough}
+use Rattle.file_journal.specs.AmongReads.{among_reads}
+use Rattle.file_journal.specs.Kept.{alone}
+use Rattle.file_journal.specs.Through.{StandsThrough}
+use Rattle.file_journal.proofs.Offered.{runs_among, runs_missed, stands_through}
+use Rattle.file_store.specs.OnDisk.{kept_at}
+use Rattle.file_store.specs.Records.{store_form}
 use Rattle.server_node.specs.Served.{Run, TurnsBy}
 use Rattle.server_node.specs.Steps.{EndsOver, Made, Steps, StopsBehind, TakesAll}
 use Rattle.server_node.specs.Stops.{HasAirCause, served_by, stop_of_node}
-use Rattle.server_node.proofs.Standing.{node_runs, session_puts, session_reads, stands_through}
+use Rattle.server_node.proofs.Standing.{node_runs}
 use Rattle.server_node.proofs.Starting.{Recovers, Serves}
 
 -- all turns but the last
@@ -110,8 +115,7 @@ pub record Did {A C D : Type 0} (seen : Seen D A C) (given : Option ℕ) (Ran : 
   pub counts : HasAirCause seen.air.read_faults seen.air.write_faults old.air new.air result
   pub cuts : CutsOffAmongReads seen.disk (IsErrOf result stop.Disk) run.all.missed start store mid new.disk run.all.done run.cut
 
-module _ {A C D T : Type 0} (seen : Seen D A C) (on : (first second third : D) → seen.disk.lasts first second → seen.disk.lasts second third → seen.disk.lasts first third)
-    (earlier : (disk : D) (t u : ℕ) (image : List ℕ) → t ≤ u → seen.disk.images_since disk u image → seen.disk.images_since disk t image) (blocks : ℕ) (given : Option ℕ)
+module _ {A C D T : Type 0} (seen : Seen D A C) (on : (first second third : D) → seen.disk.lasts first second → seen.disk.lasts second third → seen.disk.lasts first third) (blocks : ℕ) (given : Option ℕ)
     (Ran : Result Served NodeStop → Store → Run → Type 0) (old new : Lent D A C) (mid : D) (value : T) (start store : StoreState) (polls : ℕ) (result : Result Served NodeStop)
     (h : Recovers {T = T} seen.disk blocks old.disk mid value start) (did : Did seen given (Ran result) old new mid start store polls result) where
   abbrev g : Ghosts D
@@ -131,13 +135,15 @@ module _ {A C D T : Type 0} (seen : Seen D A C) (on : (first second third : D) �
       (λ (s : IsSyncedFirst g old.disk mid (StandsAlike blocks octets)). s)
       (λ (failed : IsErrOf {T = T} (Ok value) fault.Disk × IsFailedSync g old.disk mid). absurd (fine failed.0)) left) h.since_sync
 
-  standing : (stands : StandsThrough g Failed (store_in start) run.all.done run.cut old.disk new.disk) × (stands.ready ≡ g.moment mid)
-  standing = stands_through g on earlier Failed blocks old.disk mid new.disk start store run.all.done run.cut run.all.missed h.runs.told h.recovered.content h.since_start synced did.cuts
+  standing : (stands : StandsThrough g store_form Failed (store_in start) run.all.done run.cut old.disk new.disk) × (stands.ready ≡ g.moment mid)
+  standing =
+      let cuts = did.cuts in
+      stands_through g store_form own-number blocks Failed old.disk (kept_at start mid) (kept_at cuts.store_then cuts.disk_then) (kept_at store new.disk) run.all.done run.cut h.runs.told h.recovered.content
+      h.since_start synced h.magic_is (among_reads g Failed run.all.missed) (among_reads g ⊥ run.all.missed) (alone g Failed)
+      (cuts-among-all g on Failed run.all.missed start store mid new.disk run.all.done run.cut cuts) cuts.first cuts.second cuts.first.puts.told
 
   puts : PutsAmongReads g Failed old.disk new.disk
-  puts =
-      session_puts g on earlier Failed blocks old.disk mid new.disk start store run.all.done run.cut run.all.missed h.runs.told h.recovered.content h.since_start synced did.cuts _ fine h.runs
-      (cuts-among-puts g on Failed run.all.missed start store mid new.disk run.all.done run.cut did.cuts)
+  puts = runs_among g on _ Failed old.disk mid new.disk fine h.runs (cuts-among-puts g on Failed run.all.missed start store mid new.disk run.all.done run.cut did.cuts)
 
   -- it isn't refused
   never_refused : (why : NodeStop) → ((turns : List Turn) → TurnsBy (Err why) polls turns → ⊥) → IsErrOf result why → ⊥
@@ -162,7 +168,7 @@ module _ {A C D T : Type 0} (seen : Seen D A C) (on : (first second third : D) �
       is_unsaid = did.is_unsaid;
       ran = did.ran;
       puts = puts;
-      reads = session_reads g on earlier Failed blocks old.disk mid new.disk start store run.all.done run.cut run.all.missed h.runs.told h.recovered.content h.since_start synced did.cuts _ fine h.runs;
+      reads = runs_missed g on _ Failed old.disk mid new.disk fine h.runs run.all.missed (cuts-among-all g on Failed run.all.missed start store mid new.disk run.all.done run.cut did.cuts).reads;
       stands = standing.0;
       ready = standing.1;
       none = λ none.

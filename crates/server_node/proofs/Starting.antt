@@ -21,7 +21,8 @@ use Rattle.server_node.specs.declared.terms.Served.{Served}
 use Rattle.server_node.specs.OnDisk.{NodeRuns}
 use Rattle.server_node.specs.Served.{Ends, Run}
 use Rattle.server_node.specs.Stops.{HasAirCause, RefusesSession, stop_of_fault}
-use Rattle.server_node.proofs.Standing.{runs_refused, runs_same}
+use Rattle.file_journal.proofs.Offered.{runs_same}
+use Rattle.server_node.proofs.Standing.{runs_refused}
 
 -- what the clauses of serving say
 pub record Serves {A C D : Type 0} (seen : Seen D A C) (blocks : ℕ) (given : Option ℕ) (Ran : Result Served NodeStop → Store → Run → Type 0) (old new : Lent D A C) (result : Result Served NodeStop) : Type 0 where
@@ -75,7 +76,7 @@ module _ {A C D T : Type 0} (seen : Seen D A C) (blocks : ℕ) (given : Option �
 
   refused_runs : Runs seen.disk (IsErrOf Refused stop.Disk) old.disk disk_n
   refused_runs =
-      runs_same seen.disk _ _ (λ is. ap (λ (f : StoreFault). Err (stop_of_fault f)) (there is)) (λ is. back (same_fault why fault.Disk (error_of (stop_of_fault why) stop.Disk is))) old.disk disk_n runs
+      runs_same seen.disk _ _ old.disk disk_n (λ is. ap (λ (f : StoreFault). Err (stop_of_fault f)) (there is)) (λ is. back (same_fault why fault.Disk (error_of (stop_of_fault why) stop.Disk is))) runs
 
   pub unserved : Serves seen blocks given Ran old (lent disk_n old.air old.clock) Refused
   unserved = record {
@@ -89,11 +90,11 @@ module _ {A C D T : Type 0} (seen : Seen D A C) (blocks : ℕ) (given : Option �
           record {
             since_sync = told_weaker (seen.disk.content old.disk) _ _ (λ before told left. ⊎_elim
                 (λ (synced : IsSyncedFirst seen.disk old.disk disk_n (StandsAlike blocks before)). inl synced)
-                (λ (failed : IsErrOf answer fault.Disk × IsFailedSync seen.disk old.disk disk_n). inr (ap stop_of_fault (there failed.0), failed.1))
+                (λ (failed : IsErrOf answer fault.Disk × IsFailedSync seen.disk old.disk disk_n). inr (there failed.0, failed.1))
                 left) since_sync;
             since_start = since_start;
-            not_a_store = λ found is. untouched found (same_fault why (fault.NotAStore found) is);
-            damaged = λ at is. damage at (same_fault why (fault.Damaged at) is);
+            not_a_store = untouched;
+            damaged = damage;
           };
       runs = refused_runs;
     });
@@ -139,6 +140,7 @@ module _ {A C D T : Type 0} (seen : Seen D A C) (blocks : ℕ) (given : Option �
 -- The recovery gave this, with this store on the disk.
 pub record Recovers {D T : Type 0} (g : Ghosts D) (blocks : ℕ) (old mid : D) (value : T) (start : StoreState) : Type 0 where
   pub recovered : IsRecovered g blocks old mid start
+  pub magic_is : start.journal.magic ≡ store_magic
   pub rules : IsStore (store_in start)
   pub runs : Runs g (IsErrOf {T = T} (Ok value) fault.Disk) old mid
   pub octets : TakesStep g old mid (Becomes (after_recovery store_magic blocks))

@@ -7,11 +7,12 @@ use Rattle.px_base.specs.Outside.{Gains}
 use Rattle.px_base.specs.Polling.{EndsWith, HearsAll, IsOpen}
 use Rattle.px_base.specs.declared.air.Turn.{Turn}
 use Rattle.px_base.specs.declared.air.Turn.TheVariants as turn
+use Rattle.file_journal.specs.Through.{StandsThrough}
 use Rattle.file_store.specs.Calls.{Becomes, ChangesReads, Runs, TakesStep}
 use Rattle.file_store.specs.Command.{Command}
 use Rattle.file_store.specs.IsStore.{IsStore}
 use Rattle.file_store.specs.Journal.{after_recovery}
-use Rattle.file_store.specs.Records.{store_magic}
+use Rattle.file_store.specs.Records.{store_form, store_magic}
 use Rattle.file_store.specs.State.{standing_of}
 use Rattle.file_store.specs.Store.{Store}
 use Rattle.file_store.specs.Walk.{state}
@@ -22,7 +23,7 @@ use Rattle.node.specs.Turns.{IsUnsaid}
 use Rattle.server_node.specs.declared.stop.NodeStop.{NodeStop}
 use Rattle.server_node.specs.declared.stop.NodeStop.TheVariants as stop
 use Rattle.server_node.specs.declared.terms.Served.{Served}
-use Rattle.server_node.specs.OnDisk.{LeavesStanding, StandsThrough}
+use Rattle.server_node.specs.OnDisk.{LeavesStanding}
 use Rattle.server_node.specs.Steps.{Made}
 use Rattle.server_node.specs.Stops.{stop_of_fault}
 
@@ -54,7 +55,7 @@ pub record IsUnrecovered {A C D : Type 0} (seen : Seen D A C) (blocks : ℕ) (ol
   pub answer : result ≡ Err (stop_of_fault fault)
   pub air : new.air ≡ old.air
   pub clock : new.clock ≡ old.clock
-  pub leaves : LeavesStanding seen.disk blocks (stop_of_fault fault) old.disk new.disk
+  pub leaves : LeavesStanding seen.disk blocks fault old.disk new.disk
   pub runs : Runs seen.disk (IsErrOf result stop.Disk) old.disk new.disk
 
 -- It was served over the store for which the disk's content stood. Its recovery changed no octet of a formatted store,
@@ -76,7 +77,8 @@ pub record IsServed {A C D : Type 0} (seen : Seen D A C) (blocks : ℕ) (given :
   pub ran : Ran start run
   pub puts : PutsAmongReads seen.disk (IsErrOf result stop.Disk) old.disk new.disk
   pub reads : CountsSome (seen.disk.read_faults old.disk) (seen.disk.read_faults new.disk) run.all.missed
-  pub stands : StandsThrough seen.disk (IsErrOf result stop.Disk) start run.all.done run.cut old.disk new.disk
+  pub stands :
+      StandsThrough seen.disk store_form (IsErrOf result stop.Disk) start run.all.done run.cut old.disk new.disk
   pub ready : stands.ready ≡ seen.disk.moment recovered
   pub none : run.all.done ++ run.cut ≡ [] → ChangesReads seen.disk recovered new.disk
 

@@ -5,7 +5,9 @@ use Rattle.disk_model.specs.Moments.{LeavesSince}
 use Rattle.disk_model.specs.declared.disk.Disk.{Ghosts}
 use Rattle.ftl0_packets.specs.Layout.{PacketValue, data_end, ul_ack_resp}
 use Rattle.ftl0_session.specs.Lists.Lists.{CallerList}
+use Rattle.file_journal.specs.Through.{StandsThrough}
 use Rattle.file_store.specs.Command.{Command, after_all}
+use Rattle.file_store.specs.Records.{store_form}
 use Rattle.file_store.specs.Store.{Entry, Store}
 use Rattle.ftl0_session.specs.Uploads.Laws.{HasEntry, IsWhole, kept}
 use Rattle.ftl0_session.specs.Run.{Event, RunsOver, event_row}
@@ -13,7 +15,6 @@ use Rattle.ftl0_session.specs.Table.{Row, State, receiving, session_row}
 use Rattle.server_node.specs.declared.stop.NodeStop.{NodeStop}
 use Rattle.server_node.specs.declared.stop.NodeStop.TheVariants as stop
 use Rattle.server_node.specs.declared.terms.Served.{Served}
-use Rattle.server_node.specs.OnDisk.{StandsThrough}
 
 -- A session that did these commands came to this event behind the earlier ones, over a store and lists and in a state.
 -- The commands of the event's row are behind those of the earlier events, and others are behind them.
@@ -77,6 +78,6 @@ pub record AcknowledgedSince {D : Type 0} (g : Ghosts D) (file : FileEnd) (done 
 pub record AcknowledgedSinceLaw {D : Type 0} (g : Ghosts D) : Type 0 where
   pub since :
       (result : Result Served NodeStop) (start : Store) (done cut : List Command) (disk disk_now : D)
-      (stands : StandsThrough g (IsErrOf result stop.Disk) start done cut disk disk_now) (file : FileEnd)
+      (stands : StandsThrough g store_form (IsErrOf result stop.Disk) start done cut disk disk_now) (file : FileEnd)
       → file.store ≡ after_all start file.before → IsWhole file.store file.number file.entry file.held file.rest
       → AcknowledgedSince g file done stands.ready disk disk_now
