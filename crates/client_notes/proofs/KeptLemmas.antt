@@ -1,10 +1,9 @@
 -- The notes as a state that is kept.
-use Rattle.std.proofs.Common.{◌≡◌, inl, inr, ℕ, zero, suc, ◌+◌, ◌<◌, ◌≤◌, Bool, false, List, [], ◌∷◌, Option, None, Some, IfSome, Result, Ok, Err, IsErr, IsErrOf, OnErr, OnOk, refl, sym, ◌∙◌, ap, subst, arith}
+use Rattle.std.proofs.Common.{◌≡◌, inl, inr, ℕ, zero, suc, ◌+◌, ◌<◌, ◌≤◌, Bool, false, List, [], ◌∷◌, Option, None, Some, Result, Ok, Err, IsErr, IsErrOf, OnErr, OnOk, refl, sym, ◌∙◌, ap, subst, arith}
 use Rattle.std.specs.Prelude.{IsTrue, if◌then◌else◌}
 use Rattle.std.specs.Option.{option_and_then}
 use Rattle.disk_model.specs.declared.disk.Disk.{Ghosts}
 use Rattle.file_journal.specs.Commands.{MakesBetween, after_first}
-use Rattle.file_journal.specs.Form.{meaning_of}
 use Rattle.file_journal.specs.Kept as kept
 use Rattle.file_journal.specs.Kept.{KeptOn, StandsAt, kept_on}
 use Rattle.file_journal.specs.Position.{Position}
@@ -13,17 +12,16 @@ use Rattle.file_journal.specs.declared.faults.StoreFault as journal_fault
 use Rattle.file_journal.specs.declared.faults.StoreFault.TheVariants as store_fault
 use Rattle.file_journal.specs.Records.{Record}
 use Rattle.file_journal.specs.declared.faults.JournalFault.{JournalFault}
-use Rattle.file_journal.specs.declared.faults.JournalFault.TheVariants as fault
-use Rattle.file_journal.proofs.Offered.{does_same, told_weaker, weaker}
+use Rattle.file_journal.proofs.Offered.{does_same, images_here, told_weaker, weaker}
 use Rattle.client_notes.specs.Answers.{Noting}
 use Rattle.client_notes.specs.Command.{NotesCommand, after, is_allowed}
 use Rattle.client_notes.specs.Notes.{Lists}
 use Rattle.client_notes.specs.Noting.{lists_of, without}
-use Rattle.client_notes.specs.OnDisk.{Answers, Does, IsBeforeOrAfter}
+use Rattle.client_notes.specs.OnDisk.{Answers, Does, EachImage, IsBeforeOrAfter}
 use Rattle.client_notes.specs.Records.{IsWritable, command_of, notes_after, notes_form, notes_magic, notes_step, record_of_command}
 use Rattle.client_notes.specs.Recovery.{RefusesRecovery}
 use Rattle.client_notes.specs.Refusals.{fault_of_store}
-use Rattle.client_notes.specs.State.{NotesState, StandsOn}
+use Rattle.client_notes.specs.State.{NotesState, StandsFor, StandsOn}
 use Rattle.client_notes.specs.declared.noted_lists.Coming.{Coming}
 use Rattle.client_notes.specs.declared.noted_lists.Coming.TheVariants as coming
 use Rattle.client_notes.specs.declared.noted_lists.NotedLists.{NotedLists}
@@ -40,7 +38,7 @@ step-command lists command entry same writable ok =
     ∙ ap (λ (b : Bool). if b then Some (after lists command) else None) ok
 
 -- some number of one command
-before-or-after : (low high : ℕ) (lists : Lists) (command : NotesCommand) (image : List ℕ) → high ≤ 1 → MakesBetween (meaning_of notes_form 1) low high lists (command ∷ []) image → IsBeforeOrAfter lists command image
+before-or-after : (low high : ℕ) (lists : Lists) (command : NotesCommand) (image : List ℕ) → high ≤ 1 → MakesBetween notes_form low high lists (command ∷ []) image → IsBeforeOrAfter lists command image
 before-or-after low high lists command image most (zero, least, few, stands) = inl stands
 before-or-after low high lists command image most (suc zero, least, few, stands) = inr stands
 before-or-after low high lists command image most (suc (suc more), least, few, stands) = absurd (omega (arith, few, most))
@@ -52,29 +50,36 @@ module _ {D : Type 0} (g : Ghosts D) where
 
   module _ (old new : NotesState) (disk disk_now : D) (command : NotesCommand) where
     -- one command, said as the notes say it
-    pub does-of : (P : Type 0) → kept.Does g notes_form P (command ∷ []) (kept_on old.lists old.journal disk) (kept_on new.lists new.journal disk_now) → Does g P old new disk disk_now command
-    does-of P does = record {
-      stands_on = does.fours.stands_at.keeps;
-      healthy = does.fours.healthy;
-      allowed = (does.fours.by 1).allowed.0;
+    pub does-of : (P : Type 0) → new.journal.magic ≡ notes_magic → kept.Does g notes_form P (command ∷ []) (kept_on old.lists old.journal disk) (kept_on new.lists new.journal disk_now)
+        → Does g P old new disk disk_now command
+    does-of P magic does = record {
+      stands_on = does.stands_on;
+      healthy = does.healthy;
+      allowed = does.allowed.0;
       since = told_weaker (g.content disk) _ _ (λ before told left.
-          weaker g.moment g.images_since disk disk_now _ (IsBeforeOrAfter old.lists command) (λ image here. before-or-after 0 1 old.lists command image (omega arith) here) left) (does.fours.by 1).since;
+          weaker g.moment g.images_since disk disk_now _ (IsBeforeOrAfter old.lists command) (λ image here. before-or-after 0 1 old.lists command image (omega arith) here) left) does.since;
       done = λ fine.
-          let all = (does.fours.by 1).done fine in
-          record { lists = all.state; healthy = all.healthy; images = all.images; calls = told_weaker (g.content disk) _ _ (λ before told is. omega (arith, is)) (does.fours.calls fine) };
+          let all = does.done fine in
+          record {
+            lists = all.0;
+            healthy = all.1;
+            images = subst (λ (l : Lists). EachImage g disk_now (λ image. StandsFor image l)) all.0
+                (images_here notes_form g (kept_on new.lists new.journal disk_now) (record { magic_is = magic; keeps = does.stands_on }) all.1);
+            calls = told_weaker (g.content disk) _ _ (λ before told is. omega (arith, is)) (does.calls fine);
+          };
       cut = λ failed.
-          let some = (does.fours.by 1).cut failed in
+          let some = does.cut failed in
           record {
             lists = none-done some.count some.fewer some.state;
             failed = some.failed;
             images = told_weaker (g.content disk_now) _ _ (λ now told each image here. before-or-after some.count (some.count + 1) old.lists command image (omega (arith, some.fewer)) (each image here)) some.images;
           };
-      at_most = omega (arith, does.fours.at_most);
+      at_most = does.at_most;
       puts = does.puts;
-      same_magic = does.fours.same_magic;
+      same_magic = ap (λ (p : Position). p.magic) does.journal;
     }
       where
-        none-done : (count : ℕ) → count < 1 → new.lists ≡ after_first (meaning_of notes_form 1) count old.lists (command ∷ []) → new.lists ≡ old.lists
+        none-done : (count : ℕ) → count < 1 → new.lists ≡ after_first notes_form count old.lists (command ∷ []) → new.lists ≡ old.lists
         none-done zero few is = is
         none-done (suc more) few is = absurd (omega (arith, few))
 
@@ -85,7 +90,7 @@ module _ {D : Type 0} (g : Ghosts D) where
       untouched = λ was.
           let same = put.untouched was in
           record { same = ap (λ (k : KeptOn D Lists). let state : NotesState = record { lists = k.now; journal = k.journal } in state) same; same_disk = ap (λ (k : KeptOn D Lists). k.disk) same };
-      does = λ fine. does-of (IsErr result) (put.does fine);
+      does = λ fine. does-of (IsErr result) put.stands_at.magic_is (put.does fine);
       stands_on = put.stands_at.keeps;
     }
 
@@ -95,7 +100,7 @@ module _ {D : Type 0} (g : Ghosts D) where
       refused = tt;
       can = λ was. cc (sym healthy ∙ was);
       untouched = inl refl;
-      does = λ reaches. does-of _ (does_same g notes_form _ _ (command ∷ []) _ _ (λ is. is) (λ is. is) (put.does (λ is. cc is)));
+      does = λ reaches. does-of _ put.stands_at.magic_is (does_same g notes_form _ _ (command ∷ []) _ _ (λ is. is) (λ is. is) (put.does (λ is. cc is)));
       stands_on = put.stands_at.keeps;
     }
 
@@ -105,7 +110,7 @@ module _ {D : Type 0} (g : Ghosts D) where
       refused = λ was. cc (sym healthy ∙ was);
       can = tt;
       untouched = inl refl;
-      does = λ reaches. does-of _ (does_same g notes_form _ _ (command ∷ []) _ _ (λ is. refl) (λ is. refl) (put.does (λ is. cc (sym healthy ∙ put.failed.0 is))));
+      does = λ reaches. does-of _ put.stands_at.magic_is (does_same g notes_form _ _ (command ∷ []) _ _ (λ is. refl) (λ is. refl) (put.does (λ is. cc (sym healthy ∙ put.failed.0 is))));
       stands_on = put.stands_at.keeps;
     }
 

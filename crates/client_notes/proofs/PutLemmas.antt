@@ -1,22 +1,20 @@
 -- What putting a command's record makes of the notes' disk.
-use Rattle.std.proofs.Common.{◌≡◌, inl, inr, ⊎_elim, ℕ, ◌≤◌, Bool, false, List, Err, IsErrOf, Option, None, Some, IfSome, refl, sym, ◌∙◌, ap}
+use Rattle.std.proofs.Common.{◌≡◌, ℕ, Bool, false, List, Err, IsErrOf, Option, None, Some, IfSome, refl, sym, ◌∙◌, ap}
 use Rattle.std.specs.Prelude.{IsTrue, if◌then◌else◌}
 use Rattle.std.specs.Option.{option_and_then}
 use Rattle.disk_model.specs.declared.disk.Disk.{Ghosts}
-use Rattle.file_journal.specs.Appending.{LeavesAppending, LeavesBeforeOrAfter}
-use Rattle.file_journal.specs.Calls.{Leaves, TellsAlike, images_now}
+use Rattle.file_journal.specs.Calls.{images_now}
 use Rattle.file_journal.specs.Journal.{Standing, journal_of}
 use Rattle.file_journal.specs.Journal as journal
 use Rattle.file_journal.specs.Position.{Position}
 use Rattle.file_journal.specs.Records.{Record}
-use Rattle.file_journal.specs.Walk.{KeepsState, StandFor, StandForEither, stands_for, stands_of}
+use Rattle.file_journal.specs.Walk.{KeepsState, StandFor, stands_for, stands_of}
 use Rattle.file_journal.specs.declared.faults.JournalFault.{JournalFault}
 use Rattle.file_journal.specs.declared.faults.JournalFault.TheVariants as fault
-use Rattle.file_journal.proofs.Offered.{append_leaves, at_told, if_told, one_step, told_before, told_weaker, weaker}
+use Rattle.file_journal.proofs.Offered.{told_weaker}
 use Rattle.client_notes.specs.Command.{NotesCommand, after, is_allowed}
 use Rattle.client_notes.specs.Records.{command_of, notes_after, notes_magic, notes_step}
 use Rattle.client_notes.specs.Notes.{Lists}
-use Rattle.client_notes.specs.OnDisk.{IsBeforeOrAfter}
 use Rattle.client_notes.specs.State.{StandsFor, fresh_notes}
 
 -- a fault of an append that isn't an earlier one is one of the disk

@@ -2,14 +2,11 @@
 use Rattle.std.specs.Prelude.{◌≡◌, ◌⊎◌, ◌↔◌, ℕ, ◌+◌, ◌≤◌, List, true, false, IfSome, IsTrue, Result, IsErr, IsErrOf}
 use Rattle.disk_model.specs.declared.disk.Disk.{Ghosts}
 use Rattle.file_journal.specs.Calls.{Leaves, Puts, images_now}
-use Rattle.file_journal.specs.Position.{Position}
-use Rattle.file_journal.specs.Walk.{KeepsState}
 use Rattle.file_journal.specs.declared.faults.JournalFault.{JournalFault}
 use Rattle.file_journal.specs.declared.faults.JournalFault.TheVariants as fault
 use Rattle.client_notes.specs.Command.{NotesCommand, after, is_allowed}
 use Rattle.client_notes.specs.Notes.{Lists}
-use Rattle.client_notes.specs.Records.{notes_step}
-use Rattle.client_notes.specs.State.{NotesState, StandsFor, StandsOn, fresh_notes}
+use Rattle.client_notes.specs.State.{NotesState, StandsFor, StandsOn}
 
 -- each image that a crash since this moment might have left, where the disk tells, has P
 abbrev pub EachImage : {D : Type 0} → Ghosts D → D → (List ℕ → Type 0) → Type 0

@@ -128,6 +128,7 @@ notes_form =
     record {
       magic = notes_magic;
       fresh = λ blocks. no_notes;
+      number = λ lists. 1;
       step = notes_step;
       allowed = λ lists command. IsTrue (is_allowed lists command);
       after = after;

@@ -1,6 +1,7 @@
 -- The commands that change a store, with the condition of each and what it does.
 use Rattle.std.specs.Prelude.{◌≡◌, ℕ, zero, suc, ◌+◌, ◌*◌, ◌/◌, ◌≤◌, ◌<◌, ◌==◌, List, [], ◌∷◌, ◌++◌, length, take, drop, map, filter, Bool, not, true, false, ◌&&◌, nat_le, nat_lt, if◌then◌else◌, Option, None, Some, is_none, IsTrue, ⊤}
 use Rattle.px_base.specs.CallSign.{CallSign, IsCall}
+use Rattle.file_journal.specs.Commands as kept
 use Rattle.file_entries.specs.Limits.{last_next, longest_file, most_entries}
 use Rattle.pfh_items.specs.Faults.{fault_code}
 use Rattle.pfh_items.specs.Stamp.{StampValue, stamped}
@@ -123,13 +124,15 @@ after store (drop_entry number) =
 
 -- the store after these commands, one after another
 abbrev pub after_all : Store → List Command → Store
-after_all store [] = store
-after_all store (command ∷ commands) = after_all (after store command) commands
+after_all store commands = kept.after_all after store commands
+
+-- the command's condition holds
+abbrev pub IsAllowed : Store → Command → Type 0
+IsAllowed store command = IsTrue (is_allowed store command)
 
 -- the condition of each command holds when its turn comes
 abbrev pub AreAllowed : Store → List Command → Type 0
-AreAllowed store [] = ⊤
-AreAllowed store (command ∷ commands) = IsTrue (is_allowed store command) × AreAllowed (after store command) commands
+AreAllowed store commands = kept.AreAllowed IsAllowed after store commands
 
 -- each command's condition holds in its turn, and this is the store after them
 abbrev pub DoesAll : Store → Store → List Command → Type 0

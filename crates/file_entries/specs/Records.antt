@@ -1,5 +1,5 @@
 -- The commands of a store as records of its journal. All numbers have four octets, least significant first.
-use Rattle.std.specs.Prelude.{◌≡◌, ℕ, ◌^◌, ◌<◌, ◌≤◌, ◌==◌, List, [], ◌∷◌, ◌++◌, length, take, drop, Bool, ◌&&◌, nat_le, nat_lt, if◌then◌else◌, Option, None, Some, IsTrue}
+use Rattle.std.specs.Prelude.{◌≡◌, ℕ, ◌^◌, ◌<◌, ◌≤◌, ◌==◌, List, [], ◌∷◌, ◌++◌, length, take, drop, Bool, ◌&&◌, nat_le, nat_lt, if◌then◌else◌, Option, None, Some}
 use Rattle.std.specs.Option.{option_and_then, option_map}
 use Rattle.px_base.specs.CallSign.{CallSign, IsCall}
 use Rattle.px_base.specs.Numbers.{le32, le32_octets}
@@ -7,7 +7,7 @@ use Rattle.px_base.specs.Octets.{IsOctets}
 use Rattle.px_base.specs.CallOctets.{call_octets, call_in}
 use Rattle.file_journal.specs.Form.{Form}
 use Rattle.file_journal.specs.Records.{Record, record_of}
-use Rattle.file_entries.specs.Command.{Command, begin, grow, seal, drop_entry, after, is_allowed}
+use Rattle.file_entries.specs.Command.{Command, IsAllowed, begin, grow, seal, drop_entry, after, is_allowed}
 use Rattle.file_entries.specs.Store.{Store, empty_store}
 
 -- Begin, kind 1: number, the call's six characters and its SSID, length, moment.
@@ -93,7 +93,8 @@ store_form =
     record {
       magic = store_magic;
       fresh = empty_store;
+      number = λ store. store.blocks;
       step = store_step;
-      allowed = λ store command. IsTrue (is_allowed store command);
+      allowed = IsAllowed;
       after = after;
     }

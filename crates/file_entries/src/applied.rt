@@ -16,7 +16,7 @@ use px_base::{Call, OutOfMemory};
 impl Entries {
     /// Applies a command that was read from a record: whether its condition holds. One whose condition doesn't hold
     /// changes nothing, and so does want of memory. No upload is out. Takes memory.
-    pub(crate) fn apply(&mut self, command: Command<'_>) -> Result<bool, OutOfMemory>
+    pub(crate) fn apply_command(&mut self, command: Command<'_>) -> Result<bool, OutOfMemory>
         requires out { NothingOut self.old.files }
         requires writable { IsWritable (command_value command) }
         ensures applied { IfOk result (λ done. Applied done self.old self.new (command_value command.entry)) }

@@ -10,9 +10,9 @@ mod entries;
 mod header;
 mod info;
 pub mod laws;
+mod ledger;
 mod limits;
 mod reading;
-mod recovered;
 mod stored_file;
 mod writing;
 
@@ -21,4 +21,3 @@ pub use entries::{BeginBar, Entries};
 pub use header::header_in;
 pub use info::Info;
 pub use limits::{LAST_NEXT, LONGEST_FILE, MOST_ENTRIES};
-pub use recovered::Recovered;

@@ -1,20 +1,17 @@
 -- What commands do to a state that is kept where reads come among them.
-use Rattle.std.proofs.Common.{◌≡◌, ◌⊎◌, inl, inr, ⊎_elim, ℕ, ◌+◌, ◌<◌, ◌≤◌, Bool, true, false, nat_le, List, [], ◌++◌, length, Option, IfSome, refl, sym, ◌∙◌, ap, subst, arith, length-append}
-use Rattle.std.proofs.Math.Nat.{add-zero}
+use Rattle.std.proofs.Common.{◌≡◌, ◌⊎◌, inl, inr, ⊎_elim, ℕ, ◌+◌, ◌<◌, ◌≤◌, Bool, true, false, nat_le, List, [], ◌++◌, Option, IfSome, refl, sym, ◌∙◌, subst, arith}
 use Rattle.std.proofs.lemmas.Bool.Decides.{leb_tells}
 use Rattle.disk_model.specs.Moments.{TimePasses}
 use Rattle.disk_model.specs.declared.disk.Disk.{Ghosts}
-use Rattle.file_journal.specs.AmongReads.{CountsSome, CutsOffAmongReads, DoesAmongReads, PutsAmongReads, one_if}
+use Rattle.file_journal.specs.AmongReads.{CountsSome, DoesAmongReads, PutsAmongReads, among_reads, one_if}
 use Rattle.file_journal.specs.Calls.{ChangesReads, CountsFault, Puts, Reads}
 use Rattle.file_journal.specs.Commands.{MakesFirst}
-use Rattle.file_journal.specs.Form.{Form, meaning_of}
-use Rattle.file_journal.specs.Kept.{CutsOff, Does, KeptOn, StandsAt, by_fours, kept_on}
+use Rattle.file_journal.specs.Form.{Form}
+use Rattle.file_journal.specs.Kept.{Does, IsKept, KeptOn, alone, kept_on}
 use Rattle.file_journal.specs.Position.{Position, StandsOn}
 use Rattle.file_journal.specs.Walk.{ImagesStandFor, StandFor}
 use Rattle.file_journal.proofs.CallLemmas.{counts_on, counts_same, reads_now}
-use Rattle.file_journal.proofs.CommandLemmas.{nothing, stay_none}
-use Rattle.file_journal.proofs.DoesLemmas.{does_same, fours_same, fours_then}
-use Rattle.file_journal.proofs.KeptLemmas.{does_none, images_here}
+use Rattle.file_journal.proofs.DoesLemmas.{fours_course, fours_none, fours_then}
 use Rattle.file_journal.proofs.MomentLemmas.{reads}
 use Rattle.file_journal.proofs.ToldLemmas.{alike_on, alike_same, at_told, if_told}
 
@@ -131,18 +128,14 @@ module _ {D : Type 0} (g : Ghosts D) where
   }
 
   module _ {S C : Type 0} (form : Form S C) where
-    -- ---- what is kept stays so through reads
-
-    pub reads_stand : (now : S) (journal : Position) (old new : D) → ChangesReads g old new → StandsAt g form (kept_on now journal old) → StandsAt g form (kept_on now journal new)
-    reads_stand now journal old new only stands = record {
-      magic_is = stands.magic_is;
-      keeps = record {
-        stands_on = among stands.keeps.stands_on;
-        ended = stands.keeps.ended;
-        content = λ fine. subst (λ (o : Option (List ℕ)). IfSome o (StandFor form.fresh form.step journal now)) (sym only.same_content) (stands.keeps.content fine);
-        images = λ fine. if_told (g.content new) _ (λ octets told image here.
-            at_told (λ _. ImagesStandFor form.fresh form.step g journal now old) octets (sym only.same_content ∙ told) (stands.keeps.images fine) image (reads_now g old new only image here));
-      };
+    -- what is kept stays so through reads
+    pub reads_stand : (now : S) (journal : Position) (old new : D) → ChangesReads g old new → IsKept g form (kept_on now journal old) → IsKept g form (kept_on now journal new)
+    reads_stand now journal old new only keeps = record {
+      stands_on = among keeps.stands_on;
+      ended = keeps.ended;
+      content = λ fine. subst (λ (o : Option (List ℕ)). IfSome o (StandFor form.fresh form.step journal now)) (sym only.same_content) (keeps.content fine);
+      images = λ fine. if_told (g.content new) _ (λ octets told image here.
+          at_told (λ _. ImagesStandFor form.fresh form.step g journal now old) octets (sym only.same_content ∙ told) (keeps.images fine) image (reads_now g old new only image here));
     }
       where
         among : StandsOn g journal old → StandsOn g journal new
@@ -151,118 +144,29 @@ module _ {D : Type 0} (g : Ghosts D) where
             let at = at_told (λ (octets : List ℕ). _) octets (sym only.same_content ∙ told) on in
             (at.0, at.1, λ image here. at.2 image (reads_now g old new only image here))))
 
-    -- ---- commands among reads
+    -- one run of reads, which failed or didn't
+    pub reads_only : (failed : Bool) (now : S) (journal : Position) (old new : D) → Reads g (failed ≡ true) old new → journal.failed ≡ false → IsKept g form (kept_on now journal old)
+        → DoesAmongReads g form ⊥ (one_if failed) [] (kept_on now journal old) (kept_on now journal new)
+    reads_only failed now journal old new run healthy stands =
+        fours_none g form (among_reads g ⊥ (one_if failed)) ⊥ now journal old new (λ never. never) (reads_stand now journal old new run.only stands) healthy
+        (if_told (g.content old) _ (λ before told. reads g.moment g.images_since old new (MakesFirst form now []) run.only.same_moment run.only.same_past)) run.only.same_moment run.only
+        (puts_among_reads (failed ≡ true) ⊥ old new (λ never. never) run) (some_one _ _ failed run.faults)
 
     -- commands alone
     pub among_does : (P : Type 0) (commands : List C) (old new : KeptOn D S) → Does g form P commands old new → DoesAmongReads g form P 0 commands old new
-    among_does P commands old new does = record {
-      fours = does.fours;
-      none = λ is.
-          let same = does.none is in
-          (ap (λ (k : KeptOn D S). k.journal) same, subst (λ (k : KeptOn D S). ChangesReads g old.disk k.disk) (sym same) (changes_none old.disk));
-      puts = puts_among P old.disk new.disk does.puts;
-      reads = some_still _ _ does.puts.reads;
-    }
-
-    -- one run of reads, which failed or didn't
-    pub among_reads : (Q : Type 0) (failed : Bool) (now : S) (journal : Position) (old new : D) → ¬ Q → StandsAt g form (kept_on now journal old) → journal.failed ≡ false → g.lasts old old
-        → Reads g (failed ≡ true) old new → DoesAmongReads g form Q (one_if failed) [] (kept_on now journal old) (kept_on now journal new)
-    among_reads Q failed now journal old new fine stands healthy same run =
-        let after = reads_stand now journal old new run.only stands in
-        let at = run.only.same_moment in
-        record {
-          fours = record {
-            healthy = healthy;
-            by = λ blocks. record {
-              told = alike_same _ _ run.only.same_content;
-              allowed = tt;
-              since = if_told (g.content old) _ (λ before told. reads g.moment g.images_since old new (MakesFirst (meaning_of form blocks) now []) run.only.same_moment run.only.same_past);
-              done = λ still. record {
-                state = refl;
-                healthy = healthy;
-                images = images_here form g blocks (kept_on now journal new) after healthy;
-                stay = if_told (g.content old) _ (λ before told. stay_none (meaning_of form blocks) g (by_fours (g.moment old)) now [] new);
-                calls = if_told (g.content old) _ (λ before told. omega (arith, at));
-              };
-              cut = λ bad. absurd (fine bad);
-            };
-            stands_at = after;
-            calls = λ still. if_told (g.content old) _ (λ before told. omega (arith, at));
-            at_most = omega (arith, at);
-            same_magic = refl;
-            same_blocks = refl;
-            same_ended = refl;
-          };
-          none = λ is. (refl, run.only);
-          puts = puts_among_reads (failed ≡ true) Q old new fine run;
-          reads = some_one _ _ failed run.faults;
-        }
+    among_does P commands old new does =
+        fours_course g form (alone g P) (among_reads g P 0) P P commands old new (λ p. p) (λ p. p) (λ same. subst (λ (d : D). ChangesReads g old.disk d) (sym same) (changes_none old.disk))
+        (puts_among P old.disk new.disk) (λ _. some_still _ _ does.puts.reads) does
 
     pub among_same : (P Q : Type 0) (missed other : ℕ) (commands : List C) (old new : KeptOn D S) → (P → Q) → (Q → P) → missed ≡ other → DoesAmongReads g form P missed commands old new
         → DoesAmongReads g form Q other commands old new
-    among_same P Q missed other commands old new there back same does = record {
-      fours = fours_same g form P Q commands old new there back does.fours;
-      none = does.none;
-      puts = puts_among_same P Q old.disk new.disk there back does.puts;
-      reads = subst (λ (n : ℕ). CountsSome (g.read_faults old.disk) (g.read_faults new.disk) n) same does.reads;
-    }
+    among_same P Q missed other commands old new there back same does =
+        fours_course g form (among_reads g P missed) (among_reads g Q other) P Q commands old new there back (λ i. i) (puts_among_same P Q old.disk new.disk there back)
+        (subst (λ (n : ℕ). CountsSome (g.read_faults old.disk) (g.read_faults new.disk) n) same) does
 
-    -- the same commands, said otherwise
-    pub among_at : (P : Type 0) (missed : ℕ) (these those : List C) (old new : KeptOn D S) → these ≡ those → DoesAmongReads g form P missed these old new → DoesAmongReads g form P missed those old new
-    among_at P missed these those old new same does = subst (λ (commands : List C). DoesAmongReads g form P missed commands old new) same does
-
-    pub cuts_among_same : (P Q : Type 0) (missed other : ℕ) (done cut : List C) (old new : KeptOn D S) → (P → Q) → (Q → P) → missed ≡ other → CutsOffAmongReads g form P missed done cut old new
-        → CutsOffAmongReads g form Q other done cut old new
-    cuts_among_same P Q missed other done cut old new there back same cuts = record {
-      between = cuts.between;
-      first = among_same ⊥ ⊥ missed other done old cuts.between (λ p. p) (λ p. p) same cuts.first;
-      second = does_same g form P Q cut cuts.between new there back cuts.second;
-    }
-
-    -- where no read failed
-    pub cuts_among : (P : Type 0) (done cut : List C) (old new : KeptOn D S) → CutsOff g form P done cut old new → CutsOffAmongReads g form P 0 done cut old new
-    cuts_among P done cut old new cuts = record { between = cuts.between; first = among_does ⊥ done old cuts.between cuts.first; second = cuts.second }
-
-    -- commands that were all done
-    pub cuts_among_none : (P : Type 0) (missed : ℕ) (done : List C) (old new : KeptOn D S) → ¬ P → g.lasts new.disk new.disk → DoesAmongReads g form ⊥ missed done old new
-        → CutsOffAmongReads g form P missed done [] old new
-    cuts_among_none P missed done old new fine same does = record {
-      between = new;
-      first = does;
-      second = does_none form g P new fine does.fours.stands_at ((does.fours.by 0).done (λ never. never)).healthy same;
-    }
-
-    -- ---- one part, and then another
-
-    module _ (on : (first second third : D) → g.lasts first second → g.lasts second third → g.lasts first third) where
-      pub among_then : (P Q : Type 0) (missed other : ℕ) (a b : List C) (old mid new : KeptOn D S) → ¬ P → DoesAmongReads g form P missed a old mid → DoesAmongReads g form Q other b mid new
-          → DoesAmongReads g form Q (missed + other) (a ++ b) old new
-      among_then P Q missed other a b old mid new fine first second = record {
-        fours = fours_then g form P Q a b old mid new fine first.fours second.fours;
-        none = λ is.
-            let empty : length (a ++ b) ≡ 0 = ap length is in
-            let before = first.none (nothing a (omega (arith, length-append a b, empty))) in
-            let later = second.none (nothing b (omega (arith, length-append a b, empty))) in
-            (later.0 ∙ before.0, changes_on old.disk mid.disk new.disk before.1 later.1);
-        puts = puts_among_then on P Q old.disk mid.disk new.disk fine first.puts second.puts;
-        reads = some_then _ _ _ missed other first.reads second.reads;
-      }
-
-      pub cuts_among_then : (P : Type 0) (missed other : ℕ) (these done cut : List C) (old mid new : KeptOn D S) → DoesAmongReads g form ⊥ missed these old mid
-          → CutsOffAmongReads g form P other done cut mid new → CutsOffAmongReads g form P (missed + other) (these ++ done) cut old new
-      cuts_among_then P missed other these done cut old mid new first cuts = record {
-        between = cuts.between;
-        first = among_then ⊥ ⊥ missed other these done old mid cuts.between (λ never. never) first cuts.first;
-        second = cuts.second;
-      }
-
-      pub cuts_among_puts : (P : Type 0) (missed : ℕ) (done cut : List C) (old new : KeptOn D S) → CutsOffAmongReads g form P missed done cut old new → PutsAmongReads g P old.disk new.disk
-      cuts_among_puts P missed done cut old new cuts =
-          puts_among_then on ⊥ P old.disk cuts.between.disk new.disk (λ never. never) cuts.first.puts (puts_among P cuts.between.disk new.disk cuts.second.puts)
-
-      -- all of them together
-      pub cuts_among_all : (P : Type 0) (missed : ℕ) (done cut : List C) (old new : KeptOn D S) → CutsOffAmongReads g form P missed done cut old new
-          → DoesAmongReads g form P missed (done ++ cut) old new
-      cuts_among_all P missed done cut old new cuts =
-          among_same P P (missed + 0) missed (done ++ cut) old new (λ p. p) (λ p. p) (add-zero missed)
-          (among_then ⊥ P missed 0 done cut old cuts.between new (λ never. never) cuts.first (among_does P cut cuts.between new cuts.second))
+    -- one part, and then another
+    pub among_then : ((first second third : D) → g.lasts first second → g.lasts second third → g.lasts first third) → (P Q : Type 0) (missed other : ℕ) (a b : List C) (old mid new : KeptOn D S) → ¬ P
+        → DoesAmongReads g form P missed a old mid → DoesAmongReads g form Q other b mid new → DoesAmongReads g form Q (missed + other) (a ++ b) old new
+    among_then on P Q missed other a b old mid new fine first second =
+        fours_then g form (among_reads g P missed) (among_reads g Q other) (among_reads g Q (missed + other)) P Q a b old mid new fine first.puts.told first second
+        (changes_on old.disk mid.disk new.disk) (puts_among_then on P Q old.disk mid.disk new.disk fine first.puts second.puts) (some_then _ _ _ missed other first.reads second.reads)

@@ -2,20 +2,18 @@
 use Rattle.std.proofs.Common.{◌≡◌, ◌⊎◌, inl, inr, ⊎_elim, ℕ, ◌+◌, ◌*◌, ◌≤◌, true, false, true≢false, List, [], ◌∷◌, Some, IfSome, Err, IsErrOf, refl, sym, ◌∙◌, ap, subst, arith}
 use Rattle.disk_model.specs.declared.disk.Disk.{Ghosts}
 use Rattle.file_journal.specs.Appending.{LeavesAppending, LeavesBeforeOrAfter}
-use Rattle.file_journal.specs.Calls.{EachImage, Leaves, TellsAlike, images_now}
+use Rattle.file_journal.specs.Calls.{EachImage, Leaves, Puts, TellsAlike, images_now}
 use Rattle.file_journal.specs.Commands.{MakesBetween, MakesFirst, StayDone}
-use Rattle.file_journal.specs.Form.{Form, StandsFor, meaning_of}
+use Rattle.file_journal.specs.Form.{Form, StandsFor, standing_of}
 use Rattle.file_journal.specs.Journal.{IsBeforeOrAfter, Standing, journal_of, store_of}
-use Rattle.file_journal.specs.Kept.{Does, DoesByFours, IsBeside, KeptOn, StandsAt, by_fours, kept_on}
+use Rattle.file_journal.specs.Kept.{Does, IsBeside, KeptOn, StandsAt, by_fours, kept_on}
 use Rattle.file_journal.specs.Position.{Position, StandsOn, left_to_read}
 use Rattle.file_journal.specs.Records.{Reading, Record, with_records}
 use Rattle.file_journal.specs.Walk.{StandFor, stands_of, state}
 use Rattle.file_journal.specs.declared.faults.JournalFault.{JournalFault}
 use Rattle.file_journal.specs.declared.faults.JournalFault.TheVariants as fault
 use Rattle.file_journal.proofs.AppendLemmas.{AllEnd, Ends, all_end, ends_at, ends_kept, ends_store}
-use Rattle.file_journal.proofs.CallLemmas.{puts_none}
 use Rattle.file_journal.proofs.CommandLemmas.{makes_one, stay_none}
-use Rattle.file_journal.proofs.DoesLemmas.{by_none}
 use Rattle.file_journal.proofs.MomentLemmas.{weaker}
 use Rattle.file_journal.proofs.ToldLemmas.{at_told, if_told, told_before, told_weaker}
 use Rattle.file_journal.proofs.WalkLemmas.{failed_keeps, one_step, stands_keeps}
@@ -50,19 +48,19 @@ module _ {S C : Type 0} (form : Form S C) where
               (with_records is.0 (left_to_read at.journal image), ap (λ (l : List ℕ). journal_of l image) (sym stands.magic_is) ∙ there.0.records),
         )) on
 
-    -- What a state that is kept has on its disk, whatever number octets without one are read with.
-    pub content_here : (blocks : ℕ) (at : KeptOn D S) → StandsAt g form at → at.journal.failed ≡ false → IfSome (g.content at.disk) (StandsFor form blocks at.now)
+    -- What a state that is kept has on its disk stands for it, whatever number octets without one are read with.
+    content_here : (blocks : ℕ) (at : KeptOn D S) → StandsAt g form at → at.journal.failed ≡ false → IfSome (g.content at.disk) (λ octets. standing_of form blocks octets ≡ state at.now)
     content_here blocks at stands healthy = if_told (g.content at.disk) _ (λ octets told.
         let has = at_told (λ (octets : List ℕ). _) octets told (numbered at stands healthy) in
         any_number blocks at.journal.blocks at.journal.blocks has.0.0 (journal_of form.magic octets) has.0.1
         ∙ ap (λ (l : List ℕ). stands_of form.fresh form.step at.journal.blocks (journal_of l octets)) (sym stands.magic_is)
         ∙ at_told (StandFor form.fresh form.step at.journal at.now) octets told (stands.keeps.content healthy))
 
-    pub images_here : (blocks : ℕ) (at : KeptOn D S) → StandsAt g form at → at.journal.failed ≡ false → EachImage g at.disk (StandsFor form blocks at.now)
-    images_here blocks at stands healthy = if_told (g.content at.disk) _ (λ octets told image here.
+    pub images_here : (at : KeptOn D S) → StandsAt g form at → at.journal.failed ≡ false → EachImage g at.disk (StandsFor form at.now)
+    images_here at stands healthy = if_told (g.content at.disk) _ (λ octets told image here.
         let has = at_told (λ (octets : List ℕ). _) octets told (numbered at stands healthy) in
         let there = has.1 image here in
-        any_number blocks at.journal.blocks at.journal.blocks there.0 (journal_of form.magic image) there.1
+        any_number (form.number at.now) at.journal.blocks at.journal.blocks there.0 (journal_of form.magic image) there.1
         ∙ ap (λ (l : List ℕ). stands_of form.fresh form.step at.journal.blocks (journal_of l image)) (sym stands.magic_is)
         ∙ at_told (λ (_ : List ℕ). (image : List ℕ) → images_now g at.disk image → StandFor form.fresh form.step at.journal at.now image) octets told (stands.keeps.images healthy) image here)
 
@@ -110,23 +108,6 @@ module _ {S C : Type 0} (form : Form S C) where
             let was = told_before (g.content old) (g.content new) octets alike told in
             ends_kept journal.magic journal.blocks (all was.0 was.1).entries journal.place was.0 (all was.0 was.1).content octets (there octets told).front (there octets told).no_shorter
 
-    -- ---- no command
-
-    pub fours_none : (P : Type 0) (at : KeptOn D S) → ¬ P → StandsAt g form at → at.journal.failed ≡ false → DoesByFours g form P [] at at
-    fours_none P at fine stands healthy = record {
-      healthy = healthy;
-      by = λ blocks. by_none g (meaning_of form blocks) P (by_fours (g.moment at.disk)) at fine healthy (if_told (g.content at.disk) _ (λ before told. omega arith)) (images_here blocks at stands healthy);
-      stands_at = stands;
-      calls = λ still. if_told (g.content at.disk) _ (λ before told. omega arith);
-      at_most = omega arith;
-      same_magic = refl;
-      same_blocks = refl;
-      same_ended = refl;
-    }
-
-    pub does_none : (P : Type 0) (at : KeptOn D S) → ¬ P → StandsAt g form at → at.journal.failed ≡ false → g.lasts at.disk at.disk → Does g form P [] at at
-    does_none P at fine stands healthy same = record { fours = fours_none P at fine stands healthy; none = λ is. refl; puts = puts_none g at.disk P fine same }
-
     -- ---- one record
 
     module _ (old new : D) (now : S) (journal after : Position) (command : C) (entry : Record) (stands : StandsAt g form (kept_on now journal old)) (healthy : journal.failed ≡ false)
@@ -137,96 +118,86 @@ module _ {S C : Type 0} (form : Form S C) where
       next = form.after now command
 
       -- what stands for the records from before, with the new one or without
-      either : (blocks : ℕ) (before image : List ℕ) → g.content old ≡ Some before → IsBeforeOrAfter (journal_of journal.magic before) entry (journal_of journal.magic image)
-          → StandsFor form blocks now image ⊎ StandsFor form blocks next image
-      either blocks before image told_old left =
-          let is : stands_of form.fresh form.step blocks (journal_of journal.magic before) ≡ state now =
+      either : (before image : List ℕ) → g.content old ≡ Some before → IsBeforeOrAfter (journal_of journal.magic before) entry (journal_of journal.magic image) → StandsFor form now image ⊎ StandsFor form next image
+      either before image told_old left =
+          let is : (blocks : ℕ) → stands_of form.fresh form.step blocks (journal_of journal.magic before) ≡ state now = λ blocks.
           ap (λ (l : List ℕ). stands_of form.fresh form.step blocks (journal_of l before)) stands.magic_is
-          ∙ at_told (StandsFor form blocks now) before told_old (content_here blocks (kept_on now journal old) stands healthy) in
-          let of_magic : stands_of form.fresh form.step blocks (journal_of form.magic image) ≡ stands_of form.fresh form.step blocks (journal_of journal.magic image) =
+          ∙ at_told (λ (octets : List ℕ). standing_of form blocks octets ≡ state now) before told_old (content_here blocks (kept_on now journal old) stands healthy) in
+          let of_magic : (blocks : ℕ) → stands_of form.fresh form.step blocks (journal_of form.magic image) ≡ stands_of form.fresh form.step blocks (journal_of journal.magic image) = λ blocks.
           ap (λ (l : List ℕ). stands_of form.fresh form.step blocks (journal_of l image)) (sym stands.magic_is) in
           ⊎_elim
-          (λ same. inl (of_magic ∙ ap (stands_of form.fresh form.step blocks) same ∙ is))
-          (λ made. inr (of_magic ∙ ap (stands_of form.fresh form.step blocks) made ∙ one_step form.step form.fresh blocks (journal_of journal.magic before) now next entry is steps))
+          (λ same. let blocks = form.number now in inl (of_magic blocks ∙ ap (stands_of form.fresh form.step blocks) same ∙ is blocks))
+          (λ made.
+          let blocks = form.number next in
+          inr (of_magic blocks ∙ ap (stands_of form.fresh form.step blocks) made ∙ one_step form.step form.fresh blocks (journal_of journal.magic before) now next entry (is blocks) steps))
           left
 
-      leaves : (blocks : ℕ) → Leaves g old new (λ _. MakesFirst (meaning_of form blocks) now (command ∷ []))
-      leaves blocks = told_weaker (g.content old) _ _ (λ before told_old left.
-          weaker g.moment g.images_since old new _ (MakesFirst (meaning_of form blocks) now (command ∷ []))
-          (λ image here. makes_one (meaning_of form blocks) now command image (either blocks before image told_old here.store)) left) since
+      leaves : Leaves g old new (λ _. MakesFirst form now (command ∷ []))
+      leaves = told_weaker (g.content old) _ _ (λ before told_old left.
+          weaker g.moment g.images_since old new _ (MakesFirst form now (command ∷ [])) (λ image here. makes_one form now command image (either before image told_old here.store)) left) since
 
       -- it is done
       module _ (calls : IfSome (g.content old) (λ _. g.moment new ≡ g.moment old + 4)) (fine : after.failed ≡ false) (stands_now : StandsAt g form (kept_on next after new)) where
-        stay_one : (blocks : ℕ) → IfSome (g.content old) (λ _. StayDone g (meaning_of form blocks) (by_fours (g.moment old)) 1 now (command ∷ []) new)
-        stay_one blocks = if_told (g.content old) _ (λ before told_old count some most.
+        stay_one : IfSome (g.content old) (λ _. StayDone g form (by_fours (g.moment old)) 1 now (command ∷ []) new)
+        stay_one = if_told (g.content old) _ (λ before told_old count some most image left.
             let there = told_before (g.content new) (g.content old) before (told.1, told.0) told_old in
             let done : g.moment new ≡ g.moment old + 4 = at_told (λ (_ : List ℕ). g.moment new ≡ g.moment old + 4) before told_old calls in
             let one : g.moment old + 4 * count ≡ g.moment new = omega (arith, done, some, most) in
-            let each = at_told (λ (_ : List ℕ). (image : List ℕ) → images_now g new image → StandsFor form blocks next image) there.0 there.1 (images_here blocks (kept_on next after new) stands_now fine) in (
-              omega (arith, one),
-              λ image left. (1, omega (arith, most), omega arith, each image (subst (λ (t : ℕ). g.images_since new t image) one left)),
-            ))
+            let each = at_told (λ (_ : List ℕ). (image : List ℕ) → images_now g new image → StandsFor form next image) there.0 there.1 (images_here (kept_on next after new) stands_now fine) in
+            (1, omega (arith, most), omega arith, each image (subst (λ (t : ℕ). g.images_since new t image) one left)))
 
-        pub fours_one : (P : Type 0) → ¬ P → DoesByFours g form P (command ∷ []) (kept_on now journal old) (kept_on next after new)
-        fours_one P good = record {
+        pub does_one : (P : Type 0) → ¬ P → Puts g P old new → Does g form P (command ∷ []) (kept_on now journal old) (kept_on next after new)
+        does_one P good puts = record {
           healthy = healthy;
-          by = λ blocks. record {
-            told = told;
-            allowed = (allowed, tt);
-            since = leaves blocks;
-            done = λ still. record {
-              state = refl;
-              healthy = fine;
-              images = images_here blocks (kept_on next after new) stands_now fine;
-              stay = stay_one blocks;
-              calls = told_weaker (g.content old) _ _ (λ before told_old is. omega (arith, is)) calls;
-            };
-            cut = λ failed. absurd (good failed);
-          };
-          stands_at = stands_now;
+          stands_on = stands_now.keeps;
+          allowed = (allowed, tt);
+          since = leaves;
+          stay = λ still. stay_one;
           calls = λ still. told_weaker (g.content old) _ _ (λ before told_old is. omega (arith, is)) calls;
           at_most = omega (arith, at_most);
-          same_magic = ap (λ (p : Position). p.magic) moved;
-          same_blocks = ap (λ (p : Position). p.blocks) moved;
-          same_ended = ap (λ (p : Position). p.ended) moved;
+          none = λ empty. absurd (cc empty);
+          puts = puts;
+          reads = tt;
+          done = λ still. (refl, fine);
+          cut = λ failed. absurd (good failed);
+          journal = moved;
         }
 
       -- or the disk failed in it
       module _ (earlier : (disk : D) (t u : ℕ) (image : List ℕ) → t ≤ u → g.images_since disk u image → g.images_since disk t image)
           (any_moment : LeavesBeforeOrAfter g journal entry old new) (failed : after.failed ≡ true) (stands_on : StandsOn g after new) where
-        images_cut : (blocks : ℕ) → EachImage g new (MakesBetween (meaning_of form blocks) 0 1 now (command ∷ []))
-        images_cut blocks = if_told (g.content new) _ (λ octets told_new image here.
+        images_cut : EachImage g new (MakesBetween form 0 1 now (command ∷ []))
+        images_cut = if_told (g.content new) _ (λ octets told_new image here.
             let was = told_before (g.content old) (g.content new) octets told told_new in
             let later = at_told (λ (_ : List ℕ). _) was.0 was.1 since in
-            makes_one (meaning_of form blocks) now command image
-            (either blocks was.0 image was.1 (at_told (λ (_ : List ℕ). _) was.0 was.1 (any_moment healthy) image (earlier new (g.moment old) (g.moment new) image later.later here))))
+            makes_one form now command image
+            (either was.0 image was.1 (at_told (λ (_ : List ℕ). _) was.0 was.1 (any_moment healthy) image (earlier new (g.moment old) (g.moment new) image later.later here))))
 
         pub stands_cut : StandsAt g form (kept_on now after new)
         stands_cut = record { magic_is = ap (λ (p : Position). p.magic) moved ∙ stands.magic_is; keeps = failed_keeps g form.fresh form.step after now new failed stands_on }
 
-        pub fours_cut : (P : Type 0) → P → DoesByFours g form P (command ∷ []) (kept_on now journal old) (kept_on now after new)
-        fours_cut P bad = record {
+        pub does_cut : (P : Type 0) → P → Puts g P old new → Does g form P (command ∷ []) (kept_on now journal old) (kept_on now after new)
+        does_cut P bad puts = record {
           healthy = healthy;
-          by = λ blocks. record {
-            told = told;
-            allowed = (allowed, tt);
-            since = leaves blocks;
-            done = λ still. absurd (still bad);
-            cut = λ again. record {
-              count = 0;
-              fewer = omega arith;
-              state = refl;
-              failed = failed;
-              images = images_cut blocks;
-              stay = if_told (g.content old) _ (λ before told_old. stay_none (meaning_of form blocks) g (by_fours (g.moment old)) now (command ∷ []) new);
-              calls = told_weaker (g.content old) _ _ (λ before told_old left. omega (arith, left.later)) since;
-              at_most = if_told (g.content old) _ (λ before told_old. omega (arith, at_most));
-            };
-          };
-          stands_at = stands_cut;
+          stands_on = stands_cut.keeps;
+          allowed = (allowed, tt);
+          since = leaves;
+          stay = λ still. absurd (still bad);
           calls = λ still. absurd (still bad);
           at_most = omega (arith, at_most);
-          same_magic = ap (λ (p : Position). p.magic) moved;
-          same_blocks = ap (λ (p : Position). p.blocks) moved;
-          same_ended = ap (λ (p : Position). p.ended) moved;
+          none = λ empty. absurd (cc empty);
+          puts = puts;
+          reads = tt;
+          done = λ still. absurd (still bad);
+          cut = λ again. record {
+            count = 0;
+            fewer = omega arith;
+            state = refl;
+            failed = failed;
+            images = images_cut;
+            stay = if_told (g.content old) _ (λ before told_old. stay_none form g (by_fours (g.moment old)) now (command ∷ []) new);
+            calls = told_weaker (g.content old) _ _ (λ before told_old left. omega (arith, left.later)) since;
+            at_most = if_told (g.content old) _ (λ before told_old. omega (arith, at_most));
+          };
+          journal = moved;
         }

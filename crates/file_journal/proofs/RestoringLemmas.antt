@@ -9,7 +9,7 @@ use Rattle.px_base.specs.Outside.{Rose}
 use Rattle.disk_model.specs.Disk.{HasContent, Only}
 use Rattle.disk_model.specs.declared.disk.Disk.{Ghosts}
 use Rattle.file_journal.specs.Calls.{Becomes, ChangesReads, IsQuietNow, Leaves, Reads, Runs, TellsAlike, images_now}
-use Rattle.file_journal.specs.Form.{Form, StandsFor, standing_of}
+use Rattle.file_journal.specs.Form.{Form, standing_of}
 use Rattle.file_journal.specs.Journal as journal
 use Rattle.file_journal.specs.Journal.{after_recovery, is_block_number, journal_of}
 use Rattle.file_journal.specs.Kept.{StandsAt, kept_on}
@@ -139,7 +139,7 @@ module _ {D S C : Type 0} (g : Ghosts D) (form : Form S C) (blocks : ℕ) (old m
       (has.0, has.1, has.2, recovered_walk form.step form.fresh form.magic blocks first before has.0 has.2 recovered.place ∙ ap (λ (s : S). walk_left form.step first s has.0) (sym fresh))
 
   module _ (all : IfSome (g.content mid) (λ octets. walk_left form.step first start octets ≡ state now)) where
-    pub all_read : IfSome (g.content old) (StandsFor form blocks now)
+    pub all_read : IfSome (g.content old) (λ before. standing_of form blocks before ≡ state now)
     all_read = if_told (g.content old) _ (λ before told.
         let left = left_to_read before told in
         left.3 ∙ at_told (λ (octets : List ℕ). walk_left form.step first start octets ≡ state now) left.0 left.1 all)

@@ -1,33 +1,36 @@
 -- What stands on the disk from the recovery of a state on, through commands.
-use Rattle.std.proofs.Common.{◌≡◌, inr, ⊎_elim, ℕ, ◌+◌, List, ◌++◌, length, Some, IfSome, ◌∙◌, subst, arith}
+use Rattle.std.proofs.Common.{◌≡◌, inr, ⊎_elim, ℕ, ◌+◌, List, ◌++◌, length, Some, IfSome, refl, ◌∙◌, ap, subst, arith}
 use Rattle.px_base.specs.Outside.{Rose}
 use Rattle.disk_model.specs.declared.disk.Disk.{Ghosts}
 use Rattle.file_journal.specs.AmongReads.{CountsSome, PutsAmongReads}
-use Rattle.file_journal.specs.Calls.{Leaves, Puts, Runs, TellsAlike}
-use Rattle.file_journal.specs.Commands.{MakesFirst}
-use Rattle.file_journal.specs.Form.{Form, StandsFor, meaning_of}
-use Rattle.file_journal.specs.Kept.{DoesByFours, KeptOn, by_fours}
+use Rattle.file_journal.specs.Calls.{EachImage, Leaves, Puts, Runs, TellsAlike}
+use Rattle.file_journal.specs.Commands.{MakesFirst, after_all}
+use Rattle.file_journal.specs.Form.{Form, StandsFor, TellsItsNumber, standing_of}
+use Rattle.file_journal.specs.Kept.{Course, DoesByFours, KeptOn}
+use Rattle.file_journal.specs.Position.{Position}
 use Rattle.file_journal.specs.Recovery.{IsSyncedFirst}
 use Rattle.file_journal.specs.Restoring.{StandsAlike}
-use Rattle.file_journal.specs.Through.{IsInterrupted, StandsThrough, TakesFours}
+use Rattle.file_journal.specs.Through.{CountsWrites, IsInterrupted, StandsThrough}
+use Rattle.file_journal.specs.Walk.{state}
 use Rattle.file_journal.proofs.CallLemmas.{counts_on, stops_on}
 use Rattle.file_journal.proofs.CommandLemmas.{makes_none}
-use Rattle.file_journal.proofs.DoesLemmas.{fours_least, fours_then}
+use Rattle.file_journal.proofs.DoesLemmas.{cut_least}
+use Rattle.file_journal.proofs.KeptLemmas.{images_here}
 use Rattle.file_journal.proofs.MomentLemmas.{joined, weaker}
 use Rattle.file_journal.proofs.ToldLemmas.{alike_on, at_told, if_told, told_before, told_weaker}
 
--- A recovery that gave a state, and then commands, of which the disk may have cut off the last.
-module _ {D S C : Type 0} (g : Ghosts D) (form : Form S C) (blocks : ℕ) (failed : Type 0) (disk : D) (start between new : KeptOn D S) (done cut : List C)
-    (alike : TellsAlike (g.content disk) (g.content start.disk)) (stood : IfSome (g.content disk) (StandsFor form blocks start.now))
+-- A recovery that gave a state, and then commands, of which the disk may have cut off the last: all of them together, and
+-- the two parts.
+module _ {D S C : Type 0} (g : Ghosts D) (form : Form S C) (own : TellsItsNumber form) (blocks : ℕ) (failed : Type 0) (disk : D) (start between new : KeptOn D S) (done cut : List C)
+    (alike : TellsAlike (g.content disk) (g.content start.disk)) (stood : IfSome (g.content disk) (λ before. standing_of form blocks before ≡ state start.now))
     (since_start : Leaves g disk start.disk (StandsAlike form blocks)) (since_sync : IfSome (g.content disk) (λ before. IsSyncedFirst g disk start.disk (StandsAlike form blocks before)))
-    (first : DoesByFours g form ⊥ done start between) (second : DoesByFours g form failed cut between new) where
-  all : DoesByFours g form failed (done ++ cut) start new
-  all = fours_then g form ⊥ failed done cut start between new (λ never. never) first second
-
+    (magic_is : start.journal.magic ≡ form.magic) (course first_course second_course : Course D) (all : DoesByFours g form course failed (done ++ cut) start new)
+    (first : DoesByFours g form first_course ⊥ done start between) (second : DoesByFours g form second_course failed cut between new)
+    (between_alike : TellsAlike (g.content start.disk) (g.content between.disk)) where
   -- what stands for the same as the content stands for the state before the first command
-  none_yet : (before image : List ℕ) → g.content disk ≡ Some before → StandsAlike form blocks before image → MakesFirst (meaning_of form blocks) start.now (done ++ cut) image
+  none_yet : (before image : List ℕ) → g.content disk ≡ Some before → StandsAlike form blocks before image → MakesFirst form start.now (done ++ cut) image
   none_yet before image told same =
-      makes_none (meaning_of form blocks) start.now (done ++ cut) image (same.same ∙ at_told (StandsFor form blocks start.now) before told stood)
+      makes_none form start.now (done ++ cut) image (own blocks image start.now (same.same ∙ at_told (λ (octets : List ℕ). standing_of form blocks octets ≡ state start.now) before told stood))
 
   later_told : (before : List ℕ) → g.content disk ≡ Some before → (octets : List ℕ) × (g.content start.disk ≡ Some octets)
   later_told before told = told_before (g.content start.disk) (g.content disk) before (alike.1, alike.0) told
@@ -36,53 +39,56 @@ module _ {D S C : Type 0} (g : Ghosts D) (form : Form S C) (blocks : ℕ) (faile
   since_told : (P : Type 0) → IfSome (g.content start.disk) (λ _. P) → IfSome (g.content disk) (λ _. P)
   since_told P is = if_told (g.content disk) _ (λ before told. let there = later_told before told in at_told (λ (_ : List ℕ). P) there.0 there.1 is)
 
-  interrupted_here : failed → IsInterrupted g (meaning_of form blocks) (by_fours (g.moment start.disk)) start.now (done ++ cut) (length done) disk new.disk
+  interrupted_here : failed → IsInterrupted g form start.now (done ++ cut) (length done) (g.moment start.disk) disk new.disk
   interrupted_here stopped =
-      let cut_off = fours_least g form ⊥ failed done cut start between new (λ never. never) first second stopped blocks in
+      let both = cut_least g form first_course second_course course ⊥ failed done cut start between new (λ never. never) between_alike first second (second.cut stopped) in
       record {
-        count = cut_off.0.count;
-        no_less = cut_off.1;
-        fewer = cut_off.0.fewer;
-        images = cut_off.0.images;
-        stay = since_told _ cut_off.0.stay;
-        calls = since_told _ cut_off.0.calls;
-        at_most = since_told _ cut_off.0.at_most;
+        count = both.0.count;
+        no_less = both.1;
+        fewer = both.0.fewer;
+        images = both.0.images;
+        stay = since_told _ both.0.stay;
+        calls = since_told _ both.0.calls;
+        at_most = since_told _ both.0.at_most;
       }
 
-  pub stands_through : StandsThrough g (meaning_of form blocks) failed start.now done cut disk new.disk
-  stands_through = record {
-    allowed = (all.by blocks).allowed;
-    since_sync = if_told (g.content disk) _ (λ before told.
-        let there = later_told before told in
-        let synced = at_told (λ (octets : List ℕ). IsSyncedFirst g disk start.disk (StandsAlike form blocks octets)) before told since_sync in
-        let made = at_told (λ (_ : List ℕ). _) there.0 there.1 (all.by blocks).since in
-        record {
-          later = omega (arith, synced.later, made.later);
-          each = λ image since. ⊎_elim
-              (λ past. none_yet before image told (synced.each image past))
-              (λ here. here)
-              (made.each (g.moment disk + 1) image synced.later since);
-        });
-    since_start = if_told (g.content disk) _ (λ before told.
-        let there = later_told before told in
-        joined g.moment g.images_since disk start.disk new.disk (MakesFirst (meaning_of form blocks) start.now (done ++ cut))
-        (weaker g.moment g.images_since disk start.disk (StandsAlike form blocks before) (MakesFirst (meaning_of form blocks) start.now (done ++ cut)) (λ image same. none_yet before image told same)
-        (at_told (λ (_ : List ℕ). _) before told since_start))
-        (at_told (λ (_ : List ℕ). _) there.0 there.1 (all.by blocks).since));
-    time = by_fours (g.moment start.disk);
-    after_sync = told_weaker (g.content disk) _ _ (λ before told synced. omega (arith, synced.later)) since_sync;
-    stay = λ fine. since_told _ ((all.by blocks).done fine).stay;
-    in_time = λ fine. since_told _ ((all.by blocks).done fine).calls;
-    all_done = λ fine. ((all.by blocks).done fine).images;
-    interrupted = interrupted_here;
-  }
+  -- where the disk didn't fail
+  done_here : ¬ failed → EachImage g new.disk (StandsFor form (after_all form.after start.now (done ++ cut)))
+  done_here fine =
+      let made = all.done fine in
+      subst (λ (s : S). EachImage g new.disk (StandsFor form s)) made.0
+      (images_here form g new (record { magic_is = ap (λ (p : Position). p.magic) all.journal ∙ magic_is; keeps = all.stands_on }) made.1)
 
-  pub takes_fours : TakesFours stands_through
-  unfolding stands_through
-  takes_fours = record {
-    time_is = λ count. omega arith;
-    calls = λ fine. told_weaker (g.content disk) _ _ (λ before told is. omega (arith, is)) (since_told _ (all.calls fine));
-  }
+  pub stands_through : (stands : StandsThrough g form failed start.now done cut disk new.disk) × (stands.ready ≡ g.moment start.disk)
+  stands_through = (
+    record {
+      allowed = all.allowed;
+      since_sync = if_told (g.content disk) _ (λ before told.
+          let there = later_told before told in
+          let synced = at_told (λ (octets : List ℕ). IsSyncedFirst g disk start.disk (StandsAlike form blocks octets)) before told since_sync in
+          let made = at_told (λ (_ : List ℕ). _) there.0 there.1 all.since in
+          record {
+            later = omega (arith, synced.later, made.later);
+            each = λ image since. ⊎_elim
+                (λ past. none_yet before image told (synced.each image past))
+                (λ here. here)
+                (made.each (g.moment disk + 1) image synced.later since);
+          });
+      since_start = if_told (g.content disk) _ (λ before told.
+          let there = later_told before told in
+          joined g.moment g.images_since disk start.disk new.disk (MakesFirst form start.now (done ++ cut))
+          (weaker g.moment g.images_since disk start.disk (StandsAlike form blocks before) (MakesFirst form start.now (done ++ cut)) (λ image same. none_yet before image told same)
+          (at_told (λ (_ : List ℕ). _) before told since_start))
+          (at_told (λ (_ : List ℕ). _) there.0 there.1 all.since));
+      ready = g.moment start.disk;
+      after_sync = told_weaker (g.content disk) _ _ (λ before told synced. synced.later) since_sync;
+      stay = λ fine. since_told _ (all.stay fine);
+      calls = λ fine. since_told _ (all.calls fine);
+      all_done = done_here;
+      interrupted = interrupted_here;
+    },
+    refl,
+  )
 
 -- ---- all calls of the disk of both
 
@@ -124,3 +130,9 @@ module _ {D : Type 0} (g : Ghosts D) (on : (first second third : D) → g.lasts 
   -- no more reads that failed are told of than were counted
   pub runs_missed : (missed : ℕ) → CountsSome (g.read_faults mid) (g.read_faults new) missed → CountsSome (g.read_faults old) (g.read_faults new) missed
   runs_missed missed second = subst (λ (n : ℕ). CountsSome n (g.read_faults new) missed) (first.faults.same fine).0 second
+
+  -- writes and syncs alone leave the count of failed reads as it was
+  pub counts_writes : Puts g failed mid new → CountsWrites g failed old new
+  counts_writes second =
+      let same = first.faults.same fine in
+      record { reads = second.reads ∙ same.0; writes = counts_on _ _ _ failed same.1 second.faults }

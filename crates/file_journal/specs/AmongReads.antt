@@ -1,10 +1,10 @@
 -- What a run of calls does to a state that is kept, and to its disk, where reads come among its commands.
-use Rattle.std.specs.Prelude.{◌≡◌, ◌⊎◌, ℕ, ◌+◌, ◌≤◌, List, [], Bool, if◌then◌else◌}
+use Rattle.std.specs.Prelude.{◌≡◌, ◌⊎◌, ℕ, ◌+◌, ◌≤◌, List, Bool, if◌then◌else◌}
 use Rattle.disk_model.specs.Moments.{TimePasses}
 use Rattle.disk_model.specs.declared.disk.Disk.{Ghosts}
 use Rattle.file_journal.specs.Calls.{ChangesReads, CountsFault, TellsAlike}
 use Rattle.file_journal.specs.Form.{Form}
-use Rattle.file_journal.specs.Kept.{Does, DoesByFours, KeptOn}
+use Rattle.file_journal.specs.Kept.{Course, DoesByFours, KeptOn}
 
 -- one write or sync at most, or nothing but reads
 abbrev pub IsLastWrite : {D : Type 0} → Ghosts D → D → D → Type 0
@@ -38,19 +38,18 @@ pub record CountsSome (before now some : ℕ) : Type 0 where
   pub rose : (before + some ≤ now) ⊎ (18446744073709551615 ≤ now)
   pub same : some ≡ 0 → now ≡ before
 
--- A state did these commands, and reads came before, between and behind them, of which so many failed at least, or none
--- did. Without commands the state is as it was, and the disk as reads leave it.
-pub record DoesAmongReads {D S C : Type 0} (g : Ghosts D) (form : Form S C) (failed : Type 0) (missed : ℕ)
-    (commands : List C) (old new : KeptOn D S) : Type 0 where
-  pub fours : DoesByFours g form failed commands old new
-  pub none : commands ≡ [] → (new.journal ≡ old.journal) × ChangesReads g old.disk new.disk
-  pub puts : PutsAmongReads g failed old.disk new.disk
-  pub reads : CountsSome (g.read_faults old.disk) (g.read_faults new.disk) missed
+-- writes and syncs, which failed or didn't, and reads among them, of which so many failed at least, or none did
+abbrev pub among_reads : {D : Type 0} → Ghosts D → Type 0 → ℕ → Course D
+among_reads g failed missed =
+    record {
+      idle = ChangesReads g;
+      puts = PutsAmongReads g failed;
+      reads = λ old new. CountsSome (g.read_faults old) (g.read_faults new) missed;
+    }
 
--- It did the first of these commands, and then the others, or the disk failed in one of these. Reads came among the
--- first, of which so many failed at least, or none did.
-pub record CutsOffAmongReads {D S C : Type 0} (g : Ghosts D) (form : Form S C) (failed : Type 0) (missed : ℕ)
-    (done cut : List C) (old new : KeptOn D S) : Type 0 where
-  pub between : KeptOn D S
-  pub first : DoesAmongReads g form ⊥ missed done old between
-  pub second : Does g form failed cut between new
+-- A state did these commands, and reads came before, between and behind them, of which so many failed at least, or none
+-- did. Without commands the disk is as reads leave it.
+abbrev pub DoesAmongReads :
+    {D S C : Type 0} → Ghosts D → Form S C → Type 0 → ℕ → List C → KeptOn D S → KeptOn D S → Type 0
+DoesAmongReads g form failed missed commands old new =
+    DoesByFours g form (among_reads g failed missed) failed commands old new

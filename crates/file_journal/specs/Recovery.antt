@@ -56,7 +56,8 @@ pub record IsSyncedFirst {D : Type 0} (g : Ghosts D) (old new : D) (P : List ℕ
   pub later : g.moment old + 1 ≤ g.moment new
   pub each : LeavesSince (g.moment old + 1) (g.images_since new) P
 
--- The first sync failed, and no write and no sync came after it: the count rose, and a crash leaves what it might have left before.
+-- The first sync failed, and no write and no sync came after it: the count rose, and a crash leaves what it might have
+-- left before.
 pub record IsFailedSync {D : Type 0} (g : Ghosts D) (old new : D) : Type 0 where
   pub rose : Rose (g.write_faults old) (g.write_faults new)
   pub same : g.content new ≡ g.content old

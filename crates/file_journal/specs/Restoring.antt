@@ -2,11 +2,11 @@
 use Rattle.std.specs.Prelude.{◌≡◌, ◌⊎◌, ◌↔◌, ℕ, List, false, true, Option, IfSome, Result, IsErrOf}
 use Rattle.disk_model.specs.declared.disk.Disk.{Ghosts}
 use Rattle.file_journal.specs.Calls.{Becomes, IsQuietNow, Leaves, Runs, TakesStep}
-use Rattle.file_journal.specs.Form.{Form, StandsFor, standing_of}
+use Rattle.file_journal.specs.Form.{Form, standing_of}
 use Rattle.file_journal.specs.Journal.{after_recovery}
 use Rattle.file_journal.specs.Kept.{KeptOn, StandsAt}
 use Rattle.file_journal.specs.Recovery.{IsFailedSync, IsRecovering, IsSyncedFirst}
-use Rattle.file_journal.specs.Walk.{damaged_at, no_store}
+use Rattle.file_journal.specs.Walk.{damaged_at, no_store, state}
 use Rattle.file_journal.specs.declared.faults.StoreFault.{StoreFault}
 use Rattle.file_journal.specs.declared.faults.StoreFault.TheVariants as fault
 
@@ -15,7 +15,7 @@ use Rattle.file_journal.specs.declared.faults.StoreFault.TheVariants as fault
 -- disk, which is quiet.
 pub record IsRestored {D S C : Type 0} (g : Ghosts D) (form : Form S C) (blocks : ℕ) (disk : D) (new : KeptOn D S)
     : Type 0 where
-  pub content : IfSome (g.content disk) (StandsFor form blocks new.now)
+  pub content : IfSome (g.content disk) (λ before. standing_of form blocks before ≡ state new.now)
   pub octets : TakesStep g disk new.disk (Becomes (after_recovery form.magic blocks))
   pub healthy : new.journal.failed ≡ false
   pub ended : new.journal.ended ≡ true

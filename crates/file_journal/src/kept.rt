@@ -1,7 +1,7 @@
 //! A state that is kept in a journal.
 
 ghost use Rattle.std.specs.Prelude.{◌≡◌, ◌≤◌, true, IfOk, OnErr, OnOk};
-ghost use Rattle.file_journal.specs.Kept.{AnswersPut, StandsAt, kept_on};
+ghost use Rattle.file_journal.specs.Kept.{AnswersPut, StandsAt, kept_at};
 ghost use Rattle.file_journal.specs.Restoring.{AnswersRecovery, IsRestored};
 
 use crate::{Change, Journal, JournalFault, Ledger, StoreFault};
@@ -29,8 +29,8 @@ impl<L: Ledger> Kept<L> {
     pub fn recover<D: Disk>(alloc: Global, disk: &mut D, blocks: u32) -> Result<Kept<L>, StoreFault>
         requires some { 1 ≤ blocks }
         requires most { blocks ≤ 65536 }
-        ensures restored { IfOk result (λ kept. IsRestored D.Disk L.form blocks disk.old
-            (kept_on (L.state kept.ledger) kept.journal disk.new)) }
+        ensures restored { IfOk result (λ kept.
+            IsRestored D.Disk L.form blocks disk.old (kept_at L.state kept disk.new)) }
         ensures by_records { IfOk result (λ kept. L.by_records kept.ledger) }
         ensures answers { AnswersRecovery D.Disk L.form blocks result disk.old disk.new }
     {
@@ -53,11 +53,10 @@ impl<L> Kept<L> {
         disk: &mut D,
         change: &C,
     ) -> Result<(), JournalFault>
-        requires stands_at { StandsAt D.Disk C.form (kept_on (C.state self.old.ledger) self.old.journal disk.old) }
+        requires stands_at { StandsAt D.Disk C.form (kept_at C.state self.old disk.old) }
         requires may { C.may change.now self.old.ledger }
         ensures answers { AnswersPut D.Disk C.form (C.command change.now self.old.ledger)
-            (kept_on (C.state self.old.ledger) self.old.journal disk.old)
-            (kept_on (C.state self.new.ledger) self.new.journal disk.new) result }
+            (kept_at C.state self.old disk.old) (kept_at C.state self.new disk.new) result }
         ensures makes { OnOk result (C.makes change.now self.old.ledger self.new.ledger) }
         ensures err { OnErr result (self.new.ledger ≡ self.old.ledger) }
     {

@@ -1,313 +1,158 @@
--- What the commands of a call do to a disk, one list of them after another.
-use Rattle.std.proofs.Common.{◌≡◌, inl, inr, ⊎_elim, ℕ, ◌+◌, ◌-◌, ◌*◌, ◌<◌, ◌≤◌, Bool, true, false, List, [], ◌∷◌, ◌++◌, length, take, Result, Ok, Err, IsErr, OnErr, OnOk, IfSome, refl, sym, ◌∙◌, ap, subst, arith, length-append}
-use Rattle.std.specs.Prelude.{IsTrue, nat_le}
-use Rattle.std.proofs.lemmas.Bool.Decides.{leb_tells}
-use Rattle.std.proofs.lemmas.List.{take-append-le, take_all}
-use Rattle.std.proofs.Math.Seq.{take-append-add}
+-- What a store's commands do to its disk: what file_journal proves of a state that is kept, at the store's form.
+use Rattle.std.proofs.Common.{◌≡◌, ℕ, ◌+◌, ◌*◌, ◌≤◌, Bool, true, false, List, [], ◌++◌, length, refl, sym, ◌∙◌, subst}
+use Rattle.std.proofs.Math.Nat.{add-zero}
 use Rattle.disk_model.specs.Moments.{LeavesOnly}
 use Rattle.disk_model.specs.declared.disk.Disk.{Ghosts}
-use Rattle.file_journal.specs.Calls.{Leaves, images_now}
-use Rattle.file_journal.specs.Position.{Position}
-use Rattle.file_journal.specs.Walk.{KeepsState}
-use Rattle.file_journal.proofs.Offered.{at_told, failed_keeps, if_told, joined, puts_none, puts_on, puts_same, started, told_before, told_weaker, weaker}
-use Rattle.file_entries.specs.Command.{AreAllowed, Command, after, after_all, is_allowed}
-use Rattle.file_entries.specs.Records.{store_step}
-use Rattle.file_entries.specs.Store.{Store, empty_store}
-use Rattle.file_entries.proofs.Offered.{after_all-append, AreAllowed-append}
-use Rattle.file_store.specs.OnDisk.{Does, MakesBetween, MakesFirst, StayDone, after_first}
-use Rattle.file_store.specs.Putting.{IsBeforeOrAfter, PutsCommand}
-use Rattle.file_store.specs.State.{StandsFor, StandsOn, StoreState, store_in}
-
--- a list of no length
-nothing : (commands : List Command) → length commands ≡ 0 → commands ≡ []
-nothing [] is = refl
-nothing (command ∷ commands) is = absurd (cc is)
+use Rattle.file_journal.specs.AmongReads as among
+use Rattle.file_journal.specs.Calls.{Reads}
+use Rattle.file_journal.specs.Kept as kept
+use Rattle.file_journal.specs.Kept.{KeptOn}
+use Rattle.file_journal.proofs.Offered.{among_does, among_same, among_then, does_longer, does_none, does_same, does_then, first_all, first_then, makes_first, makes_second, makes_within, puts_among, puts_among_then, reads_only, same_on, stay_then}
+use Rattle.file_entries.specs.Command.{AreAllowed, Command, after_all}
+use Rattle.file_entries.specs.Records.{store_form}
+use Rattle.file_entries.specs.Store.{Store}
+use Rattle.file_store.specs.OnDisk.{Does, MakesBetween, MakesFirst, StayDone, after_first, kept_at}
+use Rattle.file_store.specs.State.{StandsOn, StoreState, store_in}
+use Rattle.file_store.specs.Working.{CutsOffAmongReads, DoesAmongReads, PutsAmongReads, one_if}
 
 -- ---- the first of some commands
 
--- the first of two lists of commands, within the first list
-pub after_first-append : (count : ℕ) (a b : List Command) (store : Store) → count ≤ length a → after_first count store (a ++ b) ≡ after_first count store a
-after_first-append count a b store few = ap (after_all store) (take-append-le count a b few)
-
--- and past it
 pub after_first-then : (count : ℕ) (a b : List Command) (store : Store) → after_first (length a + count) store (a ++ b) ≡ after_first count (after_all store a) b
-after_first-then count a b store = ap (after_all store) (take-append-add a b count) ∙ after_all-append a (take count b) store
+after_first-then count a b store = first_then store_form count a b store
 
 pub after_first-all : (commands : List Command) (store : Store) → after_first (length commands) store commands ≡ after_all store commands
-after_first-all commands store = ap (after_all store) (take_all (length commands) commands (omega arith))
-
-pub makes-one : (store : Store) (command : Command) (image : List ℕ) → IsBeforeOrAfter store command image → MakesBetween 0 1 store (command ∷ []) image
-makes-one store command image (inl before) = (0, omega arith, omega arith, before)
-makes-one store command image (inr now) = (1, omega arith, omega arith, now)
+after_first-all commands store = first_all store_form commands store
 
 pub makes-first : (low high : ℕ) (store : Store) (a b : List Command) (image : List ℕ) → high ≤ length a → MakesBetween low high store a image → MakesBetween low high store (a ++ b) image
-makes-first low high store a b image most makes =
-    (makes.0, makes.1, makes.2, subst (StandsFor image) (sym (after_first-append makes.0 a b store (omega (arith, makes.2)))) makes.3)
+makes-first = makes_first store_form
 
--- with wider bounds
 pub makes-within : (low high least most : ℕ) (store : Store) (commands : List Command) (image : List ℕ) → least ≤ low → high ≤ most → MakesBetween low high store commands image
     → MakesBetween least most store commands image
-makes-within low high least most store commands image below above makes = (makes.0, omega (arith, makes.1), omega (arith, makes.2), makes.3)
+makes-within = makes_within store_form
 
 pub makes-second : (low high least most : ℕ) (store middle : Store) (a b : List Command) (image : List ℕ) → middle ≡ after_all store a → least ≤ length a + low → length a + high ≤ most
     → MakesBetween low high middle b image → MakesBetween least most store (a ++ b) image
-makes-second low high least most store middle a b image at below above makes = (
-  length a + makes.0,
-  omega (arith, makes.1),
-  omega (arith, makes.2),
-  subst (StandsFor image) (ap (λ (s : Store). after_first makes.0 s b) at ∙ sym (after_first-then makes.0 a b store)) makes.3,
-)
+makes-second = makes_second store_form
 
 module _ {D : Type 0} (g : Ghosts D) where
-  -- ---- the commands that are done stay
-
-  -- since the one command is done
-  pub stay-one : (store : Store) (command : Command) (disk disk_now : D) → g.moment disk_now ≡ g.moment disk + 4
-      → ((image : List ℕ) → images_now g disk_now image → StandsFor image (after store command)) → StayDone g (g.moment disk) 1 store (command ∷ []) disk_now
-  stay-one store command disk disk_now at each count some most image left =
-      let now : g.moment disk + 4 * count ≡ g.moment disk_now = omega (arith, at) in
-      (1, omega arith, omega arith, each image (subst (λ (t : ℕ). g.images_since disk_now t image) now left))
-
-  -- with further commands behind them
-  pub stay-longer : (start done : ℕ) (store : Store) (a b : List Command) (disk_now : D) → StayDone g start done store a disk_now → StayDone g start done store (a ++ b) disk_now
-  stay-longer start done store a b disk_now stay count some most image left =
-      let sum : length (a ++ b) ≡ length a + length b = length-append a b in
-      makes-within count (length a) count (length (a ++ b)) store (a ++ b) image (omega arith) (omega arith) (makes-first count (length a) store a b image (omega arith) (stay count some most image left))
-
-  -- Since so many of the first are done: what might have been left before the second began, or what they leave; and since
-  -- so many of the second are done, they all stay.
   pub stay-on : (start done : ℕ) (store middle : Store) (a b : List Command) (disk_mid disk_now : D) → middle ≡ after_all store a → g.moment disk_mid ≡ start + 4 * length a
       → StayDone g start (length a) store a disk_mid → LeavesOnly g.moment g.images_since disk_mid disk_now (MakesFirst middle b) → StayDone g (g.moment disk_mid) done middle b disk_now
       → StayDone g start (length a + done) store (a ++ b) disk_now
-  stay-on start done store middle a b disk_mid disk_now at then first leaves second count some most image left =
-      let sum : length (a ++ b) ≡ length a + length b = length-append a b in
-      ⊎_elim
-      (λ (w : (nat_le count (length a) ≡ true) × (count ≤ length a)).
-      let few = w.1 in
-      ⊎_elim
-      (λ was. makes-within count (length a) count (length (a ++ b)) store (a ++ b) image (omega arith) (omega arith) (makes-first count (length a) store a b image (omega arith) (first count some few image was)))
-      (λ here. makes-second 0 (length b) count (length (a ++ b)) store middle a b image at (omega (arith, few)) (omega arith) here)
-      (leaves.each (start + 4 * count) image (omega (arith, few, then)) left))
-      (λ (w : (nat_le count (length a) ≡ false) × (length a < count)).
-      let more = w.1 in
-      let later : start + 4 * count ≡ g.moment disk_mid + 4 * (count - length a) = omega (arith, more, then) in
-      makes-second (count - length a) (length b) count (length (a ++ b)) store middle a b image at (omega (arith, more)) (omega arith)
-      (second (count - length a) (omega (arith, more)) (omega (arith, more, most)) image (subst (λ (t : ℕ). g.images_since disk_now t image) later left)))
-      (leb_tells count (length a))
+  stay-on = stay_then store_form g
 
-  -- ---- one command
+  -- a store that is the same, with the same journal
+  at-same : (self other : StoreState) (disk : D) → store_in other ≡ store_in self → other.journal ≡ self.journal → kept_at self disk ≡ kept_at other disk
+  at-same self other disk store journal = same_on (store_in self) (store_in other) self.journal other.journal disk (sym store) (sym journal)
 
-  pub Does-one : {T E : Type 0} (result : Result T E) (old new : StoreState) (disk disk_now : D) (command : Command)
-      → StandsOn g old disk → IsTrue (is_allowed (store_in old) command)
-      → PutsCommand g old.journal new.journal disk disk_now command result
-      → OnOk result (store_in new ≡ after (store_in old) command) → OnErr result (store_in new ≡ store_in old)
-      → Does g (IsErr result) old new disk disk_now (command ∷ [])
-  Does-one (Ok x) old new disk disk_now command stands ok puts made kept =
-      let for = puts.stands (store_in old) stands ok in
-      record {
-        stands_on = subst (λ (s : Store). KeepsState empty_store store_step g new.journal s disk_now) (sym made) for.ok;
-        allowed = (ok, tt);
-        since = told_weaker (g.content disk) _ _ (λ before told left.
-            weaker g.moment g.images_since disk disk_now _ (MakesFirst (store_in old) (command ∷ [])) (λ image here. makes-one (store_in old) command image here) left) for.since;
-        stay = λ fine. if_told (g.content disk) _ (λ before told.
-            let now = told_before (g.content disk_now) (g.content disk) before (puts.puts.told.1, puts.puts.told.0) told in
-            stay-one (store_in old) command disk disk_now (at_told _ before told puts.calls) (at_told _ now.0 now.1 for.images));
-        calls = λ fine. puts.calls;
-        none = λ is. absurd (cc is);
-        puts = puts.puts;
-        done = λ fine. (made, puts.ok);
-        cut = λ failed. absurd (cc failed);
-        same_magic = ap (λ (p : Position). p.magic) puts.journal;
-      }
-  Does-one (Err e) old new disk disk_now command stands ok puts made kept =
-      let for = puts.stands (store_in old) stands ok in
-      record {
-        stands_on = failed_keeps g empty_store store_step new.journal (store_in new) disk_now puts.err (inl puts.err);
-        allowed = (ok, tt);
-        since = told_weaker (g.content disk) _ _ (λ before told left.
-            weaker g.moment g.images_since disk disk_now _ (MakesFirst (store_in old) (command ∷ [])) (λ image here. makes-one (store_in old) command image here) left) for.since;
-        stay = λ fine. absurd (fine refl);
-        calls = λ fine. absurd (fine refl);
-        none = λ is. absurd (cc is);
-        puts = puts.puts;
-        done = λ fine. absurd (fine refl);
-        cut = λ failed. record {
-          count = 0;
-          fewer = omega arith;
-          store = kept;
-          failed = puts.err;
-          images = told_weaker (g.content disk_now) _ _ (λ now told each image here. makes-one (store_in old) command image (each image here)) for.err;
-          stay = if_told (g.content disk) _ (λ before told count some most image left. absurd (omega (arith, some, most)));
-          calls = told_weaker (g.content disk) _ _ (λ before told left. omega (arith, left.later)) for.since;
-          at_most = if_told (g.content disk) _ (λ before told. omega (arith, puts.at_most));
-        };
-        same_magic = ap (λ (p : Position). p.magic) puts.journal;
-      }
-
-  -- ---- no command
+  -- ---- commands alone
 
   pub Does-none : (P : Type 0) (self : StoreState) (disk : D) → ¬ P → StandsOn g self disk → self.journal.failed ≡ false → g.lasts disk disk → Does g P self self disk disk []
-  Does-none P self disk fine stands healthy same = record {
-    stands_on = stands;
-    allowed = tt;
-    since = if_told (g.content disk) _ (λ before told. started g.moment g.images_since disk (MakesFirst (store_in self) []));
-    stay = λ still. if_told (g.content disk) _ (λ before told count some most image left. absurd (omega (arith, some, most)));
-    calls = λ still. if_told (g.content disk) _ (λ before told. omega arith);
-    none = λ is. refl;
-    puts = puts_none g disk P fine same;
-    done = λ still. (refl, healthy);
-    cut = λ failed. absurd (fine failed);
-    same_magic = refl;
-  }
-
-  -- ---- the same of what comes to the same
+  Does-none P self disk = does_none g store_form P (store_in self) self.journal disk
 
   pub Does-same : (P Q : Type 0) (old new : StoreState) (disk disk_now : D) (commands : List Command) → (P → Q) → (Q → P) → Does g P old new disk disk_now commands → Does g Q old new disk disk_now commands
-  Does-same P Q old new disk disk_now commands there back does = record {
-    stands_on = does.stands_on;
-    allowed = does.allowed;
-    since = does.since;
-    stay = λ fine. does.stay (λ p. fine (there p));
-    calls = λ fine. does.calls (λ p. fine (there p));
-    none = does.none;
-    puts = puts_same g disk disk_now P Q there back does.puts;
-    done = λ fine. does.done (λ p. fine (there p));
-    cut = λ q. does.cut (back q);
-    same_magic = does.same_magic;
-  }
+  Does-same P Q old new disk disk_now commands = does_same g store_form P Q commands (kept_at old disk) (kept_at new disk_now)
 
-  -- of a store before that is the same, and a store after that is the same and whose journal is
   pub Does-moved : (P : Type 0) (old new before after : StoreState) (disk disk_now : D) (commands : List Command) → store_in before ≡ store_in old → before.journal ≡ old.journal
       → store_in after ≡ store_in new → after.journal ≡ new.journal → Does g P old new disk disk_now commands → Does g P before after disk disk_now commands
-  Does-moved P old new before after disk disk_now commands first from last journal does = record {
-    stands_on = subst (λ (p : Position). KeepsState empty_store store_step g p (store_in after) disk_now) (sym journal)
-        (subst (λ (s : Store). KeepsState empty_store store_step g new.journal s disk_now) (sym last) does.stands_on);
-    allowed = subst (λ (s : Store). AreAllowed s commands) (sym first) does.allowed;
-    since = subst (λ (s : Store). Leaves g disk disk_now (λ _. MakesFirst s commands)) (sym first) does.since;
-    stay = λ fine. subst (λ (s : Store). IfSome (g.content disk) (λ _. StayDone g (g.moment disk) (length commands) s commands disk_now)) (sym first) (does.stay fine);
-    calls = does.calls;
-    none = does.none;
-    puts = does.puts;
-    done = λ fine.
-        let all = does.done fine in
-        (last ∙ all.0 ∙ ap (λ (s : Store). after_all s commands) (sym first), ap (λ (p : Position). p.failed) journal ∙ all.1);
-    cut = λ failed.
-        let some = does.cut failed in
-        record {
-          count = some.count;
-          fewer = some.fewer;
-          store = last ∙ some.store ∙ ap (λ (s : Store). after_first some.count s commands) (sym first);
-          failed = ap (λ (p : Position). p.failed) journal ∙ some.failed;
-          images = subst (λ (s : Store). IfSome (g.content disk_now) (λ _. (image : List ℕ) → images_now g disk_now image → MakesBetween some.count (some.count + 1) s commands image)) (sym first) some.images;
-          stay = subst (λ (s : Store). IfSome (g.content disk) (λ _. StayDone g (g.moment disk) some.count s commands disk_now)) (sym first) some.stay;
-          calls = some.calls;
-          at_most = some.at_most;
-        };
-    same_magic = ap (λ (p : Position). p.magic) journal ∙ does.same_magic ∙ sym (ap (λ (p : Position). p.magic) from);
-  }
-
-  -- ---- further commands behind those in one of which the disk failed
+  Does-moved P old new before after disk disk_now commands first from last journal does =
+      subst (λ (k : KeptOn D Store). kept.Does g store_form P commands k (kept_at after disk_now)) (at-same old before disk first from)
+      (subst (λ (k : KeptOn D Store). kept.Does g store_form P commands (kept_at old disk) k) (at-same new after disk_now last journal) does)
 
   pub Does-longer : (P : Type 0) (old new : StoreState) (disk disk_now : D) (a b : List Command) → P → AreAllowed (store_in old) (a ++ b) → Does g P old new disk disk_now a
       → Does g P old new disk disk_now (a ++ b)
-  Does-longer P old new disk disk_now a b failed allowed does =
-      let sum : length (a ++ b) ≡ length a + length b = length-append a b in
-      let some = does.cut failed in
-      let few = some.fewer in
-      record {
-        stands_on = does.stands_on;
-        allowed = allowed;
-        since = told_weaker (g.content disk) _ _ (λ before told left.
-            weaker g.moment g.images_since disk disk_now _ (MakesFirst (store_in old) (a ++ b))
-            (λ image here. makes-within 0 (length a) 0 (length (a ++ b)) (store_in old) (a ++ b) image (omega arith) (omega arith) (makes-first 0 (length a) (store_in old) a b image (omega arith) here)) left) does.since;
-        stay = λ fine. absurd (fine failed);
-        calls = λ fine. absurd (fine failed);
-        none = λ is. let empty : length (a ++ b) ≡ 0 = ap length is in absurd (omega (arith, sum, few, empty));
-        puts = does.puts;
-        done = λ fine. absurd (fine failed);
-        cut = λ again. record {
-          count = some.count;
-          fewer = omega arith;
-          store = some.store ∙ sym (after_first-append some.count a b (store_in old) (omega arith));
-          failed = some.failed;
-          images = told_weaker (g.content disk_now) _ _ (λ now told each image here.
-              makes-first some.count (some.count + 1) (store_in old) a b image (omega arith) (each image here)) some.images;
-          stay = told_weaker (g.content disk) _ _ (λ before told stay. stay-longer (g.moment disk) some.count (store_in old) a b disk_now stay) some.stay;
-          calls = some.calls;
-          at_most = some.at_most;
-        };
-        same_magic = does.same_magic;
-      }
+  Does-longer P old new disk disk_now a b = does_longer g store_form P a b (kept_at old disk) (kept_at new disk_now)
 
-  -- ---- one list of commands, and then another
+  -- whether the disk failed or not, the first of the commands were done
+  pub Does-first : (b : Bool) (old new : StoreState) (disk disk_now : D) (commands : List Command) → Does g (b ≡ true) old new disk disk_now commands
+      → (count : ℕ) × (store_in new ≡ after_first count (store_in old) commands)
+  Does-first true old new disk disk_now commands does = let some = does.cut refl in (some.count, some.state)
+  Does-first false old new disk disk_now commands does = (length commands, (does.done (λ e. cc e)).0 ∙ sym (after_first-all commands (store_in old)))
+
+  -- ---- among reads
+
+  pub reads-only : (failed : Bool) (self : StoreState) (old new : D) → Reads g (failed ≡ true) old new → self.journal.failed ≡ false → StandsOn g self old
+      → DoesAmongReads g ⊥ (one_if failed) self self old new []
+  reads-only failed self old new = reads_only g store_form failed (store_in self) self.journal old new
+
+  pub does-among : (P : Type 0) (old new : StoreState) (disk disk_now : D) (commands : List Command) → Does g P old new disk disk_now commands → DoesAmongReads g P 0 old new disk disk_now commands
+  does-among P old new disk disk_now commands = among_does g store_form P commands (kept_at old disk) (kept_at new disk_now)
+
+  pub among-same : (P Q : Type 0) (missed other : ℕ) (old new : StoreState) (disk disk_now : D) (commands : List Command) → (P → Q) → (Q → P) → missed ≡ other
+      → DoesAmongReads g P missed old new disk disk_now commands → DoesAmongReads g Q other old new disk disk_now commands
+  among-same P Q missed other old new disk disk_now commands = among_same g store_form P Q missed other commands (kept_at old disk) (kept_at new disk_now)
+
+  -- the same commands, said otherwise
+  pub among-at : (P : Type 0) (missed : ℕ) (old new : StoreState) (disk disk_now : D) (these those : List Command) → these ≡ those
+      → DoesAmongReads g P missed old new disk disk_now these → DoesAmongReads g P missed old new disk disk_now those
+  among-at P missed old new disk disk_now these those same does = subst (λ (cs : List Command). DoesAmongReads g P missed old new disk disk_now cs) same does
+
+  -- the store at the end is another that is the same, with the same journal
+  pub among-parked : (P : Type 0) (missed : ℕ) (old new after : StoreState) (disk disk_now : D) (commands : List Command) → store_in after ≡ store_in new → after.journal ≡ new.journal
+      → DoesAmongReads g P missed old new disk disk_now commands → DoesAmongReads g P missed old after disk disk_now commands
+  among-parked P missed old new after disk disk_now commands last journal does =
+      subst (λ (n : KeptOn D Store). among.DoesAmongReads g store_form P missed commands (kept_at old disk) n) (at-same new after disk_now last journal) does
+
+  pub among-healthy : (missed : ℕ) (old new : StoreState) (disk disk_now : D) (commands : List Command) → DoesAmongReads g ⊥ missed old new disk disk_now commands → new.journal.failed ≡ false
+  among-healthy missed old new disk disk_now commands does = (does.done (λ never. never)).1
+
+  pub among-store : (missed : ℕ) (old new : StoreState) (disk disk_now : D) (commands : List Command) → DoesAmongReads g ⊥ missed old new disk disk_now commands
+      → store_in new ≡ after_all (store_in old) commands
+  among-store missed old new disk disk_now commands does = (does.done (λ never. never)).0
+
+  -- ---- one part, and then another
 
   module _ (on : (first second third : D) → g.lasts first second → g.lasts second third → g.lasts first third) where
     pub Does-then : (P Q : Type 0) (old mid new : StoreState) (disk disk_mid disk_now : D) (a b : List Command) → ¬ P → Does g P old mid disk disk_mid a → Does g Q mid new disk_mid disk_now b
         → Does g Q old new disk disk_now (a ++ b)
-    Does-then P Q old mid new disk disk_mid disk_now a b fine first second =
-        let sum : length (a ++ b) ≡ length a + length b = length-append a b in
-        let at = (first.done fine).0 in
-        record {
-          stands_on = second.stands_on;
-          allowed = AreAllowed-append a b (store_in old) first.allowed (subst (λ (s : Store). AreAllowed s b) at second.allowed);
-          since = if_told (g.content disk) _ (λ before told.
-              let middle = told_before (g.content disk_mid) (g.content disk) before (first.puts.told.1, first.puts.told.0) told in
-              joined g.moment g.images_since disk disk_mid disk_now (MakesFirst (store_in old) (a ++ b))
-              (weaker g.moment g.images_since disk disk_mid _ (MakesFirst (store_in old) (a ++ b))
-              (λ image here. makes-within 0 (length a) 0 (length (a ++ b)) (store_in old) (a ++ b) image (omega arith) (omega arith) (makes-first 0 (length a) (store_in old) a b image (omega arith) here))
-              (at_told _ before told first.since))
-              (weaker g.moment g.images_since disk_mid disk_now _ (MakesFirst (store_in old) (a ++ b))
-              (λ image here. makes-second 0 (length b) 0 (length (a ++ b)) (store_in old) (store_in mid) a b image at (omega arith) (omega arith) here)
-              (at_told _ middle.0 middle.1 second.since)));
-          stay = λ still. if_told (g.content disk) _ (λ before told.
-              let middle = told_before (g.content disk_mid) (g.content disk) before (first.puts.told.1, first.puts.told.0) told in
-              subst (λ (n : ℕ). StayDone g (g.moment disk) n (store_in old) (a ++ b) disk_now) (sym sum)
-              (stay-on (g.moment disk) (length b) (store_in old) (store_in mid) a b disk_mid disk_now at (at_told _ before told (first.calls fine)) (at_told _ before told (first.stay fine))
-              (at_told _ middle.0 middle.1 second.since) (at_told _ middle.0 middle.1 (second.stay still))));
-          calls = λ still. if_told (g.content disk) _ (λ before told.
-              let middle = told_before (g.content disk_mid) (g.content disk) before (first.puts.told.1, first.puts.told.0) told in
-              let then : g.moment disk_mid ≡ g.moment disk + 4 * length a = at_told _ before told (first.calls fine) in
-              let later : g.moment disk_now ≡ g.moment disk_mid + 4 * length b = at_told _ middle.0 middle.1 (second.calls still) in
-              omega (arith, sum, then, later));
-          none = λ is.
-              let empty : length (a ++ b) ≡ 0 = ap length is in
-              second.none (nothing b (omega (arith, sum, empty))) ∙ first.none (nothing a (omega (arith, sum, empty)));
-          puts = puts_on g on disk disk_mid disk_now P Q fine first.puts second.puts;
-          done = λ still.
-              let all = second.done still in
-              (all.0 ∙ ap (λ (s : Store). after_all s b) at ∙ sym (after_all-append a b (store_in old)), all.1);
-          cut = λ failed.
-              let some = second.cut failed in
-              let few = some.fewer in
-              record {
-                count = length a + some.count;
-                fewer = omega arith;
-                store = some.store ∙ ap (λ (s : Store). after_first some.count s b) at ∙ sym (after_first-then some.count a b (store_in old));
-                failed = some.failed;
-                images = told_weaker (g.content disk_now) _ _ (λ now told each image here.
-                    makes-second some.count (some.count + 1) (length a + some.count) (length a + some.count + 1) (store_in old) (store_in mid) a b image at (omega arith) (omega arith) (each image here)) some.images;
-                stay = if_told (g.content disk) _ (λ before told.
-                    let middle = told_before (g.content disk_mid) (g.content disk) before (first.puts.told.1, first.puts.told.0) told in
-                    stay-on (g.moment disk) some.count (store_in old) (store_in mid) a b disk_mid disk_now at (at_told _ before told (first.calls fine)) (at_told _ before told (first.stay fine))
-                    (at_told _ middle.0 middle.1 second.since) (at_told _ middle.0 middle.1 some.stay));
-                calls = if_told (g.content disk) _ (λ before told.
-                    let middle = told_before (g.content disk_mid) (g.content disk) before (first.puts.told.1, first.puts.told.0) told in
-                    let then : g.moment disk_mid ≡ g.moment disk + 4 * length a = at_told _ before told (first.calls fine) in
-                    let later : g.moment disk_mid + 4 * some.count ≤ g.moment disk_now = at_told _ middle.0 middle.1 some.calls in
-                    omega (arith, then, later));
-                at_most = if_told (g.content disk) _ (λ before told.
-                    let middle = told_before (g.content disk_mid) (g.content disk) before (first.puts.told.1, first.puts.told.0) told in
-                    let then : g.moment disk_mid ≡ g.moment disk + 4 * length a = at_told _ before told (first.calls fine) in
-                    let soon : g.moment disk_now ≤ g.moment disk_mid + 4 * (some.count + 1) = at_told _ middle.0 middle.1 some.at_most in
-                    omega (arith, then, soon));
-              };
-          same_magic = second.same_magic ∙ first.same_magic;
-        }
+    Does-then P Q old mid new disk disk_mid disk_now a b = does_then g store_form on P Q a b (kept_at old disk) (kept_at mid disk_mid) (kept_at new disk_now)
 
-  -- ---- what became of the store
+    pub among-then : (P Q : Type 0) (missed other : ℕ) (old mid new : StoreState) (disk disk_mid disk_now : D) (a b : List Command) → ¬ P
+        → DoesAmongReads g P missed old mid disk disk_mid a → DoesAmongReads g Q other mid new disk_mid disk_now b
+        → DoesAmongReads g Q (missed + other) old new disk disk_now (a ++ b)
+    among-then P Q missed other old mid new disk disk_mid disk_now a b = among_then g store_form on P Q missed other a b (kept_at old disk) (kept_at mid disk_mid) (kept_at new disk_now)
 
-  -- the first of the commands, for some number of them
-  pub Does-first : (b : Bool) (old new : StoreState) (disk disk_now : D) (commands : List Command) → Does g (b ≡ true) old new disk disk_now commands
-      → (count : ℕ) × (store_in new ≡ after_first count (store_in old) commands)
-  Does-first true old new disk disk_now commands does = let some = does.cut refl in (some.count, some.store)
-  Does-first false old new disk disk_now commands does = (length commands, (does.done (λ e. cc e)).0 ∙ sym (after_first-all commands (store_in old)))
+    pub cuts-among-then : (F : Type 0) (missed other : ℕ) (a b c : StoreState) (d e f : D) (xs done cut : List Command) → DoesAmongReads g ⊥ missed a b d e xs
+        → CutsOffAmongReads g F other b c e f done cut → CutsOffAmongReads g F (missed + other) a c d f (xs ++ done) cut
+    cuts-among-then F missed other a b c d e f xs done cut first cuts = record {
+      store_then = cuts.store_then;
+      disk_then = cuts.disk_then;
+      first = among-then ⊥ ⊥ missed other a b cuts.store_then d e cuts.disk_then xs done (λ never. never) first cuts.first;
+      second = cuts.second;
+    }
+
+    pub cuts-among-puts : (F : Type 0) (missed : ℕ) (old new : StoreState) (disk disk_now : D) (done cut : List Command) → CutsOffAmongReads g F missed old new disk disk_now done cut
+        → PutsAmongReads g F disk disk_now
+    cuts-among-puts F missed old new disk disk_now done cut cuts =
+        puts_among_then g on ⊥ F disk cuts.disk_then disk_now (λ never. never) cuts.first.puts (puts_among g F cuts.disk_then disk_now cuts.second.puts)
+
+    -- all of them together
+    pub cuts-among-all : (F : Type 0) (missed : ℕ) (old new : StoreState) (disk disk_now : D) (done cut : List Command) → CutsOffAmongReads g F missed old new disk disk_now done cut
+        → DoesAmongReads g F missed old new disk disk_now (done ++ cut)
+    cuts-among-all F missed old new disk disk_now done cut cuts =
+        among-same F F (missed + 0) missed old new disk disk_now (done ++ cut) (λ p. p) (λ p. p) (add-zero missed)
+        (among-then ⊥ F missed 0 old cuts.store_then new disk cuts.disk_then disk_now done cut (λ never. never) cuts.first
+        (does-among F cuts.store_then new cuts.disk_then disk_now cut cuts.second))
+
+  pub cuts-among-same : (P Q : Type 0) (missed other : ℕ) (old new : StoreState) (disk disk_now : D) (done cut : List Command) → (P → Q) → (Q → P) → missed ≡ other
+      → CutsOffAmongReads g P missed old new disk disk_now done cut → CutsOffAmongReads g Q other old new disk disk_now done cut
+  cuts-among-same P Q missed other old new disk disk_now done cut there back same cuts = record {
+    store_then = cuts.store_then;
+    disk_then = cuts.disk_then;
+    first = among-same ⊥ ⊥ missed other old cuts.store_then disk cuts.disk_then done (λ p. p) (λ p. p) same cuts.first;
+    second = Does-same P Q cuts.store_then new cuts.disk_then disk_now cut there back cuts.second;
+  }
+
+  -- commands that were all done
+  pub cuts-among-none : (F : Type 0) (missed : ℕ) (old new : StoreState) (disk disk_now : D) (done : List Command) → ¬ F → g.lasts disk_now disk_now
+      → DoesAmongReads g ⊥ missed old new disk disk_now done → CutsOffAmongReads g F missed old new disk disk_now done []
+  cuts-among-none F missed old new disk disk_now done fine lasts does = record {
+    store_then = new;
+    disk_then = disk_now;
+    first = does;
+    second = Does-none F new disk_now fine does.stands_on (among-healthy missed old new disk disk_now done does) lasts;
+  }
+
+  -- a first command that the disk cut off, behind reads
+  pub cuts-among-cut : (F : Type 0) (missed : ℕ) (old mid new : StoreState) (disk disk_mid disk_now : D) (done cut : List Command) → DoesAmongReads g ⊥ missed old mid disk disk_mid done
+      → Does g F mid new disk_mid disk_now cut → CutsOffAmongReads g F missed old new disk disk_now done cut
+  cuts-among-cut F missed old mid new disk disk_mid disk_now done cut first second = record { store_then = mid; disk_then = disk_mid; first = first; second = second }

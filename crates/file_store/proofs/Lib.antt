@@ -1,9 +1,7 @@
 mod DoesLemmas
 mod EndLemmas
 mod HoldLemmas
-mod KeptLemmas
 pub mod Offered
-mod PutLemmas
 mod ReceiptLemmas
 mod RecoveryLemmas
 mod SealedLemmas
@@ -11,4 +9,3 @@ mod StandingLemmas
 mod TokenLemmas
 mod ToldLemmas
 mod UploadLemmas
-mod WorkingLemmas

@@ -7,20 +7,37 @@ use Rattle.std.specs.Str.{bytes_eq}
 use Rattle.std.proofs.lemmas.List.Elements.{All-drop}
 use Rattle.px_base.specs.Numbers.{le32}
 use Rattle.px_base.specs.Octets.{IsOctets}
+use Rattle.file_journal.specs.Form.{TellsItsNumber}
 use Rattle.file_journal.specs.Journal as journal
 use Rattle.file_journal.specs.Journal.{Standing, is_block_number, journal_of}
 use Rattle.file_journal.specs.Laws.{ComesTo}
 use Rattle.file_journal.specs.Ledger.{Takes}
 use Rattle.file_journal.specs.Records.{IsRecord, Reading, Record, StandsFrom, reading_from, whole}
 use Rattle.file_journal.specs.Walk.{no_store, number_or, stands_of, state, walk}
-use Rattle.file_journal.proofs.Offered.{one_walk, reading_none, stands_from_read}
-use Rattle.file_entries.specs.Command.{AreAllowed, Command, after, after_all, is_allowed}
-use Rattle.file_entries.specs.Records.{IsWritable, command_of, record_of_command, store_after, store_magic, store_step}
+use Rattle.file_journal.proofs.Offered.{one_walk, own_number, reading_none, stands_from_read}
+use Rattle.file_entries.specs.Command.{AreAllowed, Command, after, after_all, begin, drop_entry, grow, is_allowed, seal}
+use Rattle.file_entries.specs.Records.{IsWritable, command_of, record_of_command, store_after, store_form, store_magic, store_step}
 use Rattle.file_entries.specs.Store.{Store, empty_store}
 use Rattle.file_entries.proofs.Offered.{read-written, records}
 use Rattle.file_store.specs.Laws.{IsStoreAfter}
 use Rattle.file_store.specs.State.{StandsFor}
-use Rattle.file_store.proofs.PutLemmas.{after-blocks, allowed-step}
+
+-- a command leaves the block number
+after-blocks : (store : Store) (command : Command) → (after store command).blocks ≡ store.blocks
+after-blocks store (begin number caller file_length moment) = refl
+after-blocks store (grow number octets) = refl
+after-blocks store (seal number moment) = refl
+after-blocks store (drop_entry number) = refl
+
+-- a record that is a command whose condition holds is a step
+allowed-step : (store : Store) (command : Command) (entry : Record) → command_of entry ≡ Some command → IsTrue (is_allowed store command) → store_step store entry ≡ Some (after store command)
+allowed-step store command entry read ok =
+    ap (λ (o : Option Command). option_and_then (store_after store) o) read ∙ ap (λ (b : Bool). if b then Some (after store command) else None) ok
+
+-- and so is the command's own record
+pub written-step : (store : Store) (command : Command) (entry : Record) → entry ≡ record_of_command command → IsWritable command → IsTrue (is_allowed store command)
+    → store_step store entry ≡ Some (after store command)
+written-step store command entry same writable ok = allowed-step store command entry (ap command_of same ∙ read-written command writable) ok
 
 -- commands leave the block number
 pub all-blocks : (commands : List Command) (store : Store) → (after_all store commands).blocks ≡ store.blocks
@@ -40,6 +57,12 @@ step-command before now entry step = by (command_of entry) refl step
         → (command : Command) × (command_of entry ≡ Some command) × IsTrue (is_allowed before command) × (now ≡ after before command)
     by None read is = absurd (cc is)
     by (Some command) read is = let both = made command (is_allowed before command) refl is in (command, read, both.0, both.1)
+
+-- what octets stand for as a store they stand for by its own block number
+pub own-number : TellsItsNumber store_form
+own-number blocks octets store is =
+    own_number store_step empty_store (λ (s : Store). s.blocks) (λ n. refl)
+    (λ before now entry step. let made = step-command before now entry step in ap (λ (s : Store). s.blocks) made.3 ∙ after-blocks before made.0) blocks (journal_of store_magic octets) store is
 
 -- records that take a store to another are commands that do
 pub record AreTaken (before now : Store) (entries : List Record) : Type 0 where

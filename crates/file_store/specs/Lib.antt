@@ -1,8 +1,8 @@
 pub mod Answers
+pub mod Changes
 pub mod Kept
 pub mod Laws
 pub mod OnDisk
-pub mod Putting
 pub mod Recovery
 pub mod Refusals
 pub mod State

@@ -2,9 +2,10 @@
 use Rattle.std.specs.Prelude.{◌≡◌, ◌⊎◌, ◌↔◌, ℕ, List, false, Option, IfSome, Result, IsErrOf}
 use Rattle.disk_model.specs.declared.disk.Disk.{Ghosts}
 use Rattle.file_entries.specs.Files.{NothingOut}
-use Rattle.file_entries.specs.Records.{store_magic}
+use Rattle.file_entries.specs.Records.{store_form}
 use Rattle.file_journal.specs.Calls.{IsQuietNow}
-use Rattle.file_journal.specs.Recovery.{IsFailedSync, IsRecovering, IsSyncedFirst}
+use Rattle.file_journal.specs.Recovery.{IsFailedSync, IsSyncedFirst}
+use Rattle.file_journal.specs.Restoring as restoring
 use Rattle.file_journal.specs.Walk.{damaged_at, no_store, state}
 use Rattle.file_store.specs.State.{StandsOn, StoreState, standing_of, store_in}
 use Rattle.file_store.specs.declared.refusals.StoreFault.{StoreFault}
@@ -33,9 +34,8 @@ RefusesRecovery blocks content result =
 
 -- The octets stand for what these stand for, and differ from them only as the journal's recovery may leave them: 18
 -- octets or more are left as they are.
-pub record StandsAlike (blocks : ℕ) (before image : List ℕ) : Type 0 where
-  pub same : standing_of blocks image ≡ standing_of blocks before
-  pub octets : IsRecovering store_magic blocks before image
+abbrev pub StandsAlike : ℕ → List ℕ → List ℕ → Type 0
+StandsAlike blocks before image = restoring.StandsAlike store_form blocks before image
 
 -- Since the end of the first sync a crash leaves what stands for the same as the content before, and a content of 18
 -- octets or more as it is; only where that sync failed, and the answer is that fault, a crash may leave what it might

@@ -2,15 +2,21 @@
 use Rattle.std.specs.Prelude.{◌≡◌, ℕ, List, Option, true}
 use Rattle.disk_model.specs.declared.disk.Disk.{Ghosts}
 use Rattle.file_entries.specs.Files.{Files, rest_of, store_of}
-use Rattle.file_entries.specs.Records.{store_magic, store_step}
-use Rattle.file_entries.specs.Store.{Store, empty_store}
+use Rattle.file_entries.specs.Records.{store_form, store_magic}
+use Rattle.file_entries.specs.Store.{Store}
+use Rattle.file_journal.specs.Form as form
+use Rattle.file_journal.specs.Kept.{IsKept, kept_on}
 use Rattle.file_journal.specs.Position.{Position}
-use Rattle.file_journal.specs.Walk.{KeepsState, Stands, state, stands_for}
+use Rattle.file_journal.specs.Walk.{Stands}
 
 -- the entries with the uploads that are out, and the journal of their commands
 pub record StoreState : Type 0 where
   pub files : Files
   pub journal : Position
+
+-- a store by its parts
+abbrev pub state_from : Files → Position → StoreState
+state_from files journal = record { files = files; journal = journal }
 
 -- the store that it is
 abbrev pub store_in : StoreState → Store
@@ -28,16 +34,16 @@ HasFailed self = self.journal.failed ≡ true
 -- for the store after the commands that their records are, each of which the store before it allows. Octets that have no
 -- block number yet stand for the empty store of this one.
 abbrev pub standing_of : ℕ → List ℕ → Stands Store
-standing_of blocks octets = stands_for empty_store store_step store_magic blocks octets
+standing_of blocks octets = form.standing_of store_form blocks octets
 
 -- the octets stand for this store
 abbrev pub StandsFor : List ℕ → Store → Type 0
-StandsFor image store = standing_of store.blocks image ≡ state store
+StandsFor image store = form.StandsFor store_form store image
 
 -- The store has failed; or the disk's content, where it is told, and each image that a crash since this moment might have
 -- left stand for it.
 abbrev pub StandsOn : {D : Type 0} → Ghosts D → StoreState → D → Type 0
-StandsOn g self disk = KeepsState empty_store store_step g self.journal (store_in self) disk
+StandsOn g self disk = IsKept g store_form (kept_on (store_in self) self.journal disk)
 
 -- The journal has the store's magic, and was read to its end.
 pub record IsRead (journal : Position) : Type 0 where

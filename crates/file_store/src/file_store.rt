@@ -26,14 +26,15 @@ ghost use Rattle.file_store.specs.Recovery.{IsRecovered, LeavesAlikeSinceSync, R
 ghost use Rattle.file_store.specs.State.{IsRead, StandsOn, rest_in, store_in};
 ghost use Rattle.file_store.specs.Upload.{FitsWaiting, HasEntry, Holds, IsHeldWhole, IsWholeWaiting, MayResume, Upload, WaitFew, appended, appending, came, come_of, ending, kept_file, new_upload, octets_come, sealing, sealing_of, upload_of, with_bytes};
 
-use crate::put::{put_command, put_grow};
+use crate::change::EntriesChange;
+use crate::put::put_change;
 use crate::{
     AppendRefusal, BeginRefusal, Info, Limits, OpenUpload, Receipt, ResumeRefusal, SealRefusal,
     StoreFault,
 };
 use disk_model::{Disk, DiskFault};
-use file_entries::{Command, Entries, Recovered};
-use file_journal::Journal;
+use file_entries::Entries;
+use file_journal::Kept;
 use px_base::{Call, OutOfMemory};
 use std::alloc::Global;
 use std::marker::Model;
@@ -41,26 +42,22 @@ use std::marker::Model;
 /// The octets in a block.
 const BLOCK: usize = 512;
 
-/// The first eight octets of a store's disk.
-const MAGIC: [u8; 8] = *b"PXSTORE0";
-
 /// The files that are held, and where their commands stand on a disk, which it doesn't hold. Contracts see it as a
 /// `StoreState`.
 #[derive(Drop)]
 pub struct FileStore {
-    entries: Entries,
-    journal: Journal,
+    kept: Kept<Entries>,
 }
 
 impl Model for FileStore {
     ghost use Rattle.std.specs.Prelude.{◌≡◌, true};
-    ghost use Rattle.file_store.specs.State.{StoreState, IsRead};
+    ghost use Rattle.file_store.specs.State.{IsRead, StoreState, state_from};
 
     ghost Value = { StoreState };
 
-    ghost view = { λ a. record { files = a.entries.files; journal = a.journal } };
+    ghost view = { λ a. state_from a.kept.ledger.files a.kept.journal };
 
-    ghost invariant = { λ a. IsRead a.journal };
+    ghost invariant = { λ a. IsRead a.kept.journal };
 }
 
 impl FileStore {
@@ -99,13 +96,8 @@ impl FileStore {
         ensures since_start { Leaves D.Disk disk.old disk.new (StandsAlike limits.blocks) }
         ensures since_sync { LeavesAlikeSinceSync D.Disk limits.blocks result disk.old disk.new }
     {
-        let mut journal = Journal::recover(disk, MAGIC, limits.blocks)?;
-        let mut recovered = Recovered::new(alloc, journal.blocks());
-        journal.read_into(disk, &mut recovered)?;
-        Ok(FileStore {
-            entries: recovered.end(),
-            journal,
-        })
+        let kept = Kept::recover(alloc, disk, limits.blocks)?;
+        Ok(FileStore { kept })
     }
 
     /// Begins a file of `length` octets: an entry of the next number, of which no octet is held. Its upload is out then.
@@ -138,25 +130,23 @@ impl FileStore {
         ensures rests { KeepsRests self.old.files self.new.files (store_in self.old).next }
         ensures kept { KeepsComplete (store_in self.old) (store_in self.new) }
     {
-        if let Some(bar) = self.entries.begin_bar(length) {
+        if let Some(bar) = self.kept.ledger.begin_bar(length) {
             return Err(BeginRefusal::from(bar));
         }
-        if self.journal.failed() {
+        if self.kept.failed() {
             return Err(BeginRefusal::Failed);
         }
-        self.entries.reserve()?;
-        let number = self.entries.next();
-        // A crash before the record's gate is synced leaves the store without the file, and its number is given again: the
-        // caller hasn't been told of it.
-        let begin = Command::Begin {
-            number,
+        self.kept.ledger.reserve()?;
+        let number = self.kept.ledger.next();
+        let begin = EntriesChange::Begin {
             caller,
             length,
             moment,
         };
-        put_command(&mut self.journal, disk, &begin)?;
-        self.entries.begin(caller, length, moment);
-        self.entries.take_out(number);
+        // A crash before the record's gate is synced leaves the store without the file, and its number is given again: the
+        // caller hasn't been told of it.
+        put_change(&mut self.kept, disk, &begin)?;
+        self.kept.ledger.take_out(number);
         Ok(OpenUpload::new(number, caller, length, 0))
     }
 
@@ -179,7 +169,7 @@ impl FileStore {
         ensures journal { self.new.journal ≡ self.old.journal }
         ensures uploads { KeepsUploads self.old self.new }
     {
-        let Some(info) = self.entries.info(number) else {
+        let Some(info) = self.kept.ledger.info(number) else {
             return Err(ResumeRefusal::NoSuch);
         };
         if !is_theirs(&info, caller, length) {
@@ -188,10 +178,10 @@ impl FileStore {
         if info.complete {
             return Err(ResumeRefusal::Complete);
         }
-        if self.journal.failed() {
+        if self.kept.failed() {
             return Err(ResumeRefusal::Failed);
         }
-        self.entries.take_out(number);
+        self.kept.ledger.take_out(number);
         Ok(OpenUpload::new(number, caller, length, info.held))
     }
 
@@ -233,19 +223,19 @@ impl FileStore {
         if bytes.len() > self.missing(&up) {
             return Err(AppendRefusal::TooMuch(up));
         }
-        if self.journal.failed() {
+        if self.kept.failed() {
             self.park(up);
             return Err(AppendRefusal::Failed);
         }
         let number = up.number();
-        if let Err(OutOfMemory) = self.entries.bring(number, bytes) {
+        if let Err(OutOfMemory) = self.kept.ledger.bring(number, bytes) {
             return Err(AppendRefusal::OutOfMemory(up));
         }
-        let blocks = self.entries.waiting(number).len() / BLOCK;
+        let blocks = self.kept.ledger.waiting(number).len() / BLOCK;
         match self.hold_blocks(disk, number, blocks) {
             Ok(()) => Ok(up.moved_on(BLOCK * blocks)),
             Err(DiskFault) => {
-                self.entries.park(up.end());
+                self.kept.ledger.park(up.end());
                 Err(AppendRefusal::Disk)
             }
         }
@@ -292,7 +282,7 @@ impl FileStore {
         if self.missing(&up) > 0 {
             return Err(SealRefusal::Short(up));
         }
-        if self.journal.failed() {
+        if self.kept.failed() {
             self.park(up);
             return Err(SealRefusal::Failed);
         }
@@ -301,7 +291,7 @@ impl FileStore {
             Ok(None) => Ok(Receipt::of(number)),
             Ok(Some(code)) => Err(SealRefusal::Header { code }),
             Err(DiskFault) => {
-                self.entries.park(number);
+                self.kept.ledger.park(number);
                 Err(SealRefusal::Disk)
             }
         }
@@ -314,7 +304,7 @@ impl FileStore {
         ensures journal { self.new.journal ≡ self.old.journal }
         ensures uploads { KeepsOthers self.old self.new up.number }
     {
-        self.entries.park(up.end());
+        self.kept.ledger.park(up.end());
     }
 
     /// Whether the store holds this upload: it is out, and its entry is as the upload says. Takes no memory.
@@ -328,7 +318,7 @@ impl FileStore {
     fn has_entry(&self, up: &OpenUpload) -> bool
         ensures { IsTrue result ↔ HasEntry self.now up.now }
     {
-        let Some(info) = self.entries.info(up.number()) else {
+        let Some(info) = self.kept.ledger.info(up.number()) else {
             return false;
         };
         if info.complete {
@@ -344,7 +334,7 @@ impl FileStore {
     fn waits_few(&self, up: &OpenUpload) -> bool
         ensures { IsTrue result ↔ WaitFew self.now up.now }
     {
-        let waiting = self.entries.waiting(up.number()).len();
+        let waiting = self.kept.ledger.waiting(up.number()).len();
         waiting < BLOCK && waiting <= (up.length() - up.held()) as usize
     }
 
@@ -352,7 +342,7 @@ impl FileStore {
     pub fn is_out(&self, number: u32) -> bool
         ensures { IsTrue result ↔ IsOut self.now.files number }
     {
-        self.entries.is_out(number)
+        self.kept.ledger.is_out(number)
     }
 
     /// What the store tells of the entry of this number, or `None` exactly where there is none. Takes no memory.
@@ -360,28 +350,28 @@ impl FileStore {
         ensures info { result ≡ option_map info_of (entry_of (store_in self.now) number) }
         ensures rules { IsStore (store_in self.now) }
     {
-        self.entries.info(number)
+        self.kept.ledger.info(number)
     }
 
     /// The number that the next file gets. Takes no memory.
     pub fn next_number(&self) -> u32
         ensures { result ≡ (store_in self.now).next }
     {
-        self.entries.next()
+        self.kept.ledger.next()
     }
 
     /// Whether a call answered `Disk`: then the store is to be recovered anew. Takes no memory.
     pub fn failed(&self) -> bool
         ensures { result ≡ self.now.journal.failed }
     {
-        self.journal.failed()
+        self.kept.failed()
     }
 
     /// The least number above this one of a complete file, or `None` exactly where there is none. Takes no memory.
     pub fn numbers(&self, after: u32) -> Option<u32>
         ensures { IsNextComplete (store_in self.now) after result }
     {
-        self.entries.next_complete(after)
+        self.kept.ledger.next_complete(after)
     }
 
     /// Fills the room with the octets from this place on of a complete file; they have to be there. The fault comes only
@@ -407,7 +397,7 @@ impl FileStore {
         ensures stands_on { StandsOn D.Disk self.new disk.new }
     {
         let start = offset as usize;
-        let octets = self.entries.octets(number);
+        let octets = self.kept.ledger.octets(number);
         room.copy_from_slice(&octets[start..start + room.len()]);
         Ok(())
     }
@@ -431,14 +421,14 @@ impl FileStore {
         ensures stands_on { StandsOn D.Disk self.old disk.new }
         ensures* store { sem 𝓛 (Rests the_row self.entry (λ new. new ≡ self.old)) }
     {
-        Ok(self.entries.header(number))
+        Ok(self.kept.ledger.header(number))
     }
 
     /// Its journal has the store's magic, and was read to its end.
     pub(crate) fn read_law(&self)
         ensures { IsRead self.now.journal }
     {
-        let _failed = self.journal.failed();
+        let _failed = self.kept.failed();
     }
 
     /// How many octets of the upload's file are still to come.
@@ -446,7 +436,7 @@ impl FileStore {
         requires { Holds self.now up.now }
         ensures missing { came self.now up.now + result ≡ up.now.length }
     {
-        let waiting = self.entries.waiting(up.number()).len();
+        let waiting = self.kept.ledger.waiting(up.number()).len();
         (up.length() - up.held()) as usize - waiting
     }
 
@@ -486,11 +476,8 @@ impl FileStore {
         ensures rest { OnOk result (rest_in self.new number ≡ option_map (drop count) (rest_in self.old number)) }
         ensures rests { KeepsRests self.old.files self.new.files number }
     {
-        let octets = &self.entries.waiting(number)[..count];
         // A crash before the record's gate is synced leaves the octets not held: the entry says that they are only after it.
-        put_grow(&mut self.journal, disk, number, octets)?;
-        self.entries.hold(number, count);
-        Ok(())
+        put_change(&mut self.kept, disk, &EntriesChange::Hold { number, count })
     }
 
     /// Ends the file of this number, of which all octets came: those that wait become held, and it is sealed, or dropped
@@ -511,7 +498,7 @@ impl FileStore {
         ensures rests { KeepsRests self.old.files self.new.files number }
     {
         self.hold_rest(disk, number)?;
-        self.entries.park(number);
+        self.kept.ledger.park(number);
         self.seal_or_drop(disk, number, moment)
     }
 
@@ -525,7 +512,7 @@ impl FileStore {
             (last_grow number (octets_or_none (rest_in self.old number))) }
         ensures rests { KeepsRests self.old.files self.new.files number }
     {
-        let waiting = self.entries.waiting(number).len();
+        let waiting = self.kept.ledger.waiting(number).len();
         if waiting == 0 {
             return Ok(());
         }
@@ -550,7 +537,7 @@ impl FileStore {
         ensures rest { OnOk result (rest_in self.new number ≡ None) }
         ensures rests { KeepsRests self.old.files self.new.files number }
     {
-        match self.entries.fault(number) {
+        match self.kept.ledger.fault(number) {
             None => {
                 self.seal_entry(disk, number, moment)?;
                 Ok(None)
@@ -579,9 +566,11 @@ impl FileStore {
     {
         // A crash before the record's gate is synced leaves the file whole and under way: the caller goes on with it and
         // ends it again. No receipt is given before.
-        put_command(&mut self.journal, disk, &Command::Seal { number, moment })?;
-        self.entries.seal(number, moment);
-        Ok(())
+        put_change(
+            &mut self.kept,
+            disk,
+            &EntriesChange::Seal { number, moment },
+        )
     }
 
     /// Drops the entry of this number, which is under way.
@@ -594,9 +583,7 @@ impl FileStore {
         ensures rests { KeepsRests self.old.files self.new.files number }
     {
         // A crash before the record's gate is synced leaves the file whole and under way; it is found faulty again.
-        put_command(&mut self.journal, disk, &Command::Drop { number })?;
-        self.entries.drop_entry(number);
-        Ok(())
+        put_change(&mut self.kept, disk, &EntriesChange::Drop { number })
     }
 }
 

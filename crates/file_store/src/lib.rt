@@ -5,6 +5,7 @@
 //! caller can say anything of it. A crash leaves the store after the first of the commands, none skipped.
 #![tactic(auto)]
 
+mod change;
 mod file_store;
 pub mod laws;
 mod limits;

@@ -1,53 +1,39 @@
-//! A command's record on the disk.
+//! A change of the entries, put on the disk.
 
-ghost use Rattle.std.specs.Prelude.{◌≡◌, ◌≤◌, length, true, false};
-ghost use Rattle.file_journal.specs.Position.{StandsOn as journal_stands_on};
-ghost use Rattle.file_entries.specs.Command.{grow};
-ghost use Rattle.file_entries.specs.Commands.{command_value};
-ghost use Rattle.file_entries.specs.Records.{IsWritable, store_magic};
-ghost use Rattle.file_store.specs.Putting.{PutsCommand};
+ghost use Rattle.std.specs.Prelude.{◌≡◌, ◌∷◌, [], false, IsErr, OnErr, OnOk};
+ghost use Rattle.file_entries.specs.Command.{after};
+ghost use Rattle.file_entries.specs.Files.{Becomes, store_of};
+ghost use Rattle.file_store.specs.Changes.{MayMake, command_by, number_by, rest_by};
+ghost use Rattle.file_store.specs.OnDisk.{Does};
+ghost use Rattle.file_store.specs.State.{IsRead, StandsOn, state_from};
 
-use arrayvec::ArrayVec;
+use crate::change::EntriesChange;
 use disk_model::{Disk, DiskFault};
-use file_entries::Command;
-use file_journal::Journal;
+use file_entries::Entries;
+use file_journal::Kept;
 
-/// Puts the record of a command at the end of the journal of a store that allows it. After `Ok` a crash leaves the store
-/// after the command, until then and after a fault that or the one before it. Two writes and two syncs. Takes no memory.
-pub(crate) fn put_command<D: Disk>(
-    journal: &mut Journal,
+/// Makes a change of the entries that may be made, of a store that hasn't failed. After `Ok` a crash leaves the store
+/// after its command, until then and after a fault that or the one before it. Two writes and two syncs. Takes no memory.
+pub(crate) fn put_change<D: Disk>(
+    kept: &mut Kept<Entries>,
     disk: &mut D,
-    command: &Command<'_>,
+    change: &EntriesChange,
 ) -> Result<(), DiskFault>
-    requires stands_on { journal_stands_on D.Disk journal.old disk.old }
-    requires ended { journal.old.ended ≡ true }
-    requires healthy { journal.old.failed ≡ false }
-    requires magic { journal.old.magic ≡ store_magic }
-    requires writable { IsWritable (command_value command.now) }
-    ensures { PutsCommand D.Disk journal.old journal.new disk.old disk.new (command_value command.now) result }
+    requires stands_on { StandsOn D.Disk (state_from kept.old.ledger.files kept.old.journal) disk.old }
+    requires read { IsRead kept.old.journal }
+    requires healthy { kept.old.journal.failed ≡ false }
+    requires may { MayMake change.now kept.old.ledger }
+    ensures does { Does D.Disk (IsErr result) (state_from kept.old.ledger.files kept.old.journal)
+        (state_from kept.new.ledger.files kept.new.journal) disk.old disk.new
+        (command_by change.now kept.old.ledger.files ∷ []) }
+    ensures read { IsRead kept.new.journal }
+    ensures makes { OnOk result (Becomes kept.old.ledger.files kept.new.ledger.files
+        (after (store_of kept.old.ledger.files) (command_by change.now kept.old.ledger.files))
+        (number_by change.now kept.old.ledger.files) (rest_by change.now kept.old.ledger.files)) }
+    ensures err { OnErr result (kept.new.ledger ≡ kept.old.ledger) }
 {
-    let mut content = ArrayVec::new();
-    let kind = command.write(&mut content);
-    match journal.append(disk, kind, content.as_slice()) {
+    match kept.put(disk, change) {
         Ok(()) => Ok(()),
         Err(_) => Err(DiskFault),
     }
-}
-
-/// Puts the record of a Grow of these octets, 1 to 512, in the same way.
-pub(crate) fn put_grow<D: Disk>(
-    journal: &mut Journal,
-    disk: &mut D,
-    number: u32,
-    octets: &[u8],
-) -> Result<(), DiskFault>
-    requires stands_on { journal_stands_on D.Disk journal.old disk.old }
-    requires ended { journal.old.ended ≡ true }
-    requires healthy { journal.old.failed ≡ false }
-    requires magic { journal.old.magic ≡ store_magic }
-    requires some { 1 ≤ length octets.now }
-    requires most { length octets.now ≤ 512 }
-    ensures { PutsCommand D.Disk journal.old journal.new disk.old disk.new (grow number octets.now) result }
-{
-    put_command(journal, disk, &Command::Grow { number, octets })
 }

@@ -1,13 +1,12 @@
 //! Why a call of the store did not do what it was asked.
 
 ghost use Rattle.std.specs.Prelude.{◌≡◌};
-ghost use Rattle.file_store.specs.Refusals.{fault_of_read, fault_of_recovery, refusal_of_bar};
+ghost use Rattle.file_store.specs.Refusals.{fault_of_kept, refusal_of_bar};
 ghost use Rattle.file_store.specs.declared.refusals.BeginRefusal.TheVariants.{Disk as begin_disk, OutOfMemory as begin_memory};
 
 use crate::OpenUpload;
 use disk_model::DiskFault;
 use file_entries::BeginBar;
-use file_journal::{ReadFault, RecoverFault};
 use px_base::OutOfMemory;
 use thiserror::Error;
 
@@ -35,26 +34,15 @@ pub enum StoreFault {
     OutOfMemory,
 }
 
-impl From<RecoverFault> for StoreFault {
-    ghost from_gives = { λ fault result. result ≡ fault_of_recovery fault };
+impl From<file_journal::StoreFault> for StoreFault {
+    ghost from_gives = { λ fault result. result ≡ fault_of_kept fault };
 
-    fn from(fault: RecoverFault) -> StoreFault {
+    fn from(fault: file_journal::StoreFault) -> StoreFault {
         match fault {
-            RecoverFault::NotAStore { found } => StoreFault::NotAStore { found },
-            RecoverFault::Damaged { at } => StoreFault::Damaged { at },
-            RecoverFault::Disk => StoreFault::Disk,
-        }
-    }
-}
-
-impl From<ReadFault> for StoreFault {
-    ghost from_gives = { λ fault result. result ≡ fault_of_read fault };
-
-    fn from(fault: ReadFault) -> StoreFault {
-        match fault {
-            ReadFault::Damaged { at } => StoreFault::Damaged { at },
-            ReadFault::Disk => StoreFault::Disk,
-            ReadFault::OutOfMemory => StoreFault::OutOfMemory,
+            file_journal::StoreFault::NotAStore { found } => StoreFault::NotAStore { found },
+            file_journal::StoreFault::Damaged { at } => StoreFault::Damaged { at },
+            file_journal::StoreFault::Disk => StoreFault::Disk,
+            file_journal::StoreFault::OutOfMemory => StoreFault::OutOfMemory,
         }
     }
 }

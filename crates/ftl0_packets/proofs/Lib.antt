@@ -1,5 +1,6 @@
 mod InformationLemmas
 pub mod OctetLemmas
 mod ReaderLemmas
+pub mod SplitLemmas
 mod StreamLemmas
 mod TextLemmas

@@ -1,12 +1,14 @@
 mod AllPlaces
 mod EmptiesLemmas
 mod EndLemmas
-pub mod FitsLemmas
+mod FitsLemmas
+mod HappeningLemmas
 mod HearLemmas
 mod NextLemmas
+pub mod Offered
 mod OutLemmas
 mod PlaceLemmas
-pub mod QueuedLemmas
+mod QueuedLemmas
 mod SeatLemmas
 mod SettledLemmas
 mod StartLemmas

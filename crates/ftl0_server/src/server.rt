@@ -90,6 +90,7 @@ impl Server {
         ensures recovered { IfOk result (λ server. IsRecovered D.Disk limits.blocks disk.old disk.new server.store) }
         ensures server { IfOk result (λ server.
             IsServer server (new_server me (window_of k) (store_in server.store))) }
+        ensures magic { IfOk result (λ server. server.store.journal.magic ≡ store_magic) }
         ensures rules { IfOk result (λ server. IsStore (store_in server.store)) }
         ensures silent { IfOk result (λ server. server_pending server ≡ false) }
         ensures me { IfOk result (λ server. server.me ≡ me) }

@@ -1,9 +1,12 @@
+mod AnsweringLemmas
+mod BroughtLemmas
 mod DownloadLemmas
 mod FaultLemmas
 mod FillLemmas
 mod LawLemmas
-pub mod RowLemmas
-pub mod RunLemmas
+pub mod Offered
+mod RowLemmas
+mod RunLemmas
 mod TakenLemmas
 mod UploadLemmas
 pub mod WorkingLemmas

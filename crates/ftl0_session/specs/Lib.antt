@@ -1,3 +1,4 @@
+pub mod Answering
 pub mod DownloadLaws
 pub mod Downloads
 pub mod Filling

@@ -13,12 +13,13 @@ use Rattle.file_store.specs.State.{standing_of}
 use Rattle.file_store.specs.Working.{CountsSome}
 use Rattle.file_store.specs.declared.refusals.StoreFault.{StoreFault}
 use Rattle.file_store.specs.declared.refusals.StoreFault.TheVariants as fault
-use Rattle.session_node.specs.SessionRan.{SessionEnds, SessionRan}
-use Rattle.session_node.specs.Stops.{HasAirCause, EndsExactly, RefusesSession, stop_of_fault}
-use Rattle.session_node.specs.declared.stop.NodeStop.{NodeStop}
-use Rattle.session_node.specs.declared.stop.NodeStop.TheVariants as stop
-use Rattle.session_node.specs.declared.terms.Served.{Served}
-use Rattle.session_node.specs.declared.terms.SessionTerms.{SessionTerms}
+use Rattle.node.specs.Lent.{lent, seen}
+use Rattle.server_node.specs.Sessions.SessionRan.{SessionEnds, SessionRan}
+use Rattle.server_node.specs.Stops.{HasAirCause, EndsExactly, RefusesSession, stop_of_fault}
+use Rattle.server_node.specs.declared.stop.NodeStop.{NodeStop}
+use Rattle.server_node.specs.declared.stop.NodeStop.TheVariants as stop
+use Rattle.server_node.specs.declared.terms.Served.{Served}
+use Rattle.server_node.specs.declared.terms.SessionTerms.{SessionTerms}
 use Rattle.pacsat_cli.specs.Sessions.{OverMemory}
 use Rattle.pacsat_cli.specs.Stops.{status_in_memory, status_of}
 
@@ -52,32 +53,28 @@ module _ {A C : Type 0} (g : Ghosts MemoryDisk) (air : AirGhosts A) (given : C �
   refused fault.Disk is same clock_same = inl (ap (λ (r : Result Served NodeStop). status_in_memory (status_of r)) is, same, clock_same)
   refused fault.OutOfMemory is same clock_same = inl (ap (λ (r : Result Served NodeStop). status_in_memory (status_of r)) is, same, clock_same)
 
-  pub over-memory : disk_state disk ≡ new_state [] [] → ((d : MemoryDisk) → g.read_faults d ≡ read_faults d) → SessionEnds g air given disk disk_now before now clock clock_n terms ended
+  pub over-memory : disk_state disk ≡ new_state [] [] → ((d : MemoryDisk) → g.read_faults d ≡ read_faults d) → SessionEnds (seen g air given) (lent disk before clock) (lent disk_now now clock_n) terms ended
       → OverMemory air given before now clock clock_n terms (status_in_memory (status_of ended))
-  over-memory is_new counts_so (inl h) = refused h.fault h.answer h.air h.clock_is
+  over-memory is_new counts_so (inl h) = refused h.fault h.answer h.air h.clock
   over-memory is_new counts_so (inr h) =
       let P : Option (List ℕ) → Type 0 = λ o. IfSome o (λ octets. standing_of terms.limits.blocks octets ≡ state h.start) in
       let start_is = state-same h.start (empty_store terms.limits.blocks) (sym (subst P fresh h.stood) ∙ fresh-stands terms.limits.blocks) in
-      let Q : Store → Type 0 = λ s. SessionRan terms.caller h.moments s terms.polls h.turns (air.write_faults before) (air.write_faults now) h.text h.done h.cut h.missed ended in
+      let Q : Store → Type 0 = λ s. SessionRan terms s h.run ended in
       inr
       (record {
         ended = ended;
-        turns = h.turns;
-        moments = h.moments;
-        text = h.text;
-        done = h.done;
-        cut = h.cut;
-        missed = h.missed;
+        run = h.run;
         turns_heard = h.turns_heard;
         moments_given = h.moments_given;
         text_said = h.text_said;
+        is_unsaid = h.is_unsaid;
         ran = subst Q start_is h.ran;
         fresh = disk;
         is_fresh = is_new;
         used = disk_now;
         reads =
-            let at_first : ℕ → Type 0 = λ n. CountsSome n (read_faults disk_now) h.missed in
-            let at_last : ℕ → Type 0 = λ n. CountsSome (g.read_faults disk) n h.missed in
+            let at_first : ℕ → Type 0 = λ n. CountsSome n (read_faults disk_now) h.run.all.missed in
+            let at_last : ℕ → Type 0 = λ n. CountsSome (g.read_faults disk) n h.run.all.missed in
             subst at_first (counts_so disk) (subst at_last (counts_so disk_now) h.reads);
         counts = counts;
         status_is = refl;

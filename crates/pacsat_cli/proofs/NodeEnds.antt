@@ -10,12 +10,12 @@ use Rattle.file_store.specs.State.{standing_of}
 use Rattle.file_store.specs.Working.{PutsAmongReads}
 use Rattle.file_store.specs.declared.refusals.StoreFault.{StoreFault}
 use Rattle.file_store.specs.declared.refusals.StoreFault.TheVariants as fault
-use Rattle.session_node.specs.OnDisk.{NodeRuns}
-use Rattle.session_node.specs.SessionRan.{TurnsBy}
-use Rattle.session_node.specs.Stops.{CountsBy, EndsExactly, RefusesSession, stop_of_fault}
-use Rattle.session_node.specs.declared.stop.NodeStop.{NodeStop}
-use Rattle.session_node.specs.declared.stop.NodeStop.TheVariants as stop
-use Rattle.session_node.specs.declared.terms.Served.{Served}
+use Rattle.server_node.specs.OnDisk.{NodeRuns}
+use Rattle.server_node.specs.Served.{TurnsBy}
+use Rattle.server_node.specs.Stops.{CountsBy, EndsExactly, RefusesSession, stop_of_fault}
+use Rattle.server_node.specs.declared.stop.NodeStop.{NodeStop}
+use Rattle.server_node.specs.declared.stop.NodeStop.TheVariants as stop
+use Rattle.server_node.specs.declared.terms.Served.{Served}
 use Rattle.command_words.specs.Words.{AsksClient}
 use Rattle.pacsat_cli.specs.declared.status.Status.{Status}
 use Rattle.pacsat_cli.specs.declared.status.Status.TheVariants as status

@@ -15,6 +15,7 @@ use Rattle.command_words.specs.Words.{AsksClient, AsksMake, IsServe, IsSession, 
 use Rattle.command_words.specs.declared.request.Refusal.{Refusal}
 use Rattle.command_words.specs.declared.request.Refusal.TheVariants as refusal
 use Rattle.header_tool.specs.Made.{MakeValue}
+use Rattle.node.specs.Lent.{lent, seen}
 use Rattle.pacsat_cli.specs.declared.status.Status.{Status}
 use Rattle.pacsat_cli.specs.declared.status.Status.TheVariants as status
 use Rattle.pacsat_cli.specs.declared.files.FileCommand.{FileCommand}
@@ -108,10 +109,10 @@ module _ (words : List (List ℕ)) (only : OnlyOne words) where
 
   module _ (why : Refusal) (h : MeansOf words why) where
     module _ {A : Type 0} (air : AirGhosts A) (before : A) where
-      pub refused-session : {C D : Type 0} (g : Ghosts D) (given : C → Option (List ℕ)) (disk : D) (clock : C) → RunsSession words g air given disk disk before before clock clock (status_of_refusal why)
+      pub refused-session : {C D : Type 0} (g : Ghosts D) (given : C → Option (List ℕ)) (disk : D) (clock : C) → RunsSession words (seen g air given) (lent disk before clock) (lent disk before clock) (status_of_refusal why)
       refused-session g given disk clock = λ asked is. inl ((session-memory why h asked is, refl, refl), refl)
 
-      pub refused-serve : {C D : Type 0} (g : Ghosts D) (given : C → Option (List ℕ)) (disk : D) (clock : C) → RunsServe words g air given disk disk before before clock clock (status_of_refusal why)
+      pub refused-serve : {C D : Type 0} (g : Ghosts D) (given : C → Option (List ℕ)) (disk : D) (clock : C) → RunsServe words (seen g air given) (lent disk before clock) (lent disk before clock) (status_of_refusal why)
       refused-serve g given disk clock = λ asked is. inl ((serve-memory why h asked is, refl, refl), refl)
 
       -- words that ask for a session or a service were refused before anything was heard

@@ -4,6 +4,7 @@ use Rattle.std.specs.Prelude.{Option, IfSome}
 use Rattle.px_base.specs.declared.air.Air.{Ghosts as AirGhosts}
 use Rattle.disk_model.specs.declared.disk.Disk.{Ghosts}
 use Rattle.file_store.specs.State.{standing_of}
+use Rattle.node.specs.Lent.{lent, seen}
 use Rattle.command_words.specs.declared.serve.ServeRequest.{ServeRequest}
 use Rattle.command_words.specs.Laws.{Determined, OnlyOne}
 use Rattle.command_words.specs.Words.{IsServe}
@@ -15,7 +16,7 @@ use Rattle.pacsat_cli.proofs.Ended.{mended-disk}
 use Rattle.pacsat_cli.proofs.NodeEnds.{Goes, OnDisk, is_node_status, node-complete, node-done, node-not, node-read, node-spent, node-write, on_disk-cause, on_disk-exact, on_disk-goes}
 
 module _ {A C D : Type 0} (g : Ghosts D) (air : AirGhosts A) (given : C → Option (List ℕ)) (disk disk_now : D) (before now : A) (clock clock_n : C) (asked : ServeRequest) (s : Status) where
-  serve-on_disk : IsServedOver g air given disk disk_now before now clock clock_n (serve_terms asked) s → OnDisk g air asked.blocks asked.polls disk disk_now before now s
+  serve-on_disk : IsServedOver (seen g air given) (lent disk before clock) (lent disk_now now clock_n) (serve_terms asked) s → OnDisk g air asked.blocks asked.polls disk disk_now before now s
   serve-on_disk over = record {
     ended = over.ended;
     refuses = over.refuses;
@@ -29,7 +30,7 @@ module _ {A C D : Type 0} (g : Ghosts D) (air : AirGhosts A) (given : C → Opti
                 served.puts,
                 record {
                   ended = over.ended;
-                  turns = served.turns;
+                  turns = served.run.turns;
                   turns_heard = served.turns_heard;
                   ends = served.ran.ends;
                   counts = over.counts;
@@ -44,7 +45,7 @@ module _ {A C D : Type 0} (g : Ghosts D) (air : AirGhosts A) (given : C → Opti
     one : (other : ServeRequest) → IsServe words other → asked ≡ other
     one other is = determined.serve asked other asks is
 
-    module _ (over : IsServedOver g air given disk disk_now before now clock clock_n (serve_terms asked) s) where
+    module _ (over : IsServedOver (seen g air given) (lent disk before clock) (lent disk_now now clock_n) (serve_terms asked) s) where
       on_disk : OnDisk g air asked.blocks asked.polls disk disk_now before now s
       on_disk = serve-on_disk over
 
@@ -62,9 +63,9 @@ module _ {A C D : Type 0} (g : Ghosts D) (air : AirGhosts A) (given : C → Opti
       serve-not = node-not air before now s asked.polls false goes
 
       -- the words ask for this service alone
-      pub serve-runs : RunsServe words g air given disk disk_now before now clock clock_n s
+      pub serve-runs : RunsServe words (seen g air given) (lent disk before clock) (lent disk_now now clock_n) s
       serve-runs = λ other is.
-          let P : ServeRequest → Type 0 = λ r. IsServedOver g air given disk disk_now before now clock clock_n (serve_terms r) s in
+          let P : ServeRequest → Type 0 = λ r. IsServedOver (seen g air given) (lent disk before clock) (lent disk_now now clock_n) (serve_terms r) s in
           inr (subst P (one other is) over)
 
       pub serve-complete : WhereServed words air.heard before now (IsDoneBy s)

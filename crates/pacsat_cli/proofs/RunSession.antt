@@ -4,6 +4,7 @@ use Rattle.std.specs.Prelude.{Option, Some, None, IsSome, IfSome}
 use Rattle.px_base.specs.declared.air.Air.{Ghosts as AirGhosts}
 use Rattle.disk_model.specs.declared.disk.Disk.{Ghosts}
 use Rattle.file_store.specs.State.{standing_of}
+use Rattle.node.specs.Lent.{lent, seen}
 use Rattle.command_words.specs.declared.disk.DiskWord.{DiskWord}
 use Rattle.command_words.specs.declared.disk.DiskWord.TheVariants.{Fresh, Named}
 use Rattle.command_words.specs.declared.request.SessionRequest.{SessionRequest}
@@ -47,7 +48,7 @@ module _ (words : List (List ℕ)) (asked : SessionRequest) (asks : IsSession wo
 
 module _ {A C D : Type 0} (g : Ghosts D) (air : AirGhosts A) (given : C → Option (List ℕ)) (disk disk_now : D) (before now : A) (clock clock_n : C) (asked : SessionRequest) (s : Status) where
   -- over the disk that DISK names it is as a service is
-  session-on_disk : OverNamed Named g air given disk disk_now before now clock clock_n (run_terms asked) s → OnDisk g air asked.blocks asked.polls disk disk_now before now s
+  session-on_disk : OverNamed Named (seen g air given) (lent disk before clock) (lent disk_now now clock_n) (run_terms asked) s → OnDisk g air asked.blocks asked.polls disk disk_now before now s
   session-on_disk over = record {
     ended = over.ended;
     refuses = over.refuses;
@@ -61,7 +62,7 @@ module _ {A C D : Type 0} (g : Ghosts D) (air : AirGhosts A) (given : C → Opti
                 served.puts,
                 record {
                   ended = over.ended;
-                  turns = served.turns;
+                  turns = served.run.turns;
                   turns_heard = served.turns_heard;
                   ends = served.ran.ends;
                   counts = over.counts;
@@ -71,7 +72,7 @@ module _ {A C D : Type 0} (g : Ghosts D) (air : AirGhosts A) (given : C → Opti
         ];
   }
 
-  goes-by : (word : DiskWord) → OverNamed word g air given disk disk_now before now clock clock_n (run_terms asked) s → Goes air asked.polls (is_memory word) before now s
+  goes-by : (word : DiskWord) → OverNamed word (seen g air given) (lent disk before clock) (lent disk_now now clock_n) (run_terms asked) s → Goes air asked.polls (is_memory word) before now s
   goes-by Named over = on_disk-goes g air asked.blocks asked.polls disk disk_now before now s (session-on_disk over)
   goes-by Fresh over =
       elim over.1 [
@@ -80,7 +81,7 @@ module _ {A C D : Type 0} (g : Ghosts D) (air : AirGhosts A) (given : C → Opti
             inr
             (record {
               ended = served.ended;
-              turns = served.turns;
+              turns = served.run.turns;
               turns_heard = served.turns_heard;
               ends = served.ran.ends;
               counts = served.counts;
@@ -89,22 +90,22 @@ module _ {A C D : Type 0} (g : Ghosts D) (air : AirGhosts A) (given : C → Opti
       ]
 
   -- over one in memory no fault of the disk is answered, and no content is refused
-  memory-disk : OverNamed Fresh g air given disk disk_now before now clock clock_n (run_terms asked) s → s ≡ status.Disk → ⊥
+  memory-disk : OverNamed Fresh (seen g air given) (lent disk before clock) (lent disk_now now clock_n) (run_terms asked) s → s ≡ status.Disk → ⊥
   memory-disk over e =
       elim over.1 [
         | inl none ↦ (let told = sym none.0 ∙ e in cc)
         | inr served ↦ memory-not_disk (status_of served.ended) (sym served.status_is ∙ e)
       ]
 
-  memory-not_bad : OverNamed Fresh g air given disk disk_now before now clock clock_n (run_terms asked) s → (why : BadStore) → s ≡ status.BadStore why → ⊥
+  memory-not_bad : OverNamed Fresh (seen g air given) (lent disk before clock) (lent disk_now now clock_n) (run_terms asked) s → (why : BadStore) → s ≡ status.BadStore why → ⊥
   memory-not_bad over why e =
       elim over.1 [
         | inl none ↦ (let told = sym none.0 ∙ e in cc)
-        | inr served ↦ heard-not_bad true served.ended asked.polls served.turns why served.ran.ends (mended-memory served.ended ∙ sym served.status_is ∙ e)
+        | inr served ↦ heard-not_bad true served.ended asked.polls served.run.turns why served.ran.ends (mended-memory served.ended ∙ sym served.status_is ∙ e)
       ]
 
   -- the disk's counts by how the session ended
-  disk-cause : (words : List (List ℕ)) (word : DiskWord) → (word ≡ Named → AsksStore words) → OverNamed word g air given disk disk_now before now clock clock_n (run_terms asked) s → HasDiskCause words g.read_faults g.write_faults disk disk_now before now s
+  disk-cause : (words : List (List ℕ)) (word : DiskWord) → (word ≡ Named → AsksStore words) → OverNamed word (seen g air given) (lent disk before clock) (lent disk_now now clock_n) (run_terms asked) s → HasDiskCause words g.read_faults g.write_faults disk disk_now before now s
   disk-cause words Named names over = on_disk-cause g air asked.blocks asked.polls disk disk_now before now s (session-on_disk over) words (names refl)
   disk-cause words Fresh names over = record {
     asked = λ e. absurd (memory-disk over e);
@@ -119,7 +120,7 @@ module _ {A C D : Type 0} (g : Ghosts D) (air : AirGhosts A) (given : C → Opti
     one : (other : SessionRequest) → IsSession words other → asked ≡ other
     one other is = determined.session asked other asks is
 
-    store-cause : (word : DiskWord) → asked.disk ≡ word → OverNamed word g air given disk disk_now before now clock clock_n (run_terms asked) s → HasStoreCause words (g.content disk) s
+    store-cause : (word : DiskWord) → asked.disk ≡ word → OverNamed word (seen g air given) (lent disk before clock) (lent disk_now now clock_n) (run_terms asked) s → HasStoreCause words (g.content disk) s
     store-cause Named is over = record {
       asked = λ _ _. inl (inl (asked, asks, is));
       exact = λ other asks_other named disk_not memory_not.
@@ -136,7 +137,7 @@ module _ {A C D : Type 0} (g : Ghosts D) (air : AirGhosts A) (given : C → Opti
       exact_notes = λ client _ _ _. absurd (only.session_client (asked, asks) client);
     }
 
-    alone : (word : DiskWord) → asked.disk ≡ word → OverNamed word g air given disk disk_now before now clock clock_n (run_terms asked) s → (AsksDisk words → ⊥) → disk_now ≡ disk
+    alone : (word : DiskWord) → asked.disk ≡ word → OverNamed word (seen g air given) (lent disk before clock) (lent disk_now now clock_n) (run_terms asked) s → (AsksDisk words → ⊥) → disk_now ≡ disk
     alone Named is over none = absurd (none (inl (inl (asked, asks, is))))
     alone Fresh is over none = over.0
 
@@ -148,7 +149,7 @@ module _ {A C D : Type 0} (g : Ghosts D) (air : AirGhosts A) (given : C → Opti
     store-by Named is memory = inl (asked, asks, is)
     store-by Fresh is memory = absurd (cc)
 
-    module _ (over : IsOver asked g air given disk disk_now before now clock clock_n s) where
+    module _ (over : IsOver asked (seen g air given) (lent disk before clock) (lent disk_now now clock_n) s) where
       goes : Goes air asked.polls (is_memory asked.disk) before now s
       goes = goes-by asked.disk over
 
@@ -157,9 +158,9 @@ module _ {A C D : Type 0} (g : Ghosts D) (air : AirGhosts A) (given : C → Opti
       session-not = node-not air before now s asked.polls (is_memory asked.disk) goes
 
       -- the words ask for this session alone
-      pub session-runs : RunsSession words g air given disk disk_now before now clock clock_n s
+      pub session-runs : RunsSession words (seen g air given) (lent disk before clock) (lent disk_now now clock_n) s
       session-runs = λ other is.
-          let P : SessionRequest → Type 0 = λ r. IsOver r g air given disk disk_now before now clock clock_n s in
+          let P : SessionRequest → Type 0 = λ r. IsOver r (seen g air given) (lent disk before clock) (lent disk_now now clock_n) s in
           inr (subst P (one other is) over)
 
       pub session-alone : (AsksDisk words → ⊥) → disk_now ≡ disk

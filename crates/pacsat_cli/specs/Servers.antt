@@ -1,14 +1,13 @@
 -- What a run of the program did as a server, by its words, by what was heard, and by its disk.
 use Rattle.std.specs.Prelude.{◌≡◌, ◌⊎◌, ℕ, List, ◌++◌, Option, Some, Result, IsErrOf}
-use Rattle.px_base.specs.declared.air.Air.{Ghosts as AirGhosts}
 use Rattle.px_base.specs.declared.air.Turn.{Turn}
-use Rattle.disk_model.specs.declared.disk.Disk.{Ghosts}
-use Rattle.session_node.specs.OnDisk.{NodeRuns}
-use Rattle.session_node.specs.Stops.{HasAirCause, RefusesSession}
-use Rattle.session_node.specs.declared.stop.NodeStop.{NodeStop}
-use Rattle.session_node.specs.declared.stop.NodeStop.TheVariants as stop
-use Rattle.session_node.specs.declared.terms.Served.{Served}
-use Rattle.server_node.specs.Served.{ServerEnds}
+use Rattle.node.specs.Lent.{Lent, Seen}
+use Rattle.server_node.specs.OnDisk.{NodeRuns}
+use Rattle.server_node.specs.Stops.{HasAirCause, RefusesSession}
+use Rattle.server_node.specs.declared.stop.NodeStop.{NodeStop}
+use Rattle.server_node.specs.declared.stop.NodeStop.TheVariants as stop
+use Rattle.server_node.specs.declared.terms.Served.{Served}
+use Rattle.server_node.specs.OnAir.Served.{ServerEnds}
 use Rattle.server_node.specs.declared.terms.ServerTerms.{ServerTerms}
 use Rattle.command_words.specs.declared.serve.ServeRequest.{ServeRequest}
 use Rattle.command_words.specs.Words.{IsServe}
@@ -23,23 +22,21 @@ serve_terms asked =
 
 -- A server of these terms served over this disk, or the recovery of its store was refused: what was said to what was
 -- heard, what stands on the disk at each moment, and why it ended, as the status says.
-pub record IsServedOver {A C D : Type 0} (g : Ghosts D) (air : AirGhosts A) (given : C → Option (List ℕ))
-    (disk disk_now : D) (before now : A) (clock clock_now : C) (terms : ServerTerms) (status : Status) : Type 0 where
+pub record IsServedOver {A C D : Type 0} (seen : Seen D A C) (old new : Lent D A C) (terms : ServerTerms)
+    (status : Status) : Type 0 where
   pub ended : Result Served NodeStop
-  pub refuses : RefusesSession terms.limits.blocks (g.content disk) ended
-  pub ends : ServerEnds g air given disk disk_now before now clock clock_now terms ended
-  pub counts : HasAirCause air.read_faults air.write_faults before now ended
-  pub runs : NodeRuns g (IsErrOf ended stop.Disk) disk disk_now
+  pub refuses : RefusesSession terms.limits.blocks (seen.disk.content old.disk) ended
+  pub ends : ServerEnds seen old new terms ended
+  pub counts : HasAirCause seen.air.read_faults seen.air.write_faults old.air new.air ended
+  pub runs : NodeRuns seen.disk (IsErrOf ended stop.Disk) old.disk new.disk
   pub status_is : status ≡ status_of ended
 
 -- Where the words ask for a service, it is served so; or there was no memory to read the words, and nothing was touched.
-abbrev pub RunsServe :
-    {A C D : Type 0} → List (List ℕ) → Ghosts D → AirGhosts A → (C → Option (List ℕ)) → D → D → A → A → C → C → Status
-    → Type 0
-RunsServe words g air given disk disk_now before now clock clock_now status =
+abbrev pub RunsServe : {A C D : Type 0} → List (List ℕ) → Seen D A C → Lent D A C → Lent D A C → Status → Type 0
+RunsServe words seen old new status =
     (asked : ServeRequest) → IsServe words asked
-    → (IsUntouched before now clock clock_now status × (disk_now ≡ disk))
-    ⊎ IsServedOver g air given disk disk_now before now clock clock_now (serve_terms asked) status
+    → (IsUntouched old.air new.air old.clock new.clock status × (new.disk ≡ old.disk))
+    ⊎ IsServedOver seen old new (serve_terms asked) status
 
 -- The words ask for a service, and what is told of the air, before and now, gives the turns of the run.
 pub record ServeHeard {A : Type 0} (words : List (List ℕ)) (heard : A → Option (List Turn)) (before now : A) : Type 0 where

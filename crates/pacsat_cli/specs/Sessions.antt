@@ -9,21 +9,22 @@ use Rattle.px_base.specs.declared.air.Turn.{Turn}
 use Rattle.px_base.specs.declared.air.Turn.TheVariants as turn
 use Rattle.disk_model.specs.Calls.{new_state}
 use Rattle.disk_model.specs.Memory.{read_faults, state}
-use Rattle.disk_model.specs.declared.disk.Disk.{Ghosts}
 use Rattle.disk_model.specs.declared.memory_disk.MemoryDisk.{MemoryDisk}
 use Rattle.uploader.specs.State.{standing_of as notes_standing}
 use Rattle.file_store.specs.Walk.{Stands, damaged_at, no_store}
-use Rattle.file_store.specs.Command.{Command}
 use Rattle.file_store.specs.Store.{empty_store}
 use Rattle.file_store.specs.State.{standing_of}
 use Rattle.file_store.specs.Working.{CountsSome}
-use Rattle.session_node.specs.OnDisk.{NodeRuns}
-use Rattle.session_node.specs.SessionRan.{SessionEnds, SessionRan}
-use Rattle.session_node.specs.Stops.{HasAirCause, RefusesSession}
-use Rattle.session_node.specs.declared.stop.NodeStop.{NodeStop}
-use Rattle.session_node.specs.declared.stop.NodeStop.TheVariants as stop
-use Rattle.session_node.specs.declared.terms.Served.{Served}
-use Rattle.session_node.specs.declared.terms.SessionTerms.{SessionTerms}
+use Rattle.server_node.specs.OnDisk.{NodeRuns}
+use Rattle.node.specs.Lent.{Lent, Seen}
+use Rattle.node.specs.Turns.{IsUnsaid}
+use Rattle.server_node.specs.Served.{Run}
+use Rattle.server_node.specs.Sessions.SessionRan.{SessionEnds, SessionRan}
+use Rattle.server_node.specs.Stops.{HasAirCause, RefusesSession}
+use Rattle.server_node.specs.declared.stop.NodeStop.{NodeStop}
+use Rattle.server_node.specs.declared.stop.NodeStop.TheVariants as stop
+use Rattle.server_node.specs.declared.terms.Served.{Served}
+use Rattle.server_node.specs.declared.terms.SessionTerms.{SessionTerms}
 use Rattle.command_words.specs.declared.disk.DiskWord.{DiskWord}
 use Rattle.command_words.specs.declared.disk.DiskWord.TheVariants.{Fresh, Named}
 use Rattle.command_words.specs.declared.request.SessionRequest.{SessionRequest}
@@ -65,13 +66,13 @@ run_terms asked =
 
 -- A session of these terms was served over this disk, or the recovery of its store was refused: what was said to what was
 -- heard, what stands on the disk at each moment, and why it ended, as the status says.
-pub record OverDisk {A C D : Type 0} (g : Ghosts D) (air : AirGhosts A) (given : C → Option (List ℕ)) (disk disk_now : D)
-    (before now : A) (clock clock_now : C) (terms : SessionTerms) (status : Status) : Type 0 where
+pub record OverDisk {A C D : Type 0} (seen : Seen D A C) (old new : Lent D A C) (terms : SessionTerms) (status : Status) :
+    Type 0 where
   pub ended : Result Served NodeStop
-  pub refuses : RefusesSession terms.limits.blocks (g.content disk) ended
-  pub ends : SessionEnds g air given disk disk_now before now clock clock_now terms ended
-  pub counts : HasAirCause air.read_faults air.write_faults before now ended
-  pub runs : NodeRuns g (IsErrOf ended stop.Disk) disk disk_now
+  pub refuses : RefusesSession terms.limits.blocks (seen.disk.content old.disk) ended
+  pub ends : SessionEnds seen old new terms ended
+  pub counts : HasAirCause seen.air.read_faults seen.air.write_faults old.air new.air ended
+  pub runs : NodeRuns seen.disk (IsErrOf ended stop.Disk) old.disk new.disk
   pub status_is : status ≡ status_of ended
 
 -- A session of these terms was served over a fresh disk in memory, none of whose calls is listed to fail, and so from the
@@ -80,22 +81,16 @@ pub record OverDisk {A C D : Type 0} (g : Ghosts D) (air : AirGhosts A) (given :
 pub record InMemory {A C : Type 0} (air : AirGhosts A) (given : C → Option (List ℕ)) (before now : A) (clock clock_now : C)
     (terms : SessionTerms) (status : Status) : Type 0 where
   pub ended : Result Served NodeStop
-  pub turns : List Turn
-  pub moments : List ℕ
-  pub text : List ℕ
-  pub done : List Command
-  pub cut : List Command
-  pub missed : ℕ
-  pub turns_heard : HearsAll (air.heard before) (air.heard now) turns
-  pub moments_given : MomentsOf terms.moment (given clock) (given clock_now) moments
-  pub text_said : Gains (air.said before) (air.said now) text
-  pub ran :
-      SessionRan terms.caller moments (empty_store terms.limits.blocks) terms.polls turns (air.write_faults before)
-      (air.write_faults now) text done cut missed ended
+  pub run : Run
+  pub turns_heard : HearsAll (air.heard before) (air.heard now) run.turns
+  pub moments_given : MomentsOf terms.moment (given clock) (given clock_now) run.moments
+  pub text_said : Gains (air.said before) (air.said now) run.all.text
+  pub is_unsaid : IsUnsaid run.unsaid (air.write_faults before) (air.write_faults now)
+  pub ran : SessionRan terms (empty_store terms.limits.blocks) run ended
   pub fresh : MemoryDisk
   pub is_fresh : state fresh ≡ new_state [] []
   pub used : MemoryDisk
-  pub reads : CountsSome (read_faults fresh) (read_faults used) missed
+  pub reads : CountsSome (read_faults fresh) (read_faults used) run.all.missed
   pub counts : HasAirCause air.read_faults air.write_faults before now ended
   pub status_is : status ≡ status_in_memory (status_of ended)
 
@@ -111,28 +106,21 @@ OverMemory air given before now clock clock_now terms status =
 
 -- the session was served over the disk that the word DISK names, and where it names none, this disk was left alone
 abbrev pub OverNamed :
-    {A C D : Type 0} → DiskWord → Ghosts D → AirGhosts A → (C → Option (List ℕ)) → D → D → A → A → C → C → SessionTerms
-    → Status → Type 0
-OverNamed Named g air given disk disk_now before now clock clock_now terms status =
-    OverDisk g air given disk disk_now before now clock clock_now terms status
-OverNamed Fresh g air given disk disk_now before now clock clock_now terms status =
-    (disk_now ≡ disk) × OverMemory air given before now clock clock_now terms status
+    {A C D : Type 0} → DiskWord → Seen D A C → Lent D A C → Lent D A C → SessionTerms → Status → Type 0
+OverNamed Named seen old new terms status = OverDisk seen old new terms status
+OverNamed Fresh seen old new terms status =
+    (new.disk ≡ old.disk) × OverMemory seen.air seen.given old.air new.air old.clock new.clock terms status
 
 -- so it was with the session that was asked for
-abbrev pub IsOver :
-    {A C D : Type 0} → SessionRequest → Ghosts D → AirGhosts A → (C → Option (List ℕ)) → D → D → A → A → C → C → Status
-    → Type 0
-IsOver asked g air given disk disk_now before now clock clock_now status =
-    OverNamed asked.disk g air given disk disk_now before now clock clock_now (run_terms asked) status
+abbrev pub IsOver : {A C D : Type 0} → SessionRequest → Seen D A C → Lent D A C → Lent D A C → Status → Type 0
+IsOver asked seen old new status = OverNamed asked.disk seen old new (run_terms asked) status
 
 -- Where the words ask for a session, it is served so; or there was no memory to read the words, and nothing was touched.
-abbrev pub RunsSession :
-    {A C D : Type 0} → List (List ℕ) → Ghosts D → AirGhosts A → (C → Option (List ℕ)) → D → D → A → A → C → C → Status
-    → Type 0
-RunsSession words g air given disk disk_now before now clock clock_now status =
+abbrev pub RunsSession : {A C D : Type 0} → List (List ℕ) → Seen D A C → Lent D A C → Lent D A C → Status → Type 0
+RunsSession words seen old new status =
     (asked : SessionRequest) → IsSession words asked
-    → (IsUntouched before now clock clock_now status × (disk_now ≡ disk))
-    ⊎ IsOver asked g air given disk disk_now before now clock clock_now status
+    → (IsUntouched old.air new.air old.clock new.clock status × (new.disk ≡ old.disk))
+    ⊎ IsOver asked seen old new status
 
 -- Whether a client's command with this status may have come to its outcome. What the air does after that changes no status.
 abbrev pub may_have_outcome : Status → Bool

@@ -5,9 +5,9 @@ use Rattle.px_base.specs.declared.shelf.ShelfRefusal.{ShelfRefusal}
 use Rattle.px_base.specs.declared.shelf.ShelfRefusal.TheVariants as shelf
 use Rattle.command_words.specs.declared.request.Refusal.{Refusal}
 use Rattle.command_words.specs.declared.request.Refusal.TheVariants as refusal
-use Rattle.session_node.specs.declared.stop.NodeStop.{NodeStop}
-use Rattle.session_node.specs.declared.stop.NodeStop.TheVariants as node
-use Rattle.session_node.specs.declared.terms.Served.{Served}
+use Rattle.server_node.specs.declared.stop.NodeStop.{NodeStop}
+use Rattle.server_node.specs.declared.stop.NodeStop.TheVariants as node
+use Rattle.server_node.specs.declared.terms.Served.{Served}
 use Rattle.uploader.specs.declared.stop.SendStop.{SendStop}
 use Rattle.uploader.specs.declared.stop.SendStop.TheVariants as stop
 use Rattle.pacsat_cli.specs.declared.status.BadStore.TheVariants.{NotAStore, Damaged}

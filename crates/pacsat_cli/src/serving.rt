@@ -2,6 +2,7 @@
 
 ghost use Rattle.std.specs.Prelude.{◌≡◌, ◌≤◌, IsSome};
 ghost use Rattle.command_words.specs.Words.{AreInRange};
+ghost use Rattle.node.specs.Lent.{lent, seen};
 ghost use Rattle.pacsat_cli.specs.Servers.{IsServedOver, serve_terms};
 ghost use Rattle.pacsat_cli.specs.Sessions.{IsOver, OverMemory, run_terms};
 ghost use Rattle.pacsat_cli.specs.Stops.{status_in_memory, status_of as status_of_session};
@@ -11,8 +12,7 @@ use command_words::{DiskWord, ServeRequest, SessionRequest};
 use disk_model::{Disk, MemoryDisk};
 use file_store::Limits;
 use px_base::{Air, Clock};
-use server_node::{ServerTerms, serve};
-use session_node::{NodeStop, Served, SessionTerms, session};
+use server_node::{NodeStop, Served, ServerTerms, SessionTerms, serve, session};
 use std::alloc::Global;
 
 /// Serves the session that is asked for, over this disk, or over a fresh one in memory, which leaves this one alone. Takes
@@ -26,7 +26,8 @@ pub(crate) fn run_session<D: Disk, A: Air, C: Clock>(
 ) -> Status
     requires some { 1 ≤ request.now.blocks }
     requires most { request.now.blocks ≤ 65536 }
-    ensures over { IsOver request.now D.Disk A.Air C.given disk.old disk.new air.old air.new clock.old clock.new result }
+    ensures over { IsOver request.now (seen D.Disk A.Air C.given) (lent disk.old air.old clock.old)
+        (lent disk.new air.new clock.new) result }
     ensures clock { IsSome request.now.moment → clock.new ≡ clock.old }
 {
     let terms = terms_of(request);
@@ -45,8 +46,8 @@ pub(crate) fn run_serve<D: Disk, A: Air, C: Clock>(
     clock: &mut C,
 ) -> Status
     requires ranges { AreInRange request.now.k request.now.blocks request.now.polls }
-    ensures over { IsServedOver D.Disk A.Air C.given disk.old disk.new air.old air.new clock.old clock.new
-        (serve_terms request.now) result }
+    ensures over { IsServedOver (seen D.Disk A.Air C.given) (lent disk.old air.old clock.old)
+        (lent disk.new air.new clock.new) (serve_terms request.now) result }
 {
     let terms = ServerTerms {
         me: request.me,

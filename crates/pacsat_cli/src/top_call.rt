@@ -4,8 +4,9 @@ ghost use Rattle.std.specs.Prelude.{◌≡◌, ◌≤◌, [], ◌∷◌};
 ghost use Rattle.command_words.specs.Laws.{AsksServe, AsksSession};
 ghost use Rattle.command_words.specs.Words.{AsksClient, AsksList, AsksMake, IsUnbuilt, IsUsage, NamesBuilt};
 ghost use Rattle.ftl0_session.specs.Laws.{AcknowledgedStandsLaw};
+ghost use Rattle.node.specs.Lent.{lent, seen};
 ghost use Rattle.px_base.specs.Outside.{Rose};
-ghost use Rattle.session_node.specs.Laws.{AcknowledgedSinceLaw};
+ghost use Rattle.server_node.specs.Sessions.Laws.{AcknowledgedSinceLaw};
 ghost use Rattle.uploader.specs.Carried.{setting};
 ghost use Rattle.pacsat_cli.specs.Clients.{RunsFetch, RunsList, RunsSend};
 ghost use Rattle.pacsat_cli.specs.Exactly.{FetchEndsExactly, ListEndsExactly, SendEndsExactly, SendRefuses};
@@ -33,7 +34,7 @@ use ftl0_client::laws::{one_step_law, stays_law};
 use ftl0_session::laws::acknowledged_stands_law;
 use node::laws::one_run_law;
 use px_base::{Air, Clock, Out, Shelf};
-use session_node::laws::acknowledged_since_law;
+use server_node::laws::acknowledged_since_law;
 use std::alloc::Global;
 
 /// Does what the words ask for, over this disk, air, shelf, output and clock, and shows the status's line on the output.
@@ -69,8 +70,8 @@ pub fn run<D: Disk, A: Air, S: Shelf, O: Out, C: Clock>(
     // the disk that failed is told by code 3. At every moment since the first sync of the recovery each image stands for
     // that store after the first of the session's commands, none skipped. Or there was no memory to read the words. With a
     // moment given the clock isn't asked.
-    ensures session { RunsSession words.now D.Disk A.Air C.given disk.old disk.new air.old air.new clock.old clock.new
-        result }
+    ensures session { RunsSession words.now (seen D.Disk A.Air C.given) (lent disk.old air.old clock.old)
+        (lent disk.new air.new clock.new) result }
     ensures session_alone { AsksSession words.now → shelf.new ≡ shelf.old }
     ensures clock_unasked { AsksMoment words.now → clock.new ≡ clock.old }
 
@@ -78,7 +79,8 @@ pub fn run<D: Disk, A: Air, S: Shelf, O: Out, C: Clock>(
     // from the store for which its disk's content stands, and ends with a status that has its cause. At every moment since
     // the first sync of the recovery each image stands for that store after the first of the server's commands, none skipped.
     // Or there was no memory to read the words.
-    ensures serve { RunsServe words.now D.Disk A.Air C.given disk.old disk.new air.old air.new clock.old clock.new result }
+    ensures serve { RunsServe words.now (seen D.Disk A.Air C.given) (lent disk.old air.old clock.old)
+        (lent disk.new air.new clock.new) result }
     ensures serve_alone { AsksServe words.now → shelf.new ≡ shelf.old }
 
     // A client says the KISS text of the frames that its definition gives for what is asked and for the frames and ticks of

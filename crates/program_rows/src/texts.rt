@@ -6,7 +6,7 @@ use command_words::Refusal;
 use ftl0_job::JobStop;
 use ftl0_session::ServerStop;
 use row_words::Player;
-use session_node::NodeStop as SessionStop;
+use server_node::NodeStop as SessionStop;
 use std::alloc::Global;
 use std::fmt::Display;
 use uploader::{FileSum, SendStop};

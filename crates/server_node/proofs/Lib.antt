@@ -1,6 +1,4 @@
-mod ServesLemmas
-mod StartLemmas
-mod StationLemmas
-mod StepLemmas
-mod StoreLemmas
-mod TurnsLemmas
+mod Ending
+mod Standing
+mod Starting
+mod StepsLemmas

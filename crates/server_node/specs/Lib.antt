@@ -1,4 +1,6 @@
-pub mod Laws
+pub mod OnAir
+pub mod OnDisk
 pub mod Served
-pub mod Serving
-pub mod Station
+pub mod Sessions
+pub mod Steps
+pub mod Stops

@@ -1,111 +1,90 @@
--- What a server says over its turns, what it does to its disk, and why it ends.
-use Rattle.std.specs.Prelude.{◌≡◌, ◌⊎◌, ℕ, ◌≤◌, List, [], ◌++◌, length, Option, IfSome, Result, Ok, Err}
-use Rattle.std.specs.Prelude.{IsErrOf}
-use Rattle.px_base.specs.Outside.{Gains, Grows}
-use Rattle.px_base.specs.Polling.{HearsAll}
+-- A run of a session or a server, from the recovery of its store to its end: what it says, what it does to its disk,
+-- and why it ends.
+use Rattle.std.specs.Prelude.{◌≡◌, ◌⊎◌, ℕ, List, [], ◌++◌, length, Bool, Option, IfSome, Result, Ok, Err, IsErrOf}
+use Rattle.std.specs.List.{AllByRecursion}
+use Rattle.px_base.specs.Moments.{MomentsOf}
+use Rattle.px_base.specs.Outside.{Gains}
+use Rattle.px_base.specs.Polling.{EndsWith, HearsAll, IsOpen}
 use Rattle.px_base.specs.declared.air.Turn.{Turn}
-use Rattle.px_base.specs.declared.air.Air.{Ghosts as AirGhosts}
-use Rattle.disk_model.specs.declared.disk.Disk.{Ghosts}
-use Rattle.file_store.specs.Calls.{Becomes, ChangesReads, TakesStep}
-use Rattle.file_store.specs.Journal.{after_recovery}
-use Rattle.file_store.specs.Walk.{state}
+use Rattle.px_base.specs.declared.air.Turn.TheVariants as turn
+use Rattle.file_journal.specs.Through.{StandsThrough}
+use Rattle.file_store.specs.Calls.{Becomes, ChangesReads, Runs, TakesStep}
 use Rattle.file_store.specs.Command.{Command}
 use Rattle.file_store.specs.IsStore.{IsStore}
-use Rattle.file_store.specs.Records.{store_magic}
-use Rattle.file_store.specs.Store.{Store}
+use Rattle.file_store.specs.Journal.{after_recovery}
+use Rattle.file_store.specs.Records.{store_form, store_magic}
 use Rattle.file_store.specs.State.{standing_of}
+use Rattle.file_store.specs.Store.{Store}
+use Rattle.file_store.specs.Walk.{state}
 use Rattle.file_store.specs.Working.{CountsSome, PutsAmongReads}
-use Rattle.ftl0_server.specs.Window.{window_of}
-use Rattle.node.specs.Events.{NodeEvent, NodeEvents}
-use Rattle.ftl0_server.specs.Server.{Server, new_server}
-use Rattle.session_node.specs.declared.stop.NodeStop.{NodeStop}
-use Rattle.session_node.specs.declared.stop.NodeStop.TheVariants as stop
-use Rattle.session_node.specs.declared.terms.Served.{Served}
-use Rattle.session_node.specs.OnDisk.{StandsThrough}
-use Rattle.session_node.specs.SessionRan.{IsButLast, IsUnrecovered, TurnsBy}
-use Rattle.server_node.specs.declared.terms.ServerTerms.{ServerTerms}
-use Rattle.server_node.specs.Serving.{StopsBehind, TakesAll}
+use Rattle.file_store.specs.declared.refusals.StoreFault.{StoreFault}
+use Rattle.node.specs.Lent.{Lent, Seen}
+use Rattle.node.specs.Turns.{IsUnsaid}
+use Rattle.server_node.specs.declared.stop.NodeStop.{NodeStop}
+use Rattle.server_node.specs.declared.stop.NodeStop.TheVariants as stop
+use Rattle.server_node.specs.declared.terms.Served.{Served}
+use Rattle.server_node.specs.OnDisk.{LeavesStanding}
+use Rattle.server_node.specs.Steps.{Made}
+use Rattle.server_node.specs.Stops.{stop_of_fault}
 
--- What was said to these events, which commands were done, and how many parts told that a read failed, by how the
--- serving ended: all of them were taken where the end of the air was read, a poll failed, or as many polls were made as
--- may be; else those up to a stop behind the least of them.
-abbrev pub EndsOver :
-    Result Served NodeStop → List NodeEvent → Server → List NodeEvent → ℕ → ℕ → List ℕ → List Command → List Command
-    → ℕ → Type 0
-EndsOver (Ok served) least server events writes writes_now text done cut missed =
-    TakesAll server events text done cut missed
-EndsOver (Err stop.AirRead) least server events writes writes_now text done cut missed =
-    TakesAll server events text done cut missed
-EndsOver (Err stop.Spent) least server events writes writes_now text done cut missed =
-    TakesAll server events text done cut missed
-EndsOver (Err stop.AirWrite) least server events writes writes_now text done cut missed =
-    StopsBehind least server events stop.AirWrite writes writes_now text done cut missed
-EndsOver (Err stop.Disk) least server events writes writes_now text done cut missed =
-    StopsBehind least server events stop.Disk writes writes_now text done cut missed
-EndsOver (Err stop.OutOfMemory) least server events writes writes_now text done cut missed =
-    StopsBehind least server events stop.OutOfMemory writes writes_now text done cut missed
-EndsOver (Err (stop.NotAStore found)) least server events writes writes_now text done cut missed = ⊥
-EndsOver (Err (stop.Damaged at)) least server events writes writes_now text done cut missed = ⊥
+-- The turns, of which there are at most so many, by how the serving ended.
+abbrev pub TurnsBy : Result Served NodeStop → ℕ → List Turn → Type 0
+TurnsBy (Ok served) polls turns = EndsWith turns turn.End × (served.turns ≡ length turns)
+TurnsBy (Err stop.AirRead) polls turns = EndsWith turns turn.Fail
+TurnsBy (Err stop.AirWrite) polls turns = AllByRecursion IsOpen turns
+TurnsBy (Err stop.Disk) polls turns = AllByRecursion IsOpen turns
+TurnsBy (Err stop.Spent) polls turns = (length turns ≡ polls) × AllByRecursion IsOpen turns
+TurnsBy (Err stop.OutOfMemory) polls turns = AllByRecursion IsOpen turns
+TurnsBy (Err (stop.NotAStore found)) polls turns = ⊥
+TurnsBy (Err (stop.Damaged at)) polls turns = ⊥
 
--- a server of these terms, without sessions and without lists, over this store
-abbrev pub server_from : ServerTerms → Store → Server
-server_from terms start = new_server terms.me (window_of terms.k) start
-
--- A server over these turns at these moments, of which there are at most so many, said this text, did these commands,
--- told of so many reads that failed, and ended so. Nothing was heard after what ended it: a stop is at an event
--- that only the last turn brings, behind all those that the others bring.
-pub record ServerRan (server : Server) (polls : ℕ) (moments : List ℕ) (turns : List Turn) (writes writes_now : ℕ)
-    (text : List ℕ) (done cut : List Command) (missed : ℕ) (result : Result Served NodeStop) : Type 0 where
-  pub one_each : length moments ≡ length turns
-  pub events : List NodeEvent
-  pub brings : NodeEvents server.me turns moments events
-  pub bound : length turns ≤ polls
-  pub ends : TurnsBy result polls turns
-  pub earlier : List Turn
-  pub but_last : IsButLast turns earlier
-  pub earlier_moments : List ℕ
-  pub later_moments : List ℕ
-  pub split : moments ≡ earlier_moments ++ later_moments
-  pub least : List NodeEvent
-  pub brought : NodeEvents server.me earlier earlier_moments least
-  pub ends_over : EndsOver result least server events writes writes_now text done cut missed
-
--- A server of these terms was started over the store for which the disk's content stood, and served: what it said to
--- what was heard, and what stands on the disk at each moment. Its recovery changed no octet of a formatted store, and
--- made a formatted one of any other content; without commands that is what the disk has at the end. Only a write or a
--- sync that failed ends it by the disk; a read that failed is told by DL_ERROR_RESP with code 3, and the count of
--- failed reads rose by at least as many as were told, and not where none was.
-pub record ServerServed {A C D : Type 0} (g : Ghosts D) (air : AirGhosts A) (given : C → Option (List ℕ))
-    (disk disk_now : D) (before now : A) (clock clock_now : C) (terms : ServerTerms)
-    (result : Result Served NodeStop) : Type 0 where
-  pub start : Store
-  pub rules : IsStore start
-  pub stood : IfSome (g.content disk) (λ octets. standing_of terms.limits.blocks octets ≡ state start)
-  pub recovered : D
-  pub octets : TakesStep g disk recovered (Becomes (after_recovery store_magic terms.limits.blocks))
+-- What a run came to: its turns and their moments; all that was said and done, the commands in one of which the disk
+-- failed, if it did, and whether a put failed.
+pub record Run : Type 0 where
   pub turns : List Turn
   pub moments : List ℕ
-  pub text : List ℕ
-  pub done : List Command
+  pub all : Made
   pub cut : List Command
-  pub missed : ℕ
-  pub turns_heard : HearsAll (air.heard before) (air.heard now) turns
-  pub moments_given : Grows (given clock) (given clock_now) moments
-  pub text_said : Gains (air.said before) (air.said now) text
-  pub ran :
-      ServerRan (server_from terms start) terms.polls moments turns (air.write_faults before) (air.write_faults now)
-      text done cut missed result
-  pub puts : PutsAmongReads g (IsErrOf result stop.Disk) disk disk_now
-  pub reads : CountsSome (g.read_faults disk) (g.read_faults disk_now) missed
-  pub stands : StandsThrough g (IsErrOf result stop.Disk) start done cut disk disk_now
-  pub ready : stands.ready ≡ g.moment recovered
-  pub none : done ++ cut ≡ [] → ChangesReads g recovered disk_now
+  pub unsaid : Bool
 
--- The recovery of the store was refused, or there was no memory for the lists, and nothing was heard or said; or the
--- server was started, and served.
-abbrev pub ServerEnds :
-    {A C D : Type 0} → Ghosts D → AirGhosts A → (C → Option (List ℕ)) → D → D → A → A → C → C → ServerTerms
+-- The recovery of the store was refused, or there was no memory for the lists: nothing was heard or said, and the clock
+-- wasn't asked. Where the disk didn't fail no count of its faults rose.
+pub record IsUnrecovered {A C D : Type 0} (seen : Seen D A C) (blocks : ℕ) (old new : Lent D A C)
+    (result : Result Served NodeStop) : Type 0 where
+  pub fault : StoreFault
+  pub answer : result ≡ Err (stop_of_fault fault)
+  pub air : new.air ≡ old.air
+  pub clock : new.clock ≡ old.clock
+  pub leaves : LeavesStanding seen.disk blocks fault old.disk new.disk
+  pub runs : Runs seen.disk (IsErrOf result stop.Disk) old.disk new.disk
+
+-- It was served over the store for which the disk's content stood. Its recovery changed no octet of a formatted store,
+-- and made a formatted one of any other content; without commands that is what the disk has at the end. Only a write or
+-- a sync that failed ends it by the disk; a read that failed is told by DL_ERROR_RESP with code 3, and the count of
+-- failed reads rose by at least as many as were told, and not where none was.
+pub record IsServed {A C D : Type 0} (seen : Seen D A C) (blocks : ℕ) (given : Option ℕ)
+    (Ran : Store → Run → Type 0) (old new : Lent D A C) (result : Result Served NodeStop) : Type 0 where
+  pub start : Store
+  pub rules : IsStore start
+  pub stood : IfSome (seen.disk.content old.disk) (λ octets. standing_of blocks octets ≡ state start)
+  pub recovered : D
+  pub octets : TakesStep seen.disk old.disk recovered (Becomes (after_recovery store_magic blocks))
+  pub run : Run
+  pub turns_heard : HearsAll (seen.air.heard old.air) (seen.air.heard new.air) run.turns
+  pub moments_given : MomentsOf given (seen.given old.clock) (seen.given new.clock) run.moments
+  pub text_said : Gains (seen.air.said old.air) (seen.air.said new.air) run.all.text
+  pub is_unsaid : IsUnsaid run.unsaid (seen.air.write_faults old.air) (seen.air.write_faults new.air)
+  pub ran : Ran start run
+  pub puts : PutsAmongReads seen.disk (IsErrOf result stop.Disk) old.disk new.disk
+  pub reads : CountsSome (seen.disk.read_faults old.disk) (seen.disk.read_faults new.disk) run.all.missed
+  pub stands :
+      StandsThrough seen.disk store_form (IsErrOf result stop.Disk) start run.all.done run.cut old.disk new.disk
+  pub ready : stands.ready ≡ seen.disk.moment recovered
+  pub none : run.all.done ++ run.cut ≡ [] → ChangesReads seen.disk recovered new.disk
+
+-- Either of the two.
+abbrev pub Ends :
+    {A C D : Type 0} → Seen D A C → ℕ → Option ℕ → (Store → Run → Type 0) → Lent D A C → Lent D A C
     → Result Served NodeStop → Type 0
-ServerEnds g air given disk disk_now before now clock clock_now terms result =
-    IsUnrecovered g terms.limits.blocks disk disk_now before now clock clock_now result
-    ⊎ ServerServed g air given disk disk_now before now clock clock_now terms result
+Ends seen blocks given Ran old new result =
+    IsUnrecovered seen blocks old new result ⊎ IsServed seen blocks given Ran old new result

@@ -1,11 +1,15 @@
-//! The node of a server: what serves its sessions over an air, a clock and the disk of its store.
+//! The node of a server: what serves one session over FTL0 octets, or up to eight sessions on the air, over a clock and
+//! the disk of its store.
 #![tactic(auto)]
 
+mod ended;
 pub mod laws;
-mod serving;
-mod station;
+mod on_air;
+mod sessions;
+mod stop;
 mod terms;
 
-pub use serving::serve;
-pub use session_node::{NodeStop, Served, SessionTerms, session};
-pub use terms::ServerTerms;
+pub use on_air::serve;
+pub use sessions::session;
+pub use stop::NodeStop;
+pub use terms::{Served, ServerTerms, SessionTerms};

@@ -1,7 +1,7 @@
 use Rattle.std.proofs.Common.{◌≡◌, ℕ, ◌+◌, Err, Ok, sym, ◌∙◌, ap, subst}
 use Rattle.client_notes.specs.Answers.{Noting, fresh_task}
 use Rattle.client_notes.specs.Command.{NotesCommand, start}
-use Rattle.client_notes.specs.Notes.{Lists, task_count}
+use Rattle.client_notes.specs.Notes.{task_count}
 use Rattle.client_notes.specs.State.{NotesState}
 use Rattle.client_notes.specs.declared.refusals.NotesRefusal.TheVariants as refusal
 use Rattle.client_notes.proofs.KeptLemmas.{brought-cut, brought-done}

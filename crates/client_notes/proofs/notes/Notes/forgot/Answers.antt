@@ -1,9 +1,6 @@
-use Rattle.std.proofs.Common.{◌≡◌, sym, subst}
-use Rattle.file_journal.specs.Kept.{AnswersPut, kept_on}
+use Rattle.std.proofs.Common.{subst}
 use Rattle.client_notes.specs.Command.{forgot}
-use Rattle.client_notes.specs.Notes.{Lists}
 use Rattle.client_notes.specs.OnDisk.{Answers}
-use Rattle.client_notes.specs.Records.{notes_form}
 use Rattle.client_notes.specs.State.{NotesState}
 use Rattle.client_notes.proofs.KeptLemmas.{put-answers}
 use Rattle.client_notes.proofs.notes.Notes.forgot.Goals as goal

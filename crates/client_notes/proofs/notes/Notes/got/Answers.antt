@@ -1,4 +1,4 @@
-use Rattle.std.proofs.Common.{◌≡◌, Err, Ok, sym, ◌∙◌, subst}
+use Rattle.std.proofs.Common.{Err, Ok, sym, ◌∙◌, subst}
 use Rattle.client_notes.specs.Answers.{Noting}
 use Rattle.client_notes.specs.Command.{got}
 use Rattle.client_notes.specs.State.{NotesState}

@@ -6,7 +6,7 @@ use Rattle.file_journal.specs.Records.{record_of}
 use Rattle.file_journal.specs.declared.faults.JournalFault.{JournalFault}
 use Rattle.file_journal.specs.declared.faults.JournalFault.TheVariants as fault
 use Rattle.file_journal.proofs.CallLemmas.{puts_same}
-use Rattle.file_journal.proofs.KeptLemmas.{fours_cut, fours_one, is_disk, stands_cut}
+use Rattle.file_journal.proofs.KeptLemmas.{does_cut, does_one, is_disk, stands_cut}
 use Rattle.file_journal.proofs.WalkLemmas.{append_keeps}
 use Rattle.file_journal.proofs.kept.Kept.put.Goals as goal
 
@@ -36,12 +36,8 @@ returns-in_err-append-clause-answers g c =
     record {
       failed = (λ was. absurd (other was), λ before. absurd (cc (sym healthy ∙ before)));
       untouched = λ was. absurd (other was);
-      does = λ _. record {
-        fours = fours_cut form D old new now journal after command entry c.requires.stands_at healthy allowed steps fails.journal fails.puts.told fails.since fails.at_most
-            g.met.D.Disk.earlier fails.any_moment bad fails.stands_on (IsErr c.from_residual.result) failed;
-        none = λ empty. absurd (cc empty);
-        puts = puts_same D old new _ _ (λ _. failed) (λ _. is_disk e (λ was. other (is ∙ was))) fails.puts;
-      };
+      does = λ _. does_cut form D old new now journal after command entry c.requires.stands_at healthy allowed steps fails.journal fails.puts.told fails.since fails.at_most
+          g.met.D.Disk.earlier fails.any_moment bad fails.stands_on (IsErr c.from_residual.result) failed (puts_same D old new _ _ (λ _. failed) (λ _. is_disk e (λ was. other (is ∙ was))) fails.puts);
       stands_at = stands_cut form D old new now journal after command entry c.requires.stands_at healthy allowed steps fails.journal fails.puts.told fails.since fails.at_most
           g.met.D.Disk.earlier fails.any_moment bad fails.stands_on;
     }
@@ -71,12 +67,8 @@ returns-clause-answers g c =
     let answers : AnswersPut D form command (kept_on now journal old) (kept_on next after new) (Ok (tt {0})) = record {
       failed = (λ was. absurd (cc was), λ before. absurd (cc (sym healthy ∙ before)));
       untouched = λ was. absurd (cc was);
-      does = λ _. record {
-        fours = fours_one form D old new now journal after command entry c.requires.stands_at healthy allowed steps made.journal made.puts.told made.since made.at_most
-            made.calls made.goes_on stands (IsErr {E = JournalFault} (Ok (tt {0}))) (λ bad. cc bad);
-        none = λ empty. absurd (cc empty);
-        puts = puts_same D old new _ _ (λ bad. absurd (cc bad)) (λ bad. absurd (cc bad)) made.puts;
-      };
+      does = λ _. does_one form D old new now journal after command entry c.requires.stands_at healthy allowed steps made.journal made.puts.told made.since made.at_most
+          made.calls made.goes_on stands (IsErr {E = JournalFault} (Ok (tt {0}))) (λ bad. cc bad) (puts_same D old new _ _ (λ bad. absurd (cc bad)) (λ bad. absurd (cc bad)) made.puts);
       stands_at = stands;
     } in
     subst (λ s. AnswersPut D form command (kept_on now journal old) (kept_on s after new) (Ok (tt {0}))) (sym c.make.ensures.state) answers

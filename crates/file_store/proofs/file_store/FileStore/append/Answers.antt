@@ -1,5 +1,6 @@
 use Rattle.std.proofs.Common.{◌≡◌, ℕ, ◌/◌, ◌++◌, true, false, List, length, Some, refl, sym, ◌∙◌, ap, subst, arith, rules}
 use Rattle.std.specs.Option.{option_map}
+use Rattle.file_journal.specs.Position.{Position}
 use Rattle.file_entries.specs.Command.{Command, grows, unfilled_block, whole_grows}
 use Rattle.file_entries.specs.Files.{KeepsRests, octets_or_none}
 use Rattle.file_entries.specs.Records.{store_magic}
@@ -13,7 +14,7 @@ use Rattle.file_store.proofs.file_store.FileStore.append.Goals as goal
 
 pub hold_blocks-requires-clause-fits : goal.hold_blocks-requires-clause-fits
 hold_blocks-requires-clause-fits g c =
-    let mid : StoreState = record { files = c.bring.new.self.files; journal = c.self.inside.journal } in
+    let mid : StoreState = record { files = c.bring.new.self.files; journal = c.self.inside.kept.journal } in
     let brought = c.in_default.ensures.ok in
     brought-fits c.args.self.now mid c.args.up c.args.bytes.now c.number-number.result c.number-number.ensures c.requires.holds (omega (arith, c.missing.ensures.missing, c.if-bytes-missing.false))
     (brought.store ∙ ap store_in c.self.view_is)
@@ -60,9 +61,9 @@ returns-in-Err-hold_blocks-clause-does g c reaches =
     let up = c.args.up in
     let bytes = c.args.bytes.now in
     let number = c.number-number.result in
-    let brought : StoreState = record { files = c.bring.new.self.files; journal = c.self.inside.journal } in
+    let brought : StoreState = record { files = c.bring.new.self.files; journal = c.self.inside.kept.journal } in
     let held = c.hold_blocks.new.self in
-    let new : StoreState = record { files = c.park-in-Err-hold_blocks.new.self.files; journal = c.self-2.inside.journal } in
+    let new : StoreState = record { files = c.park-in-Err-hold_blocks.new.self.files; journal = c.self-2.inside.kept.journal } in
     let came = c.in_default.ensures.ok in
     let first : store_in brought ≡ store_in self = came.store ∙ ap store_in c.self.view_is in
     let here : rest_in brought number ≡ option_map (λ (r : List ℕ). r ++ bytes) (rest_in self number) =
@@ -80,7 +81,7 @@ pub returns-in-Err-hold_blocks-clause-uploads : goal.returns-in-Err-hold_blocks-
 returns-in-Err-hold_blocks-clause-uploads g c =
     let D = g.D.Disk in
     let self = c.args.self.now in
-    let new : StoreState = record { files = c.park-in-Err-hold_blocks.new.self.files; journal = c.self-2.inside.journal } in
+    let new : StoreState = record { files = c.park-in-Err-hold_blocks.new.self.files; journal = c.self-2.inside.kept.journal } in
     let up = c.args.up in
     let bytes = c.args.bytes.now in
     let rests : KeepsRests self.files new.files up.number = search rules in
@@ -90,7 +91,7 @@ pub returns-in-Err-hold_blocks-clause-kept : goal.returns-in-Err-hold_blocks-cla
 returns-in-Err-hold_blocks-clause-kept g c =
     let D = g.D.Disk in
     let self = c.args.self.now in
-    let new : StoreState = record { files = c.park-in-Err-hold_blocks.new.self.files; journal = c.self-2.inside.journal } in
+    let new : StoreState = record { files = c.park-in-Err-hold_blocks.new.self.files; journal = c.self-2.inside.kept.journal } in
     let up = c.args.up in
     let bytes = c.args.bytes.now in
     does-complete D true self new c.args.disk.now c.hold_blocks.new.disk (appending self up bytes) up.number (appending-of self up bytes) (returns-in-Err-hold_blocks-clause-does g c refl) up refl c.requires.holds
@@ -104,5 +105,5 @@ returns-in-Ok-clause-every_image g c =
     let bytes = c.args.bytes.now in
     let does : Does D (false ≡ true) self new c.args.disk.now c.hold_blocks.new.disk (appending self up bytes) = search rules in
     let made = does.done (λ e. cc e) in
-    let magic : new.journal.magic ≡ store_magic = does.same_magic ∙ sym (ap (λ (s : StoreState). s.journal.magic) c.self.view_is) ∙ c.self.invariant.magic_is in
+    let magic : new.journal.magic ≡ store_magic = ap (λ (p : Position). p.magic) does.journal ∙ sym (ap (λ (s : StoreState). s.journal.magic) c.self.view_is) ∙ c.self.invariant.magic_is in
     holds-each D new c.hold_blocks.new.disk magic made.1 does.stands_on c.moved_on.result (returns-in-Ok-clause-holds g c)

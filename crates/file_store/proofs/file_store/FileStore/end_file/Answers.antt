@@ -20,7 +20,7 @@ returns-in_err-hold_rest-clause-does g c =
 
 pub seal_or_drop-requires-clause-held : goal.seal_or_drop-requires-clause-held
 seal_or_drop-requires-clause-held g c =
-    let mid : StoreState = record { files = c.park.new.self.files; journal = c.self.inside.journal } in
+    let mid : StoreState = record { files = c.park.new.self.files; journal = c.self.inside.kept.journal } in
     held-whole c.args.self.now c.args.number c.requires.whole mid (c.park.ensures.store ∙ ap store_in c.self.view_is ∙ (c.in_ok-hold_rest.ensures.does.done (λ e. cc e)).0)
 
 pub returns-clause-does : goal.returns-clause-does
@@ -28,7 +28,7 @@ returns-clause-does g c =
     let D = g.D.Disk in
     let self = c.args.self.now in
     let number = c.args.number in
-    let mid : StoreState = record { files = c.park.new.self.files; journal = c.self.inside.journal } in
+    let mid : StoreState = record { files = c.park.new.self.files; journal = c.self.inside.kept.journal } in
     let store : store_in mid ≡ store_in c.hold_rest.new.self = c.park.ensures.store ∙ ap store_in c.self.view_is in
     let does = c.in_ok-hold_rest.ensures.does in
     let first = last_grow number (octets_or_none (rest_in self number)) in
@@ -39,7 +39,7 @@ returns-clause-does g c =
 
 pub returns-clause-fault : goal.returns-clause-fault
 returns-clause-fault g c =
-    let mid : StoreState = record { files = c.park.new.self.files; journal = c.self.inside.journal } in
+    let mid : StoreState = record { files = c.park.new.self.files; journal = c.self.inside.kept.journal } in
     let store : store_in mid ≡ store_in c.hold_rest.new.self = c.park.ensures.store ∙ ap store_in c.self.view_is in
     let fault = whole-fault c.args.self.now c.args.number c.requires.whole (store_in mid) (store ∙ (c.in_ok-hold_rest.ensures.does.done (λ e. cc e)).0) in
     subst (λ (o : Option ℕ). IfOk c.seal_or_drop.result (λ found. found ≡ o)) fault c.seal_or_drop.ensures.fault

@@ -64,7 +64,7 @@ returns-clause-resumed c =
 pub returns-clause-holds : goal.returns-clause-holds
 returns-clause-holds c =
     let self = c.args.self.now in
-    let new : StoreState = record { files = c.take_out.new.self.files; journal = c.self.inside.journal } in
+    let new : StoreState = record { files = c.take_out.new.self.files; journal = c.self.inside.kept.journal } in
     let info = c.in-Some.info in
     let is = told (store_in self) c.args.number info (subst (λ (s : StoreState). IsStore (store_in s)) c.self.view_is c.info.ensures.rules)
     (c.in-Some.ensures.info ∙ ap (λ (s : StoreState). option_map info_of (entry_of (store_in s) c.args.number)) c.self.view_is) in

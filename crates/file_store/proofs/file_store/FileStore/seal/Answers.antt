@@ -1,4 +1,5 @@
 use Rattle.std.proofs.Common.{◌≡◌, true, false, None, refl, sym, ◌∙◌, ap, arith, rules}
+use Rattle.file_journal.specs.Position.{Position}
 use Rattle.file_entries.specs.Faults.{fault_code}
 use Rattle.file_entries.specs.Files.{KeepsRests}
 use Rattle.file_entries.specs.Records.{store_magic}
@@ -34,7 +35,7 @@ returns-in-Ok-None-clause-every_image g c =
     let does : Does D (false ≡ true) self new c.args.disk.now c.end_file.new.disk (sealing self up moment) = search rules in
     let good : fault_code (octets_come self up) ≡ None = search rules in
     let made = does.done (λ e. cc e) in
-    let magic : new.journal.magic ≡ store_magic = does.same_magic ∙ sym (ap (λ (s : StoreState). s.journal.magic) c.self.view_is) ∙ c.self.invariant.magic_is in
+    let magic : new.journal.magic ≡ store_magic = ap (λ (p : Position). p.magic) does.journal ∙ sym (ap (λ (s : StoreState). s.journal.magic) c.self.view_is) ∙ c.self.invariant.magic_is in
     kept-each D new c.end_file.new.disk magic made.1 does.stands_on up c.requires.holds.begun moment (kept_file self up moment)
     (sealed-entry self up moment c.requires.holds (omega (arith, c.missing.ensures.missing, c.if-missing-gt0.false)) (store_in new) made.0 good)
 
@@ -84,7 +85,7 @@ pub returns-in-Err-clause-uploads : goal.returns-in-Err-clause-uploads
 returns-in-Err-clause-uploads g c =
     let D = g.D.Disk in
     let self = c.args.self.now in
-    let new : StoreState = record { files = c.park-in-Err.new.self.files; journal = c.self-2.inside.journal } in
+    let new : StoreState = record { files = c.park-in-Err.new.self.files; journal = c.self-2.inside.kept.journal } in
     let up = c.args.up in
     let moment = c.args.moment in
     let does : Does D (true ≡ true) self new c.args.disk.now c.end_file.new.disk (sealing self up moment) = search rules in
@@ -95,7 +96,7 @@ pub returns-in-Err-clause-kept : goal.returns-in-Err-clause-kept
 returns-in-Err-clause-kept g c =
     let D = g.D.Disk in
     let self = c.args.self.now in
-    let new : StoreState = record { files = c.park-in-Err.new.self.files; journal = c.self-2.inside.journal } in
+    let new : StoreState = record { files = c.park-in-Err.new.self.files; journal = c.self-2.inside.kept.journal } in
     let up = c.args.up in
     let moment = c.args.moment in
     let does : Does D (true ≡ true) self new c.args.disk.now c.end_file.new.disk (sealing self up moment) = search rules in

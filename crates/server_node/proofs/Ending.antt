@@ -1,0 +1,180 @@
+-- The end of a session or a server, by the turns of its node, and what stands on the disk then.
+use Rattle.std.proofs.Common.{◌≡◌, ℕ, List, [], ◌∷◌, ◌++◌, Bool, true, false, refl, ap, sym, ◌∙◌, subst, inl, inr, ⊎_elim}
+use Rattle.std.specs.Prelude.{◌≢◌, Result, Ok, Err, IsErrOf, IfSome, Option}
+use Rattle.disk_model.specs.declared.disk.Disk.{Ghosts}
+use Rattle.px_base.specs.Moments.{MomentsOf}
+use Rattle.px_base.specs.Outside.{Gains}
+use Rattle.px_base.specs.Polling.{HearsAll}
+use Rattle.px_base.specs.declared.air.Air.{Ghosts as AirGhosts}
+use Rattle.px_base.specs.declared.air.Turn.{Turn}
+use Rattle.file_store.specs.Calls.{ChangesReads}
+use Rattle.file_store.specs.Command.{Command}
+use Rattle.file_store.specs.JournalRecovery.{IsFailedSync, IsSyncedFirst}
+use Rattle.file_store.specs.Recovery.{StandsAlike}
+use Rattle.file_store.specs.State.{StoreState, store_in}
+use Rattle.file_store.specs.Store.{Store}
+use Rattle.file_store.specs.Working.{CutsOffAmongReads, PutsAmongReads}
+use Rattle.file_store.specs.declared.refusals.StoreFault.TheVariants as fault
+use Rattle.file_store.proofs.Offered.{cuts-among-all, cuts-among-puts, cuts-among-same, own-number, told_weaker}
+use Rattle.node.specs.Course.{AtDisk, Course}
+use Rattle.node.specs.Lent.{Lent, Seen}
+use Rattle.node.specs.Turns.{HasAirCause as NodeHasCause, IsButLast, IsUnsaid, RanBy, StoppedInLast, TookAll, TurnsBy as NodeTurnsBy, Brought}
+use Rattle.node.specs.declared.finished.Finished.{Finished}
+use Rattle.node.specs.declared.finished.Finished.TheVariants as finished
+use Rattle.node.specs.declared.stop.NodeStop.{NodeStop as Stop}
+use Rattle.node.specs.declared.stop.NodeStop.TheVariants as node_stop
+use Rattle.server_node.specs.declared.stop.NodeStop.{NodeStop}
+use Rattle.server_node.specs.declared.stop.NodeStop.TheVariants as stop
+use Rattle.server_node.specs.declared.terms.Served.{Served}
+use Rattle.file_journal.specs.AmongReads.{among_reads}
+use Rattle.file_journal.specs.Kept.{alone}
+use Rattle.file_journal.specs.Through.{StandsThrough}
+use Rattle.file_journal.proofs.Offered.{runs_among, runs_missed, stands_through}
+use Rattle.file_store.specs.OnDisk.{kept_at}
+use Rattle.file_store.specs.Records.{store_form}
+use Rattle.server_node.specs.Served.{Run, TurnsBy}
+use Rattle.server_node.specs.Steps.{EndsOver, Made, Steps, StopsBehind, TakesAll}
+use Rattle.server_node.specs.Stops.{HasAirCause, served_by, stop_of_node}
+use Rattle.server_node.proofs.Standing.{node_runs}
+use Rattle.server_node.proofs.Starting.{Recovers, Serves}
+
+-- all turns but the last
+pub but_last : (turns : List Turn) → (earlier : List Turn) × IsButLast turns earlier
+but_last [] = ([], inl (refl, refl))
+but_last (next ∷ turns) = by (but_last turns).0 (but_last turns).1
+  where
+    by : (earlier : List Turn) → IsButLast turns earlier → (all : List Turn) × IsButLast (next ∷ turns) all
+    by earlier (inl none) = ([], inr (next, ap (λ (ts : List Turn). next ∷ ts) none.0))
+    by earlier (inr some) = (next ∷ earlier, inr (some.0, ap (λ (ts : List Turn). next ∷ ts) some.1))
+
+-- the disk is why it stopped
+by-disk : (why : Stop) → stop_of_node why ≡ stop.Disk → why ≡ node_stop.Disk
+by-disk node_stop.Disk is = refl
+by-disk node_stop.AirRead is = absurd (cc is)
+by-disk node_stop.AirWrite is = absurd (cc is)
+by-disk node_stop.Spent is = absurd (cc is)
+by-disk node_stop.OutOfMemory is = absurd (cc is)
+
+pub disk-stop : {D : Type 0} (g : Ghosts D) (why : Stop) (missed : ℕ) (old new : StoreState) (disk disk_n : D) (done cut : List Command) → CutsOffAmongReads g (why ≡ node_stop.Disk) missed old new disk disk_n done cut
+    → CutsOffAmongReads g (IsErrOf {T = Served} (Err (stop_of_node why)) stop.Disk) missed old new disk disk_n done cut
+disk-stop g why missed old new disk disk_n done cut cuts =
+    cuts-among-same g (why ≡ node_stop.Disk) _ missed missed old new disk disk_n done cut (λ is. ap (λ (w : Stop). Err (stop_of_node w)) is) (λ is. by-disk why (of_error (stop_of_node why) is)) refl cuts
+  where
+    of_error : (a : NodeStop) → IsErrOf {T = Served} (Err a) stop.Disk → a ≡ stop.Disk
+    of_error a is = cc is
+
+-- ---- by how the turns ended: all that they bring was taken, or it stopped at an event of the last one
+
+module _ {P D A E S F : Type 0} (Brings : List Turn → List ℕ → List E → Type 0) (course : Course P D E) (is_over : (p : P) → course.is_over p ≡ false) (air : AirGhosts A) (before now : A) (start then_is : AtDisk P D)
+    (all : Brought E) (text : List ℕ) (unsaid : Bool) (polls : ℕ) (steps : Steps S F) (from : S) (events : List F) (Did : Result Served NodeStop → Type 0) where
+  abbrev pub Causes : Result Served NodeStop → Type 0
+  Causes result = HasAirCause air.read_faults air.write_faults before now result
+
+  abbrev pub Taken : Type 0
+  Taken =
+      (result : Result Served NodeStop) → TurnsBy result polls all.turns → Causes result → ¬ IsErrOf result stop.Disk
+      → ((least : List F) (made : Made) → TakesAll steps from events made [] → EndsOver result least steps from events unsaid made [])
+      → TookAll course start all.events text then_is false → Did result
+
+  abbrev pub Stopped : Type 0
+  Stopped =
+      (why : Stop) → TurnsBy (Err (stop_of_node why)) polls all.turns → ((why ≡ node_stop.OutOfMemory → air.write_faults now ≡ air.write_faults before) → Causes (Err (stop_of_node why)))
+      → ((least : List F) (made : Made) (cut : List Command) → StopsBehind least steps from events why unsaid made cut → EndsOver (Err (stop_of_node why)) least steps from events unsaid made cut)
+      → StoppedInLast Brings course start all why text unsaid then_is → Did (Err (stop_of_node why))
+
+  pub never-over : (ended : Result Finished Stop) → RanBy Brings course start all ended text unsaid then_is → ended ≢ Ok finished.Over
+  never-over (Ok finished.Over) ran is = let e : true ≡ false = sym ran.2 ∙ is_over then_is.it in absurd (cc e)
+  never-over (Ok (finished.Closed count)) ran is = absurd (cc is)
+  never-over (Err why) ran is = absurd (cc is)
+
+  pub did-by : Taken → Stopped → (ended : Result Finished Stop) → NodeTurnsBy ended polls all.turns → NodeHasCause air before now ended → RanBy Brings course start all ended text unsaid then_is → Did (served_by ended)
+  did-by taken stopped (Ok finished.Over) ends counts ran = absurd (never-over (Ok finished.Over) ran refl)
+  did-by taken stopped (Ok (finished.Closed n)) ends counts ran = taken (Ok (record { turns = n })) ends counts (λ e. cc e) (λ l m h. h) ran
+  did-by taken stopped (Err node_stop.AirRead) ends counts ran = taken (Err stop.AirRead) ends counts (λ e. cc e) (λ l m h. h) ran
+  did-by taken stopped (Err node_stop.Spent) ends counts ran = taken (Err stop.Spent) ends counts (λ e. cc e) (λ l m h. h) ran
+  did-by taken stopped (Err node_stop.AirWrite) ends counts ran = stopped node_stop.AirWrite ends (λ kept. counts) (λ l m c h. h) ran
+  did-by taken stopped (Err node_stop.Disk) ends counts ran = stopped node_stop.Disk ends (λ kept. counts) (λ l m c h. h) ran
+  did-by taken stopped (Err node_stop.OutOfMemory) ends counts ran = stopped node_stop.OutOfMemory ends (λ kept. (counts.0, kept refl)) (λ l m c h. h) ran
+
+-- ---- what that says of the disk
+
+-- no commands but those of two empty lists
+append-none : (a b : List Command) → a ++ b ≡ [] → (a ≡ []) × (b ≡ [])
+append-none [] b none = (refl, none)
+append-none (c ∷ a) b none = absurd (cc none)
+
+-- It came to this run over the store that the recovery gave, and ended so.
+pub record Did {A C D : Type 0} (seen : Seen D A C) (given : Option ℕ) (Ran : Store → Run → Type 0) (old new : Lent D A C) (mid : D) (start store : StoreState) (polls : ℕ) (result : Result Served NodeStop) : Type 0 where
+  pub run : Run
+  pub turns_heard : HearsAll (seen.air.heard old.air) (seen.air.heard new.air) run.turns
+  pub moments_given : MomentsOf given (seen.given old.clock) (seen.given new.clock) run.moments
+  pub text_said : Gains (seen.air.said old.air) (seen.air.said new.air) run.all.text
+  pub is_unsaid : IsUnsaid run.unsaid (seen.air.write_faults old.air) (seen.air.write_faults new.air)
+  pub ran : Ran (store_in start) run
+  pub ends : TurnsBy result polls run.turns
+  pub counts : HasAirCause seen.air.read_faults seen.air.write_faults old.air new.air result
+  pub cuts : CutsOffAmongReads seen.disk (IsErrOf result stop.Disk) run.all.missed start store mid new.disk run.all.done run.cut
+
+module _ {A C D T : Type 0} (seen : Seen D A C) (on : (first second third : D) → seen.disk.lasts first second → seen.disk.lasts second third → seen.disk.lasts first third) (blocks : ℕ) (given : Option ℕ)
+    (Ran : Result Served NodeStop → Store → Run → Type 0) (old new : Lent D A C) (mid : D) (value : T) (start store : StoreState) (polls : ℕ) (result : Result Served NodeStop)
+    (h : Recovers {T = T} seen.disk blocks old.disk mid value start) (did : Did seen given (Ran result) old new mid start store polls result) where
+  abbrev g : Ghosts D
+  g = seen.disk
+
+  abbrev run : Run
+  run = did.run
+
+  abbrev Failed : Type 0
+  Failed = IsErrOf result stop.Disk
+
+  fine : ¬ IsErrOf {T = T} (Ok value) fault.Disk
+  fine is = cc is
+
+  synced : IfSome (g.content old.disk) (λ octets. IsSyncedFirst g old.disk mid (StandsAlike blocks octets))
+  synced = told_weaker (g.content old.disk) _ _ (λ octets told left. ⊎_elim
+      (λ (s : IsSyncedFirst g old.disk mid (StandsAlike blocks octets)). s)
+      (λ (failed : IsErrOf {T = T} (Ok value) fault.Disk × IsFailedSync g old.disk mid). absurd (fine failed.0)) left) h.since_sync
+
+  standing : (stands : StandsThrough g store_form Failed (store_in start) run.all.done run.cut old.disk new.disk) × (stands.ready ≡ g.moment mid)
+  standing =
+      let cuts = did.cuts in
+      stands_through g store_form own-number blocks Failed old.disk (kept_at start mid) (kept_at cuts.store_then cuts.disk_then) (kept_at store new.disk) run.all.done run.cut h.runs.told h.recovered.content
+      h.since_start synced h.magic_is (among_reads g Failed run.all.missed) (among_reads g ⊥ run.all.missed) (alone g Failed)
+      (cuts-among-all g on Failed run.all.missed start store mid new.disk run.all.done run.cut cuts) cuts.first cuts.second cuts.first.puts.told
+
+  puts : PutsAmongReads g Failed old.disk new.disk
+  puts = runs_among g on _ Failed old.disk mid new.disk fine h.runs (cuts-among-puts g on Failed run.all.missed start store mid new.disk run.all.done run.cut did.cuts)
+
+  -- it isn't refused
+  never_refused : (why : NodeStop) → ((turns : List Turn) → TurnsBy (Err why) polls turns → ⊥) → IsErrOf result why → ⊥
+  never_refused why never is = never run.turns (subst (λ (r : Result Served NodeStop). TurnsBy r polls run.turns) is did.ends)
+
+  pub served : Serves seen blocks given Ran old new result
+  served = record {
+    refuses = λ no_disk no_memory. told_weaker (g.content old.disk) _ _ (λ octets told stood. record {
+      not_a_store = λ found. (λ is. absurd (never_refused (stop.NotAStore found) (λ turns e. e) is), λ none. absurd (cc (sym stood ∙ none)));
+      damaged = λ at. (λ is. absurd (never_refused (stop.Damaged at) (λ turns e. e) is), λ none. absurd (cc (sym stood ∙ none)));
+    }) h.recovered.content;
+    ends = inr (record {
+      start = store_in start;
+      rules = h.rules;
+      stood = h.recovered.content;
+      recovered = mid;
+      octets = h.octets;
+      run = run;
+      turns_heard = did.turns_heard;
+      moments_given = did.moments_given;
+      text_said = did.text_said;
+      is_unsaid = did.is_unsaid;
+      ran = did.ran;
+      puts = puts;
+      reads = runs_missed g on _ Failed old.disk mid new.disk fine h.runs run.all.missed (cuts-among-all g on Failed run.all.missed start store mid new.disk run.all.done run.cut did.cuts).reads;
+      stands = standing.0;
+      ready = standing.1;
+      none = λ none.
+          let both = append-none run.all.done run.cut none in
+          subst (λ (d : D). ChangesReads g mid d) (sym (did.cuts.second.none both.1)) (did.cuts.first.none both.0);
+    });
+    counts = did.counts;
+    runs = node_runs g Failed old.disk new.disk puts;
+  }

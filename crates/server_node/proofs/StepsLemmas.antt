@@ -1,0 +1,115 @@
+-- Events one after another, and a stop at one of them, whatever serves them.
+use Rattle.std.proofs.Common.{◌≡◌, ℕ, ◌+◌, List, [], ◌∷◌, ◌++◌, Bool, false, refl, ap, sym, ◌∙◌, append_assoc}
+use Rattle.std.proofs.Math.Nat.{add_assoc, zero-add}
+use Rattle.disk_model.specs.declared.disk.Disk.{Ghosts}
+use Rattle.file_store.specs.Command.{Command}
+use Rattle.file_store.specs.State.{StandsOn, StoreState}
+use Rattle.file_store.specs.Working.{CutsOffAmongReads, DoesAmongReads}
+use Rattle.file_store.proofs.Offered.{Does-none, among-then, cuts-among-then, does-among}
+use Rattle.node.specs.Course.{AtDisk}
+use Rattle.node.specs.declared.stop.NodeStop.{NodeStop as Stop}
+use Rattle.node.specs.declared.stop.NodeStop.TheVariants as node_stop
+use Rattle.server_node.specs.Steps.{Made, RunsOn, Steps, StopsBehind, StopsOn, StopsOver, WithStore, both, made, with_store}
+
+-- no events make nothing, and events and others behind them what both make
+pub record AreSteps {S E : Type 0} (steps : Steps S E) : Type 0 where
+  pub none : (s : S) → steps.goes s [] (made [] [] 0) s
+  pub on : (a b c : S) (xs ys : List E) (m n : Made) → steps.goes a xs m b → steps.goes b ys n c → steps.goes a (xs ++ ys) (both m n) c
+
+both-assoc : (a b c : Made) → both (both a b) c ≡ both a (both b c)
+both-assoc a b c =
+    ap (λ (t : List ℕ). made t ((a.done ++ b.done) ++ c.done) ((a.missed + b.missed) + c.missed)) (append_assoc a.text b.text c.text)
+    ∙ ap (λ (d : List Command). made (a.text ++ (b.text ++ c.text)) d ((a.missed + b.missed) + c.missed)) (append_assoc a.done b.done c.done)
+    ∙ ap (λ (n : ℕ). made (a.text ++ (b.text ++ c.text)) (a.done ++ (b.done ++ c.done)) n) (add_assoc a.missed b.missed c.missed)
+
+-- nothing is done
+pub does-none : {D : Type 0} (g : Ghosts D) (store : StoreState) (disk : D) → store.journal.failed ≡ false → StandsOn g store disk → g.lasts disk disk → DoesAmongReads g ⊥ 0 store store disk disk []
+does-none g store disk healthy stands lasts = does-among g ⊥ store store disk disk [] (Does-none g ⊥ store disk (λ never. never) stands healthy lasts)
+
+module _ {S E : Type 0} (steps : Steps S E) (laws : AreSteps steps) (why : Stop) (unsaid : Bool) where
+  -- a stop at the one event
+  pub stop-one : (s : S) (event : E) (all : Made) (cut : List Command) → steps.stops why unsaid s event all cut → StopsOver steps s (event ∷ []) why unsaid all cut
+  stop-one s event all cut h = record {
+    before = [];
+    next = event;
+    later = [];
+    events_are = refl;
+    earlier = made [] [] 0;
+    then_is = s;
+    goes = laws.none s;
+    last = all;
+    stops = h;
+    all_is = ap (λ (n : ℕ). made all.text all.done n) (sym (zero-add all.missed));
+  }
+
+  -- events that were taken, and a stop at one of others
+  stop-behind : (a b : S) (xs ys : List E) (m n : Made) (cut : List Command) → steps.goes a xs m b → StopsOver steps b ys why unsaid n cut → StopsBehind xs steps a (xs ++ ys) why unsaid (both m n) cut
+  stop-behind a b xs ys m n cut h k = record {
+    stops =
+        record {
+          before = xs ++ k.before;
+          next = k.next;
+          later = k.later;
+          events_are = ap (λ (es : List E). xs ++ es) k.events_are ∙ sym (append_assoc xs k.before (k.next ∷ k.later));
+          earlier = both m k.earlier;
+          then_is = k.then_is;
+          goes = laws.on a b k.then_is xs k.before m k.earlier h k.goes;
+          last = k.last;
+          stops = k.stops;
+          all_is = ap (both m) k.all_is ∙ sym (both-assoc m k.earlier k.last);
+        };
+    between = k.before;
+    in_order = refl;
+  }
+
+  -- ---- on the disk
+
+  module _ {D : Type 0} (g : Ghosts D) where
+    -- others behind the one at which it stopped
+    pub stops-more : (a : WithStore S D) (c : AtDisk StoreState D) (xs ys : List E) (text : List ℕ) → StopsOn g steps a c xs why unsaid text → StopsOn g steps a c (xs ++ ys) why unsaid text
+    stops-more a c xs ys text h = record {
+      done = h.done;
+      cut = h.cut;
+      missed = h.missed;
+      stops =
+          record {
+            before = h.stops.before;
+            next = h.stops.next;
+            later = h.stops.later ++ ys;
+            events_are = ap (λ (es : List E). es ++ ys) h.stops.events_are ∙ append_assoc h.stops.before (h.stops.next ∷ h.stops.later) ys;
+            earlier = h.stops.earlier;
+            then_is = h.stops.then_is;
+            goes = h.stops.goes;
+            last = h.stops.last;
+            stops = h.stops.stops;
+            all_is = h.stops.all_is;
+          };
+      cuts = h.cuts;
+      kept = h.kept;
+    }
+
+    -- others that were taken before it
+    module _ (on : (first second third : D) → g.lasts first second → g.lasts second third → g.lasts first third) (a b : WithStore S D) (c : AtDisk StoreState D) (xs ys : List E) (text more : List ℕ)
+        (h : RunsOn g steps a b xs text) (k : StopsOn g steps b c ys why unsaid more) where
+      pub behind-all : StopsBehind xs steps a.it (xs ++ ys) why unsaid (made (text ++ more) (h.done ++ k.done) (h.missed + k.missed)) k.cut
+      behind-all = stop-behind a.it b.it xs ys (made text h.done h.missed) (made more k.done k.missed) k.cut h.goes k.stops
+
+      pub cuts-all : CutsOffAmongReads g (why ≡ node_stop.Disk) (h.missed + k.missed) a.store c.it a.disk c.disk (h.done ++ k.done) k.cut
+      cuts-all = cuts-among-then g on (why ≡ node_stop.Disk) h.missed k.missed a.store b.store c.it a.disk b.disk c.disk h.done k.done k.cut h.does k.cuts
+
+      pub stops-on : StopsOn g steps a c (xs ++ ys) why unsaid (text ++ more)
+      stops-on = record { done = h.done ++ k.done; cut = k.cut; missed = h.missed + k.missed; stops = behind-all.stops; cuts = cuts-all; kept = k.kept }
+
+module _ {S E D : Type 0} (steps : Steps S E) (laws : AreSteps steps) (g : Ghosts D) where
+  pub runs-none : (s : S) (store : StoreState) (disk : D) → store.journal.failed ≡ false → StandsOn g store disk → g.lasts disk disk
+      → RunsOn g steps (with_store s store disk) (with_store s store disk) [] []
+  runs-none s store disk healthy stands lasts = record { done = []; missed = 0; goes = laws.none s; does = does-none g store disk healthy stands lasts }
+
+  pub runs-on : ((first second third : D) → g.lasts first second → g.lasts second third → g.lasts first third) → (a b c : WithStore S D) (xs ys : List E) (text more : List ℕ)
+      → RunsOn g steps a b xs text → RunsOn g steps b c ys more → RunsOn g steps a c (xs ++ ys) (text ++ more)
+  runs-on on a b c xs ys text more h k = record {
+    done = h.done ++ k.done;
+    missed = h.missed + k.missed;
+    goes = laws.on a.it b.it c.it xs ys (made text h.done h.missed) (made more k.done k.missed) h.goes k.goes;
+    does = among-then g on ⊥ ⊥ h.missed k.missed a.store b.store c.store a.disk b.disk c.disk h.done k.done (λ never. never) h.does k.does;
+  }

@@ -1,0 +1,4 @@
+mod ServesLemmas
+mod StationLemmas
+pub mod StoreLemmas
+mod TurnsLemmas

@@ -1,0 +1,316 @@
+-- How a server goes over the events of its node.
+use Rattle.std.proofs.Common.{◌≡◌, ℕ, ◌+◌, Bool, true, false, List, [], ◌∷◌, ◌++◌, Option, None, Some, refl, ap, sym, subst, ◌∙◌, inl, inr, true≢false, append_assoc, append-nil}
+use Rattle.std.specs.Prelude.{◌≢◌, Result, Ok, Err, ⊤}
+use Rattle.kiss.specs.KissText.{kiss_text}
+use Rattle.px_base.specs.Octets.{IsFront}
+use Rattle.disk_model.specs.declared.disk.Disk.{Ghosts}
+use Rattle.ax25_frames.specs.FrameText.{FrameValue, canonical}
+use Rattle.file_store.specs.Command.{Command}
+use Rattle.file_store.specs.State.{StoreState}
+use Rattle.file_store.specs.Working.{CutsOffAmongReads, DoesAmongReads}
+use Rattle.file_store.proofs.Offered.{among-healthy, cuts-among-none, cuts-among-same}
+use Rattle.node.specs.Course.{AtDisk, GaveAll, GivesNext, IsLawful, at, stop_at_put}
+use Rattle.node.specs.Events.{NodeEvent}
+use Rattle.node.specs.declared.halt.Halt.{Halt}
+use Rattle.node.specs.declared.halt.Halt.TheVariants as halt
+use Rattle.node.specs.declared.stop.NodeStop.{NodeStop as Stop}
+use Rattle.node.specs.declared.stop.NodeStop.TheVariants as node_stop
+use Rattle.ftl0_server.specs.Failures.{failed_reads, failed_write}
+use Rattle.ftl0_server.specs.Connection.Taking.{fails}
+use Rattle.ftl0_server.specs.ServerStop.{ServerStop}
+use Rattle.ftl0_server.specs.ServerStop.TheVariants as server_stop
+use Rattle.ftl0_server.specs.Connection.ConnectionState.{with_reads}
+use Rattle.ftl0_server.specs.Calls.{HandsOut, HandsOutNext, Hears, HearsBy}
+use Rattle.ftl0_server.specs.Server.{IsSilent, Server, ServerHappened, ServerSends, server_next, settled}
+use Rattle.ftl0_server.specs.ServerState.{IsServer, SendsFor, ServerState, server_pending}
+use Rattle.ftl0_server.specs.ServerStep.{Empties, ServerStep, happening}
+use Rattle.ftl0_server.proofs.Offered.{empties-silent, silent-settled, uncut}
+use Rattle.server_node.specs.Sessions.Running.{IsSaid}
+use Rattle.server_node.specs.OnAir.Serving.{StopsAt, TakesEvent, failing, server_steps, text_of}
+use Rattle.server_node.specs.OnAir.Station.{ComesOn, HaltsOn, IsServing, IsUp, OwesOver, OwesRest, StandsBy, WholeBy, server_course, serving_at, with_server}
+use Rattle.server_node.specs.Steps.{RunsOn, made, with_store}
+use Rattle.server_node.specs.declared.on_air.station.ServerStation.{ServerStation}
+use Rattle.server_node.proofs.StepsLemmas.{runs-none, runs-on, stop-one, stops-more, stops-on}
+use Rattle.server_node.proofs.on_air.ServesLemmas.{are_steps, serves-one}
+
+-- how a server answers an event, by the halt of its node
+abbrev answer_by : Option Halt → Result ⊤ ServerStop
+answer_by None = Ok tt
+answer_by (Some halt.Disk) = Err server_stop.Disk
+answer_by (Some halt.OutOfMemory) = Err server_stop.OutOfMemory
+
+-- whether nothing more is said
+abbrev silenced_by : Bool → Option Halt → Bool
+silenced_by before None = before
+silenced_by before (Some halt.Disk) = before
+silenced_by before (Some halt.OutOfMemory) = true
+
+module _ {D : Type 0} (g : Ghosts D) (lasts : (disk : D) → g.lasts disk disk) where
+  -- ---- one event
+
+  module _ (old new : AtDisk ServerStation D) (event : NodeEvent) (server : Server) (serving : IsServing old.it.server server) (made_so : ServerState) (parts : List ℕ) (same : new.it.server.store ≡ made_so.store) where
+    abbrev Heard : Result ⊤ ServerStop → Type 0
+    Heard result = HearsBy g (with_reads (happening server event) parts) old.it.server made_so old.disk new.disk result
+
+    -- what it makes of the server where no write and no sync fails
+    abbrev taken : ServerHappened
+    taken = happening server event (failed_reads parts)
+
+    moved : (missed : ℕ) (done : List Command) → DoesAmongReads g ⊥ missed old.it.server.store made_so.store old.disk new.disk done → DoesAmongReads g ⊥ missed old.it.server.store new.it.server.store old.disk new.disk done
+    moved missed done does = subst (λ (store : StoreState). DoesAmongReads g ⊥ missed old.it.server.store store old.disk new.disk done) (sym same) does
+
+    -- It stopped at the event.
+    stopped : (why : Stop) (unsaid : Bool) (text : List ℕ) (done cut : List Command) (missed : ℕ) → StopsAt why unsaid server event (made text done missed) cut
+        → CutsOffAmongReads g (why ≡ node_stop.Disk) missed old.it.server.store new.it.server.store old.disk new.disk done cut → (why ≡ node_stop.OutOfMemory → unsaid ≡ false)
+        → HaltsOn g server old (event ∷ []) why unsaid text new
+    stopped why unsaid text done cut missed at_event cuts kept =
+        record { done = done; cut = cut; missed = missed; stops = stop-one server_steps are_steps why unsaid server event (made text done missed) cut at_event; cuts = cuts; kept = kept }
+
+    -- Not by the disk.
+    none-cut : (why : Stop) → ¬ (why ≡ node_stop.Disk) → (done : List Command) (missed : ℕ) → DoesAmongReads g ⊥ missed old.it.server.store made_so.store old.disk new.disk done
+        → CutsOffAmongReads g (why ≡ node_stop.Disk) missed old.it.server.store new.it.server.store old.disk new.disk done []
+    none-cut why fine done missed does = cuts-among-none g _ missed old.it.server.store new.it.server.store old.disk new.disk done fine (lasts new.disk) (moved missed done does)
+
+    module _ (by : Heard (Ok tt)) (frames : List FrameValue) (last : Server) (sent : Empties taken.after frames last) where
+      takes-event : TakesEvent server event frames taken.done taken.missed (settled last)
+      takes-event = record {
+        parts = parts;
+        step = record { silent = serving.silent; done_is = refl; cut_is = sym (uncut parts server event); missed_is = refl; halt_is = sym by.0; last = last; sent = sent; new_is = refl };
+      }
+
+      -- All of it was taken, and its frames were said.
+      event-taken : IsServer new.it.server (settled last) → ComesOn g server old (event ∷ []) (text_of frames) new
+      event-taken stands = record {
+        next = settled last;
+        serving = record { is = stands; silent = silent-settled last (empties-silent taken.after frames last sent) };
+        runs = record { done = taken.done; missed = taken.missed; goes = serves-one server event taken.done frames taken.missed (settled last) takes-event; does = moved taken.missed taken.done by.2 };
+      }
+
+      -- All of it was taken, and saying its frames failed.
+      event-unsaid : (text : List ℕ) → frames ≢ [] → IsFront text (text_of frames) → HaltsOn g server old (event ∷ []) node_stop.AirWrite true text new
+      event-unsaid text some is_front =
+          stopped node_stop.AirWrite true text taken.done [] taken.missed (frames, settled last, takes-event, some, is_front, refl)
+          (none-cut node_stop.AirWrite (λ e. cc e) taken.done taken.missed by.2) (λ is. cc is)
+
+    -- The disk failed in it, and the frames of that step were said, or a front of them.
+    event-failed : (by : Heard (Err server_stop.Disk)) (frames : List FrameValue) (last : Server) → Empties (failing server event by.0 parts).after frames last → (text : List ℕ) (unsaid : Bool)
+        → IsSaid unsaid (text_of frames) text → HaltsOn g server old (event ∷ []) node_stop.Disk unsaid text new
+    event-failed by frames last sent text unsaid said =
+        let failed : ServerHappened = failing server event by.0 parts in
+        let step : ServerStep server event (failed_write by.0 ++ failed_reads parts) failed.done failed.cut failed.missed fails frames (settled last) =
+        record { silent = serving.silent; done_is = refl; cut_is = refl; missed_is = refl; halt_is = sym by.1; last = last; sent = sent; new_is = refl } in
+        stopped node_stop.Disk unsaid text failed.done failed.cut failed.missed (by.0, parts, frames, settled last, step, said)
+        (cuts-among-same g ⊤ (node_stop.Disk ≡ node_stop.Disk) failed.missed failed.missed old.it.server.store new.it.server.store old.disk new.disk failed.done failed.cut (λ _. refl) (λ _. tt) refl
+        (subst (λ (store : StoreState). CutsOffAmongReads g ⊤ failed.missed old.it.server.store store old.disk new.disk failed.done failed.cut) (sym same) by.3)) (λ is. cc is)
+
+    -- There was no memory for it.
+    event-unmade : Heard (Err server_stop.OutOfMemory) → HaltsOn g server old (event ∷ []) node_stop.OutOfMemory false [] new
+    event-unmade (inl does) = stopped node_stop.OutOfMemory false [] [] [] 0 (inl (refl, refl), refl, refl) (none-cut node_stop.OutOfMemory (λ e. cc e) [] 0 does) (λ is. refl)
+    event-unmade (inr by) =
+        let failed : ServerHappened = failing server event by.0 parts in
+        stopped node_stop.OutOfMemory false [] failed.done [] failed.missed (inr (by.0, parts, by.1, refl, refl), refl, refl)
+        (none-cut node_stop.OutOfMemory (λ e. cc e) failed.done failed.missed by.2) (λ is. refl)
+
+  -- It came, and its frames are to be said.
+  module _ (old : AtDisk ServerStation D) (made : ServerState) (disk : D) (event : NodeEvent) (up : IsUp g old) where
+    abbrev heard : Option Halt → AtDisk ServerStation D
+    heard why = at (record { server = made; is_out_of_memory = silenced_by old.it.is_out_of_memory why }) disk
+
+    owes-by : (why : Option Halt) (server : Server) (serving : IsServing old.it.server server) (parts : List ℕ) → HearsBy g (with_reads (happening server event) parts) old.it.server made old.disk disk (answer_by why)
+        → OwesOver g server old (event ∷ []) why [] (heard why)
+    owes-by None server serving parts by = record {
+      made = (happening server event (failed_reads parts)).after;
+      stands = by.1;
+      memory = up.memory;
+      whole = λ frames last self sent same stands settles. event-taken old (with_server (heard None) self) event server serving made parts same by frames last sent settles;
+      front = λ frames last self text sent same some is_front. event-unsaid old (with_server (heard None) self) event server serving made parts same by frames last sent text some is_front;
+    }
+    owes-by (Some halt.Disk) server serving parts by = record {
+      made = (failing server event by.0 parts).after;
+      stands = by.2;
+      memory = up.memory;
+      whole = λ frames last self sent same.
+          event-failed old (with_server (heard (Some halt.Disk)) self) event server serving made parts same by frames last sent (text_of frames) false refl;
+      front = λ frames last self text sent same some is_front.
+          event-failed old (with_server (heard (Some halt.Disk)) self) event server serving made parts same by frames last sent text true is_front;
+    }
+    owes-by (Some halt.OutOfMemory) server serving parts by = (refl, event-unmade old (heard (Some halt.OutOfMemory)) event server serving made parts refl by)
+
+    pub owes-event : (why : Option Halt) → ((server : Server) → IsServer old.it.server server → Hears g (happening server event) old.it.server made old.disk disk (answer_by why))
+        → (server_course g).owes old (event ∷ []) why [] (heard why)
+    owes-event why hears = (up, λ server serving. owes-by why server serving (hears server serving.is).parts (hears server serving.is).by)
+
+  -- ---- no events
+
+  comes-none : (start : AtDisk ServerStation D) (self : ServerState) (server : Server) → IsUp g start → self.store ≡ start.it.server.store → IsServing self server → ComesOn g server start [] [] (with_server start self)
+  comes-none start self server up same serving = record {
+    next = server;
+    serving = serving;
+    runs =
+        subst (λ (store : StoreState). RunsOn g server_steps (serving_at server start) (with_store server store start.disk) [] []) (sym same)
+        (runs-none server_steps are_steps g server start.it.server.store start.disk up.healthy up.stands_on (lasts start.disk));
+  }
+
+  pub goes-none : (start : AtDisk ServerStation D) → IsUp g start → (server_course g).goes start [] [] start
+  goes-none start up server serving = comes-none start start.it.server server up refl serving
+
+  -- a server that has nothing to send sends nothing
+  none-sent : (server : Server) (frames : List FrameValue) (last : Server) → IsSilent server → Empties server frames last → (frames ≡ []) × (last ≡ server)
+  none-sent server [] last silent sent = (refl, sent.1)
+  none-sent server (frame ∷ frames) last silent sent = absurd (cc (sym silent ∙ sent.1))
+
+  pub owes-none : (start : AtDisk ServerStation D) → IsUp g start → (server_course g).owes start [] None [] start
+  owes-none start up = (
+    up,
+    λ server serving. record {
+      made = server;
+      stands = serving.is;
+      memory = up.memory;
+      whole = λ frames last self sent same stands settles.
+          let none = none-sent server frames last serving.silent sent in
+          subst (λ (t : List ℕ). ComesOn g server start [] t (with_server start self)) (ap text_of (sym none.0))
+          (comes-none start self server up same (record { is = subst (λ (s : Server). IsServer self s) none.1 stands; silent = serving.silent }));
+      front = λ frames last self text sent same some. absurd (some (none-sent server frames last serving.silent sent).0);
+    },
+  )
+
+  -- ---- what is said
+
+  module _ (old : AtDisk ServerStation D) (server_n : ServerState) (out out_n : List ℕ) (answer : Bool) (pending : answer ≡ server_pending old.it.server) (fine : old.it.is_out_of_memory ≡ false)
+      (sends : HandsOutNext SendsFor old.it.server server_n out out_n answer) (serves : HandsOutNext IsServer old.it.server server_n out out_n answer) (store : server_n.store ≡ old.it.server.store) where
+    abbrev new : AtDisk ServerStation D
+    new = with_server old server_n
+
+    -- there was memory
+    not-silenced : {X : Type 0} → old.it.is_out_of_memory ≡ true → X
+    not-silenced is = absurd (true≢false (sym is ∙ fine))
+
+    hands : (why : Option Halt) → HandsOutNext (StandsBy why) old.it.server server_n out out_n answer
+    hands None = serves
+    hands (Some why) = sends
+
+    module _ (start : AtDisk ServerStation D) (events : List NodeEvent) (said : List ℕ) (server : Server) where
+      abbrev Rest : Option Halt → List ℕ → AtDisk ServerStation D → Type 0
+      Rest why text now = OwesRest g server start events why text now
+
+      rest : (why : Option Halt) → OwesOver g server start events why said old → Rest why said old
+      rest None h = h
+      rest (Some halt.Disk) h = h
+      rest (Some halt.OutOfMemory) h = not-silenced h.0
+
+      -- One frame more is given.
+      module _ (is : answer ≡ true) (why : Option Halt) (h : Rest why said old) where
+        next : (sends : ServerSends) × (server_next h.made ≡ Some sends) × StandsBy why server_n sends.after × (out_n ≡ canonical sends.frame)
+        next = by (server_next h.made) refl (hands why h.made h.stands)
+          where
+            by : (sends : Option ServerSends) → server_next h.made ≡ sends → HandsOut (StandsBy why) sends old.it.server server_n out out_n answer
+                → (sends : ServerSends) × (server_next h.made ≡ Some sends) × StandsBy why server_n sends.after × (out_n ≡ canonical sends.frame)
+            by None same out = absurd (true≢false (sym is ∙ out.0))
+            by (Some sends) same out = (sends, same, out.1, out.2)
+
+        rest-on : Rest why (said ++ kiss_text out_n) new
+        rest-on = record {
+          made = next.0.after;
+          stands = next.2;
+          memory = fine;
+          whole = λ frames last self sent same.
+              subst (λ (t : List ℕ). WholeBy g server start events why last t (with_server old self))
+              (ap (λ (o : List ℕ). said ++ (kiss_text o ++ text_of frames)) (sym next.3) ∙ sym (append_assoc said (kiss_text out_n) (text_of frames)))
+              (h.whole (next.0.frame ∷ frames) last self (next.0, next.1, refl, sent) (same ∙ store));
+          front = λ frames last self text sent same some is_front.
+              subst (λ (t : List ℕ). HaltsOn g server start events (stop_at_put why) true t (with_server old self)) (sym (append_assoc said (kiss_text out_n) text))
+              (h.front (next.0.frame ∷ frames) last self (kiss_text out_n ++ text) (next.0, next.1, refl, sent) (same ∙ store) (λ e. cc e) (
+                is_front.0,
+                ap (λ (t : List ℕ). kiss_text (canonical next.0.frame) ++ t) is_front.1 ∙ ap (λ (o : List ℕ). kiss_text o ++ (text ++ is_front.0)) (sym next.3)
+                    ∙ sym (append_assoc (kiss_text out_n) text is_front.0),
+              ));
+        }
+
+        -- Saying it failed.
+        rest-cut : ((then_is : Server) → StandsBy why server_n then_is → (frames : List FrameValue) × (last : Server) × Empties then_is frames last) → (front : List ℕ) → IsFront front (kiss_text out_n)
+            → HaltsOn g server start events (stop_at_put why) true (said ++ front) new
+        rest-cut ends front is_front =
+            let later = ends next.0.after next.2 in
+            h.front (next.0.frame ∷ later.0) later.1 server_n front (next.0, next.1, refl, later.2) store (λ e. cc e) (
+              is_front.0 ++ text_of later.0,
+              ap (λ (o : List ℕ). kiss_text o ++ text_of later.0) (sym next.3) ∙ ap (λ (t : List ℕ). t ++ text_of later.0) is_front.1 ∙ append_assoc front is_front.0 (text_of later.0),
+            )
+
+      -- All was given.
+      module _ (is : answer ≡ false) (why : Option Halt) (h : Rest why said old) where
+        no-next : Empties h.made [] h.made × (server_n ≡ old.it.server)
+        no-next = by (server_next h.made) refl (hands why h.made h.stands)
+          where
+            by : (sends : Option ServerSends) → server_next h.made ≡ sends → HandsOut (StandsBy why) sends old.it.server server_n out out_n answer → Empties h.made [] h.made × (server_n ≡ old.it.server)
+            by None same out = ((same, refl), out.1)
+            by (Some sends) same out = absurd (true≢false (sym out.0 ∙ is))
+
+        rest-whole : WholeBy g server start events why h.made said new
+        rest-whole = subst (λ (t : List ℕ). WholeBy g server start events why h.made t new) (append-nil said) (h.whole [] h.made server_n no-next.0 store)
+
+    module _ (is : answer ≡ true) (ends : (then_is : Server) → SendsFor server_n then_is → (frames : List FrameValue) × (last : Server) × Empties then_is frames last) where
+      ends-by : (why : Option Halt) (then_is : Server) → StandsBy why server_n then_is → (frames : List FrameValue) × (last : Server) × Empties then_is frames last
+      ends-by None then_is stands = ends then_is stands.sends
+      ends-by (Some why) then_is stands = ends then_is stands
+
+      goes-on : (start : AtDisk ServerStation D) (events : List NodeEvent) (why : Option Halt) (said : List ℕ) (server : Server) → OwesOver g server start events why said old
+          → OwesOver g server start events why (said ++ kiss_text out_n) new
+      goes-on start events None said server h = rest-on start events said server is None h
+      goes-on start events (Some halt.Disk) said server h = rest-on start events said server is (Some halt.Disk) h
+      goes-on start events (Some halt.OutOfMemory) said server h = not-silenced h.0
+
+      pub gives-next : GivesNext (server_course g) old (kiss_text out_n) new
+      gives-next = record {
+        goes_on = λ start events why said h. (h.0, λ server serving. goes-on start events why said server (h.1 server serving));
+        cut_off = λ start events why said front is_front h server serving.
+            rest-cut start events said server is why (rest start events said server why (h.1 server serving)) (ends-by why) front is_front;
+      }
+
+    module _ (is : answer ≡ false) (settles : (server : Server) → IsServer old.it.server server → IsServer server_n (settled server)) where
+      pub gave-all : GaveAll (server_course g) old new
+      gave-all start events None said h =
+          let runs-on : (server_course g).goes start events said new = λ server serving.
+          let rest = h.1 server serving in
+          rest-whole start events said server is None rest (subst (λ (s : ServerState). IsServer s rest.made) (sym (no-next start events said server is None rest).1) rest.stands) (settles rest.made rest.stands) in
+          let runs = runs-on h.0.server h.0.serving in
+          let same = (no-next start events said h.0.server is None (h.1 h.0.server h.0.serving)).1 in (
+            runs-on,
+            record {
+              healthy = among-healthy g runs.runs.missed start.it.server.store server_n.store start.disk old.disk runs.runs.done runs.runs.does;
+              stands_on = runs.runs.does.stands_on;
+              silent = ap server_pending same ∙ sym pending ∙ is;
+              memory = fine;
+              server = runs.next;
+              serving = runs.serving;
+            },
+          )
+      gave-all start events (Some halt.Disk) said h = λ server serving. rest-whole start events said server is (Some halt.Disk) (h.1 server serving)
+      gave-all start events (Some halt.OutOfMemory) said h = λ server serving. not-silenced (h.1 server serving).0
+
+  -- After want of memory nothing is said.
+  pub gave-none : (old : AtDisk ServerStation D) → old.it.is_out_of_memory ≡ true → GaveAll (server_course g) old old
+  gave-none old silenced start events None said h = absurd (true≢false (sym silenced ∙ (h.1 h.0.server h.0.serving).memory))
+  gave-none old silenced start events (Some halt.Disk) said h = λ server serving. absurd (true≢false (sym silenced ∙ (h.1 server serving).memory))
+  gave-none old silenced start events (Some halt.OutOfMemory) said h = λ server serving. (h.1 server serving).1
+
+  -- ---- its laws
+
+  module _ (on : (first second third : D) → g.lasts first second → g.lasts second third → g.lasts first third) where
+    pub lawful : IsLawful (server_course g) (λ event. ⊤)
+    lawful = record {
+      owes_none = owes-none;
+      goes_none = goes-none;
+      goes_on = λ start mid now events others text more h k server serving.
+          let first = h server serving in
+          let second = k first.next first.serving in
+          record {
+            next = second.next;
+            serving = second.serving;
+            runs = runs-on server_steps are_steps g on (serving_at server start) (serving_at first.next mid) (serving_at second.next now) events others text more first.runs second.runs;
+          };
+      halts_behind = λ start mid now events others text more why unsaid h k server serving.
+          let first = h server serving in
+          stops-on server_steps are_steps why unsaid g on (serving_at server start) (serving_at first.next mid) (at now.it.server.store now.disk) events others text more first.runs (k first.next first.serving);
+      halts_before = λ start now events others text why unsaid any h server serving.
+          stops-more server_steps are_steps why unsaid g (serving_at server start) (at now.it.server.store now.disk) events others text (h server serving);
+    }

@@ -1,0 +1,4 @@
+mod CourseLemmas
+mod PacketLemmas
+pub mod RunLemmas
+pub mod Sessions

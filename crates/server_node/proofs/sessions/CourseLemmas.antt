@@ -1,0 +1,498 @@
+-- The course of a session's server: that it is lawful, what the server owes by what it hears, and what it gives.
+use Rattle.std.proofs.Common.{◌≡◌, inl, inr, ℕ, Bool, false, None, List, [], ◌++◌, refl, ap, ap₂, sym, ◌∙◌, subst, append_assoc, append-nil, ◌⊎◌, suc, ◌+◌, ◌==◌, ◌<◌, ◌∷◌, length, true, Option, Some, arith, take, map}
+use Rattle.std.specs.List.{AllByRecursion}
+use Rattle.px_base.specs.CallSign.{CallSign}
+use Rattle.disk_model.specs.declared.disk.Disk.{Ghosts}
+use Rattle.file_store.specs.State.{store_in, StoreState}
+use Rattle.ftl0_session.specs.Uploads.Events.{Event, at_moment}
+use Rattle.ftl0_session.specs.Answering.{IsAnswering, met_with, octets_left}
+use Rattle.ftl0_session.specs.Run.{Event as MetEvent, RunsOver, heard_of}
+use Rattle.ftl0_session.specs.Table.{next_due, Row, State, download_part, failed_reads_told, tells_failed_read}
+use Rattle.node.specs.Course.{AtDisk, IsLawful, GaveAll, GivesNext, OwesSome, at, stop_at_put, stop_of}
+use Rattle.node.specs.Inputs.{Input, IsInput, octets_at, octets_in}
+use Rattle.node.specs.declared.stop.NodeStop.{NodeStop as Stop}
+use Rattle.node.proofs.InputLemmas.{are-octets, octets_in-at}
+use Rattle.server_node.specs.Sessions.Course.{GoesOver, HaltsOver, IsReady, session_course, IsUnderWay, IsAnswered, IsHalting, IsRowOf, IsStopped, IsUnsaidFirst, LastOf, Owes, OwesAll, most_left, session_at, session_in}
+use Rattle.server_node.specs.Sessions.Packets.{events_behind, events_to, waiting_behind}
+use Rattle.server_node.specs.Sessions.Running.{StopsAt, session_steps}
+use Rattle.server_node.specs.Steps.{RunsOn, StopsOn, StopsOver, made}
+use Rattle.server_node.specs.Sessions.ServerState.{IsUp, ServerState}
+use Rattle.server_node.specs.Stops.{halt_of_session}
+use Rattle.server_node.proofs.sessions.PacketLemmas.{both-octets, events-append, events-then, hears-none, hears-then, events-of}
+use Rattle.server_node.proofs.StepsLemmas.{does-none, runs-none, runs-on, stop-one, stops-more, stops-on}
+use Rattle.server_node.proofs.sessions.RunLemmas.{are_steps}
+use Rattle.ftl0_packets.proofs.SplitLemmas.{nothing_partial, texts-append, under-way-whole}
+use Rattle.ftl0_session.proofs.Offered.{answer-all, answer-first, answer-more, answer-some, row-first, smaller, with_part}
+use Rattle.std.proofs.Math.Nat.{add-zero}
+use Rattle.std.proofs.lemmas.Bool.Decides.{nat_tests}
+use Rattle.px_base.specs.Octets.{IsFront, IsOctets}
+use Rattle.ftl0_packets.specs.Items.{texts}
+use Rattle.ftl0_packets.specs.Layout.{PacketValue, packet_text, Item, PacketText}
+use Rattle.file_store.specs.Command.{Command}
+use Rattle.file_store.specs.Working.{CutsOffAmongReads, DoesAmongReads, one_if}
+use Rattle.file_store.proofs.Offered.{among-at, among-same, among-store, among-then, cuts-among-none, cuts-among-same}
+use Rattle.ftl0_session.specs.Uploads.SessionState.{IsHeld, IsOnlyOut}
+use Rattle.ftl0_session.specs.Downloads.Needs.{AreComplete, IsDueIn}
+use Rattle.ftl0_session.specs.Filling.{PutsDue}
+use Rattle.ftl0_session.specs.SessionState.{SessionState, state_in}
+use Rattle.ftl0_session.specs.Taking.{row_over, TakesPacket, Working}
+use Rattle.ftl0_session.proofs.WorkingLemmas.{Sent, due-among, told-append, taken-among, taken-cut, taken-none}
+use Rattle.node.specs.declared.halt.Halt.{Halt}
+use Rattle.server_node.specs.Sessions.Server.{IsServer, IsWaiting}
+use Rattle.server_node.specs.declared.sessions.server.SessionServer.TheInside.{Inside}
+use Rattle.std.specs.Prelude.{Result, Ok, Err, IsTrue, ⊤}
+use Rattle.ftl0_packets.specs.Reading.{is_whole, under_way}
+use Rattle.ftl0_packets.specs.Stream.{IsPartial, Stream}
+use Rattle.ftl0_packets.proofs.OctetLemmas.{IsOctets-take, IsOctets-nil}
+use Rattle.ftl0_session.specs.declared.stop.ServerStop.{ServerStop}
+use Rattle.node.specs.declared.halt.Halt.TheVariants as halt
+use Rattle.node.specs.declared.stop.NodeStop.TheVariants as node_stop
+use Rattle.ftl0_session.specs.declared.stop.ServerStop.TheVariants as session_stop
+
+-- ---- texts
+
+-- a text that ends with some octets isn't empty
+some-last : (a b : List ℕ) → (b ≡ [] → ⊥) → a ++ b ≡ [] → ⊥
+some-last [] b some none = some none
+some-last (x ∷ a) b some none = absurd (cc none)
+
+-- a front of a text's end, behind the rest of it
+front-behind : (said text front all : List ℕ) → IsFront front text → said ++ text ≡ all → IsFront (said ++ front) all
+front-behind said text front all h is = (h.0, sym is ∙ ap (λ (t : List ℕ). said ++ t) h.1 ∙ sym (append_assoc said front h.0))
+
+-- a text behind none
+said-behind : (replies text more : List ℕ) → replies ≡ [] → text ≡ replies ++ more → text ≡ more
+said-behind replies text more silent is = is ∙ ap (λ (t : List ℕ). t ++ more) silent
+
+texts-last : (sent : List PacketValue) (packet : PacketValue) → texts (sent ++ packet ∷ []) ≡ texts sent ++ packet_text packet
+texts-last sent packet = texts-append sent (packet ∷ []) ∙ ap (λ (text : List ℕ). texts sent ++ text) (append-nil (packet_text packet))
+
+-- no items are none
+pub is-nil : {X : Type 0} (xs : List X) → (length xs == 0) ≡ true → xs ≡ []
+is-nil [] e = refl
+is-nil (x ∷ xs) e = absurd (let zero : suc (length xs) ≡ 0 = grind (arith, nat_tests) in omega arith)
+
+pub not-nil : {X : Type 0} (xs : List X) → (length xs == 0) ≡ false → xs ≡ [] → ⊥
+not-nil xs some none = let e : true ≡ false = sym (ap (λ ys. length ys == 0) none) ∙ some in absurd (cc e)
+
+-- ---- the course is lawful
+
+module _ {D : Type 0} (g : Ghosts D) (lasts : (disk : D) → g.lasts disk disk) (on : (first second third : D) → g.lasts first second → g.lasts second third → g.lasts first third) where
+  -- before the first input, whatever it has to say
+  pub owes-first : (a : AtDisk ServerState D) → IsUp g a.it.store a.disk → a.it.halted ≡ false → ((fails : Bool) → next_due (store_in a.it.store) a.it.state fails ≡ None) → Owes g a [] None [] a
+  owes-first a up going none_due = record {
+    hears = record { caller = refl; are_octets = IsOctets-nil; waits = refl };
+    goes_on = going;
+    said = [];
+    text_is = sym (append-nil a.it.replies);
+    commands = [];
+    answered = (refl, refl, refl, refl, refl, none_due);
+    does = does-none g a.it.store a.disk up.healthy up.stands_on (lasts a.disk);
+  }
+
+  goes-none : (a : AtDisk ServerState D) → IsReady g a → GoesOver g a [] [] a
+  goes-none a ready = record {
+    hears = hears-none a.it;
+    silent = ready.silent;
+    replies = [];
+    text_is = sym (append-nil a.it.replies ∙ ready.silent);
+    runs = runs-none (session_steps a.it.caller) (are_steps a.it.caller) g (session_in a.it) a.it.store a.disk ready.up.healthy ready.up.stands_on (lasts a.disk);
+  }
+
+  module _ (a b c : AtDisk ServerState D) (xs ys : List Input) (text more : List ℕ) (h : GoesOver g a xs text b) where
+    -- the text of both
+    text-then : (replies : List ℕ) → more ≡ b.it.replies ++ replies → text ++ more ≡ a.it.replies ++ (h.replies ++ replies)
+    text-then replies is = ap₂ (λ (t u : List ℕ). t ++ u) h.text_is (said-behind b.it.replies more replies h.silent is) ∙ append_assoc a.it.replies h.replies replies
+
+    goes-on : GoesOver g b ys more c → GoesOver g a (xs ++ ys) (text ++ more) c
+    goes-on k = record {
+      hears = hears-then a.it b.it xs h.hears c.it ys k.hears;
+      silent = k.silent;
+      replies = h.replies ++ k.replies;
+      text_is = text-then k.replies k.text_is;
+      runs =
+          subst (λ (es : List Event). RunsOn g (session_steps a.it.caller) (session_at a) (session_at c) es (h.replies ++ k.replies)) (sym (events-then a.it b.it xs h.hears ys))
+          (runs-on (session_steps a.it.caller) (are_steps a.it.caller) g on (session_at a) (session_at b) (session_at c) (events_to a.it xs) (events_to b.it ys) h.replies k.replies h.runs
+          (subst (λ (call : CallSign). RunsOn g (session_steps call) (session_at b) (session_at c) (events_to b.it ys) k.replies) h.hears.caller k.runs));
+    }
+
+    halts-behind : (why : Stop) (unsaid : Bool) → HaltsOver g b ys why unsaid more c → HaltsOver g a (xs ++ ys) why unsaid (text ++ more) c
+    halts-behind why unsaid k = (
+      both-octets xs ys h.hears.are_octets k.0,
+      elim k.1 [
+        | inl first ↦ absurd (first.some h.silent)
+        | inr stopped ↦ inr (record {
+          replies = h.replies ++ stopped.replies;
+          text_is = text-then stopped.replies stopped.text_is;
+          stops =
+              subst (λ (es : List Event). StopsOn g (session_steps a.it.caller) (session_at a) (at c.it.store c.disk) es why unsaid (h.replies ++ stopped.replies)) (sym (events-then a.it b.it xs h.hears ys))
+              (stops-on (session_steps a.it.caller) (are_steps a.it.caller) why unsaid g on (session_at a) (session_at b) (at c.it.store c.disk) (events_to a.it xs) (events_to b.it ys) h.replies stopped.replies h.runs
+              (subst (λ (call : CallSign). StopsOn g (session_steps call) (session_at b) (at c.it.store c.disk) (events_to b.it ys) why unsaid stopped.replies) h.hears.caller stopped.stops));
+        })
+      ],
+    )
+
+  halts-before : (a c : AtDisk ServerState D) (xs ys : List Input) (text : List ℕ) (why : Stop) (unsaid : Bool) → AllByRecursion IsInput ys → HaltsOver g a xs why unsaid text c
+      → HaltsOver g a (xs ++ ys) why unsaid text c
+  halts-before a c xs ys text why unsaid inputs h = (
+    both-octets xs ys h.0 (are-octets ys inputs),
+    elim h.1 [
+      | inl first ↦ inl first
+      | inr stopped ↦ inr (record {
+        replies = stopped.replies;
+        text_is = stopped.text_is;
+        stops =
+            subst (λ (es : List Event). StopsOn g (session_steps a.it.caller) (session_at a) (at c.it.store c.disk) es why unsaid stopped.replies) (sym (events-append a.it.octets xs ys))
+            (stops-more (session_steps a.it.caller) (are_steps a.it.caller) why unsaid g (session_at a) (at c.it.store c.disk) (events_to a.it xs) (events_behind (waiting_behind a.it.octets xs) ys) stopped.replies
+            stopped.stops);
+      })
+    ],
+  )
+
+  pub lawful : IsLawful (session_course g) IsInput
+  lawful = record {
+    owes_none = λ a ready. owes-first a ready.up ready.goes_on ready.none_due;
+    goes_none = goes-none;
+    goes_on = λ a b c xs ys text more h k. goes-on a b c xs ys text more h k;
+    halts_behind = λ a b c xs ys text more why unsaid h k. halts-behind a b c xs ys text more h why unsaid k;
+    halts_before = halts-before;
+  }
+
+-- ---- a server whose session was asked for what is due
+
+-- its caller and its store stay
+pub filled : (a : ServerState) (caller : CallSign) (store : StoreState) (state : State) → caller ≡ a.caller → store ≡ a.store
+    → record a { caller = caller; store = store; state = state } ≡ record a { state = state }
+filled a caller store state h k =
+    ap (λ c. record a { caller = c; store = store; state = state }) h ∙ ap (λ s. record a { store = s; state = state }) k
+
+pub server-filled : (a : Inside) (store : StoreState) (session : SessionState) → store ≡ a.store → session.uploads ≡ a.session.uploads → IsDueIn (store_in store) session.downloads → IsServer a
+    → IsServer (record a { session = session; store = store })
+server-filled a store session h k due is = record {
+  held = subst (λ (s : StoreState). IsHeld s session.uploads) (sym h) (subst (IsHeld a.store) (sym k) is.held);
+  only = subst (λ (s : StoreState). IsOnlyOut s session.uploads) (sym h) (subst (IsOnlyOut a.store) (sym k) is.only);
+  due = due;
+  complete = subst (λ (s : StoreState). AreComplete (store_in s) a.lists) (sym h) is.complete;
+  waiting = is.waiting;
+}
+
+-- ---- a stop at the one packet that was taken
+
+module _ {D : Type 0} (g : Ghosts D) (old : AtDisk ServerState D) (new : AtDisk StoreState D) (events : List Event) (event : Event) (only : events ≡ event ∷ []) (parts : List ℕ) (row : Row)
+    (is_row : IsRowOf old.it (met_with event parts) row) (why : Stop) (unsaid : Bool) (text : List ℕ) where
+  stop-at : (done cut : List Command) (missed : ℕ) → StopsAt why unsaid (session_in old.it) (met_with event parts) row (made text done missed) cut
+      → CutsOffAmongReads g (why ≡ node_stop.Disk) missed old.it.store new.it old.disk new.disk done cut → (why ≡ node_stop.OutOfMemory → unsaid ≡ false)
+      → StopsOn g (session_steps old.it.caller) (session_at old) new events why unsaid text
+  stop-at done cut missed stops cuts kept = record {
+    done = done;
+    cut = cut;
+    missed = missed;
+    stops =
+        subst (λ (es : List Event). StopsOver (session_steps old.it.caller) (session_in old.it) es why unsaid (made text done missed) cut) (sym only)
+        (stop-one (session_steps old.it.caller) (are_steps old.it.caller) why unsaid (session_in old.it) event (made text done missed) cut
+        (record { met = met_with event parts; heard = refl; stops = subst (λ (r : Row). StopsAt why unsaid (session_in old.it) (met_with event parts) r (made text done missed) cut) (sym is_row) stops }));
+    cuts = cuts;
+    kept = kept;
+  }
+
+module _ {D : Type 0} (g : Ghosts D) (lasts : (disk : D) → g.lasts disk disk) (start : AtDisk ServerState D) (inputs : List Input) (now : AtDisk ServerState D) where
+  -- ---- it halts, and its last reply was said whole, or a put of it failed
+
+  stops-so : (why : Halt) (text : List ℕ) (h : IsHalting g start inputs why text now) (unsaid : Bool) (said : List ℕ) → (stop_of why ≡ node_stop.OutOfMemory → unsaid ≡ false)
+      → StopsAt (stop_of why) unsaid (session_in start.it) (met_with h.event h.parts) h.row (made said [] (failed_reads_told h.row.replies)) h.cut → HaltsOver g start inputs (stop_of why) unsaid said now
+  stops-so why text h unsaid said kept stops = (
+    h.are_octets,
+    inr (record {
+      replies = said;
+      text_is = ap (λ (t : List ℕ). t ++ said) (sym h.silent);
+      stops =
+          let missed : ℕ = failed_reads_told h.row.replies in
+          stop-at g start (at now.it.store now.disk) (events_to start.it inputs) h.event h.only h.parts h.row h.is_row (stop_of why) unsaid said [] h.cut missed stops
+          (cuts-among-same g (why ≡ halt.Disk) (stop_of why ≡ node_stop.Disk) missed missed start.it.store now.it.store start.disk now.disk [] h.cut (ap stop_of) (by-disk why) refl h.cuts) kept;
+    }),
+  )
+    where
+      by-disk : (why : Halt) → stop_of why ≡ node_stop.Disk → why ≡ halt.Disk
+      by-disk halt.Disk is = refl
+      by-disk halt.OutOfMemory is = absurd (cc is)
+
+  halts-whole : (why : Halt) (text : List ℕ) → IsHalting g start inputs why text now → HaltsOver g start inputs (stop_of why) false text now
+  halts-whole halt.Disk text h = stops-so halt.Disk text h false text (λ is. refl) (h.last.0, refl, refl, h.last.1)
+  halts-whole halt.OutOfMemory text h =
+      stops-so halt.OutOfMemory text h false text (λ is. refl) (h.last.0, ap (λ (t : List ℕ). made t [] (failed_reads_told h.row.replies)) h.last.1, h.last.2)
+
+  -- a put failed, behind a front of this text
+  module _ (said text front : List ℕ) (some : text ≡ [] → ⊥) (is_front : IsFront front text) where
+    halts-cut : (why : Option Halt) → OwesAll g start inputs why (said ++ text) now → HaltsOver g start inputs (stop_at_put why) true (said ++ front) now
+    halts-cut (Some halt.Disk) h =
+        stops-so halt.Disk (said ++ text) h true (said ++ front) (λ is. absurd (cc is)) (front-behind said text front _ is_front h.last.0, refl, refl, h.last.1)
+    halts-cut (Some halt.OutOfMemory) h = absurd (some-last said text some h.last.1)
+    halts-cut None h = (h.hears.are_octets, by (events_to start.it inputs) refl h.answered)
+      where
+        does : (missed : ℕ) (commands : List Command) → failed_reads_told h.said ≡ missed → h.commands ≡ commands → DoesAmongReads g ⊥ missed start.it.store now.it.store start.disk now.disk commands
+        does missed commands same these =
+            among-at g ⊥ missed start.it.store now.it.store start.disk now.disk h.commands commands these
+            (among-same g ⊥ ⊥ (failed_reads_told h.said) missed start.it.store now.it.store start.disk now.disk h.commands (λ p. p) (λ p. p) same h.does)
+
+        by : (events : List Event) → events_to start.it inputs ≡ events → IsAnswered start.it now.it.store now.it.lists now.it.state events h.said h.commands
+            → IsUnsaidFirst g start node_stop.AirWrite (said ++ front) now ⊎ IsStopped g start inputs node_stop.AirWrite true (said ++ front) now
+        by [] is none =
+            let first : said ++ text ≡ start.it.replies = h.text_is ∙ ap (λ (ps : List PacketValue). start.it.replies ++ texts ps) none.0 ∙ append-nil start.it.replies in
+            inl (record {
+              some = λ empty. some-last said text some (first ∙ empty);
+              front = front-behind said text front start.it.replies is_front first;
+              why_is = refl;
+              does = does 0 [] (ap failed_reads_told none.0) none.1;
+            })
+        by (event ∷ []) is an =
+            let row : Row = an.1.row in
+            let answer : List PacketValue = row.replies ++ an.1.sent in
+            let whole : said ++ text ≡ texts answer = said-behind start.it.replies (said ++ text) (texts h.said) an.0 h.text_is ∙ ap texts an.1.said_is in
+            inr (record {
+              replies = said ++ front;
+              text_is = ap (λ (t : List ℕ). t ++ (said ++ front)) (sym an.0);
+              stops =
+                  stop-at g start (at now.it.store now.disk) (events_to start.it inputs) event is an.1.parts row an.1.is_row node_stop.AirWrite true (said ++ front) row.commands [] (failed_reads_told answer) (
+                    an.1.sent,
+                    answer-some start.it.caller (session_in start.it) event h.said h.commands now.it.lists now.it.state an.1,
+                    (λ none. some-last said text some (whole ∙ none)),
+                    front-behind said text front (texts answer) is_front whole,
+                    refl,
+                    refl,
+                    refl,
+                  )
+                  (cuts-among-none g (node_stop.AirWrite ≡ node_stop.Disk) (failed_reads_told answer) start.it.store now.it.store start.disk now.disk row.commands (λ e. cc e) (lasts now.disk)
+                  (does (failed_reads_told answer) row.commands (ap failed_reads_told an.1.said_is) an.1.commands_are)) (λ memory. absurd (cc memory));
+            })
+        by (event ∷ next ∷ events) is never = absurd never
+
+  -- ---- it goes on, and all was given
+
+  settled : (text : List ℕ) → now.it.replies ≡ [] → ((fails : Bool) → next_due (store_in now.it.store) now.it.state fails ≡ None) → IsUnderWay g start inputs text now
+      → GoesOver g start inputs text now × IsReady g now
+  settled text silent none_due h = (
+    record { hears = h.hears; silent = silent; replies = texts h.said; text_is = h.text_is; runs = by (events_to start.it inputs) h.answered },
+    record { up = record { healthy = (h.does.done (λ never. never)).1; stands_on = h.does.stands_on }; goes_on = h.goes_on; silent = silent; none_due = none_due },
+  )
+    where
+      ran : (events : List Event) (met : List MetEvent) → map heard_of met ≡ events
+          → RunsOver start.it.caller (store_in start.it.store) start.it.lists start.it.state met h.said h.commands (store_in now.it.store) now.it.lists now.it.state
+          → RunsOn g (session_steps start.it.caller) (session_at start) (session_at now) events (texts h.said)
+      ran events met heard runs =
+          record { done = h.commands; missed = failed_reads_told h.said; goes = record { met = met; heard = heard; said = h.said; text_is = refl; missed_is = refl; runs = runs }; does = h.does }
+
+      by : (events : List Event) → IsAnswered start.it now.it.store now.it.lists now.it.state events h.said h.commands
+          → RunsOn g (session_steps start.it.caller) (session_at start) (session_at now) events (texts h.said)
+      by [] none = ran [] [] refl (none.0, none.1, ap store_in none.2, none.3, none.4)
+      by (event ∷ []) an =
+          ran (event ∷ []) (met_with event an.1.parts ∷ []) refl
+          (answer-all start.it.caller (session_in start.it) event h.said h.commands now.it.lists now.it.state an.1 (store_in now.it.store)
+          (among-store g (failed_reads_told h.said) start.it.store now.it.store start.disk now.disk h.commands h.does) none_due)
+      by (event ∷ next ∷ events) never = absurd never
+
+module _ {D : Type 0} (g : Ghosts D) (lasts : (disk : D) → g.lasts disk disk) (on : (first second third : D) → g.lasts first second → g.lasts second third → g.lasts first third)
+    (a : ServerState) (disk : D) where
+  abbrev now : AtDisk ServerState D
+  now = at a disk
+
+  -- it goes on, and one that halted doesn't
+  not-both : (b : Bool) → b ≡ true → b ≡ false → ⊥
+  not-both b is not = absurd (let e : true ≡ false = sym is ∙ not in cc e)
+
+  abbrev replying : List ℕ → AtDisk ServerState D
+  replying replies = at (record a { replies = replies }) disk
+
+  -- all was said
+  ended : (start : AtDisk ServerState D) (inputs : List Input) (why : Option Halt) (text : List ℕ) → Owes g start inputs why text (replying []) → OwesAll g start inputs why text (replying [])
+  ended start inputs why text h = subst (λ (t : List ℕ). OwesAll g start inputs why t (replying [])) (append-nil text) h
+
+  pub gave-all : a.replies ≡ [] → ((fails : Bool) → next_due (store_in a.store) a.state fails ≡ None) → a.halted ≡ false → GaveAll (session_course g) now now
+  gave-all silent none_due going = subst (λ (r : List ℕ). GaveAll (session_course g) (replying r) (replying r)) (sym silent) by
+    where
+      by : GaveAll (session_course g) (replying []) (replying [])
+      by start inputs None text h = settled g lasts start inputs (replying []) text refl none_due (ended start inputs None text h)
+      by start inputs (Some why) text h = absurd (not-both a.halted h.halted going)
+
+  pub gave-last : a.replies ≡ [] → a.halted ≡ true → GaveAll (session_course g) now now
+  gave-last silent halted = subst (λ (r : List ℕ). GaveAll (session_course g) (replying r) (replying r)) (sym silent) by
+    where
+      by : GaveAll (session_course g) (replying []) (replying [])
+      by start inputs None text h = absurd (not-both a.halted halted h.goes_on)
+      by start inputs (Some why) text h = halts-whole g lasts start inputs (replying []) why text (ended start inputs (Some why) text h)
+
+  -- while it goes on its store is up
+  pub owes-up : a.halted ≡ false → OwesSome (session_course g) now → IsUp g a.store disk
+  owes-up going (start, inputs, None, text, h) = record { healthy = (h.does.done (λ never. never)).1; stands_on = h.does.stands_on }
+  owes-up going (start, inputs, Some why, text, h) = absurd (not-both a.halted h.halted going)
+
+  -- the replies are given
+  pub gives-replies : (a.replies ≡ [] → ⊥) → GivesNext (session_course g) now a.replies (replying [])
+  gives-replies some = record {
+    goes_on = λ start inputs why text h. subst (λ (t : List ℕ). OwesAll g start inputs why t (replying [])) (sym (append-nil (text ++ a.replies))) h;
+    cut_off = λ start inputs why text front is_front h. halts-cut g lasts start inputs (replying []) text a.replies front some is_front why h;
+  }
+
+  -- ---- a packet that is due
+
+  module _ (going : a.halted ≡ false) (disk_n : D) (state_n : State) (out out_n : List ℕ) (puts : PutsDue g (store_in a.store) disk disk_n a.state state_n out out_n true) where
+    abbrev given : List ℕ → AtDisk ServerState D
+    given replies = at (record a { state = state_n; replies = replies }) disk_n
+
+    module _ (start : AtDisk ServerState D) (inputs : List Input) (text : List ℕ) (h : IsUnderWay g start inputs text (replying [])) where
+      packet : Sent g a.store disk disk_n a.state state_n out_n puts.fails
+      packet = due-among g a.store disk disk_n a.state state_n out out_n puts (h.does.done (λ never. never)).1 h.does.stands_on
+
+      abbrev said_n : List PacketValue
+      said_n = h.said ++ packet.next.packet ∷ []
+
+      answered-more : (events : List Event) → IsAnswered start.it a.store a.lists a.state events h.said h.commands → IsAnswered start.it a.store a.lists state_n events said_n h.commands
+      answered-more [] none =
+          let is : next_due (store_in start.it.store) start.it.state puts.fails ≡ Some packet.next =
+          ap₂ (λ s st. next_due (store_in s) st puts.fails) (sym none.2) (sym none.4) ∙ packet.is_next in
+          let e : None ≡ Some packet.next = sym (none.5 puts.fails) ∙ is in absurd (cc e)
+      answered-more (event ∷ []) an = (
+        an.0,
+        subst (λ (s : State). IsAnswering start.it.caller (session_in start.it) event said_n h.commands a.lists s) (sym packet.state_is)
+            (answer-more start.it.caller (session_in start.it) event h.said h.commands a.lists a.state an.1 puts.fails packet.next
+            (ap (λ s. next_due s a.state puts.fails) (sym (among-store g (failed_reads_told h.said) start.it.store a.store start.disk disk h.commands h.does)) ∙ packet.is_next)),
+      )
+      answered-more (event ∷ next ∷ events) never = absurd never
+
+      goes-due : IsUnderWay g start inputs (text ++ out_n) (given [])
+      goes-due = record {
+        hears = record { caller = h.hears.caller; are_octets = h.hears.are_octets; waits = h.hears.waits };
+        goes_on = h.goes_on;
+        said = said_n;
+        text_is =
+            ap₂ (λ (t u : List ℕ). t ++ u) h.text_is packet.text_is ∙ append_assoc start.it.replies (texts h.said) (packet_text packet.next.packet)
+            ∙ ap (λ (t : List ℕ). start.it.replies ++ t) (sym (texts-last h.said packet.next.packet));
+        commands = h.commands;
+        answered = answered-more (events_to start.it inputs) h.answered;
+        does =
+            let one : ℕ = one_if (tells_failed_read packet.next.packet) in
+            let told : failed_reads_told h.said + one ≡ failed_reads_told said_n = ap (λ (n : ℕ). failed_reads_told h.said + n) (sym (add-zero one)) ∙ sym (told-append h.said (packet.next.packet ∷ [])) in
+            among-at g ⊥ (failed_reads_told said_n) start.it.store a.store start.disk disk_n (h.commands ++ []) h.commands (append-nil h.commands)
+            (among-same g ⊥ ⊥ (failed_reads_told h.said + one) (failed_reads_told said_n) start.it.store a.store start.disk disk_n (h.commands ++ []) (λ p. p) (λ p. p) told
+            (among-then g on ⊥ ⊥ (failed_reads_told h.said) one start.it.store a.store a.store start.disk disk disk_n h.commands [] (λ never. never) h.does packet.does));
+      }
+
+    -- and less is left
+    pub less-left : (session : SessionState) → a.state ≡ state_in a.store session → IsDueIn (store_in a.store) session.downloads → IsUp g a.store disk → most_left (record a { state = state_n }) < most_left a
+    less-left session is due up =
+        let p = due-among g a.store disk disk_n a.state state_n out out_n puts up.healthy up.stands_on in
+        let less = smaller a.store session puts.fails p.next due (ap (λ s. next_due (store_in a.store) s puts.fails) (sym is) ∙ p.is_next) in
+        let at_state = subst (λ s. octets_left (store_in a.store) (download_part p.next.state) < octets_left (store_in a.store) (download_part s)) (sym is) less in
+        let at_next = subst (λ s. octets_left (store_in a.store) (download_part s) < octets_left (store_in a.store) (download_part a.state)) (sym p.state_is) at_state in
+        omega (arith, at_next)
+
+    pub gives-due : a.replies ≡ [] → GivesNext (session_course g) now out_n (given a.replies)
+    gives-due silent = subst (λ (r : List ℕ). GivesNext (session_course g) (replying r) out_n (given r)) (sym silent) (record { goes_on = goes; cut_off = cut })
+      where
+        goes : (start : AtDisk ServerState D) (inputs : List Input) (why : Option Halt) (text : List ℕ) → Owes g start inputs why text (replying []) → Owes g start inputs why (text ++ out_n) (given [])
+        goes start inputs None text h = subst (λ (t : List ℕ). IsUnderWay g start inputs t (given [])) (sym (append-nil (text ++ out_n))) (goes-due start inputs text (ended start inputs None text h))
+        goes start inputs (Some why) text h = absurd (not-both a.halted h.halted going)
+
+        cut : (start : AtDisk ServerState D) (inputs : List Input) (why : Option Halt) (text front : List ℕ) → IsFront front out_n → Owes g start inputs why text (replying [])
+            → HaltsOver g start inputs (stop_at_put why) true (text ++ front) (given [])
+        cut start inputs None text front is_front h =
+            let under_way = ended start inputs None text h in
+            let p = packet start inputs text under_way in
+            let some : out_n ≡ [] → ⊥ = λ none. let e : packet_text p.next.packet ≡ [] = sym p.text_is ∙ none in absurd (cc e) in
+            halts-cut g lasts start inputs (given []) text out_n front some is_front None (goes-due start inputs text under_way)
+        cut start inputs (Some why) text front is_front h = absurd (not-both a.halted h.halted going)
+
+-- ---- what it owes by what it hears
+
+module _ {D : Type 0} (g : Ghosts D) (lasts : (disk : D) → g.lasts disk disk) (on : (first second third : D) → g.lasts first second → g.lasts second third → g.lasts first third)
+    (moment : ℕ) (a : ServerState) (disk : D) (ready : IsReady g (at a disk)) (waits : IsWaiting a.octets)
+    (piece : List ℕ) (are : IsOctets piece) (taken : ℕ) (reader : List ℕ) (fed : reader ≡ a.octets ++ take taken piece) where
+  abbrev inputs : List Input
+  inputs = octets_at moment (take taken piece)
+
+  heard : (items : List Item) → Stream reader items (under_way reader) → (events_to a inputs ≡ at_moment moment items) × (waiting_behind a.octets inputs ≡ under_way reader)
+  heard items stream =
+      events-of moment a.octets (take taken piece) items (under_way reader) waits (IsOctets-take taken piece are) (subst (λ (o : List ℕ). Stream o items (under_way reader)) fed stream)
+
+  inputs-octets : IsOctets (octets_in inputs)
+  inputs-octets = subst (λ (o : List ℕ). IsOctets o) (sym (octets_in-at moment (take taken piece))) (IsOctets-take taken piece are)
+
+  -- no packet is whole
+  pub owes-more : IsPartial reader → under_way reader ≡ reader → Owes g (at a disk) inputs None [] (at (record a { octets = under_way reader }) disk)
+  owes-more partial same =
+      let h = heard [] (sym same, subst (λ (o : List ℕ). IsPartial o) (sym same) partial) in
+      record {
+        hears = record { caller = refl; are_octets = inputs-octets; waits = sym h.1 };
+        goes_on = ready.goes_on;
+        said = [];
+        text_is = sym (append-nil a.replies);
+        commands = [];
+        answered = subst (λ (es : List Event). IsAnswered a a.store a.lists a.state es [] []) (sym h.0) (refl, refl, refl, refl, refl, ready.none_due);
+        does = does-none g a.store disk ready.up.healthy ready.up.stands_on (lasts disk);
+      }
+
+  -- this packet is whole
+  module _ (item : Item) (packet : PacketText item reader) (whole : IsTrue (is_whole reader)) where
+    abbrev event : Event
+    event = record { moment = moment; packet = item }
+
+    only : (events_to a inputs ≡ event ∷ []) × (waiting_behind a.octets inputs ≡ under_way reader)
+    only =
+        let none = under-way-whole reader whole in
+        heard (item ∷ []) (reader, [], packet, sym (append-nil reader), (sym none, subst (λ (o : List ℕ). IsPartial o) (sym none) nothing_partial))
+
+    abbrev before : Working
+    before = record { store = a.store; lists = a.lists; state = a.state }
+
+    module _ (now : Working) (disk_n : D) (replies : List ℕ) where
+      abbrev Takes : Result ⊤ ServerStop → Type 0
+      Takes result = TakesPacket g a.caller moment item before now disk disk_n replies result
+
+      -- the server behind it
+      abbrev server_n : CallSign → Bool → ServerState
+      server_n caller halted =
+          record { caller = caller; store = now.store; lists = now.lists; state = now.state; octets = under_way reader; replies = replies; halted = halted }
+
+      abbrev row : Bool → Row
+      row fails = row_over a.caller moment before item fails
+
+      pub owes-taken : (caller : CallSign) (halted : Bool) → caller ≡ a.caller → halted ≡ false → Takes (Ok tt) → Owes g (at a disk) inputs None [] (at (server_n caller halted) disk_n)
+      owes-taken caller halted same going takes = record {
+        hears = record { caller = same; are_octets = inputs-octets; waits = sym only.1 };
+        goes_on = going;
+        said = (row takes.fails).replies;
+        text_is = takes.answers.3 ∙ sym (ap (λ (t : List ℕ). t ++ texts (row takes.fails).replies) ready.silent);
+        commands = (row takes.fails).commands;
+        answered =
+            subst (λ (es : List Event). IsAnswered a now.store now.lists now.state es (row takes.fails).replies (row takes.fails).commands) (sym only.0)
+            (ready.silent, answer-first a.caller (session_in a) event takes.fails now.lists now.state takes.answers.1 takes.answers.2);
+        does = taken-among g on a.caller moment item before now disk disk_n replies ready.up.healthy ready.up.stands_on tt takes;
+      }
+
+      -- the session stopped at it
+      halting : (caller : CallSign) (why : Halt) (fails : Bool) (cut : List Command) → LastOf why a.state (met_with event (with_part fails 0 [])) (row fails) replies cut
+          → CutsOffAmongReads g (why ≡ halt.Disk) (failed_reads_told (row fails).replies) a.store now.store disk disk_n [] cut → Owes g (at a disk) inputs (Some why) [] (at (server_n caller true) disk_n)
+      halting caller why fails cut last cuts = record {
+        are_octets = inputs-octets;
+        halted = refl;
+        silent = ready.silent;
+        event = event;
+        only = only.0;
+        parts = with_part fails 0 [];
+        row = row fails;
+        is_row = row-first a.caller (session_in a) event fails;
+        cut = cut;
+        last = last;
+        cuts = cuts;
+      }
+
+      pub owes-last : (caller : CallSign) (stop : ServerStop) → Takes (Err stop) → Owes g (at a disk) inputs (Some (halt_of_session stop)) [] (at (server_n caller true) disk_n)
+      owes-last caller session_stop.Disk takes =
+          halting caller halt.Disk takes.fails (row takes.fails).commands (takes.answers.2, refl)
+          (cuts-among-same g ⊤ (halt.Disk ≡ halt.Disk) (failed_reads_told (row takes.fails).replies) (failed_reads_told (row takes.fails).replies) a.store now.store disk disk_n [] (row takes.fails).commands
+          (λ _. refl) (λ _. tt) refl (taken-cut g on a.caller moment item before now disk disk_n replies ready.up.healthy ready.up.stands_on takes))
+      owes-last caller session_stop.OutOfMemory takes =
+          let none = taken-none g on a.caller moment item before now disk disk_n replies ready.up.healthy ready.up.stands_on takes in
+          let missed : ℕ = failed_reads_told (row takes.fails).replies in
+          halting caller halt.OutOfMemory takes.fails [] (takes.answers.0, takes.answers.2, refl)
+          (cuts-among-none g (halt.OutOfMemory ≡ halt.Disk) missed a.store now.store disk disk_n [] (λ e. cc e) (lasts disk_n)
+          (subst (λ (s : StoreState). DoesAmongReads g ⊥ missed a.store s disk disk_n []) (sym none.0) none.1))

@@ -1,0 +1,79 @@
+-- How a session goes on over events and sends what is due, and how it stops.
+use Rattle.std.proofs.Common.{List, [], ◌∷◌, ◌+◌, ◌++◌, refl, ap, ap₂, sym, ◌∙◌, append_assoc}
+use Rattle.std.proofs.lemmas.List.{map-append}
+use Rattle.px_base.specs.CallSign.{CallSign}
+use Rattle.ftl0_packets.specs.Layout.{PacketValue}
+use Rattle.ftl0_session.specs.Lists.Lists.{CallerList}
+use Rattle.file_store.specs.Command.{Command, after_all}
+use Rattle.file_store.specs.Store.{Store}
+use Rattle.ftl0_session.specs.Run.{Event as MetEvent, RunsOver, event_row, heard_of}
+use Rattle.ftl0_session.specs.Table.{Row, State}
+use Rattle.ftl0_session.proofs.WorkingLemmas.{told-append}
+use Rattle.ftl0_packets.proofs.SplitLemmas.{texts-append}
+use Rattle.server_node.specs.Sessions.Laws.{ComesTo}
+use Rattle.server_node.specs.Sessions.Running.{session_steps}
+use Rattle.server_node.proofs.StepsLemmas.{AreSteps}
+
+-- each event was come to, behind the earlier ones
+pub comes-to :
+    (caller : CallSign) (store : Store) (lists : List CallerList) (state : State) (earlier : List MetEvent) (next : MetEvent) (later : List MetEvent) (said : List PacketValue) (commands : List Command)
+    (now : Store) (lists_n : List CallerList) (last : State)
+    → RunsOver caller store lists state (earlier ++ next ∷ later) said commands now lists_n last → ComesTo caller store lists state earlier next commands
+comes-to caller store lists state [] next later said commands now lists_n last h = record {
+  said = [];
+  before = [];
+  store_then = store;
+  lists_then = lists;
+  state_then = state;
+  runs = (refl, refl, refl, refl, refl);
+  others = h.4;
+  commands_are = h.8 ∙ ap (λ (row : Row). row.commands ++ h.4) (sym h.5);
+}
+comes-to caller store lists state (e ∷ earlier) next later said commands now lists_n last h =
+    let on = comes-to caller (after_all store h.0.commands) h.0.lists h.2 earlier next later h.3 h.4 now lists_n last h.9 in
+    record {
+      said = h.0.replies ++ (h.1 ++ on.said);
+      before = h.0.commands ++ on.before;
+      store_then = on.store_then;
+      lists_then = on.lists_then;
+      state_then = on.state_then;
+      runs = (h.0, h.1, h.2, on.said, on.before, h.5, h.6, refl, refl, on.runs);
+      others = on.others;
+      commands_are =
+          h.8 ∙ ap (λ (cs : List Command). h.0.commands ++ cs) on.commands_are
+          ∙ sym (append_assoc h.0.commands on.before ((event_row caller on.store_then on.lists_then on.state_then next).commands ++ on.others));
+    }
+
+module _ (caller : CallSign) where
+  -- events and then others
+  pub runs-trans :
+      (store : Store) (lists : List CallerList) (state : State) (events : List MetEvent) (said : List PacketValue) (commands : List Command) (mid : Store) (lists_m : List CallerList) (between : State)
+      (others : List MetEvent) (more : List PacketValue) (further : List Command) (now : Store) (lists_n : List CallerList) (next : State)
+      → RunsOver caller store lists state events said commands mid lists_m between → RunsOver caller mid lists_m between others more further now lists_n next
+      → RunsOver caller store lists state (events ++ others) (said ++ more) (commands ++ further) now lists_n next
+  runs-trans store lists state [] said commands mid lists_m between others more further now lists_n next h k = rw (h.0, h.1, sym h.2, sym h.3, sym h.4) k
+  runs-trans store lists state (e ∷ events) said commands mid lists_m between others more further now lists_n next h k = (
+    h.0,
+    h.1,
+    h.2,
+    h.3 ++ more,
+    h.4 ++ further,
+    h.5,
+    h.6,
+    ap (λ s. s ++ more) h.7 ∙ append_assoc h.0.replies (h.1 ++ h.3) more ∙ ap (λ s. h.0.replies ++ s) (append_assoc h.1 h.3 more),
+    ap (λ c. c ++ further) h.8 ∙ append_assoc h.0.commands h.4 further,
+    runs-trans (after_all store h.0.commands) h.0.lists h.2 events h.3 h.4 mid lists_m between others more further now lists_n next h.9 k,
+  )
+
+  pub are_steps : AreSteps (session_steps caller)
+  are_steps = record {
+    none = λ s. record { met = []; heard = refl; said = []; text_is = refl; missed_is = refl; runs = (refl, refl, refl, refl, refl) };
+    on = λ a b c xs ys m n h k. record {
+      met = h.met ++ k.met;
+      heard = map-append heard_of h.met k.met ∙ ap₂ (λ es os. es ++ os) h.heard k.heard;
+      said = h.said ++ k.said;
+      text_is = ap₂ (λ t u. t ++ u) h.text_is k.text_is ∙ sym (texts-append h.said k.said);
+      missed_is = ap₂ (λ t u. t + u) h.missed_is k.missed_is ∙ sym (told-append h.said k.said);
+      runs = runs-trans a.store a.lists a.state h.met h.said m.done b.store b.lists b.state k.met k.said n.done c.store c.lists c.state h.runs k.runs;
+    };
+  }

@@ -1,0 +1,4 @@
+pub mod Laws
+pub mod Served
+pub mod Serving
+pub mod Station

@@ -1,0 +1,77 @@
+-- How a server goes on over the events of its node: which frames it says, and which commands of the store it does, up
+-- to a stop.
+use Rattle.std.specs.Prelude.{◌≡◌, ◌≢◌, ◌⊎◌, ℕ, ◌+◌, List, [], ◌∷◌, ◌++◌, flat_map, Bool}
+use Rattle.px_base.specs.Octets.{IsFront}
+use Rattle.kiss.specs.KissText.{kiss_text}
+use Rattle.ax25_frames.specs.FrameText.{FrameValue, canonical}
+use Rattle.file_store.specs.Command.{Command}
+use Rattle.node.specs.Events.{NodeEvent}
+use Rattle.node.specs.declared.stop.NodeStop.{NodeStop as Stop}
+use Rattle.node.specs.declared.stop.NodeStop.TheVariants as node_stop
+use Rattle.ftl0_server.specs.Failures.{failed_reads, failed_write}
+use Rattle.ftl0_server.specs.Connection.Taking.{fails, goes_on}
+use Rattle.ftl0_server.specs.Server.{Server, ServerHappened}
+use Rattle.ftl0_server.specs.ServerStep.{ServerStep, happening}
+use Rattle.server_node.specs.Sessions.Running.{IsSaid}
+use Rattle.server_node.specs.Steps.{Made, Steps}
+
+-- the KISS text of frames, one after another
+abbrev pub text_of : List FrameValue → List ℕ
+text_of frames = flat_map (λ frame. kiss_text (canonical frame)) frames
+
+-- The server takes an event at which no write and no sync fails: it sends these frames and does these commands. Reads
+-- fail at some parts of the event, or at none, and so many parts tell of one.
+pub record TakesEvent (server : Server) (event : NodeEvent) (sent : List FrameValue) (done : List Command)
+    (told : ℕ) (next : Server) : Type 0 where
+  pub parts : List ℕ
+  pub step : ServerStep server event (failed_reads parts) done [] told goes_on sent next
+
+-- Over these events, at none of which it stops, the server comes from one to another, says these frames and does these
+-- commands; so many parts of them tell that a read failed.
+abbrev pub ServesOver : Server → List NodeEvent → List FrameValue → List Command → ℕ → Server → Type 0
+ServesOver server [] frames commands missed now =
+    (frames ≡ []) × (commands ≡ []) × (missed ≡ 0) × (now ≡ server)
+ServesOver server (event ∷ events) frames commands missed now =
+    (done : List Command) × (sent : List FrameValue) × (told : ℕ) × (next : Server) × (others : List Command)
+    × (more : List FrameValue) × (later : ℕ) × TakesEvent server event sent done told next
+    × (frames ≡ sent ++ more) × (commands ≡ done ++ others) × (missed ≡ (told + later))
+    × ServesOver next events more others later now
+
+-- the same, by all that was said and done
+pub record ServesAs (server : Server) (events : List NodeEvent) (all : Made) (now : Server) : Type 0 where
+  pub frames : List FrameValue
+  pub text_is : all.text ≡ text_of frames
+  pub serves : ServesOver server events frames all.done all.missed now
+
+-- what this event makes of the server where a write or a sync fails at this part, and reads at those
+abbrev pub failing : Server → NodeEvent → ℕ → List ℕ → ServerHappened
+failing server event part parts = happening server event (failed_write part ++ failed_reads parts)
+
+-- A stop at this event: what was said and done at it, the commands in one of which the disk failed, and how many parts
+-- told that a read failed. Where saying failed the event's commands are done, and a front of its frames' text was said.
+-- Where the disk failed, at a write or a sync of one of its packets and nowhere else, the frames of that step were
+-- said. Where there is no memory none was, and no command is done, as for a new session, or those before one of its
+-- packets.
+abbrev pub StopsAt : Stop → Bool → Server → NodeEvent → Made → List Command → Type 0
+StopsAt node_stop.AirWrite unsaid server event all cut =
+    (frames : List FrameValue) × (next : Server) × TakesEvent server event frames all.done all.missed next
+    × (frames ≢ []) × IsFront all.text (text_of frames) × (cut ≡ [])
+StopsAt node_stop.Disk unsaid server event all cut =
+    (part : ℕ) × (parts : List ℕ) × (frames : List FrameValue) × (next : Server)
+    × ServerStep server event (failed_write part ++ failed_reads parts) all.done cut all.missed fails frames next
+    × IsSaid unsaid (text_of frames) all.text
+StopsAt node_stop.OutOfMemory unsaid server event all cut =
+    (((all.done ≡ []) × (all.missed ≡ 0)) ⊎ ((part : ℕ) × (parts : List ℕ)
+    × ((failing server event part parts).halt ≡ fails) × (all.done ≡ (failing server event part parts).done)
+    × (all.missed ≡ (failing server event part parts).missed)))
+    × (all.text ≡ []) × (cut ≡ [])
+StopsAt node_stop.AirRead unsaid server event all cut = ⊥
+StopsAt node_stop.Spent unsaid server event all cut = ⊥
+
+-- a server over the events of its node
+abbrev pub server_steps : Steps Server NodeEvent
+server_steps =
+    record {
+      goes = λ server events all now. ServesAs server events all now;
+      stops = λ why unsaid server event all cut. StopsAt why unsaid server event all cut;
+    }

@@ -1,0 +1,7 @@
+pub mod Course
+pub mod Laws
+pub mod Packets
+pub mod Running
+pub mod Server
+pub mod ServerState
+pub mod SessionRan

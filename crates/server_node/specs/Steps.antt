@@ -1,0 +1,107 @@
+-- Events, one after another, up to a stop: what is said to them, and which commands of the store are done.
+use Rattle.std.specs.Prelude.{◌≡◌, ℕ, ◌+◌, List, [], ◌∷◌, ◌++◌, Bool, false, Result, Ok, Err}
+use Rattle.disk_model.specs.declared.disk.Disk.{Ghosts}
+use Rattle.file_store.specs.Command.{Command}
+use Rattle.file_store.specs.State.{StoreState}
+use Rattle.file_store.specs.Working.{CutsOffAmongReads, DoesAmongReads}
+use Rattle.node.specs.Course.{AtDisk}
+use Rattle.node.specs.declared.stop.NodeStop.{NodeStop as Stop}
+use Rattle.node.specs.declared.stop.NodeStop.TheVariants as node_stop
+use Rattle.server_node.specs.declared.stop.NodeStop.{NodeStop}
+use Rattle.server_node.specs.declared.stop.NodeStop.TheVariants as stop
+use Rattle.server_node.specs.declared.terms.Served.{Served}
+
+-- what was made of events: the text that was said, the commands that were done, and how many reads that failed are told
+-- of
+pub record Made : Type 0 where
+  pub text : List ℕ
+  pub done : List Command
+  pub missed : ℕ
+
+abbrev pub made : List ℕ → List Command → ℕ → Made
+made text done missed = record { text = text; done = done; missed = missed }
+
+-- the one, and behind it the other
+abbrev pub both : Made → Made → Made
+both first second = made (first.text ++ second.text) (first.done ++ second.done) (first.missed + second.missed)
+
+-- How something serves events.
+pub record Steps (S E : Type 0) : Type 1 where
+  -- Over these events, at none of which it stops, it comes from the first to the second.
+  pub goes : S → List E → Made → S → Type 0
+  -- It stops at this event, for this reason; a put failed, or none did. The disk failed in one of these commands, where
+  -- it is the reason.
+  pub stops : Stop → Bool → S → E → Made → List Command → Type 0
+
+-- It stopped at one of these events. Of those before it all was said, and all their commands are done; of those after
+-- it nothing was taken. Reads may have failed at any of them.
+pub record StopsOver {S E : Type 0} (steps : Steps S E) (start : S) (events : List E) (why : Stop) (unsaid : Bool)
+    (all : Made) (cut : List Command) : Type 0 where
+  pub before : List E
+  pub next : E
+  pub later : List E
+  pub events_are : events ≡ before ++ next ∷ later
+  pub earlier : Made
+  pub then_is : S
+  pub goes : steps.goes start before earlier then_is
+  pub last : Made
+  pub stops : steps.stops why unsaid then_is next last cut
+  pub all_is : all ≡ both earlier last
+
+-- The same, where all of the first events were taken before the stop.
+pub record StopsBehind {S E : Type 0} (least : List E) (steps : Steps S E) (start : S) (events : List E) (why : Stop)
+    (unsaid : Bool) (all : Made) (cut : List Command) : Type 0 where
+  pub stops : StopsOver steps start events why unsaid all cut
+  pub between : List E
+  pub in_order : stops.before ≡ least ++ between
+
+-- All events were taken, at some of which reads failed, or at none: all was said, and all commands are done.
+abbrev pub TakesAll : {S E : Type 0} → Steps S E → S → List E → Made → List Command → Type 0
+TakesAll {S} steps start events all cut = (now : S) × steps.goes start events all now × (cut ≡ [])
+
+-- What was made of these events, by how the serving ended: all of them were taken where the end of the air was read, a
+-- poll failed, or as many polls were made as may be; else those up to a stop behind the least of them.
+abbrev pub EndsOver :
+    {S E : Type 0} → Result Served NodeStop → List E → Steps S E → S → List E → Bool → Made → List Command → Type 0
+EndsOver (Ok served) least steps start events unsaid all cut = TakesAll steps start events all cut
+EndsOver (Err stop.AirRead) least steps start events unsaid all cut = TakesAll steps start events all cut
+EndsOver (Err stop.Spent) least steps start events unsaid all cut = TakesAll steps start events all cut
+EndsOver (Err stop.AirWrite) least steps start events unsaid all cut =
+    StopsBehind least steps start events node_stop.AirWrite unsaid all cut
+EndsOver (Err stop.Disk) least steps start events unsaid all cut =
+    StopsBehind least steps start events node_stop.Disk unsaid all cut
+EndsOver (Err stop.OutOfMemory) least steps start events unsaid all cut =
+    StopsBehind least steps start events node_stop.OutOfMemory unsaid all cut
+EndsOver (Err (stop.NotAStore found)) least steps start events unsaid all cut = ⊥
+EndsOver (Err (stop.Damaged at)) least steps start events unsaid all cut = ⊥
+
+-- ---- on the disk
+
+-- something with its store at a disk
+pub record WithStore (S D : Type 0) : Type 0 where
+  pub it : S
+  pub store : StoreState
+  pub disk : D
+
+abbrev pub with_store : {S D : Type 0} → S → StoreState → D → WithStore S D
+with_store it store disk = record { it = it; store = store; disk = disk }
+
+-- It came over these events and said this, and the commands are done on the disk. The disk's count of failed reads rose
+-- by at least as many as are told of, and not where none is.
+pub record RunsOn {S E D : Type 0} (g : Ghosts D) (steps : Steps S E) (old new : WithStore S D) (events : List E)
+    (text : List ℕ) : Type 0 where
+  pub done : List Command
+  pub missed : ℕ
+  pub goes : steps.goes old.it events (made text done missed) new.it
+  pub does : DoesAmongReads g ⊥ missed old.store new.store old.disk new.disk done
+
+-- It stopped at one of these events, and its commands up to there are done on the disk. After want of memory no put
+-- fails.
+pub record StopsOn {S E D : Type 0} (g : Ghosts D) (steps : Steps S E) (old : WithStore S D) (new : AtDisk StoreState D)
+    (events : List E) (why : Stop) (unsaid : Bool) (text : List ℕ) : Type 0 where
+  pub done : List Command
+  pub cut : List Command
+  pub missed : ℕ
+  pub stops : StopsOver steps old.it events why unsaid (made text done missed) cut
+  pub cuts : CutsOffAmongReads g (why ≡ node_stop.Disk) missed old.store new.it old.disk new.disk done cut
+  pub kept : why ≡ node_stop.OutOfMemory → unsaid ≡ false

@@ -1,0 +1,72 @@
+-- How a node's session stops, and what the air counts by that.
+use Rattle.std.specs.Prelude.{◌≡◌, ◌↔◌, ℕ, ◌≤◌, List, Option, IfSome, Result, Ok, Err, IsErrOf}
+use Rattle.px_base.specs.Outside.{Rose}
+use Rattle.file_store.specs.Walk.{damaged_at, no_store}
+use Rattle.file_store.specs.State.{standing_of}
+use Rattle.file_store.specs.declared.refusals.StoreFault.{StoreFault}
+use Rattle.file_store.specs.declared.refusals.StoreFault.TheVariants as fault
+use Rattle.ftl0_session.specs.declared.stop.ServerStop.{ServerStop}
+use Rattle.ftl0_session.specs.declared.stop.ServerStop.TheVariants as session_stop
+use Rattle.node.specs.declared.finished.Finished.{Finished}
+use Rattle.node.specs.declared.finished.Finished.TheVariants as finished
+use Rattle.node.specs.declared.halt.Halt.{Halt}
+use Rattle.node.specs.declared.halt.Halt.TheVariants as halt
+use Rattle.node.specs.declared.stop.NodeStop.{NodeStop as Stop}
+use Rattle.node.specs.declared.stop.NodeStop.TheVariants as node_stop
+use Rattle.server_node.specs.declared.stop.NodeStop.{NodeStop}
+use Rattle.server_node.specs.declared.stop.NodeStop.TheVariants as stop
+use Rattle.server_node.specs.declared.terms.Served.{Served}
+
+-- how a recovery that is refused stops it
+abbrev pub stop_of_fault : StoreFault → NodeStop
+stop_of_fault (fault.NotAStore found) = stop.NotAStore found
+stop_of_fault (fault.Damaged at) = stop.Damaged at
+stop_of_fault fault.Disk = stop.Disk
+stop_of_fault fault.OutOfMemory = stop.OutOfMemory
+
+-- how a session's stop halts its node
+abbrev pub halt_of_session : ServerStop → Halt
+halt_of_session session_stop.Disk = halt.Disk
+halt_of_session session_stop.OutOfMemory = halt.OutOfMemory
+
+-- how a node's stop stops its session
+abbrev pub stop_of_node : Stop → NodeStop
+stop_of_node node_stop.AirRead = stop.AirRead
+stop_of_node node_stop.AirWrite = stop.AirWrite
+stop_of_node node_stop.Disk = stop.Disk
+stop_of_node node_stop.Spent = stop.Spent
+stop_of_node node_stop.OutOfMemory = stop.OutOfMemory
+
+-- How a node's turns end a session. It is never over before them.
+abbrev pub served_by : Result Finished Stop → Result Served NodeStop
+served_by (Ok finished.Over) = Ok (record { turns = 0 })
+served_by (Ok (finished.Closed turns)) = Ok (record { turns = turns })
+served_by (Err why) = Err (stop_of_node why)
+
+-- The air's counts of faults by how a call over it ended: where hearing or saying failed that count rose, and each
+-- other is as it was. After a fault of the disk one reply more was to be said, and that may have failed too.
+abbrev pub CountsBy : {T : Type 0} → Result T NodeStop → ℕ → ℕ → ℕ → ℕ → Type 0
+CountsBy (Ok value) reads reads_now writes writes_now = (reads_now ≡ reads) × (writes_now ≡ writes)
+CountsBy (Err stop.AirRead) reads reads_now writes writes_now = Rose reads reads_now × (writes_now ≡ writes)
+CountsBy (Err stop.AirWrite) reads reads_now writes writes_now = (reads_now ≡ reads) × Rose writes writes_now
+CountsBy (Err stop.Disk) reads reads_now writes writes_now = (reads_now ≡ reads) × (writes ≤ writes_now)
+CountsBy (Err (stop.NotAStore found)) reads reads_now writes writes_now = (reads_now ≡ reads) × (writes_now ≡ writes)
+CountsBy (Err (stop.Damaged at)) reads reads_now writes writes_now = (reads_now ≡ reads) × (writes_now ≡ writes)
+CountsBy (Err stop.Spent) reads reads_now writes writes_now = (reads_now ≡ reads) × (writes_now ≡ writes)
+CountsBy (Err stop.OutOfMemory) reads reads_now writes writes_now = (reads_now ≡ reads) × (writes_now ≡ writes)
+
+-- the same of an air, before the call and now, by what it counts
+abbrev pub HasAirCause : {A T : Type 0} → (A → ℕ) → (A → ℕ) → A → A → Result T NodeStop → Type 0
+HasAirCause reads writes before now result = CountsBy result (reads before) (reads now) (writes before) (writes now)
+
+-- each refusal of a recovery comes exactly where the content stands for it
+pub record EndsExactly {T : Type 0} (blocks : ℕ) (before : List ℕ) (result : Result T NodeStop) : Type 0 where
+  pub not_a_store :
+      (found : List ℕ) → IsErrOf result (stop.NotAStore found) ↔ (standing_of blocks before ≡ no_store found)
+  pub damaged : (at : ℕ) → IsErrOf result (stop.Damaged at) ↔ (standing_of blocks before ≡ damaged_at at)
+
+-- but for a fault of the disk and want of memory, and where the content is told
+abbrev pub RefusesSession : {T : Type 0} → ℕ → Option (List ℕ) → Result T NodeStop → Type 0
+RefusesSession blocks content result =
+    ¬ IsErrOf result stop.Disk → ¬ IsErrOf result stop.OutOfMemory
+    → IfSome content (λ before. EndsExactly blocks before result)

@@ -1,0 +1,6 @@
+//! The server on the air: a station that a node drives.
+
+mod serving;
+mod station;
+
+pub use serving::serve;

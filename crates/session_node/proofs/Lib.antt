@@ -1,6 +1,0 @@
-mod CourseLemmas
-pub mod Offered
-mod PacketLemmas
-mod RunLemmas
-mod Sessions
-mod Standing

@@ -1,6 +1,0 @@
--- From the law of the session's table.
-use Rattle.session_node.proofs.Standing.{acknowledged_since}
-use Rattle.session_node.proofs.laws.acknowledged_since_law.Goals as goal
-
-pub returns : goal.returns
-returns g c = acknowledged_since g.D.Disk c.acknowledged_stands_law.ensures

@@ -1,6 +1,0 @@
--- The course of a session's server is lawful.
-use Rattle.session_node.proofs.CourseLemmas.{lawful}
-use Rattle.session_node.proofs.server.SessionServerParty.is_lawful.Goals as goal
-
-pub returns : goal.returns
-returns g c = lawful g.D.Disk g.met.D.Disk.lasts_same g.met.D.Disk.lasts_on

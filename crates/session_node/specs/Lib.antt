@@ -1,9 +1,0 @@
-pub mod Course
-pub mod Laws
-pub mod OnDisk
-pub mod Packets
-pub mod Running
-pub mod Server
-pub mod ServerState
-pub mod SessionRan
-pub mod Stops
