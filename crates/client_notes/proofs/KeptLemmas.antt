@@ -21,7 +21,7 @@ use Rattle.client_notes.specs.OnDisk.{Answers, Does, EachImage, IsBeforeOrAfter}
 use Rattle.client_notes.specs.Records.{IsWritable, command_of, notes_after, notes_form, notes_magic, notes_step, record_of_command}
 use Rattle.client_notes.specs.Recovery.{RefusesRecovery}
 use Rattle.client_notes.specs.Refusals.{fault_of_store}
-use Rattle.client_notes.specs.State.{NotesState, StandsFor, StandsOn}
+use Rattle.client_notes.specs.State.{NotesState, StandsFor}
 use Rattle.client_notes.specs.declared.noted_lists.Coming.{Coming}
 use Rattle.client_notes.specs.declared.noted_lists.Coming.TheVariants as coming
 use Rattle.client_notes.specs.declared.noted_lists.NotedLists.{NotedLists}
@@ -44,10 +44,6 @@ before-or-after low high lists command image most (suc zero, least, few, stands)
 before-or-after low high lists command image most (suc (suc more), least, few, stands) = absurd (omega (arith, few, most))
 
 module _ {D : Type 0} (g : Ghosts D) where
-  -- notes that stand on their disk
-  pub stands-at : (self : NotesState) (disk : D) → self.journal.magic ≡ notes_magic → StandsOn g self disk → StandsAt g notes_form (kept_on self.lists self.journal disk)
-  stands-at self disk magic stands = record { magic_is = magic; keeps = stands }
-
   module _ (old new : NotesState) (disk disk_now : D) (command : NotesCommand) where
     -- one command, said as the notes say it
     pub does-of : (P : Type 0) → new.journal.magic ≡ notes_magic → kept.Does g notes_form P (command ∷ []) (kept_on old.lists old.journal disk) (kept_on new.lists new.journal disk_now)

@@ -1,5 +1,5 @@
 -- What several commands of a call do to the disk of the notes, one list of them after another.
-use Rattle.std.proofs.Common.{◌≡◌, inl, inr, ⊎_elim, ℕ, ◌+◌, ◌-◌, ◌*◌, ◌<◌, ◌≤◌, Bool, true, false, List, [], ◌∷◌, ◌++◌, length, take, refl, sym, ◌∙◌, ap, subst, arith, length-append}
+use Rattle.std.proofs.Common.{◌≡◌, inl, inr, ⊎_elim, ℕ, ◌+◌, ◌-◌, ◌*◌, ◌<◌, ◌≤◌, true, false, List, [], ◌∷◌, ◌++◌, length, take, refl, sym, ◌∙◌, ap, subst, arith, length-append}
 use Rattle.std.specs.Prelude.{nat_le}
 use Rattle.std.proofs.lemmas.Bool.Decides.{leb_tells}
 use Rattle.std.proofs.lemmas.List.{take-append-le, take_all}
@@ -264,11 +264,4 @@ module _ {D : Type 0} (g : Ghosts D) where
               };
           same_magic = second.same_magic ∙ first.same_magic;
         }
-
-  -- ---- what became of the lists
-
-  -- the first of the commands, for some number of them
-  pub Several-first : (b : Bool) (old new : NotesState) (disk disk_now : D) (commands : List NotesCommand) → DoesSeveral g (b ≡ true) old new disk disk_now commands
-      → (count : ℕ) × (new.lists ≡ after_first count old.lists commands)
-  Several-first true old new disk disk_now commands does = let some = does.cut refl in (some.count, some.lists)
-  Several-first false old new disk disk_now commands does = (length commands, (does.done (λ e. cc e)).0 ∙ sym (after_first-all commands old.lists))
+    -- ---- what became of the lists

@@ -1,6 +1,7 @@
 //! The changes of the notes, each of which is one command.
 
 ghost use Rattle.std.specs.Prelude.{◌≡◌, IsTrue, true};
+ghost use Rattle.file_journal.specs.Form.{same_form};
 ghost use Rattle.client_notes.specs.Command.{NotesCommand, after, is_allowed};
 ghost use Rattle.client_notes.specs.Commands.{command_value};
 ghost use Rattle.client_notes.specs.Notes.{Lists};
@@ -49,6 +50,8 @@ impl<'a> Change<NotedLists> for Brought<'a> {
     fn make(&self, noted: &mut NotedLists) {
         noted.coming = Coming::Nothing;
     }
+
+    ghost of_ledger = { same_form notes_form lists_of };
 }
 
 impl<'a> Change<NotedLists> for Direct<'a> {
@@ -82,4 +85,6 @@ impl<'a> Change<NotedLists> for Direct<'a> {
             Command::Start { .. } | Command::Got { .. } => unreachable!(),
         }
     }
+
+    ghost of_ledger = { same_form notes_form lists_of };
 }

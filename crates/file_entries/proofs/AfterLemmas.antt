@@ -38,9 +38,6 @@ pub whole-partial : (h : Holding) (l : ℕ) → IsTrue (is_whole h l) → (held 
 whole-partial (partial held) l t = (held, refl, grind (arith, nat_tests))
 whole-partial (complete o m) l t = absurd (cc)
 
-pub partial-whole : (h : Holding) (held : List ℕ) (l : ℕ) → h ≡ partial held → length held ≡ l → IsTrue (is_whole h l)
-partial-whole h held l is same = rw is (grind (arith, nat_tests))
-
 pub room-partial : (h : Holding) (l n : ℕ) → IsTrue (has_room h l n) → (held : List ℕ) × (h ≡ partial held) × (length held + n ≤ l)
 room-partial (partial held) l n t = (held, refl, grind (arith, nat_tests))
 room-partial (complete o m) l n t = absurd (cc)

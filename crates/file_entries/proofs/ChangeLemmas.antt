@@ -201,9 +201,6 @@ module _ (inside now : Files) (view : inside ≡ now) (taken : ℕ) (counted : I
   pub room-left : taken + blocks_for file_length ≤ inside.blocks
   room-left = omega (arith, may-inside.room, counted.count, counted.rules.blocks)
 
-  pub next-left : inside.next + 1 < 4294967296
-  next-left = omega (arith, may-inside.left)
-
   push-store : (y : File) → y.entry ≡ new_entry inside.next caller file_length moment
       → store_of (with_last inside y) ≡ after (store_of inside) (begin inside.next caller file_length moment)
   push-store y new =

@@ -1,9 +1,8 @@
 -- Lemmas on lists of entries.
-use Rattle.std.proofs.Common.{◌≡◌, ◌≢◌, ℕ, suc, ◌+◌, ◌≤◌, ◌<◌, Bool, true, false, cond, not, List, [], ◌∷◌, ◌++◌, length, get_or, set, map, filter, refl, ap, sym, ◌∙◌, subst, arith, Option, None, Some, inl, inr, ◌==◌, nat_lt}
-use Rattle.std.specs.Prelude.{find, position, sum_by}
+use Rattle.std.proofs.Common.{◌≡◌, ◌≢◌, ℕ, suc, ◌+◌, ◌≤◌, ◌<◌, Bool, true, false, not, List, [], ◌∷◌, ◌++◌, length, get_or, set, map, filter, refl, ap, sym, ◌∙◌, subst, arith, None, Some, inl, inr, ◌==◌}
+use Rattle.std.specs.Prelude.{find, sum_by}
 use Rattle.std.specs.List.{position_or_len}
 use Rattle.std.proofs.lemmas.Bool.Decides.{nat_tests, eqb_tells}
-use Rattle.std.proofs.lemmas.List.{get_or_default}
 use Rattle.std.proofs.lemmas.List.Sums.{sum_by-cons}
 use Rattle.px_base.specs.CallSign.{CallSign, IsCall}
 use Rattle.file_entries.specs.Limits.{longest_file}
@@ -21,11 +20,6 @@ changed-other number change e h = rw h
 
 pub changed-same : (number : ℕ) (change : Entry → Holding) (e : Entry) → has_number number e ≡ true → changed number change e ≡ record e { holding = change e }
 changed-same number change e h = rw h
-
--- a change keeps the number
-pub number-changed : (number : ℕ) (change : Entry → Holding) (e : Entry) → (changed number change e).number ≡ e.number
-number-changed number change e =
-    elim (eqb_tells e.number number) [ inl w ↦ ap (λ (x : Entry). x.number) (changed-same number change e w.0) | inr w ↦ ap (λ (x : Entry). x.number) (changed-other number change e w.0) ]
 
 -- no entry from a larger number on has this number
 pub map-changed_past : (number : ℕ) (change : Entry → Holding) (low next : ℕ) (entries : List Entry) → AreEntries low entries next → number < low → map (changed number change) entries ≡ entries
@@ -223,38 +217,6 @@ found-caller number (x ∷ xs) e have found =
 
 -- ---- the place of an entry
 
-pub place-found : (number : ℕ) (entries : List Entry) (e : Entry) (o : Option ℕ) → o ≡ position (has_number number) entries → find (has_number number) entries ≡ Some e
-    → o ≡ Some (position_or_len (has_number number) entries)
-place-found number entries e o is found =
-    let inside = found-position number entries e found in
-    let lt : nat_lt (position_or_len (has_number number) entries) (length entries) ≡ true = let h : position_or_len (has_number number) entries < length entries = inside.0 in grind (arith, nat_tests) in
-    is ∙ ap (λ (b : Bool). cond b (Some (position_or_len (has_number number) entries)) None) lt
-
-pub place-entry : (number : ℕ) (entries : List Entry) (e : Entry) (place : ℕ) (x : Entry) → find (has_number number) entries ≡ Some e
-    → Some place ≡ Some (position_or_len (has_number number) entries) → x ≡ get_or entries place x → x ≡ e
-place-entry number entries e place x found at is =
-    let inside = found-position number entries e found in
-    let same : place ≡ position_or_len (has_number number) entries = cc in
-    is ∙ (ap (λ (k : ℕ). get_or entries k x) same ∙ (get_or_default entries (position_or_len (has_number number) entries) x e inside.0 ∙ inside.1))
-
--- the entry at the place, changed
-pub place-changed : (number : ℕ) (change : Entry → Holding) (low next : ℕ) (entries : List Entry) (e : Entry) (place : ℕ) (x y : Entry) → AreEntries low entries next
-    → find (has_number number) entries ≡ Some e → Some place ≡ Some (position_or_len (has_number number) entries) → x ≡ get_or entries place x
-    → y ≡ record x { holding = change x } → set entries place y ≡ map (changed number change) entries
-place-changed number change low next entries e place x y are found at is new =
-    let here : x ≡ e = place-entry number entries e place x found at is in
-    let same : place ≡ position_or_len (has_number number) entries = cc in
-    let value : y ≡ record e { holding = change e } = new ∙ ap (λ (z : Entry). record z { holding = change z }) here in
-    ap (λ (k : ℕ). set entries k y) same ∙ (ap (λ (z : Entry). set entries (position_or_len (has_number number) entries) z) value ∙ set_first-is-map number change low next entries e are found)
-
-pub some-when : (b : Bool) (p q : ℕ) → cond b (Some p) None ≡ Some q → (b ≡ true) × (p ≡ q)
-some-when true p q h = (refl, cc)
-some-when false p q h = absurd (cc)
-
-pub none-when : (b : Bool) (p : ℕ) → cond b (Some p) None ≡ None → b ≡ false
-none-when true p h = absurd (cc)
-none-when false p h = refl
-
 pub found-first : (number : ℕ) (entries : List Entry) (d : Entry) → position_or_len (has_number number) entries < length entries
     → find (has_number number) entries ≡ Some (get_or entries (position_or_len (has_number number) entries) d)
 found-first number [] d inside = absurd (omega (arith, inside))
@@ -279,20 +241,6 @@ found-nowhere number (x ∷ xs) past =
           let here = position-past number x xs w.0 in
           rw w.0 (found-nowhere number xs (omega (arith, past, here)))
     ]
-
--- what stands at the place of a number is its entry
-pub place-is : (number : ℕ) (entries : List Entry) (place : ℕ) (x : Entry) → position (has_number number) entries ≡ Some place → x ≡ get_or entries place x
-    → find (has_number number) entries ≡ Some x
-place-is number entries place x at is =
-    let when = some-when (nat_lt (position_or_len (has_number number) entries) (length entries)) (position_or_len (has_number number) entries) place at in
-    let inside : position_or_len (has_number number) entries < length entries = grind (arith, nat_tests, when.0) in
-    found-first number entries x inside ∙ (ap (λ (k : ℕ). Some (get_or entries k x)) when.1 ∙ ap Some (sym is))
-
--- a number without a place has no entry
-pub place-none : (number : ℕ) (entries : List Entry) → position (has_number number) entries ≡ None → find (has_number number) entries ≡ None
-place-none number entries none =
-    let when = none-when (nat_lt (position_or_len (has_number number) entries) (length entries)) (position_or_len (has_number number) entries) none in
-    found-nowhere number entries (grind (arith, nat_tests, when))
 
 -- what an entry holds is no longer than the longest file
 pub octets-small : (h : Holding) (l : ℕ) → FitsLength h l → l ≤ longest_file → length (octets_of h) ≤ longest_file

@@ -4,7 +4,8 @@ use Rattle.std.specs.Prelude.{IsTrue}
 use Rattle.std.proofs.lemmas.Bool.Decides.{nat_tests, eqb_tells}
 use Rattle.std.proofs.lemmas.List.{length-take-le, append-nil}
 use Rattle.std.proofs.Math.Seq.{take-add}
-use Rattle.file_entries.specs.Command.{Command, HasCall, grow, has_room, passes, is_allowed, grown, changed, with_holding, with_more, after, after_all, AreAllowed, grows, last_grow}
+use Rattle.file_journal.proofs.Offered.{after_all_append, allowed_append}
+use Rattle.file_entries.specs.Command.{Command, IsAllowed, grow, has_room, passes, is_allowed, grown, changed, with_holding, with_more, after, after_all, AreAllowed, grows, last_grow}
 use Rattle.file_entries.specs.Store.{Entry, Holding, partial, complete, Store, entry_of}
 use Rattle.file_entries.proofs.EntriesLemmas.{find-map-changed}
 use Rattle.file_entries.proofs.AfterLemmas.{HaveCalls}
@@ -67,14 +68,12 @@ last_grow-after number [] store = sym (with_holding-none store number)
 last_grow-after number (octet ∷ octets) store = refl
 
 pub after_all-append : (a b : List Command) (store : Store) → after_all store (a ++ b) ≡ after_all (after_all store a) b
-after_all-append [] b store = refl
-after_all-append (command ∷ commands) b store = after_all-append commands b (after store command)
+after_all-append = after_all_append after
 
 -- ---- the condition of each holds
 
 pub AreAllowed-append : (a b : List Command) (store : Store) → AreAllowed store a → AreAllowed (after_all store a) b → AreAllowed store (a ++ b)
-AreAllowed-append [] b store ok then = then
-AreAllowed-append (command ∷ commands) b store ok then = (ok.0, AreAllowed-append commands b (after store command) ok.1 then)
+AreAllowed-append = allowed_append after IsAllowed
 
 pub both-true : (a b : Bool) → IsTrue a → IsTrue b → IsTrue (a && b)
 both-true a b p q = rw (p, q) refl
@@ -117,8 +116,3 @@ last_grow-allowed number (octet ∷ octets) store e held found is few fits =
 pub grows-HaveCalls : (number n : ℕ) (octets : List ℕ) → HaveCalls (grows number n octets)
 grows-HaveCalls number zero octets = tt
 grows-HaveCalls number (suc n) octets = (tt, grows-HaveCalls number n (drop 512 octets))
-
--- nor does the last one, and no other command does behind it
-pub last_grow-HaveCalls : (number : ℕ) (rest : List ℕ) (command : Command) → HasCall command → HaveCalls (last_grow number rest ++ command ∷ [])
-last_grow-HaveCalls number [] command call = (call, tt)
-last_grow-HaveCalls number (octet ∷ octets) command call = (tt, (call, tt))

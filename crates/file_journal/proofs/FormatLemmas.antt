@@ -1,6 +1,6 @@
 -- What formatting makes of octets, and what a crash in it leaves.
-use Rattle.std.proofs.Common.{◌≡◌, inl, inr, ℕ, ◌+◌, ◌%◌, ◌==◌, nat_lt, ◌≤◌, List, [], ◌∷◌, ◌++◌, length, get_or, take, drop, sym, ◌∙◌, ap, subst, arith, append_assoc, append-nil, length-append, length-drop, take-take, get_or-take, take-append-drop, take_all, eq-eqb, ne_eqb}
-use Rattle.std.proofs.lemmas.List.{drop_all, drop_more, take_at, length-take-le, get_or_at}
+use Rattle.std.proofs.Common.{◌≡◌, inl, inr, ℕ, ◌+◌, ◌%◌, ◌==◌, nat_lt, ◌≤◌, List, [], ◌∷◌, ◌++◌, length, get_or, take, drop, sym, ◌∙◌, ap, subst, arith, append_assoc, append-nil, length-append, length-drop, take-take, get_or-take, take_all, eq-eqb, ne_eqb}
+use Rattle.std.proofs.lemmas.List.{drop_all, take_at, length-take-le, get_or_at}
 use Rattle.std.proofs.lemmas.Bool.{cases_eq, cond-true, cond-false, lt-ltb, le-ltb}
 use Rattle.file_journal.specs.Journal.{after_finishing, even_selector}
 use Rattle.disk_model.specs.Disk.{Only, Torn, Writes}
@@ -26,13 +26,6 @@ pub even_by : (before new : List ℕ) → 16 ≤ length before → get_or before
 even_by before new long odd writes =
     written 15 (0 ∷ []) before new (omega arith) writes ∙ append_assoc (take 15 before) (0 ∷ []) (drop 16 before)
     ∙ ap (λ (n : ℕ). take 15 before ++ n ∷ drop 16 before) (sym (cond-true (get_or before 15 0 % 2 == 1) 0 (get_or before 15 0) (eq-eqb (get_or before 15 0 % 2) 1 odd)))
-
--- an even one stays
-pub even_before : (before : List ℕ) → 16 ≤ length before → (get_or before 15 0 % 2 ≡ 1 → ⊥) → MakesEven before before
-even_before before long even =
-    sym (take-append-drop 15 before)
-    ∙ ap (λ (l : List ℕ). take 15 before ++ l) (drop_more before 15 0 (omega arith))
-    ∙ ap (λ (n : ℕ). take 15 before ++ n ∷ drop 16 before) (sym (cond-false (get_or before 15 0 % 2 == 1) 0 (get_or before 15 0) (ne_eqb (get_or before 15 0 % 2) 1 even)))
 
 -- the header and one gate
 abbrev pub one_gate : List ℕ → List ℕ

@@ -1,6 +1,6 @@
 -- How far a journal's records are applied.
 use Rattle.std.proofs.Common.{◌≡◌, ℕ, ◌+◌, List, [], ◌∷◌, ◌++◌, length, Option, Ok, Err, refl, sym, ◌∙◌, ap, arith}
-use Rattle.file_journal.specs.Ledger.{AppliesAll, AppliesOne, AppliesSome, Takes}
+use Rattle.file_journal.specs.Ledger.{AppliesAll, AppliesOne, Takes}
 use Rattle.file_journal.specs.Position.{Position, left_to_read}
 use Rattle.file_journal.specs.Records.{Record, records_text, whole, with_records}
 use Rattle.file_journal.specs.Walk.{damaged_at, state, walk, walk_left}
@@ -17,13 +17,7 @@ module _ {S : Type 0} (step : S → Record → Option S) where
     pub place : now.place ≡ first.place + length (records_text entries)
     pub takes : Takes step before entries after
 
-  pub on_start : (first : Position) (before : S) (octets : List ℕ) → IsOn first first before before octets
-  on_start first before octets = record { entries = []; left = refl; place = omega arith; takes = refl }
-
   module _ (first now : Position) (before after : S) (octets : List ℕ) (on : IsOn first now before after octets) where
-    pub on_some : AppliesSome step first before after octets
-    on_some = (on.entries, left_to_read now octets, on.left, on.takes)
-
     -- what is left comes to what was left at first
     pub on_walk : walk_left step first before octets ≡ walk_left step now after octets
     on_walk =

@@ -135,14 +135,6 @@ pub with_records-broken : (entries others : List Record) (at : ℕ) → with_rec
 with_records-broken [] others at = refl
 with_records-broken (entry ∷ entries) others at = ap (with_record entry) (with_records-broken entries others at)
 
-pub length-record_text : (entry : Record) → length (record_text entry) ≡ 3 + length entry.content
-length-record_text entry = omega arith
-
--- a gate stands at the front of records with a gate behind them
-some_gate : (entries : List Record) (gate : ℕ) (later : List ℕ) → (first : ℕ) × (others : List ℕ) × (records_text entries ++ gate ∷ later ≡ first ∷ others)
-some_gate [] gate later = (gate, later, refl)
-some_gate (entry ∷ entries) gate later = (1, record_text entry ++ records_text entries ++ gate ∷ later, refl)
-
 -- one record before octets that begin with a gate
 pub reading_more : (entry : Record) (place : ℕ) (next : List ℕ) → IsRecord entry → 0 < length next
     → reading_from place (1 ∷ record_text entry ++ next) ≡ with_record entry (reading_from (place + 4 + length entry.content) next)

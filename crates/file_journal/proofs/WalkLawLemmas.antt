@@ -5,7 +5,7 @@ use Rattle.file_journal.specs.Journal.{Standing}
 use Rattle.file_journal.specs.Laws.{ComesTo, IsOneWalk, IsRefusedAt}
 use Rattle.file_journal.specs.Ledger.{Takes}
 use Rattle.file_journal.specs.Records.{Reading, Record, broken, records_text, whole, with_record, with_records}
-use Rattle.file_journal.specs.Walk.{Stands, damaged_at, no_store, number_or, stands_of, state, walk}
+use Rattle.file_journal.specs.Walk.{Stands, damaged_at, no_store, stands_of, state, walk}
 use Rattle.file_journal.proofs.ReadingLemmas.{with_records-broken, with_records-whole}
 use Rattle.file_journal.proofs.WalkLemmas.{walk_on, walk_on_all, walk_refused}
 
@@ -93,14 +93,6 @@ module _ {S : Type 0} (step : S → Record → Option S) where
       takes_keeps P keeps came.0 before now holds came.2
 
   module _ (fresh : ℕ → S) where
-    -- so is what each fresh state has
-    pub stands_keeps_all : (P : S → Type 0) → ((before after : S) (entry : Record) → P before → step before entry ≡ Some after → P after) → ((number : ℕ) → P (fresh number))
-        → (blocks : ℕ) (store : Standing) (now : S) → stands_of fresh step blocks store ≡ state now → P now
-    stands_keeps_all P keeps start blocks (journal.no_store found) now is = absurd (cc is)
-    stands_keeps_all P keeps start blocks journal.bad_number now is = absurd (cc is)
-    stands_keeps_all P keeps start blocks (journal.store number reading) now is =
-        walk_keeps P keeps (fresh (number_or blocks number)) now 16 reading (start (number_or blocks number)) is
-
     -- Where a state tells the number of its fresh one, that number serves as well as the one that was given.
     pub own_number : (number : S → ℕ) → ((n : ℕ) → number (fresh n) ≡ n) → ((before after : S) (entry : Record) → step before entry ≡ Some after → number after ≡ number before)
         → (blocks : ℕ) (store : Standing) (now : S) → stands_of fresh step blocks store ≡ state now → stands_of fresh step (number now) store ≡ state now

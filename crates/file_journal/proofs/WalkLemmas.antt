@@ -1,7 +1,7 @@
 -- What a walk over records comes to, and how appends and recoveries keep what octets stand for.
-use Rattle.std.proofs.Common.{◌≡◌, ◌↔◌, inl, inr, ⊎_elim, ℕ, ◌+◌, true, false, true≢false, List, [], ◌∷◌, ◌++◌, length, Bool, Option, None, Some, IfSome, Result, Ok, Err, IsErrOf, OnOk, refl, sym, ◌∙◌, ap, ap₂, arith, length-append}
+use Rattle.std.proofs.Common.{◌≡◌, ◌↔◌, inl, inr, ℕ, ◌+◌, true, false, true≢false, List, [], ◌∷◌, ◌++◌, length, Bool, Option, None, Some, IfSome, Result, Ok, Err, IsErrOf, OnOk, refl, sym, ◌∙◌, ap, ap₂, arith, length-append}
 use Rattle.disk_model.specs.declared.disk.Disk.{Ghosts}
-use Rattle.file_journal.specs.Appending.{Appends, LeavesBeforeOrAfter}
+use Rattle.file_journal.specs.Appending.{Appends}
 use Rattle.file_journal.specs.Calls.{ChangesReads, TakesStep, TellsAlike, images_now}
 use Rattle.file_journal.specs.Journal as journal
 use Rattle.file_journal.specs.Journal.{journal_of, store_of, with_last}
@@ -9,7 +9,7 @@ use Rattle.file_journal.specs.Ledger.{Takes}
 use Rattle.file_journal.specs.Position.{Position, StandsOn, left_to_read}
 use Rattle.file_journal.specs.Records.{Reading, Record, broken, records_text, whole, with_end, with_record, with_records}
 use Rattle.file_journal.specs.Recovery.{IsRecovered, IsRecovering, Recovers}
-use Rattle.file_journal.specs.Walk.{IsOneStep, KeepsState, LeavesEither, StandAsBefore, StandFor, Stands, StandsForSame, damaged_at, number_or, on_from, stands_for, stands_of, state, walk, walk_left, walk_over}
+use Rattle.file_journal.specs.Walk.{IsOneStep, KeepsState, StandAsBefore, StandFor, Stands, StandsForSame, damaged_at, number_or, on_from, stands_for, stands_of, state, walk, walk_left, walk_over}
 use Rattle.file_journal.specs.declared.faults.JournalFault.{JournalFault}
 use Rattle.file_journal.specs.declared.faults.JournalFault.TheVariants as fault
 use Rattle.file_journal.proofs.ToldLemmas.{at_told, content_now, if_told}
@@ -162,14 +162,6 @@ module _ {D S : Type 0} (g : Ghosts D) (fresh : ℕ → S) (step : S → Record 
     for_next : (octets now : List ℕ) → StandFor fresh step position s octets → journal_of position.magic now ≡ with_last (journal_of position.magic octets) entry → StandFor fresh step position t now
     for_next octets now is made =
         ap (stands_of fresh step position.blocks) made ∙ one_step step fresh position.blocks (journal_of position.magic octets) s t entry is allowed
-
-    pub append_leaves : LeavesBeforeOrAfter g position entry old new → LeavesEither fresh step g position s t old new
-    append_leaves leaves healthy = if_told (g.content old) _ (λ octets told image since.
-        let is = at_told (StandFor fresh step position s) octets told (keeps.content healthy) in
-        ⊎_elim
-        (λ (same : journal_of position.magic image ≡ journal_of position.magic octets). inl (ap (stands_of fresh step position.blocks) same ∙ is))
-        (λ made. inr (for_next octets image is made))
-        (at_told _ octets told (leaves healthy) image since))
 
     pub append_keeps : {T : Type 0} (result : Result T JournalFault) → StandsOn g after new → after ≡ record position { place = after.place; failed = after.failed }
         → OnOk result (TakesStep g old new (Appends position entry)) → IsErrOf result fault.Failed ↔ (position.failed ≡ true) → TellsAlike (g.content old) (g.content new)

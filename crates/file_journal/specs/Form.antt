@@ -1,5 +1,5 @@
 -- A kind of state that a journal of commands keeps, and what octets stand for as one.
-use Rattle.std.specs.Prelude.{◌≡◌, ℕ, List, Option}
+use Rattle.std.specs.Prelude.{◌≡◌, ℕ, List, Option, Some, refl}
 use Rattle.file_journal.specs.Records.{Record}
 use Rattle.file_journal.specs.Walk.{Stands, stands_for, state}
 
@@ -27,3 +27,33 @@ StandsFor form now octets = standing_of form (form.number now) octets ≡ state 
 abbrev pub TellsItsNumber : {S C : Type 0} → Form S C → Type 0
 TellsItsNumber {S} form =
     (blocks : ℕ) (octets : List ℕ) (now : S) → standing_of form blocks octets ≡ state now → StandsFor form now octets
+
+-- What one form says of its states and commands the other says of these, and of each ledger that holds one: it is the
+-- same form, whatever its states and commands are called.
+pub record IsFormOf {L S C T D : Type 0} (one : Form S C) (held_by : L → S) (other : Form T D) (held : L → T)
+    : Type 0 where
+  pub state_of : S → T
+  pub command_of : C → D
+  pub magic : one.magic ≡ other.magic
+  pub fresh : (blocks : ℕ) → state_of (one.fresh blocks) ≡ other.fresh blocks
+  pub number : (now : S) → one.number now ≡ other.number (state_of now)
+  pub step : (now next : S) (entry : Record) → one.step now entry ≡ Some next
+      → other.step (state_of now) entry ≡ Some (state_of next)
+  pub allowed : (now : S) (command : C) → one.allowed now command → other.allowed (state_of now) (command_of command)
+  pub after : (now : S) (command : C) → state_of (one.after now command) ≡ other.after (state_of now) (command_of command)
+  pub holds : (ledger : L) → state_of (held_by ledger) ≡ held ledger
+
+-- each form is that of itself
+abbrev pub same_form : {L S C : Type 0} → (form : Form S C) (held : L → S) → IsFormOf form held form held
+same_form form held =
+    record {
+      state_of = λ now. now;
+      command_of = λ command. command;
+      magic = refl;
+      fresh = λ blocks. refl;
+      number = λ now. refl;
+      step = λ now next entry is. is;
+      allowed = λ now command is. is;
+      after = λ now command. refl;
+      holds = λ ledger. refl;
+    }

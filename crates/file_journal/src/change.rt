@@ -1,14 +1,15 @@
 //! A change of a ledger that one record keeps.
 
 ghost use Rattle.std.specs.Prelude.{◌≡◌, [], Some};
-ghost use Rattle.file_journal.specs.Form.{Form};
+ghost use Rattle.file_journal.specs.Form.{Form, IsFormOf};
 ghost use Rattle.file_journal.specs.Records.{record_of};
 
+use crate::Ledger;
 use arrayvec::ArrayVec;
 
 /// A change of a ledger that one record keeps. Its record is on the disk before it is made, so where it may be made
 /// there is memory for it: nothing is on the disk that memory can't have.
-pub trait Change<L> {
+pub trait Change<L: Ledger> {
     /// The states of the ledger.
     ghost State: { Type 0 };
 
@@ -43,4 +44,7 @@ pub trait Change<L> {
         requires { may self.now ledger.old }
         ensures state { state ledger.new ≡ form.after (state ledger.old) (command self.now ledger.old) }
         ensures makes { makes self.now ledger.old ledger.new };
+
+    /// The form is the ledger's.
+    ghost of_ledger: { IsFormOf form state L.form L.state };
 }

@@ -39,9 +39,7 @@ impl<L: Ledger> Kept<L> {
         journal.read_into(disk, &mut ledger)?;
         Ok(Kept { ledger, journal })
     }
-}
 
-impl<L> Kept<L> {
     /// Makes a change of the ledger that may be made. Its record is put at the end of the journal and synced, by two
     /// writes and two syncs, before memory changes: after `Ok` a crash leaves the state after it; before, the one
     /// before it or the one after it. Takes no memory.
@@ -67,9 +65,13 @@ impl<L> Kept<L> {
         let kind = change.write(&self.ledger, &mut room);
         // A crash before the record's gate is synced leaves the state before the change, or the one after it: it is
         // told of only after that. A crash behind it leaves the one after it.
-        self.journal.append(disk, kind, room.as_slice())?;
-        change.make(&mut self.ledger);
-        Ok(())
+        match self.journal.append(disk, kind, room.as_slice()) {
+            Ok(()) => {
+                change.make(&mut self.ledger);
+                Ok(())
+            }
+            Err(fault) => Err(fault),
+        }
     }
 
     /// Whether a put answered `Disk`: then the state is to be recovered anew. Takes no memory.

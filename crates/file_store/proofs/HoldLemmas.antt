@@ -1,13 +1,12 @@
 -- Octets that wait become held.
 use Rattle.std.proofs.Common.{◌≡◌, ℕ, zero, suc, ◌+◌, ◌-◌, ◌*◌, ◌<◌, ◌≤◌, List, [], ◌∷◌, ◌++◌, length, take, drop, Some, sym, ◌∙◌, ap, subst, arith, zero-add, length-append, length-drop, drop-drop}
-use Rattle.std.specs.Prelude.{IsTrue}
 use Rattle.std.specs.Option.{option_map}
 use Rattle.std.proofs.lemmas.List.{length-take-le}
 use Rattle.disk_model.specs.declared.disk.Disk.{Ghosts}
-use Rattle.file_entries.specs.Command.{AreAllowed, Command, after, grow, grown, grows, is_allowed, with_more}
+use Rattle.file_entries.specs.Command.{AreAllowed, Command, after, grow, grown, grows, with_more}
 use Rattle.file_entries.specs.Files.{octets_or_none}
 use Rattle.file_entries.specs.Store.{Store, entry_of}
-use Rattle.file_entries.proofs.Offered.{find-map-changed, grow-is_allowed, grows-allowed}
+use Rattle.file_entries.proofs.Offered.{find-map-changed, grows-allowed}
 use Rattle.file_store.specs.OnDisk.{Does}
 use Rattle.file_store.specs.State.{StoreState, rest_in, store_in}
 use Rattle.file_store.specs.Upload.{FitsWaiting}
@@ -57,15 +56,6 @@ blocks-allowed self number blocks fits there =
     let room = fits.fits in
     grows-allowed number blocks (octets_or_none (rest_in self number)) (store_in self) fits.entry fits.held fits.is_entry fits.partial_is (omega arith) there
 
--- the condition of one Grow holds
-pub hold-allowed : (self : StoreState) (number count : ℕ) → FitsWaiting self number → 1 ≤ count → count ≤ 512 → count ≤ length (octets_or_none (rest_in self number))
-    → IsTrue (is_allowed (store_in self) (grow number (take count (octets_or_none (rest_in self number)))))
-hold-allowed self number count fits some most there =
-    let long : length (octets_or_none (rest_in self number)) ≡ length fits.rest = ap length (waits-is self number fits) in
-    let front_long : length (take count (octets_or_none (rest_in self number))) ≡ count = length-take-le count (octets_or_none (rest_in self number)) there in
-    let room = fits.fits in
-    grow-is_allowed (store_in self) number (take count (octets_or_none (rest_in self number))) fits.entry fits.held fits.is_entry fits.partial_is (omega arith) (omega arith) (omega arith)
-
 -- what waits once so many octets became held
 pub waits-later : (old mid : StoreState) (number n : ℕ) → FitsWaiting old number → rest_in mid number ≡ option_map (drop n) (rest_in old number)
     → octets_or_none (rest_in mid number) ≡ drop n (octets_or_none (rest_in old number))
@@ -106,10 +96,6 @@ module _ {D : Type 0} (g : Ghosts D) where
       let all : grows number blocks waits ≡ grows number (i + 1) waits ++ later = ap (λ (k : ℕ). grows number k waits) sum ∙ grows-add number (i + 1) (blocks - (i + 1)) waits in
       subst (λ (commands : List Command). Does g P old new disk disk_now commands) (sym all)
       (Does-longer g P old new disk disk_now (grows number (i + 1) waits) later failed (subst (λ (commands : List Command). AreAllowed (store_in old) commands) all (blocks-allowed old number blocks fits there)) does)
-
--- before the first block
-pub rest-first : (self : StoreState) (number : ℕ) → FitsWaiting self number → rest_in self number ≡ option_map (drop (512 * 0)) (rest_in self number)
-rest-first self number fits = fits.out ∙ sym (ap (option_map (drop 0)) fits.out)
 
 -- a whole block waits
 pub block-there : (old mid : StoreState) (number i blocks : ℕ) → FitsWaiting old number → i < blocks → 512 * blocks ≤ length (octets_or_none (rest_in old number))

@@ -13,7 +13,7 @@ use Rattle.file_journal.specs.Journal.{Standing, is_block_number, journal_of}
 use Rattle.file_journal.specs.Laws.{ComesTo}
 use Rattle.file_journal.specs.Ledger.{Takes}
 use Rattle.file_journal.specs.Records.{IsRecord, Reading, Record, StandsFrom, reading_from, whole}
-use Rattle.file_journal.specs.Walk.{no_store, number_or, stands_of, state, walk}
+use Rattle.file_journal.specs.Walk.{number_or, stands_of, state, walk}
 use Rattle.file_journal.proofs.Offered.{one_walk, own_number, reading_none, stands_from_read}
 use Rattle.file_entries.specs.Command.{AreAllowed, Command, after, after_all, begin, drop_entry, grow, is_allowed, seal}
 use Rattle.file_entries.specs.Records.{IsWritable, command_of, record_of_command, store_after, store_form, store_magic, store_step}
@@ -92,10 +92,6 @@ pub takes-commands : (commands : List Command) (before : Store) → AllByRecursi
 takes-commands [] before writable allowed = refl
 takes-commands (command ∷ commands) before writable allowed =
     (after before command, allowed-step before command (record_of_command command) (read-written command writable.0) allowed.0, takes-commands commands (after before command) writable.1 allowed.1)
-
--- a walk gives no store's refusal
-pub walk-no_store : (before : Store) (place : ℕ) (reading : Reading) (found : List ℕ) → walk store_step before place reading ≡ no_store found → ⊥
-walk-no_store before place reading found is = (one_walk store_step before place reading (no_store found)).1 (sym is)
 
 pub standing-back : (octets : List ℕ) (files : Store) (commands : List Command) → IsStoreAfter octets files commands → StandsFor octets files
 standing-back octets files commands is =

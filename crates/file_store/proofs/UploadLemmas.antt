@@ -1,21 +1,19 @@
 -- What the commands of one upload keep of the others, and what becomes of it.
-use Rattle.std.proofs.Common.{◌≡◌, ◌≢◌, ◌==◌, ℕ, zero, suc, ◌+◌, ◌-◌, ◌*◌, ◌/◌, ◌≤◌, Bool, true, List, [], ◌∷◌, ◌++◌, length, take, drop, Option, None, Some, inl, inr, refl, sym, ◌∙◌, ap, subst, arith, length-append, length-drop}
-use Rattle.std.specs.Prelude.{IsTrue, nat_le, nat_lt}
+use Rattle.std.proofs.Common.{◌≡◌, ◌≢◌, ℕ, zero, suc, ◌+◌, ◌-◌, ◌*◌, ◌/◌, ◌≤◌, Bool, true, List, [], ◌∷◌, ◌++◌, length, take, drop, Option, None, Some, inl, inr, refl, sym, ◌∙◌, ap, subst, arith, length-append, length-drop}
+use Rattle.std.specs.Prelude.{IsTrue}
 use Rattle.std.specs.List.{AllByRecursion}
 use Rattle.std.specs.Option.{option_and_then, option_map}
 use Rattle.std.proofs.lemmas.Bool.Decides.{eqb_tells, nat_tests}
-use Rattle.std.proofs.lemmas.Bool.{le-leb, lt-ltb}
 use Rattle.std.proofs.lemmas.List.{length-take-le}
 use Rattle.disk_model.specs.declared.disk.Disk.{Ghosts}
 use Rattle.px_base.specs.CallSign.{CallSign}
-use Rattle.file_entries.specs.Limits.{last_next, longest_file, most_entries}
-use Rattle.file_entries.specs.Command.{Command, MayBegin, after, after_all, begin, grown, is_allowed, grows, last_grow}
+use Rattle.file_entries.specs.Command.{Command, after, after_all, begin, grown, grows, last_grow}
 use Rattle.file_entries.specs.Files.{File, Files, KeepsRests, file_of, octets_or_none, rest_of, store_of}
 use Rattle.file_entries.specs.Info.{is_complete}
 use Rattle.file_entries.specs.IsStore.{IsStore}
 use Rattle.file_entries.specs.Kept.{KeepsComplete}
-use Rattle.file_entries.specs.Store.{Entry, Store, blocks_for, blocks_of, entry_of, new_entry, partial}
-use Rattle.file_entries.proofs.Offered.{after-other, both-true, entry-of-file, find-append_found, find-map-changed, find-push, find_past, grows-after, has_number, never-both, number_of}
+use Rattle.file_entries.specs.Store.{Entry, Store, entry_of, new_entry, partial}
+use Rattle.file_entries.proofs.Offered.{after-other, entry-of-file, find-append_found, find-map-changed, find-push, find_past, grows-after, has_number, never-both, number_of}
 use Rattle.file_store.specs.Kept.{KeepsOthers, KeepsUploads}
 use Rattle.file_store.specs.OnDisk.{Does}
 use Rattle.file_store.specs.State.{StoreState, rest_in, store_in}
@@ -177,21 +175,6 @@ pub begun-entry : (store : Store) (caller : CallSign) (file_length moment : ℕ)
     → entry_of (after store (begin store.next caller file_length moment)) store.next ≡ Some (new_entry store.next caller file_length moment)
 begun-entry store caller file_length moment is =
     find-push (has_number store.next) store.entries _ (find_past store.next 1 store.next store.entries is.entries (omega arith)) (grind (arith, nat_tests))
-
--- a file that may be begun is
-pub begin-is_allowed : (store : Store) (caller : CallSign) (file_length moment : ℕ) → IsStore store → MayBegin store file_length → IsTrue (is_allowed store (begin store.next caller file_length moment))
-begin-is_allowed store caller file_length moment is may =
-    let room = may.room in
-    let few = may.few in
-    let left = may.left in
-    let short = may.short in
-    let blocks = is.blocks in
-    let one : IsTrue (store.next == store.next) = grind (arith, nat_tests) in
-    let first : IsTrue (nat_le file_length longest_file) = le-leb _ _ short in
-    let second : IsTrue (nat_lt (length store.entries) most_entries) = lt-ltb _ _ few in
-    let third : IsTrue (nat_lt store.next last_next) = lt-ltb _ _ left in
-    let fourth : IsTrue (nat_le (blocks_of store + blocks_for file_length) store.blocks) = le-leb _ _ (omega arith) in
-    both-true _ _ one (both-true _ _ (both-true _ _ (both-true _ _ first second) third) fourth)
 
 -- no upload of a number without an entry is out
 pub rest-none : (files : Files) (number : ℕ) → entry_of (store_of files) number ≡ None → rest_of files number ≡ None

@@ -1,6 +1,7 @@
 //! The changes of the entries, each of which is one command.
 
 ghost use Rattle.std.specs.Prelude.{◌≡◌, ◌≤◌, length};
+ghost use Rattle.file_journal.specs.Form.{same_form};
 ghost use Rattle.file_entries.specs.Command.{Command as StoreCommand, after, grow};
 ghost use Rattle.file_entries.specs.Commands.{command_value};
 ghost use Rattle.file_entries.specs.Files.{Becomes, store_of};
@@ -108,4 +109,6 @@ impl Change<Entries> for EntriesChange {
             EntriesChange::Drop { number } => entries.drop_entry(number),
         }
     }
+
+    ghost of_ledger = { same_form store_form (λ entries. store_of entries.files) };
 }

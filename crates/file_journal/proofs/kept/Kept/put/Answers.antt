@@ -1,5 +1,4 @@
 use Rattle.std.proofs.Common.{◌≡◌, ℕ, List, false, Err, IsErr, Ok, Result, refl, sym, ◌∙◌, ap, subst}
-use Rattle.std.proofs.lemmas.Result.{err_from_is_err_and}
 use Rattle.file_journal.specs.Kept.{AnswersPut, StandsAt, kept_on}
 use Rattle.file_journal.specs.Position.{Position}
 use Rattle.file_journal.specs.Records.{record_of}
@@ -10,8 +9,8 @@ use Rattle.file_journal.proofs.KeptLemmas.{does_cut, does_one, is_disk, stands_c
 use Rattle.file_journal.proofs.WalkLemmas.{append_keeps}
 use Rattle.file_journal.proofs.kept.Kept.put.Goals as goal
 
-pub returns-in_err-append-clause-answers : goal.returns-in_err-append-clause-answers
-returns-in_err-append-clause-answers g c =
+pub returns-in-Err-clause-answers : goal.returns-in-Err-clause-answers
+returns-in-Err-clause-answers g c =
     let D = g.D.Disk in
     let form = g.C.Change.form in
     let ledger = c.args.self.now.ledger in
@@ -26,24 +25,22 @@ returns-in_err-append-clause-answers g c =
     let steps = ap (λ (octets : List ℕ). form.step now (record_of c.write-kind.result octets)) c.as_slice.ensures.value ∙ c.write-kind.ensures.steps in
     let allowed = c.write-kind.ensures.allowed in
     let healthy : journal.failed ≡ false = sym c.failed.ensures ∙ c.if-failed.false in
-    let p = err_from_is_err_and c.from_residual.result c.from_residual.ensures.1 in
-    let e = c.in_err-append.field-0.0 in
-    let is : c.from_residual.result ≡ Err e = p.1 ∙ ap Err p.2 in
-    let fails = c.in_err-append.ensures in
-    let other : c.from_residual.result ≡ Err fault.Failed → ⊥ = λ was. cc (sym healthy ∙ fails.failed.0 (sym is ∙ was)) in
+    let e = c.in-Err.fault in
+    let result : Result (Unit {0}) JournalFault = Err e in
+    let fails = c.in-Err.ensures in
+    let other : result ≡ Err fault.Failed → ⊥ = λ was. cc (sym healthy ∙ fails.failed.0 was) in
     let bad = ap (λ (p : Position). p.failed) fails.fails in
-    let failed : IsErr c.from_residual.result = subst (λ (r : Result (Unit {0}) JournalFault). IsErr r) (sym is) refl in
     record {
       failed = (λ was. absurd (other was), λ before. absurd (cc (sym healthy ∙ before)));
       untouched = λ was. absurd (other was);
       does = λ _. does_cut form D old new now journal after command entry c.requires.stands_at healthy allowed steps fails.journal fails.puts.told fails.since fails.at_most
-          g.met.D.Disk.earlier fails.any_moment bad fails.stands_on (IsErr c.from_residual.result) failed (puts_same D old new _ _ (λ _. failed) (λ _. is_disk e (λ was. other (is ∙ was))) fails.puts);
+          g.met.D.Disk.earlier fails.any_moment bad fails.stands_on (IsErr result) refl (puts_same D old new _ _ (λ _. refl) (λ _. is_disk e other) fails.puts);
       stands_at = stands_cut form D old new now journal after command entry c.requires.stands_at healthy allowed steps fails.journal fails.puts.told fails.since fails.at_most
           g.met.D.Disk.earlier fails.any_moment bad fails.stands_on;
     }
 
-pub returns-clause-answers : goal.returns-clause-answers
-returns-clause-answers g c =
+pub returns-in-Ok-clause-answers : goal.returns-in-Ok-clause-answers
+returns-in-Ok-clause-answers g c =
     let D = g.D.Disk in
     let form = g.C.Change.form in
     let ledger = c.args.self.now.ledger in
@@ -59,10 +56,10 @@ returns-clause-answers g c =
     let steps = ap (λ (octets : List ℕ). form.step now (record_of c.write-kind.result octets)) c.as_slice.ensures.value ∙ c.write-kind.ensures.steps in
     let allowed = c.write-kind.ensures.allowed in
     let healthy : journal.failed ≡ false = sym c.failed.ensures ∙ c.if-failed.false in
-    let made = c.in_ok-append.ensures in
+    let made = c.in-Ok.ensures in
     let stands : StandsAt D form (kept_on next after new) = record {
       magic_is = ap (λ (p : Position). p.magic) made.journal ∙ c.requires.stands_at.magic_is;
-      keeps = append_keeps D form.fresh form.step old new journal after now next entry c.requires.stands_at.keeps steps (Ok c.in_ok-append.field-0) made.stands_on made.journal made.ok made.failed made.puts.told;
+      keeps = append_keeps D form.fresh form.step old new journal after now next entry c.requires.stands_at.keeps steps (Ok c.in-Ok.field-0) made.stands_on made.journal made.ok made.failed made.puts.told;
     } in
     let answers : AnswersPut D form command (kept_on now journal old) (kept_on next after new) (Ok (tt {0})) = record {
       failed = (λ was. absurd (cc was), λ before. absurd (cc (sym healthy ∙ before)));
