@@ -51,7 +51,7 @@ first_none slot slots (Some sends) later h = absurd (cc h)
 freed_silent : (w : Window) (slot : Slot) → slot_next w slot ≡ None → slot_next w (freed slot) ≡ None
 freed_silent w free h = h
 freed_silent w (connected c) h = h
-freed_silent w (leaving end) h = refl
+freed_silent w (leaving c) h = refl
 
 places_silent : (w : Window) (slots : List Slot) → places_next w slots ≡ None → places_next w (all_freed slots) ≡ None
 places_silent w [] h = h
@@ -143,13 +143,13 @@ module _ (w : Window) where
   ticked-fits [] all = tt
   ticked-fits (free ∷ slots) all = (tt, ticked-fits slots all.1)
   ticked-fits (connected c ∷ slots) all = (left-fits (ticking c).over (ticking c).after (after_tick-IsEnd w c.end all.0), ticked-fits slots all.1)
-  ticked-fits (leaving end ∷ slots) all = (all.0, ticked-fits slots all.1)
+  ticked-fits (leaving c ∷ slots) all = (all.0, ticked-fits slots all.1)
 
   freed-fits : (slots : List Slot) → SlotsFit w slots → SlotsFit w (all_freed slots)
   freed-fits [] all = tt
   freed-fits (free ∷ slots) all = (tt, freed-fits slots all.1)
   freed-fits (connected c ∷ slots) all = (all.0, freed-fits slots all.1)
-  freed-fits (leaving end ∷ slots) all = (tt, freed-fits slots all.1)
+  freed-fits (leaving c ∷ slots) all = (tt, freed-fits slots all.1)
 
   fits-at : (slots : List Slot) (place : ℕ) (slot : Slot) → SlotsFit w slots → slice_get slots place ≡ Some slot → SlotFits w slot
   fits-at [] place slot all at = absurd (never slot at)
@@ -204,7 +204,7 @@ at-fits : (server : Server) (frame : FrameValue) (moment : ℕ) (failures : List
     → places_next server.window server.slots ≡ None → IsFit server → IsFit (hearing_at server frame moment failures place slot).after
 at-fits server frame moment failures place None at quiet all = all
 at-fits server frame moment failures place (Some free) at quiet all = all
-at-fits server frame moment failures place (Some (leaving end)) at quiet all = all
+at-fits server frame moment failures place (Some (leaving c)) at quiet all = all
 at-fits server frame moment failures place (Some (connected c)) at quiet all =
     let w = server.window in
     let fit = fits-at w server.slots place (connected c) all at in
@@ -264,7 +264,7 @@ at-queued : QueuedLaw → (server : Server) (frame : FrameValue) (moment : ℕ) 
     → IsAllQueued (hearing_at server frame moment failures place slot).after
 at-queued law server frame moment failures place None all = all
 at-queued law server frame moment failures place (Some free) all = all
-at-queued law server frame moment failures place (Some (leaving end)) all = all
+at-queued law server frame moment failures place (Some (leaving c)) all = all
 at-queued law server frame moment failures place (Some (connected c)) all =
     let happened : Happened = hearing server.window moment server.store server.lists c frame failures in
     let now : Store = after_all server.store happened.done in

@@ -1,19 +1,18 @@
 -- Between the events of a server all that is due was queued, as far as there was room.
-use Rattle.std.proofs.Common.{◌≡◌, ℕ, zero, suc, ◌+◌, ◌-◌, ◌<◌, List, [], ◌∷◌, ◌++◌, length, set, take, drop, map, Bool}
+use Rattle.std.proofs.Common.{◌≡◌, ℕ, zero, suc, ◌+◌, ◌-◌, ◌<◌, List, [], ◌∷◌, ◌++◌, length, set, drop, map, Bool}
 use Rattle.std.proofs.Common.{true, false, Option, None, Some, refl, sym, ◌∙◌, ap, subst, inl, inr, append_assoc}
 use Rattle.std.proofs.Common.{take-append-drop}
-use Rattle.std.specs.Prelude.{if◌then◌else◌, ◌&&◌, ◌==◌, nat_le, slice_get}
+use Rattle.std.specs.Prelude.{if◌then◌else◌, ◌&&◌, nat_le}
 use Rattle.std.specs.List.{concat}
 use Rattle.std.specs.Option.{option_map}
 use Rattle.std.proofs.lemmas.List.{drop-append-le}
 use Rattle.std.proofs.lemmas.Option.{same_Some}
-use Rattle.ax25_frames.specs.FrameText.{FrameValue}
 use Rattle.ax25_link.specs.Ends.{Farewell, IsEnd, LinkEnd, Reply, free_octets, held, most_held}
 use Rattle.ax25_link.specs.Kept.{is_there}
 use Rattle.ax25_link.specs.Rows.{entering}
-use Rattle.ax25_link.specs.Sending.{Sending, after_new, has_new, last_sending, later_sending, most_information}
+use Rattle.ax25_link.specs.Sending.{Sending, after_new, last_sending, later_sending, most_information}
 use Rattle.ax25_link.specs.Sending.{next_piece, next_sending, sending_after, sends_again, sends_new, sends_reply}
-use Rattle.ax25_link.specs.Timer.{after_tick, is_down, is_spent, runs_out, told_of_tick, trying}
+use Rattle.ax25_link.specs.Timer.{after_tick, is_down, is_spent, runs_out, trying}
 use Rattle.ax25_link.specs.Window.{Window}
 use Rattle.ax25_link.specs.declared.state.LinkState.TheVariants.{Down}
 use Rattle.ax25_link.specs.declared.state.Why.TheVariants.{NoAnswer}
@@ -24,12 +23,12 @@ use Rattle.ftl0_session.specs.Uploads.Failures.{Failure, read_fails}
 use Rattle.ftl0_session.specs.Downloads.Sending.{DuePacket as Download, due_packet, is_due}
 use Rattle.ftl0_session.specs.Table.{DuePacket, State, download_part, due_at, in_session}
 use Rattle.ftl0_server.specs.Connection.Connected.{Connected}
-use Rattle.ftl0_server.specs.Connection.Hearing.{hearing, parts_of_frame, ticking, with_end}
+use Rattle.ftl0_server.specs.Connection.Hearing.{ticking, with_end}
 use Rattle.ftl0_server.specs.Connection.Laws.{IsQueued, QueuedLaw}
 use Rattle.ftl0_server.specs.Connection.Taking.{Progress, after_due, enough_free, on_due, queued, queuing}
 use Rattle.ftl0_server.specs.Laws.{AreQueued, SlotFits, SlotIsQueued, SlotsFit}
 use Rattle.ftl0_server.specs.Slots.{PlacesSend, Slot, SlotSends, all_freed, connected, first_of, free, leaving, left_by}
-use Rattle.ftl0_server.specs.Slots.{places_next, slot_after, slot_next, slot_sends, slot_ticking}
+use Rattle.ftl0_server.specs.Slots.{places_next, slot_next, slot_sends, slot_ticking}
 use Rattle.ftl0_server.proofs.AllPlaces.{never}
 
 -- ---- whether anything is due is the state's to tell
@@ -120,7 +119,7 @@ left-queued store true c is = tt
 slot-stays : (store now : Store) (slot : Slot) → SlotIsQueued store slot → SlotIsQueued now slot
 slot-stays store now free is = tt
 slot-stays store now (connected c) is = queued-stays store now c.state c.end c.end refl is
-slot-stays store now (leaving end) is = tt
+slot-stays store now (leaving c) is = tt
 
 -- over whatever store
 pub all-stay : (store now : Store) (slots : List Slot) → AreQueued store slots → AreQueued now slots
@@ -139,14 +138,14 @@ module _ (store : Store) where
   ticked-queued (free ∷ slots) all = (tt, ticked-queued slots all.1)
   ticked-queued (connected c ∷ slots) all =
       (left-queued store (ticking c).over (ticking c).after (ticking-queued store c all.0), ticked-queued slots all.1)
-  ticked-queued (leaving end ∷ slots) all = (tt, ticked-queued slots all.1)
+  ticked-queued (leaving c ∷ slots) all = (tt, ticked-queued slots all.1)
 
   -- those whose sessions are over are free
   pub freed-queued : (slots : List Slot) → AreQueued store slots → AreQueued store (all_freed slots)
   freed-queued [] all = tt
   freed-queued (free ∷ slots) all = (tt, freed-queued slots all.1)
   freed-queued (connected c ∷ slots) all = (all.0, freed-queued slots all.1)
-  freed-queued (leaving end ∷ slots) all = (tt, freed-queued slots all.1)
+  freed-queued (leaving c ∷ slots) all = (tt, freed-queued slots all.1)
 
   -- ---- frames are sent
 
@@ -158,14 +157,16 @@ module _ (store : Store) where
       subst (λ (y : SlotSends). SlotIsQueued store y.after) (same_Some (slot_sends (λ end. connected (with_end c end)) sending) x sends)
       (queued-stays store store c.state c.end sending.after same there)
 
-  leaving-sends : (o : Option Sending) (x : SlotSends) → option_map (slot_sends leaving) o ≡ Some x → SlotIsQueued store x.after
-  leaving-sends None x sends = absurd (never x sends)
-  leaving-sends (Some sending) x sends = subst (λ (y : SlotSends). SlotIsQueued store y.after) (same_Some (slot_sends leaving sending) x sends) tt
+  leaving-sends : (c : Connected) (o : Option Sending) (x : SlotSends) → option_map (slot_sends (λ end. leaving (with_end c end))) o ≡ Some x
+      → SlotIsQueued store x.after
+  leaving-sends c None x sends = absurd (never x sends)
+  leaving-sends c (Some sending) x sends =
+      subst (λ (y : SlotSends). SlotIsQueued store y.after) (same_Some (slot_sends (λ end. leaving (with_end c end)) sending) x sends) tt
 
   slot-sent : (w : Window) (slot : Slot) → SlotFits w slot → SlotIsQueued store slot → (x : SlotSends) → slot_next w slot ≡ Some x → SlotIsQueued store x.after
   slot-sent w free fits is x sends = absurd (never x sends)
   slot-sent w (connected c) fits is x sends = connected-sends w c (next_sending w c.end) refl fits is x sends
-  slot-sent w (leaving end) fits is x sends = leaving-sends (next_sending w end) x sends
+  slot-sent w (leaving c) fits is x sends = leaving-sends c (next_sending w c.end) x sends
 
   first-sent : (slot : Slot) (slots : List Slot) (o : Option SlotSends) (later : Option PlacesSend)
       → ((x : SlotSends) → o ≡ Some x → SlotIsQueued store x.after) → ((y : PlacesSend) → later ≡ Some y → AreQueued store y.after)

@@ -97,7 +97,7 @@ hearing_stranger server frame moment =
 abbrev pub hearing_at : Server → FrameValue → ℕ → List Failure → ℕ → Option Slot → ServerHappened
 hearing_at server frame moment failures place None = becoming server
 hearing_at server frame moment failures place (Some free) = becoming server
-hearing_at server frame moment failures place (Some (leaving end)) = becoming server
+hearing_at server frame moment failures place (Some (leaving c)) = becoming server
 hearing_at server frame moment failures place (Some (connected c)) =
     heard_at server place (hearing server.window moment server.store server.lists c frame failures)
 

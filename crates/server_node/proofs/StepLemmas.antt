@@ -56,7 +56,7 @@ module _ (parts : List ℕ) where
   at-uncut : (server : Server) (frame : FrameValue) (moment place : ℕ) (slot : Option Slot) → (hearing_at server frame moment (failed_reads parts) place slot).cut ≡ []
   at-uncut server frame moment place None = refl
   at-uncut server frame moment place (Some free) = refl
-  at-uncut server frame moment place (Some (leaving end)) = refl
+  at-uncut server frame moment place (Some (leaving c)) = refl
   at-uncut server frame moment place (Some (connected c)) =
       (queued-alone server.store (failed_reads parts) (parts_of_frame server.window moment server.store server.lists c frame (failed_reads parts))).cut
       ∙ heard-uncut (heard_of server.window c.end frame) moment server.store server.lists c (after_frame server.window c.end frame) frame.kind.information

@@ -59,7 +59,7 @@ at_store : (server : Server) (frame : FrameValue) (moment : ℕ) (failures : Lis
     → (hearing_at server frame moment failures place slot).after.store ≡ after_all server.store (hearing_at server frame moment failures place slot).done
 at_store server frame moment failures place None = refl
 at_store server frame moment failures place (Some free) = refl
-at_store server frame moment failures place (Some (leaving end)) = refl
+at_store server frame moment failures place (Some (leaving c)) = refl
 at_store server frame moment failures place (Some (connected c)) = refl
 
 by_store : (server : Server) (frame : FrameValue) (moment : ℕ) (failures : List Failure) (place : Option ℕ)
