@@ -6,6 +6,7 @@ use Rattle.ax25_frames.specs.FrameText.{FrameValue}
 use Rattle.ax25_link.specs.Calls.{after_hang_up, after_push}
 use Rattle.ax25_link.specs.Ends.{IsEnd, LinkEnd, free_octets}
 use Rattle.ax25_link.specs.LinkStep.{heard_of_tick}
+use Rattle.ax25_link.specs.Refusals.{is_answered}
 use Rattle.ax25_link.specs.Rows.{after_frame, heard_of}
 use Rattle.ax25_link.specs.Sending.{IsQuiet, Sending, next_sending}
 use Rattle.ax25_link.specs.Timer.{after_tick, is_up, told_of_tick}
@@ -29,7 +30,7 @@ use Rattle.ftl0_client.specs.Attempt.Settling.{queuing, settled}
 use Rattle.ftl0_client.specs.Attempt.Taking.{Happened, after_replies, fits, parting, replied, taking, taking_by}
 use Rattle.ftl0_client.specs.Attempt.Taking.{taking_one}
 use Rattle.ftl0_client.specs.Client.{Client, ClientEvent, IsSilent, Refused, asks, attempt_for, hearing_by}
-use Rattle.ftl0_client.specs.Client.{hears, is_answered, refusing, sends_by, sends_of_attempt, sends_of_link}
+use Rattle.ftl0_client.specs.Client.{hears, refusing, sends_by, sends_of_attempt, sends_of_link}
 use Rattle.ftl0_client.specs.Client.{ticking_by, ticks}
 use Rattle.ftl0_client.specs.ClientStep.{happening}
 use Rattle.ftl0_client.specs.Laws.{EndFits}

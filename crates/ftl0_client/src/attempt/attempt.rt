@@ -3,7 +3,6 @@
 ghost use Rattle.std.specs.Prelude.{◌≡◌, ◌<◌, ◌≤◌, ◌++◌, false, true, length};
 ghost use Rattle.std.specs.Prelude.{IfOk, IsTrue, None, OnOk};
 ghost use Rattle.ax25_frames.specs.Values.{value_of};
-ghost use Rattle.ax25_link.specs.Air.{is_information};
 ghost use Rattle.ax25_link.specs.Ends.{LinkEnd, free_octets};
 ghost use Rattle.ax25_link.specs.Kept.{Fits, GivesNext, HasStations, IsFromPeer, SameStations, StandsFor, Steps};
 ghost use Rattle.ax25_link.specs.Kept.{is_pending, most_pending};
@@ -27,8 +26,8 @@ ghost use Rattle.ftl0_client.specs.Attempt.Taking.{parting, taking};
 
 use crate::attempt::AttemptOutcome;
 use arrayvec::ArrayVec;
-use ax25_frames::{Frame, Kind};
-use ax25_link::{Heard, Link, LinkState, Why};
+use ax25_frames::Frame;
+use ax25_link::{Heard, Link, LinkState, Why, information};
 use client_notes::Notes;
 use disk_model::Disk;
 use ftl0_job::{Ending, Job, JobStop, Replies};
@@ -451,16 +450,5 @@ fn kind_of(packet: &Result<Packet<'_>, Malformed>) -> u8
     match packet {
         Ok(packet) => packet.kind(),
         Err(malformed) => malformed.kind,
-    }
-}
-
-/// The information of an I frame.
-fn information<'a>(frame: &Frame<'a>) -> &'a [u8]
-    ensures { IsTrue (is_information (value_of frame.now).kind.control)
-        → result.now ≡ (value_of frame.now).kind.information }
-{
-    match frame.kind {
-        Kind::I { info, .. } => info,
-        _ => &[],
     }
 }

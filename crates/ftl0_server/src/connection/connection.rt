@@ -3,7 +3,6 @@
 ghost use Rattle.std.specs.Prelude.{◌≡◌, ◌<◌, ◌≤◌, ◌↔◌, ℕ, [], ◌∷◌, ◌++◌, drop, length, false, true, not};
 ghost use Rattle.std.specs.Prelude.{IfOk, IsTrue, None};
 ghost use Rattle.ax25_frames.specs.Values.{value_of};
-ghost use Rattle.ax25_link.specs.Air.{is_information};
 ghost use Rattle.ax25_link.specs.Ends.{LinkEnd};
 ghost use Rattle.ax25_link.specs.Kept.{Fits, GivesNext, HasStations, IsFromPeer, SameStations, StandsFor, Steps};
 ghost use Rattle.ax25_link.specs.Kept.{Tells, is_pending, most_pending};
@@ -27,8 +26,8 @@ ghost use Rattle.ftl0_server.specs.Connection.Taking.{fits, replied};
 
 use crate::connection::Fate;
 use arrayvec::ArrayVec;
-use ax25_frames::{Frame, Kind};
-use ax25_link::{Heard, Link};
+use ax25_frames::Frame;
+use ax25_link::{Heard, Link, information};
 use disk_model::Disk;
 use file_store::FileStore;
 use ftl0_packets::laws::stream_law;
@@ -424,15 +423,4 @@ fn reply(link: &mut Link, text: &[u8]) -> Fate
     }
     link.push(text);
     Fate::Stays
-}
-
-/// The information of an I frame.
-fn information<'a>(frame: &Frame<'a>) -> &'a [u8]
-    ensures { IsTrue (is_information (value_of frame.now).kind.control)
-        → result.now ≡ (value_of frame.now).kind.information }
-{
-    match frame.kind {
-        Kind::I { info, .. } => info,
-        _ => &[],
-    }
 }
