@@ -1,7 +1,7 @@
 -- Each event of a server has a step: the ends of its links stay such as frames and ticks bring about.
 use Rattle.std.proofs.Common.{◌≡◌, ℕ, zero, suc, List, [], ◌∷◌, ◌++◌, set, map, Bool, true, false, Option, None, Some}
 use Rattle.std.proofs.Common.{refl, sym, ap, ap₂, subst, inl, arith}
-use Rattle.std.specs.Prelude.{if◌then◌else◌, ◌&&◌, nat_le, slice_get}
+use Rattle.std.specs.Prelude.{if◌then◌else◌, ◌&&◌, slice_get}
 use Rattle.std.specs.Option.{option_map}
 use Rattle.std.proofs.lemmas.Option.{same_Some}
 use Rattle.px_base.specs.CallSign.{CallSign}
@@ -22,12 +22,12 @@ use Rattle.file_store.specs.Store.{Store}
 use Rattle.node.specs.Events.{NodeEvent, hears, ticks}
 use Rattle.ftl0_session.specs.Uploads.Failures.{Failure, write_fails}
 use Rattle.ftl0_packets.specs.Items.{texts}
-use Rattle.ftl0_session.specs.Table.{DuePacket, Row, State, due_at, fault_reply, greeting, row_at}
+use Rattle.ftl0_session.specs.Table.{Row, State, fault_reply, greeting, row_at}
 use Rattle.ftl0_server.specs.Connection.Connected.{Connected, answering, caller_of}
 use Rattle.ftl0_server.specs.Connection.Hearing.{Happened, hearing, parts_as, parts_of_frame, ticking, with_end}
 use Rattle.ftl0_server.specs.Connection.Laws.{QueuedLaw}
-use Rattle.ftl0_server.specs.Connection.Taking.{Progress, after_due, after_row, enough_free, failing_at, fits}
-use Rattle.ftl0_server.specs.Connection.Taking.{giving_up, on_due, queued, queuing, taking}
+use Rattle.ftl0_server.specs.Connection.Taking.{Progress, after_row, failing_at, fits}
+use Rattle.ftl0_server.specs.Connection.Taking.{giving_up, queued, queuing, taking}
 use Rattle.ftl0_server.specs.Laws.{AreQueued, SlotFits, SlotsFit, SomeStepLaw}
 use Rattle.ftl0_server.specs.Server.{IsSilent, Refused, Server, ServerHappened, ServerSends, called_by, hearing_at}
 use Rattle.ftl0_server.specs.Server.{hearing_by, hearing_stranger, refusing, sends_by}
@@ -37,6 +37,7 @@ use Rattle.ftl0_server.specs.Slots.{PlacesSend, Slot, SlotSends, all_freed, conn
 use Rattle.ftl0_server.specs.Slots.{freed, leaving, left_by, place_of}
 use Rattle.ftl0_server.specs.Slots.{places_next, slot_after, slot_next, slot_sends, slot_ticking}
 use Rattle.ftl0_server.proofs.AllPlaces.{never}
+use Rattle.ftl0_server.proofs.connection.QueuingLemmas.{queuing-holds}
 use Rattle.ftl0_server.proofs.EmptiesLemmas.{by_stray, emptied, server_left}
 use Rattle.ftl0_server.proofs.QueuedLemmas.{all-stay, freed-queued, heard-queued, left-queued, places-sent, queued-set}
 use Rattle.ftl0_server.proofs.QueuedLemmas.{ticked-queued}
@@ -102,25 +103,15 @@ module _ (w : Window) where
   either-fits true one other first second = first
   either-fits false one other first second = second
 
-  due-fits : (o : Option DuePacket) (progress : Progress) (later : DuePacket → Progress) → IsEnd w progress.end
-      → ((due : DuePacket) → IsEnd w (later due).end) → IsEnd w (on_due o progress later).end
-  due-fits None progress later is each = is
-  due-fits (Some due) progress later is each = each due
-
-  queuing-fits : (more : ℕ) (store : Store) (failures : List Failure) (progress : Progress) → IsEnd w progress.end
-      → IsEnd w (queuing more store failures progress).end
-  queuing-fits zero store failures progress is = is
-  queuing-fits (suc more) store failures progress is =
-      let later : DuePacket → Progress = λ due. queuing more store failures (after_due due progress) in
-      either-fits (nat_le enough_free (free_octets progress.end)) (on_due (due_at store progress.state failures progress.part) progress later) progress
-      (due-fits (due_at store progress.state failures progress.part) progress later is
-      (λ due. queuing-fits more store failures (after_due due progress) (after_push-IsEnd w progress.end (packet_text due.packet) is)))
-      is
+  queuing-fits : (store : Store) (failures : List Failure) (count : ℕ) (progress : Progress) → IsEnd w progress.end
+      → IsEnd w (queuing count store failures progress).end
+  queuing-fits store failures =
+      queuing-holds store failures (λ (now : Progress). IsEnd w now.end) (λ now due is fit. after_push-IsEnd w now.end (packet_text due.packet) fit)
 
   queued-fits : (store : Store) (failures : List Failure) (progress : Progress) → IsEnd w progress.end → IsEnd w (queued store failures progress).end
   queued-fits store failures progress is =
       either-fits progress.over progress (queuing (free_octets progress.end) (after_all store progress.done) failures progress) is
-      (queuing-fits (free_octets progress.end) (after_all store progress.done) failures progress is)
+      (queuing-fits (after_all store progress.done) failures (free_octets progress.end) progress is)
 
   -- after a frame
   heard-fits : (heard : Heard) (moment : ℕ) (store : Store) (lists : List CallerList) (c : Connected) (end : LinkEnd) (octets : List ℕ)

@@ -2,7 +2,7 @@
 use Rattle.std.proofs.Common.{◌≡◌, ℕ, zero, suc, ◌+◌, ◌-◌, ◌<◌, List, [], ◌∷◌, ◌++◌, length, set, drop, map, Bool}
 use Rattle.std.proofs.Common.{true, false, Option, None, Some, refl, sym, ◌∙◌, ap, subst, inl, inr, append_assoc}
 use Rattle.std.proofs.Common.{take-append-drop}
-use Rattle.std.specs.Prelude.{if◌then◌else◌, ◌&&◌, nat_le}
+use Rattle.std.specs.Prelude.{if◌then◌else◌, ◌&&◌}
 use Rattle.std.specs.List.{concat}
 use Rattle.std.specs.Option.{option_map}
 use Rattle.std.proofs.lemmas.List.{drop-append-le}
@@ -21,11 +21,12 @@ use Rattle.file_store.specs.Command.{Command, after_all}
 use Rattle.file_store.specs.Store.{Store}
 use Rattle.ftl0_session.specs.Uploads.Failures.{Failure, read_fails}
 use Rattle.ftl0_session.specs.Downloads.Sending.{DuePacket as Download, due_packet, is_due}
-use Rattle.ftl0_session.specs.Table.{DuePacket, State, download_part, due_at, in_session}
+use Rattle.ftl0_session.specs.Table.{State, download_part, due_at, in_session}
 use Rattle.ftl0_server.specs.Connection.Connected.{Connected}
 use Rattle.ftl0_server.specs.Connection.Hearing.{ticking, with_end}
 use Rattle.ftl0_server.specs.Connection.Laws.{IsQueued, QueuedLaw}
-use Rattle.ftl0_server.specs.Connection.Taking.{Progress, after_due, enough_free, on_due, queued, queuing}
+use Rattle.ftl0_server.specs.Connection.Taking.{Progress, enough_free, queued}
+use Rattle.ftl0_server.proofs.connection.QueuingLemmas.{KeepsRest, queued-keeps}
 use Rattle.ftl0_server.specs.Laws.{AreQueued, SlotFits, SlotIsQueued, SlotsFit}
 use Rattle.ftl0_server.specs.Slots.{PlacesSend, Slot, SlotSends, all_freed, connected, first_of, free, leaving, left_by}
 use Rattle.ftl0_server.specs.Slots.{places_next, slot_next, slot_sends, slot_ticking}
@@ -185,41 +186,13 @@ module _ (store : Store) where
 
 -- ---- a frame is heard
 
--- What is queued changes nothing but what a link has, what is due, and what was told.
-pub record QueuesAlone (progress now : Progress) : Type 0 where
-  pub over : now.over ≡ progress.over
-  pub done : now.done ≡ progress.done
-  pub cut : now.cut ≡ progress.cut
-
-alone : (progress : Progress) → QueuesAlone progress progress
-alone progress = record { over = refl; done = refl; cut = refl }
-
-either : (progress one other : Progress) (b : Bool) → QueuesAlone progress one → QueuesAlone progress other → QueuesAlone progress (if b then one else other)
-either progress one other true first second = first
-either progress one other false first second = second
-
-due-alone : (progress : Progress) (o : Option DuePacket) (later : DuePacket → Progress) → ((due : DuePacket) → QueuesAlone progress (later due))
-    → QueuesAlone progress (on_due o progress later)
-due-alone progress None later each = alone progress
-due-alone progress (Some due) later each = each due
-
-queuing-alone : (more : ℕ) (store : Store) (failures : List Failure) (progress : Progress) → QueuesAlone progress (queuing more store failures progress)
-queuing-alone zero store failures progress = alone progress
-queuing-alone (suc more) store failures progress =
-    either progress (on_due (due_at store progress.state failures progress.part) progress (λ due. queuing more store failures (after_due due progress))) progress
-    (nat_le enough_free (free_octets progress.end))
-    (due-alone progress (due_at store progress.state failures progress.part) (λ due. queuing more store failures (after_due due progress))
-    (λ due. let rest = queuing-alone more store failures (after_due due progress) in record { over = rest.over; done = rest.done; cut = rest.cut }))
-    (alone progress)
-
-pub queued-alone : (store : Store) (failures : List Failure) (progress : Progress) → QueuesAlone progress (queued store failures progress)
-queued-alone store failures progress =
-    either progress progress (queuing (free_octets progress.end) (after_all store progress.done) failures progress) progress.over (alone progress)
-    (queuing-alone (free_octets progress.end) (after_all store progress.done) failures progress)
+-- what is queued changes nothing of what was done
+pub queued-alone : (store : Store) (failures : List Failure) (progress : Progress) → KeepsRest progress (queued store failures progress)
+queued-alone = queued-keeps
 
 pub heard-queued : QueuedLaw → (store : Store) (failures : List Failure) (progress : Progress) → (queued store failures progress).over ≡ false
     → IsQueued (after_all store (queued store failures progress).done) (queued store failures progress).state (queued store failures progress).end
 heard-queued law store failures progress stays =
-    let same = queued-alone store failures progress in
+    let same = queued-keeps store failures progress in
     subst (λ (commands : List Command). IsQueued (after_all store commands) (queued store failures progress).state (queued store failures progress).end) (sym same.done)
     (law store failures progress (sym same.over ∙ stays))

@@ -100,17 +100,27 @@ module _ {P S : Type 0} (end : S → LinkEnd) (due : S → Option P) (after : P 
   filling-few zero s few = refl
   filling-few (suc more) s few = ap (λ (b : Bool). filling_by b (due s) s (rest_of more s)) (is-fewer (end s) few)
 
+  same-due : (s : S) (later more : P → S) (next : Option P) → ((packet : P) → later packet ≡ more packet) → on_due next s later ≡ on_due next s more
+  same-due s later more None each = refl
+  same-due s later more (Some packet) each = each packet
+
+  same-by : (s : S) (later more : P → S) (enough : Bool) (next : Option P) → (enough ≡ true → (packet : P) → later packet ≡ more packet)
+      → filling_by enough next s later ≡ filling_by enough next s more
+  same-by s later more true next each = same-due s later more next (each refl)
+  same-by s later more false next each = refl
+
+  -- the same is queued where the same is due of each state that is reached
+  pub filling-alike : (other : S → Option P) (Reached : S → Type 0) → ((s : S) → Reached s → due s ≡ other s) → ((s : S) (packet : P) → Reached s → Reached (after packet s))
+      → (count : ℕ) (s : S) → Reached s → filling end due after count s ≡ filling end other after count s
+  filling-alike other Reached same each zero s here = refl
+  filling-alike other Reached same each (suc more) s here =
+      let enough : Bool = nat_le enough_free (free_octets (end s)) in
+      ap (λ (next : Option P). filling_by enough next s (rest_of more s)) (same s here)
+      ∙ same-by s (rest_of more s) (λ packet. filling end other after more (after packet s)) enough (other s)
+      (λ yes packet. filling-alike other Reached same each more (after packet s) (each s packet here))
+
   -- Each packet that is queued takes some of the octets that are free.
   module _ (fewer : (s : S) (packet : P) → enough_free ≤ free_octets (end s) → free_octets (end (after packet s)) < free_octets (end s)) where
-    same-due : (s : S) (later more : P → S) (next : Option P) → ((packet : P) → later packet ≡ more packet) → on_due next s later ≡ on_due next s more
-    same-due s later more None each = refl
-    same-due s later more (Some packet) each = each packet
-
-    same-by : (s : S) (later more : P → S) (enough : Bool) (next : Option P) → (enough ≡ true → (packet : P) → later packet ≡ more packet)
-        → filling_by enough next s later ≡ filling_by enough next s more
-    same-by s later more true next each = same-due s later more next (each refl)
-    same-by s later more false next each = refl
-
     -- as many packets at most as octets are free
     pub same-count : (few many : ℕ) (s : S) → free_octets (end s) ≤ few → free_octets (end s) ≤ many → filling end due after few s ≡ filling end due after many s
     same-count zero zero s some all = refl
