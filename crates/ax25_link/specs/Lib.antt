@@ -10,6 +10,7 @@ pub mod Laws
 pub mod LinkStep
 pub mod Linked
 pub mod Queue
+pub mod Refusals
 pub mod Replies
 pub mod Rows
 pub mod Runs

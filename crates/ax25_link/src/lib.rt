@@ -6,6 +6,7 @@ pub mod laws;
 mod link;
 mod number;
 mod outgoing;
+mod refusal;
 mod reply;
 mod send_queue;
 mod state;
@@ -14,5 +15,6 @@ mod timer;
 mod window;
 
 pub use link::Link;
-pub use state::{Heard, LinkState, Why};
+pub use refusal::{Refusal, is_answered, is_call};
+pub use state::{Heard, LinkState, Why, information};
 pub use window::good_k;

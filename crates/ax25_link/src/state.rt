@@ -1,5 +1,11 @@
 //! The states of a link, and what it tells (AX.25 2.0, 2.4).
 
+ghost use Rattle.std.specs.Prelude.{◌≡◌, IsTrue};
+ghost use Rattle.ax25_frames.specs.Values.{value_of};
+ghost use Rattle.ax25_link.specs.Air.{is_information};
+
+use ax25_frames::{Frame, Kind};
+
 /// The state of a link.
 #[derive(Clone, Copy, Debug, PartialEq, Eq)]
 pub enum LinkState {
@@ -41,4 +47,15 @@ pub enum Heard {
     Bytes,
     /// The link is down.
     Closed(Why),
+}
+
+/// The information of an I frame: what is next in the stream where the link told `Bytes` of it.
+pub fn information<'a>(frame: &Frame<'a>) -> &'a [u8]
+    ensures { IsTrue (is_information (value_of frame.now).kind.control)
+        → result.now ≡ (value_of frame.now).kind.information }
+{
+    match frame.kind {
+        Kind::I { info, .. } => info,
+        _ => &[],
+    }
 }

@@ -1,11 +1,12 @@
 -- Each event leaves the end of a client's link such as frames and ticks bring about.
-use Rattle.std.proofs.Common.{◌≡◌, ℕ, zero, suc, List, [], ◌∷◌, refl}
-use Rattle.std.specs.Prelude.{◌&&◌, Option, None, Some, nat_le, ⊤}
+use Rattle.std.proofs.Common.{◌≡◌, ℕ, List, [], ◌∷◌, refl}
+use Rattle.std.specs.Prelude.{◌&&◌, Option, None, Some, ⊤}
 use Rattle.std.proofs.lemmas.Bool.{cond_both}
 use Rattle.ax25_frames.specs.FrameText.{FrameValue}
 use Rattle.ax25_link.specs.Calls.{after_hang_up, after_push}
 use Rattle.ax25_link.specs.Ends.{IsEnd, LinkEnd, free_octets}
 use Rattle.ax25_link.specs.LinkStep.{heard_of_tick}
+use Rattle.ax25_link.specs.Refusals.{is_answered}
 use Rattle.ax25_link.specs.Rows.{after_frame, heard_of}
 use Rattle.ax25_link.specs.Sending.{IsQuiet, Sending, next_sending}
 use Rattle.ax25_link.specs.Timer.{after_tick, is_up, told_of_tick}
@@ -15,24 +16,25 @@ use Rattle.ax25_link.specs.declared.state.Heard.TheVariants.{Nothing, Opened, Re
 use Rattle.ax25_link.proofs.Offered.{after_frame-IsEnd, after_hang_up-IsEnd, after_push-IsEnd, after_tick-IsEnd, calling_end-IsEnd}
 use Rattle.ftl0_packets.specs.Items.{kind_of_item, texts}
 use Rattle.ftl0_packets.specs.Layout.{Item, packet_text}
+use Rattle.packet_link.specs.Queuing.{fits}
 use Rattle.client_notes.specs.Laws.{after_all}
 use Rattle.client_notes.specs.Notes.{Lists, is_same_call}
 use Rattle.ftl0_job.specs.declared.ending.Ending.{Ending}
 use Rattle.ftl0_job.specs.declared.work.Work.{Work}
-use Rattle.ftl0_job.specs.Due.{DuePacket, next_due}
 use Rattle.ftl0_job.specs.Row.{Row}
-use Rattle.ftl0_job.specs.Table.{JobState, job_after, job_row}
+use Rattle.ftl0_job.specs.Table.{job_after, job_row}
 use Rattle.ftl0_client.specs.Attempt.Attempted.{Attempted}
 use Rattle.ftl0_client.specs.Attempt.Hearing.{after_hearing, after_told, packets_heard, with_end}
-use Rattle.ftl0_client.specs.Attempt.Settling.{after_due, enough_free, is_all_free, is_later, on_due, parting_later}
+use Rattle.ftl0_client.specs.Attempt.Settling.{is_all_free, is_later, parting_later}
 use Rattle.ftl0_client.specs.Attempt.Settling.{queuing, settled}
-use Rattle.ftl0_client.specs.Attempt.Taking.{Happened, after_replies, fits, parting, replied, taking, taking_by}
+use Rattle.ftl0_client.specs.Attempt.Taking.{Happened, after_replies, parting, replied, taking, taking_by}
 use Rattle.ftl0_client.specs.Attempt.Taking.{taking_one}
 use Rattle.ftl0_client.specs.Client.{Client, ClientEvent, IsSilent, Refused, asks, attempt_for, hearing_by}
-use Rattle.ftl0_client.specs.Client.{hears, is_answered, refusing, sends_by, sends_of_attempt, sends_of_link}
+use Rattle.ftl0_client.specs.Client.{hears, refusing, sends_by, sends_of_attempt, sends_of_link}
 use Rattle.ftl0_client.specs.Client.{ticking_by, ticks}
 use Rattle.ftl0_client.specs.ClientStep.{happening}
 use Rattle.ftl0_client.specs.Laws.{EndFits}
+use Rattle.ftl0_client.proofs.attempt.SettlingLemmas.{queuing-keeps}
 
 -- ---- ends
 
@@ -58,17 +60,8 @@ module _ (w : Window) where
       taking-fits (after_all lists one.noted) one.after items (one-fits a.job.ending lists a item is)
 
   -- at the end of an event
-  due-fits : (o : Option (DuePacket JobState)) (a : Attempted) (later : DuePacket JobState → Attempted) → IsEnd w a.end → ((due : DuePacket JobState) → IsEnd w (later due).end)
-      → IsEnd w (on_due o a later).end
-  due-fits None a later is each = is
-  due-fits (Some due) a later is each = each due
-
-  queuing-fits : (more : ℕ) (a : Attempted) → IsEnd w a.end → IsEnd w (queuing more a).end
-  queuing-fits zero a is = is
-  queuing-fits (suc more) a is =
-      let later : DuePacket JobState → Attempted = λ due. queuing more (after_due due a) in
-      cond_both (nat_le enough_free (free_octets a.end)) (on_due (next_due a.job) a later) a (λ (b : Attempted). IsEnd w b.end)
-      (λ enough. due-fits (next_due a.job) a later is (λ due. queuing-fits more (after_due due a) (after_push-IsEnd w a.end (packet_text due.packet) is))) (λ few. is)
+  queuing-fits : (count : ℕ) (a : Attempted) → IsEnd w a.end → IsEnd w (queuing count a).end
+  queuing-fits = queuing-keeps (λ (a : Attempted). IsEnd w a.end) (λ a due is fit. after_push-IsEnd w a.end (packet_text due.packet) fit)
 
   settled-fits : (a : Attempted) → IsEnd w a.end → IsEnd w (settled a).end
   settled-fits a is =

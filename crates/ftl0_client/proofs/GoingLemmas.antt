@@ -11,6 +11,7 @@ use Rattle.ax25_link.specs.declared.state.LinkState.TheVariants.{Down}
 use Rattle.ax25_link.specs.declared.state.Why.{Why}
 use Rattle.ax25_link.specs.Acknowledging.{with_timer_anew}
 use Rattle.ax25_link.specs.Ends.{Farewell, LinkEnd, Reply, outstanding}
+use Rattle.ax25_link.specs.Refusals.{is_answered, refusal_frame}
 use Rattle.ax25_link.specs.Sending.{Sending, has_new, last_sending, later_sending, next_sending, sending_after}
 use Rattle.ax25_link.specs.Sending.{sends_again, sends_farewell, sends_new, sends_reply, with_piece}
 use Rattle.ax25_link.specs.Timer.{is_down}
@@ -33,7 +34,7 @@ use Rattle.ftl0_client.specs.Attempt.Laws.{AttemptStands, CallingLaw, QuietLaw, 
 use Rattle.ftl0_client.specs.declared.attempt.outcome.AttemptOutcome.{AttemptOutcome}
 use Rattle.ftl0_client.specs.declared.attempt.outcome.AttemptOutcome.TheVariants.{Reached, LinkDown}
 use Rattle.ftl0_client.specs.Client.{Client, ClientEvent, ClientSends, Refused, asking, asks, hearing_by}
-use Rattle.ftl0_client.specs.Client.{hearing_stranger, hears, is_answered, refusal_frame, refusing, sends_by}
+use Rattle.ftl0_client.specs.Client.{hearing_stranger, hears, refusing, sends_by}
 use Rattle.ftl0_client.specs.Client.{sends_of_attempt, sends_of_link, ticking_by, ticks, with_attempt}
 use Rattle.ftl0_client.specs.ClientStep.{ClientStep, Empties, happening}
 use Rattle.ftl0_client.specs.declared.outcome.Outcome.TheVariants as outcome
@@ -213,7 +214,7 @@ event-lists client ticks = ticking-lists client client.attempt
 
 -- a frame, where a tick has none
 some_frame : Client → FrameValue
-some_frame client = refusal_frame client.me (record { to = client.server; final = false })
+some_frame client = refusal_frame client.me (record { to = client.server; poll = false })
 
 module _ (law : StandsLaw) (asked : Work) (client : Client) (stands : Stands asked client) where
   abbrev a : Attempted

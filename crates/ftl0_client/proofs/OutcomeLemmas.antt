@@ -3,6 +3,7 @@ use Rattle.std.proofs.Common.{◌≡◌, ◌≢◌, ℕ, Bool, true, false, refl
 use Rattle.std.specs.Prelude.{Option, None, Some, if◌then◌else◌}
 use Rattle.std.proofs.lemmas.Bool.{cond_both}
 use Rattle.ax25_frames.specs.FrameText.{FrameValue}
+use Rattle.ax25_link.specs.Refusals.{is_answered}
 use Rattle.ax25_link.specs.declared.state.Why.{Why}
 use Rattle.client_notes.specs.Notes.{is_same_call}
 use Rattle.ftl0_job.specs.declared.ending.Ending.{Ending}
@@ -17,7 +18,7 @@ use Rattle.ftl0_client.specs.Attempt.Laws as of_attempts
 use Rattle.ftl0_client.specs.Attempt.Laws.{AcknowledgesIn, IsFetchedBy}
 use Rattle.ftl0_client.specs.declared.attempt.outcome.AttemptOutcome.{AttemptOutcome}
 use Rattle.ftl0_client.specs.declared.attempt.outcome.AttemptOutcome.TheVariants.{Reached, LinkDown}
-use Rattle.ftl0_client.specs.Client.{Client, hearing_by, hearing_stranger, is_answered, refusing, ticking_by}
+use Rattle.ftl0_client.specs.Client.{Client, hearing_by, hearing_stranger, refusing, ticking_by}
 use Rattle.ftl0_client.specs.declared.outcome.Outcome.TheVariants as outcome
 use Rattle.ftl0_client.specs.Laws.{AckedLaw, FetchedLaw, IsToldDownOf, KeepsOutcome, OutcomeLaw}
 use Rattle.ftl0_client.specs.Outcomes.{outcome_as, outcome_by}

@@ -6,11 +6,12 @@ use Rattle.px_base.specs.CallSign.{CallSign}
 use Rattle.ax25_frames.specs.FrameText.{FrameValue}
 use Rattle.ax25_link.specs.Ends.{LinkEnd, refuse}
 use Rattle.ax25_link.specs.Frames.{frame_of_reply}
+use Rattle.ax25_link.specs.Refusals.{is_answered, refusal_frame}
 use Rattle.ax25_link.specs.Rows.{replying, row_of_state}
 use Rattle.ax25_link.specs.declared.state.LinkState.{LinkState}
 use Rattle.ax25_link.specs.Sending.{Sending, next_sending}
 use Rattle.ax25_link.specs.Window.{Window}
-use Rattle.ftl0_client.specs.Client.{Client, ClientSends, client_next, is_answered, refusal_frame, refusing}
+use Rattle.ftl0_client.specs.Client.{Client, ClientSends, client_next, refusing}
 use Rattle.ftl0_client.specs.Laws.{StrangerLaw}
 
 -- what is said next by a client, and by an end
@@ -21,10 +22,10 @@ abbrev told : Window → LinkEnd → Option FrameValue
 told w end = option_map (λ (sending : Sending). sending.frame) (next_sending w end)
 
 -- the DM of each, with these stations
-dm-same : (me to : CallSign) (final : Bool) (w : Window) (end : LinkEnd) → end.me ≡ me → end.peer ≡ to
-    → refusal_frame me (record { to = to; final = final }) ≡ frame_of_reply w end (refuse final)
-dm-same me to final w end is_me is_to =
-    ap₂ (λ (from : CallSign) (dest : CallSign). refusal_frame from (record { to = dest; final = final })) (sym is_me) (sym is_to)
+dm-same : (me to : CallSign) (poll : Bool) (w : Window) (end : LinkEnd) → end.me ≡ me → end.peer ≡ to
+    → refusal_frame me (record { to = to; poll = poll }) ≡ frame_of_reply w end (refuse poll)
+dm-same me to poll w end is_me is_to =
+    ap₂ (λ (from : CallSign) (dest : CallSign). refusal_frame from (record { to = dest; poll = poll })) (sym is_me) (sym is_to)
 
 by-answer : (client : Client) (frame : FrameValue) (w : Window) (end : LinkEnd) (answers : Bool) → end.me ≡ client.me → end.peer ≡ frame.src → said client ≡ None → told w end ≡ None
     → said (if answers then refusing client frame.src frame.poll else client) ≡ told w (if answers then replying end (refuse frame.poll) else end)

@@ -6,13 +6,10 @@ mod FeedLemmas
 mod FetchedLemmas
 mod HearLemmas
 mod Invariants
-mod LinkLemmas
-mod OctetsLemmas
 mod QueuingLemmas
 mod ReachedLemmas
-mod SettlingLemmas
+pub mod SettlingLemmas
 mod SomeLemmas
 mod StandLemmas
 pub mod TakingLemmas
 mod ToldLemmas
-mod WaitingLemmas

@@ -1,13 +1,12 @@
 -- A client as the definitions have it: its notes and, once something was asked, an attempt; and what events make of it
 -- (AX.25 2.0, 2.4; FTL0 1990).
-use Rattle.std.specs.Prelude.{◌≡◌, List, [], Bool, false, ◌&&◌, ◌||◌, if◌then◌else◌, Option, None, Some}
+use Rattle.std.specs.Prelude.{◌≡◌, List, [], Bool, if◌then◌else◌, Option, None, Some}
 use Rattle.px_base.specs.CallSign.{CallSign}
 use Rattle.ax25_frames.specs.FrameText.{FrameValue}
-use Rattle.ax25_frames.specs.declared.control.Control.TheVariants as control
-use Rattle.ax25_frames.specs.Values.{bare_value}
-use Rattle.ax25_link.specs.Rows.{is_call}
+use Rattle.ax25_link.specs.Refusals.{is_answered, refusal_frame}
 use Rattle.ax25_link.specs.Sending.{Sending, next_sending}
 use Rattle.ax25_link.specs.Window.{Window}
+use Rattle.ax25_link.specs.declared.refusal.Refusal.{Refusal}
 use Rattle.client_notes.specs.Command.{NotesCommand}
 use Rattle.client_notes.specs.Laws.{after_all}
 use Rattle.client_notes.specs.Notes.{Lists, is_same_call}
@@ -17,9 +16,8 @@ use Rattle.ftl0_client.specs.Attempt.Hearing.{hearing, ticking, with_end}
 use Rattle.ftl0_client.specs.Attempt.Taking.{Happened}
 
 -- the DM to be sent to a station with which there is no link: to whom, and its F bit
-pub record Refused : Type 0 where
-  pub to : CallSign
-  pub final : Bool
+abbrev pub Refused : Type 0
+Refused = Refusal
 
 -- its call, its server's, the window of its links, its notes, the attempt of what was asked last, if anything was, and
 -- the DM that is to be sent
@@ -61,13 +59,9 @@ with_attempt client a = record client { attempt = Some a }
 abbrev pub asking : Client → JobState → Client
 asking client job = with_attempt client (calling client.me client.server job)
 
--- whether a station without a link answers a frame: SABM, or another command with P = 1
-abbrev pub is_answered : FrameValue → Bool
-is_answered frame = is_call frame.kind.control || (frame.command && frame.poll)
-
 -- the DM to this station is to be sent
 abbrev pub refusing : Client → CallSign → Bool → Client
-refusing client to final = record client { stray = Some (record { to = to; final = final }) }
+refusing client to final = record client { stray = Some (record { to = to; poll = final }) }
 
 -- A frame of a station with which there is no link: the client answers as an end that is down does, by DM with F = P
 -- (AX.25 2.0, 2.4.3.4).
@@ -102,18 +96,6 @@ ticking_by client (Some a) = with_attempt client (ticking a)
 
 abbrev pub client_ticking : Client → Client
 client_ticking client = ticking_by client client.attempt
-
--- the DM to a station with which there is no link
-abbrev pub refusal_frame : CallSign → Refused → FrameValue
-refusal_frame me refused =
-    record {
-      dest = refused.to;
-      src = me;
-      via = 0;
-      kind = bare_value control.Dm;
-      poll = refused.final;
-      command = false;
-    }
 
 -- a frame that a client sends, and the client then
 pub record ClientSends : Type 0 where

@@ -1,14 +1,7 @@
 -- What a client keeps, and its fields as contracts see them.
-use Rattle.std.specs.Option.{option_map}
 use Rattle.ax25_link.specs.Window.{IsGoodK}
-use Rattle.ftl0_client.specs.Client.{Refused}
 use Rattle.ftl0_client.specs.ClientState.{ClientState, HasLink}
 use Rattle.ftl0_client.specs.declared.client.Client.TheInside.{Inside}
-use Rattle.ftl0_client.specs.declared.stray.Stray.{Stray}
-
--- the DM to a station with which there is no link
-abbrev pub refused_of : Stray → Refused
-refused_of stray = record { to = stray.to; final = stray.poll }
 
 abbrev pub client_state : Inside → ClientState
 client_state a =
@@ -18,7 +11,7 @@ client_state a =
       k = a.k;
       notes = a.notes;
       attempt = a.attempt;
-      stray = option_map refused_of a.stray;
+      stray = a.stray;
     }
 
 -- The window is one that a link may have, and the link is between this station and its server.

@@ -4,8 +4,7 @@ ghost use Rattle.std.specs.Prelude.{◌≡◌, ◌⊎◌, ℕ, ◌<◌, ◌≤�
 ghost use Rattle.std.specs.Prelude.{IfOk, IsErr, IsErrOf, IsTrue, OnErr, OnOk};
 ghost use Rattle.sha2.specs.Sha256.{sha256};
 ghost use Rattle.ax25_frames.specs.Kinds.{FitsControl};
-ghost use Rattle.ax25_frames.specs.Values.{kind_value, value_of};
-ghost use Rattle.ax25_link.specs.Rows.{is_call};
+ghost use Rattle.ax25_frames.specs.Values.{value_of};
 ghost use Rattle.ax25_link.specs.Window.{IsGoodK, window_of};
 ghost use Rattle.node.specs.Events.{IsFor};
 ghost use Rattle.client_notes.specs.Answers.{StartsBy, answer_of, fresh_task, start_reaches};
@@ -18,7 +17,6 @@ ghost use Rattle.ftl0_client.specs.Attempt.AttemptState.{PutsBy};
 ghost use Rattle.ftl0_client.specs.Calls.{Becomes, HandsOutNext, HasAsked, Hears, KeepsNotes, SameButFrames};
 ghost use Rattle.ftl0_client.specs.Calls.{SameClient};
 ghost use Rattle.ftl0_client.specs.Client.{Client as ClientValue, asking, client_ticking, hearing_stranger, new_client};
-ghost use Rattle.ftl0_client.specs.Client.{is_answered as is_answered_frame};
 ghost use Rattle.ftl0_client.specs.Outcomes.{outcome_by};
 ghost use Rattle.ftl0_client.specs.ClientState.{IsClient, IsFree, IsOwn, LinkFits, MayHear};
 ghost use Rattle.ftl0_client.specs.ClientState.{client_closed, client_most, client_pending, listing_in, new_state};
@@ -26,9 +24,9 @@ ghost use Rattle.ftl0_client.specs.ClientState.{outcome_in};
 
 use crate::Outcome;
 use crate::attempt::Attempt;
-use crate::stray::Stray;
 use arrayvec::ArrayVec;
-use ax25_frames::{Frame, Kind};
+use ax25_frames::Frame;
+use ax25_link::{Refusal, is_answered};
 use client_notes::{Begun, Notes, NotesRefusal};
 use disk_model::Disk;
 use ftl0_job::laws::{owned_law, started_law};
@@ -52,7 +50,7 @@ pub struct Client {
     notes: Notes,
     /// What was asked last, if anything was.
     attempt: Option<Attempt>,
-    stray: Option<Stray>,
+    stray: Option<Refusal>,
 }
 
 impl Model for Client {
@@ -297,7 +295,7 @@ impl Client {
         ensures keeps { KeepsNotes self.old self.new }
     {
         if is_answered(frame) {
-            self.stray = Some(Stray {
+            self.stray = Some(Refusal {
                 to: frame.src,
                 poll: frame.poll,
             });
@@ -310,18 +308,4 @@ fn is_from(station: Call, frame: &Frame<'_>) -> bool
     ensures { result ≡ is_same_call (value_of frame.now).src station }
 {
     frame.src == station
-}
-
-/// Whether a station without a link answers the frame: SABM, or another command with P = 1.
-fn is_answered(frame: &Frame<'_>) -> bool
-    ensures { result ≡ is_answered_frame (value_of frame.now) }
-{
-    is_sabm(&frame.kind) || frame.command && frame.poll
-}
-
-/// Whether it is SABM.
-fn is_sabm(kind: &Kind<'_>) -> bool
-    ensures { result ≡ is_call (kind_value kind.now).control }
-{
-    matches!(kind, Kind::Sabm)
 }

@@ -7,7 +7,6 @@ pub mod attempt;
 mod client;
 pub mod laws;
 mod outcome;
-mod stray;
 
 pub use client::Client;
 pub use ftl0_job::{Job, JobStop};

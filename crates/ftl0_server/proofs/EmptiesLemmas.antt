@@ -9,7 +9,6 @@ use Rattle.ax25_link.specs.Kept.{count_of}
 use Rattle.ax25_link.specs.Sending.{Sending, next_sending}
 use Rattle.ax25_link.specs.Window.{Window}
 use Rattle.ax25_link.proofs.Offered.{left_to_send, next_sending-Sends}
-use Rattle.ftl0_server.specs.Connection.Connected.{Connected}
 use Rattle.ftl0_server.specs.Connection.Hearing.{with_end}
 use Rattle.ftl0_server.specs.AtPlace.{AllFit, PlaceFits}
 use Rattle.ftl0_server.specs.declared.place.Place.{Place}
@@ -53,7 +52,7 @@ module _ (w : Window) where
   abbrev slot_left : Slot → ℕ
   slot_left free = 0
   slot_left (connected c) = left_to_send c.end
-  slot_left (leaving end) = left_to_send end
+  slot_left (leaving c) = left_to_send c.end
 
   abbrev slots_left : List Slot → ℕ
   slots_left [] = 0
@@ -63,24 +62,18 @@ module _ (w : Window) where
   abbrev SlotLess : ℕ → SlotSends → Type 0
   SlotLess left x = SlotFits w x.after × (slot_left x.after < left)
 
-  connected-less : (c : Connected) (o : Option Sending) → next_sending w c.end ≡ o → IsEnd w c.end → (x : SlotSends)
-      → option_map (slot_sends (λ end. connected (with_end c end))) o ≡ Some x → SlotLess (left_to_send c.end) x
-  connected-less c None is fits x sends = absurd (never x sends)
-  connected-less c (Some sending) is fits x sends =
-      let s = next_sending-Sends w c.end sending fits is in
-      subst (λ (y : SlotSends). SlotLess (left_to_send c.end) y) (same_Some (slot_sends (λ end. connected (with_end c end)) sending) x sends) (s.fits, s.less)
-
-  leaving-less : (end : LinkEnd) (o : Option Sending) → next_sending w end ≡ o → IsEnd w end → (x : SlotSends)
-      → option_map (slot_sends leaving) o ≡ Some x → SlotLess (left_to_send end) x
-  leaving-less end None is fits x sends = absurd (never x sends)
-  leaving-less end (Some sending) is fits x sends =
+  end-less : (end : LinkEnd) (slot : LinkEnd → Slot)
+      → ((after : LinkEnd) → IsEnd w after → left_to_send after < left_to_send end → SlotFits w (slot after) × (slot_left (slot after) < left_to_send end))
+      → (o : Option Sending) → next_sending w end ≡ o → IsEnd w end → (x : SlotSends) → option_map (slot_sends slot) o ≡ Some x → SlotLess (left_to_send end) x
+  end-less end slot each None is fits x sends = absurd (never x sends)
+  end-less end slot each (Some sending) is fits x sends =
       let s = next_sending-Sends w end sending fits is in
-      subst (λ (y : SlotSends). SlotLess (left_to_send end) y) (same_Some (slot_sends leaving sending) x sends) (s.fits, s.less)
+      subst (λ (y : SlotSends). SlotLess (left_to_send end) y) (same_Some (slot_sends slot sending) x sends) (each sending.after s.fits s.less)
 
   slot-less : (s : Slot) → SlotFits w s → (x : SlotSends) → slot_next w s ≡ Some x → SlotLess (slot_left s) x
   slot-less free fits x sends = absurd (never x sends)
-  slot-less (connected c) fits x sends = connected-less c (next_sending w c.end) refl fits x sends
-  slot-less (leaving end) fits x sends = leaving-less end (next_sending w end) refl fits x sends
+  slot-less (connected c) fits x sends = end-less c.end (λ end. connected (with_end c end)) (λ after is less. (is, less)) (next_sending w c.end) refl fits x sends
+  slot-less (leaving c) fits x sends = end-less c.end (λ end. leaving (with_end c end)) (λ after is less. (is, less)) (next_sending w c.end) refl fits x sends
 
   abbrev PlacesLess : ℕ → PlacesSend → Type 0
   PlacesLess left y = SlotsFit w y.after × (slots_left y.after < left)
@@ -106,13 +99,13 @@ module _ (w : Window) where
   slot-fits : (p : Place) (s : Slot) → PlaceFits p → SendsAs w p s → SlotFits w s
   slot-fits Free free fit sends = tt
   slot-fits Free (connected c) fit sends = absurd sends
-  slot-fits Free (leaving end) fit sends = absurd sends
+  slot-fits Free (leaving c) fit sends = absurd sends
   slot-fits (Talking d) free fit sends = absurd sends
   slot-fits (Talking d) (connected c) fit sends = fit w c.end sends
-  slot-fits (Talking d) (leaving end) fit sends = absurd sends
+  slot-fits (Talking d) (leaving c) fit sends = absurd sends
   slot-fits (Leaving link) free fit sends = tt
   slot-fits (Leaving link) (connected c) fit sends = absurd sends
-  slot-fits (Leaving link) (leaving end) fit sends = fit w end sends
+  slot-fits (Leaving link) (leaving c) fit sends = fit w c.end sends
 
   slots-fit : (places : List Place) (slots : List Slot) → AllFit places → AllPlaces (SendsAs w) places slots → SlotsFit w slots
   slots-fit [] [] fit all = tt

@@ -1,7 +1,7 @@
 -- Each event of a server has a step: the ends of its links stay such as frames and ticks bring about.
 use Rattle.std.proofs.Common.{◌≡◌, ℕ, zero, suc, List, [], ◌∷◌, ◌++◌, set, map, Bool, true, false, Option, None, Some}
 use Rattle.std.proofs.Common.{refl, sym, ap, ap₂, subst, inl, arith}
-use Rattle.std.specs.Prelude.{if◌then◌else◌, ◌&&◌, nat_le, slice_get}
+use Rattle.std.specs.Prelude.{if◌then◌else◌, ◌&&◌, slice_get}
 use Rattle.std.specs.Option.{option_map}
 use Rattle.std.proofs.lemmas.Option.{same_Some}
 use Rattle.px_base.specs.CallSign.{CallSign}
@@ -22,12 +22,12 @@ use Rattle.file_store.specs.Store.{Store}
 use Rattle.node.specs.Events.{NodeEvent, hears, ticks}
 use Rattle.ftl0_session.specs.Uploads.Failures.{Failure, write_fails}
 use Rattle.ftl0_packets.specs.Items.{texts}
-use Rattle.ftl0_session.specs.Table.{DuePacket, Row, State, due_at, fault_reply, greeting, row_at}
+use Rattle.ftl0_session.specs.Table.{Row, State, fault_reply, greeting, row_at}
 use Rattle.ftl0_server.specs.Connection.Connected.{Connected, answering, caller_of}
 use Rattle.ftl0_server.specs.Connection.Hearing.{Happened, hearing, parts_as, parts_of_frame, ticking, with_end}
 use Rattle.ftl0_server.specs.Connection.Laws.{QueuedLaw}
-use Rattle.ftl0_server.specs.Connection.Taking.{Progress, after_due, after_row, enough_free, failing_at, fits}
-use Rattle.ftl0_server.specs.Connection.Taking.{giving_up, on_due, queued, queuing, taking}
+use Rattle.ftl0_server.specs.Connection.Taking.{Progress, after_row, failing_at, fits}
+use Rattle.ftl0_server.specs.Connection.Taking.{giving_up, queued, queuing, taking}
 use Rattle.ftl0_server.specs.Laws.{AreQueued, SlotFits, SlotsFit, SomeStepLaw}
 use Rattle.ftl0_server.specs.Server.{IsSilent, Refused, Server, ServerHappened, ServerSends, called_by, hearing_at}
 use Rattle.ftl0_server.specs.Server.{hearing_by, hearing_stranger, refusing, sends_by}
@@ -37,6 +37,7 @@ use Rattle.ftl0_server.specs.Slots.{PlacesSend, Slot, SlotSends, all_freed, conn
 use Rattle.ftl0_server.specs.Slots.{freed, leaving, left_by, place_of}
 use Rattle.ftl0_server.specs.Slots.{places_next, slot_after, slot_next, slot_sends, slot_ticking}
 use Rattle.ftl0_server.proofs.AllPlaces.{never}
+use Rattle.ftl0_server.proofs.connection.QueuingLemmas.{queuing-holds}
 use Rattle.ftl0_server.proofs.EmptiesLemmas.{by_stray, emptied, server_left}
 use Rattle.ftl0_server.proofs.QueuedLemmas.{all-stay, freed-queued, heard-queued, left-queued, places-sent, queued-set}
 use Rattle.ftl0_server.proofs.QueuedLemmas.{ticked-queued}
@@ -51,7 +52,7 @@ first_none slot slots (Some sends) later h = absurd (cc h)
 freed_silent : (w : Window) (slot : Slot) → slot_next w slot ≡ None → slot_next w (freed slot) ≡ None
 freed_silent w free h = h
 freed_silent w (connected c) h = h
-freed_silent w (leaving end) h = refl
+freed_silent w (leaving c) h = refl
 
 places_silent : (w : Window) (slots : List Slot) → places_next w slots ≡ None → places_next w (all_freed slots) ≡ None
 places_silent w [] h = h
@@ -102,25 +103,15 @@ module _ (w : Window) where
   either-fits true one other first second = first
   either-fits false one other first second = second
 
-  due-fits : (o : Option DuePacket) (progress : Progress) (later : DuePacket → Progress) → IsEnd w progress.end
-      → ((due : DuePacket) → IsEnd w (later due).end) → IsEnd w (on_due o progress later).end
-  due-fits None progress later is each = is
-  due-fits (Some due) progress later is each = each due
-
-  queuing-fits : (more : ℕ) (store : Store) (failures : List Failure) (progress : Progress) → IsEnd w progress.end
-      → IsEnd w (queuing more store failures progress).end
-  queuing-fits zero store failures progress is = is
-  queuing-fits (suc more) store failures progress is =
-      let later : DuePacket → Progress = λ due. queuing more store failures (after_due due progress) in
-      either-fits (nat_le enough_free (free_octets progress.end)) (on_due (due_at store progress.state failures progress.part) progress later) progress
-      (due-fits (due_at store progress.state failures progress.part) progress later is
-      (λ due. queuing-fits more store failures (after_due due progress) (after_push-IsEnd w progress.end (packet_text due.packet) is)))
-      is
+  queuing-fits : (store : Store) (failures : List Failure) (count : ℕ) (progress : Progress) → IsEnd w progress.end
+      → IsEnd w (queuing count store failures progress).end
+  queuing-fits store failures =
+      queuing-holds store failures (λ (now : Progress). IsEnd w now.end) (λ now due is fit. after_push-IsEnd w now.end (packet_text due.packet) fit)
 
   queued-fits : (store : Store) (failures : List Failure) (progress : Progress) → IsEnd w progress.end → IsEnd w (queued store failures progress).end
   queued-fits store failures progress is =
       either-fits progress.over progress (queuing (free_octets progress.end) (after_all store progress.done) failures progress) is
-      (queuing-fits (free_octets progress.end) (after_all store progress.done) failures progress is)
+      (queuing-fits (after_all store progress.done) failures (free_octets progress.end) progress is)
 
   -- after a frame
   heard-fits : (heard : Heard) (moment : ℕ) (store : Store) (lists : List CallerList) (c : Connected) (end : LinkEnd) (octets : List ℕ)
@@ -143,13 +134,13 @@ module _ (w : Window) where
   ticked-fits [] all = tt
   ticked-fits (free ∷ slots) all = (tt, ticked-fits slots all.1)
   ticked-fits (connected c ∷ slots) all = (left-fits (ticking c).over (ticking c).after (after_tick-IsEnd w c.end all.0), ticked-fits slots all.1)
-  ticked-fits (leaving end ∷ slots) all = (all.0, ticked-fits slots all.1)
+  ticked-fits (leaving c ∷ slots) all = (all.0, ticked-fits slots all.1)
 
   freed-fits : (slots : List Slot) → SlotsFit w slots → SlotsFit w (all_freed slots)
   freed-fits [] all = tt
   freed-fits (free ∷ slots) all = (tt, freed-fits slots all.1)
   freed-fits (connected c ∷ slots) all = (all.0, freed-fits slots all.1)
-  freed-fits (leaving end ∷ slots) all = (tt, freed-fits slots all.1)
+  freed-fits (leaving c ∷ slots) all = (tt, freed-fits slots all.1)
 
   fits-at : (slots : List Slot) (place : ℕ) (slot : Slot) → SlotsFit w slots → slice_get slots place ≡ Some slot → SlotFits w slot
   fits-at [] place slot all at = absurd (never slot at)
@@ -204,7 +195,7 @@ at-fits : (server : Server) (frame : FrameValue) (moment : ℕ) (failures : List
     → places_next server.window server.slots ≡ None → IsFit server → IsFit (hearing_at server frame moment failures place slot).after
 at-fits server frame moment failures place None at quiet all = all
 at-fits server frame moment failures place (Some free) at quiet all = all
-at-fits server frame moment failures place (Some (leaving end)) at quiet all = all
+at-fits server frame moment failures place (Some (leaving c)) at quiet all = all
 at-fits server frame moment failures place (Some (connected c)) at quiet all =
     let w = server.window in
     let fit = fits-at w server.slots place (connected c) all at in
@@ -264,7 +255,7 @@ at-queued : QueuedLaw → (server : Server) (frame : FrameValue) (moment : ℕ) 
     → IsAllQueued (hearing_at server frame moment failures place slot).after
 at-queued law server frame moment failures place None all = all
 at-queued law server frame moment failures place (Some free) all = all
-at-queued law server frame moment failures place (Some (leaving end)) all = all
+at-queued law server frame moment failures place (Some (leaving c)) all = all
 at-queued law server frame moment failures place (Some (connected c)) all =
     let happened : Happened = hearing server.window moment server.store server.lists c frame failures in
     let now : Store = after_all server.store happened.done in

@@ -110,14 +110,14 @@ module _ (self : ServerState) (server : Server) (is : IsServer self server) wher
       → SendsAs server.window p s → has_caller caller p ≡ is_callers caller s
   same-caller caller Free free peer sends = refl
   same-caller caller Free (connected d) peer sends = absurd sends
-  same-caller caller Free (leaving end) peer sends = absurd sends
+  same-caller caller Free (leaving d) peer sends = absurd sends
   same-caller caller (Talking c) free peer sends = absurd sends
   same-caller caller (Talking c) (connected d) peer sends =
       ap (λ (x : CallSign). is_same_call x caller) (sym (peer c refl) ∙ ap (λ (k : Kept). k.peer) sends.kept)
-  same-caller caller (Talking c) (leaving end) peer sends = absurd sends
+  same-caller caller (Talking c) (leaving d) peer sends = absurd sends
   same-caller caller (Leaving link) free peer sends = refl
   same-caller caller (Leaving link) (connected d) peer sends = absurd sends
-  same-caller caller (Leaving link) (leaving end) peer sends = refl
+  same-caller caller (Leaving link) (leaving d) peer sends = refl
 
   -- the caller's place
   pub same-place_of : (me : CallSign) (k : ℕ) → IsSettled me k self.store self.places → (caller : CallSign)
@@ -131,13 +131,13 @@ module _ (self : ServerState) (server : Server) (is : IsServer self server) wher
   same-empty : (p : Place) (s : Slot) → SendsAs server.window p s → is_empty_place p ≡ is_empty s
   same-empty Free free sends = refl
   same-empty Free (connected d) sends = absurd sends
-  same-empty Free (leaving end) sends = absurd sends
+  same-empty Free (leaving d) sends = absurd sends
   same-empty (Talking c) free sends = absurd sends
   same-empty (Talking c) (connected d) sends = refl
-  same-empty (Talking c) (leaving end) sends = absurd sends
+  same-empty (Talking c) (leaving d) sends = absurd sends
   same-empty (Leaving link) free sends = refl
   same-empty (Leaving link) (connected d) sends = absurd sends
-  same-empty (Leaving link) (leaving end) sends = refl
+  same-empty (Leaving link) (leaving d) sends = refl
 
   -- the lowest free place
   pub same-first_empty : position is_empty_place self.places ≡ first_empty server.slots
@@ -150,7 +150,7 @@ connected-of : (w : Window) (store : StoreState) (c : ConnectionState) (s : Slot
     → (d : Connected) × (s ≡ connected d) × IsPlace w store (Talking c) (connected d)
 connected-of w store c free is = absurd is.0
 connected-of w store c (connected d) is = (d, refl, is)
-connected-of w store c (leaving end) is = absurd is.0
+connected-of w store c (leaving d) is = absurd is.0
 
 -- ---- a frame of a connected caller
 

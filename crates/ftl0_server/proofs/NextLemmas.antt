@@ -57,14 +57,15 @@ quiet-link w link end stands none = quiet-end w end (ap (λ (x : Kept). is_pendi
 pub quiet-slot : (w : Window) (place : Place) (slot : Slot) → SendsAs w place slot → place_pending place ≡ false → slot_next w slot ≡ None
 quiet-slot w Free free sends none = refl
 quiet-slot w Free (connected c) sends none = absurd sends
-quiet-slot w Free (leaving end) sends none = absurd sends
+quiet-slot w Free (leaving c) sends none = absurd sends
 quiet-slot w (Talking connection) free sends none = absurd sends
 quiet-slot w (Talking connection) (connected c) sends none =
     ap (λ (o : Option Sending). option_map (slot_sends (λ end. connected (with_end c end))) o) (quiet-link w connection.link c.end sends none)
-quiet-slot w (Talking connection) (leaving end) sends none = absurd sends
+quiet-slot w (Talking connection) (leaving c) sends none = absurd sends
 quiet-slot w (Leaving link) free sends none = refl
 quiet-slot w (Leaving link) (connected c) sends none = absurd sends
-quiet-slot w (Leaving link) (leaving end) sends none = ap (λ (o : Option Sending). option_map (slot_sends leaving) o) (quiet-link w link end sends none)
+quiet-slot w (Leaving link) (leaving c) sends none =
+    ap (λ (o : Option Sending). option_map (slot_sends (λ end. leaving (with_end c end))) o) (quiet-link w link c.end sends none)
 
 -- neither the first nor the others
 pub none_first : (a b : Bool) → (a || b) ≡ false → (a ≡ false) × (b ≡ false)

@@ -6,6 +6,7 @@ use Rattle.std.specs.Option.{option_map}
 use Rattle.std.proofs.lemmas.Option.{same_Some}
 use Rattle.px_base.specs.CallSign.{CallSign}
 use Rattle.ax25_frames.specs.FrameText.{FrameText, canonical}
+use Rattle.ax25_link.specs.Refusals.{refusal_frame}
 use Rattle.ax25_link.specs.Sending.{Sending, next_sending}
 use Rattle.ax25_link.specs.Window.{Window, window_of}
 use Rattle.file_store.specs.State.{StoreState, store_in}
@@ -20,7 +21,7 @@ use Rattle.ftl0_server.specs.declared.place.Place.TheVariants.{Free, Talking, Le
 use Rattle.ftl0_server.specs.Calls.{HandsOut, SamePlaces}
 use Rattle.ftl0_server.specs.Kept.{IsAt, IsSettled}
 use Rattle.ftl0_server.specs.Places.{PlacesGive, SamePlace, SameTalk}
-use Rattle.ftl0_server.specs.Server.{Refused, Server, refusal_frame, sends_by, sends_of_places, server_next, settled}
+use Rattle.ftl0_server.specs.Server.{Refused, Server, sends_by, sends_of_places, server_next, settled}
 use Rattle.ftl0_server.specs.ServerState.{AllPlaces, IsServer, SaysAs, SendsAs, SendsFor, ServerState, any_pending}
 use Rattle.ftl0_server.specs.ServerState.{place_pending}
 use Rattle.ftl0_server.specs.Slots.{PlacesSend, Slot, SlotSends, connected, first_of, free, freed, leaving, places_next}
@@ -56,16 +57,16 @@ module _ (store : StoreState) where
   connected-says (Talking d) c (Some sending) says = record { rest = says.rest; state = says.state }
   connected-says (Leaving link) c (Some sending) says = tt
 
-  leaving-says : (p : Place) (o : Option Sending) → SaysNext p (option_map (slot_sends leaving) o)
-  leaving-says p None = tt
-  leaving-says Free (Some sending) = tt
-  leaving-says (Talking d) (Some sending) = tt
-  leaving-says (Leaving link) (Some sending) = tt
+  leaving-says : (p : Place) (c : Connected) (o : Option Sending) → SaysNext p (option_map (slot_sends (λ end. leaving (with_end c end))) o)
+  leaving-says p c None = tt
+  leaving-says Free c (Some sending) = tt
+  leaving-says (Talking d) c (Some sending) = tt
+  leaving-says (Leaving link) c (Some sending) = tt
 
   slot-says : (w : Window) (p : Place) (s : Slot) → SaysAs store p s → SaysNext p (slot_next w s)
   slot-says w p free says = tt
   slot-says w p (connected c) says = connected-says p c (next_sending w c.end) says
-  slot-says w p (leaving end) says = leaving-says p (next_sending w end)
+  slot-says w p (leaving c) says = leaving-says p c (next_sending w c.end)
 
   abbrev AllSay : List Place → Option PlacesSend → Type 0
   AllSay places None = ⊤
@@ -94,7 +95,7 @@ module _ (store : StoreState) where
     rest = same.octets ∙ says.rest;
     state = ap (λ (x : SessionState). state_in store x) same.session ∙ says.state;
   }
-  same-says (Talking c) (Talking d) (leaving end) same says = tt
+  same-says (Talking c) (Talking d) (leaving e) same says = tt
   same-says (Talking c) (Leaving link) s same says = absurd same
   same-says (Leaving link) Free s same says = absurd same
   same-says (Leaving link) (Talking d) s same says = absurd same
@@ -158,19 +159,19 @@ module _ (old new : ServerState) (server : Server) (before now : List ℕ) (answ
 freed-sends : (w : Window) (p : Place) (s : Slot) → place_pending p ≡ false → SendsAs w p s → SendsAs w p (freed s)
 freed-sends w Free free none sends = tt
 freed-sends w Free (connected c) none sends = sends
-freed-sends w Free (leaving end) none sends = tt
+freed-sends w Free (leaving c) none sends = tt
 freed-sends w (Talking d) free none sends = sends
 freed-sends w (Talking d) (connected c) none sends = sends
-freed-sends w (Talking d) (leaving end) none sends = sends
+freed-sends w (Talking d) (leaving c) none sends = sends
 freed-sends w (Leaving link) free none sends = none
 freed-sends w (Leaving link) (connected c) none sends = sends
-freed-sends w (Leaving link) (leaving end) none sends = none
+freed-sends w (Leaving link) (leaving c) none sends = none
 
 freed-says : (store : StoreState) (p : Place) (s : Slot) → SaysAs store p s → SaysAs store p (freed s)
 freed-says store Free s says = tt
 freed-says store (Talking d) free says = tt
 freed-says store (Talking d) (connected c) says = says
-freed-says store (Talking d) (leaving end) says = tt
+freed-says store (Talking d) (leaving c) says = tt
 freed-says store (Leaving link) s says = tt
 
 all-freed-sends : (w : Window) (places : List Place) (slots : List Slot) → any_pending places ≡ false → AllPlaces (SendsAs w) places slots

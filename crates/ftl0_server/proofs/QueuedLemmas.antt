@@ -1,19 +1,18 @@
 -- Between the events of a server all that is due was queued, as far as there was room.
-use Rattle.std.proofs.Common.{◌≡◌, ℕ, zero, suc, ◌+◌, ◌-◌, ◌<◌, List, [], ◌∷◌, ◌++◌, length, set, take, drop, map, Bool}
+use Rattle.std.proofs.Common.{◌≡◌, ℕ, zero, suc, ◌+◌, ◌-◌, ◌<◌, List, [], ◌∷◌, ◌++◌, length, set, drop, map, Bool}
 use Rattle.std.proofs.Common.{true, false, Option, None, Some, refl, sym, ◌∙◌, ap, subst, inl, inr, append_assoc}
 use Rattle.std.proofs.Common.{take-append-drop}
-use Rattle.std.specs.Prelude.{if◌then◌else◌, ◌&&◌, ◌==◌, nat_le, slice_get}
+use Rattle.std.specs.Prelude.{if◌then◌else◌, ◌&&◌}
 use Rattle.std.specs.List.{concat}
 use Rattle.std.specs.Option.{option_map}
 use Rattle.std.proofs.lemmas.List.{drop-append-le}
 use Rattle.std.proofs.lemmas.Option.{same_Some}
-use Rattle.ax25_frames.specs.FrameText.{FrameValue}
 use Rattle.ax25_link.specs.Ends.{Farewell, IsEnd, LinkEnd, Reply, free_octets, held, most_held}
 use Rattle.ax25_link.specs.Kept.{is_there}
 use Rattle.ax25_link.specs.Rows.{entering}
-use Rattle.ax25_link.specs.Sending.{Sending, after_new, has_new, last_sending, later_sending, most_information}
+use Rattle.ax25_link.specs.Sending.{Sending, after_new, last_sending, later_sending, most_information}
 use Rattle.ax25_link.specs.Sending.{next_piece, next_sending, sending_after, sends_again, sends_new, sends_reply}
-use Rattle.ax25_link.specs.Timer.{after_tick, is_down, is_spent, runs_out, told_of_tick, trying}
+use Rattle.ax25_link.specs.Timer.{after_tick, is_down, is_spent, runs_out, trying}
 use Rattle.ax25_link.specs.Window.{Window}
 use Rattle.ax25_link.specs.declared.state.LinkState.TheVariants.{Down}
 use Rattle.ax25_link.specs.declared.state.Why.TheVariants.{NoAnswer}
@@ -22,14 +21,15 @@ use Rattle.file_store.specs.Command.{Command, after_all}
 use Rattle.file_store.specs.Store.{Store}
 use Rattle.ftl0_session.specs.Uploads.Failures.{Failure, read_fails}
 use Rattle.ftl0_session.specs.Downloads.Sending.{DuePacket as Download, due_packet, is_due}
-use Rattle.ftl0_session.specs.Table.{DuePacket, State, download_part, due_at, in_session}
+use Rattle.ftl0_session.specs.Table.{State, download_part, due_at, in_session}
 use Rattle.ftl0_server.specs.Connection.Connected.{Connected}
-use Rattle.ftl0_server.specs.Connection.Hearing.{hearing, parts_of_frame, ticking, with_end}
+use Rattle.ftl0_server.specs.Connection.Hearing.{ticking, with_end}
 use Rattle.ftl0_server.specs.Connection.Laws.{IsQueued, QueuedLaw}
-use Rattle.ftl0_server.specs.Connection.Taking.{Progress, after_due, enough_free, on_due, queued, queuing}
+use Rattle.ftl0_server.specs.Connection.Taking.{Progress, enough_free, queued}
+use Rattle.ftl0_server.proofs.connection.QueuingLemmas.{KeepsRest, queued-keeps}
 use Rattle.ftl0_server.specs.Laws.{AreQueued, SlotFits, SlotIsQueued, SlotsFit}
 use Rattle.ftl0_server.specs.Slots.{PlacesSend, Slot, SlotSends, all_freed, connected, first_of, free, leaving, left_by}
-use Rattle.ftl0_server.specs.Slots.{places_next, slot_after, slot_next, slot_sends, slot_ticking}
+use Rattle.ftl0_server.specs.Slots.{places_next, slot_next, slot_sends, slot_ticking}
 use Rattle.ftl0_server.proofs.AllPlaces.{never}
 
 -- ---- whether anything is due is the state's to tell
@@ -120,7 +120,7 @@ left-queued store true c is = tt
 slot-stays : (store now : Store) (slot : Slot) → SlotIsQueued store slot → SlotIsQueued now slot
 slot-stays store now free is = tt
 slot-stays store now (connected c) is = queued-stays store now c.state c.end c.end refl is
-slot-stays store now (leaving end) is = tt
+slot-stays store now (leaving c) is = tt
 
 -- over whatever store
 pub all-stay : (store now : Store) (slots : List Slot) → AreQueued store slots → AreQueued now slots
@@ -139,14 +139,14 @@ module _ (store : Store) where
   ticked-queued (free ∷ slots) all = (tt, ticked-queued slots all.1)
   ticked-queued (connected c ∷ slots) all =
       (left-queued store (ticking c).over (ticking c).after (ticking-queued store c all.0), ticked-queued slots all.1)
-  ticked-queued (leaving end ∷ slots) all = (tt, ticked-queued slots all.1)
+  ticked-queued (leaving c ∷ slots) all = (tt, ticked-queued slots all.1)
 
   -- those whose sessions are over are free
   pub freed-queued : (slots : List Slot) → AreQueued store slots → AreQueued store (all_freed slots)
   freed-queued [] all = tt
   freed-queued (free ∷ slots) all = (tt, freed-queued slots all.1)
   freed-queued (connected c ∷ slots) all = (all.0, freed-queued slots all.1)
-  freed-queued (leaving end ∷ slots) all = (tt, freed-queued slots all.1)
+  freed-queued (leaving c ∷ slots) all = (tt, freed-queued slots all.1)
 
   -- ---- frames are sent
 
@@ -158,14 +158,16 @@ module _ (store : Store) where
       subst (λ (y : SlotSends). SlotIsQueued store y.after) (same_Some (slot_sends (λ end. connected (with_end c end)) sending) x sends)
       (queued-stays store store c.state c.end sending.after same there)
 
-  leaving-sends : (o : Option Sending) (x : SlotSends) → option_map (slot_sends leaving) o ≡ Some x → SlotIsQueued store x.after
-  leaving-sends None x sends = absurd (never x sends)
-  leaving-sends (Some sending) x sends = subst (λ (y : SlotSends). SlotIsQueued store y.after) (same_Some (slot_sends leaving sending) x sends) tt
+  leaving-sends : (c : Connected) (o : Option Sending) (x : SlotSends) → option_map (slot_sends (λ end. leaving (with_end c end))) o ≡ Some x
+      → SlotIsQueued store x.after
+  leaving-sends c None x sends = absurd (never x sends)
+  leaving-sends c (Some sending) x sends =
+      subst (λ (y : SlotSends). SlotIsQueued store y.after) (same_Some (slot_sends (λ end. leaving (with_end c end)) sending) x sends) tt
 
   slot-sent : (w : Window) (slot : Slot) → SlotFits w slot → SlotIsQueued store slot → (x : SlotSends) → slot_next w slot ≡ Some x → SlotIsQueued store x.after
   slot-sent w free fits is x sends = absurd (never x sends)
   slot-sent w (connected c) fits is x sends = connected-sends w c (next_sending w c.end) refl fits is x sends
-  slot-sent w (leaving end) fits is x sends = leaving-sends (next_sending w end) x sends
+  slot-sent w (leaving c) fits is x sends = leaving-sends c (next_sending w c.end) x sends
 
   first-sent : (slot : Slot) (slots : List Slot) (o : Option SlotSends) (later : Option PlacesSend)
       → ((x : SlotSends) → o ≡ Some x → SlotIsQueued store x.after) → ((y : PlacesSend) → later ≡ Some y → AreQueued store y.after)
@@ -184,41 +186,13 @@ module _ (store : Store) where
 
 -- ---- a frame is heard
 
--- What is queued changes nothing but what a link has, what is due, and what was told.
-pub record QueuesAlone (progress now : Progress) : Type 0 where
-  pub over : now.over ≡ progress.over
-  pub done : now.done ≡ progress.done
-  pub cut : now.cut ≡ progress.cut
-
-alone : (progress : Progress) → QueuesAlone progress progress
-alone progress = record { over = refl; done = refl; cut = refl }
-
-either : (progress one other : Progress) (b : Bool) → QueuesAlone progress one → QueuesAlone progress other → QueuesAlone progress (if b then one else other)
-either progress one other true first second = first
-either progress one other false first second = second
-
-due-alone : (progress : Progress) (o : Option DuePacket) (later : DuePacket → Progress) → ((due : DuePacket) → QueuesAlone progress (later due))
-    → QueuesAlone progress (on_due o progress later)
-due-alone progress None later each = alone progress
-due-alone progress (Some due) later each = each due
-
-queuing-alone : (more : ℕ) (store : Store) (failures : List Failure) (progress : Progress) → QueuesAlone progress (queuing more store failures progress)
-queuing-alone zero store failures progress = alone progress
-queuing-alone (suc more) store failures progress =
-    either progress (on_due (due_at store progress.state failures progress.part) progress (λ due. queuing more store failures (after_due due progress))) progress
-    (nat_le enough_free (free_octets progress.end))
-    (due-alone progress (due_at store progress.state failures progress.part) (λ due. queuing more store failures (after_due due progress))
-    (λ due. let rest = queuing-alone more store failures (after_due due progress) in record { over = rest.over; done = rest.done; cut = rest.cut }))
-    (alone progress)
-
-pub queued-alone : (store : Store) (failures : List Failure) (progress : Progress) → QueuesAlone progress (queued store failures progress)
-queued-alone store failures progress =
-    either progress progress (queuing (free_octets progress.end) (after_all store progress.done) failures progress) progress.over (alone progress)
-    (queuing-alone (free_octets progress.end) (after_all store progress.done) failures progress)
+-- what is queued changes nothing of what was done
+pub queued-alone : (store : Store) (failures : List Failure) (progress : Progress) → KeepsRest progress (queued store failures progress)
+queued-alone = queued-keeps
 
 pub heard-queued : QueuedLaw → (store : Store) (failures : List Failure) (progress : Progress) → (queued store failures progress).over ≡ false
     → IsQueued (after_all store (queued store failures progress).done) (queued store failures progress).state (queued store failures progress).end
 heard-queued law store failures progress stays =
-    let same = queued-alone store failures progress in
+    let same = queued-keeps store failures progress in
     subst (λ (commands : List Command). IsQueued (after_all store commands) (queued store failures progress).state (queued store failures progress).end) (sym same.done)
     (law store failures progress (sym same.over ∙ stays))

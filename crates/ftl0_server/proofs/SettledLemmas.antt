@@ -248,7 +248,7 @@ says-kept me k before now places i (Leaving link) new at settled works j place s
 says-kept me k before now places i (Talking c) new at settled works j Free slot ne there says = tt
 says-kept me k before now places i (Talking c) new at settled works j (Leaving link) slot ne there says = tt
 says-kept me k before now places i (Talking c) new at settled works j (Talking d) free ne there says = tt
-says-kept me k before now places i (Talking c) new at settled works j (Talking d) (leaving end) ne there says = tt
+says-kept me k before now places i (Talking c) new at settled works j (Talking d) (leaving e) ne there says = tt
 says-kept me k before now places i (Talking c) new at settled works j (Talking d) (connected e) ne there says =
     let other = other-caller me k before now places i c at settled works.0 j d ne there in
     let held = (settled.seated j d there).held in

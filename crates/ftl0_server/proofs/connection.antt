@@ -6,10 +6,7 @@ mod FeedLemmas
 mod HearLemmas
 mod HearsLemmas
 mod Invariants
-mod LinkLemmas
 mod OctetsLemmas
-mod QueuingLemmas
+pub mod QueuingLemmas
 mod StartLemmas
-mod StationLemmas
 mod TakingLemmas
-mod WaitingLemmas

@@ -1,6 +1,5 @@
 -- What each server keeps.
 use Rattle.std.specs.Prelude.{◌≡◌, ◌≢◌, ℕ, List, slice_get, Option, None, Some, false}
-use Rattle.std.specs.Option.{option_map}
 use Rattle.px_base.specs.CallSign.{CallSign}
 use Rattle.ax25_link.specs.Window.{IsGoodK}
 use Rattle.ax25_link.specs.declared.state.LinkState.TheVariants.{Up}
@@ -12,8 +11,6 @@ use Rattle.ftl0_session.specs.SessionState.{caller_of}
 use Rattle.ftl0_server.specs.declared.place.Place.{Place}
 use Rattle.ftl0_server.specs.declared.place.Place.TheVariants.{Talking}
 use Rattle.ftl0_server.specs.declared.server.Server.TheInside.{Inside}
-use Rattle.ftl0_server.specs.declared.stray.Stray.{Stray}
-use Rattle.ftl0_server.specs.Server.{Refused}
 use Rattle.ftl0_server.specs.ServerState.{ServerState}
 
 -- this connection is at this place
@@ -62,10 +59,6 @@ pub record IsKept (a : Inside) : Type 0 where
   pub settled : IsSettled a.me a.k a.store a.places
   pub complete : AreComplete (store_in a.store) a.lists
 
--- the DM to a station without a connection
-abbrev pub refused_of : Stray → Refused
-refused_of stray = record { to = stray.to; final = stray.poll }
-
 -- a server's fields as contracts see them
 abbrev pub server_state : Inside → ServerState
 server_state a =
@@ -73,7 +66,7 @@ server_state a =
       me = a.me;
       k = a.k;
       places = a.places;
-      stray = option_map refused_of a.stray;
+      stray = a.stray;
       store = a.store;
       lists = a.lists;
     }

@@ -36,7 +36,7 @@ OneStepLaw =
 abbrev pub SlotFits : Window → Slot → Type 0
 SlotFits w free = ⊤
 SlotFits w (connected c) = IsEnd w c.end
-SlotFits w (leaving end) = IsEnd w end
+SlotFits w (leaving c) = IsEnd w c.end
 
 abbrev pub SlotsFit : Window → List Slot → Type 0
 SlotsFit w [] = ⊤
@@ -46,7 +46,7 @@ SlotsFit w (slot ∷ slots) = SlotFits w slot × SlotsFit w slots
 abbrev pub SlotIsQueued : Store → Slot → Type 0
 SlotIsQueued store free = ⊤
 SlotIsQueued store (connected c) = IsQueued store c.state c.end
-SlotIsQueued store (leaving end) = ⊤
+SlotIsQueued store (leaving c) = ⊤
 
 abbrev pub AreQueued : Store → List Slot → Type 0
 AreQueued store [] = ⊤

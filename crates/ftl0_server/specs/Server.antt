@@ -1,13 +1,13 @@
 -- A server as the definitions have it: eight places, a store, and the lists that its callers selected (AX.25 2.0, 2.4;
 -- FTL0 1990).
-use Rattle.std.specs.Prelude.{◌≡◌, ℕ, List, [], ◌∷◌, ◌&&◌, Bool, true, false, map, slice_get, slice_set}
+use Rattle.std.specs.Prelude.{◌≡◌, ℕ, List, [], ◌∷◌, ◌&&◌, Bool, true, map, slice_get, slice_set}
 use Rattle.std.specs.Prelude.{if◌then◌else◌, Option, None, Some}
 use Rattle.px_base.specs.CallSign.{CallSign}
 use Rattle.ax25_frames.specs.FrameText.{FrameValue}
-use Rattle.ax25_frames.specs.declared.control.Control.TheVariants as control
-use Rattle.ax25_frames.specs.Values.{bare_value}
+use Rattle.ax25_link.specs.Refusals.{refusal_frame}
 use Rattle.ax25_link.specs.Rows.{is_call}
 use Rattle.ax25_link.specs.Window.{Window}
+use Rattle.ax25_link.specs.declared.refusal.Refusal.{Refusal}
 use Rattle.ftl0_session.specs.Lists.Lists.{CallerList, has_left}
 use Rattle.file_store.specs.Command.{Command, after_all}
 use Rattle.file_store.specs.Store.{Store}
@@ -23,9 +23,8 @@ abbrev pub all_free : List Slot
 all_free = free ∷ free ∷ free ∷ free ∷ free ∷ free ∷ free ∷ free ∷ []
 
 -- the DM to be sent to a station without a connection: to whom, and its F bit
-pub record Refused : Type 0 where
-  pub to : CallSign
-  pub final : Bool
+abbrev pub Refused : Type 0
+Refused = Refusal
 
 -- its call, the window of its links, its places, the DM that is to be sent, its store, and the lists of all callers,
 -- whether they are connected or not
@@ -61,7 +60,7 @@ with_slot server place slot = record server { slots = slice_set server.slots pla
 
 -- the DM is to be sent
 abbrev pub refusing : Server → CallSign → Bool → Server
-refusing server to final = record server { stray = Some (record { to = to; final = final }) }
+refusing server to final = record server { stray = Some (record { to = to; poll = final }) }
 
 -- a connection at this place has heard its frame
 abbrev pub heard_at : Server → ℕ → Happened → ServerHappened
@@ -97,7 +96,7 @@ hearing_stranger server frame moment =
 abbrev pub hearing_at : Server → FrameValue → ℕ → List Failure → ℕ → Option Slot → ServerHappened
 hearing_at server frame moment failures place None = becoming server
 hearing_at server frame moment failures place (Some free) = becoming server
-hearing_at server frame moment failures place (Some (leaving end)) = becoming server
+hearing_at server frame moment failures place (Some (leaving c)) = becoming server
 hearing_at server frame moment failures place (Some (connected c)) =
     heard_at server place (hearing server.window moment server.store server.lists c frame failures)
 
@@ -115,18 +114,6 @@ server_hearing server frame moment failures =
 -- what a tick makes of a server
 abbrev pub server_ticking : Server → Server
 server_ticking server = record server { slots = map slot_ticking server.slots }
-
--- the DM to a station without a connection
-abbrev pub refusal_frame : CallSign → Refused → FrameValue
-refusal_frame me refused =
-    record {
-      dest = refused.to;
-      src = me;
-      via = 0;
-      kind = bare_value control.Dm;
-      poll = refused.final;
-      command = false;
-    }
 
 -- a frame that a server sends, and the server then
 pub record ServerSends : Type 0 where

@@ -28,13 +28,13 @@ pub record ServerState : Type 0 where
 abbrev pub SendsAs : Window → Place → Slot → Type 0
 SendsAs w Free free = ⊤
 SendsAs w Free (connected c) = ⊥
-SendsAs w Free (leaving end) = ⊥
+SendsAs w Free (leaving c) = ⊥
 SendsAs w (Talking connection) free = ⊥
 SendsAs w (Talking connection) (connected c) = StandsFor w connection.link c.end
-SendsAs w (Talking connection) (leaving end) = ⊥
+SendsAs w (Talking connection) (leaving c) = ⊥
 SendsAs w (Leaving link) free = is_pending link ≡ false
 SendsAs w (Leaving link) (connected c) = ⊥
-SendsAs w (Leaving link) (leaving end) = StandsFor w link end
+SendsAs w (Leaving link) (leaving c) = StandsFor w link c.end
 
 -- what the session of a connection has come to, over this store
 pub record TalksAs (store : StoreState) (connection : ConnectionState) (c : Connected) : Type 0 where
@@ -46,7 +46,7 @@ abbrev pub SaysAs : StoreState → Place → Slot → Type 0
 SaysAs store Free slot = ⊤
 SaysAs store (Talking connection) free = ⊤
 SaysAs store (Talking connection) (connected c) = TalksAs store connection c
-SaysAs store (Talking connection) (leaving end) = ⊤
+SaysAs store (Talking connection) (leaving c) = ⊤
 SaysAs store (Leaving link) slot = ⊤
 
 -- this holds of each place and the slot at it, and there are as many of the one as of the other

@@ -1,5 +1,5 @@
--- The places of a server as the definitions have them: each is free, or has a connection, or has the link of a session
--- that is over, with frames to send still.
+-- The places of a server as the definitions have them: each is free, or has a connection, or has a connection whose
+-- session is over, and whose link has frames to send still.
 use Rattle.std.specs.Prelude.{ℕ, List, [], ◌∷◌, Bool, true, false, map, Option, None, Some}
 use Rattle.std.specs.List.{position}
 use Rattle.std.specs.Option.{option_map}
@@ -15,20 +15,20 @@ use Rattle.ftl0_session.specs.Uploads.Session.{is_same_call}
 pub data Slot : Type 0 where
   free : Slot
   connected : Connected → Slot
-  leaving : LinkEnd → Slot
+  leaving : Connected → Slot
 
 -- whether the place has a connection of this caller
 abbrev pub is_callers : CallSign → Slot → Bool
 is_callers caller free = false
 is_callers caller (connected c) = is_same_call (caller_of c) caller
-is_callers caller (leaving end) = false
+is_callers caller (leaving c) = false
 
 -- whether the place has no session. Between events nothing is to be sent, and a link whose session is over counts no
 -- more.
 abbrev pub is_empty : Slot → Bool
 is_empty free = true
 is_empty (connected c) = false
-is_empty (leaving end) = true
+is_empty (leaving c) = true
 
 -- the place of the caller's connection, if there is one
 abbrev pub place_of : CallSign → List Slot → Option ℕ
@@ -38,10 +38,11 @@ place_of caller slots = position (is_callers caller) slots
 abbrev pub first_empty : List Slot → Option ℕ
 first_empty slots = position is_empty slots
 
--- what is left of a connection after an event: where its session is over, the link with what it has to send
+-- What is left of a connection after an event: where its session is over the connection as it was last, whose link
+-- still sends what it has to send.
 abbrev pub left_by : Bool → Connected → Slot
 left_by false c = connected c
-left_by true c = leaving c.end
+left_by true c = leaving c
 
 abbrev pub slot_after : Happened → Slot
 slot_after happened = left_by happened.over happened.after
@@ -50,7 +51,7 @@ slot_after happened = left_by happened.over happened.after
 abbrev pub slot_ticking : Slot → Slot
 slot_ticking free = free
 slot_ticking (connected c) = left_by (ticking c).over (ticking c).after
-slot_ticking (leaving end) = leaving end
+slot_ticking (leaving c) = leaving c
 
 -- a frame that a place sends, and the place then
 pub record SlotSends : Type 0 where
@@ -64,7 +65,7 @@ slot_sends slot sending = record { frame = sending.frame; after = slot sending.a
 abbrev pub slot_next : Window → Slot → Option SlotSends
 slot_next w free = None
 slot_next w (connected c) = option_map (slot_sends (λ end. connected (with_end c end))) (next_sending w c.end)
-slot_next w (leaving end) = option_map (slot_sends leaving) (next_sending w end)
+slot_next w (leaving c) = option_map (slot_sends (λ end. leaving (with_end c end))) (next_sending w c.end)
 
 -- a frame that one of the places sends, and the places then
 pub record PlacesSend : Type 0 where
@@ -85,7 +86,7 @@ places_next w (slot ∷ slots) = first_of slot slots (slot_next w slot) (places_
 abbrev pub freed : Slot → Slot
 freed free = free
 freed (connected c) = connected c
-freed (leaving end) = free
+freed (leaving c) = free
 
 abbrev pub all_freed : List Slot → List Slot
 all_freed slots = map freed slots

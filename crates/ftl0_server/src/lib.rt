@@ -8,7 +8,6 @@ pub mod laws;
 mod place;
 mod places;
 mod server;
-mod stray;
 
 pub use ftl0_session::ServerStop;
 pub use server::{PLACES, Server};

@@ -3,8 +3,7 @@
 ghost use Rattle.std.specs.Prelude.{◌≡◌, ◌<◌, ◌≤◌, ℕ, [], false, true, IfErr, IfOk, IsErrOf, None, Ok, OnOk, Some};
 ghost use Rattle.std.specs.List.{position};
 ghost use Rattle.ax25_frames.specs.Kinds.{FitsControl};
-ghost use Rattle.ax25_frames.specs.Values.{kind_value, value_of};
-ghost use Rattle.ax25_link.specs.Rows.{is_call};
+ghost use Rattle.ax25_frames.specs.Values.{value_of};
 ghost use Rattle.ax25_link.specs.Window.{IsGoodK, window_of};
 ghost use Rattle.file_store.specs.EntriesKept.{KeepsComplete};
 ghost use Rattle.file_store.specs.IsStore.{IsStore};
@@ -30,9 +29,9 @@ use crate::place::Place;
 use crate::places::{
     all_fit_law, any_is_pending, count_sessions, empty_place, end_all, next_of, place_of, tick_all,
 };
-use crate::stray::Stray;
 use arrayvec::ArrayVec;
-use ax25_frames::{Frame, Kind};
+use ax25_frames::Frame;
+use ax25_link::{Refusal, is_call};
 use disk_model::Disk;
 use file_store::laws::state_law;
 use file_store::{FileStore, Limits, StoreFault};
@@ -54,7 +53,7 @@ pub struct Server {
     me: Call,
     k: u8,
     places: [Place; PLACES],
-    stray: Option<Stray>,
+    stray: Option<Refusal>,
     store: FileStore,
     lists: Lists,
 }
@@ -294,7 +293,7 @@ impl Server {
         ensures store { self.new.store ≡ self.old.store }
         ensures me { self.new.me ≡ self.old.me }
     {
-        if is_sabm(&frame.kind) {
+        if is_call(frame) {
             return self.answer(frame.src, frame.poll, moment);
         }
         if frame.command && frame.poll {
@@ -342,7 +341,7 @@ impl Server {
         ensures store { self.new.store ≡ self.old.store }
         ensures me { self.new.me ≡ self.old.me }
     {
-        self.stray = Some(Stray { to, poll });
+        self.stray = Some(Refusal { to, poll });
     }
 
     /// Seats a connection at this place, which has no session, of a caller that has none.
@@ -358,13 +357,6 @@ impl Server {
         let at = &mut places[place];
         at.put(Place::Talking(connection));
     }
-}
-
-/// Whether it is SABM.
-fn is_sabm(kind: &Kind<'_>) -> bool
-    ensures { result ≡ is_call (kind_value kind.now).control }
-{
-    matches!(kind, Kind::Sabm)
 }
 
 /// No selections. Takes memory.

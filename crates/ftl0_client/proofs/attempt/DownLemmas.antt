@@ -1,6 +1,6 @@
 -- What became of an attempt stays.
-use Rattle.std.proofs.Common.{◌≡◌, ℕ, zero, suc, ◌+◌, ◌==◌, Bool, true, false, ◌&&◌, ◌||◌, List, [], refl, ap, sym, ◌∙◌}
-use Rattle.std.specs.Prelude.{Option, None, Some, nat_le, if◌then◌else◌}
+use Rattle.std.proofs.Common.{◌≡◌, ℕ, ◌+◌, ◌==◌, Bool, true, false, ◌&&◌, ◌||◌, List, [], refl, ap, sym, ◌∙◌}
+use Rattle.std.specs.Prelude.{Option, None, Some, if◌then◌else◌}
 use Rattle.std.proofs.lemmas.Bool.{cond_both}
 use Rattle.ax25_frames.specs.declared.control.Control.{Control}
 use Rattle.ax25_frames.specs.declared.control.Control.TheVariants.{I, Rr, Rnr, Rej, Sabm, Disc, Dm, Ua, Frmr, Ui}
@@ -23,16 +23,16 @@ use Rattle.ax25_link.specs.Timer.{after_count, after_tick, is_down, is_spent, is
 use Rattle.ax25_link.specs.Window.{Window}
 use Rattle.client_notes.specs.Notes.{Lists}
 use Rattle.ftl0_job.specs.declared.ending.Ending.{Ending}
-use Rattle.ftl0_job.specs.Due.{DuePacket, next_due}
 use Rattle.ftl0_job.specs.Table.{JobState}
 use Rattle.ftl0_client.specs.Attempt.Attempted.{Attempted, outcome_by, outcome_of}
 use Rattle.ftl0_client.specs.Attempt.Hearing.{after_told, closing, hearing, packets_told, settling, ticking, with_end}
 use Rattle.ftl0_client.specs.Attempt.Laws.{IsToldDown, OutcomeLaw, StaysReached}
-use Rattle.ftl0_client.specs.Attempt.Settling.{after_due, enough_free, is_all_free, is_later, on_due, parting_later}
+use Rattle.ftl0_client.specs.Attempt.Settling.{is_all_free, is_later, parting_later}
 use Rattle.ftl0_client.specs.Attempt.Settling.{queuing, settled}
 use Rattle.ftl0_client.specs.Attempt.Taking.{Happened, taking}
 use Rattle.ftl0_client.proofs.attempt.EndedLemmas.{stays-law}
 use Rattle.ftl0_client.proofs.attempt.TakingLemmas.{taking-keeps}
+use Rattle.ftl0_client.proofs.attempt.SettlingLemmas.{queuing-keeps}
 
 -- ---- the link is down where that is told
 
@@ -103,15 +103,8 @@ settled-still : (a : Attempted) → a.end.state ≡ Down → settled a ≡ a
 settled-still a is = ap (λ (s : LinkState). if is_up s then parting_later (queuing (free_octets a.end) a) else a) is
 
 -- why the link went down stays
-due-still : (a : Attempted) (later : DuePacket JobState → Attempted) → ((due : DuePacket JobState) → (later due).down ≡ a.down) → (o : Option (DuePacket JobState)) → (on_due o a later).down ≡ a.down
-due-still a later each None = refl
-due-still a later each (Some due) = each due
-
 queuing-still : (count : ℕ) (a : Attempted) → (queuing count a).down ≡ a.down
-queuing-still zero a = refl
-queuing-still (suc more) a =
-    cond_both (nat_le enough_free (free_octets a.end)) _ _ (λ (now : Attempted). now.down ≡ a.down)
-    (λ enough. due-still a (λ due. queuing more (after_due due a)) (λ due. queuing-still more (after_due due a)) (next_due a.job)) (λ fewer. refl)
+queuing-still count a = queuing-keeps (λ (now : Attempted). now.down ≡ a.down) (λ now due is same. same) count a refl
 
 settled-same : (a : Attempted) → (settled a).down ≡ a.down
 settled-same a =

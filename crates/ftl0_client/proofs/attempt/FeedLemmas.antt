@@ -1,106 +1,125 @@
--- How an attempt takes octets, piece by piece.
-use Rattle.std.proofs.Common.{◌≡◌, ℕ, List, [], ◌++◌, ap, sym, ◌∙◌, subst, append_assoc, append-nil}
-use Rattle.std.specs.Prelude.{false}
+-- How packets are taken, one after another.
+use Rattle.std.proofs.Common.{◌≡◌, ℕ, List, [], ◌∷◌, ◌++◌, ap, sym, ◌∙◌, subst}
+use Rattle.std.specs.Prelude.{None, Result, Ok, Err, ⊤}
 use Rattle.disk_model.specs.declared.disk.Disk.{Ghosts}
-use Rattle.ax25_link.specs.Kept.{Kept, StandsFor}
+use Rattle.ax25_link.specs.declared.state.LinkState.TheVariants.{Up}
 use Rattle.ax25_link.specs.Window.{Window}
 use Rattle.ftl0_packets.specs.Layout.{Item}
 use Rattle.ftl0_packets.specs.Reading.{packets_of, rest_of}
+use Rattle.packet_link.specs.PacketLink.{HasFront}
+use Rattle.packet_link.proofs.Fronts.{front-none, front-then, front-whole, stations-same, stations-then}
 use Rattle.client_notes.specs.Laws.{after_all}
 use Rattle.client_notes.specs.Notes.{Lists}
-use Rattle.client_notes.specs.Several.{DoesSeveral}
-use Rattle.client_notes.specs.State.{NotesState, StandsOn}
+use Rattle.client_notes.specs.State.{NotesState}
 use Rattle.client_notes.proofs.Offered.{Several-none, Several-then}
 use Rattle.ftl0_job.specs.declared.stop.JobStop.{JobStop}
 use Rattle.ftl0_job.specs.Table.{JobState}
 use Rattle.ftl0_client.specs.Attempt.Attempted.{Attempted}
-use Rattle.ftl0_client.specs.Attempt.AttemptState.{AttemptState, IsAttempt, IsWaiting, StopsAmong, StopsAtPacket}
-use Rattle.ftl0_client.specs.Attempt.Feeding.{FeedStops, Feeds, Made, with_octets}
+use Rattle.ftl0_client.specs.Attempt.AttemptState.{AttemptState, HearsBy, IsAttempt, LeavesFit, StopsAtPacket, Working, working}
+use Rattle.ftl0_client.specs.Attempt.Feeding.{Made, MayAnswer, StopsAmongOctets, StopsHere, Takes, TakesOctetsBy}
 use Rattle.ftl0_client.specs.Attempt.Hearing.{accepting}
 use Rattle.ftl0_client.specs.Attempt.Taking.{Happened, taking}
+use Rattle.ftl0_client.proofs.attempt.Invariants.{IsTaking}
 use Rattle.ftl0_client.proofs.attempt.TakingLemmas.{taking-append, taking-keeps}
 
 module _ {D : Type 0} (g : Ghosts D) where
   -- no packet was taken
-  pub feeds-none : (a b : AttemptState) (notes : NotesState) (disk : D) → g.lasts disk disk → notes.journal.failed ≡ false → StandsOn g notes disk → packets_of a.octets ≡ packets_of b.octets
-      → rest_of a.octets ≡ rest_of b.octets → b.link ≡ a.link → b.job ≡ a.job → b.down ≡ a.down → Feeds g a b notes notes disk disk
-  feeds-none a b notes disk lasts healthy stands_on packets rest link job down = record {
+  takes-none : (before : Working D) → g.lasts before.disk before.disk → MayAnswer g before → Takes g [] before before
+  takes-none before lasts may w a stands same = record {
+    link = stands;
+    job = same;
+    noted = Several-none g ⊥ before.notes before.disk (λ never. never) may.may.stands_on may.may.healthy lasts;
+  }
+
+  pub taking-start : (octets : List ℕ) (before : Working D) → g.lasts before.disk before.disk → MayAnswer g before → IsTaking g octets octets before before
+  taking-start octets before lasts may = record {
     items = [];
-    packets = packets;
-    rest = rest;
-    down = down;
-    takes = λ w at stands same. record {
-      link = subst (λ (k : Kept). StandsFor w k at.end) (sym link) stands;
-      job = job ∙ same;
-      noted = Several-none g ⊥ notes disk (λ never. never) stands_on healthy lasts;
-    };
+    front = front-none octets;
+    takes = takes-none before lasts may;
+    may = may;
+    fit = record { may = may.may; stands_on = may.may.stands_on; stations = stations-same before.link };
   }
 
   module _ (on : (first second third : D) → g.lasts first second → g.lasts second third → g.lasts first third) where
-    made-then : (w : Window) (a : Attempted) (items others : List Item) (notes notes_m notes_n : NotesState) (disk disk_m disk_n : D) (link_m link_n : Kept) (job_m job_n : JobState)
-        → Made g w (taking notes.lists a items) notes notes_m disk disk_m link_m job_m
-        → Made g w (taking notes_m.lists (taking notes.lists a items).after others) notes_m notes_n disk_m disk_n link_n job_n
-        → Made g w (taking notes.lists a (items ++ others)) notes notes_n disk disk_n link_n job_n
-    made-then w a items others notes notes_m notes_n disk disk_m disk_n link_m link_n job_m job_n first second =
-        let h : Happened = taking notes.lists a items in
-        let at : notes_m.lists ≡ after_all notes.lists h.noted = (first.noted.done (λ never. never)).0 in
-        let next : Made g w (taking (after_all notes.lists h.noted) h.after others) notes_m notes_n disk_m disk_n link_n job_n =
-        subst (λ (l : Lists). Made g w (taking l h.after others) notes_m notes_n disk_m disk_n link_n job_n) at second in
-        subst (λ (made : Happened). Made g w made notes notes_n disk disk_n link_n job_n) (sym (taking-append notes.lists a items others))
+    made-then : (w : Window) (a : Attempted) (items others : List Item) (before mid now : Working D) → Made g w (taking before.notes.lists a items) before mid
+        → Made g w (taking mid.notes.lists (taking before.notes.lists a items).after others) mid now → Made g w (taking before.notes.lists a (items ++ others)) before now
+    made-then w a items others before mid now first second =
+        let h : Happened = taking before.notes.lists a items in
+        let at : mid.notes.lists ≡ after_all before.notes.lists h.noted = (first.noted.done (λ never. never)).0 in
+        let next : Made g w (taking (after_all before.notes.lists h.noted) h.after others) mid now = subst (λ (l : Lists). Made g w (taking l h.after others) mid now) at second in
+        subst (λ (made : Happened). Made g w made before now) (sym (taking-append before.notes.lists a items others))
         (record {
           link = next.link;
           job = next.job;
           noted =
-              Several-then g on ⊥ ⊥ notes notes_m notes_n disk disk_m disk_n h.noted (taking (after_all notes.lists h.noted) h.after others).noted (λ never. never) first.noted next.noted;
+              Several-then g on ⊥ ⊥ before.notes mid.notes now.notes before.disk mid.disk now.disk h.noted (taking (after_all before.notes.lists h.noted) h.after others).noted (λ never. never)
+              first.noted next.noted;
         })
 
-    -- some packets, and then others
-    pub feeds-then : (a b c : AttemptState) (notes notes_m notes_n : NotesState) (disk disk_m disk_n : D) → Feeds g a b notes notes_m disk disk_m → Feeds g b c notes_m notes_n disk_m disk_n
-        → Feeds g a c notes notes_n disk disk_n
-    feeds-then a b c notes notes_m notes_n disk disk_m disk_n first second = record {
-      items = first.items ++ second.items;
-      packets = first.packets ∙ ap (λ (items : List Item). first.items ++ items) second.packets ∙ sym (append_assoc first.items second.items (packets_of c.octets));
-      rest = first.rest ∙ second.rest;
-      down = second.down ∙ first.down;
-      takes = λ w at stands same.
-          let made = first.takes w at stands same in
-          made-then w at first.items second.items notes notes_m notes_n disk disk_m disk_n b.link c.link b.job c.job made (second.takes w (taking notes.lists at first.items).after made.link made.job);
-    }
+    module _ (octets left back : List ℕ) (before mid now : Working D) (item : Item) (h : IsTaking g octets left before mid) (front : HasFront left back (item ∷ [])) where
+      -- what a packet leaves is what all leave
+      pub fit-then : {T : Type 0} (result : Result T JobStop) → LeavesFit g mid now result → LeavesFit g before now result
+      fit-then result fit = record { may = fit.may; stands_on = fit.stands_on; stations = stations-then before.link mid.link now.link h.fit.stations fit.stations }
 
-    -- ---- the octets of a frame
+      pub taking-next : Takes g (item ∷ []) mid now → (now.job.ending ≡ None → now.link.state ≡ Up) → LeavesFit {T = ⊤} g mid now (Ok tt) → IsTaking g octets back before now
+      taking-next takes up fit = record {
+        items = h.items ++ item ∷ [];
+        front = front-then octets left back h.items (item ∷ []) h.front front;
+        takes = λ w a stands same.
+            let made = h.takes w a stands same in
+            made-then w a h.items (item ∷ []) before mid now made (takes w (taking before.notes.lists a h.items).after made.link made.job);
+        may = record { up = up; may = fit.may };
+        fit = fit-then (Ok tt) fit;
+      }
 
-    module _ (notes notes_m notes_n : NotesState) (disk disk_m disk_n : D) (old mid now : AttemptState) (octets left : List ℕ) (w : Window) (a : Attempted) (is : IsAttempt w old a) where
-      -- they stopped at a packet
-      pub hears-stopped : (why : JobStop) → Feeds g (with_octets old octets) (with_octets mid left) notes notes_m disk disk_m
-          → FeedStops g (with_octets mid left) now notes_m notes_n disk_m disk_n why
-          → StopsAmong g (accepting a octets) (packets_of (a.rest ++ octets)) notes notes_n disk disk_n now why
-      hears-stopped why feeds stop =
-          let made = feeds.takes w (accepting a octets) is.link is.job in
-          record {
-            before = feeds.items;
-            item = stop.item;
-            behind = stop.behind;
-            is_part = ap (λ (o : List ℕ). packets_of (o ++ octets)) (sym is.rest) ∙ feeds.packets ∙ ap (λ (items : List Item). feeds.items ++ items) stop.packets;
-            notes_then = notes_m;
-            disk_then = disk_m;
-            done = made.noted;
-            stops = subst (λ (j : JobState). StopsAtPacket g stop.item j now.job notes_m notes_n disk_m disk_n why) made.job stop.stops;
-            down = stop.down ∙ feeds.down ∙ is.down;
-          }
+      pub taking-stops : (why : JobStop) → StopsHere g item mid now why → StopsAmongOctets g octets before now why
+      taking-stops why stops = record {
+        items = h.items;
+        item = item;
+        behind = packets_of back;
+        packets = h.front.packets ∙ ap (λ (items : List Item). h.items ++ items) front.packets;
+        between = mid;
+        takes = h.takes;
+        stops = stops;
+      }
 
-      -- all were taken
-      pub hears-whole : left ≡ [] → IsWaiting mid.octets → Feeds g (with_octets old octets) (with_octets mid left) notes notes_m disk disk_m
-          → IsAttempt w mid (taking notes.lists (accepting a octets) (packets_of (a.rest ++ octets))).after
-          × DoesSeveral g ⊥ notes notes_m disk disk_m (taking notes.lists (accepting a octets) (packets_of (a.rest ++ octets))).noted
-      hears-whole none waiting feeds =
-          let start : Attempted = accepting a octets in
-          let waits : mid.octets ++ left ≡ mid.octets = ap (λ (o : List ℕ). mid.octets ++ o) none ∙ append-nil mid.octets in
-          let items : feeds.items ≡ packets_of (a.rest ++ octets) =
-          sym
-          (ap (λ (o : List ℕ). packets_of (o ++ octets)) (sym is.rest) ∙ feeds.packets ∙ ap (λ (o : List ℕ). feeds.items ++ packets_of o) waits
-          ∙ ap (λ (some : List Item). feeds.items ++ some) waiting.none ∙ append-nil feeds.items) in
-          let rest : mid.octets ≡ rest_of (a.rest ++ octets) = sym (ap (λ (o : List ℕ). rest_of (o ++ octets)) (sym is.rest) ∙ feeds.rest ∙ ap rest_of waits ∙ waiting.left) in
-          let made : Made g w (taking notes.lists start (packets_of (a.rest ++ octets))) notes notes_m disk disk_m mid.link mid.job =
-          subst (λ (some : List Item). Made g w (taking notes.lists start some) notes notes_m disk disk_m mid.link mid.job) items (feeds.takes w start is.link is.job) in
-          let keeps = taking-keeps notes.lists start (packets_of (a.rest ++ octets)) in
-          (record { link = made.link; rest = rest ∙ sym keeps.rest; job = made.job; down = feeds.down ∙ is.down ∙ sym keeps.down }, made.noted)
+    pub taking-ends : (octets left rest : List ℕ) (before now : Working D) → IsTaking g octets left before now → packets_of left ≡ [] → rest_of left ≡ rest
+        → Takes g (packets_of octets) before now × (rest ≡ rest_of octets)
+    taking-ends octets left rest before now h none behind =
+        let whole = front-whole octets left rest h.items h.front none behind in
+        (subst (λ (items : List Item). Takes g items before now) whole.0 h.takes, whole.1)
+
+  -- ---- the octets of a frame
+
+  module _ (w : Window) (old now : AttemptState) (a : Attempted) (is : IsAttempt w old a) (octets : List ℕ) (notes notes_n : NotesState) (disk disk_n : D) (down : now.down ≡ old.down) where
+    abbrev start : Attempted
+    start = accepting a octets
+
+    abbrev Heard : List ℕ → Result ⊤ JobStop → Type 0
+    Heard waiting result =
+        HearsBy g w (taking notes.lists (accepting (record a { rest = waiting }) octets) (packets_of (waiting ++ octets))) (accepting (record a { rest = waiting }) octets) (packets_of (waiting ++ octets))
+        notes notes_n disk disk_n now result
+
+    heard-octets : (result : Result ⊤ JobStop) → TakesOctetsBy g (old.octets ++ octets) now.octets (working old.link old.job notes disk) (working now.link now.job notes_n disk_n) result → Heard old.octets result
+    heard-octets (Ok done) h =
+        let begun : Attempted = accepting (record a { rest = old.octets }) octets in
+        let made = h.0 w begun is.link is.job in
+        let keeps = taking-keeps notes.lists begun (packets_of (old.octets ++ octets)) in
+        (record { link = made.link; rest = h.1 ∙ sym keeps.rest; job = made.job; down = down ∙ is.down ∙ sym keeps.down }, made.noted)
+    heard-octets (Err why) h =
+        let made = h.takes w (accepting (record a { rest = old.octets }) octets) is.link is.job in
+        record {
+          before = h.items;
+          item = h.item;
+          behind = h.behind;
+          is_part = h.packets;
+          notes_then = h.between.notes;
+          disk_then = h.between.disk;
+          done = made.noted;
+          stops = subst (λ (j : JobState). StopsAtPacket g h.item j now.job h.between.notes notes_n h.between.disk disk_n why) made.job h.stops;
+          down = down ∙ is.down;
+        }
+
+    pub hears-octets : (result : Result ⊤ JobStop) → TakesOctetsBy g (old.octets ++ octets) now.octets (working old.link old.job notes disk) (working now.link now.job notes_n disk_n) result
+        → HearsBy g w (taking notes.lists start (packets_of (a.rest ++ octets))) start (packets_of (a.rest ++ octets)) notes notes_n disk disk_n now result
+    hears-octets result h = subst (λ (waiting : List ℕ). Heard waiting result) is.rest (heard-octets result h)

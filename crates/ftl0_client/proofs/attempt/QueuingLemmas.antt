@@ -1,27 +1,22 @@
 -- The loop that queues what is due.
-use Rattle.std.proofs.Common.{◌≡◌, ⊎_elim, ℕ, ◌<◌, ◌≤◌, List, refl, ap, sym, ◌∙◌, subst}
+use Rattle.std.proofs.Common.{◌≡◌, ⊎_elim, ℕ, ◌<◌, ◌≤◌, refl, ap, sym, ◌∙◌, subst}
 use Rattle.std.specs.Prelude.{None, false}
-use Rattle.ax25_link.specs.Calls.{after_push}
-use Rattle.ax25_link.specs.declared.state.LinkState.TheVariants.{Up}
 use Rattle.ax25_link.specs.Ends.{free_octets}
-use Rattle.ax25_link.specs.Kept.{Kept, Steps}
+use Rattle.ax25_link.specs.Kept.{Kept}
 use Rattle.ax25_link.specs.Queue.{room_of}
 use Rattle.ax25_link.specs.Window.{Window}
+use Rattle.packet_link.proofs.Fronts.{stations-same, stations-then}
+use Rattle.packet_link.specs.Queuing.{enough_free}
 use Rattle.ftl0_job.specs.Due.{next_due}
 use Rattle.ftl0_client.specs.Attempt.Attempted.{Attempted}
-use Rattle.ftl0_client.specs.Attempt.AttemptState.{AttemptState, Becomes, IsAttempt, StandsForSome}
+use Rattle.ftl0_client.specs.Attempt.AttemptState.{AttemptState, Becomes, IsAttempt}
 use Rattle.ftl0_client.specs.Attempt.Feeding.{KeepsFit, KeepsUp, QueuesNext, QueuesPacket}
-use Rattle.ftl0_client.specs.Attempt.Settling.{after_due, enough_free, queuing}
-use Rattle.ftl0_client.proofs.attempt.OctetsLemmas.{stations-same, stations-then}
+use Rattle.ftl0_client.specs.Attempt.Settling.{after_due, queuing}
 use Rattle.ftl0_client.proofs.attempt.SettlingLemmas.{queuing-few, queuing-next, queuing-none}
 
 -- what is queued of an attempt
 abbrev pub Queues : AttemptState → AttemptState → Type 0
 Queues old new = Becomes old new (λ w a. queuing (free_octets a.end) a)
-
--- octets that are pushed leave the link up
-pub push-up : (link link_n : Kept) (text : List ℕ) → StandsForSome link → link.state ≡ Up → Steps link link_n (λ w end. after_push end text) → link_n.state ≡ Up
-push-up link link_n text some up steps = ap (λ (k : Kept). k.state) (steps some.w some.end some.stands).kept ∙ sym (ap (λ (k : Kept). k.state) some.stands.kept) ∙ up
 
 -- how many octets are free on the link of an attempt
 room-of : (w : Window) (old : AttemptState) (a : Attempted) → IsAttempt w old a → room_of old.link.queue ≡ free_octets a.end
@@ -47,8 +42,8 @@ queues-none old new none w a is =
 
 -- ---- what is left as it was
 
-pub keeps-same : (a : AttemptState) → StandsForSome a.link → KeepsFit a a
-keeps-same a some = record { notes_are = λ lists goes. goes; octets = refl; down = refl; stations = stations-same a.link; some = some }
+pub keeps-same : (a : AttemptState) → KeepsFit a a
+keeps-same a = record { notes_are = λ lists goes. goes; octets = refl; down = refl; stations = stations-same a.link }
 
 pub keeps-then : (a b c : AttemptState) → KeepsFit a b → KeepsFit b c → KeepsFit a c
 keeps-then a b c first second = record {
@@ -56,5 +51,4 @@ keeps-then a b c first second = record {
   octets = second.octets ∙ first.octets;
   down = second.down ∙ first.down;
   stations = stations-then a.link b.link c.link first.stations second.stations;
-  some = second.some;
 }

@@ -1,6 +1,6 @@
 -- How an event comes to an outcome, packet by packet.
-use Rattle.std.proofs.Common.{◌≡◌, ℕ, zero, suc, Bool, true, false, List, [], ◌∷◌, ◌++◌, refl, ap, sym, ◌∙◌, subst}
-use Rattle.std.specs.Prelude.{Option, None, Some, nat_le}
+use Rattle.std.proofs.Common.{◌≡◌, ℕ, Bool, true, false, List, [], ◌∷◌, ◌++◌, refl, ap, sym, ◌∙◌, subst}
+use Rattle.std.specs.Prelude.{Option, None, Some}
 use Rattle.std.specs.Option.{option_map}
 use Rattle.std.proofs.lemmas.Bool.{cond_both}
 use Rattle.ax25_frames.specs.FrameText.{FrameValue}
@@ -11,6 +11,7 @@ use Rattle.ax25_link.specs.Timer.{is_up}
 use Rattle.ax25_link.specs.Window.{Window}
 use Rattle.ftl0_packets.specs.Items.{kind_of_item, texts}
 use Rattle.ftl0_packets.specs.Layout.{Item}
+use Rattle.packet_link.specs.Queuing.{fits}
 use Rattle.client_notes.specs.Command.{NotesCommand}
 use Rattle.client_notes.specs.Laws.{after_all}
 use Rattle.client_notes.specs.Notes.{Lists}
@@ -18,16 +19,17 @@ use Rattle.ftl0_job.specs.declared.ending.Ending.{Ending}
 use Rattle.ftl0_job.specs.declared.ending.Outcome.{Outcome}
 use Rattle.ftl0_job.specs.declared.ending.Outcome.TheVariants as outcome
 use Rattle.ftl0_job.specs.declared.work.Work.{Work}
-use Rattle.ftl0_job.specs.Due.{DuePacket, due_by, in_job, next_due, work_due}
+use Rattle.ftl0_job.specs.Due.{DuePacket, due_by, in_job, work_due}
 use Rattle.ftl0_job.specs.Laws.{reached}
 use Rattle.ftl0_job.specs.Row.{Row, strange_ending}
 use Rattle.ftl0_job.specs.Table.{JobState, job_after, job_row, new_job, row_of}
 use Rattle.ftl0_client.specs.declared.attempt.outcome.AttemptOutcome.TheVariants.{Reached}
 use Rattle.ftl0_client.specs.Attempt.Attempted.{Attempted, outcome_by, outcome_of}
 use Rattle.ftl0_client.specs.Attempt.Hearing.{after_hearing, hearing, packets_heard, with_end}
-use Rattle.ftl0_client.specs.Attempt.Settling.{after_due, enough_free, on_due, queuing, settled}
-use Rattle.ftl0_client.specs.Attempt.Taking.{Happened, after_replies, answering, fits, taking, taking_by, taking_one}
+use Rattle.ftl0_client.specs.Attempt.Settling.{queuing, settled}
+use Rattle.ftl0_client.specs.Attempt.Taking.{Happened, after_replies, answering, taking, taking_by, taking_one}
 use Rattle.ftl0_client.proofs.attempt.EndedLemmas.{parting-job, taking-ended, told-job}
+use Rattle.ftl0_client.proofs.attempt.SettlingLemmas.{queuing-keeps}
 
 -- ---- the end of the event
 
@@ -39,16 +41,9 @@ due-ending : (o : Option Ending) (doing : Work) (due : DuePacket JobState) → d
 due-ending None doing due is = mapped (work_due doing) due is
 due-ending (Some ending) doing due is = absurd (cc is)
 
-ending-due : (a : Attempted) (later : DuePacket JobState → Attempted) → ((due : DuePacket JobState) → (later due).job.ending ≡ due.state.ending) → (o : Option (DuePacket JobState)) → next_due a.job ≡ o
-    → (on_due o a later).job.ending ≡ a.job.ending
-ending-due a later each None is = refl
-ending-due a later each (Some due) is = each due ∙ due-ending a.job.ending a.job.work due is
-
 queuing-ending : (count : ℕ) (a : Attempted) → (queuing count a).job.ending ≡ a.job.ending
-queuing-ending zero a = refl
-queuing-ending (suc more) a =
-    cond_both (nat_le enough_free (free_octets a.end)) _ _ (λ (now : Attempted). now.job.ending ≡ a.job.ending)
-    (λ enough. ending-due a (λ due. queuing more (after_due due a)) (λ due. queuing-ending more (after_due due a)) (next_due a.job) refl) (λ fewer. refl)
+queuing-ending count a =
+    queuing-keeps (λ (now : Attempted). now.job.ending ≡ a.job.ending) (λ now due is same. due-ending now.job.ending now.job.work due is ∙ same) count a refl
 
 settled-ending : (a : Attempted) → (settled a).job.ending ≡ a.job.ending
 settled-ending a =

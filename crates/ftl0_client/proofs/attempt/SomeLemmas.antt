@@ -2,8 +2,9 @@
 use Rattle.std.proofs.Common.{◌≡◌, ℕ, refl, sym, ◌∙◌, ap, subst}
 use Rattle.ax25_link.specs.Kept.{Kept, StandsFor}
 use Rattle.ax25_link.specs.Window.{Window, window_of}
+use Rattle.packet_link.specs.PacketLink.{StandsForSome}
 use Rattle.ftl0_client.specs.Attempt.Attempted.{Attempted}
-use Rattle.ftl0_client.specs.Attempt.AttemptState.{AttemptState, IsSomeAttempt, StandsForSome}
+use Rattle.ftl0_client.specs.Attempt.AttemptState.{AttemptState, IsSomeAttempt}
 
 pub some-attempt : (attempt : AttemptState) → StandsForSome attempt.link → IsSomeAttempt attempt
 some-attempt attempt some =

@@ -1,6 +1,6 @@
 -- What stands of an attempt stands after each event, and once something became of it nothing more is noted.
-use Rattle.std.proofs.Common.{◌≡◌, ℕ, zero, suc, Bool, true, false, List, [], ◌∷◌, refl, ap, sym, ◌∙◌, subst}
-use Rattle.std.specs.Prelude.{Option, None, Some, nat_le}
+use Rattle.std.proofs.Common.{◌≡◌, ℕ, Bool, true, false, List, [], ◌∷◌, refl, ap, sym, ◌∙◌, subst}
+use Rattle.std.specs.Prelude.{Option, None, Some}
 use Rattle.std.proofs.lemmas.Bool.{cond_both}
 use Rattle.ax25_link.specs.declared.state.Heard.{Heard}
 use Rattle.ax25_link.specs.declared.state.Why.{Why}
@@ -10,6 +10,7 @@ use Rattle.ax25_link.specs.Rows.{after_frame, heard_of}
 use Rattle.ax25_link.specs.Timer.{after_tick, is_up, told_of_tick}
 use Rattle.ftl0_packets.specs.Items.{kind_of_item, texts}
 use Rattle.ftl0_packets.specs.Layout.{Item}
+use Rattle.packet_link.specs.Queuing.{fits}
 use Rattle.client_notes.specs.Command.{NotesCommand}
 use Rattle.client_notes.specs.Laws.{after_all}
 use Rattle.client_notes.specs.Notes.{Lists}
@@ -18,7 +19,6 @@ use Rattle.ftl0_job.specs.declared.ending.Ending.{Ending}
 use Rattle.ftl0_job.specs.declared.ending.Outcome.TheVariants as outcome
 use Rattle.ftl0_job.specs.declared.work.Work.{Work}
 use Rattle.ftl0_job.specs.declared.work.Work.TheVariants as work
-use Rattle.ftl0_job.specs.Due.{DuePacket, next_due}
 use Rattle.ftl0_job.specs.Laws.{BegunLaw, DueLaw, PromisesLaw}
 use Rattle.ftl0_job.specs.Promises.{JobStands, WorkPromises}
 use Rattle.ftl0_job.specs.Row.{Row}
@@ -27,11 +27,12 @@ use Rattle.ftl0_client.specs.Attempt.Attempted.{Attempted, outcome_by}
 use Rattle.ftl0_client.specs.Attempt.Hearing.{after_hearing, after_ticking, after_told, hearing, packets_heard}
 use Rattle.ftl0_client.specs.Attempt.Hearing.{packets_told, with_end}
 use Rattle.ftl0_client.specs.Attempt.Laws.{CallingLaw, QuietLaw, StandsLaw}
-use Rattle.ftl0_client.specs.Attempt.Settling.{after_due, enough_free, on_due, queuing, settled}
-use Rattle.ftl0_client.specs.Attempt.Taking.{Happened, after_replies, fits, taking, taking_by, taking_one}
+use Rattle.ftl0_client.specs.Attempt.Settling.{queuing, settled}
+use Rattle.ftl0_client.specs.Attempt.Taking.{Happened, after_replies, taking, taking_by, taking_one}
 use Rattle.ftl0_client.proofs.attempt.DownLemmas.{outcome-law, still-silent}
 use Rattle.ftl0_client.proofs.attempt.EndedLemmas.{parting-job, stays-law, told-job}
 use Rattle.ftl0_client.proofs.attempt.ToldLemmas.{heard-told, ticked-told}
+use Rattle.ftl0_client.proofs.attempt.SettlingLemmas.{queuing-keeps}
 
 -- ---- packets
 
@@ -66,16 +67,8 @@ module _ (law : PromisesLaw) (asked : Work) where
 -- ---- the end of an event
 
 module _ (law : DueLaw) (asked : Work) (lists : Lists) where
-  due-stands : (a : Attempted) (later : DuePacket JobState → Attempted) → ((due : DuePacket JobState) → JobStands asked lists due.state → JobStands asked lists (later due).job) → JobStands asked lists a.job
-      → (o : Option (DuePacket JobState)) → next_due a.job ≡ o → JobStands asked lists (on_due o a later).job
-  due-stands a later each stands None is = stands
-  due-stands a later each stands (Some due) is = each due (law asked lists a.job due stands is)
-
   queuing-stands : (count : ℕ) (a : Attempted) → JobStands asked lists a.job → JobStands asked lists (queuing count a).job
-  queuing-stands zero a stands = stands
-  queuing-stands (suc more) a stands =
-      cond_both (nat_le enough_free (free_octets a.end)) _ _ (λ (now : Attempted). JobStands asked lists now.job)
-      (λ enough. due-stands a (λ due. queuing more (after_due due a)) (λ due after. queuing-stands more (after_due due a) after) stands (next_due a.job) refl) (λ fewer. stands)
+  queuing-stands = queuing-keeps (λ (a : Attempted). JobStands asked lists a.job) (λ a due is stands. law asked lists a.job due stands is)
 
   settled-stands : (a : Attempted) → JobStands asked lists a.job → JobStands asked lists (settled a).job
   settled-stands a stands =

@@ -1,7 +1,7 @@
 -- The end of an attempt's link is down only where something became of the attempt.
-use Rattle.std.proofs.Common.{◌≡◌, ◌≢◌, ◌⊎◌, inl, inr, ⊎_elim, ℕ, zero, suc, ◌+◌, ◌==◌, Bool, true, false, ◌&&◌, ◌||◌}
+use Rattle.std.proofs.Common.{◌≡◌, ◌≢◌, ◌⊎◌, inl, inr, ⊎_elim, ℕ, ◌+◌, ◌==◌, Bool, true, false, ◌&&◌, ◌||◌}
 use Rattle.std.proofs.Common.{List, [], ◌∷◌, refl, ap, sym, ◌∙◌, subst}
-use Rattle.std.specs.Prelude.{Option, None, Some, nat_le, nat_lt, if◌then◌else◌}
+use Rattle.std.specs.Prelude.{Option, None, Some, nat_lt, if◌then◌else◌}
 use Rattle.std.proofs.lemmas.Bool.{cond_both}
 use Rattle.ax25_frames.specs.FrameText.{FrameValue}
 use Rattle.ax25_frames.specs.declared.control.Control.{Control}
@@ -24,20 +24,21 @@ use Rattle.ax25_link.specs.Timer.{after_tick, is_down, is_spent, is_up, runs_out
 use Rattle.ax25_link.specs.Window.{Window}
 use Rattle.ftl0_packets.specs.Items.{kind_of_item, texts}
 use Rattle.ftl0_packets.specs.Layout.{Item}
+use Rattle.packet_link.specs.Queuing.{fits}
 use Rattle.client_notes.specs.Laws.{after_all}
 use Rattle.client_notes.specs.Notes.{Lists}
 use Rattle.ftl0_job.specs.declared.ending.Ending.{Ending}
 use Rattle.ftl0_job.specs.declared.work.Work.{Work}
-use Rattle.ftl0_job.specs.Due.{DuePacket, next_due}
 use Rattle.ftl0_job.specs.Row.{Row}
-use Rattle.ftl0_job.specs.Table.{JobState, job_after, job_row}
+use Rattle.ftl0_job.specs.Table.{job_after, job_row}
 use Rattle.ftl0_client.specs.Attempt.Attempted.{Attempted, outcome_by, outcome_of}
 use Rattle.ftl0_client.specs.Attempt.Hearing.{after_hearing, after_ticking, after_told, down_by, hearing, packets_heard}
 use Rattle.ftl0_client.specs.Attempt.Hearing.{ticking, with_end}
-use Rattle.ftl0_client.specs.Attempt.Settling.{after_due, enough_free, is_all_free, is_later, on_due, parting_later}
+use Rattle.ftl0_client.specs.Attempt.Settling.{is_all_free, is_later, parting_later}
 use Rattle.ftl0_client.specs.Attempt.Settling.{queuing, settled}
-use Rattle.ftl0_client.specs.Attempt.Taking.{Happened, after_replies, fits, parting, replied, taking, taking_by}
+use Rattle.ftl0_client.specs.Attempt.Taking.{Happened, after_replies, parting, replied, taking, taking_by}
 use Rattle.ftl0_client.specs.Attempt.Taking.{taking_one}
+use Rattle.ftl0_client.proofs.attempt.SettlingLemmas.{queuing-keeps}
 
 -- ---- a link goes down only where that is told
 
@@ -152,15 +153,8 @@ taking-told lists a (item ∷ items) was =
 
 -- ---- the end of an event
 
-due-state : (a : Attempted) (later : DuePacket JobState → Attempted) → ((due : DuePacket JobState) → (later due).end.state ≡ a.end.state) → (o : Option (DuePacket JobState)) → (on_due o a later).end.state ≡ a.end.state
-due-state a later each None = refl
-due-state a later each (Some due) = each due
-
 queuing-state : (count : ℕ) (a : Attempted) → (queuing count a).end.state ≡ a.end.state
-queuing-state zero a = refl
-queuing-state (suc more) a =
-    cond_both (nat_le enough_free (free_octets a.end)) _ _ (λ (now : Attempted). now.end.state ≡ a.end.state)
-    (λ enough. due-state a (λ due. queuing more (after_due due a)) (λ due. queuing-state more (after_due due a)) (next_due a.job)) (λ fewer. refl)
+queuing-state count a = queuing-keeps (λ (now : Attempted). now.end.state ≡ a.end.state) (λ now due is same. same) count a refl
 
 up-state : (state : LinkState) → is_up state ≡ true → state ≡ Up
 up-state link.Up up = refl

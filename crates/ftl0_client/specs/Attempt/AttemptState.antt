@@ -1,16 +1,13 @@
 -- An attempt as contracts see it, which of the definitions' it stands for, and what its calls do.
-use Rattle.std.specs.Prelude.{◌≡◌, ℕ, List, [], ◌∷◌, ◌++◌, Bool, not, ◌&&◌, Option, None}
+use Rattle.std.specs.Prelude.{◌≡◌, ℕ, List, ◌∷◌, ◌++◌, Bool, not, ◌&&◌, Option, None}
 use Rattle.std.specs.Prelude.{OnOk, Result, Ok, Err, IsErrOf, ⊤}
-use Rattle.px_base.specs.Octets.{IsOctets}
 use Rattle.ax25_frames.specs.FrameText.{FrameValue}
 use Rattle.disk_model.specs.declared.disk.Disk.{Ghosts}
 use Rattle.ax25_link.specs.declared.state.Why.{Why}
-use Rattle.ax25_link.specs.Ends.{LinkEnd}
 use Rattle.ax25_link.specs.Kept.{Kept, SameStations, StandsFor, is_pending}
 use Rattle.ax25_link.specs.Timer.{is_down}
 use Rattle.ax25_link.specs.Window.{Window, window_of}
 use Rattle.ftl0_packets.specs.Layout.{Item}
-use Rattle.ftl0_packets.specs.Reading.{packets_of, rest_of}
 use Rattle.client_notes.specs.Calls.{Leaves, Puts}
 use Rattle.client_notes.specs.Several.{DoesSeveral, MakesFirst}
 use Rattle.client_notes.specs.State.{NotesState, StandsOn}
@@ -31,12 +28,6 @@ pub record AttemptState : Type 0 where
   pub octets : List ℕ
   pub job : JobState
   pub down : Option Why
-
--- The link stands for some end.
-pub record StandsForSome (link : Kept) : Type 0 where
-  pub w : Window
-  pub end : LinkEnd
-  pub stands : StandsFor w link end
 
 -- The attempt stands for this one.
 pub record IsAttempt (w : Window) (attempt : AttemptState) (a : Attempted) : Type 0 where
@@ -102,20 +93,22 @@ pub record Hears {D : Type 0} (g : Ghosts D) (w : Window) (a : Attempted) (frame
       disk disk_now attempt result
   pub since : Leaves g disk disk_now (λ _. MakesFirst notes.lists (hearing w notes.lists a frame).noted)
 
--- What an event leaves of a link, a job, the notes and the disk: what the next event needs, where nothing stopped it.
-pub record LeavesFit {D T : Type 0} (g : Ghosts D) (notes_now : NotesState) (disk_now : D) (link link_now : Kept)
-    (job_now : JobState) (result : Result T JobStop) : Type 0 where
-  pub may : OnOk result (MayTake g notes_now disk_now job_now)
-  pub stands_on : StandsOn g notes_now disk_now
-  pub stations : SameStations link link_now
-  pub some : StandsForSome link_now
+-- what takes packets: a link and a job, over notes on a disk
+pub record Working (D : Type 0) : Type 0 where
+  pub link : Kept
+  pub job : JobState
+  pub notes : NotesState
+  pub disk : D
+
+abbrev pub working : {D : Type 0} → Kept → JobState → NotesState → D → Working D
+working link job notes disk = record { link = link; job = job; notes = notes; disk = disk }
+
+-- What an event leaves of them: what the next event needs, where nothing stopped it.
+pub record LeavesFit {D T : Type 0} (g : Ghosts D) (before now : Working D) (result : Result T JobStop) : Type 0 where
+  pub may : OnOk result (MayTake g now.notes now.disk now.job)
+  pub stands_on : StandsOn g now.notes now.disk
+  pub stations : SameStations before.link now.link
 
 -- what is said of the disk's counts
 abbrev pub PutsBy : {D : Type 0} → Ghosts D → D → D → Result ⊤ JobStop → Type 0
 PutsBy g disk disk_now result = Puts g (IsErrOf result stop.Disk) disk disk_now
-
--- No packet is whole of these octets: they wait for the end of the one under way.
-pub record IsWaiting (octets : List ℕ) : Type 0 where
-  pub none : packets_of octets ≡ []
-  pub left : rest_of octets ≡ octets
-  pub are_octets : IsOctets octets

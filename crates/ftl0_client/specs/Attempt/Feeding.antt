@@ -1,5 +1,5 @@
 -- How an attempt takes packets, one after another, and then queues what is due; and what each leaves for the next one.
-use Rattle.std.specs.Prelude.{◌≡◌, ◌⊎◌, ℕ, ◌<◌, ◌≤◌, List, [], ◌∷◌, ◌++◌, drop, Bool, true, false}
+use Rattle.std.specs.Prelude.{◌≡◌, ◌⊎◌, ℕ, ◌<◌, ◌≤◌, List, [], ◌∷◌, ◌++◌, Bool, true, false}
 use Rattle.std.specs.Prelude.{None, Some, Result, Ok, Err, ⊤}
 use Rattle.disk_model.specs.declared.disk.Disk.{Ghosts}
 use Rattle.ax25_link.specs.declared.state.LinkState.TheVariants.{Up}
@@ -10,25 +10,21 @@ use Rattle.ax25_link.specs.Queue.{room_of}
 use Rattle.ax25_link.specs.Window.{Window}
 use Rattle.ftl0_packets.specs.Layout.{Item, packet_text}
 use Rattle.ftl0_packets.specs.Reading.{packets_of, rest_of}
+use Rattle.packet_link.specs.Queuing.{enough_free, fits}
 use Rattle.client_notes.specs.Notes.{Lists}
 use Rattle.client_notes.specs.Several.{DoesSeveral}
-use Rattle.client_notes.specs.State.{NotesState}
 use Rattle.ftl0_job.specs.declared.stop.JobStop.{JobStop}
 use Rattle.ftl0_job.specs.Due.{DuePacket, next_due}
 use Rattle.ftl0_job.specs.JobState.{MayTake, NotesGoWith}
 use Rattle.ftl0_job.specs.Table.{JobState}
 use Rattle.ftl0_client.specs.Attempt.Attempted.{Attempted}
-use Rattle.ftl0_client.specs.Attempt.AttemptState.{AttemptState, StandsForSome, StopsAtPacket}
-use Rattle.ftl0_client.specs.Attempt.Settling.{enough_free}
-use Rattle.ftl0_client.specs.Attempt.Taking.{Happened, after_replies, fits, parting, replied, taking}
+use Rattle.ftl0_client.specs.Attempt.AttemptState.{AttemptState, StopsAtPacket, Working}
+use Rattle.ftl0_client.specs.Attempt.Taking.{Happened, after_replies, parting, replied, taking}
 
--- What is needed to take packets: the link is up as long as there is no outcome, and stands for some end; and the job
--- may take a packet.
-pub record MayAnswer {D : Type 0} (g : Ghosts D) (notes : NotesState) (disk : D) (link : Kept) (job : JobState) :
-    Type 0 where
-  pub up : job.ending ≡ None → link.state ≡ Up
-  pub some : StandsForSome link
-  pub may : MayTake g notes disk job
+-- What is needed to take packets: the link is up as long as there is no outcome; and the job may take a packet.
+pub record MayAnswer {D : Type 0} (g : Ghosts D) (before : Working D) : Type 0 where
+  pub up : before.job.ending ≡ None → before.link.state ≡ Up
+  pub may : MayTake g before.notes before.disk before.job
 
 -- replies of this text to a packet of this type were queued, or lost
 abbrev pub Replies : ℕ → List ℕ → JobState → JobState → Window → LinkEnd → Kept → Type 0
@@ -42,58 +38,43 @@ RepliesAndParts kind text job job_now w end link_now =
     × (job_now ≡ after_replies job kind (fits end text))
 
 -- an event made this of a link, a job and the notes
-pub record Made {D : Type 0} (g : Ghosts D) (w : Window) (happened : Happened) (notes notes_now : NotesState)
-    (disk disk_now : D) (link_now : Kept) (job_now : JobState) : Type 0 where
-  pub link : StandsFor w link_now happened.after.end
-  pub job : job_now ≡ happened.after.job
-  pub noted : DoesSeveral g ⊥ notes notes_now disk disk_now happened.noted
+pub record Made {D : Type 0} (g : Ghosts D) (w : Window) (happened : Happened) (before now : Working D) : Type 0 where
+  pub link : StandsFor w now.link happened.after.end
+  pub job : now.job ≡ happened.after.job
+  pub noted : DoesSeveral g ⊥ before.notes now.notes before.disk now.disk happened.noted
 
 -- these packets were taken, whatever attempt it was
-abbrev pub Takes :
-    {D : Type 0} → Ghosts D → List Item → NotesState → NotesState → D → D → Kept → Kept → JobState → JobState → Type 0
-Takes g items notes notes_now disk disk_now link link_now job job_now =
-    (w : Window) (a : Attempted) → StandsFor w link a.end → job ≡ a.job
-    → Made g w (taking notes.lists a items) notes notes_now disk disk_now link_now job_now
+abbrev pub Takes : {D : Type 0} → Ghosts D → List Item → Working D → Working D → Type 0
+Takes g items before now =
+    (w : Window) (a : Attempted) → StandsFor w before.link a.end → before.job ≡ a.job
+    → Made g w (taking before.notes.lists a items) before now
+
+-- the job stopped at this packet
+abbrev pub StopsHere : {D : Type 0} → Ghosts D → Item → Working D → Working D → JobStop → Type 0
+StopsHere g item before now why =
+    StopsAtPacket g item before.job now.job before.notes now.notes before.disk now.disk why
 
 -- one packet was taken, or the job stopped at it
-abbrev pub AnswersPacket :
-    {D : Type 0} → Ghosts D → Item → NotesState → NotesState → D → D → Kept → Kept → JobState → JobState
-    → Result ⊤ JobStop → Type 0
-AnswersPacket g item notes notes_now disk disk_now link link_now job job_now (Ok done) =
-    Takes g (item ∷ []) notes notes_now disk disk_now link link_now job job_now
-AnswersPacket g item notes notes_now disk disk_now link link_now job job_now (Err why) =
-    StopsAtPacket g item job job_now notes notes_now disk disk_now why
+abbrev pub AnswersPacket : {D : Type 0} → Ghosts D → Item → Working D → Working D → Result ⊤ JobStop → Type 0
+AnswersPacket g item before now (Ok done) = Takes g (item ∷ []) before now
+AnswersPacket g item before now (Err why) = StopsHere g item before now why
 
--- with these octets accepted, or left, too
-abbrev pub with_octets : AttemptState → List ℕ → AttemptState
-with_octets attempt octets = record attempt { octets = attempt.octets ++ octets }
-
--- Packets at the front of the octets were taken: the rest are those of the octets that are left now.
-pub record Feeds {D : Type 0} (g : Ghosts D) (before now : AttemptState) (notes notes_now : NotesState)
-    (disk disk_now : D) : Type 0 where
+-- Of these octets packets were taken, up to one at which the job stopped.
+pub record StopsAmongOctets {D : Type 0} (g : Ghosts D) (octets : List ℕ) (before now : Working D) (why : JobStop) :
+    Type 0 where
   pub items : List Item
-  pub packets : packets_of before.octets ≡ items ++ packets_of now.octets
-  pub rest : rest_of before.octets ≡ rest_of now.octets
-  pub down : now.down ≡ before.down
-  pub takes : Takes g items notes notes_now disk disk_now before.link now.link before.job now.job
-
--- the job stopped at the first packet of the octets
-pub record FeedStops {D : Type 0} (g : Ghosts D) (before now : AttemptState) (notes notes_now : NotesState)
-    (disk disk_now : D) (why : JobStop) : Type 0 where
   pub item : Item
   pub behind : List Item
-  pub packets : packets_of before.octets ≡ item ∷ behind
-  pub down : now.down ≡ before.down
-  pub stops : StopsAtPacket g item before.job now.job notes notes_now disk disk_now why
+  pub packets : packets_of octets ≡ items ++ item ∷ behind
+  pub between : Working D
+  pub takes : Takes g items before between
+  pub stops : StopsHere g item between now why
 
--- so many octets of these were taken, or the job stopped
-abbrev pub FeedsBy :
-    {D : Type 0} → Ghosts D → AttemptState → AttemptState → List ℕ → NotesState → NotesState → D → D
-    → Result ℕ JobStop → Type 0
-FeedsBy g before now octets notes notes_now disk disk_now (Ok taken) =
-    Feeds g (with_octets before octets) (with_octets now (drop taken octets)) notes notes_now disk disk_now
-FeedsBy g before now octets notes notes_now disk disk_now (Err why) =
-    FeedStops g (with_octets before octets) now notes notes_now disk disk_now why
+-- the packets of these octets were taken, and these are left; or the job stopped at one of them
+abbrev pub TakesOctetsBy :
+    {D : Type 0} → Ghosts D → List ℕ → List ℕ → Working D → Working D → Result ⊤ JobStop → Type 0
+TakesOctetsBy g octets left before now (Ok done) = Takes g (packets_of octets) before now × (left ≡ rest_of octets)
+TakesOctetsBy g octets left before now (Err why) = StopsAmongOctets g octets before now why
 
 -- A packet that was due was queued, and fewer octets are free now.
 pub record QueuesPacket (old new : AttemptState) : Type 0 where
@@ -116,7 +97,6 @@ pub record KeepsFit (old new : AttemptState) : Type 0 where
   pub octets : new.octets ≡ old.octets
   pub down : new.down ≡ old.down
   pub stations : SameStations old.link new.link
-  pub some : StandsForSome new.link
 
 -- the same while the link is up
 pub record KeepsUp (old new : AttemptState) : Type 0 where

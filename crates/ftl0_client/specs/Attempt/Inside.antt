@@ -1,12 +1,7 @@
--- What an attempt keeps, and its fields as contracts see them.
-use Rattle.ftl0_packets.specs.Reading.{under_way}
+-- An attempt's fields as contracts see them.
+use Rattle.packet_link.specs.PacketLink.{octets_in}
 use Rattle.ftl0_client.specs.declared.attempt.attempt.Attempt.TheInside.{Inside}
-use Rattle.ftl0_client.specs.Attempt.AttemptState.{AttemptState, IsWaiting, StandsForSome}
+use Rattle.ftl0_client.specs.Attempt.AttemptState.{AttemptState}
 
 abbrev pub attempt_state : Inside → AttemptState
-attempt_state a = record { link = a.link; octets = under_way a.reader; job = a.job; down = a.down }
-
--- The link stands for some end. The octets that were accepted and of which no packet was taken wait.
-pub record IsInside (a : Inside) : Type 0 where
-  pub some : StandsForSome a.link
-  pub waiting : IsWaiting (under_way a.reader)
+attempt_state a = record { link = a.link.link; octets = octets_in a.link; job = a.job; down = a.down }

@@ -6,6 +6,7 @@ use Rattle.ax25_link.specs.declared.state.LinkState.TheVariants.{Up, Down}
 use Rattle.ax25_link.specs.declared.state.Why.{Why}
 use Rattle.ax25_link.specs.Ends.{free_octets}
 use Rattle.ax25_link.specs.Window.{Window}
+use Rattle.packet_link.specs.Queuing.{enough_free}
 use Rattle.client_notes.specs.Command.{NotesCommand, acked}
 use Rattle.ftl0_job.specs.Faults.{fault_code}
 use Rattle.client_notes.specs.Laws.{AreAllowed, after_all}
@@ -26,7 +27,7 @@ use Rattle.ftl0_client.specs.declared.attempt.outcome.AttemptOutcome.{AttemptOut
 use Rattle.ftl0_client.specs.declared.attempt.outcome.AttemptOutcome.TheVariants.{Reached}
 use Rattle.ftl0_client.specs.Attempt.Attempted.{Attempted, calling, outcome_of}
 use Rattle.ftl0_client.specs.Attempt.Hearing.{hearing, ticking}
-use Rattle.ftl0_client.specs.Attempt.Settling.{enough_free, settled}
+use Rattle.ftl0_client.specs.Attempt.Settling.{settled}
 
 -- nothing is due, or fewer octets are free than are needed
 abbrev pub IsQueued : Attempted → Type 0

@@ -1,35 +1,24 @@
 -- What is done at the end of each event, while the link is up: what is due is queued, and then the link is hung up
 -- where that was to be done later (FTL0 1990, uploading; AX.25 2.0, 2.4.3.3).
-use Rattle.std.specs.Prelude.{ℕ, zero, suc, ◌==◌, Bool, false, ◌&&◌, nat_le, if◌then◌else◌, Option, None, Some}
+use Rattle.std.specs.Prelude.{ℕ, ◌==◌, Bool, false, ◌&&◌, if◌then◌else◌, Option, None, Some}
 use Rattle.ax25_link.specs.Calls.{after_hang_up, after_push}
 use Rattle.ax25_link.specs.Ends.{LinkEnd, free_octets, most_held}
 use Rattle.ax25_link.specs.Timer.{is_up}
 use Rattle.ftl0_packets.specs.Layout.{packet_text}
+use Rattle.packet_link.specs.Queuing.{filling}
 use Rattle.ftl0_job.specs.declared.ending.Ending.{Ending}
 use Rattle.ftl0_job.specs.Due.{DuePacket, next_due}
 use Rattle.ftl0_job.specs.Table.{JobState}
 use Rattle.ftl0_client.specs.Attempt.Attempted.{Attempted}
 
--- how many octets are free at least where DATA or DATA_END is queued
-abbrev pub enough_free : ℕ
-enough_free = 1280
-
 -- a packet that is due was queued
 abbrev pub after_due : DuePacket JobState → Attempted → Attempted
 after_due due a = record a { end = after_push a.end (packet_text due.packet); job = due.state }
 
--- what follows where a packet is due, or what stands where none is
-abbrev pub on_due : Option (DuePacket JobState) → Attempted → (DuePacket JobState → Attempted) → Attempted
-on_due None a later = a
-on_due (Some due) a later = later due
-
 -- Packets that are due are queued, one after another, while enough octets are free: so many of them at most. After the
 -- outcome none is due.
 abbrev pub queuing : ℕ → Attempted → Attempted
-queuing zero a = a
-queuing (suc more) a =
-    if nat_le enough_free (free_octets a.end) then on_due (next_due a.job) a (λ due. queuing more (after_due due a))
-    else a
+queuing more a = filling (λ at. at.end) (λ at. next_due at.job) after_due more a
 
 -- whether the job has an outcome after which the link is hung up later
 abbrev pub is_later : Option Ending → Bool

@@ -1,10 +1,11 @@
 -- What the packets of a frame make of an attempt, one after another (FTL0 1990). The link is up while they are taken.
-use Rattle.std.specs.Prelude.{ℕ, List, [], ◌∷◌, ◌++◌, length, Bool, true, false, nat_le, if◌then◌else◌}
+use Rattle.std.specs.Prelude.{ℕ, List, [], ◌∷◌, ◌++◌, Bool, true, false, if◌then◌else◌}
 use Rattle.std.specs.Prelude.{Option, None, Some}
 use Rattle.ax25_link.specs.Calls.{after_hang_up, after_push}
-use Rattle.ax25_link.specs.Ends.{LinkEnd, free_octets}
+use Rattle.ax25_link.specs.Ends.{LinkEnd}
 use Rattle.ftl0_packets.specs.Items.{kind_of_item, texts}
 use Rattle.ftl0_packets.specs.Layout.{Item}
+use Rattle.packet_link.specs.Queuing.{fits}
 use Rattle.client_notes.specs.Command.{NotesCommand}
 use Rattle.client_notes.specs.Laws.{after_all}
 use Rattle.client_notes.specs.Notes.{Lists}
@@ -13,10 +14,6 @@ use Rattle.ftl0_job.specs.declared.work.Work.{Work}
 use Rattle.ftl0_job.specs.Row.{Row, strange_ending}
 use Rattle.ftl0_job.specs.Table.{JobState, job_after, job_row}
 use Rattle.ftl0_client.specs.Attempt.Attempted.{Attempted}
-
--- whether the link has room for replies of this text
-abbrev pub fits : LinkEnd → List ℕ → Bool
-fits end text = nat_le (length text) (free_octets end)
 
 -- the end after replies of this text: they are queued where they fit, and else nothing of them is
 abbrev pub replied : LinkEnd → List ℕ → LinkEnd

@@ -1,45 +1,42 @@
 //! An attempt of a client.
 
-ghost use Rattle.std.specs.Prelude.{◌≡◌, ◌<◌, ◌≤◌, ◌++◌, false, true, length};
+ghost use Rattle.std.specs.Prelude.{◌≡◌, ◌<◌, ◌++◌, false, true};
 ghost use Rattle.std.specs.Prelude.{IfOk, IsTrue, None, OnOk};
 ghost use Rattle.ax25_frames.specs.Values.{value_of};
-ghost use Rattle.ax25_link.specs.Air.{is_information};
 ghost use Rattle.ax25_link.specs.Ends.{LinkEnd, free_octets};
 ghost use Rattle.ax25_link.specs.Kept.{Fits, GivesNext, HasStations, IsFromPeer, SameStations, StandsFor, Steps};
 ghost use Rattle.ax25_link.specs.Kept.{is_pending, most_pending};
 ghost use Rattle.ax25_link.specs.declared.state.LinkState.{LinkState};
 ghost use Rattle.ax25_link.specs.Window.{IsGoodK, Window, window_of};
 ghost use Rattle.ftl0_packets.specs.Items.{kind_of_item};
-ghost use Rattle.ftl0_packets.specs.Reading.{is_whole, packets_of, read_item};
+ghost use Rattle.ftl0_packets.specs.Reading.{is_whole, read_item};
 ghost use Rattle.ftl0_packets.specs.Values.{item_of};
+ghost use Rattle.packet_link.specs.PacketLink.{octets_in};
 ghost use Rattle.client_notes.specs.Notes.{Lists};
 ghost use Rattle.ftl0_job.specs.JobState.{MayTake, NotesGoWith};
 ghost use Rattle.ftl0_job.specs.Table.{listing_of};
 ghost use Rattle.ftl0_client.specs.Attempt.Attempted.{Attempted, calling, outcome_by};
 ghost use Rattle.ftl0_client.specs.Attempt.AttemptState.{Becomes, Hears, HearsBy, IsAttempt, IsSomeAttempt, LeavesFit};
-ghost use Rattle.ftl0_client.specs.Attempt.AttemptState.{PutsBy, StandsForSome, is_closed};
-ghost use Rattle.ftl0_client.specs.Attempt.Feeding.{AnswersPacket, FeedsBy, KeepsFit, KeepsUp, MayAnswer, QueuesNext};
-ghost use Rattle.ftl0_client.specs.Attempt.Feeding.{Replies as HasReplied, RepliesAndParts};
-ghost use Rattle.ftl0_client.specs.Attempt.Hearing.{accepting, after_hearing, after_ticking, down_by};
+ghost use Rattle.ftl0_client.specs.Attempt.AttemptState.{PutsBy, is_closed, working};
+ghost use Rattle.ftl0_client.specs.Attempt.Feeding.{AnswersPacket, KeepsFit, KeepsUp, MayAnswer, QueuesNext};
+ghost use Rattle.ftl0_client.specs.Attempt.Feeding.{Replies as HasReplied, RepliesAndParts, TakesOctetsBy};
+ghost use Rattle.ftl0_client.specs.Attempt.Hearing.{after_hearing, after_ticking, down_by};
 ghost use Rattle.ftl0_client.specs.Attempt.Hearing.{packets_heard, ticking};
 ghost use Rattle.ftl0_client.specs.Attempt.Settling.{is_later as is_to_part_later, parting_later, queuing, settled};
 ghost use Rattle.ftl0_client.specs.Attempt.Taking.{parting, taking};
 
 use crate::attempt::AttemptOutcome;
 use arrayvec::ArrayVec;
-use ax25_frames::{Frame, Kind};
-use ax25_link::{Heard, Link, LinkState, Why};
+use ax25_frames::Frame;
+use ax25_link::{Heard, LinkState, Why, information};
 use client_notes::Notes;
 use disk_model::Disk;
 use ftl0_job::{Ending, Job, JobStop, Replies};
-use ftl0_packets::laws::stream_law;
-use ftl0_packets::{Malformed, Packet, PacketFed, PacketReader};
+use ftl0_packets::{Malformed, Packet};
+use packet_link::PacketLink;
 use px_base::{Call, OutOfMemory};
 use std::alloc::Global;
 use std::marker::Model;
-
-/// How many octets are free on the link at least where DATA or DATA_END is queued.
-const ENOUGH_FREE: usize = 1280;
 
 /// How many octets are free on a link on which nothing is queued or unacknowledged.
 const ALL_FREE: usize = 4096;
@@ -48,8 +45,7 @@ const ALL_FREE: usize = 4096;
 /// of the attempts of the definitions that it stands for, whose links have all that was pushed, sent and taken.
 #[derive(Drop)]
 pub struct Attempt {
-    link: Link,
-    reader: PacketReader,
+    link: PacketLink,
     job: Job,
     /// Why the link went down, where it did before the job had an outcome.
     down: Option<Why>,
@@ -60,11 +56,9 @@ impl Model for Attempt {
 
     ghost Value = { AttemptState };
 
-    ghost use Rattle.ftl0_client.specs.Attempt.Inside.{IsInside, attempt_state};
+    ghost use Rattle.ftl0_client.specs.Attempt.Inside.{attempt_state};
 
     ghost view = { attempt_state };
-
-    ghost invariant = { IsInside };
 }
 
 impl Attempt {
@@ -82,10 +76,9 @@ impl Attempt {
         ensures stations { IfOk result (λ attempt. HasStations attempt.link true me server k) }
         ensures job { IfOk result (λ attempt. attempt.job ≡ job) }
     {
-        let link = Link::call(alloc, me, server, k)?;
+        let link = PacketLink::call(alloc, me, server, k)?;
         Ok(Attempt {
             link,
-            reader: PacketReader::new(),
             job,
             down: None,
         })
@@ -118,7 +111,8 @@ impl Attempt {
         ensures puts { PutsBy D.Disk disk.old disk.new result }
 
         // What the next event needs.
-        ensures fit { LeavesFit D.Disk notes.new disk.new self.old.link self.new.link self.new.job result }
+        ensures fit { LeavesFit D.Disk (working self.old.link self.old.job notes.old disk.old)
+            (working self.new.link self.new.job notes.new disk.new) result }
     {
         self.take_frame(disk, notes, frame)?;
         self.settle();
@@ -196,7 +190,7 @@ impl Attempt {
     pub fn fits_law(&self)
         ensures { Fits self.now.link }
     {
-        let _ = self.link.state();
+        self.link.stands_law();
     }
 
     /// A law, which does nothing: it stands for some attempt of the definitions, whatever was heard, and whatever
@@ -204,7 +198,7 @@ impl Attempt {
     pub fn some_law(&self)
         ensures { IsSomeAttempt self.now }
     {
-        let _ = self.link.state();
+        self.link.stands_law();
     }
 
     /// Hears a frame, but for what is done at the end of the event.
@@ -223,11 +217,21 @@ impl Attempt {
             (after_hearing w a (value_of frame.now)) (packets_heard w a (value_of frame.now))
             notes.old notes.new disk.old disk.new self.new result }
         ensures puts { PutsBy D.Disk disk.old disk.new result }
-        ensures fit { LeavesFit D.Disk notes.new disk.new self.old.link self.new.link self.new.job result }
+        ensures fit { LeavesFit D.Disk (working self.old.link self.old.job notes.old disk.old)
+            (working self.new.link self.new.job notes.new disk.new) result }
     {
         match self.link.take(frame) {
             Heard::Nothing | Heard::Opened | Heard::Reopened => Ok(()),
-            Heard::Bytes => self.take_octets(disk, notes, information(frame)),
+            Heard::Bytes => {
+                self.link.stands_law();
+                take_packets(
+                    &mut self.link,
+                    &mut self.job,
+                    disk,
+                    notes,
+                    information(frame),
+                )
+            }
             Heard::Closed(why) => {
                 self.close(why);
                 Ok(())
@@ -256,58 +260,6 @@ impl Attempt {
         }
     }
 
-    /// Takes the packets that these octets, next in the stream, finish, and queues the replies to them.
-    fn take_octets<D: Disk>(
-        &mut self,
-        disk: &mut D,
-        notes: &mut Notes,
-        octets: &[u8],
-    ) -> Result<(), JobStop>
-        requires { MayAnswer D.Disk notes.old disk.old self.old.link self.old.job }
-        ensures hears { (w : Window) (a : Attempted) → IsAttempt w self.old a →
-            HearsBy D.Disk w
-            (taking notes.old.lists (accepting a octets.now) (packets_of (a.rest ++ octets.now)))
-            (accepting a octets.now) (packets_of (a.rest ++ octets.now))
-            notes.old notes.new disk.old disk.new self.new result }
-        ensures fit { LeavesFit D.Disk notes.new disk.new self.old.link self.new.link self.new.job result }
-    {
-        // Whatever is accepted is a stream of packets, and no packet is whole of what waits before and after it.
-        stream_law();
-        let _ = &self.reader;
-        let mut piece = octets;
-        while !piece.is_empty() {
-            let taken = self.feed(disk, notes, piece)?;
-            piece = piece.split_at(taken).1;
-        }
-        let _ = &self.reader;
-        Ok(())
-    }
-
-    /// Takes octets up to the end of the packet under way, and the packet where it is whole, and tells how many they
-    /// are.
-    fn feed<D: Disk>(
-        &mut self,
-        disk: &mut D,
-        notes: &mut Notes,
-        piece: &[u8],
-    ) -> Result<usize, JobStop>
-        requires some { 0 < length piece.now }
-        requires may { MayAnswer D.Disk notes.old disk.old self.old.link self.old.job }
-        ensures taken { IfOk result (λ taken. (0 < taken) × (taken ≤ length piece.now)) }
-        ensures feeds { FeedsBy D.Disk self.old self.new piece.now notes.old notes.new disk.old disk.new result }
-        ensures up { OnOk result (self.new.job.ending ≡ None → self.new.link.state ≡ LinkState.Up) }
-        ensures fit { LeavesFit D.Disk notes.new disk.new self.old.link self.new.link self.new.job result }
-    {
-        let (taken, fed) = self.reader.feed(piece);
-        match fed {
-            PacketFed::More => Ok(taken),
-            PacketFed::Whole => {
-                answer(&self.reader, &mut self.link, &mut self.job, disk, notes)?;
-                Ok(taken)
-            }
-        }
-    }
-
     /// The end of an event: while the link is up what is due is queued, and the link is hung up where that was to be
     /// done later.
     fn settle(&mut self)
@@ -323,8 +275,7 @@ impl Attempt {
 
     /// Queues DATA and DATA_END that are due, one after another, while enough octets are free.
     fn queue_due(&mut self)
-        requires some { StandsForSome self.old.link }
-        requires up { self.old.link.state ≡ LinkState.Up }
+        requires { self.old.link.state ≡ LinkState.Up }
         ensures queues { Becomes self.old self.new (λ w a. queuing (free_octets a.end) a) }
         ensures keeps { KeepsUp self.old self.new }
     {
@@ -338,7 +289,7 @@ impl Attempt {
         ensures next { QueuesNext self.old self.new result }
         ensures keeps { KeepsUp self.old self.new }
     {
-        if self.link.free() < ENOUGH_FREE {
+        if !self.link.has_room() {
             return false;
         }
         let mut packet = ArrayVec::new();
@@ -361,25 +312,48 @@ impl Attempt {
     }
 }
 
+/// Takes the packets that these octets, next in the stream, finish, and queues the replies to them.
+fn take_packets<D: Disk>(
+    link: &mut PacketLink,
+    job: &mut Job,
+    disk: &mut D,
+    notes: &mut Notes,
+    octets: &[u8],
+) -> Result<(), JobStop>
+    requires { MayAnswer D.Disk (working link.old.link job.old notes.old disk.old) }
+    ensures takes { TakesOctetsBy D.Disk (octets_in link.old ++ octets.now) (octets_in link.new)
+        (working link.old.link job.old notes.old disk.old) (working link.new.link job.new notes.new disk.new) result }
+    ensures fit { LeavesFit D.Disk (working link.old.link job.old notes.old disk.old)
+        (working link.new.link job.new notes.new disk.new) result }
+{
+    let mut piece = octets;
+    while let Some(left) = link.next_packet(piece) {
+        answer(link, job, disk, notes)?;
+        piece = left;
+    }
+    Ok(())
+}
+
 /// Takes the packet that is whole, and queues the replies to it. After the outcome it is passed over.
 fn answer<D: Disk>(
-    reader: &PacketReader,
-    link: &mut Link,
+    link: &mut PacketLink,
     job: &mut Job,
     disk: &mut D,
     notes: &mut Notes,
 ) -> Result<(), JobStop>
-    requires whole { IsTrue (is_whole reader.now) }
-    requires may { MayAnswer D.Disk notes.old disk.old link.old job.old }
-    ensures answers { AnswersPacket D.Disk (read_item reader.now) notes.old notes.new disk.old disk.new link.old
-        link.new job.old job.new result }
-    ensures up { OnOk result (job.new.ending ≡ None → link.new.state ≡ LinkState.Up) }
-    ensures fit { LeavesFit D.Disk notes.new disk.new link.old link.new job.new result }
+    requires whole { IsTrue (is_whole link.old.reader) }
+    requires may { MayAnswer D.Disk (working link.old.link job.old notes.old disk.old) }
+    ensures answers { AnswersPacket D.Disk (read_item link.old.reader)
+        (working link.old.link job.old notes.old disk.old) (working link.new.link job.new notes.new disk.new) result }
+    ensures up { OnOk result (job.new.ending ≡ None → link.new.link.state ≡ LinkState.Up) }
+    ensures fit { LeavesFit D.Disk (working link.old.link job.old notes.old disk.old)
+        (working link.new.link job.new notes.new disk.new) result }
+    ensures reader { link.new.reader ≡ link.old.reader }
 {
     if job.ending().is_some() {
         return Ok(());
     }
-    let packet = reader.packet();
+    let packet = link.packet();
     let kind = kind_of(&packet);
     let mut replies = Replies::new();
     job.take(disk, packet, notes, &mut replies)?;
@@ -389,14 +363,14 @@ fn answer<D: Disk>(
 
 /// Queues replies to a packet of this type, or loses them where the link has no room for them; and hangs the link up
 /// where the job's outcome asks for that at once.
-fn reply(link: &mut Link, job: &mut Job, text: &[u8], kind: u8)
-    requires some { StandsForSome link.old }
-    requires up { link.old.state ≡ LinkState.Up }
-    ensures replies { (w : Window) (end : LinkEnd) → StandsFor w link.old end →
-        RepliesAndParts kind text.now job.old job.new w end link.new }
-    ensures up { job.new.ending ≡ None → link.new.state ≡ LinkState.Up }
+fn reply(link: &mut PacketLink, job: &mut Job, text: &[u8], kind: u8)
+    requires { link.old.link.state ≡ LinkState.Up }
+    ensures replies { (w : Window) (end : LinkEnd) → StandsFor w link.old.link end →
+        RepliesAndParts kind text.now job.old job.new w end link.new.link }
+    ensures up { job.new.ending ≡ None → link.new.link.state ≡ LinkState.Up }
     ensures notes_are { (lists : Lists) → NotesGoWith lists job.old → NotesGoWith lists job.new }
-    ensures stations { SameStations link.old link.new }
+    ensures stations { SameStations link.old.link link.new.link }
+    ensures reader { link.new.reader ≡ link.old.reader }
 {
     queue_replies(link, job, text, kind);
     hang_up_at_once(link, job.ending());
@@ -404,14 +378,14 @@ fn reply(link: &mut Link, job: &mut Job, text: &[u8], kind: u8)
 
 /// Queues replies to a packet of this type. Where the link has no room for them nothing of them is queued, and the
 /// packet is strange.
-fn queue_replies(link: &mut Link, job: &mut Job, text: &[u8], kind: u8)
-    requires some { StandsForSome link.old }
-    requires up { link.old.state ≡ LinkState.Up }
-    ensures replies { (w : Window) (end : LinkEnd) → StandsFor w link.old end →
-        HasReplied kind text.now job.old job.new w end link.new }
+fn queue_replies(link: &mut PacketLink, job: &mut Job, text: &[u8], kind: u8)
+    requires { link.old.link.state ≡ LinkState.Up }
+    ensures replies { (w : Window) (end : LinkEnd) → StandsFor w link.old.link end →
+        HasReplied kind text.now job.old job.new w end link.new.link }
     ensures notes_are { (lists : Lists) → NotesGoWith lists job.old → NotesGoWith lists job.new }
-    ensures up { link.new.state ≡ LinkState.Up }
-    ensures stations { SameStations link.old link.new }
+    ensures up { link.new.link.state ≡ LinkState.Up }
+    ensures stations { SameStations link.old.link link.new.link }
+    ensures reader { link.new.reader ≡ link.old.reader }
 {
     if text.len() > link.free() {
         job.lose_reply(kind);
@@ -421,11 +395,12 @@ fn queue_replies(link: &mut Link, job: &mut Job, text: &[u8], kind: u8)
 }
 
 /// Hangs the link up where the job ended so that it is to be done at once.
-fn hang_up_at_once(link: &mut Link, ending: Option<Ending>)
-    requires { link.old.state ≡ LinkState.Up }
-    ensures parts { Steps link.old link.new (λ w end. parting ending end) }
+fn hang_up_at_once(link: &mut PacketLink, ending: Option<Ending>)
+    requires { link.old.link.state ≡ LinkState.Up }
+    ensures parts { Steps link.old.link link.new.link (λ w end. parting ending end) }
     ensures stays { ending ≡ None → link.new ≡ link.old }
-    ensures stations { SameStations link.old link.new }
+    ensures stations { SameStations link.old.link link.new.link }
+    ensures reader { link.new.reader ≡ link.old.reader }
 {
     if let Some(ending) = ending {
         if !ending.later {
@@ -451,16 +426,5 @@ fn kind_of(packet: &Result<Packet<'_>, Malformed>) -> u8
     match packet {
         Ok(packet) => packet.kind(),
         Err(malformed) => malformed.kind,
-    }
-}
-
-/// The information of an I frame.
-fn information<'a>(frame: &Frame<'a>) -> &'a [u8]
-    ensures { IsTrue (is_information (value_of frame.now).kind.control)
-        → result.now ≡ (value_of frame.now).kind.information }
-{
-    match frame.kind {
-        Kind::I { info, .. } => info,
-        _ => &[],
     }
 }

@@ -7,8 +7,7 @@ use Rattle.px_base.specs.CallSign.{CallSign}
 use Rattle.disk_model.specs.declared.disk.Disk.{Ghosts}
 use Rattle.ax25_link.specs.Calls.{after_abandon, after_push}
 use Rattle.ax25_link.specs.Ends.{LinkEnd}
-use Rattle.ax25_link.specs.declared.state.LinkState.TheVariants.{Up}
-use Rattle.ax25_link.specs.Kept.{Kept, StandsFor, Steps, Tells}
+use Rattle.ax25_link.specs.Kept.{Kept, StandsFor}
 use Rattle.ax25_link.specs.Window.{Window}
 use Rattle.ftl0_packets.specs.Items.{texts}
 use Rattle.ftl0_packets.specs.Layout.{Item}
@@ -25,7 +24,7 @@ use Rattle.ftl0_session.specs.Taking.{TakesPacket, Working, row_over, working}
 use Rattle.ftl0_session.proofs.WorkingLemmas.{taken-among, taken-cut, taken-none}
 use Rattle.ftl0_server.specs.declared.connection.fate.Fate.{Fate}
 use Rattle.ftl0_server.specs.declared.connection.fate.Fate.TheVariants.{Stays, Ends}
-use Rattle.ftl0_server.specs.Connection.ConnectionState.{IsAfter, StandsForSome, is_over, with_nothing_left}
+use Rattle.ftl0_server.specs.Connection.ConnectionState.{IsAfter, is_over, with_nothing_left}
 use Rattle.ftl0_server.specs.Connection.Feeding.{IsAmong, TakesPackets}
 use Rattle.ftl0_server.specs.Connection.Hearing.{progressed}
 use Rattle.ftl0_server.specs.Connection.Taking.{Progress, fails, fits, goes_on, replied, resting, taking}
@@ -125,23 +124,6 @@ pub takes-read : {D : Type 0} (g : Ghosts D) (w : Window) (end : LinkEnd) (momen
     → TakesPackets g w moment session store store_n lists lists_n end (read ∷ []) first disk disk_n link_n session_n told
 takes-read g w end moment session session_n store store_n lists lists_n disk disk_n link_n first told item read same takes =
     subst (λ (i : Item). TakesPackets g w moment session store store_n lists lists_n end (i ∷ []) first disk disk_n link_n session_n told) same takes
-
--- ---- the link after a reply
-
--- up, where the session goes on
-reply-up : (end : LinkEnd) (text : List ℕ) (enough : Bool) (fate : Fate) → end.state ≡ Up → is_over fate ≡ not enough → fate ≡ Stays
-    → (if enough then after_push end text else after_abandon end).state ≡ Up
-reply-up end text true fate up over stays = up
-reply-up end text false fate up over stays = absurd (let same : is_over Stays ≡ true = ap is_over (sym stays) ∙ over in cc)
-
-module _ (link link_n : Kept) (text : List ℕ) (some : StandsForSome link) (queued : Steps link link_n (λ w end. replied end text)) where
-  pub some-replied : StandsForSome link_n
-  some-replied = record { w = some.w; end = replied some.end text; stands = queued some.w some.end some.stands }
-
-  pub up-replied : (fate : Fate) → link.state ≡ Up → Tells link (λ w end. not (fits end text)) (is_over fate) → fate ≡ Stays → link_n.state ≡ Up
-  up-replied fate up over stays =
-      ap (λ (k : Kept). k.state) (queued some.w some.end some.stands).kept
-      ∙ reply-up some.end text (fits some.end text) fate (sym (ap (λ (k : Kept). k.state) some.stands.kept) ∙ up) (over some.w some.end some.stands) stays
 
 -- ---- the disk
 

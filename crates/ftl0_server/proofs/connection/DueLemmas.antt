@@ -1,7 +1,7 @@
 -- How a connection queues what is due, behind the packets of a frame.
-use Rattle.std.proofs.Common.{◌≡◌, ◌⊎◌, inl, inr, ℕ, zero, suc, ◌+◌, ◌<◌, ◌≤◌, Bool, true, false, List, [], ◌++◌, refl}
+use Rattle.std.proofs.Common.{◌≡◌, ◌⊎◌, inl, inr, ℕ, suc, ◌+◌, ◌<◌, ◌≤◌, Bool, true, false, List, [], ◌++◌, refl}
 use Rattle.std.proofs.Common.{ap, sym, ◌∙◌, subst, arith, append-nil}
-use Rattle.std.specs.Prelude.{All, Option, None, Some, nat_le, Result, Ok, Err, ⊤}
+use Rattle.std.specs.Prelude.{All, Some, Result, Ok, Err, ⊤}
 use Rattle.std.proofs.Math.Nat.{add-zero, add_assoc}
 use Rattle.std.proofs.lemmas.List.Elements.{All-append, All-nil, All-weaker}
 use Rattle.disk_model.specs.declared.disk.Disk.{Ghosts}
@@ -21,49 +21,21 @@ use Rattle.ftl0_session.specs.Downloads.Needs.{IsDueIn}
 use Rattle.ftl0_session.specs.declared.stop.ServerStop.{ServerStop}
 use Rattle.ftl0_session.specs.declared.stop.ServerStop.TheVariants as stop
 use Rattle.ftl0_session.specs.SessionState.{state_in}
-use Rattle.ftl0_session.specs.Table.{DuePacket, State, due_at, next_due, tells_failed_read}
+use Rattle.ftl0_session.specs.Table.{State, due_at, next_due, tells_failed_read}
 use Rattle.ftl0_server.specs.declared.connection.fate.Fate.{Fate}
 use Rattle.ftl0_server.specs.declared.connection.fate.Fate.TheVariants.{Stays, Ends}
 use Rattle.ftl0_server.specs.Connection.ConnectionState.{ConnectionState, Hears, HearsBy, IsAfter}
 use Rattle.ftl0_server.specs.Connection.Feeding.{AreFree, HearsParts, IsNothingDue, KeepsFit, Queued, QueuesDue}
 use Rattle.ftl0_server.specs.Connection.Feeding.{QueuesPacket}
 use Rattle.ftl0_server.specs.Connection.Hearing.{progressed}
-use Rattle.ftl0_server.specs.Connection.Taking.{Progress, after_due, enough_free, fails, goes_on, on_due, queued}
+use Rattle.ftl0_server.specs.Connection.Taking.{Progress, after_due, enough_free, fails, goes_on, queued}
 use Rattle.ftl0_server.specs.Connection.Taking.{queuing}
 use Rattle.ftl0_server.proofs.connection.FailureLemmas.{All-at, among-at as among-one, among-first, among-second}
 use Rattle.ftl0_server.proofs.connection.FailureLemmas.{at_part, none-writes, reads-among}
-use Rattle.ftl0_server.proofs.connection.StationLemmas.{stations-then}
+use Rattle.packet_link.proofs.Fronts.{stations-then}
 use Rattle.ftl0_server.proofs.connection.HearsLemmas.{IsStop}
-use Rattle.ftl0_server.proofs.connection.QueuingLemmas.{KeepsRest, due_by, due-fewer, is-enough, is-fewer, queued-keeps}
-use Rattle.ftl0_server.proofs.connection.QueuingLemmas.{queued-on, queued-over, queuing-alike, queuing-keeps}
-use Rattle.ftl0_server.proofs.connection.QueuingLemmas.{same-count}
-
--- ---- nothing is queued
-
-module _ (store : Store) (failures : List Failure) (progress : Progress) where
-  by-none : (enough : Bool) (later : DuePacket → Progress) → due_by enough None progress later ≡ progress
-  by-none true later = refl
-  by-none false later = refl
-
-  -- nothing is due
-  pub queuing-none : (count : ℕ) → due_at store progress.state failures progress.part ≡ None → queuing count store failures progress ≡ progress
-  queuing-none zero none = refl
-  queuing-none (suc more) none =
-      ap (λ (next : Option DuePacket). due_by (nat_le enough_free (free_octets progress.end)) next progress (λ due. queuing more store failures (after_due due progress))) none
-      ∙ by-none (nat_le enough_free (free_octets progress.end)) (λ due. queuing more store failures (after_due due progress))
-
-  -- fewer octets are free
-  pub queuing-fewer : (count : ℕ) → free_octets progress.end < enough_free → queuing count store failures progress ≡ progress
-  queuing-fewer zero few = refl
-  queuing-fewer (suc more) few =
-      ap (λ (b : Bool). due_by b (due_at store progress.state failures progress.part) progress (λ due. queuing more store failures (after_due due progress))) (is-fewer progress.end few)
-
-  -- a packet is due, and is queued
-  pub queuing-one : (count : ℕ) (due : DuePacket) → enough_free ≤ free_octets progress.end → due_at store progress.state failures progress.part ≡ Some due
-      → queuing (suc count) store failures progress ≡ queuing count store failures (after_due due progress)
-  queuing-one count due enough is =
-      ap (λ (b : Bool). due_by b (due_at store progress.state failures progress.part) progress (λ d. queuing count store failures (after_due d progress))) (is-enough progress.end enough)
-      ∙ ap (λ (next : Option DuePacket). on_due next progress (λ d. queuing count store failures (after_due d progress))) is
+use Rattle.ftl0_server.proofs.connection.QueuingLemmas.{KeepsRest, queued-keeps, queued-on, queued-over, queuing-alike}
+use Rattle.ftl0_server.proofs.connection.QueuingLemmas.{queuing-fewer, queuing-keeps, queuing-next, queuing-none}
 
 module _ {D : Type 0} (g : Ghosts D) (lasts : (disk : D) → g.lasts disk disk) (on : (first second third : D) → g.lasts first second → g.lasts second third → g.lasts first third) where
   -- ---- no packet
@@ -91,9 +63,9 @@ module _ {D : Type 0} (g : Ghosts D) (lasts : (disk : D) → g.lasts disk disk) 
     pub queues-none : IsNothingDue store old.session ⊎ AreFree old.link (λ free. free < enough_free) → QueuesDue g store disk disk_n old new
     queues-none (inl none) w progress stands stood =
         still w progress stands stood
-        (sym (queuing-none (store_in store) (failed_reads []) progress (free_octets progress.end) (ap (λ (s : State). next_due (store_in store) s false) (sym stood) ∙ none false)))
+        (sym (queuing-none (store_in store) (failed_reads []) (free_octets progress.end) progress (ap (λ (s : State). next_due (store_in store) s false) (sym stood) ∙ none false)))
     queues-none (inr few) w progress stands stood =
-        still w progress stands stood (sym (queuing-fewer (store_in store) (failed_reads []) progress (free_octets progress.end) (few w progress.end stands)))
+        still w progress stands stood (sym (queuing-fewer (store_in store) (failed_reads []) (free_octets progress.end) progress (few w progress.end stands)))
 
   -- ---- one packet, and then the others
 
@@ -122,14 +94,11 @@ module _ {D : Type 0} (g : Ghosts D) (lasts : (disk : D) → g.lasts disk disk) 
         now-is =
             let free : ℕ = free_octets progress.end in
             let enough : enough_free ≤ free = one.enough w progress.end stands in
-            let fewer : free_octets next.end < free = due-fewer progress one.due enough in
             let alike : (part : ℕ) → next.part ≤ part → read_fails (failed_reads more.parts) part ≡ read_fails (failed_reads parts) part =
             λ part later.
             reads-among [] more.parts part none-writes ∙ sym (among-second next.part part (at_part one.fails progress.part) more.parts here later) ∙ sym (reads-among [] parts part none-writes) in
-            more.is_now ∙ queuing-alike (store_in store) (free_octets next.end) (failed_reads more.parts) (failed_reads parts) next alike
-            ∙ same-count (store_in store) (free_octets next.end) free (failed_reads parts) next (omega arith) (omega arith)
-            ∙ sym (queuing-one (store_in store) (failed_reads parts) progress free one.due enough is-due)
-            ∙ sym (same-count (store_in store) free (suc free) (failed_reads parts) progress (omega arith) (omega arith))
+            more.is_now ∙ queuing-alike (store_in store) (failed_reads more.parts) (free_octets next.end) (failed_reads parts) next alike
+            ∙ queuing-next (store_in store) (failed_reads parts) progress one.due is-due enough
 
         queued-one : Queued g w store disk disk_n new progress
         queued-one = record {
@@ -162,7 +131,6 @@ module _ {D : Type 0} (g : Ghosts D) (lasts : (disk : D) → g.lasts disk disk) 
     octets = second.octets ∙ first.octets;
     up = second.up;
     stations = stations-then old.link mid.link new.link first.stations second.stations;
-    some = second.some;
   }
 
   -- ---- a frame
@@ -188,9 +156,9 @@ module _ {D : Type 0} (g : Ghosts D) (lasts : (disk : D) → g.lasts disk disk) 
         reads-among [] (heard.hears.parts ++ q.parts) part none-writes ∙ among-second made.part part heard.hears.parts q.parts settled.before later ∙ sym (reads-among [] q.parts part none-writes) in
         let now_is : whole all ≡ q.now =
         ap (queued (store_in store) all) (settled.later q.parts q.behind) ∙ queued-on (store_in store) all made h.1.1.0
-        ∙ ap (λ (s : Store). queuing (free_octets made.end) s all made) stores ∙ queuing-alike (store_in store_m) (free_octets made.end) all (failed_reads q.parts) made alike ∙ sym q.is_now in
+        ∙ ap (λ (s : Store). queuing (free_octets made.end) s all made) stores ∙ queuing-alike (store_in store_m) all (free_octets made.end) (failed_reads q.parts) made alike ∙ sym q.is_now in
         let rest : KeepsRest made q.now =
-        subst (λ (p : Progress). KeepsRest made p) (sym q.is_now) (queuing-keeps (store_in store_m) (free_octets made.end) (failed_reads q.parts) made) in
+        subst (λ (p : Progress). KeepsRest made p) (sym q.is_now) (queuing-keeps (store_in store_m) (failed_reads q.parts) (free_octets made.end) made) in
         let joined : DoesAmongReads g ⊥ (made.missed + q.missed) store store_m disk disk_n (made.done ++ []) =
         among-then g on ⊥ ⊥ made.missed q.missed store store_m store_m disk disk_m disk_n made.done [] (λ never. never) h.2 q.reads in
         let does : DoesAmongReads g ⊥ q.now.missed store store_n disk disk_n q.now.done =

@@ -1,14 +1,18 @@
 -- What packets leave for the next one, and how a connection takes octets, piece by piece.
-use Rattle.std.proofs.Common.{◌≡◌, ℕ, ◌+◌, List, [], ◌++◌, length, refl, ap, sym, ◌∙◌, subst, append_assoc}
+use Rattle.std.proofs.Common.{◌≡◌, ℕ, ◌+◌, List, [], ◌∷◌, ◌++◌, length, refl, ap, sym, ◌∙◌, subst}
 use Rattle.std.specs.Prelude.{false, None, Result, Ok, Err, ⊤}
 use Rattle.std.proofs.lemmas.List.Elements.{All-nil}
 use Rattle.px_base.specs.CallSign.{CallSign}
 use Rattle.disk_model.specs.declared.disk.Disk.{Ghosts}
 use Rattle.ax25_link.specs.declared.state.LinkState.TheVariants.{Up}
+use Rattle.ax25_link.specs.Ends.{LinkEnd}
 use Rattle.ax25_link.specs.Kept.{Kept, SameStations, StandsFor}
+use Rattle.ax25_link.specs.Window.{Window}
 use Rattle.ftl0_packets.specs.Layout.{Item}
 use Rattle.ftl0_packets.specs.Reading.{packets_of, rest_of}
 use Rattle.ftl0_session.specs.Lists.Lists.{CallerList}
+use Rattle.packet_link.specs.PacketLink.{HasFront}
+use Rattle.packet_link.proofs.Fronts.{front-none, front-then, stations-same, stations-then}
 use Rattle.file_store.specs.EntriesKept.{KeepsComplete}
 use Rattle.file_store.specs.Records.{store_step}
 use Rattle.file_store.specs.Store.{Store, empty_store, entry_of}
@@ -22,13 +26,12 @@ use Rattle.ftl0_session.specs.Downloads.Needs.{AreComplete, IsDueIn}
 use Rattle.ftl0_session.specs.declared.stop.ServerStop.{ServerStop}
 use Rattle.ftl0_session.specs.declared.stop.ServerStop.TheVariants as stop
 use Rattle.ftl0_session.specs.SessionState.{MayTake as SessionMayTake, SessionState, IsFit, caller_of, new_session}
-use Rattle.ftl0_session.specs.SessionState.{state_in}
 use Rattle.ftl0_server.specs.declared.connection.fate.Fate.{Fate}
 use Rattle.ftl0_server.specs.declared.connection.fate.Fate.TheVariants.{Stays}
-use Rattle.ftl0_server.specs.Connection.ConnectionState.{ConnectionState, StandsForSome}
-use Rattle.ftl0_server.specs.Connection.Feeding.{Feeds, IsAmong, KeepsFit, LeavesFit, MayTake}
-use Rattle.ftl0_server.proofs.connection.HearsLemmas.{takes-then}
-use Rattle.ftl0_server.proofs.connection.StationLemmas.{stations-same, stations-then}
+use Rattle.ftl0_server.specs.Connection.ConnectionState.{ConnectionState}
+use Rattle.ftl0_server.specs.Connection.Feeding.{Feeds, FeedsAll, IsAmong, IsGoing, KeepsFit, LeavesFit, MayTake, TakesPackets, carrying}
+use Rattle.ftl0_server.proofs.connection.HearsLemmas.{IsStop, takes-then}
+use Rattle.ftl0_server.proofs.connection.Invariants.{IsTaking}
 
 -- ---- what is left for the next packet
 
@@ -76,13 +79,12 @@ module _ {D : Type 0} (g : Ghosts D) where
     up = λ stays. may.up;
     caller = refl;
     stations = stations-same link;
-    some = may.some;
   }
 
   -- a frame without packets was heard
   pub fit-heard : (store : StoreState) (disk : D) (lists : List CallerList) (link link_n : Kept) (session : SessionState) (fate : Fate) → g.lasts disk disk → SessionMayTake g store disk lists session
-      → (fate ≡ Stays → link_n.state ≡ Up) → SameStations link link_n → StandsForSome link_n → LeavesFit g store store lists disk disk link link_n session session (fate, Ok tt)
-  fit-heard store disk lists link link_n session fate lasts may up stations some = record {
+      → (fate ≡ Stays → link_n.state ≡ Up) → SameStations link link_n → LeavesFit g store store lists disk disk link link_n session session (fate, Ok tt)
+  fit-heard store disk lists link link_n session fate lasts may up stations = record {
     puts = puts-among g (fine ≡ Err stop.Disk) disk disk (puts_none g disk (fine ≡ Err stop.Disk) no-fault lasts);
     kept = λ number e found complete. found;
     others = others-same store (caller_of session);
@@ -91,15 +93,14 @@ module _ {D : Type 0} (g : Ghosts D) where
     up = up;
     caller = refl;
     stations = stations;
-    some = some;
   }
 
   -- a session began anew, over a store that has only given up the upload of the one before
   pub fit-anew : (store store_n : StoreState) (disk : D) (lists : List CallerList) (link link_n : Kept) (session session_n : SessionState) → g.lasts disk disk → SessionMayTake g store disk lists session
       → store_in store_n ≡ store_in store → store_n.journal ≡ store.journal → session_n ≡ new_session (caller_of session) → NoOtherOut store_n (caller_of session) None
-      → KeepsOtherCallers store store_n (caller_of session) → link_n.state ≡ Up → SameStations link link_n → StandsForSome link_n
+      → KeepsOtherCallers store store_n (caller_of session) → link_n.state ≡ Up → SameStations link link_n
       → LeavesFit g store store_n lists disk disk link link_n session session_n (Stays, Ok tt)
-  fit-anew store store_n disk lists link link_n session session_n lasts may same journal anew only others up stations some =
+  fit-anew store store_n disk lists link link_n session session_n lasts may same journal anew only others up stations =
       let P : SessionState → Type 0 = λ s. LeavesFit g store store_n lists disk disk link link_n session s (Stays, Ok tt) in
       subst P (sym anew) (record {
         puts = puts-among g (fine ≡ Err stop.Disk) disk disk (puts_none g disk (fine ≡ Err stop.Disk) no-fault lasts);
@@ -117,13 +118,12 @@ module _ {D : Type 0} (g : Ghosts D) where
         up = λ stays. up;
         caller = refl;
         stations = stations;
-        some = some;
       })
 
   -- nothing was queued
   pub keeps-none : (store : StoreState) (disk : D) (now : ConnectionState) → g.lasts disk disk → StandsOn g store disk → IsDueIn (store_in store) now.session.downloads → now.link.state ≡ Up
-      → StandsForSome now.link → KeepsFit g store store disk disk now now
-  keeps-none store disk now lasts stands_on due up some = record {
+      → KeepsFit g store store disk disk now now
+  keeps-none store disk now lasts stands_on due up = record {
     same = refl;
     puts = puts-among g ⊥ disk disk (puts_none g disk ⊥ (λ never. never) lasts);
     stands_on = stands_on;
@@ -132,14 +132,13 @@ module _ {D : Type 0} (g : Ghosts D) where
     octets = refl;
     up = up;
     stations = stations-same now.link;
-    some = some;
   }
 
   -- what the next packet needs
   pub may-next : (store store_n : StoreState) (disk disk_n : D) (lists_n : List CallerList) (link link_n : Kept) (session session_n : SessionState)
       → LeavesFit g store store_n lists_n disk disk_n link link_n session session_n (Stays, Ok tt) → MayTake g store_n disk_n lists_n link_n session_n
   may-next store store_n disk disk_n lists_n link link_n session session_n fit =
-      record { up = fit.up refl; some = fit.some; may = may-kept store_n disk_n lists_n session_n (fit.healthy no-fault) fit.fit }
+      record { up = fit.up refl; may = may-kept store_n disk_n lists_n session_n (fit.healthy no-fault) fit.fit }
 
   module _ (on : (first second third : D) → g.lasts first second → g.lasts second third → g.lasts first third) where
     -- one part, and then another
@@ -155,7 +154,6 @@ module _ {D : Type 0} (g : Ghosts D) where
       up = second.up;
       caller = second.caller ∙ first.caller;
       stations = stations-then link link_m link_n first.stations second.stations;
-      some = second.some;
     }
 
     -- packets, and then what is due behind them
@@ -179,39 +177,59 @@ module _ {D : Type 0} (g : Ghosts D) where
           up = λ stays. second.up;
           caller = ap (λ (u : Uploading). u.caller) second.uploads ∙ first.caller;
           stations = stations-then link mid.link now.link first.stations second.stations;
-          some = second.some;
         })
 
     -- ---- octets
 
-    -- no packet is whole yet
-    pub feeds-none : (moment : ℕ) (a b : ConnectionState) (store : StoreState) (lists : List CallerList) (disk : D) → g.lasts disk disk → store.journal.failed ≡ false → StandsOn g store disk
-        → packets_of a.octets ≡ packets_of b.octets → rest_of a.octets ≡ rest_of b.octets → b.link ≡ a.link → b.session ≡ a.session
-        → Feeds g moment a b store store lists lists disk disk (Stays, Ok tt)
-    feeds-none moment a b store lists disk lasts healthy stands_on packets rest link session = record {
-      items = [];
-      packets = packets;
-      rest = rest;
-      takes = λ w end first stands. record {
-        parts = [];
-        among = All-nil (IsAmong first 0);
-        by = (
-          refl,
-          (refl, (refl, record { link = subst (λ (k : Kept). StandsFor w k end) (sym link) stands; rest = refl; state = ap (state_in store) session })),
-          does-among g ⊥ store store disk disk [] (Does-none g ⊥ store disk (λ never. never) stands_on healthy lasts),
-        );
-      };
-    }
+    module _ (moment : ℕ) (store : StoreState) (lists : List CallerList) (disk : D) (old : ConnectionState) where
+      -- no packet was taken
+      pub taking-start : g.lasts disk disk → MayTake g store disk lists old.link old.session → IsTaking g moment old old store store lists lists disk disk
+      taking-start lasts may = record {
+        feeds = record {
+          items = [];
+          front = front-none old.octets;
+          takes = λ w end first stands. record {
+            parts = [];
+            among = All-nil (IsAmong first 0);
+            by = (
+              refl,
+              (refl, (refl, record { link = stands; rest = refl; state = refl })),
+              does-among g ⊥ store store disk disk [] (Does-none g ⊥ store disk (λ never. never) may.may.stands_on may.may.healthy lasts),
+            );
+          };
+        };
+        fit = fit-none store disk lists old.link old.session lasts may;
+      }
 
-    -- some packets, and then others
-    pub feeds-then : (moment : ℕ) (a b c : ConnectionState) (store store_m store_n : StoreState) (lists lists_m lists_n : List CallerList) (disk disk_m disk_n : D) (told : Fate × Result ⊤ ServerStop)
-        → caller_of b.session ≡ caller_of a.session → Feeds g moment a b store store_m lists lists_m disk disk_m (Stays, Ok tt) → Feeds g moment b c store_m store_n lists_m lists_n disk_m disk_n told
-        → Feeds g moment a c store store_n lists lists_n disk disk_n told
-    feeds-then moment a b c store store_m store_n lists lists_m lists_n disk disk_m disk_n told callers first second = record {
-      items = first.items ++ second.items;
-      packets = first.packets ∙ ap (λ (items : List Item). first.items ++ items) second.packets ∙ sym (append_assoc first.items second.items (packets_of c.octets));
-      rest = first.rest ∙ second.rest;
-      takes = λ w end from stands.
-          takes-then g on w moment a.session b.session c.session store store_m store_n lists lists_m lists_n disk disk_m disk_n b.link c.link end first.items second.items from callers
-          (first.takes w end from stands) told (λ next there. second.takes w next (from + length first.items) there);
-    }
+      -- some packets, and then one
+      module _ (mid now : ConnectionState) (store_m store_n : StoreState) (lists_m lists_n : List CallerList) (disk_m disk_n : D) (told : Fate × Result ⊤ ServerStop) (item : Item)
+          (h : IsTaking g moment old mid store store_m lists lists_m disk disk_m) (front : HasFront mid.octets now.octets (item ∷ []))
+          (takes : (w : Window) (end : LinkEnd) (first : ℕ) → StandsFor w mid.link end
+          → TakesPackets g w moment mid.session store_m store_n lists_m lists_n end (item ∷ []) first disk_m disk_n now.link now.session told) where
+        feeds-one : Feeds g moment old now store store_n lists lists_n disk disk_n told
+        feeds-one = record {
+          items = h.feeds.items ++ item ∷ [];
+          front = front-then old.octets mid.octets now.octets h.feeds.items (item ∷ []) h.feeds.front front;
+          takes = λ w end from stands.
+              takes-then g on w moment old.session mid.session now.session store store_m store_n lists lists_m lists_n disk disk_m disk_n mid.link now.link end h.feeds.items (item ∷ []) from h.fit.caller
+              (h.feeds.takes w end from stands) told (λ next there. takes w next (from + length h.feeds.items) there);
+        }
+
+        module _ (fit : LeavesFit g store_m store_n lists_n disk_m disk_n mid.link now.link mid.session now.session told) where
+          pub fit-all : LeavesFit g store store_n lists_n disk disk_n old.link now.link old.session now.session told
+          fit-all = fit-then store store_m store_n disk disk_m disk_n lists_m lists_n old.link mid.link now.link old.session mid.session now.session told h.fit fit
+
+          pub taking-next : IsGoing told → IsTaking g moment old now store store_n lists lists_n disk disk_n
+          taking-next going =
+              let P : Fate × Result ⊤ ServerStop → Type 0 =
+              λ t. Feeds g moment old now store store_n lists lists_n disk disk_n t × LeavesFit g store store_n lists_n disk disk_n old.link now.link old.session now.session t in
+              let at : P (Stays, Ok tt) = subst P going (feeds-one, fit-all) in
+              record { feeds = at.0; fit = at.1 }
+
+        pub taking-stops : (rest : List ℕ) → IsStop told → FeedsAll g moment old (carrying now.link rest now.session) store store_n lists lists_n disk disk_n told
+        taking-stops rest stops = record { left = now.octets; feeds = feeds-one; none = λ going. absurd (stops going); rest = λ going. absurd (stops going) }
+
+      -- all were taken
+      pub taking-ends : (now : ConnectionState) (store_n : StoreState) (lists_n : List CallerList) (disk_n : D) (rest : List ℕ) → IsTaking g moment old now store store_n lists lists_n disk disk_n
+          → packets_of now.octets ≡ [] → rest_of now.octets ≡ rest → FeedsAll g moment old (carrying now.link rest now.session) store store_n lists lists_n disk disk_n (Stays, Ok tt)
+      taking-ends now store_n lists_n disk_n rest h none behind = record { left = now.octets; feeds = h.feeds; none = λ going. none; rest = λ going. behind }

@@ -1,5 +1,5 @@
 -- How a connection hears a frame.
-use Rattle.std.proofs.Common.{◌≡◌, ◌⊎◌, inl, inr, ℕ, ◌<◌, Bool, false, true, List, [], ◌++◌, refl, ap, sym, ◌∙◌, subst}
+use Rattle.std.proofs.Common.{◌≡◌, ◌⊎◌, inl, inr, ℕ, ◌<◌, false, true, List, [], ◌++◌, refl, ap, sym, ◌∙◌, subst}
 use Rattle.std.specs.Prelude.{Result, Ok, ⊤}
 use Rattle.std.proofs.lemmas.List.Elements.{All-nil}
 use Rattle.px_base.specs.CallSign.{CallSign}
@@ -24,8 +24,8 @@ use Rattle.ftl0_session.specs.declared.stop.ServerStop.{ServerStop}
 use Rattle.ftl0_session.specs.Table.{State}
 use Rattle.ftl0_server.specs.declared.connection.fate.Fate.{Fate}
 use Rattle.ftl0_server.specs.declared.connection.fate.Fate.TheVariants.{Stays, Ends}
-use Rattle.ftl0_server.specs.Connection.Connected.{Connected, beginning, greeted}
-use Rattle.ftl0_server.specs.Connection.ConnectionState.{ConnectionState, IsConnection, StandsForSome}
+use Rattle.ftl0_server.specs.Connection.Connected.{Connected, beginning}
+use Rattle.ftl0_server.specs.Connection.ConnectionState.{ConnectionState, IsConnection}
 use Rattle.ftl0_server.specs.Connection.Feeding.{HearsParts, IsSettled}
 use Rattle.ftl0_server.specs.Connection.Hearing.{parts_as, parts_of_frame, rest_as, rest_of_frame, taking_octets}
 use Rattle.ftl0_server.specs.Connection.Hearing.{with_end}
@@ -109,9 +109,3 @@ pub anew-at : (w : Window) (store : StoreState) (connection : ConnectionState) (
     → IsConnection w store connection (beginning end moment (has_left lists caller)) → IsConnection w store connection (beginning end moment (has_left lists peer))
 anew-at w store connection end moment lists caller peer same is =
     subst (λ (c : CallSign). IsConnection w store connection (beginning end moment (has_left lists c))) same is
-
--- its link stands for some end
-pub begun-some : (store : StoreState) (link : Kept) (connection : ConnectionState) (moment : ℕ) (left : Bool) → StandsForSome link
-    → ((w : Window) (end : LinkEnd) → StandsFor w link end → IsConnection w store connection (beginning end moment left)) → StandsForSome connection.link
-begun-some store link connection moment left some begins =
-    record { w = some.w; end = greeted some.end moment left; stands = (begins some.w some.end some.stands).link }

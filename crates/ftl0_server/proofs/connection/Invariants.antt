@@ -6,13 +6,12 @@ use Rattle.ftl0_session.specs.Lists.Lists.{CallerList}
 use Rattle.file_store.specs.State.{StoreState}
 use Rattle.ftl0_server.specs.declared.connection.fate.Fate.TheVariants.{Stays}
 use Rattle.ftl0_server.specs.Connection.ConnectionState.{ConnectionState}
-use Rattle.ftl0_server.specs.Connection.Feeding.{Feeds, KeepsFit, LeavesFit, QueuesDue, with_octets}
+use Rattle.ftl0_server.specs.Connection.Feeding.{Feeds, KeepsFit, LeavesFit, QueuesDue}
 
 -- From old to now packets were taken from the front of the octets, and these are left.
-pub record IsTaking {D : Type 0} (g : Ghosts D) (moment : ℕ) (old now : ConnectionState) (octets left : List ℕ) (store store_now : StoreState) (lists lists_now : List CallerList) (disk disk_now : D) : Type 0
-  where
-    pub feeds : Feeds g moment (with_octets old octets) (with_octets now left) store store_now lists lists_now disk disk_now (Stays, Ok tt)
-    pub fit : LeavesFit g store store_now lists_now disk disk_now old.link now.link old.session now.session (Stays, Ok tt)
+pub record IsTaking {D : Type 0} (g : Ghosts D) (moment : ℕ) (old now : ConnectionState) (store store_now : StoreState) (lists lists_now : List CallerList) (disk disk_now : D) : Type 0 where
+  pub feeds : Feeds g moment old now store store_now lists lists_now disk disk_now (Stays, Ok tt)
+  pub fit : LeavesFit g store store_now lists_now disk disk_now old.link now.link old.session now.session (Stays, Ok tt)
 
 -- From old to now packets that were due were queued: whatever is queued of what is due from now on, with them it is what was due.
 pub record IsQueuing {D : Type 0} (g : Ghosts D) (old now : ConnectionState) (store store_now : StoreState) (disk disk_now : D) : Type 0 where

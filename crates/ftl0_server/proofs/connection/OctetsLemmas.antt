@@ -1,15 +1,13 @@
--- The loop over the octets of a frame.
-use Rattle.std.proofs.Common.{◌≡◌, ℕ, suc, true, List, [], ◌∷◌, ◌++◌, length, drop, refl, sym, ap, ◌∙◌, subst, arith}
-use Rattle.std.proofs.Common.{append-nil}
-use Rattle.std.specs.Prelude.{Result, Ok, ⊤, nat_eq}
-use Rattle.std.proofs.lemmas.Bool.Decides.{nat_tests}
+-- What the packets of the octets of a frame make of a connection.
+use Rattle.std.proofs.Common.{◌≡◌, ◌⊎◌, inl, inr, ℕ, List, ◌++◌, Ok, Err, refl, ap, sym, ◌∙◌, subst}
+use Rattle.std.specs.Prelude.{Result, ⊤}
 use Rattle.px_base.specs.CallSign.{CallSign}
 use Rattle.disk_model.specs.declared.disk.Disk.{Ghosts}
-use Rattle.ax25_link.specs.Ends.{LinkEnd}
 use Rattle.ax25_link.specs.Kept.{Kept}
 use Rattle.ax25_link.specs.Window.{Window}
 use Rattle.ftl0_packets.specs.Layout.{Item}
 use Rattle.ftl0_packets.specs.Reading.{packets_of, rest_of}
+use Rattle.packet_link.proofs.Fronts.{front-whole}
 use Rattle.ftl0_session.specs.Lists.Lists.{CallerList}
 use Rattle.file_store.specs.State.{StoreState, store_in}
 use Rattle.ftl0_session.specs.Uploads.Failures.{Failure}
@@ -17,99 +15,72 @@ use Rattle.ftl0_session.specs.declared.stop.ServerStop.{ServerStop}
 use Rattle.ftl0_session.specs.SessionState.{caller_of, state_in}
 use Rattle.ftl0_session.specs.Table.{State}
 use Rattle.ftl0_server.specs.declared.connection.fate.Fate.{Fate}
-use Rattle.ftl0_server.specs.declared.connection.fate.Fate.TheVariants.{Stays}
+use Rattle.ftl0_server.specs.declared.connection.fate.Fate.TheVariants.{Stays, Ends}
 use Rattle.ftl0_server.specs.Connection.Connected.{Connected}
-use Rattle.ftl0_server.specs.Connection.ConnectionState.{ConnectionState, IsConnection, IsWaiting}
-use Rattle.ftl0_server.specs.Connection.Feeding.{Feeds, HearsParts, IsGoing, LeavesFit, MayTake, with_octets}
+use Rattle.ftl0_server.specs.Connection.ConnectionState.{ConnectionState, IsConnection}
+use Rattle.ftl0_server.specs.Connection.Feeding.{FeedsAll, HearsParts, IsGoing, TakesPackets, carrying}
 use Rattle.ftl0_server.specs.Connection.Hearing.{taking_octets}
 use Rattle.ftl0_server.specs.Connection.Taking.{Progress, taking}
-use Rattle.ftl0_server.proofs.connection.FeedLemmas.{feeds-none, feeds-then, fit-none, fit-then}
 use Rattle.ftl0_server.proofs.connection.HearsLemmas.{IsStop, parts-stopped, parts-whole}
-use Rattle.ftl0_server.proofs.connection.Invariants.{IsTaking}
 
--- no items are none
-pub is-nil : {X : Type 0} (xs : List X) → nat_eq (length xs) 0 ≡ true → xs ≡ []
-is-nil [] e = refl
-is-nil (x ∷ xs) e = absurd (let zero : suc (length xs) ≡ 0 = grind (arith, nat_tests) in omega arith)
+-- the connection goes on, or it stops
+going-or : (told : Fate × Result ⊤ ServerStop) → IsGoing told ⊎ IsStop told
+going-or (Stays, Ok done) = inl refl
+going-or (Stays, Err why) = inr (λ going. (let same : Err why ≡ Ok tt = ap (λ (t : Fate × Result ⊤ ServerStop). t.1) going in cc same))
+going-or (Ends, result) = inr (λ going. (let same : Ends ≡ Stays = ap (λ (t : Fate × Result ⊤ ServerStop). t.0) going in cc same))
 
--- The connection of the definitions is that of the session's caller.
-at-caller : (w : Window) (store : StoreState) (connection : ConnectionState) (c : Connected) → IsConnection w store connection c → connection.link.peer ≡ caller_of connection.session
-    → caller_of connection.session ≡ c.end.peer
-at-caller w store connection c is peer = sym peer ∙ ap (λ (k : Kept). k.peer) is.link.kept
+module _ {D : Type 0} (g : Ghosts D) (on : (first second third : D) → g.lasts first second → g.lasts second third → g.lasts first third) (moment : ℕ) (old now : ConnectionState) (octets : List ℕ)
+    (store store_n : StoreState) (lists lists_n : List CallerList) (disk disk_n : D) (told : Fate × Result ⊤ ServerStop) (peer : old.link.peer ≡ caller_of old.session) (w : Window) (c : Connected)
+    (is : IsConnection w store old c) where
+  -- what packets make of this caller's session in this state
+  abbrev taking_items : CallSign → State → List Item → List Failure → Progress
+  taking_items caller state items failures = taking caller moment (store_in store) lists state c.end items failures 0
 
-module _ {D : Type 0} (g : Ghosts D) (on : (first second third : D) → g.lasts first second → g.lasts second third → g.lasts first third) (moment : ℕ) (old : ConnectionState) (octets : List ℕ)
-    (store : StoreState) (lists : List CallerList) (disk : D) where
-  pub taking-start : g.lasts disk disk → MayTake g store disk lists old.link old.session → IsTaking g moment old old octets octets store store lists lists disk disk
-  taking-start lasts may = record {
-    feeds = feeds-none g on moment (with_octets old octets) (with_octets old octets) store lists disk lasts may.may.healthy may.may.stands_on refl refl refl refl;
-    fit = fit-none g store disk lists old.link old.session lasts may;
-  }
+  -- what was heard of these octets where these waited
+  abbrev Heard : CallSign → State → List ℕ → Type 0
+  Heard caller state waiting =
+      HearsParts g w (rest_of (waiting ++ octets)) (taking_items caller state (packets_of (waiting ++ octets))) store store_n lists_n disk disk_n now told
 
-  -- ---- what packets of all octets make of it
+  -- The connection of the definitions is that of the session's caller.
+  at-caller : caller_of old.session ≡ c.end.peer
+  at-caller = sym peer ∙ ap (λ (k : Kept). k.peer) is.link.kept
 
-  -- what packets make of this caller's session in this state, where these octets waited
-  abbrev taking_at : CallSign → State → LinkEnd → List ℕ → List Failure → Progress
-  taking_at caller state end waiting failures = taking caller moment (store_in store) lists state end (packets_of (waiting ++ octets)) failures 0
+  -- by the octets, the state and the caller of the definitions' connection
+  at-connected : Heard (caller_of old.session) (state_in store old.session) old.octets → Heard c.end.peer c.state c.rest
+  at-connected h =
+      subst (λ (waiting : List ℕ). Heard c.end.peer c.state waiting) is.rest
+      (subst (λ (state : State). Heard c.end.peer state old.octets) is.state (subst (λ (caller : CallSign). Heard caller (state_in store old.session) old.octets) at-caller h))
 
-  module _ (now : ConnectionState) (store_n : StoreState) (lists_n : List CallerList) (disk_n : D) (told : Fate × Result ⊤ ServerStop) (peer : old.link.peer ≡ caller_of old.session)
-      (w : Window) (c : Connected) (is : IsConnection w store old c) where
-    -- by the octets, the state and the caller of the definitions' connection
-    at-connected : HearsParts g w (rest_of (old.octets ++ octets)) (taking_at (caller_of old.session) (state_in store old.session) c.end old.octets) store store_n lists_n disk disk_n now told
-        → HearsParts g w (rest_of (c.rest ++ octets)) (taking_octets moment (store_in store) lists c c.end octets) store store_n lists_n disk disk_n now told
-    at-connected h =
-        let P : CallSign → State → List ℕ → Type 0 = λ caller state waiting. HearsParts g w (rest_of (waiting ++ octets)) (taking_at caller state c.end waiting) store store_n lists_n disk disk_n now told in
-        subst (λ (waiting : List ℕ). P c.end.peer c.state waiting) is.rest
-        (subst (λ (state : State). P c.end.peer state old.octets) is.state
-        (subst (λ (caller : CallSign). P caller (state_in store old.session) old.octets) (at-caller w store old c is peer) h))
+  module _ (h : FeedsAll g moment (carrying old.link (old.octets ++ octets) old.session) now store store_n lists lists_n disk disk_n told) where
+    -- the same of these packets
+    abbrev Made : List Item → Fate × Result ⊤ ServerStop → Type 0
+    Made items result =
+        HearsParts g w (rest_of (old.octets ++ octets)) (taking_items (caller_of old.session) (state_in store old.session) items) store store_n lists_n disk disk_n now result
 
-    -- the same where the packets are these
-    at-items : (items : List Item) → packets_of (old.octets ++ octets) ≡ items
-        → HearsParts g w (rest_of (old.octets ++ octets)) (λ failures. taking (caller_of old.session) moment (store_in store) lists (state_in store old.session) c.end items failures 0)
-        store store_n lists_n disk disk_n now told
-        → HearsParts g w (rest_of (c.rest ++ octets)) (taking_octets moment (store_in store) lists c c.end octets) store store_n lists_n disk disk_n now told
-    at-items items same h =
-        let P : List Item → Type 0 =
-        λ i. HearsParts g w (rest_of (old.octets ++ octets)) (λ failures. taking (caller_of old.session) moment (store_in store) lists (state_in store old.session) c.end i failures 0)
-        store store_n lists_n disk disk_n now told in
-        at-connected (subst P (sym same) h)
+    -- they stopped at a packet
+    hears-stopped : IsStop told → HearsParts g w (rest_of (c.rest ++ octets)) (taking_octets moment (store_in store) lists c c.end octets) store store_n lists_n disk disk_n now told
+    hears-stopped stops =
+        at-connected
+        (subst (λ (items : List Item). Made items told) (sym h.feeds.front.packets)
+        (parts-stopped g on w moment old.session store store_n lists lists_n disk disk_n now c.end h.feeds.items (rest_of (old.octets ++ octets)) (packets_of h.left) told stops
+        (h.feeds.takes w c.end 0 is.link)))
 
-  module _ (mid now : ConnectionState) (left : List ℕ) (taken : ℕ) (store_m store_n : StoreState) (lists_m lists_n : List CallerList) (disk_m disk_n : D) (told : Fate × Result ⊤ ServerStop)
-      (h : IsTaking g moment old mid octets left store store_m lists lists_m disk disk_m)
-      (feeds : Feeds g moment (with_octets mid left) (with_octets now (drop taken left)) store_m store_n lists_m lists_n disk_m disk_n told)
-      (fit : LeavesFit g store_m store_n lists_n disk_m disk_n mid.link now.link mid.session now.session told) where
-    feeds-all : Feeds g moment (with_octets old octets) (with_octets now (drop taken left)) store store_n lists lists_n disk disk_n told
-    feeds-all =
-        feeds-then g on moment (with_octets old octets) (with_octets mid left) (with_octets now (drop taken left)) store store_m store_n lists lists_m lists_n disk disk_m disk_n told h.fit.caller h.feeds feeds
+    -- all were taken
+    hears-whole : IsGoing told → HearsParts g w (rest_of (c.rest ++ octets)) (taking_octets moment (store_in store) lists c c.end octets) store store_n lists_n disk disk_n now told
+    hears-whole going =
+        let whole = front-whole (old.octets ++ octets) h.left now.octets h.feeds.items h.feeds.front (h.none going) (h.rest going) in
+        let Takes : Fate × Result ⊤ ServerStop → Type 0 =
+        λ t. TakesPackets g w moment old.session store store_n lists lists_n c.end h.feeds.items 0 disk disk_n now.link now.session t in
+        at-connected
+        (subst (λ (items : List Item). Made items told) whole.0
+        (subst (λ (t : Fate × Result ⊤ ServerStop). Made h.feeds.items t) (sym going)
+        (parts-whole g on w moment old.session store store_n lists lists_n disk disk_n now c.end h.feeds.items (rest_of (old.octets ++ octets)) whole.1
+        (subst Takes going (h.feeds.takes w c.end 0 is.link)))))
 
-    pub fit-all : LeavesFit g store store_n lists_n disk disk_n old.link now.link old.session now.session told
-    fit-all = fit-then g on store store_m store_n disk disk_m disk_n lists_m lists_n old.link mid.link now.link old.session mid.session now.session told h.fit fit
-
-    pub taking-next : (back : List ℕ) → back ≡ drop taken left → IsGoing told → IsTaking g moment old now octets back store store_n lists lists_n disk disk_n
-    taking-next back is same =
-        let at_feeds : Fate × Result ⊤ ServerStop → List ℕ → Type 0 = λ t o. Feeds g moment (with_octets old octets) (with_octets now o) store store_n lists lists_n disk disk_n t in
-        let at_fit : Fate × Result ⊤ ServerStop → Type 0 = λ t. LeavesFit g store store_n lists_n disk disk_n old.link now.link old.session now.session t in
-        record {
-          feeds = subst (at_feeds (Stays, Ok tt)) (sym is) (subst (λ (t : Fate × Result ⊤ ServerStop). at_feeds t (drop taken left)) same feeds-all);
-          fit = subst at_fit same fit-all;
-        }
-
-    -- the loop stops at a packet
-    pub taking-stops : IsStop told → old.link.peer ≡ caller_of old.session → (w : Window) (c : Connected) → IsConnection w store old c
-        → HearsParts g w (rest_of (c.rest ++ octets)) (taking_octets moment (store_in store) lists c c.end octets) store store_n lists_n disk disk_n now told
-    taking-stops stops peer w c is =
-        at-items now store_n lists_n disk_n told peer w c is (feeds-all.items ++ packets_of (now.octets ++ drop taken left)) feeds-all.packets
-        (parts-stopped g on w moment old.session store store_n lists lists_n disk disk_n now c.end feeds-all.items (rest_of (old.octets ++ octets)) (packets_of (now.octets ++ drop taken left)) told stops
-        (feeds-all.takes w c.end 0 is.link))
-
-  -- all octets were taken
-  pub taking-ends : (now : ConnectionState) (left : List ℕ) (store_n : StoreState) (lists_n : List CallerList) (disk_n : D) → IsTaking g moment old now octets left store store_n lists lists_n disk disk_n
-      → left ≡ [] → IsWaiting now.octets → old.link.peer ≡ caller_of old.session → (w : Window) (c : Connected) → IsConnection w store old c
-      → HearsParts g w (rest_of (c.rest ++ octets)) (taking_octets moment (store_in store) lists c c.end octets) store store_n lists_n disk disk_n now (Stays, Ok tt)
-  taking-ends now left store_n lists_n disk_n h none waiting peer w c is =
-      let feeds = h.feeds in
-      let waits : now.octets ++ left ≡ now.octets = ap (λ (o : List ℕ). now.octets ++ o) none ∙ append-nil now.octets in
-      let packets : packets_of (old.octets ++ octets) ≡ feeds.items =
-      feeds.packets ∙ ap (λ (o : List ℕ). feeds.items ++ packets_of o) waits ∙ ap (λ (items : List Item). feeds.items ++ items) waiting.none ∙ append-nil feeds.items in
-      let rest : rest_of (old.octets ++ octets) ≡ now.octets = feeds.rest ∙ ap rest_of waits ∙ waiting.left in
-      at-items now store_n lists_n disk_n (Stays, Ok tt) peer w c is feeds.items packets
-      (parts-whole g on w moment old.session store store_n lists lists_n disk disk_n now c.end feeds.items (rest_of (old.octets ++ octets)) (sym rest) (feeds.takes w c.end 0 is.link))
+    -- they stopped, or all were taken
+    pub hears-all : HearsParts g w (rest_of (c.rest ++ octets)) (taking_octets moment (store_in store) lists c c.end octets) store store_n lists_n disk disk_n now told
+    hears-all =
+        elim (going-or told) [
+          | inl going ↦ hears-whole going
+          | inr stops ↦ hears-stopped stops
+        ]

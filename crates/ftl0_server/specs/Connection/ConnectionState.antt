@@ -1,11 +1,8 @@
 -- A connection as contracts see it, which of the definitions' it stands for, and what its calls do.
 use Rattle.std.specs.Prelude.{◌≡◌, ℕ, List, [], ◌++◌, Bool, true, false, Result, Ok, Err, ⊤}
-use Rattle.px_base.specs.Octets.{IsOctets}
 use Rattle.disk_model.specs.declared.disk.Disk.{Ghosts}
-use Rattle.ax25_link.specs.Ends.{LinkEnd}
 use Rattle.ax25_link.specs.Kept.{Kept, StandsFor}
 use Rattle.ax25_link.specs.Window.{Window}
-use Rattle.ftl0_packets.specs.Reading.{packets_of, rest_of}
 use Rattle.ftl0_session.specs.Lists.Lists.{CallerList}
 use Rattle.file_store.specs.Calls.{Leaves}
 use Rattle.file_store.specs.OnDisk.{MakesFirst}
@@ -26,12 +23,6 @@ pub record ConnectionState : Type 0 where
   pub link : Kept
   pub octets : List ℕ
   pub session : SessionState
-
--- The link stands for some end.
-pub record StandsForSome (link : Kept) : Type 0 where
-  pub w : Window
-  pub end : LinkEnd
-  pub stands : StandsFor w link end
 
 -- The connection stands for this one, whose session's octets that wait are the store's to tell.
 pub record IsConnection (w : Window) (store : StoreState) (connection : ConnectionState) (c : Connected) : Type 0 where
@@ -93,9 +84,3 @@ pub record Hears {D : Type 0} (g : Ghosts D) (w : Window) (event : List Failure 
 -- the connection of this link and session, with no octets left
 abbrev pub with_nothing_left : Kept → SessionState → ConnectionState
 with_nothing_left link session = record { link = link; octets = []; session = session }
-
--- No packet is whole of these octets: they wait for the end of the one under way.
-pub record IsWaiting (octets : List ℕ) : Type 0 where
-  pub none : packets_of octets ≡ []
-  pub left : rest_of octets ≡ octets
-  pub are_octets : IsOctets octets

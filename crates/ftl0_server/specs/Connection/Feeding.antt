@@ -11,6 +11,8 @@ use Rattle.ax25_link.specs.Queue.{room_of}
 use Rattle.ax25_link.specs.Window.{Window}
 use Rattle.ftl0_packets.specs.Layout.{Item, packet_text}
 use Rattle.ftl0_packets.specs.Reading.{packets_of, rest_of}
+use Rattle.packet_link.specs.PacketLink.{HasFront}
+use Rattle.packet_link.specs.Queuing.{enough_free}
 use Rattle.file_store.specs.EntriesKept.{KeepsComplete}
 use Rattle.file_store.specs.Store.{Store}
 use Rattle.ftl0_session.specs.Lists.Lists.{CallerList}
@@ -25,17 +27,16 @@ use Rattle.ftl0_session.specs.SessionState.{MayTake as SessionMayTake, SessionSt
 use Rattle.ftl0_session.specs.Table.{DuePacket, State, next_due, tells_failed_read}
 use Rattle.ftl0_server.specs.declared.connection.fate.Fate.{Fate}
 use Rattle.ftl0_server.specs.declared.connection.fate.Fate.TheVariants.{Stays}
-use Rattle.ftl0_server.specs.Connection.ConnectionState.{ConnectionState, Hears, HearsBy, StandsForSome}
+use Rattle.ftl0_server.specs.Connection.ConnectionState.{ConnectionState, Hears, HearsBy}
 use Rattle.ftl0_server.specs.Connection.ConnectionState.{with_nothing_left}
 use Rattle.ftl0_server.specs.Connection.ConnectionState.{with_reads}
 use Rattle.ftl0_server.specs.Connection.Hearing.{Happened, progressed}
-use Rattle.ftl0_server.specs.Connection.Taking.{Progress, enough_free, fails, queuing, taking}
+use Rattle.ftl0_server.specs.Connection.Taking.{Progress, fails, queuing, taking}
 
--- what a link and a session need to take packets: the link is up, and stands for some end; and the session may take one
+-- what a link and a session need to take packets: the link is up, and the session may take one
 pub record MayTake {D : Type 0} (g : Ghosts D) (store : StoreState) (disk : D) (lists : List CallerList) (link : Kept)
     (session : SessionState) : Type 0 where
   pub up : link.state ≡ Up
-  pub some : StandsForSome link
   pub may : SessionMayTake g store disk lists session
 
 -- What packets leave of a link, a session, the store, the lists and the disk, whatever they were.
@@ -50,15 +51,14 @@ pub record LeavesFit {D : Type 0} (g : Ghosts D) (store store_now : StoreState) 
   pub up : told.0 ≡ Stays → link_now.state ≡ Up
   pub caller : caller_of session_now ≡ caller_of session
   pub stations : SameStations link link_now
-  pub some : StandsForSome link_now
 
 -- nothing stopped the connection or the server
 abbrev pub IsGoing : Fate × Result ⊤ ServerStop → Type 0
 IsGoing told = told ≡ (Stays, Ok tt)
 
--- with these octets accepted, or left, too
-abbrev pub with_octets : ConnectionState → List ℕ → ConnectionState
-with_octets connection octets = record connection { octets = connection.octets ++ octets }
+-- a connection with this link and this session, and these octets of which no packet was taken
+abbrev pub carrying : Kept → List ℕ → SessionState → ConnectionState
+carrying link octets session = record { link = link; octets = octets; session = session }
 
 -- the part is one of so many, the first of which has this number
 abbrev pub IsAmong : ℕ → ℕ → ℕ → Type 0
@@ -87,12 +87,22 @@ pub record TakesPackets {D : Type 0} (g : Ghosts D) (w : Window) (moment : ℕ) 
 pub record Feeds {D : Type 0} (g : Ghosts D) (moment : ℕ) (before now : ConnectionState) (store store_now : StoreState)
     (lists lists_now : List CallerList) (disk disk_now : D) (told : Fate × Result ⊤ ServerStop) : Type 0 where
   pub items : List Item
-  pub packets : packets_of before.octets ≡ items ++ packets_of now.octets
-  pub rest : rest_of before.octets ≡ rest_of now.octets
+  pub front : HasFront before.octets now.octets items
   pub takes :
       (w : Window) (end : LinkEnd) (first : ℕ) → StandsFor w before.link end
       → TakesPackets g w moment before.session store store_now lists lists_now end items first disk disk_now now.link
       now.session told
+
+-- The packets of the octets were taken, up to one that stops the connection, if one does: if none does all of them, and
+-- the octets now are the rest.
+pub record FeedsAll {D : Type 0} (g : Ghosts D) (moment : ℕ) (before now : ConnectionState)
+    (store store_now : StoreState) (lists lists_now : List CallerList) (disk disk_now : D)
+    (told : Fate × Result ⊤ ServerStop) : Type 0 where
+  pub left : List ℕ
+  pub feeds :
+      Feeds g moment before (carrying now.link left now.session) store store_now lists lists_now disk disk_now told
+  pub none : IsGoing told → packets_of left ≡ []
+  pub rest : IsGoing told → rest_of left ≡ now.octets
 
 -- The parts at which reads failed are parts of the event, and whatever reads fail at later parts changes nothing of it.
 pub record IsSettled (event : List Failure → Progress) (parts : List ℕ) : Type 0 where
@@ -170,4 +180,3 @@ pub record KeepsFit {D : Type 0} (g : Ghosts D) (store store_now : StoreState) (
   pub octets : new.octets ≡ old.octets
   pub up : new.link.state ≡ Up
   pub stations : SameStations old.link new.link
-  pub some : StandsForSome new.link

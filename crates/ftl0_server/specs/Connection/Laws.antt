@@ -3,12 +3,13 @@ use Rattle.std.specs.Prelude.{◌≡◌, ◌⊎◌, ℕ, ◌<◌, List, ◌∷�
 use Rattle.px_base.specs.CallSign.{CallSign}
 use Rattle.ax25_link.specs.Ends.{LinkEnd, free_octets}
 use Rattle.ftl0_packets.specs.Layout.{Item}
+use Rattle.packet_link.specs.Queuing.{enough_free}
 use Rattle.ftl0_session.specs.Lists.Lists.{CallerList}
 use Rattle.file_store.specs.Command.{Command, after_all}
 use Rattle.file_store.specs.Store.{Store}
 use Rattle.ftl0_session.specs.Uploads.Failures.{Failure, write_fails}
 use Rattle.ftl0_session.specs.Table.{Row, State, due_at, row_at}
-use Rattle.ftl0_server.specs.Connection.Taking.{Progress, enough_free, goes_on, queued, taking}
+use Rattle.ftl0_server.specs.Connection.Taking.{Progress, goes_on, queued, taking}
 
 -- The commands of a packet's row are done behind those of the packets before it, whatever packets come behind.
 pub record TakesUpTo (caller : CallSign) (moment : ℕ) (store : Store) (lists : List CallerList) (state : State)

@@ -1,11 +1,12 @@
 -- What the packets of a frame make of a connection, one after another, and what is queued of what is due behind them.
-use Rattle.std.specs.Prelude.{ℕ, ◌+◌, zero, suc, List, [], ◌∷◌, ◌++◌, length, Bool, true, false, nat_le, if◌then◌else◌}
-use Rattle.std.specs.Prelude.{Option, None, Some}
+use Rattle.std.specs.Prelude.{ℕ, ◌+◌, suc, List, [], ◌∷◌, ◌++◌, Bool, true, false, if◌then◌else◌}
 use Rattle.px_base.specs.CallSign.{CallSign}
 use Rattle.ax25_link.specs.Calls.{after_abandon, after_push}
 use Rattle.ax25_link.specs.Ends.{LinkEnd, free_octets}
 use Rattle.ftl0_packets.specs.Items.{texts}
 use Rattle.ftl0_packets.specs.Layout.{Item, packet_text}
+use Rattle.packet_link.specs.Queuing.{filling}
+pub use Rattle.packet_link.specs.Queuing.{enough_free, fits}
 use Rattle.ftl0_session.specs.Lists.Lists.{CallerList}
 use Rattle.file_store.specs.Command.{Command, after_all}
 use Rattle.file_store.specs.Store.{Store}
@@ -13,10 +14,6 @@ use Rattle.file_store.specs.Working.{one_if}
 use Rattle.ftl0_session.specs.Uploads.Failures.{Failure, write_fails}
 use Rattle.ftl0_session.specs.Table.{DuePacket, Row, State, command, due_at, fault_reply, row_at, failed_reads_told}
 use Rattle.ftl0_session.specs.Table.{tells_failed_read}
-
--- whether the link has room for replies of this text
-abbrev pub fits : LinkEnd → List ℕ → Bool
-fits end text = nat_le (length text) (free_octets end)
 
 -- the end after replies of this text: they are queued, or the link is given up where they don't fit
 abbrev pub replied : LinkEnd → List ℕ → LinkEnd
@@ -128,24 +125,11 @@ after_due due progress =
       missed = progress.missed + one_if (tells_failed_read due.packet);
     }
 
--- how many octets are free at least where DATA or DATA_END is queued
-abbrev pub enough_free : ℕ
-enough_free = 1280
-
--- what follows where a packet is due, or what stands where none is
-abbrev pub on_due : Option DuePacket → Progress → (DuePacket → Progress) → Progress
-on_due None progress later = progress
-on_due (Some due) progress later = later due
-
 -- Packets that are due are queued, one after another, each a part of the event, while enough octets are free: so many
 -- of them at most.
 abbrev pub queuing : ℕ → Store → List Failure → Progress → Progress
-queuing zero store failures progress = progress
-queuing (suc more) store failures progress =
-    if nat_le enough_free (free_octets progress.end)
-    then on_due (due_at store progress.state failures progress.part) progress
-    (λ due. queuing more store failures (after_due due progress))
-    else progress
+queuing more store failures progress =
+    filling (λ at. at.end) (λ at. due_at store at.state failures at.part) after_due more progress
 
 -- At the end of an event DATA and DATA_END that are due are queued while enough octets are free, but not where the
 -- session is over. Each takes some of the octets that are free, so there are no more of them than that.

@@ -1,15 +1,14 @@
 //! One caller's connection.
 
-ghost use Rattle.std.specs.Prelude.{◌≡◌, ◌<◌, ◌≤◌, ◌↔◌, ℕ, [], ◌∷◌, ◌++◌, drop, length, false, true, not};
+ghost use Rattle.std.specs.Prelude.{◌≡◌, ◌<◌, ◌↔◌, ℕ, [], ◌∷◌, ◌++◌, false, true, not};
 ghost use Rattle.std.specs.Prelude.{IfOk, IsTrue, None};
 ghost use Rattle.ax25_frames.specs.Values.{value_of};
-ghost use Rattle.ax25_link.specs.Air.{is_information};
 ghost use Rattle.ax25_link.specs.Ends.{LinkEnd};
 ghost use Rattle.ax25_link.specs.Kept.{Fits, GivesNext, HasStations, IsFromPeer, SameStations, StandsFor, Steps};
 ghost use Rattle.ax25_link.specs.Kept.{Tells, is_pending, most_pending};
 ghost use Rattle.ax25_link.specs.declared.state.LinkState.{LinkState};
 ghost use Rattle.ax25_link.specs.Window.{IsGoodK, Window, window_of};
-ghost use Rattle.ftl0_packets.specs.Reading.{is_whole, read_item, rest_of};
+ghost use Rattle.ftl0_packets.specs.Reading.{is_whole, read_item};
 ghost use Rattle.ftl0_session.specs.Lists.Lists.{has_left};
 ghost use Rattle.file_store.specs.State.{StandsOn, StoreState, store_in};
 ghost use Rattle.ftl0_session.specs.Uploads.Others.{KeepsOtherCallers};
@@ -17,31 +16,29 @@ ghost use Rattle.ftl0_session.specs.Uploads.SessionState.{IsHeld, IsOnlyOut, NoO
 ghost use Rattle.ftl0_session.specs.Downloads.Needs.{IsDueIn};
 ghost use Rattle.ftl0_session.specs.SessionState.{MayTake as SessionMayTake, caller_of, new_session, state_in};
 ghost use Rattle.ftl0_server.specs.Connection.Connected.{Connected, answering, beginning, greeted};
-ghost use Rattle.ftl0_server.specs.Connection.ConnectionState.{Hears, IsConnection, StandsAfter, StandsForSome};
+ghost use Rattle.ftl0_server.specs.Connection.ConnectionState.{Hears, IsConnection, StandsAfter};
 ghost use Rattle.ftl0_server.specs.Connection.ConnectionState.{is_over};
-ghost use Rattle.ftl0_server.specs.Connection.Feeding.{Feeds, HearsParts, IsGoing, KeepsFit, LeavesFit, MayTake};
+ghost use Rattle.ftl0_server.specs.Connection.Feeding.{FeedsAll, HearsParts, IsGoing, KeepsFit, LeavesFit, MayTake};
 ghost use Rattle.ftl0_server.specs.Connection.Feeding.{QueuesDue};
-ghost use Rattle.ftl0_server.specs.Connection.Feeding.{QueuesNext, TakesPackets, with_octets};
-ghost use Rattle.ftl0_server.specs.Connection.Hearing.{hearing, parts_of_frame, rest_of_frame, taking_octets, ticking};
-ghost use Rattle.ftl0_server.specs.Connection.Taking.{fits, replied};
+ghost use Rattle.ftl0_server.specs.Connection.Feeding.{QueuesNext, TakesPackets, carrying};
+ghost use Rattle.ftl0_server.specs.Connection.Hearing.{hearing, parts_of_frame, rest_of_frame, ticking};
+ghost use Rattle.ftl0_server.specs.Connection.Taking.{replied};
+ghost use Rattle.packet_link.specs.PacketLink.{octets_in};
+ghost use Rattle.packet_link.specs.Queuing.{fits};
 
 use crate::connection::Fate;
 use arrayvec::ArrayVec;
-use ax25_frames::{Frame, Kind};
-use ax25_link::{Heard, Link};
+use ax25_frames::Frame;
+use ax25_link::{Heard, Link, information};
 use disk_model::Disk;
 use file_store::FileStore;
-use ftl0_packets::laws::stream_law;
-use ftl0_packets::{PacketFed, PacketReader};
 use ftl0_session::lists::Lists;
 use ftl0_session::{Replies, ServerStop, Session};
+use packet_link::PacketLink;
 use px_base::{Call, OutOfMemory};
 use std::alloc::Global;
 use std::marker::Model;
 use std::mem;
-
-/// How many octets are free on the link at least where DATA or DATA_END is queued.
-const ENOUGH_FREE: usize = 1280;
 
 /// What a frame that was heard did: what becomes of the session, and whether the server goes on.
 pub type Told = (Fate, Result<(), ServerStop>);
@@ -50,8 +47,7 @@ pub type Told = (Fate, Result<(), ServerStop>);
 /// and speak of the connections of the definitions that it stands for, whose links have all that was pushed, sent and
 /// taken.
 pub struct Connection {
-    link: Link,
-    reader: PacketReader,
+    link: PacketLink,
     session: Session,
 }
 
@@ -88,13 +84,9 @@ impl Connection {
         ensures session { IfOk result (λ connection. connection.session ≡ new_session caller) }
         ensures up { IfOk result (λ connection. connection.link.state ≡ LinkState.Up) }
     {
-        let mut link = Link::answer(alloc, me, caller, k, poll)?;
+        let mut link = PacketLink::answer(alloc, me, caller, k, poll)?;
         let session = greet(&mut link, caller, moment, lists);
-        Ok(Connection {
-            link,
-            reader: PacketReader::new(),
-            session,
-        })
+        Ok(Connection { link, session })
     }
 
     /// Hears a frame of the caller at this moment, while nothing is pending (AX.25 2.0, 2.4; FTL0 1990): the frame's
@@ -184,7 +176,7 @@ impl Connection {
     pub fn fits_law(&self)
         ensures { Fits self.now.link }
     {
-        let _ = self.link.state();
+        self.link.stands_law();
     }
 
     /// Ends the session, which parks its upload, and gives the link, which may have frames to give out still. Takes no
@@ -196,13 +188,9 @@ impl Connection {
         ensures only { IsOnlyOut store.old self.session.uploads → NoOtherOut store.new (caller_of self.session) None }
         ensures others { KeepsOtherCallers store.old store.new (caller_of self.session) }
     {
-        let Connection {
-            link,
-            reader: _,
-            session,
-        } = self;
+        let Connection { link, session } = self;
         session.end(store);
-        link
+        link.into_link()
     }
 
     /// Hears a frame, but that what is due isn't queued yet.
@@ -231,14 +219,21 @@ impl Connection {
                 self.begin_anew(store, lists, moment);
                 (Fate::Stays, Ok(()))
             }
-            Heard::Bytes => self.take_octets(disk, store, lists, information(frame), moment),
+            Heard::Bytes => take_packets(
+                &mut self.link,
+                &mut self.session,
+                disk,
+                store,
+                lists,
+                information(frame),
+                moment,
+            ),
             Heard::Closed(_why) => (Fate::Ends, Ok(())),
         }
     }
 
     /// Queues DATA and DATA_END that are due, one after another, while enough octets are free.
     fn queue_due<D: Disk>(&mut self, disk: &mut D, store: &mut FileStore)
-        requires some { StandsForSome self.old.link }
         requires up { self.old.link.state ≡ LinkState.Up }
         requires healthy { store.old.journal.failed ≡ false }
         requires stands_on { StandsOn D.Disk store.old disk.old }
@@ -259,7 +254,7 @@ impl Connection {
         ensures next { QueuesNext D.Disk store.old disk.old disk.new self.old self.new result }
         ensures keeps { KeepsFit D.Disk store.old store.new disk.old disk.new self.old self.new }
     {
-        if self.link.free() < ENOUGH_FREE {
+        if !self.link.has_room() {
             return false;
         }
         let mut packet = ArrayVec::new();
@@ -287,101 +282,59 @@ impl Connection {
     {
         let session = greet(&mut self.link, self.session.caller(), moment, lists);
         mem::replace(&mut self.session, session).end(store);
-        self.reader = PacketReader::new();
+        self.link.begin_anew();
     }
+}
 
-    /// Takes the packets that these octets, next in the stream, finish, and queues the replies to them.
-    fn take_octets<D: Disk>(
-        &mut self,
-        disk: &mut D,
-        store: &mut FileStore,
-        lists: &mut Lists,
-        octets: &[u8],
-        moment: u32,
-    ) -> Told
-        requires { MayTake D.Disk store.old disk.old lists.old self.old.link self.old.session }
-        ensures hears { (w : Window) (c : Connected) → IsConnection w store.old self.old c →
-            HearsParts D.Disk w (rest_of (c.rest ++ octets.now))
-            (taking_octets moment (store_in store.old) lists.old c c.end octets.now)
-            store.old store.new lists.new disk.old disk.new self.new result }
-        ensures fit { LeavesFit D.Disk store.old store.new lists.new disk.old disk.new self.old.link self.new.link
-            self.old.session self.new.session result }
-    {
-        // Whatever is accepted is a stream of packets, and no packet is whole of what waits before and after it.
-        stream_law();
-        let _ = &self.reader;
-        let mut piece = octets;
-        while !piece.is_empty() {
-            let (taken, told) = self.feed(disk, store, lists, piece, moment);
-            if !goes_on(&told) {
-                return told;
-            }
-            piece = piece.split_at(taken).1;
+/// Takes the packets that these octets, next in the stream, finish, and queues the replies to them.
+fn take_packets<D: Disk>(
+    link: &mut PacketLink,
+    session: &mut Session,
+    disk: &mut D,
+    store: &mut FileStore,
+    lists: &mut Lists,
+    octets: &[u8],
+    moment: u32,
+) -> Told
+    requires { MayTake D.Disk store.old disk.old lists.old link.old.link session.old }
+    ensures feeds { FeedsAll D.Disk moment (carrying link.old.link (octets_in link.old ++ octets.now) session.old)
+        (carrying link.new.link (octets_in link.new) session.new) store.old store.new lists.old lists.new disk.old
+        disk.new result }
+    ensures fit { LeavesFit D.Disk store.old store.new lists.new disk.old disk.new link.old.link link.new.link
+        session.old session.new result }
+{
+    let mut piece = octets;
+    while let Some(left) = link.next_packet(piece) {
+        let told = answer(link, session, disk, store, lists, moment);
+        if !goes_on(&told) {
+            return told;
         }
-        let _ = &self.reader;
-        (Fate::Stays, Ok(()))
+        piece = left;
     }
-
-    /// Takes octets up to the end of the packet under way, and the packet where it is whole, and tells how many they
-    /// are.
-    fn feed<D: Disk>(
-        &mut self,
-        disk: &mut D,
-        store: &mut FileStore,
-        lists: &mut Lists,
-        piece: &[u8],
-        moment: u32,
-    ) -> (usize, Told)
-        requires some { 0 < length piece.now }
-        requires may { MayTake D.Disk store.old disk.old lists.old self.old.link self.old.session }
-        ensures some { 0 < result.0 }
-        ensures taken { result.0 ≤ length piece.now }
-        ensures feeds { Feeds D.Disk moment (with_octets self.old piece.now)
-            (with_octets self.new (drop result.0 piece.now)) store.old store.new lists.old lists.new disk.old disk.new
-            result.1 }
-        ensures fit { LeavesFit D.Disk store.old store.new lists.new disk.old disk.new self.old.link self.new.link
-            self.old.session self.new.session result.1 }
-    {
-        let (taken, fed) = self.reader.feed(piece);
-        match fed {
-            PacketFed::More => (taken, (Fate::Stays, Ok(()))),
-            PacketFed::Whole => {
-                let told = answer(
-                    &self.reader,
-                    &mut self.link,
-                    &mut self.session,
-                    disk,
-                    store,
-                    lists,
-                    moment,
-                );
-                (taken, told)
-            }
-        }
-    }
+    (Fate::Stays, Ok(()))
 }
 
 /// Takes the packet that is whole, and queues the replies to it. After a fault of the disk that is the reply with code
 /// 3, and the session is over.
 fn answer<D: Disk>(
-    reader: &PacketReader,
-    link: &mut Link,
+    link: &mut PacketLink,
     session: &mut Session,
     disk: &mut D,
     store: &mut FileStore,
     lists: &mut Lists,
     moment: u32,
 ) -> Told
-    requires whole { IsTrue (is_whole reader.now) }
-    requires may { MayTake D.Disk store.old disk.old lists.old link.old session.old }
-    ensures takes { (w : Window) (end : LinkEnd) (first : ℕ) → StandsFor w link.old end →
+    requires whole { IsTrue (is_whole link.old.reader) }
+    requires may { MayTake D.Disk store.old disk.old lists.old link.old.link session.old }
+    ensures takes { (w : Window) (end : LinkEnd) (first : ℕ) → StandsFor w link.old.link end →
         TakesPackets D.Disk w moment session.old store.old store.new lists.old lists.new end
-        (read_item reader.now ∷ []) first disk.old disk.new link.new session.new result }
-    ensures fit { LeavesFit D.Disk store.old store.new lists.new disk.old disk.new link.old link.new session.old
-        session.new result }
+        (read_item link.old.reader ∷ []) first disk.old disk.new link.new.link session.new result }
+    ensures fit { LeavesFit D.Disk store.old store.new lists.new disk.old disk.new link.old.link link.new.link
+        session.old session.new result }
+    ensures reader { link.new.reader ≡ link.old.reader }
 {
     let mut replies = Replies::new();
-    match session.take(disk, reader.packet(), moment, store, lists, &mut replies) {
+    match session.take(disk, link.packet(), moment, store, lists, &mut replies) {
         Ok(()) => (reply(link, replies.as_slice()), Ok(())),
         Err(ServerStop::Disk) => {
             reply(link, replies.as_slice());
@@ -399,11 +352,13 @@ fn goes_on(told: &Told) -> bool
 }
 
 /// The session of this caller, whose LOGIN_RESP at this moment is queued on the link.
-fn greet(link: &mut Link, caller: Call, moment: u32, lists: &Lists) -> Session
-    requires { link.old.state ≡ LinkState.Up }
+fn greet(link: &mut PacketLink, caller: Call, moment: u32, lists: &Lists) -> Session
+    requires { link.old.link.state ≡ LinkState.Up }
     ensures session { result ≡ new_session caller }
-    ensures queued { Steps link.old link.new (λ w end. greeted end moment (has_left lists.now caller)) }
-    ensures stations { SameStations link.old link.new }
+    ensures queued { Steps link.old.link link.new.link (λ w end. greeted end moment (has_left lists.now caller)) }
+    ensures up { link.new.link.state ≡ LinkState.Up }
+    ensures stations { SameStations link.old.link link.new.link }
+    ensures reader { link.new.reader ≡ link.old.reader }
 {
     let mut replies = Replies::new();
     let session = Session::new(caller, moment, lists, &mut replies);
@@ -412,11 +367,13 @@ fn greet(link: &mut Link, caller: Call, moment: u32, lists: &Lists) -> Session
 }
 
 /// Queues replies, where the link has room for them; else gives it up by DM, and the session is over.
-fn reply(link: &mut Link, text: &[u8]) -> Fate
-    requires { link.old.state ≡ LinkState.Up }
-    ensures queued { Steps link.old link.new (λ w end. replied end text.now) }
-    ensures over { Tells link.old (λ w end. not (fits end text.now)) (is_over result) }
-    ensures stations { SameStations link.old link.new }
+fn reply(link: &mut PacketLink, text: &[u8]) -> Fate
+    requires { link.old.link.state ≡ LinkState.Up }
+    ensures queued { Steps link.old.link link.new.link (λ w end. replied end text.now) }
+    ensures over { Tells link.old.link (λ w end. not (fits end text.now)) (is_over result) }
+    ensures up { result ≡ Fate.Stays → link.new.link.state ≡ LinkState.Up }
+    ensures stations { SameStations link.old.link link.new.link }
+    ensures reader { link.new.reader ≡ link.old.reader }
 {
     if text.len() > link.free() {
         link.abandon();
@@ -424,15 +381,4 @@ fn reply(link: &mut Link, text: &[u8]) -> Fate
     }
     link.push(text);
     Fate::Stays
-}
-
-/// The information of an I frame.
-fn information<'a>(frame: &Frame<'a>) -> &'a [u8]
-    ensures { IsTrue (is_information (value_of frame.now).kind.control)
-        → result.now ≡ (value_of frame.now).kind.information }
-{
-    match frame.kind {
-        Kind::I { info, .. } => info,
-        _ => &[],
-    }
 }

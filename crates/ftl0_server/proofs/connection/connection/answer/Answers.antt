@@ -6,17 +6,17 @@ use Rattle.ftl0_session.specs.declared.stop.ServerStop.TheVariants as stop
 use Rattle.ftl0_session.specs.SessionState.{caller_of}
 use Rattle.ftl0_session.specs.Taking.{working}
 use Rattle.ftl0_server.specs.declared.connection.fate.Fate.TheVariants.{Stays, Ends}
-use Rattle.ftl0_server.proofs.connection.AnswerLemmas.{said-done, said-fault, said-none, some-replied, taken-puts}
-use Rattle.ftl0_server.proofs.connection.AnswerLemmas.{takes-read, up-replied}
-use Rattle.ftl0_server.proofs.connection.StationLemmas.{stations-same}
+use Rattle.ftl0_server.proofs.connection.AnswerLemmas.{said-done, said-fault, said-none, taken-puts}
+use Rattle.ftl0_server.proofs.connection.AnswerLemmas.{takes-read}
+use Rattle.packet_link.proofs.Fronts.{stations-same}
 use Rattle.ftl0_server.proofs.connection.connection.answer.Goals as goal
 
 pub returns-in-Ok-clause-takes : goal.returns-in-Ok-clause-takes
 returns-in-Ok-clause-takes g c w end first stands =
-    takes-read g.D.Disk w end c.args.moment c.args.session.now c.take.new.self c.args.store.now c.take.new.store c.args.lists.now c.take.new.lists c.args.disk.now c.take.new.disk c.reply.new.link first
-    (c.reply.result, Ok tt) (item_of c.packet.result) (read_item c.args.reader.now) c.packet.ensures.item
+    takes-read g.D.Disk w end c.args.moment c.args.session.now c.take.new.self c.args.store.now c.take.new.store c.args.lists.now c.take.new.lists c.args.disk.now c.take.new.disk c.reply.new.link.link first
+    (c.reply.result, Ok tt) (item_of c.packet.result) (read_item c.args.link.now.reader) c.packet.ensures
     (said-done g.D.Disk g.met.D.Disk.lasts_on w end c.args.moment c.args.session.now c.take.new.self c.args.store.now c.take.new.store c.args.lists.now c.take.new.lists c.args.disk.now c.take.new.disk
-    c.reply.new.link (item_of c.packet.result) first c.requires.may.may.healthy c.requires.may.may.stands_on c.reply.result c.as_slice.result.now c.take.new.replies.items c.as_slice.ensures.value
+    c.reply.new.link.link (item_of c.packet.result) first c.requires.may.may.healthy c.requires.may.may.stands_on c.reply.result c.as_slice.result.now c.take.new.replies.items c.as_slice.ensures.value
     (c.reply.ensures.over w end stands) (c.reply.ensures.queued w end stands) c.in-Ok.ensures.takes)
 
 pub returns-in-Ok-clause-fit : goal.returns-in-Ok-clause-fit
@@ -29,18 +29,17 @@ returns-in-Ok-clause-fit g c =
       others = c.in-Ok.ensures.others;
       healthy = c.in-Ok.ensures.healthy;
       fit = record { stands_on = c.in-Ok.ensures.stands_on; held = c.in-Ok.ensures.held; only = c.in-Ok.ensures.only; due = c.in-Ok.ensures.due; complete = c.in-Ok.ensures.complete };
-      up = up-replied c.args.link.now c.reply.new.link c.as_slice.result.now c.requires.may.some c.reply.ensures.queued c.reply.result c.requires.may.up c.reply.ensures.over;
+      up = c.reply.ensures.up;
       caller = c.in-Ok.ensures.caller;
       stations = c.reply.ensures.stations;
-      some = some-replied c.args.link.now c.reply.new.link c.as_slice.result.now c.requires.may.some c.reply.ensures.queued;
     }
 
 pub returns-in-Err-Disk-clause-takes : goal.returns-in-Err-Disk-clause-takes
 returns-in-Err-Disk-clause-takes g c w end first stands =
     takes-read g.D.Disk w end c.args.moment c.args.session.now c.take.new.self c.args.store.now c.take.new.store c.args.lists.now c.take.new.lists c.args.disk.now c.take.new.disk
-    c.reply-in-Err-Disk.new.link first (Ends, Err stop.Disk) (item_of c.packet.result) (read_item c.args.reader.now) c.packet.ensures.item
+    c.reply-in-Err-Disk.new.link.link first (Ends, Err stop.Disk) (item_of c.packet.result) (read_item c.args.link.now.reader) c.packet.ensures
     (said-fault g.D.Disk g.met.D.Disk.lasts_on w end c.args.moment c.args.session.now c.take.new.self c.args.store.now c.take.new.store c.args.lists.now c.take.new.lists c.args.disk.now c.take.new.disk
-    c.reply-in-Err-Disk.new.link (item_of c.packet.result) first c.requires.may.may.healthy c.requires.may.may.stands_on c.as_slice-in-Err-Disk.result.now c.take.new.replies.items
+    c.reply-in-Err-Disk.new.link.link (item_of c.packet.result) first c.requires.may.may.healthy c.requires.may.may.stands_on c.as_slice-in-Err-Disk.result.now c.take.new.replies.items
     c.as_slice-in-Err-Disk.ensures.value (c.reply-in-Err-Disk.ensures.queued w end stands) (rw c.in-Err-Disk.field-0-is at c.in-Err-Disk.ensures.takes))
 
 pub returns-in-Err-Disk-clause-fit : goal.returns-in-Err-Disk-clause-fit
@@ -63,15 +62,14 @@ returns-in-Err-Disk-clause-fit g c =
       up = λ stays. absurd cc;
       caller = c.in-Err-Disk.ensures.caller;
       stations = c.reply-in-Err-Disk.ensures.stations;
-      some = some-replied c.args.link.now c.reply-in-Err-Disk.new.link c.as_slice-in-Err-Disk.result.now c.requires.may.some c.reply-in-Err-Disk.ensures.queued;
     }
 
 pub returns-in-Err-OutOfMemory-clause-takes : goal.returns-in-Err-OutOfMemory-clause-takes
 returns-in-Err-OutOfMemory-clause-takes g c w end first stands =
-    takes-read g.D.Disk w end c.args.moment c.args.session.now c.take.new.self c.args.store.now c.take.new.store c.args.lists.now c.take.new.lists c.args.disk.now c.take.new.disk c.args.link.now first
-    (Stays, Err stop.OutOfMemory) (item_of c.packet.result) (read_item c.args.reader.now) c.packet.ensures.item
+    takes-read g.D.Disk w end c.args.moment c.args.session.now c.take.new.self c.args.store.now c.take.new.store c.args.lists.now c.take.new.lists c.args.disk.now c.take.new.disk c.args.link.now.link first
+    (Stays, Err stop.OutOfMemory) (item_of c.packet.result) (read_item c.args.link.now.reader) c.packet.ensures
     (said-none g.D.Disk g.met.D.Disk.lasts_on w end c.args.moment c.args.session.now c.take.new.self c.args.store.now c.take.new.store c.args.lists.now c.take.new.lists c.args.disk.now c.take.new.disk
-    c.args.link.now (item_of c.packet.result) first c.requires.may.may.healthy c.requires.may.may.stands_on c.take.new.replies.items (rw c.in-Err-OutOfMemory.field-0-is at c.in-Err-OutOfMemory.ensures.takes))
+    c.args.link.now.link (item_of c.packet.result) first c.requires.may.may.healthy c.requires.may.may.stands_on c.take.new.replies.items (rw c.in-Err-OutOfMemory.field-0-is at c.in-Err-OutOfMemory.ensures.takes))
 
 pub returns-in-Err-OutOfMemory-clause-fit : goal.returns-in-Err-OutOfMemory-clause-fit
 returns-in-Err-OutOfMemory-clause-fit g c =
@@ -93,6 +91,5 @@ returns-in-Err-OutOfMemory-clause-fit g c =
           };
       up = λ stays. c.requires.may.up;
       caller = c.in-Err-OutOfMemory.ensures.caller;
-      stations = stations-same c.args.link.now;
-      some = c.requires.may.some;
+      stations = stations-same c.args.link.now.link;
     }

@@ -1,14 +1,13 @@
 -- The frame is heard at the place of its sender's connection.
 use Rattle.std.proofs.Common.{◌≡◌, get_or, set, false, Some, refl, subst, sym, ◌∙◌}
 use Rattle.std.specs.List.{position}
-use Rattle.std.specs.Option.{option_map}
 use Rattle.std.proofs.lemmas.Option.{slice_get-get_or}
 use Rattle.ax25_frames.specs.Values.{value_of}
 use Rattle.ax25_link.specs.Kept.{is_there}
 use Rattle.ftl0_server.specs.AtPlace.{IsPlace, Works}
 use Rattle.ftl0_server.specs.Calls.{Hears}
 use Rattle.ftl0_server.specs.declared.place.Place.{Place}
-use Rattle.ftl0_server.specs.Kept.{refused_of, server_state}
+use Rattle.ftl0_server.specs.Kept.{server_state}
 use Rattle.ftl0_server.specs.Server.{server_hearing}
 use Rattle.ftl0_server.specs.ServerState.{IsServer, ServerState, any_pending, has_caller, server_pending}
 use Rattle.ftl0_server.specs.Slots.{connected}
@@ -22,7 +21,7 @@ hear-requires-clause-may g c =
     let found : position (has_caller (value_of c.args.frame.now).src) c.self.inside.places ≡ Some c.args.place =
     subst (λ (s : ServerState). position (has_caller (value_of c.args.frame.now).src) s.places ≡ Some c.args.place) (sym c.self.view_is) c.requires.place in
     let silent = subst (λ (s : ServerState). server_pending s ≡ false) (sym c.self.view_is) c.requires.silent in
-    let none = (none_first (is_there (option_map refused_of c.self.inside.stray)) (any_pending c.self.inside.places) silent).1 in
+    let none = (none_first (is_there c.self.inside.stray) (any_pending c.self.inside.places) silent).1 in
     may-hear c.self.inside.me c.self.inside.k c.self.inside.store c.self.inside.places c.args.place c.index-places-place.result (value_of c.args.frame.now) found c.self.invariant.settled none
     (record { dest = c.requires.frame.dest ∙ subst (λ (s : ServerState). s.me ≡ c.self.inside.me) c.self.view_is refl; via = c.requires.frame.via }) c.requires.numbers
 

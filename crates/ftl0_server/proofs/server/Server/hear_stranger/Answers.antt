@@ -10,17 +10,17 @@ use Rattle.ftl0_server.proofs.StepLemmas.{both-true, first-false, second-false, 
 use Rattle.ftl0_server.proofs.server.Server.hear_stranger.Goals as goal
 use Rattle.ftl0_server.proofs.server.Server.hear_stranger.Goals.{else-frame-via-then-frame+else-frame-2, else-frame-via-else-frame}
 
-pub returns-then-is_sabm-clause-heard : goal.returns-then-is_sabm-clause-heard
-returns-then-is_sabm-clause-heard c =
+pub returns-then-is_call-clause-heard : goal.returns-then-is_call-clause-heard
+returns-then-is_call-clause-heard c =
     let frame = value_of c.args.frame.now in
     stranger-at (λ s. called_by s frame.src frame.poll c.args.moment (first_empty s.slots)) (λ s. hearing_stranger s frame c.args.moment) c.args.self.now c.answer.new.self c.answer.result
-    (λ s. stranger-calls s frame c.args.moment (sym c.is_sabm.ensures ∙ c.if-is_sabm.true)) c.answer.ensures.heard
+    (λ s. stranger-calls s frame c.args.moment (sym c.is_call.ensures ∙ c.if-is_call.true)) c.answer.ensures.heard
 
 pub returns-then-frame-2-clause-heard : goal.returns-then-frame-2-clause-heard
 returns-then-frame-2-clause-heard c = λ server is.
     let frame = value_of c.args.frame.now in
     subst (λ (s : Server). IsServer c.refuse.new.self s)
-    (stranger-asks server frame c.args.moment (sym c.is_sabm.ensures ∙ c.if-is_sabm.false) (both-true frame.command frame.poll c.if-frame.true c.if-frame-2.true))
+    (stranger-asks server frame c.args.moment (sym c.is_call.ensures ∙ c.if-is_call.false) (both-true frame.command frame.poll c.if-frame.true c.if-frame-2.true))
     (c.refuse.ensures.refuses server is)
 
 pub returns-else-frame-clause-heard : goal.returns-else-frame-clause-heard
@@ -31,4 +31,4 @@ returns-else-frame-clause-heard c = λ server is.
       | else-frame-via-else-frame w ↦ first-false frame.command frame.poll w.if-frame.false
     ] in
     subst (λ (s : Server). IsServer c.args.self.now s)
-    (stranger-passed server frame c.args.moment (sym c.is_sabm.ensures ∙ c.if-is_sabm.false) none) is
+    (stranger-passed server frame c.args.moment (sym c.is_call.ensures ∙ c.if-is_call.false) none) is

@@ -1,11 +1,9 @@
 -- The DM to a station without a connection comes first, then the places' frames.
-use Rattle.std.proofs.Common.{◌≡◌, Option, None, true, false, List, refl, sym, ◌∙◌, ap, subst}
-use Rattle.std.specs.Option.{option_map}
+use Rattle.std.proofs.Common.{◌≡◌, None, true, false, List, refl, sym, ◌∙◌, ap, subst}
 use Rattle.ftl0_server.specs.Calls.{HandsOut, SameButLinks}
 use Rattle.ftl0_server.specs.declared.place.Place.{Place}
 use Rattle.ftl0_server.specs.declared.server.Server.TheInside.{Inside}
-use Rattle.ftl0_server.specs.declared.stray.Stray.{Stray}
-use Rattle.ftl0_server.specs.Kept.{refused_of, server_state}
+use Rattle.ftl0_server.specs.Kept.{server_state}
 use Rattle.ftl0_server.specs.Server.{server_next, settled}
 use Rattle.ftl0_server.specs.ServerState.{IsServer, SendsFor, ServerState, any_pending}
 use Rattle.ftl0_server.proofs.NextLemmas.{same_places}
@@ -27,8 +25,8 @@ returns-in-Some-clause-next c = λ server is.
       lists = was.lists;
     } in
     subst (λ (s : ServerState). HandsOut IsServer (server_next server) s new c.args.out.now.items c.write.new.out.items true) c.self.view_is
-    (stray-out IsServer (server_state c.self.inside) new server (refused_of c.in-Some.stray) c.args.out.now.items c.write.new.out.items was.sends.me was.sends.stray
-    (ap (λ (o : Option Stray). option_map refused_of o) c.in-Some.is) stands c.write.ensures.octets c.write.ensures.text)
+    (stray-out IsServer (server_state c.self.inside) new server c.in-Some.stray c.args.out.now.items c.write.new.out.items was.sends.me was.sends.stray
+    c.in-Some.is stands c.write.ensures.octets c.write.ensures.text)
 
 pub returns-in-Some-clause-same : goal.returns-in-Some-clause-same
 returns-in-Some-clause-same c =
@@ -50,7 +48,7 @@ returns-in-None-clause-sends c = λ server is.
     subst (λ (s : ServerState). HandsOut SendsFor (server_next server) s new c.args.out.now.items c.next_of.new.out.items c.next_of.result) c.self.view_is
     (places-out-sends (server_state c.self.inside) new server c.args.out.now.items c.next_of.new.out.items c.next_of.result refl refl refl refl refl c.next_of.ensures.same
     (λ no. (ap (λ (ps : List Place). as_state c.self.inside ps) (c.next_of.ensures.none no).0, (c.next_of.ensures.none no).1))
-    (ap (λ (o : Option Stray). option_map refused_of o) c.in-None.is) was (c.next_of.ensures.gives server.window server.slots was.links))
+    c.in-None.is was (c.next_of.ensures.gives server.window server.slots was.links))
 
 pub returns-in-None-clause-next : goal.returns-in-None-clause-next
 returns-in-None-clause-next c = λ server is.
@@ -59,7 +57,7 @@ returns-in-None-clause-next c = λ server is.
     subst (λ (s : ServerState). HandsOut IsServer (server_next server) s new c.args.out.now.items c.next_of.new.out.items c.next_of.result) c.self.view_is
     (places-out-next (server_state c.self.inside) new server c.args.out.now.items c.next_of.new.out.items c.next_of.result refl refl refl refl refl c.next_of.ensures.same
     (λ no. (ap (λ (ps : List Place). as_state c.self.inside ps) (c.next_of.ensures.none no).0, (c.next_of.ensures.none no).1))
-    (ap (λ (o : Option Stray). option_map refused_of o) c.in-None.is) was (c.next_of.ensures.gives server.window server.slots was.sends.links))
+    c.in-None.is was (c.next_of.ensures.gives server.window server.slots was.sends.links))
 
 pub returns-in-None-clause-settles : goal.returns-in-None-clause-settles
 returns-in-None-clause-settles c = λ no server is.

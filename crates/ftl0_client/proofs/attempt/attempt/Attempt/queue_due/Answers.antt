@@ -3,7 +3,7 @@ use Rattle.ftl0_client.proofs.attempt.QueuingLemmas.{keeps-same, keeps-then, que
 use Rattle.ftl0_client.proofs.attempt.attempt.Attempt.queue_due.Goals as goal
 
 pub loop-init : goal.loop-init
-loop-init c = record { rest = λ new queues. queues; keeps = record { keeps = keeps-same c.args.self.now c.requires.some; up = c.requires.up } }
+loop-init c = record { rest = λ new queues. queues; keeps = record { keeps = keeps-same c.args.self.now; up = c.requires } }
 
 pub loop-preserved : goal.loop-preserved
 loop-preserved c =

@@ -1,32 +1,30 @@
 -- What is due was queued.
 use Rattle.std.proofs.Common.{◌≡◌, ◌≤◌, List, ℕ, ◌∙◌, subst, arith}
 use Rattle.ax25_link.specs.Calls.{after_push}
-use Rattle.ax25_link.specs.Kept.{StandsFor, Steps}
+use Rattle.ax25_link.specs.Kept.{StandsFor}
 use Rattle.ax25_link.specs.Queue.{room_of}
 use Rattle.ftl0_packets.specs.Layout.{packet_text}
+use Rattle.packet_link.specs.Queuing.{enough_free}
+use Rattle.packet_link.proofs.Queuing.{packet-some}
 use Rattle.ftl0_job.specs.Due.{next_due}
 use Rattle.ftl0_client.specs.Attempt.AttemptState.{AttemptState}
 use Rattle.ftl0_client.specs.Attempt.Feeding.{QueuesPacket}
 use Rattle.ftl0_client.specs.Attempt.Inside.{attempt_state}
-use Rattle.ftl0_client.specs.Attempt.Settling.{enough_free}
-use Rattle.ftl0_client.proofs.attempt.SettlingLemmas.{due-put, room-fewer, room-is}
+use Rattle.ftl0_client.proofs.attempt.SettlingLemmas.{due-put}
 use Rattle.ftl0_client.proofs.attempt.attempt.Attempt.queue_next.Goals as goal
 
 pub returns-clause-next : goal.returns-clause-next
 returns-clause-next c =
     let a = c.self.inside in
-    let some = c.self.invariant.some in
-    let now = attempt_state (record { link = c.push.new.self; reader = a.reader; job = c.fill.new.self; down = a.down }) in
+    let now = attempt_state (record { link = c.push.new.self; job = c.fill.new.self; down = a.down }) in
     let sent = due-put (next_due a.job) a.job c.fill.new.self c.new-packet.result.items c.fill.new.out.items c.if-not-fill.ensures.puts in
-    let enough : enough_free ≤ room_of a.link.queue = omega (arith, room-is a.link some, c.free.ensures some.w some.end some.stands, c.if-free-lt-ENOUGH_FREE.false) in
+    let enough : enough_free ≤ room_of a.link.link.queue = c.has_room.ensures.enough c.if-not-has_room.false in
     let text : c.deref.result.now ≡ packet_text sent.0.packet = c.deref.ensures.0 ∙ sent.3 in
-    let queued : Steps a.link c.push.new.self (λ w end. after_push end (packet_text sent.0.packet)) =
-    λ w end stands. subst (λ (t : List ℕ). StandsFor w c.push.new.self (after_push end t)) text (c.push.ensures.after w end stands) in
     subst (λ (s : AttemptState). QueuesPacket s now) c.self.view_is (record {
       due = sent.0;
       is_due = sent.1;
       enough = enough;
-      queued = queued;
+      queued = λ w end stands. subst (λ (t : List ℕ). StandsFor w c.push.new.self.link (after_push end t)) text (c.push.ensures.after w end stands);
       job = sent.2;
-      fewer = room-fewer a.link c.push.new.self sent.0.packet some enough queued;
+      fewer = c.push.ensures.fewer (rw text (packet-some sent.0.packet)) (omega (arith, enough));
     })

@@ -10,7 +10,7 @@ pub loop-init : goal.loop-init
 loop-init g c =
     record {
       rest = λ disk_n new queues. queues;
-      keeps = keeps-none g.D.Disk c.args.store.now c.args.disk.now c.args.self.now (g.met.D.Disk.lasts_same c.args.disk.now) c.requires.stands_on c.requires.due c.requires.up c.requires.some;
+      keeps = keeps-none g.D.Disk c.args.store.now c.args.disk.now c.args.self.now (g.met.D.Disk.lasts_same c.args.disk.now) c.requires.stands_on c.requires.due c.requires.up;
     }
 
 pub loop-preserved : goal.loop-preserved

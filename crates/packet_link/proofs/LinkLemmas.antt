@@ -1,4 +1,4 @@
--- What becomes of an end that is up.
+-- What becomes of a link at a frame that is heard, a tick, or a frame that is sent.
 use Rattle.std.proofs.Common.{◌≡◌, ℕ, ◌+◌, ◌==◌, Bool, true, false, ◌&&◌, List, refl, ap, sym, ◌∙◌, subst}
 use Rattle.std.specs.Prelude.{Option, None, Some, IsTrue, nat_lt, if◌then◌else◌, ⊤}
 use Rattle.std.proofs.lemmas.Bool.{cond_both}
@@ -6,9 +6,9 @@ use Rattle.ax25_frames.specs.declared.control.Control.{Control}
 use Rattle.ax25_frames.specs.declared.control.Control.TheVariants.{I, Rr, Rnr, Rej, Sabm, Disc, Dm, Ua, Frmr, Ui}
 use Rattle.ax25_frames.specs.FrameText.{FrameValue}
 use Rattle.ax25_link.specs.declared.state.Heard.{Heard}
-use Rattle.ax25_link.specs.declared.state.Heard.TheVariants.{Nothing, Bytes, Closed}
+use Rattle.ax25_link.specs.declared.state.Heard.TheVariants.{Bytes}
 use Rattle.ax25_link.specs.declared.state.LinkState.{LinkState}
-use Rattle.ax25_link.specs.declared.state.LinkState.TheVariants.{Up, Down}
+use Rattle.ax25_link.specs.declared.state.LinkState.TheVariants.{Calling, Up, Ending, Down}
 use Rattle.ax25_link.specs.declared.state.Why.{Why}
 use Rattle.ax25_link.specs.declared.state.Why.TheVariants as why
 use Rattle.ax25_link.specs.Acknowledging.{Meaning, good, stale, bad, applying, is_bad, is_good, meaning_of}
@@ -17,18 +17,14 @@ use Rattle.ax25_link.specs.Calls.{after_push}
 use Rattle.ax25_link.specs.Ends.{Farewell, LinkEnd, Reply, ready}
 use Rattle.ax25_link.specs.Frames.{receive_number}
 use Rattle.ax25_link.specs.Kept.{GivesNext, HandsOut, Kept, StandsFor, Steps, Tells}
-use Rattle.ax25_link.specs.Rows.{Outcome, after_frame, entering, heard_of, information_row, numbered_row, replying, row}
+use Rattle.ax25_link.specs.Rows.{Outcome, after_frame, calling_row, ending_row, entering, heard_of, information_row, numbered_row, replying, row}
 use Rattle.ax25_link.specs.Rows.{row_of_state, sending_again, supervisory_row, up_row, with_busy}
 use Rattle.ax25_link.specs.Sending.{Sending, after_new, has_new, last_sending, later_sending, next_sending}
 use Rattle.ax25_link.specs.Sending.{sending_after}
 use Rattle.ax25_link.specs.Timer.{after_tick, is_down, is_spent, runs_out, told_of_tick, trying}
 use Rattle.ax25_link.specs.Window.{Window}
 use Rattle.ax25_link.proofs.Offered.{acknowledging-keeps}
-use Rattle.ftl0_server.specs.Connection.ConnectionState.{StandsForSome}
-
--- the link isn't down by what was told
-abbrev pub IsOpen : Heard → Type 0
-IsOpen told = (reason : Why) → told ≡ Closed reason → ⊥
+use Rattle.packet_link.specs.PacketLink.{IsOpen, StandsForSome}
 
 -- up, unless what was told is that the link is down
 abbrev pub StaysUp : Outcome → Type 0
@@ -75,31 +71,53 @@ module _ (w : Window) (end : LinkEnd) (frame : FrameValue) (up : end.state ≡ U
   frame-up = subst (λ (s : LinkState). StaysUp (row_of_state s w end frame)) (sym up) (control-up frame.kind.control)
 
 -- information that is next in the stream is told of an I frame
-abbrev IsOfInformation : Control → Outcome → Type 0
-IsOfInformation control o = o.heard ≡ Bytes → IsTrue (is_information control)
+abbrev TellsBytes : Control → Outcome → Type 0
+TellsBytes control o = o.heard ≡ Bytes → IsTrue (is_information control)
 
 module _ (w : Window) (end : LinkEnd) (frame : FrameValue) where
-  numbered-silent : (control : Control) (nr : ℕ) (next : LinkEnd → Outcome) → ((e : LinkEnd) → (next e).heard ≡ Nothing) → IsOfInformation control (numbered_row w end frame nr next)
-  numbered-silent control nr next h =
-      cond_both (is_bad (meaning_of w end nr)) _ _ (λ (o : Outcome). IsOfInformation control o)
+  numbered-tells : (control : Control) (nr : ℕ) (next : LinkEnd → Outcome) → ((e : LinkEnd) → TellsBytes control (next e)) → TellsBytes control (numbered_row w end frame nr next)
+  numbered-tells control nr next h =
+      cond_both (is_bad (meaning_of w end nr)) _ _ (λ (o : Outcome). TellsBytes control o)
       (λ b bytes. absurd cc)
-      (λ b bytes. absurd (let none : Nothing ≡ Bytes = sym (h (applying end (meaning_of w end nr))) ∙ bytes in cc))
+      (λ b. h (applying end (meaning_of w end nr)))
 
-  control-bytes : (control : Control) → IsOfInformation control (up_row w end frame control)
-  control-bytes (I ns nr) = λ bytes. refl
-  control-bytes (Rr nr) = numbered-silent (Rr nr) nr (λ e. supervisory_row (with_busy false e) frame) (λ e. refl)
-  control-bytes (Rnr nr) = numbered-silent (Rnr nr) nr (λ e. supervisory_row (with_busy true e) frame) (λ e. refl)
-  control-bytes (Rej nr) =
-      numbered-silent (Rej nr) nr (λ e. supervisory_row (with_busy false (if is_good (meaning_of w end nr) then sending_again e else e)) frame) (λ e. refl)
-  control-bytes Sabm = cond_both end.called _ _ (λ (o : Outcome). IsOfInformation Sabm o) (λ b bytes. absurd cc) (λ b bytes. absurd cc)
-  control-bytes Disc = λ bytes. absurd cc
-  control-bytes Dm = λ bytes. absurd cc
-  control-bytes Frmr = λ bytes. absurd cc
-  control-bytes Ua = λ bytes. absurd cc
-  control-bytes Ui = λ bytes. absurd cc
+  silent-tells : (control : Control) (e : LinkEnd) → TellsBytes control (supervisory_row e frame)
+  silent-tells control e bytes = absurd cc
 
-  pub frame-bytes : end.state ≡ Up → heard_of w end frame ≡ Bytes → IsTrue (is_information frame.kind.control)
-  frame-bytes up = subst (λ (s : LinkState). IsOfInformation frame.kind.control (row_of_state s w end frame)) (sym up) (control-bytes frame.kind.control)
+  up-tells : (control : Control) → TellsBytes control (up_row w end frame control)
+  up-tells (I ns nr) = λ bytes. refl
+  up-tells (Rr nr) = numbered-tells (Rr nr) nr (λ e. supervisory_row (with_busy false e) frame) (λ e. silent-tells (Rr nr) (with_busy false e))
+  up-tells (Rnr nr) = numbered-tells (Rnr nr) nr (λ e. supervisory_row (with_busy true e) frame) (λ e. silent-tells (Rnr nr) (with_busy true e))
+  up-tells (Rej nr) =
+      numbered-tells (Rej nr) nr (λ e. supervisory_row (with_busy false (if is_good (meaning_of w end nr) then sending_again e else e)) frame)
+      (λ e. silent-tells (Rej nr) (with_busy false (if is_good (meaning_of w end nr) then sending_again e else e)))
+  up-tells Sabm = cond_both end.called _ _ (λ (o : Outcome). TellsBytes Sabm o) (λ b bytes. absurd cc) (λ b bytes. absurd cc)
+  up-tells Disc = λ bytes. absurd cc
+  up-tells Dm = λ bytes. absurd cc
+  up-tells Frmr = λ bytes. absurd cc
+  up-tells Ua = λ bytes. absurd cc
+  up-tells Ui = λ bytes. absurd cc
+
+  calling-tells : (control : Control) → (calling_row end frame control).heard ≡ Bytes → ⊥
+  calling-tells Ua bytes = cc
+  calling-tells control bytes = cc
+
+  ending-tells : (control : Control) → (ending_row end frame control).heard ≡ Bytes → ⊥
+  ending-tells Ua bytes = cc
+  ending-tells control bytes = cc
+
+  state-tells : (state : LinkState) → TellsBytes frame.kind.control (row_of_state state w end frame)
+  state-tells Calling = λ bytes. absurd (calling-tells frame.kind.control bytes)
+  state-tells Up = up-tells frame.kind.control
+  state-tells Ending = λ bytes. absurd (ending-tells frame.kind.control bytes)
+  state-tells Down = λ bytes. absurd cc
+
+  -- and of an end that is up
+  told-up : (state : LinkState) → (row_of_state state w end frame).heard ≡ Bytes → state ≡ Up
+  told-up Calling bytes = absurd (calling-tells frame.kind.control bytes)
+  told-up Up bytes = refl
+  told-up Ending bytes = absurd (ending-tells frame.kind.control bytes)
+  told-up Down bytes = absurd cc
 
 -- ---- the same of a link
 
@@ -112,8 +130,14 @@ module _ (link link_n : Kept) (some : StandsForSome link) (frame : FrameValue) (
       ap (λ (k : Kept). k.state) (steps some.w some.end some.stands).kept
       ∙ frame-up some.w some.end frame end-up (subst (λ (h : Heard). IsOpen h) (tells some.w some.end some.stands) opens)
 
-  pub link-bytes : told ≡ Bytes → IsTrue (is_information frame.kind.control)
-  link-bytes bytes = frame-bytes some.w some.end frame end-up (sym (tells some.w some.end some.stands) ∙ bytes)
+-- the same of a link
+pub link-information : (link : Kept) (some : StandsForSome link) (frame : FrameValue) (told : Heard) → Tells link (λ w end. heard_of w end frame) told → told ≡ Bytes
+    → IsTrue (is_information frame.kind.control)
+link-information link some frame told tells bytes = state-tells some.w some.end frame some.end.state (sym (tells some.w some.end some.stands) ∙ bytes)
+
+pub link-told-up : (link : Kept) (some : StandsForSome link) (frame : FrameValue) (told : Heard) → Tells link (λ w end. heard_of w end frame) told → told ≡ Bytes → link.state ≡ Up
+link-told-up link some frame told tells bytes =
+    ap (λ (k : Kept). k.state) some.stands.kept ∙ told-up some.w some.end frame some.end.state (sym (tells some.w some.end some.stands) ∙ bytes)
 
 -- a link that stood for some end stands for one after each step
 pub some-after : (link link_n : Kept) (next : Window → LinkEnd → LinkEnd) → StandsForSome link → Steps link link_n next → StandsForSome link_n

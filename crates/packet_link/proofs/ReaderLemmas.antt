@@ -1,10 +1,10 @@
--- The octets that wait in a connection.
-use Rattle.std.proofs.Common.{◌≡◌, ℕ, Bool, true, false, List, [], ◌++◌, take, ap, sym, ◌∙◌, subst, append-nil}
-use Rattle.std.specs.Prelude.{if◌then◌else◌}
+-- The octets that wait in a reader of packets.
+use Rattle.std.proofs.Common.{◌≡◌, ℕ, ◌<◌, Bool, true, false, List, [], ◌∷◌, ◌++◌, length, take, ap, sym, ◌∙◌, subst, append-nil, arith}
+use Rattle.std.specs.Prelude.{if◌then◌else◌, nat_eq}
 use Rattle.px_base.specs.Octets.{IsOctets}
 use Rattle.ftl0_packets.specs.Reading.{is_whole, packets_of, rest_of, under_way}
 use Rattle.ftl0_packets.proofs.OctetLemmas.{IsOctets-append, IsOctets-nil, IsOctets-take}
-use Rattle.ftl0_server.specs.Connection.ConnectionState.{IsWaiting}
+use Rattle.packet_link.specs.PacketLink.{IsWaiting}
 
 -- in a new reader
 pub waits-none : (reader : List ℕ) → reader ≡ [] → packets_of (under_way reader) ≡ [] → rest_of (under_way reader) ≡ [] → IsWaiting (under_way reader)
@@ -35,3 +35,8 @@ waits-after reader now piece taken waiting octets is none left =
 -- what holds of octets whatever comes later holds where nothing does
 pub with-none : {X : Type 0} (f g : List ℕ → X) (u p v q : List ℕ) → ((later : List ℕ) → f (u ++ (p ++ later)) ≡ g (v ++ (q ++ later))) → f (u ++ p) ≡ g (v ++ q)
 with-none f g u p v q h = ap (λ octets. f (u ++ octets)) (sym (append-nil p)) ∙ h [] ∙ ap (λ octets. g (v ++ octets)) (append-nil q)
+
+-- octets that aren't none are some
+pub some-of : (xs : List ℕ) → nat_eq (length xs) 0 ≡ false → 0 < length xs
+some-of [] e = absurd (cc e)
+some-of (x ∷ xs) e = omega arith

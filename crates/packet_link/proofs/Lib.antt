@@ -1,0 +1,4 @@
+pub mod Fronts
+mod LinkLemmas
+pub mod Queuing
+mod ReaderLemmas

@@ -1,0 +1,53 @@
+-- A link that carries packets as contracts see it, and what its calls do.
+use Rattle.std.specs.Prelude.{◌≡◌, ℕ, ◌<◌, List, [], ◌∷◌, ◌++◌, length, IsTrue}
+use Rattle.px_base.specs.Octets.{IsOctets}
+use Rattle.ax25_link.specs.Ends.{LinkEnd}
+use Rattle.ax25_link.specs.Kept.{Kept, StandsFor}
+use Rattle.ax25_link.specs.Window.{Window}
+use Rattle.ax25_link.specs.declared.state.Heard.{Heard}
+use Rattle.ax25_link.specs.declared.state.Heard.TheVariants.{Closed}
+use Rattle.ax25_link.specs.declared.state.Why.{Why}
+use Rattle.ftl0_packets.specs.Layout.{Item}
+use Rattle.ftl0_packets.specs.Reading.{is_whole, packets_of, read_item, rest_of, under_way}
+
+-- the link, and what its reader has: the octets of the packet under way, or of the whole packet that came last
+pub record PacketLinkState : Type 0 where
+  pub link : Kept
+  pub reader : List ℕ
+
+-- the octets that were accepted and of which no packet was taken yet
+abbrev pub octets_in : PacketLinkState → List ℕ
+octets_in it = under_way it.reader
+
+-- The link stands for some end.
+pub record StandsForSome (link : Kept) : Type 0 where
+  pub w : Window
+  pub end : LinkEnd
+  pub stands : StandsFor w link end
+
+-- No packet is whole of these octets: they wait for the end of the one under way.
+pub record IsWaiting (octets : List ℕ) : Type 0 where
+  pub none : packets_of octets ≡ []
+  pub left : rest_of octets ≡ octets
+  pub are_octets : IsOctets octets
+
+-- the link isn't down by what was told
+abbrev pub IsOpen : Heard → Type 0
+IsOpen told = (reason : Why) → told ≡ Closed reason → ⊥
+
+-- These packets are at the front of the octets before, and the octets after are behind them: the packets and the rest
+-- of those before are these packets and those of the octets after, and their rest.
+pub record HasFront (before after : List ℕ) (items : List Item) : Type 0 where
+  pub packets : packets_of before ≡ items ++ packets_of after
+  pub rest : rest_of before ≡ rest_of after
+
+-- Of these octets, next in the stream, those up to the end of a packet were taken, and the others are left.
+pub record FindsPacket (old new : PacketLinkState) (octets left : List ℕ) : Type 0 where
+  pub whole : IsTrue (is_whole new.reader)
+  pub front : HasFront (octets_in old ++ octets) (octets_in new ++ left) (read_item new.reader ∷ [])
+  pub fewer : length left < length octets
+
+-- All of these octets were taken, and no packet is whole.
+pub record FindsNone (old new : PacketLinkState) (octets : List ℕ) : Type 0 where
+  pub none : packets_of (octets_in old ++ octets) ≡ []
+  pub rest : rest_of (octets_in old ++ octets) ≡ octets_in new
