@@ -8,9 +8,9 @@ use Rattle.uploader.specs.StoreFault.{StoreFault}
 use Rattle.uploader.specs.StoreFault.TheVariants as fault
 use Rattle.ftl0_client.specs.declared.outcome.Outcome.{Outcome}
 use Rattle.ftl0_client.specs.declared.outcome.Outcome.TheVariants as outcome
-use Rattle.uploader.specs.ClientNodeCarried.{CountsBy, answer_of, is_working}
-use Rattle.uploader.specs.NodeStop.{NodeStop}
-use Rattle.uploader.specs.NodeStop.TheVariants as node
+use Rattle.uploader.specs.Turns.Carried.{CountsBy, answer_of, is_working}
+use Rattle.uploader.specs.declared.turns.stop.NodeStop.{NodeStop}
+use Rattle.uploader.specs.declared.turns.stop.NodeStop.TheVariants as node
 use Rattle.uploader.specs.declared.stop.SendStop.{SendStop}
 use Rattle.uploader.specs.declared.stop.SendStop.TheVariants as stop
 use Rattle.uploader.specs.declared.sum.FileSum.{FileSum}

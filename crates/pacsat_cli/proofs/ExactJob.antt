@@ -6,9 +6,9 @@ use Rattle.px_base.specs.declared.air.Turn.{Turn}
 use Rattle.px_base.specs.declared.air.Turn.TheVariants as turn
 use Rattle.ftl0_client.specs.declared.outcome.Outcome.{Outcome}
 use Rattle.ftl0_client.specs.declared.outcome.Outcome.TheVariants as outcome
-use Rattle.uploader.specs.ClientNodeCarried.{TurnsBy}
-use Rattle.uploader.specs.NodeStop.{NodeStop}
-use Rattle.uploader.specs.NodeStop.TheVariants as node
+use Rattle.uploader.specs.Turns.Carried.{TurnsBy}
+use Rattle.uploader.specs.declared.turns.stop.NodeStop.{NodeStop}
+use Rattle.uploader.specs.declared.turns.stop.NodeStop.TheVariants as node
 use Rattle.uploader.specs.declared.stop.SendStop.{SendStop}
 use Rattle.uploader.specs.declared.stop.SendStop.TheVariants as stop
 use Rattle.uploader.specs.Led.{ComesBy, IsCutShort, is_of_turns}

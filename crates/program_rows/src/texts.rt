@@ -1,7 +1,6 @@
 //! Rows of error types: each names one, and the text of each of its values is printed, ended by `|`.
 
 use anyhow::{Result, bail};
-use client_node::NodeStop as ClientStop;
 use command_words::Refusal;
 use ftl0_job::JobStop;
 use ftl0_session::ServerStop;
@@ -9,7 +8,7 @@ use row_words::Player;
 use session_node::NodeStop as SessionStop;
 use std::alloc::Global;
 use std::fmt::Display;
-use uploader::{FileSum, SendStop};
+use uploader::{FileSum, NodeStop as ClientStop, SendStop};
 
 /// Plays rows of error types, each on its own.
 #[derive(Drop)]
