@@ -8,7 +8,7 @@ use row_words::Player;
 use session_node::NodeStop as SessionStop;
 use std::alloc::Global;
 use std::fmt::Display;
-use uploader::{FileSum, NodeStop as ClientStop, SendStop};
+use uploader::{FileSum, SendStop};
 
 /// Plays rows of error types, each on its own.
 #[derive(Drop)]
@@ -19,7 +19,6 @@ impl Player for TextRows {
         match row {
             "words" => words(alloc),
             "send" => send_stops(alloc),
-            "client" => client_stops(alloc),
             "job" => job_stops(alloc),
             "session" => session_stops(alloc),
             "server" => server_stops(alloc),
@@ -77,21 +76,6 @@ fn send_stops(alloc: Global) -> Result<String> {
             SendStop::Strange { kind: 0 },
             SendStop::NotesFull,
             SendStop::TooLong,
-        ],
-    )
-}
-
-/// The stops of a client's turns.
-fn client_stops(alloc: Global) -> Result<String> {
-    joined(
-        alloc,
-        &[
-            ClientStop::AirRead,
-            ClientStop::AirWrite,
-            ClientStop::Disk,
-            ClientStop::Ended,
-            ClientStop::Spent,
-            ClientStop::OutOfMemory,
         ],
     )
 }
