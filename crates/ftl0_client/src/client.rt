@@ -263,6 +263,13 @@ impl Client {
         }
     }
 
+    /// Its own call. Takes no memory.
+    pub fn me(&self) -> Call
+        ensures { result ≡ self.now.me }
+    {
+        self.me
+    }
+
     /// The notes. Takes no memory.
     pub fn notes(&self) -> &Notes
         ensures { result.now ≡ self.now.notes }

@@ -4,10 +4,8 @@ use Rattle.std.proofs.lemmas.Result.{err_from_is_err_and}
 use Rattle.std.specs.Prelude.{◌⊎◌, Option, None, Some, IfSome, IsTrue, Result, Ok, Err, IsErrAnd, IsErrOf, MatchResult, ⊤}
 use Rattle.px_base.specs.Outside.{Rose}
 use Rattle.px_base.specs.Shelves.{Holding}
-use Rattle.px_base.specs.declared.air.Air.{Ghosts as AirGhosts}
 use Rattle.px_base.specs.declared.out.Out.{Ghosts as OutGhosts}
 use Rattle.px_base.specs.declared.shelf.Shelf.{Ghosts as ShelfGhosts}
-use Rattle.disk_model.specs.declared.disk.Disk.{Ghosts}
 use Rattle.file_store.specs.Calls.{Runs}
 use Rattle.uploader.specs.Command.{NotesCommand}
 use Rattle.uploader.specs.Notes.{Lists}
@@ -15,25 +13,26 @@ use Rattle.uploader.specs.State.{standing_of as notes_standing}
 use Rattle.uploader.specs.Begun.{Begun}
 use Rattle.uploader.specs.Begun.TheVariants as begun
 use Rattle.uploader.specs.NotesRefusal.{NotesRefusal}
-use Rattle.ftl0_client.specs.Table.{JobState}
 use Rattle.ftl0_client.specs.declared.outcome.Outcome.{Outcome}
 use Rattle.uploader.specs.declared.stop.SendStop.{SendStop}
 use Rattle.uploader.specs.declared.stop.SendStop.TheVariants as stop
 use Rattle.uploader.specs.declared.sum.FileSum.{FileSum}
 use Rattle.uploader.specs.declared.terms.ClientTerms.{ClientTerms}
 use Rattle.uploader.specs.declared.terms.Sent.{Sent}
-use Rattle.uploader.specs.Carried.{Carries, IsUnrecovered, Setting}
-use Rattle.uploader.specs.Fetching.{FetchEnds, KeepsBy}
-use Rattle.uploader.specs.Listing.{ListEnds, ShowsBy}
+use Rattle.node.specs.Lent.{Lent, Seen}
+use Rattle.node.specs.declared.stop.NodeStop.TheVariants as node
+use Rattle.uploader.specs.Carried.{Asked, Carries, IsUnrecovered}
+use Rattle.uploader.specs.Fetching.{FetchEnds, KeepsBy, file_asked}
+use Rattle.uploader.specs.Listing.{ListEnds, ShowsBy, files_asked}
 use Rattle.uploader.specs.Loading.{IsUnfit, sum_of}
 use Rattle.uploader.specs.OnDisk.{EndsExactly, RefusesNotes}
 use Rattle.uploader.specs.Sending.{EndsAtStart, IsUnloaded, IsUnnoted, IsUnstarted, SendEnds, first_command, last_answer}
 use Rattle.uploader.specs.Stops.{stop_of_start}
-use Rattle.uploader.proofs.CarryLemmas.{disk-back}
+use Rattle.uploader.proofs.CarryLemmas.{turned}
 use Rattle.command_words.specs.Words.{AsksClient, AsksFetch, AsksList, AsksSend}
 use Rattle.pacsat_cli.specs.declared.status.Status.{Status}
 use Rattle.pacsat_cli.specs.declared.status.Status.TheVariants as status
-use Rattle.pacsat_cli.specs.Clients.{Closes, FetchRan, ListRan, SendRan, acked_line, fetched_line}
+use Rattle.pacsat_cli.specs.Clients.{Closes, FetchRan, ListRan, SendRan, acked_line, fetched_line, outside}
 use Rattle.pacsat_cli.specs.Run.{HasStatusCause}
 use Rattle.pacsat_cli.specs.Sessions.{HasDiskCause, HasReadCause, HasWriteCause, MayPassOver, RefusesExactly, is_of_file, may_have_outcome}
 use Rattle.pacsat_cli.specs.Stops.{status_of_end, status_of_stop}
@@ -80,24 +79,24 @@ end-status (Err other) s is = record {
 
 -- ---- the stops that each command has
 
-module _ {A C D : Type 0} (g : Ghosts D) (air : AirGhosts A) (given : C → Option (List ℕ)) (old new : Setting D A C) where
+module _ {A C D : Type 0} (see : Seen D A C) (old new : Lent D A C) where
   -- a job that was carried out
-  carries-air : {terms : ClientTerms} {start : Lists} {first : List NotesCommand} {job : JobState} {came : Result Outcome SendStop} → Carries g air given old new terms start first job came → AirBy (air.read_faults old.air) (air.read_faults new.air) (air.write_faults old.air) (air.write_faults new.air) came
+  carries-air : {asked : Asked} {came : Result Outcome SendStop} → Carries see old new asked came → AirBy (see.air.read_faults old.air) (see.air.read_faults new.air) (see.air.write_faults old.air) (see.air.write_faults new.air) came
   carries-air {came = came} h =
-      let P : Result Outcome SendStop → Type 0 = λ r. AirBy (air.read_faults old.air) (air.read_faults new.air) (air.write_faults old.air) (air.write_faults new.air) r in
-      subst P (sym h.answer) (air-carried _ _ _ _ h.ended h.reached h.counts)
+      let P : Result Outcome SendStop → Type 0 = λ r. AirBy (see.air.read_faults old.air) (see.air.read_faults new.air) (see.air.write_faults old.air) (see.air.write_faults new.air) r in
+      subst P (sym h.answer) (air-carried _ _ _ _ h.run.ended h.run.reached h.air.reads h.air.writes)
 
-  pub carries-kind : {terms : ClientTerms} {start : Lists} {first : List NotesCommand} {job : JobState} {came : Result Outcome SendStop} → Carries g air given old new terms start first job came → (why : SendStop) → came ≡ Err why → is_carried why ≡ true
-  carries-kind h why e = node-carried _ why (sym h.answer ∙ e)
+  pub carries-kind : {asked : Asked} {came : Result Outcome SendStop} → Carries see old new asked came → (why : SendStop) → came ≡ Err why → is_carried why ≡ true
+  carries-kind h why e = node-carried h.run.ended h.run.reached why (sym h.answer ∙ e)
 
   -- notes that weren't recovered
-  unrecovered-air : {T : Type 0} (ended : Result T SendStop) → IsErrAnd ended (IsUnrecovered g old new) → AirBy (air.read_faults old.air) (air.read_faults new.air) (air.write_faults old.air) (air.write_faults new.air) ended
+  unrecovered-air : {T : Type 0} (ended : Result T SendStop) → IsErrAnd ended (IsUnrecovered see.disk old new) → AirBy (see.air.read_faults old.air) (see.air.read_faults new.air) (see.air.write_faults old.air) (see.air.write_faults new.air) ended
   unrecovered-air (Ok value) h = absurd h
   unrecovered-air (Err other) h =
-      air-stayed _ _ _ _ (Err other) (ap air.read_faults h.air) (ap air.write_faults h.air)
+      air-stayed _ _ _ _ (Err other) (ap see.air.read_faults h.air) (ap see.air.write_faults h.air)
       (λ why e. let same : why ≡ other = cc in ap is_of_air (same ∙ h.why_is) ∙ fault-not_air h.fault)
 
-  unrecovered-kind : {T : Type 0} (ended : Result T SendStop) → IsErrAnd ended (IsUnrecovered g old new) → (why : SendStop) → ended ≡ Err why → is_carried why ≡ true
+  unrecovered-kind : {T : Type 0} (ended : Result T SendStop) → IsErrAnd ended (IsUnrecovered see.disk old new) → (why : SendStop) → ended ≡ Err why → is_carried why ≡ true
   unrecovered-kind (Ok value) h why e = absurd h
   unrecovered-kind (Err other) h why e = let same : why ≡ other = cc in ap is_carried (same ∙ h.why_is) ∙ fault-carried h.fault
 
@@ -186,12 +185,12 @@ carried-not_shelf why carried is = let same = ap is_carried is in cc
 
 -- ---- the air, by how each command ended
 
-module _ {A C D : Type 0} (g : Ghosts D) (air : AirGhosts A) (given : C → Option (List ℕ)) (old new : Setting D A C) (terms : ClientTerms) where
-  untouched-air : {T : Type 0} (ended : Result T SendStop) → new ≡ old → ((why : SendStop) → ended ≡ Err why → is_of_air why ≡ false) → AirBy (air.read_faults old.air) (air.read_faults new.air) (air.write_faults old.air) (air.write_faults new.air) ended
+module _ {A C D : Type 0} (see : Seen D A C) (old new : Lent D A C) (terms : ClientTerms) where
+  untouched-air : {T : Type 0} (ended : Result T SendStop) → new ≡ old → ((why : SendStop) → ended ≡ Err why → is_of_air why ≡ false) → AirBy (see.air.read_faults old.air) (see.air.read_faults new.air) (see.air.write_faults old.air) (see.air.write_faults new.air) ended
   untouched-air ended same isnt =
-      air-stayed _ _ _ _ ended (ap (λ (x : Setting D A C). air.read_faults x.air) same) (ap (λ (x : Setting D A C). air.write_faults x.air) same) isnt
+      air-stayed _ _ _ _ ended (ap (λ (x : Lent D A C). see.air.read_faults x.air) same) (ap (λ (x : Lent D A C). see.air.write_faults x.air) same) isnt
 
-  unloaded-air : (held : Option Holding) (name : List ℕ) (ended : Result Sent SendStop) → IsErrAnd ended (IsUnloaded old new held name) → AirBy (air.read_faults old.air) (air.read_faults new.air) (air.write_faults old.air) (air.write_faults new.air) ended
+  unloaded-air : (held : Option Holding) (name : List ℕ) (ended : Result Sent SendStop) → IsErrAnd ended (IsUnloaded old new held name) → AirBy (see.air.read_faults old.air) (see.air.read_faults new.air) (see.air.write_faults old.air) (see.air.write_faults new.air) ended
   unloaded-air held name (Ok sent) h = absurd h
   unloaded-air held name (Err other) h =
       untouched-air (Err other) h.untouched (λ why e. let same : why ≡ other = cc in ap is_of_air same ∙ (unfit-kind held name other h.cause).0)
@@ -200,35 +199,35 @@ module _ {A C D : Type 0} (g : Ghosts D) (air : AirGhosts A) (given : C → Opti
   unloaded-kind : (held : Option Holding) (name : List ℕ) (ended : Result Sent SendStop) → IsErrAnd ended (IsUnloaded old new held name) → (why : SendStop) → ended ≡ Err why → (is_of_air why ≡ false) × (is_out why ≡ false)
   unloaded-kind held name ended h = kind-of ended (IsUnloaded old new held name) (λ why u. unfit-kind held name why u.cause) h
 
-  start-of : (name file : List ℕ) (ended : Result Sent SendStop) → IsUnstarted g old new terms name file ended → (why : SendStop) → ended ≡ Err why → (is_of_air why ≡ false) × (is_out why ≡ false)
+  start-of : (name file : List ℕ) (ended : Result Sent SendStop) → IsUnstarted see.disk old new terms name file ended → (why : SendStop) → ended ≡ Err why → (is_of_air why ≡ false) × (is_out why ≡ false)
   start-of name file ended h =
       start-kind h.start (first_command terms h.start name (sum_of file)) (sum_of file) (last_answer terms h.start name (sum_of file)) ended h.cut h.ends
 
-  pub send-air : (held : Option Holding) (name : List ℕ) (ended : Result Sent SendStop) → SendEnds g air given old new held terms name ended → AirBy (air.read_faults old.air) (air.read_faults new.air) (air.write_faults old.air) (air.write_faults new.air) ended
+  pub send-air : (held : Option Holding) (name : List ℕ) (ended : Result Sent SendStop) → SendEnds see old new held terms name ended → AirBy (see.air.read_faults old.air) (see.air.read_faults new.air) (see.air.write_faults old.air) (see.air.write_faults new.air) ended
   send-air held name ended (inl h) = unloaded-air held name ended h
   send-air held name ended (inr h) = elim h.ends [
-    | inl unrecovered ↦ unrecovered-air g air given old new ended unrecovered
+    | inl unrecovered ↦ unrecovered-air see old new ended unrecovered
     | inr begun ↦ elim begun [
       | inl start ↦
-          air-stayed _ _ _ _ ended (ap air.read_faults start.air) (ap air.write_faults start.air)
+          air-stayed _ _ _ _ ended (ap see.air.read_faults start.air) (ap see.air.write_faults start.air)
           (λ why e. (start-of name h.file ended start why e).0)
-      | inr uploads ↦ air-along _ _ _ _ uploads.came ended (match-err ended _ uploads.came uploads.answer) (carries-air g air given old new uploads.carries)
+      | inr uploads ↦ air-along _ _ _ _ uploads.came ended (match-err ended _ uploads.came uploads.answer) (carries-air see old new uploads.carries)
     ]
   ]
 
   -- and `send` isn't stopped by the output
-  pub send-not_out : (held : Option Holding) (name : List ℕ) (ended : Result Sent SendStop) → SendEnds g air given old new held terms name ended → ended ≡ Err stop.Out → ⊥
+  pub send-not_out : (held : Option Holding) (name : List ℕ) (ended : Result Sent SendStop) → SendEnds see old new held terms name ended → ended ≡ Err stop.Out → ⊥
   send-not_out held name ended (inl h) e = (let no = (unloaded-kind held name ended h stop.Out e).1 in cc)
   send-not_out held name ended (inr h) e = elim h.ends [
-    | inl unrecovered ↦ carried-not_out stop.Out (unrecovered-kind g air given old new ended unrecovered stop.Out e) refl
+    | inl unrecovered ↦ carried-not_out stop.Out (unrecovered-kind see old new ended unrecovered stop.Out e) refl
     | inr begun ↦ elim begun [
       | inl start ↦ (let no = (start-of name h.file ended start stop.Out e).1 in cc)
-      | inr uploads ↦ carried-not_out stop.Out (carries-kind g air given old new uploads.carries stop.Out (match-err ended _ uploads.came uploads.answer stop.Out e)) refl
+      | inr uploads ↦ carried-not_out stop.Out (carries-kind see old new uploads.carries stop.Out (match-err ended _ uploads.came uploads.answer stop.Out e)) refl
     ]
   ]
 
   -- what is fetched is kept, and that may fail behind the outcome
-  keeps-air : {S : Type 0} (held : S → Option Holding) (shelf shelf_now : S) (name octets : List ℕ) (came : Result Outcome SendStop) (ended : Result ⊤ SendStop) → KeepsBy held shelf shelf_now name octets came ended → AirBy (air.read_faults old.air) (air.read_faults new.air) (air.write_faults old.air) (air.write_faults new.air) came → AirBy (air.read_faults old.air) (air.read_faults new.air) (air.write_faults old.air) (air.write_faults new.air) ended
+  keeps-air : {S : Type 0} (held : S → Option Holding) (shelf shelf_now : S) (name octets : List ℕ) (came : Result Outcome SendStop) (ended : Result ⊤ SendStop) → KeepsBy held shelf shelf_now name octets came ended → AirBy (see.air.read_faults old.air) (see.air.read_faults new.air) (see.air.write_faults old.air) (see.air.write_faults new.air) came → AirBy (see.air.read_faults old.air) (see.air.read_faults new.air) (see.air.write_faults old.air) (see.air.write_faults new.air) ended
   keeps-air held shelf shelf_now name octets (Ok reached) (Ok value) h a = air-free _ _ _ _ (Ok value) (λ why e. absurd (cc))
   keeps-air held shelf shelf_now name octets (Ok reached) (Err other) h a =
       air-free _ _ _ _ (Err other)
@@ -240,16 +239,16 @@ module _ {A C D : Type 0} (g : Ghosts D) (air : AirGhosts A) (given : C → Opti
   keeps-kind held shelf shelf_now name octets (Ok reached) (Err other) h a e = (let same : other ≡ stop.Out = cc in let both = sym h.0 ∙ same in cc)
   keeps-kind held shelf shelf_now name octets (Err other) ended h a e = carried-not_out stop.Out (a stop.Out (ap Err (err-along other ended h.0 stop.Out e))) refl
 
-  pub fetch-air : {S : Type 0} (held : S → Option Holding) (shelf shelf_now : S) (number : ℕ) (name : List ℕ) (ended : Result ⊤ SendStop) → FetchEnds g air given held old new shelf shelf_now terms number name ended → AirBy (air.read_faults old.air) (air.read_faults new.air) (air.write_faults old.air) (air.write_faults new.air) ended
-  fetch-air held shelf shelf_now number name ended (inl h) = unrecovered-air g air given old new ended h.0
-  fetch-air held shelf shelf_now number name ended (inr h) = keeps-air held shelf shelf_now name h.octets h.came ended h.keeps (carries-air g air given old new h.carries)
+  pub fetch-air : {S : Type 0} (held : S → Option Holding) (shelf shelf_now : S) (number : ℕ) (name : List ℕ) (ended : Result ⊤ SendStop) → FetchEnds see held old new shelf shelf_now (file_asked terms number name) ended → AirBy (see.air.read_faults old.air) (see.air.read_faults new.air) (see.air.write_faults old.air) (see.air.write_faults new.air) ended
+  fetch-air held shelf shelf_now number name ended (inl h) = unrecovered-air see old new ended h.0
+  fetch-air held shelf shelf_now number name ended (inr h) = keeps-air held shelf shelf_now name h.octets h.came ended h.keeps (carries-air see old new h.carries)
 
-  pub fetch-not_out : {S : Type 0} (held : S → Option Holding) (shelf shelf_now : S) (number : ℕ) (name : List ℕ) (ended : Result ⊤ SendStop) → FetchEnds g air given held old new shelf shelf_now terms number name ended → ended ≡ Err stop.Out → ⊥
-  fetch-not_out held shelf shelf_now number name ended (inl h) e = carried-not_out stop.Out (unrecovered-kind g air given old new ended h.0 stop.Out e) refl
-  fetch-not_out held shelf shelf_now number name ended (inr h) e = keeps-kind held shelf shelf_now name h.octets h.came ended h.keeps (carries-kind g air given old new h.carries) e
+  pub fetch-not_out : {S : Type 0} (held : S → Option Holding) (shelf shelf_now : S) (number : ℕ) (name : List ℕ) (ended : Result ⊤ SendStop) → FetchEnds see held old new shelf shelf_now (file_asked terms number name) ended → ended ≡ Err stop.Out → ⊥
+  fetch-not_out held shelf shelf_now number name ended (inl h) e = carried-not_out stop.Out (unrecovered-kind see old new ended h.0 stop.Out e) refl
+  fetch-not_out held shelf shelf_now number name ended (inr h) e = keeps-kind held shelf shelf_now name h.octets h.came ended h.keeps (carries-kind see old new h.carries) e
 
   -- what is listed is shown, and that may fail behind the outcome
-  shows-air : {O : Type 0} (shown : O → Option (List ℕ)) (out out_now : O) (listing : List ℕ) (came : Result Outcome SendStop) (ended : Result ⊤ SendStop) → ShowsBy shown out out_now listing came ended → AirBy (air.read_faults old.air) (air.read_faults new.air) (air.write_faults old.air) (air.write_faults new.air) came → AirBy (air.read_faults old.air) (air.read_faults new.air) (air.write_faults old.air) (air.write_faults new.air) ended
+  shows-air : {O : Type 0} (shown : O → Option (List ℕ)) (out out_now : O) (listing : List ℕ) (came : Result Outcome SendStop) (ended : Result ⊤ SendStop) → ShowsBy shown out out_now listing came ended → AirBy (see.air.read_faults old.air) (see.air.read_faults new.air) (see.air.write_faults old.air) (see.air.write_faults new.air) came → AirBy (see.air.read_faults old.air) (see.air.read_faults new.air) (see.air.write_faults old.air) (see.air.write_faults new.air) ended
   shows-air shown out out_now listing (Ok reached) (Ok value) h a = air-free _ _ _ _ (Ok value) (λ why e. absurd (cc))
   shows-air shown out out_now listing (Ok reached) (Err other) h a =
       air-free _ _ _ _ (Err other)
@@ -261,34 +260,34 @@ module _ {A C D : Type 0} (g : Ghosts D) (air : AirGhosts A) (given : C → Opti
   shows-kind shown out out_now listing (Ok reached) (Err other) h a e = (let same : other ≡ stop.Shelf = cc in let both = sym h.0 ∙ same in cc)
   shows-kind shown out out_now listing (Err other) ended h a e = carried-not_shelf stop.Shelf (a stop.Shelf (ap Err (err-along other ended h.0 stop.Shelf e))) refl
 
-  pub list-air : {O : Type 0} (shown : O → Option (List ℕ)) (out out_now : O) (tokens : List ℕ) (ended : Result ⊤ SendStop) → ListEnds g air given shown old new out out_now terms tokens ended → AirBy (air.read_faults old.air) (air.read_faults new.air) (air.write_faults old.air) (air.write_faults new.air) ended
-  list-air shown out out_now tokens ended (inl h) = unrecovered-air g air given old new ended h.0
-  list-air shown out out_now tokens ended (inr h) = shows-air shown out out_now h.carries.listing h.came ended h.shows (carries-air g air given old new h.carries)
+  pub list-air : {O : Type 0} (shown : O → Option (List ℕ)) (out out_now : O) (tokens : List ℕ) (ended : Result ⊤ SendStop) → ListEnds see shown old new out out_now (files_asked terms tokens) ended → AirBy (see.air.read_faults old.air) (see.air.read_faults new.air) (see.air.write_faults old.air) (see.air.write_faults new.air) ended
+  list-air shown out out_now tokens ended (inl h) = unrecovered-air see old new ended h.0
+  list-air shown out out_now tokens ended (inr h) = shows-air shown out out_now h.carries.listing h.came ended h.shows (carries-air see old new h.carries)
 
   -- and `list` isn't stopped by the shelf
-  pub list-not_shelf : {O : Type 0} (shown : O → Option (List ℕ)) (out out_now : O) (tokens : List ℕ) (ended : Result ⊤ SendStop) → ListEnds g air given shown old new out out_now terms tokens ended → ended ≡ Err stop.Shelf → ⊥
-  list-not_shelf shown out out_now tokens ended (inl h) e = carried-not_shelf stop.Shelf (unrecovered-kind g air given old new ended h.0 stop.Shelf e) refl
-  list-not_shelf shown out out_now tokens ended (inr h) e = shows-kind shown out out_now h.carries.listing h.came ended h.shows (carries-kind g air given old new h.carries) e
+  pub list-not_shelf : {O : Type 0} (shown : O → Option (List ℕ)) (out out_now : O) (tokens : List ℕ) (ended : Result ⊤ SendStop) → ListEnds see shown old new out out_now (files_asked terms tokens) ended → ended ≡ Err stop.Shelf → ⊥
+  list-not_shelf shown out out_now tokens ended (inl h) e = carried-not_shelf stop.Shelf (unrecovered-kind see old new ended h.0 stop.Shelf e) refl
+  list-not_shelf shown out out_now tokens ended (inr h) e = shows-kind shown out out_now h.carries.listing h.came ended h.shows (carries-kind see old new h.carries) e
 
 -- ---- the disk, by how each command ended
 
 -- A write or a sync failed; or a read, before anything was heard or said.
-abbrev FailedDisk : {A C D : Type 0} → Ghosts D → Setting D A C → Setting D A C → Type 0
-FailedDisk g old new =
-    Rose (g.write_faults old.disk) (g.write_faults new.disk) ⊎ (Rose (g.read_faults old.disk) (g.read_faults new.disk) × (new.air ≡ old.air))
+abbrev FailedDisk : {A C D : Type 0} → Seen D A C → Lent D A C → Lent D A C → Type 0
+FailedDisk see old new =
+    Rose (see.disk.write_faults old.disk) (see.disk.write_faults new.disk) ⊎ (Rose (see.disk.read_faults old.disk) (see.disk.read_faults new.disk) × (new.air ≡ old.air))
 
-module _ {A C D : Type 0} (g : Ghosts D) (air : AirGhosts A) (given : C → Option (List ℕ)) (old new : Setting D A C) where
+module _ {A C D : Type 0} (see : Seen D A C) (old new : Lent D A C) where
   -- behind the recovery it is a write or a sync
-  carries-disk : {terms : ClientTerms} {start : Lists} {first : List NotesCommand} {job : JobState} {came : Result Outcome SendStop} → Carries g air given old new terms start first job came → came ≡ Err stop.Disk → FailedDisk g old new
-  carries-disk h e = inl (h.stands.counts.writes.rose (disk-back h.ended h.reached (sym h.answer ∙ e)))
+  carries-disk : {asked : Asked} {came : Result Outcome SendStop} → Carries see old new asked came → came ≡ Err stop.Disk → FailedDisk see old new
+  carries-disk h e = inl (h.stands.counts.writes.rose (turned h.run.ended h.run.reached node.Disk (sym h.answer ∙ e)))
 
   -- in the recovery nothing was heard or said
-  unrecovered-disk : {T : Type 0} (ended : Result T SendStop) → Runs g (IsErrOf ended stop.Disk) old.disk new.disk → IsErrAnd ended (IsUnrecovered g old new) → ended ≡ Err stop.Disk → FailedDisk g old new
+  unrecovered-disk : {T : Type 0} (ended : Result T SendStop) → Runs see.disk (IsErrOf ended stop.Disk) old.disk new.disk → IsErrAnd ended (IsUnrecovered see.disk old new) → ended ≡ Err stop.Disk → FailedDisk see old new
   unrecovered-disk ended runs h e =
       elim (runs.faults.rose e) [ inl reads ↦ inr (reads, (err_from_is_err_and ended h).2.air) | inr writes ↦ inl writes ]
 
   module _ (terms : ClientTerms) where
-    send-disk : (held : Option Holding) (name : List ℕ) (ended : Result Sent SendStop) → Runs g (IsErrOf ended stop.Disk) old.disk new.disk → SendEnds g air given old new held terms name ended → ended ≡ Err stop.Disk → FailedDisk g old new
+    send-disk : (held : Option Holding) (name : List ℕ) (ended : Result Sent SendStop) → Runs see.disk (IsErrOf ended stop.Disk) old.disk new.disk → SendEnds see old new held terms name ended → ended ≡ Err stop.Disk → FailedDisk see old new
     send-disk held name ended runs (inl h) e =
         let u = err_from_is_err_and ended h in
         let same : u.0 ≡ stop.Disk = (let both = sym u.1 ∙ e in cc) in
@@ -301,21 +300,21 @@ module _ {A C D : Type 0} (g : Ghosts D) (air : AirGhosts A) (given : C → Opti
       ]
     ]
 
-    fetch-disk : {S : Type 0} (held : S → Option Holding) (shelf shelf_now : S) (number : ℕ) (name : List ℕ) (ended : Result ⊤ SendStop) → Runs g (IsErrOf ended stop.Disk) old.disk new.disk
-        → FetchEnds g air given held old new shelf shelf_now terms number name ended → ended ≡ Err stop.Disk → FailedDisk g old new
+    fetch-disk : {S : Type 0} (held : S → Option Holding) (shelf shelf_now : S) (number : ℕ) (name : List ℕ) (ended : Result ⊤ SendStop) → Runs see.disk (IsErrOf ended stop.Disk) old.disk new.disk
+        → FetchEnds see held old new shelf shelf_now (file_asked terms number name) ended → ended ≡ Err stop.Disk → FailedDisk see old new
     fetch-disk held shelf shelf_now number name ended runs (inl h) e = unrecovered-disk ended runs h.0 e
     fetch-disk held shelf shelf_now number name ended runs (inr h) e =
         elim (keeps-along held shelf shelf_now name h.octets h.came ended h.keeps stop.Disk e) [ inl same ↦ carries-disk h.carries same | inr other ↦ absurd (cc other) ]
 
-    list-disk : {O : Type 0} (shown : O → Option (List ℕ)) (out out_now : O) (tokens : List ℕ) (ended : Result ⊤ SendStop) → Runs g (IsErrOf ended stop.Disk) old.disk new.disk
-        → ListEnds g air given shown old new out out_now terms tokens ended → ended ≡ Err stop.Disk → FailedDisk g old new
+    list-disk : {O : Type 0} (shown : O → Option (List ℕ)) (out out_now : O) (tokens : List ℕ) (ended : Result ⊤ SendStop) → Runs see.disk (IsErrOf ended stop.Disk) old.disk new.disk
+        → ListEnds see shown old new out out_now (files_asked terms tokens) ended → ended ≡ Err stop.Disk → FailedDisk see old new
     list-disk shown out out_now tokens ended runs (inl h) e = unrecovered-disk ended runs h.0 e
     list-disk shown out out_now tokens ended runs (inr h) e =
         elim (shows-along shown out out_now h.carries.listing h.came ended h.shows stop.Disk e) [ inl same ↦ carries-disk h.carries same | inr other ↦ absurd (cc other) ]
 
 -- ---- what the clauses of a run say of any of the three
 
-module _ {A C D T : Type 0} (g : Ghosts D) (air : AirGhosts A) (old new : Setting D A C) (words : List (List ℕ)) (client : AsksClient words) (ended : Result T SendStop) (s : Status) (is : StatusBy ended s) where
+module _ {A C D T : Type 0} (see : Seen D A C) (old new : Lent D A C) (words : List (List ℕ)) (client : AsksClient words) (ended : Result T SendStop) (s : Status) (is : StatusBy ended s) where
   -- where the air stayed but for a failed poll
   stayed :
       (before now : ℕ) (of_air : Status) (stopped : SendStop)
@@ -344,7 +343,7 @@ module _ {A C D T : Type 0} (g : Ghosts D) (air : AirGhosts A) (old new : Settin
       same = λ isnt _ _ pass. stayed writes writes_now status.AirWrite stop.AirWrite h.same_write refl isnt pass;
     }
 
-  pub client-disk : Runs g (IsErrOf ended stop.Disk) old.disk new.disk → (ended ≡ Err stop.Disk → FailedDisk g old new) → HasDiskCause words g.read_faults g.write_faults old.disk new.disk old.air new.air s
+  pub client-disk : Runs see.disk (IsErrOf ended stop.Disk) old.disk new.disk → (ended ≡ Err stop.Disk → FailedDisk see old new) → HasDiskCause words see.disk.read_faults see.disk.write_faults old.disk new.disk old.air new.air s
   client-disk runs failed = record {
     asked = λ _. inr client;
     rose = λ e. failed (stopped-by ended s is stop.Disk refl e);
@@ -382,76 +381,76 @@ module _ {A C D T : Type 0} (g : Ghosts D) (air : AirGhosts A) (old new : Settin
   }
 
 -- What a client's command did to its counts, its disk's content and its output.
-pub record ClientDid {A C D S O : Type 0} (g : Ghosts D) (air : AirGhosts A) (sh : ShelfGhosts S) (o : OutGhosts O) (old new : Setting D A C) (shelf shelf_now : S) (out mid : O) (words : List (List ℕ)) (s : Status) : Type 0 where
+pub record ClientDid {A C D S O : Type 0} (see : Seen D A C) (sh : ShelfGhosts S) (o : OutGhosts O) (old new : Lent D A C) (shelf shelf_now : S) (out mid : O) (words : List (List ℕ)) (s : Status) : Type 0 where
   pub kind : is_client_status s ≡ true
-  pub read : HasReadCause words (air.read_faults old.air) (air.read_faults new.air) s
-  pub write : HasWriteCause words (air.write_faults old.air) (air.write_faults new.air) s
-  pub disk : HasDiskCause words g.read_faults g.write_faults old.disk new.disk old.air new.air s
+  pub read : HasReadCause words (see.air.read_faults old.air) (see.air.read_faults new.air) s
+  pub write : HasWriteCause words (see.air.write_faults old.air) (see.air.write_faults new.air) s
+  pub disk : HasDiskCause words see.disk.read_faults see.disk.write_faults old.disk new.disk old.air new.air s
   pub of_shelf : HasStatusCause status.Shelf (sh.faults shelf) (sh.faults shelf_now) s
-  pub exact : (s ≡ status.Disk → ⊥) → (s ≡ status.OutOfMemory → ⊥) → (AsksSend words → IsTrue (is_of_file s) → ⊥) → IfSome (g.content old.disk) (λ octets. RefusesExactly (notes_standing octets) s)
+  pub exact : (s ≡ status.Disk → ⊥) → (s ≡ status.OutOfMemory → ⊥) → (AsksSend words → IsTrue (is_of_file s) → ⊥) → IfSome (see.disk.content old.disk) (λ octets. RefusesExactly (notes_standing octets) s)
   pub out_rose : s ≡ status.Out → Rose (o.faults out) (o.faults mid)
   pub out_same : s ≡ status.Done → o.faults mid ≡ o.faults out
 
-module _ {A C D S O : Type 0} (g : Ghosts D) (air : AirGhosts A) (given : C → Option (List ℕ)) (sh : ShelfGhosts S) (o : OutGhosts O) (old new : Setting D A C) (shelf shelf_now : S) (out mid : O) (words : List (List ℕ)) (s : Status) (terms : ClientTerms) where
-  pub send-did : (name : List ℕ) → AsksSend words → SendRan g air given sh o old new shelf shelf_now out mid terms name s → ClientDid g air sh o old new shelf shelf_now out mid words s
+module _ {A C D S O : Type 0} (see : Seen D A C) (sh : ShelfGhosts S) (o : OutGhosts O) (old new : Lent D A C) (shelf shelf_now : S) (out mid : O) (words : List (List ℕ)) (s : Status) (terms : ClientTerms) where
+  pub send-did : (name : List ℕ) → AsksSend words → SendRan see sh o (outside old shelf out) (outside new shelf_now mid) terms name s → ClientDid see sh o old new shelf shelf_now out mid words s
   send-did name asks h =
       let is = closes-status o acked_line out mid h.ended s h.closes in
-      let by_air = send-air g air given old new terms (sh.held shelf) name h.ended h.ends in
+      let by_air = send-air see old new terms (sh.held shelf) name h.ended h.ends in
       let client : AsksClient words = inl asks in
       record {
         kind = client-status h.ended s is;
-        read = client-read g air old new words client h.ended s is _ _ _ _ by_air;
-        write = client-write g air old new words client h.ended s is _ _ _ _ by_air;
-        disk = client-disk g air old new words client h.ended s is h.causes.runs (send-disk g air given old new terms (sh.held shelf) name h.ended h.causes.runs h.ends);
-        of_shelf = client-shelf g air old new words client h.ended s is _ _ h.of_shelf.rose h.of_shelf.same;
+        read = client-read see old new words client h.ended s is _ _ _ _ by_air;
+        write = client-write see old new words client h.ended s is _ _ _ _ by_air;
+        disk = client-disk see old new words client h.ended s is h.causes.runs (send-disk see old new terms (sh.held shelf) name h.ended h.causes.runs h.ends);
+        of_shelf = client-shelf see old new words client h.ended s is _ _ h.of_shelf.rose h.of_shelf.same;
         exact = λ disk_not memory_not file_not.
-            client-exact g air old new words client h.ended s is (g.content old.disk) (h.notes (past-file h.ended s is (file_not asks))) disk_not memory_not;
-        out_rose = closes-out o acked_line out mid h.ended s h.closes (send-not_out g air given old new terms (sh.held shelf) name h.ended h.ends);
+            client-exact see old new words client h.ended s is (see.disk.content old.disk) (h.notes (past-file h.ended s is (file_not asks))) disk_not memory_not;
+        out_rose = closes-out o acked_line out mid h.ended s h.closes (send-not_out see old new terms (sh.held shelf) name h.ended h.ends);
         out_same = closes-done o acked_line out mid h.ended s h.closes;
       }
 
-  pub fetch-did : (number : ℕ) (name : List ℕ) → AsksFetch words → FetchRan g air given sh o old new shelf shelf_now out mid terms number name s → ClientDid g air sh o old new shelf shelf_now out mid words s
+  pub fetch-did : (number : ℕ) (name : List ℕ) → AsksFetch words → FetchRan see sh o (outside old shelf out) (outside new shelf_now mid) (file_asked terms number name) s → ClientDid see sh o old new shelf shelf_now out mid words s
   fetch-did number name asks h =
       let line : ⊤ → List ℕ = λ _. fetched_line number in
       let is = closes-status o line out mid h.ended s h.closes in
-      let by_air = fetch-air g air given old new terms sh.held shelf shelf_now number name h.ended h.ends in
+      let by_air = fetch-air see old new terms sh.held shelf shelf_now number name h.ended h.ends in
       let client : AsksClient words = inr (inl asks) in
       record {
         kind = client-status h.ended s is;
-        read = client-read g air old new words client h.ended s is _ _ _ _ by_air;
-        write = client-write g air old new words client h.ended s is _ _ _ _ by_air;
-        disk = client-disk g air old new words client h.ended s is h.causes.runs (fetch-disk g air given old new terms sh.held shelf shelf_now number name h.ended h.causes.runs h.ends);
-        of_shelf = client-shelf g air old new words client h.ended s is _ _ h.of_shelf.rose h.of_shelf.same;
-        exact = λ disk_not memory_not _. client-exact g air old new words client h.ended s is (g.content old.disk) h.notes disk_not memory_not;
-        out_rose = closes-out o line out mid h.ended s h.closes (fetch-not_out g air given old new terms sh.held shelf shelf_now number name h.ended h.ends);
+        read = client-read see old new words client h.ended s is _ _ _ _ by_air;
+        write = client-write see old new words client h.ended s is _ _ _ _ by_air;
+        disk = client-disk see old new words client h.ended s is h.causes.runs (fetch-disk see old new terms sh.held shelf shelf_now number name h.ended h.causes.runs h.ends);
+        of_shelf = client-shelf see old new words client h.ended s is _ _ h.of_shelf.rose h.of_shelf.same;
+        exact = λ disk_not memory_not _. client-exact see old new words client h.ended s is (see.disk.content old.disk) h.notes disk_not memory_not;
+        out_rose = closes-out o line out mid h.ended s h.closes (fetch-not_out see old new terms sh.held shelf shelf_now number name h.ended h.ends);
         out_same = closes-done o line out mid h.ended s h.closes;
       }
 
-  pub list-did : (tokens : List ℕ) → AsksList words → shelf_now ≡ shelf → ListRan g air given o old new out mid terms tokens s → ClientDid g air sh o old new shelf shelf_now out mid words s
+  pub list-did : (tokens : List ℕ) → AsksList words → shelf_now ≡ shelf → ListRan see o old new out mid (files_asked terms tokens) s → ClientDid see sh o old new shelf shelf_now out mid words s
   list-did tokens asks stayed_shelf h =
       let is = end-status h.ended s h.status_is in
-      let by_air = list-air g air given old new terms o.shown out mid tokens h.ended h.ends in
+      let by_air = list-air see old new terms o.shown out mid tokens h.ended h.ends in
       let client : AsksClient words = inr (inr asks) in
       record {
         kind = client-status h.ended s is;
-        read = client-read g air old new words client h.ended s is _ _ _ _ by_air;
-        write = client-write g air old new words client h.ended s is _ _ _ _ by_air;
-        disk = client-disk g air old new words client h.ended s is h.causes.runs (list-disk g air given old new terms o.shown out mid tokens h.ended h.causes.runs h.ends);
-        of_shelf = client-shelf g air old new words client h.ended s is _ _ (λ e. absurd (list-not_shelf g air given old new terms o.shown out mid tokens h.ended h.ends e)) (λ _. ap sh.faults stayed_shelf);
-        exact = λ disk_not memory_not _. client-exact g air old new words client h.ended s is (g.content old.disk) h.notes disk_not memory_not;
+        read = client-read see old new words client h.ended s is _ _ _ _ by_air;
+        write = client-write see old new words client h.ended s is _ _ _ _ by_air;
+        disk = client-disk see old new words client h.ended s is h.causes.runs (list-disk see old new terms o.shown out mid tokens h.ended h.causes.runs h.ends);
+        of_shelf = client-shelf see old new words client h.ended s is _ _ (λ e. absurd (list-not_shelf see old new terms o.shown out mid tokens h.ended h.ends e)) (λ _. ap sh.faults stayed_shelf);
+        exact = λ disk_not memory_not _. client-exact see old new words client h.ended s is (see.disk.content old.disk) h.notes disk_not memory_not;
         out_rose = λ e. h.of_out.rose (list-out h.ended s h.status_is e);
         out_same = λ e. h.of_out.same (λ failed. done-ok h.ended s is e stop.Out failed);
       }
 
   -- want of memory for the words, or for the tokens of a list
-  pub unread-did : s ≡ status.OutOfMemory → new ≡ old → shelf_now ≡ shelf → mid ≡ out → ClientDid g air sh o old new shelf shelf_now out mid words s
+  pub unread-did : s ≡ status.OutOfMemory → new ≡ old → shelf_now ≡ shelf → mid ≡ out → ClientDid see sh o old new shelf shelf_now out mid words s
   unread-did memory same same_shelf same_out = record {
     kind = ap is_client_status memory;
-    read = record { rose = λ e. absurd (let other = sym memory ∙ e in cc); same = λ _ _. ap (λ (x : Setting D A C). air.read_faults x.air) same };
-    write = record { rose = λ e. absurd (let other = sym memory ∙ e in cc); same = λ _ _ _ _. ap (λ (x : Setting D A C). air.write_faults x.air) same };
+    read = record { rose = λ e. absurd (let other = sym memory ∙ e in cc); same = λ _ _. ap (λ (x : Lent D A C). see.air.read_faults x.air) same };
+    write = record { rose = λ e. absurd (let other = sym memory ∙ e in cc); same = λ _ _ _ _. ap (λ (x : Lent D A C). see.air.write_faults x.air) same };
     disk =
-        let stay_reads = ap (λ (x : Setting D A C). g.read_faults x.disk) same in
-        let stay_writes = ap (λ (x : Setting D A C). g.write_faults x.disk) same in
+        let stay_reads = ap (λ (x : Lent D A C). see.disk.read_faults x.disk) same in
+        let stay_writes = ap (λ (x : Lent D A C). see.disk.write_faults x.disk) same in
         record {
           asked = λ e. absurd (let other = sym memory ∙ e in cc);
           rose = λ e. absurd (let other = sym memory ∙ e in cc);

@@ -1,21 +1,22 @@
 -- How a client's command is stopped, and which status that is.
 use Rattle.std.proofs.Common.{◌≡◌, ℕ, refl, ap, sym, ◌∙◌, inl, inr, Bool, true, false}
-use Rattle.std.specs.Prelude.{◌⊎◌, Option, None, Some, IsTrue, Result, Ok, Err, if◌then◌else◌, ⊤}
+use Rattle.std.specs.Prelude.{◌⊎◌, Option, None, Some, IsErrOf, IsTrue, Result, Ok, Err}
 use Rattle.px_base.specs.Outside.{Rose}
 use Rattle.uploader.specs.NotesRefusal.{NotesRefusal}
 use Rattle.uploader.specs.NotesRefusal.TheVariants as refusal
 use Rattle.uploader.specs.StoreFault.{StoreFault}
 use Rattle.uploader.specs.StoreFault.TheVariants as fault
 use Rattle.ftl0_client.specs.declared.outcome.Outcome.{Outcome}
-use Rattle.ftl0_client.specs.declared.outcome.Outcome.TheVariants as outcome
-use Rattle.uploader.specs.ClientNodeCarried.{CountsBy, answer_of, is_working}
-use Rattle.uploader.specs.NodeStop.{NodeStop}
-use Rattle.uploader.specs.NodeStop.TheVariants as node
+use Rattle.node.specs.declared.finished.Finished.{Finished}
+use Rattle.node.specs.declared.stop.NodeStop.{NodeStop}
+use Rattle.node.specs.declared.stop.NodeStop.TheVariants as node
+use Rattle.uploader.specs.Turns.Carried.{CountsWhere}
 use Rattle.uploader.specs.declared.stop.SendStop.{SendStop}
 use Rattle.uploader.specs.declared.stop.SendStop.TheVariants as stop
 use Rattle.uploader.specs.declared.sum.FileSum.{FileSum}
 use Rattle.uploader.specs.Loading.{IsPastFile, is_of_file as is_stop_of_file}
-use Rattle.uploader.specs.Stops.{by_node, by_outcome, stop_of_fault, stop_of_node, stop_of_start}
+use Rattle.uploader.specs.Stops.{answer_of, stop_of_fault, stop_of_start, stop_of_turns}
+use Rattle.uploader.proofs.CarryLemmas.{of_answer, of_turns, turned}
 use Rattle.pacsat_cli.specs.declared.status.BadStore.TheVariants as bad
 use Rattle.pacsat_cli.specs.declared.status.RefusedBy.TheVariants as by
 use Rattle.pacsat_cli.specs.declared.status.Status.{Status}
@@ -166,22 +167,9 @@ is_carried stop.LinkDown = true
 is_carried (stop.Strange kind) = true
 is_carried why = false
 
-pub node-carried : (came : Result Outcome NodeStop) (why : SendStop) → by_node came ≡ Err why → is_carried why ≡ true
-node-carried (Ok outcome.Idle) why e = absurd (cc)
-node-carried (Ok outcome.Working) why e = absurd (cc)
-node-carried (Ok (outcome.Acked number)) why e = absurd (cc)
-node-carried (Ok (outcome.Refused code)) why e = (let same : why ≡ stop.Refused code = cc in ap is_carried same)
-node-carried (Ok (outcome.BadFile code)) why e = (let same : why ≡ stop.BadFile code = cc in ap is_carried same)
-node-carried (Ok (outcome.Fetched number)) why e = absurd (cc)
-node-carried (Ok outcome.Listed) why e = absurd (cc)
-node-carried (Ok (outcome.LinkDown reason)) why e = (let same : why ≡ stop.LinkDown = cc in ap is_carried same)
-node-carried (Ok (outcome.Strange kind)) why e = (let same : why ≡ stop.Strange kind = cc in ap is_carried same)
-node-carried (Err node.AirRead) why e = (let same : why ≡ stop.AirRead = cc in ap is_carried same)
-node-carried (Err node.AirWrite) why e = (let same : why ≡ stop.AirWrite = cc in ap is_carried same)
-node-carried (Err node.Disk) why e = (let same : why ≡ stop.Disk = cc in ap is_carried same)
-node-carried (Err node.Ended) why e = (let same : why ≡ stop.LinkDown = cc in ap is_carried same)
-node-carried (Err node.Spent) why e = (let same : why ≡ stop.Spent = cc in ap is_carried same)
-node-carried (Err node.OutOfMemory) why e = (let same : why ≡ stop.OutOfMemory = cc in ap is_carried same)
+pub node-carried : (ended : Result Finished NodeStop) (reached : Outcome) (why : SendStop) → answer_of ended reached ≡ Err why → is_carried why ≡ true
+node-carried ended reached why e =
+    of_answer (λ s. is_carried s ≡ true) (λ code. refl) (λ code. refl) refl (λ kind. refl) ended (of_turns (λ s. is_carried s ≡ true) refl refl refl refl refl refl ended) reached why e
 
 pub fault-carried : (why : StoreFault) → is_carried (stop_of_fault why) ≡ true
 fault-carried (fault.NotAStore found) = refl
@@ -241,18 +229,6 @@ module _ (reads reads_now writes writes_now : ℕ) where
     same_write = λ _ _ _ _. same_writes;
   }
 
-  -- an outcome came: the air may have failed behind it
-  outcome-may : (reached : Outcome) (why : SendStop) → by_outcome reached ≡ Err why → (may_have_outcome (status_of_stop why) ≡ true) × (is_of_air why ≡ false)
-  outcome-may outcome.Idle why e = absurd (cc)
-  outcome-may outcome.Working why e = absurd (cc)
-  outcome-may (outcome.Acked number) why e = absurd (cc)
-  outcome-may (outcome.Refused code) why e = (let same : why ≡ stop.Refused code = cc in (ap (λ (w : SendStop). may_have_outcome (status_of_stop w)) same, ap is_of_air same))
-  outcome-may (outcome.BadFile code) why e = (let same : why ≡ stop.BadFile code = cc in (ap (λ (w : SendStop). may_have_outcome (status_of_stop w)) same, ap is_of_air same))
-  outcome-may (outcome.Fetched number) why e = absurd (cc)
-  outcome-may outcome.Listed why e = absurd (cc)
-  outcome-may (outcome.LinkDown reason) why e = (let same : why ≡ stop.LinkDown = cc in (ap (λ (w : SendStop). may_have_outcome (status_of_stop w)) same, ap is_of_air same))
-  outcome-may (outcome.Strange kind) why e = (let same : why ≡ stop.Strange kind = cc in (ap (λ (w : SendStop). may_have_outcome (status_of_stop w)) same, ap is_of_air same))
-
   pub air-free :
       {T : Type 0} (ended : Result T SendStop)
       → ((why : SendStop) → ended ≡ Err why → (may_have_outcome (status_of_stop why) ≡ true) × (is_of_air why ≡ false))
@@ -263,9 +239,6 @@ module _ (reads reads_now writes writes_now : ℕ) where
     same_read = λ why e _ isnt. absurd (let yes = (may why e).0 in let both = sym yes ∙ isnt in cc);
     same_write = λ why e _ isnt. absurd (let yes = (may why e).0 in let both = sym yes ∙ isnt in cc);
   }
-
-  air-outcome : (reached : Outcome) → AirBy reads reads_now writes writes_now (by_outcome reached)
-  air-outcome reached = air-free (by_outcome reached) (outcome-may reached)
 
   -- what holds of one end holds of another with the same stop
   pub air-along :
@@ -279,28 +252,17 @@ module _ (reads reads_now writes writes_now : ℕ) where
     same_write = λ why e. h.same_write why (along why e);
   }
 
-  -- what became of the job, or the stop
-  air-reached :
-      (working : Bool) (why : NodeStop) (reached : Outcome) → AirBy {T = Outcome} reads reads_now writes writes_now (Err (stop_of_node why))
-      → AirBy reads reads_now writes writes_now (by_node (if working then Err why else Ok reached))
-  air-reached true why reached h = h
-  air-reached false why reached h = air-outcome reached
-
-  pub air-carried : (ended : Result ⊤ NodeStop) (reached : Outcome) → CountsBy ended reads reads_now writes writes_now → AirBy reads reads_now writes writes_now (by_node (answer_of ended reached))
-  air-carried (Ok closed) reached h = air-outcome reached
-  air-carried (Err node.AirRead) reached h = air-reached (is_working reached) node.AirRead reached (record {
-    rose_read = λ _. h.0;
-    rose_write = λ e. absurd (cc);
-    same_read = λ why e isnt _. absurd (let same : why ≡ stop.AirRead = cc in isnt same);
-    same_write = λ _ _ _ _. h.1;
-  })
-  air-carried (Err node.AirWrite) reached h = air-reached (is_working reached) node.AirWrite reached (record {
-    rose_read = λ e. absurd (cc);
-    rose_write = λ _. h.1;
-    same_read = λ _ _ _ _. h.0;
-    same_write = λ why e isnt _. absurd (let same : why ≡ stop.AirWrite = cc in isnt same);
-  })
-  air-carried (Err node.Ended) reached h = air-reached (is_working reached) node.Ended reached (air-stayed (Err stop.LinkDown) h.0 h.1 (λ why e. let same : why ≡ stop.LinkDown = cc in ap is_of_air same))
-  air-carried (Err node.Spent) reached h = air-reached (is_working reached) node.Spent reached (air-stayed (Err stop.Spent) h.0 h.1 (λ why e. let same : why ≡ stop.Spent = cc in ap is_of_air same))
-  air-carried (Err node.Disk) reached h = air-stayed (Err stop.Disk) h.0 h.1 (λ why e. let same : why ≡ stop.Disk = cc in ap is_of_air same)
-  air-carried (Err node.OutOfMemory) reached h = air-stayed (Err stop.OutOfMemory) h.0 h.1 (λ why e. let same : why ≡ stop.OutOfMemory = cc in ap is_of_air same)
+  -- what became of the job, behind which the air may have failed; or the turns' stop
+  pub air-carried : (ended : Result Finished NodeStop) (reached : Outcome) → CountsWhere reads reads_now (IsErrOf ended node.AirRead) → CountsWhere writes writes_now (IsErrOf ended node.AirWrite)
+      → AirBy reads reads_now writes writes_now (answer_of ended reached)
+  air-carried ended reached h k = record {
+    rose_read = λ e. h.rose (turned ended reached node.AirRead e);
+    rose_write = λ e. k.rose (turned ended reached node.AirWrite e);
+    same_read = λ why e. behind (reads_now ≡ reads) stop.AirRead (λ isnt. h.same (λ is. isnt (ap stop_of_turns is))) why e;
+    same_write = λ why e. behind (writes_now ≡ writes) stop.AirWrite (λ isnt. k.same (λ is. isnt (ap stop_of_turns is))) why e;
+  }
+    where
+      behind : (X : Type 0) (other : SendStop) → ((stop_of_turns ended ≡ other → ⊥) → X) → (why : SendStop) → answer_of ended reached ≡ Err why → (why ≡ other → ⊥) → may_have_outcome (status_of_stop why) ≡ false → X
+      behind X other same why e =
+          of_answer (λ s. (s ≡ other → ⊥) → may_have_outcome (status_of_stop s) ≡ false → X) (λ code isnt may. absurd (cc may)) (λ code isnt may. absurd (cc may)) (λ isnt may. absurd (cc may)) (λ kind isnt may. absurd (cc may)) ended
+          (λ isnt may. same isnt) reached why e

@@ -3,13 +3,13 @@ use Rattle.std.proofs.Common.{◌≡◌, ℕ, List, [], refl, ap, sym, subst, �
 use Rattle.std.proofs.lemmas.Result.{err_from_is_err_and}
 use Rattle.std.specs.Prelude.{◌⊎◌, Contains, Option, IfOk, Result, Ok, Err, IsErrAnd, ⊤}
 use Rattle.px_base.specs.Shelves.{Holding}
-use Rattle.px_base.specs.declared.air.Air.{Ghosts as AirGhosts}
 use Rattle.px_base.specs.declared.out.Out.{Ghosts as OutGhosts}
 use Rattle.px_base.specs.declared.shelf.Shelf.{Ghosts as ShelfGhosts}
 use Rattle.disk_model.specs.declared.disk.Disk.{Ghosts}
 use Rattle.file_store.specs.Walk.{Stands, state}
 use Rattle.file_store.proofs.Offered.{at_told}
 use Rattle.node.specs.Laws.{OneRunLaw}
+use Rattle.node.specs.Lent.{Lent, Seen}
 use Rattle.uploader.specs.Notes.{Lists}
 use Rattle.uploader.specs.State.{standing_of}
 use Rattle.uploader.specs.StoreFault.{StoreFault}
@@ -21,16 +21,16 @@ use Rattle.ftl0_client.specs.declared.outcome.Outcome.{Outcome}
 use Rattle.ftl0_client.specs.declared.outcome.Outcome.TheVariants as outcome
 use Rattle.uploader.specs.declared.stop.SendStop.{SendStop}
 use Rattle.uploader.specs.declared.terms.ClientTerms.{ClientTerms}
-use Rattle.uploader.specs.Carried.{Carries, IsUnrecovered, Setting, client_from}
-use Rattle.uploader.specs.Fetching.{KeepsBy}
+use Rattle.uploader.specs.Carried.{Carries, IsUnrecovered, asked_of}
+use Rattle.uploader.specs.Fetching.{KeepsBy, file_asked}
 use Rattle.uploader.specs.Led.{ComesBy, IsLedTo}
-use Rattle.uploader.specs.Listing.{ShowsBy}
+use Rattle.uploader.specs.Listing.{ShowsBy, files_asked}
 use Rattle.uploader.specs.OnDisk.{IsOfStanding, Recovers}
 use Rattle.uploader.specs.Stops.{stop_of_fault}
 use Rattle.uploader.proofs.LedLemmas.{led-law}
 use Rattle.pacsat_cli.specs.declared.status.Status.{Status}
 use Rattle.pacsat_cli.specs.declared.status.Status.TheVariants as status
-use Rattle.pacsat_cli.specs.Clients.{FetchRan, ListRan, RunsFetch, RunsList, client_terms, fetched_line}
+use Rattle.pacsat_cli.specs.Clients.{FetchRan, ListRan, RunsFetch, RunsList, client_terms, fetched_line, outside}
 use Rattle.pacsat_cli.specs.Exactly.{FetchEndsExactly, FetchLed, IsCause, IsNoFault, IsWanted, ListEndsExactly, ListLed, NotesTold, faults}
 use Rattle.pacsat_cli.specs.Stops.{status_of_stop}
 use Rattle.pacsat_cli.proofs.ClientEnds.{closes-status, end-status, keeps-along, shows-along}
@@ -51,7 +51,7 @@ standing-never standing start fault.OutOfMemory is h = inr refl
 standing-never standing start (fault.NotAStore found) is h = absurd (let both = sym is ∙ h in cc)
 standing-never standing start (fault.Damaged at) is h = absurd (let both = sym is ∙ h in cc)
 
-pub unrecovered-never : {A C D T X : Type 0} (g : Ghosts D) (old new : Setting D A C) (start : Lists) (ended : Result T SendStop) (s : Status) → StatusBy ended s → IsNoFault s → NotesTold g old.disk start
+pub unrecovered-never : {A C D T X : Type 0} (g : Ghosts D) (old new : Lent D A C) (start : Lists) (ended : Result T SendStop) (s : Status) → StatusBy ended s → IsNoFault s → NotesTold g old.disk start
     → IsErrAnd ended (IsUnrecovered g old new) → X
 unrecovered-never g old new start ended s is fine notes h =
     let e = err_from_is_err_and ended h in
@@ -92,17 +92,17 @@ shows-as shown out out_now listing came ended P h f = record {
 
 -- ---- the two commands
 
-module _ {A C D : Type 0} (g : Ghosts D) (air : AirGhosts A) (given : C → Option (List ℕ)) (runs : OneRunLaw) (steps : OneStepLaw) (stays : StaysLaw) (old new : Setting D A C) where
+module _ {A C D : Type 0} (see : Seen D A C) (runs : OneRunLaw) (steps : OneStepLaw) (stays : StaysLaw) (old new : Lent D A C) where
   -- a job of a client over the notes that are told
-  job-comes : (terms : ClientTerms) (first start : Lists) (job : JobState) (came : Result Outcome SendStop) (h : Carries g air given old new terms first [] job came) → NotesTold g old.disk start
-      → (led : (t : _) × (r : Outcome) × IsLedTo air given old new (client_from terms start) job t r) → ComesBy terms.polls led.0 led.1 came
+  job-comes : (terms : ClientTerms) (first start : Lists) (job : JobState) (came : Result Outcome SendStop) (h : Carries see old new (asked_of terms first [] job) came) → NotesTold see.disk old.disk start
+      → (led : (t : _) × (r : Outcome) × IsLedTo see old new (asked_of terms start [] job) t r) → ComesBy terms.polls led.0 led.1 came
   job-comes terms first start job came h notes led =
-      let same : first ≡ start = recovered-start g old.disk h.recovered first start h.recovers notes in
-      led-law g air given runs steps stays old new terms first [] job came led.0 led.1 h
-      (subst (λ (l : Lists). IsLedTo air given old new (client_from terms l) job led.0 led.1) (sym same) led.2)
+      let same : first ≡ start = recovered-start see.disk old.disk h.recovered first start h.recovers notes in
+      led-law see runs steps stays old new (asked_of terms first [] job) came led.0 led.1 h
+      (subst (λ (l : Lists). IsLedTo see old new (asked_of terms l [] job) led.0 led.1) (sym same) led.2)
 
   module _ {S O : Type 0} (sh : ShelfGhosts S) (o : OutGhosts O) (words : List (List ℕ)) (shelf shelf_now : S) (out out_now : O) (s : Status) where
-    pub fetch-exactly : RunsFetch words g air given sh o old new shelf shelf_now out out_now s → FetchEndsExactly words g air given old new s
+    pub fetch-exactly : RunsFetch words see sh o (outside old shelf out) (outside new shelf_now out_now) s → FetchEndsExactly words see old new s
     fetch-exactly all led fine other =
         let went = all led.asked led.number led.name led.asks in
         elim went.ran [
@@ -110,19 +110,19 @@ module _ {A C D : Type 0} (g : Ghosts D) (air : AirGhosts A) (given : C → Opti
           | inr ran ↦ fetch-ran led fine other went.mid ran
         ]
       where
-        fetch-ran : (led : FetchLed words g air given old new) → IsNoFault s → (other : Status) (mid : O) → FetchRan g air given sh o old new shelf shelf_now out mid (client_terms led.asked) led.number led.name s
+        fetch-ran : (led : FetchLed words see old new) → IsNoFault s → (other : Status) (mid : O) → FetchRan see sh o (outside old shelf out) (outside new shelf_now mid) (file_asked (client_terms led.asked) led.number led.name) s
             → (s ≡ other → IsCause led.asked.polls led.turns led.reached other) × (IsCause led.asked.polls led.turns led.reached other → s ≡ other)
         fetch-ran led fine other mid ran =
             let line : ⊤ → List ℕ = λ _. fetched_line led.number in
             let is : StatusBy ran.ended s = closes-status o line out mid ran.ended s ran.closes in
             elim ran.ends [
-              | inl unrecovered ↦ unrecovered-never g old new led.start ran.ended s is fine led.notes unrecovered.0
+              | inl unrecovered ↦ unrecovered-never see.disk old new led.start ran.ended s is fine led.notes unrecovered.0
               | inr h ↦
                   comes-exactly h.came ran.ended s is (keeps-as sh.held shelf shelf_now led.name h.octets led.number h.came ran.ended _ h.keeps h.fetched) fine led.asked.polls led.turns led.reached
                   (job-comes (client_terms led.asked) h.start led.start _ h.came h.carries led.notes (led.turns, led.reached, led.led)) other
             ]
 
-    pub list-exactly : RunsList words g air given o old new shelf shelf_now out out_now s → ListEndsExactly words g air given old new s
+    pub list-exactly : RunsList words see o (outside old shelf out) (outside new shelf_now out_now) s → ListEndsExactly words see old new s
     list-exactly all led fine other =
         let went = all led.asked led.tokens led.asks in
         elim went.ran [
@@ -130,12 +130,12 @@ module _ {A C D : Type 0} (g : Ghosts D) (air : AirGhosts A) (given : C → Opti
           | inr ran ↦ list-ran led fine other went.mid ran
         ]
       where
-        list-ran : (led : ListLed words g air given old new) → IsNoFault s → (other : Status) (mid : O) → ListRan g air given o old new out mid (client_terms led.asked) led.tokens s
+        list-ran : (led : ListLed words see old new) → IsNoFault s → (other : Status) (mid : O) → ListRan see o old new out mid (files_asked (client_terms led.asked) led.tokens) s
             → (s ≡ other → IsCause led.asked.polls led.turns led.reached other) × (IsCause led.asked.polls led.turns led.reached other → s ≡ other)
         list-ran led fine other mid ran =
             let is : StatusBy ran.ended s = end-status ran.ended s ran.status_is in
             elim ran.ends [
-              | inl unrecovered ↦ unrecovered-never g old new led.start ran.ended s is fine led.notes unrecovered.0
+              | inl unrecovered ↦ unrecovered-never see.disk old new led.start ran.ended s is fine led.notes unrecovered.0
               | inr h ↦
                   comes-exactly h.came ran.ended s is (shows-as o.shown out mid h.carries.listing h.came ran.ended _ h.shows h.listed) fine led.asked.polls led.turns led.reached
                   (job-comes (client_terms led.asked) h.start led.start _ h.came h.carries led.notes (led.turns, led.reached, led.led)) other

@@ -1,18 +1,20 @@
 -- The status of a client's command that came to its job, by what the definition makes of that.
-use Rattle.std.proofs.Common.{◌≡◌, ℕ, List, [], ◌∷◌, ◌++◌, refl, ap, sym, subst, ◌∙◌, inl, inr, arith, true}
+use Rattle.std.proofs.Common.{◌≡◌, ℕ, List, [], ◌∷◌, ◌++◌, length, refl, ap, sym, subst, ◌∙◌, inl, inr, arith, true}
 use Rattle.std.specs.Prelude.{◌≢◌, ◌⊎◌, Contains, Result, Ok, Err}
 use Rattle.px_base.specs.Polling.{EndsWith, HasEnd}
 use Rattle.px_base.specs.declared.air.Turn.{Turn}
 use Rattle.px_base.specs.declared.air.Turn.TheVariants as turn
 use Rattle.ftl0_client.specs.declared.outcome.Outcome.{Outcome}
 use Rattle.ftl0_client.specs.declared.outcome.Outcome.TheVariants as outcome
-use Rattle.uploader.specs.ClientNodeCarried.{TurnsBy}
-use Rattle.uploader.specs.NodeStop.{NodeStop}
-use Rattle.uploader.specs.NodeStop.TheVariants as node
+use Rattle.node.specs.Turns.{TurnsBy}
+use Rattle.node.specs.declared.finished.Finished.{Finished}
+use Rattle.node.specs.declared.finished.Finished.TheVariants as finished
+use Rattle.node.specs.declared.stop.NodeStop.{NodeStop}
+use Rattle.node.specs.declared.stop.NodeStop.TheVariants as node
 use Rattle.uploader.specs.declared.stop.SendStop.{SendStop}
 use Rattle.uploader.specs.declared.stop.SendStop.TheVariants as stop
 use Rattle.uploader.specs.Led.{ComesBy, IsCutShort, is_of_turns}
-use Rattle.uploader.specs.Stops.{by_outcome, stop_of_node}
+use Rattle.uploader.specs.Stops.{by_outcome, stop_of_turns}
 use Rattle.pacsat_cli.specs.declared.status.RefusedBy.TheVariants as by_whom
 use Rattle.pacsat_cli.specs.declared.status.Status.{Status}
 use Rattle.pacsat_cli.specs.declared.status.Status.TheVariants as status
@@ -56,28 +58,33 @@ fail-or-end turns fail end =
     let P : List Turn → Type 0 = λ x. HasEnd x in
     absurd (failed-no_end fail.0 fail.2 (subst P (sym end.1 ∙ fail.1) (ends-have end.0)))
 
-same-turns : (polls : ℕ) (turns : List Turn) (a b : NodeStop) → is_of_turns a ≡ true → is_of_turns b ≡ true → TurnsBy (Err a) polls turns → TurnsBy (Err b) polls turns → a ≡ b
-same-turns polls turns node.AirRead node.AirRead of too h k = refl
-same-turns polls turns node.AirRead node.Ended of too h k = fail-or-end turns h k
-same-turns polls turns node.AirRead node.Spent of too h k = absurd (ends_with-not_open turns turn.Fail h k.1)
-same-turns polls turns node.Ended node.AirRead of too h k = fail-or-end turns k h
-same-turns polls turns node.Ended node.Ended of too h k = refl
-same-turns polls turns node.Ended node.Spent of too h k = absurd (ends_with-not_open turns turn.End h k.1)
-same-turns polls turns node.Spent node.AirRead of too h k = absurd (ends_with-not_open turns turn.Fail k h.1)
-same-turns polls turns node.Spent node.Ended of too h k = absurd (ends_with-not_open turns turn.End k h.1)
-same-turns polls turns node.Spent node.Spent of too h k = refl
-same-turns polls turns node.AirWrite b of too h k = absurd (cc of)
-same-turns polls turns node.Disk b of too h k = absurd (cc of)
-same-turns polls turns node.OutOfMemory b of too h k = absurd (cc of)
-same-turns polls turns node.AirRead node.AirWrite of too h k = absurd (cc too)
-same-turns polls turns node.AirRead node.Disk of too h k = absurd (cc too)
-same-turns polls turns node.AirRead node.OutOfMemory of too h k = absurd (cc too)
-same-turns polls turns node.Ended node.AirWrite of too h k = absurd (cc too)
-same-turns polls turns node.Ended node.Disk of too h k = absurd (cc too)
-same-turns polls turns node.Ended node.OutOfMemory of too h k = absurd (cc too)
-same-turns polls turns node.Spent node.AirWrite of too h k = absurd (cc too)
-same-turns polls turns node.Spent node.Disk of too h k = absurd (cc too)
-same-turns polls turns node.Spent node.OutOfMemory of too h k = absurd (cc too)
+-- turns that end a command end it in one way
+same-stops : (polls : ℕ) (turns : List Turn) (a b : Result Finished NodeStop) → is_of_turns a ≡ true → is_of_turns b ≡ true → TurnsBy a polls turns → TurnsBy b polls turns → stop_of_turns a ≡ stop_of_turns b
+same-stops polls turns (Ok (finished.Closed count)) (Ok (finished.Closed other)) of too h k = refl
+same-stops polls turns (Ok (finished.Closed count)) (Err node.AirRead) of too h k = fail-or-end turns k h.0
+same-stops polls turns (Ok (finished.Closed count)) (Err node.Spent) of too h k = absurd (ends_with-not_open turns turn.End h.0 k.1)
+same-stops polls turns (Ok (finished.Closed count)) (Ok finished.Over) of too h k = absurd (cc too)
+same-stops polls turns (Ok (finished.Closed count)) (Err node.AirWrite) of too h k = absurd (cc too)
+same-stops polls turns (Ok (finished.Closed count)) (Err node.Disk) of too h k = absurd (cc too)
+same-stops polls turns (Ok (finished.Closed count)) (Err node.OutOfMemory) of too h k = absurd (cc too)
+same-stops polls turns (Err node.AirRead) (Ok (finished.Closed other)) of too h k = fail-or-end turns h k.0
+same-stops polls turns (Err node.AirRead) (Err node.AirRead) of too h k = refl
+same-stops polls turns (Err node.AirRead) (Err node.Spent) of too h k = absurd (ends_with-not_open turns turn.Fail h k.1)
+same-stops polls turns (Err node.AirRead) (Ok finished.Over) of too h k = absurd (cc too)
+same-stops polls turns (Err node.AirRead) (Err node.AirWrite) of too h k = absurd (cc too)
+same-stops polls turns (Err node.AirRead) (Err node.Disk) of too h k = absurd (cc too)
+same-stops polls turns (Err node.AirRead) (Err node.OutOfMemory) of too h k = absurd (cc too)
+same-stops polls turns (Err node.Spent) (Ok (finished.Closed other)) of too h k = absurd (ends_with-not_open turns turn.End k.0 h.1)
+same-stops polls turns (Err node.Spent) (Err node.AirRead) of too h k = absurd (ends_with-not_open turns turn.Fail k h.1)
+same-stops polls turns (Err node.Spent) (Err node.Spent) of too h k = refl
+same-stops polls turns (Err node.Spent) (Ok finished.Over) of too h k = absurd (cc too)
+same-stops polls turns (Err node.Spent) (Err node.AirWrite) of too h k = absurd (cc too)
+same-stops polls turns (Err node.Spent) (Err node.Disk) of too h k = absurd (cc too)
+same-stops polls turns (Err node.Spent) (Err node.OutOfMemory) of too h k = absurd (cc too)
+same-stops polls turns (Ok finished.Over) b of too h k = absurd (cc of)
+same-stops polls turns (Err node.AirWrite) b of too h k = absurd (cc of)
+same-stops polls turns (Err node.Disk) b of too h k = absurd (cc of)
+same-stops polls turns (Err node.OutOfMemory) b of too h k = absurd (cc of)
 
 -- ---- outcomes
 
@@ -154,21 +161,23 @@ module _ {T : Type 0} (came : Result Outcome SendStop) (ended : Result T SendSto
   outcome-cause polls turns outcome.Idle some e = absurd (came-ok outcome.Idle e).1
   outcome-cause polls turns outcome.Working some e = absurd (some refl)
 
-  turns-cause : (polls : ℕ) (turns : List Turn) (reached : Outcome) (why : NodeStop) → is_of_turns why ≡ true → reached ≡ outcome.Working → TurnsBy (Err why) polls turns → came ≡ Err (stop_of_node why) → IsCause polls turns reached s
-  turns-cause polls turns reached node.AirRead of working ends e = subst (λ (t : Status). IsCause polls turns reached t) (sym (came-err stop.AirRead e)) (working, ends)
-  turns-cause polls turns reached node.Ended of working ends e =
-      subst (λ (t : Status). IsCause polls turns reached t) (sym (came-err stop.LinkDown e)) (subst (λ (r : Outcome). IsLinkDown turns r) (sym working) ends)
-  turns-cause polls turns reached node.Spent of working ends e = subst (λ (t : Status). IsCause polls turns reached t) (sym (came-err stop.Spent e)) (working, ends.0, ends.1)
-  turns-cause polls turns reached node.AirWrite of working ends e = absurd (cc of)
-  turns-cause polls turns reached node.Disk of working ends e = absurd (cc of)
-  turns-cause polls turns reached node.OutOfMemory of working ends e = absurd (cc of)
+  turns-cause : (polls : ℕ) (turns : List Turn) (reached : Outcome) (ended_ : Result Finished NodeStop) → is_of_turns ended_ ≡ true → reached ≡ outcome.Working → TurnsBy ended_ polls turns → came ≡ Err (stop_of_turns ended_)
+      → IsCause polls turns reached s
+  turns-cause polls turns reached (Err node.AirRead) of working ends e = subst (λ (t : Status). IsCause polls turns reached t) (sym (came-err stop.AirRead e)) (working, ends)
+  turns-cause polls turns reached (Ok (finished.Closed count)) of working ends e =
+      subst (λ (t : Status). IsCause polls turns reached t) (sym (came-err stop.LinkDown e)) (subst (λ (r : Outcome). IsLinkDown turns r) (sym working) ends.0)
+  turns-cause polls turns reached (Err node.Spent) of working ends e = subst (λ (t : Status). IsCause polls turns reached t) (sym (came-err stop.Spent e)) (working, ends.0, ends.1)
+  turns-cause polls turns reached (Ok finished.Over) of working ends e = absurd (cc of)
+  turns-cause polls turns reached (Err node.AirWrite) of working ends e = absurd (cc of)
+  turns-cause polls turns reached (Err node.Disk) of working ends e = absurd (cc of)
+  turns-cause polls turns reached (Err node.OutOfMemory) of working ends e = absurd (cc of)
 
   module _ (polls : ℕ) (turns : List Turn) (reached : Outcome) (comes : ComesBy polls turns reached came) where
     to-cause : IsCause polls turns reached s
     to-cause = elim comes [
       | inl became ↦ outcome-cause polls turns reached became.0 became.1
       | inr others ↦ elim others [
-        | inl t ↦ turns-cause polls turns reached t.why t.of_turns t.working t.ends t.came_is
+        | inl t ↦ turns-cause polls turns reached t.ended t.of_turns t.working t.ends t.came_is
         | inr cut ↦ cut-never cut
       ]
     ]
@@ -181,11 +190,11 @@ module _ {T : Type 0} (came : Result Outcome SendStop) (ended : Result T SendSto
     ]
 
     -- nothing did
-    turned : (why : NodeStop) → is_of_turns why ≡ true → reached ≡ outcome.Working → TurnsBy (Err why) polls turns → s ≡ status_of_stop (stop_of_node why)
-    turned why of working ends = elim comes [
+    turned_by : (ended_ : Result Finished NodeStop) → is_of_turns ended_ ≡ true → reached ≡ outcome.Working → TurnsBy ended_ polls turns → s ≡ status_of_stop (stop_of_turns ended_)
+    turned_by ended_ of working ends = elim comes [
       | inl there ↦ absurd (there.0 working)
       | inr others ↦ elim others [
-        | inl t ↦ (let same : t.why ≡ why = same-turns polls turns t.why why t.of_turns of t.ends ends in came-err (stop_of_node why) (t.came_is ∙ ap (λ (w : NodeStop). Err (stop_of_node w)) same))
+        | inl t ↦ came-err (stop_of_turns ended_) (t.came_is ∙ ap Err (same-stops polls turns t.ended ended_ t.of_turns of t.ends ends))
         | inr cut ↦ cut-never cut
       ]
     ]
@@ -198,10 +207,10 @@ module _ {T : Type 0} (came : Result Outcome SendStop) (ended : Result T SendSto
     from-cause (status.Strange kind) h = came-err (stop.Strange kind) (became (Err (stop.Strange kind)) (λ working. let x = sym h ∙ working in cc) (ap by_outcome h))
     from-cause status.LinkDown h = elim (down-either turns reached h) [
       | inl down ↦ came-err stop.LinkDown (became (Err stop.LinkDown) down.0 down.1)
-      | inr ended_ ↦ turned node.Ended refl ended_.0 ended_.1
+      | inr ended_ ↦ turned_by (Ok (finished.Closed (length turns))) refl ended_.0 (ended_.1, refl)
     ]
-    from-cause status.AirRead h = turned node.AirRead refl h.0 h.1
-    from-cause status.Spent h = turned node.Spent refl h.0 (h.1, h.2)
+    from-cause status.AirRead h = turned_by (Err node.AirRead) refl h.0 h.1
+    from-cause status.Spent h = turned_by (Err node.Spent) refl h.0 (h.1, h.2)
     from-cause (status.Refused by_whom.Shown) h = absurd h
     from-cause other h = absurd h
 

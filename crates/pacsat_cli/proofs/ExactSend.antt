@@ -9,6 +9,7 @@ use Rattle.px_base.specs.declared.shelf.Shelf.{Ghosts as ShelfGhosts}
 use Rattle.disk_model.specs.declared.disk.Disk.{Ghosts}
 use Rattle.file_store.proofs.Offered.{told_weaker}
 use Rattle.node.specs.Laws.{OneRunLaw}
+use Rattle.node.specs.Lent.{Lent, Seen}
 use Rattle.header_tool.specs.Faults.{fault_code}
 use Rattle.uploader.specs.Answers.{IsFull}
 use Rattle.uploader.specs.Command.{NotesCommand}
@@ -30,16 +31,16 @@ use Rattle.uploader.specs.declared.stop.SendStop.TheVariants as stop
 use Rattle.uploader.specs.declared.sum.FileSum.{FileSum}
 use Rattle.uploader.specs.declared.terms.ClientTerms.{ClientTerms}
 use Rattle.uploader.specs.declared.terms.Sent.{Sent}
-use Rattle.uploader.specs.Carried.{Setting, client_from}
+use Rattle.uploader.specs.Carried.{asked_of}
 use Rattle.uploader.specs.Led.{ComesBy, IsLedTo}
 use Rattle.uploader.specs.Loading.{IsSendable, IsUnfit, sum_of}
-use Rattle.uploader.specs.Sending.{EndsAtStart, IsTaskFor, IsUnloaded, IsUnnoted, IsUnstarted, Uploads, first_command, last_answer}
+use Rattle.uploader.specs.Sending.{EndsAtStart, IsTaskFor, IsUnloaded, IsUnnoted, IsUnstarted, Uploads, first_command, last_answer, upload_of}
 use Rattle.uploader.proofs.LedLemmas.{led-law}
 use Rattle.uploader.proofs.StartLemmas.{IsOfTask, of_task}
 use Rattle.command_words.specs.Clients.{ClientTerms as AskedTerms}
 use Rattle.pacsat_cli.specs.declared.status.Status.{Status}
 use Rattle.pacsat_cli.specs.declared.status.Status.TheVariants as status
-use Rattle.pacsat_cli.specs.Clients.{RunsSend, SendRan, acked_line, client_terms}
+use Rattle.pacsat_cli.specs.Clients.{RunsSend, SendRan, acked_line, client_terms, outside}
 use Rattle.pacsat_cli.specs.Exactly.{FileRefusedExactly, IsNoFault, SendEndsExactly, SendRefuses, SendStarts, SendTold, StartsExactly, UploadLed}
 use Rattle.pacsat_cli.specs.Stops.{status_of_stop}
 use Rattle.pacsat_cli.proofs.ClientEnds.{carries-kind, closes-status, match-err}
@@ -143,8 +144,8 @@ match-ok : (ended : Result Sent SendStop) (came : Result Outcome SendStop) → M
 match-ok (Ok sent) came h value e = (let same : sent ≡ value = cc in h ∙ ap (λ (v : Sent). Ok (outcome.Acked v.number)) same)
 match-ok (Err why) came h value e = absurd (cc)
 
-module _ {A C D S O : Type 0} (g : Ghosts D) (air : AirGhosts A) (given : C → Option (List ℕ)) (sh : ShelfGhosts S) (o : OutGhosts O) (words : List (List ℕ)) (old new : Setting D A C) (shelf shelf_now : S) (s : Status) where
-  module _ (of : SendTold words g sh old shelf) (fine : IsNoFault s) (mid out : O) (ran : SendRan g air given sh o old new shelf shelf_now out mid (client_terms of.asked) of.name s) where
+module _ {A C D S O : Type 0} (see : Seen D A C) (sh : ShelfGhosts S) (o : OutGhosts O) (words : List (List ℕ)) (old new : Lent D A C) (shelf shelf_now : S) (s : Status) where
+  module _ (of : SendTold words see.disk sh old shelf) (fine : IsNoFault s) (mid out : O) (ran : SendRan see sh o (outside old shelf out) (outside new shelf_now mid) (client_terms of.asked) of.name s) where
     abbrev terms : ClientTerms
     terms = client_terms of.asked
 
@@ -152,7 +153,7 @@ module _ {A C D S O : Type 0} (g : Ghosts D) (air : AirGhosts A) (given : C → 
     is = closes-status o acked_line out mid ran.ended s ran.closes
 
     -- the file was loaded, and the notes were recovered
-    past : IsUnstarted g old new terms of.name of.file ran.ended ⊎ Uploads g air given old new terms of.name of.file ran.ended
+    past : IsUnstarted see.disk old new terms of.name of.file ran.ended ⊎ Uploads see old new terms of.name of.file ran.ended
     past = elim ran.ends [
       | inl unloaded ↦ (let e = err_from_is_err_and ran.ended unloaded in never e.0 e.1 e.2)
       | inr sends ↦
@@ -160,8 +161,8 @@ module _ {A C D S O : Type 0} (g : Ghosts D) (air : AirGhosts A) (given : C → 
           let both : Some sends.file ≡ Some of.file = sym there ∙ of.there in
           let same : sends.file ≡ of.file = cc in
           elim sends.ends [
-            | inl unrecovered ↦ unrecovered-never g old new of.start ran.ended s is fine of.notes unrecovered
-            | inr h ↦ subst (λ (f : List ℕ). IsUnstarted g old new terms of.name f ran.ended ⊎ Uploads g air given old new terms of.name f ran.ended) same h
+            | inl unrecovered ↦ unrecovered-never see.disk old new of.start ran.ended s is fine of.notes unrecovered
+            | inr h ↦ subst (λ (f : List ℕ). IsUnstarted see.disk old new terms of.name f ran.ended ⊎ Uploads see old new terms of.name f ran.ended) same h
           ])
     ]
       where
@@ -180,24 +181,24 @@ module _ {A C D S O : Type 0} (g : Ghosts D) (air : AirGhosts A) (given : C → 
     of-one = of_task of.start terms.server terms.me of.name (length of.file) (sum_of of.file).digest
 
     -- how it ended, where no job was asked
-    at-start : (h : IsUnstarted g old new terms of.name of.file ran.ended) → EndsAtStart of.start (first_command terms of.start of.name (sum_of of.file)) (sum_of of.file) answer ran.ended h.cut
+    at-start : (h : IsUnstarted see.disk old new terms of.name of.file ran.ended) → EndsAtStart of.start (first_command terms of.start of.name (sum_of of.file)) (sum_of of.file) answer ran.ended h.cut
     at-start h =
         subst (λ (l : Lists). EndsAtStart l (first_command terms l of.name (sum_of of.file)) (sum_of of.file) (last_answer terms l of.name (sum_of of.file)) ran.ended h.cut)
-        (recovered-start g old.disk h.recovered h.start of.start h.recovers of.notes) h.ends
+        (recovered-start see.disk old.disk h.recovered h.start of.start h.recovers of.notes) h.ends
 
-    of-task : (h : Uploads g air given old new terms of.name of.file ran.ended) → IsTaskFor terms of.start of.name (sum_of of.file) h.task h.number h.first
+    of-task : (h : Uploads see old new terms of.name of.file ran.ended) → IsTaskFor terms of.start of.name (sum_of of.file) h.task h.number h.first
     of-task h =
         subst (λ (l : Lists). IsTaskFor terms l of.name (sum_of of.file) h.task h.number h.first)
-        (recovered-start g old.disk h.carries.recovered h.start of.start h.carries.recovers of.notes) h.task_for
+        (recovered-start see.disk old.disk h.carries.recovered h.start of.start h.carries.recovers of.notes) h.task_for
 
     -- no upload stops so
-    upload-not : {X : Type 0} (h : Uploads g air given old new terms of.name of.file ran.ended) (why : SendStop) → is_carried why ≡ false → ran.ended ≡ Err why → X
+    upload-not : {X : Type 0} (h : Uploads see old new terms of.name of.file ran.ended) (why : SendStop) → is_carried why ≡ false → ran.ended ≡ Err why → X
     upload-not h why isnt e =
-        let kind : is_carried why ≡ true = carries-kind g air given old new h.carries why (match-err ran.ended _ h.came h.answer why e) in
+        let kind : is_carried why ≡ true = carries-kind see old new h.carries why (match-err ran.ended _ h.came h.answer why e) in
         absurd (let both = sym isnt ∙ kind in cc)
 
     -- a fresh task that is wanted isn't noted
-    not-noted : (h : IsUnstarted g old new terms of.name of.file ran.ended) → answer ≡ Ok None → (s ≡ status.NotesFull) × IsFull of.start
+    not-noted : (h : IsUnstarted see.disk old new terms of.name of.file ran.ended) → answer ≡ Ok None → (s ≡ status.NotesFull) × IsFull of.start
     not-noted h is_none =
         let command = first_command terms of.start of.name (sum_of of.file) in
         let ends = subst (λ (a : Result (Option Begun) NotesRefusal). EndsAtStart of.start command (sum_of of.file) a ran.ended h.cut) is_none (at-start h) in
@@ -260,9 +261,9 @@ module _ {A C D S O : Type 0} (g : Ghosts D) (air : AirGhosts A) (given : C → 
       already = already-done;
     }
 
-    module _ (led : UploadLed words g air given sh old new shelf of) where
+    module _ (led : UploadLed words see sh old new shelf of) where
       -- a task by which the file is uploaded is begun
-      uploads : Uploads g air given old new terms of.name of.file ran.ended
+      uploads : Uploads see old new terms of.name of.file ran.ended
       uploads = elim past [
         | inr h ↦ h
         | inl h ↦ elim led.task_for [
@@ -280,16 +281,16 @@ module _ {A C D S O : Type 0} (g : Ghosts D) (air : AirGhosts A) (given : C → 
 
       comes : OneRunLaw → OneStepLaw → StaysLaw → ComesBy terms.polls led.turns led.reached uploads.came
       comes runs steps stays =
-          let start_is : uploads.start ≡ of.start = recovered-start g old.disk uploads.carries.recovered uploads.start of.start uploads.carries.recovers of.notes in
+          let start_is : uploads.start ≡ of.start = recovered-start see.disk old.disk uploads.carries.recovered uploads.start of.start uploads.carries.recovers of.notes in
           let same = same-task terms of.start of.name (sum_of of.file) uploads.task led.task uploads.number led.number uploads.first led.first (of-task uploads) led.task_for in
-          let at_first = subst (λ (f : List NotesCommand). IsLedTo air given old new (client_from terms (after_all of.start f)) (new_job (work.Upload (new_upload led.task led.number of.file))) led.turns led.reached) (sym same.2) led.led in
-          let at_start = subst (λ (l : Lists). IsLedTo air given old new (client_from terms (after_all l uploads.first)) (new_job (work.Upload (new_upload led.task led.number of.file))) led.turns led.reached) (sym start_is) at_first in
-          let at_task = subst (λ (t : ℕ). IsLedTo air given old new (client_from terms (after_all uploads.start uploads.first)) (new_job (work.Upload (new_upload t led.number of.file))) led.turns led.reached) (sym same.0) at_start in
-          let at_number = subst (λ (n : ℕ). IsLedTo air given old new (client_from terms (after_all uploads.start uploads.first)) (new_job (work.Upload (new_upload uploads.task n of.file))) led.turns led.reached) (sym same.1) at_task in
-          led-law g air given runs steps stays old new terms uploads.start uploads.first (new_job (work.Upload (new_upload uploads.task uploads.number of.file))) uploads.came led.turns led.reached uploads.carries at_number
+          let at_first = subst (λ (f : List NotesCommand). IsLedTo see old new (asked_of terms of.start f (upload_of led.task led.number of.file)) led.turns led.reached) (sym same.2) led.led in
+          let at_start = subst (λ (l : Lists). IsLedTo see old new (asked_of terms l uploads.first (upload_of led.task led.number of.file)) led.turns led.reached) (sym start_is) at_first in
+          let at_task = subst (λ (t : ℕ). IsLedTo see old new (asked_of terms uploads.start uploads.first (upload_of t led.number of.file)) led.turns led.reached) (sym same.0) at_start in
+          let at_number = subst (λ (n : ℕ). IsLedTo see old new (asked_of terms uploads.start uploads.first (upload_of uploads.task n of.file)) led.turns led.reached) (sym same.1) at_task in
+          led-law see runs steps stays old new (asked_of terms uploads.start uploads.first (upload_of uploads.task uploads.number of.file)) uploads.came led.turns led.reached uploads.carries at_number
 
-  module _ (out now : O) (all : RunsSend words g air given sh o old new shelf shelf_now out now s) where
-    pub send-starts : SendStarts words g sh old shelf s
+  module _ (out now : O) (all : RunsSend words see sh o (outside old shelf out) (outside new shelf_now now) s) where
+    pub send-starts : SendStarts words see.disk sh old shelf s
     send-starts of fine =
         let went = all of.asked of.name of.asks in
         elim went.ran [ inl unread ↦ no-fault s status.OutOfMemory fine unread.0 at-memory | inr ran ↦ starts of fine went.mid out ran ]
@@ -299,7 +300,7 @@ module _ {A C D S O : Type 0} (g : Ghosts D) (air : AirGhosts A) (given : C → 
         let went = all asked name asks in
         elim went.ran [ inl unread ↦ absurd (no_memory unread.0) | inr ran ↦ refuses asked name no_shelf no_memory went.mid ran ]
       where
-        refuses : (asked : AskedTerms) (name : List ℕ) → ¬ (s ≡ status.Shelf) → ¬ (s ≡ status.OutOfMemory) → (mid : O) → SendRan g air given sh o old new shelf shelf_now out mid (client_terms asked) name s
+        refuses : (asked : AskedTerms) (name : List ℕ) → ¬ (s ≡ status.Shelf) → ¬ (s ≡ status.OutOfMemory) → (mid : O) → SendRan see sh o (outside old shelf out) (outside new shelf_now mid) (client_terms asked) name s
             → IfSome (sh.held shelf) (λ holding. FileRefusedExactly (content_of holding name) s)
         refuses asked name no_shelf no_memory mid ran =
             let is : StatusBy ran.ended s = closes-status o acked_line out mid ran.ended s ran.closes in
@@ -312,7 +313,7 @@ module _ {A C D S O : Type 0} (g : Ghosts D) (air : AirGhosts A) (given : C → 
               );
             }) (ran.file (λ failed. no_shelf (is.stopped stop.Shelf failed)) (λ none. no_memory (is.stopped stop.OutOfMemory none)))
 
-    pub send-exactly : OneRunLaw → OneStepLaw → StaysLaw → SendEndsExactly words g air given sh old new shelf s
+    pub send-exactly : OneRunLaw → OneStepLaw → StaysLaw → SendEndsExactly words see sh old new shelf s
     send-exactly runs steps stays of led fine other =
         let went = all of.asked of.name of.asks in
         elim went.ran [

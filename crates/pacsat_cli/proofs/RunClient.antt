@@ -2,11 +2,11 @@
 use Rattle.std.proofs.Common.{◌≡◌, ℕ, ◌≤◌, List, [], arith, ap, sym, subst, ◌∙◌, inl, inr, false}
 use Rattle.std.specs.Prelude.{◌⊎◌, Option}
 use Rattle.px_base.specs.Outside.{Rose}
-use Rattle.px_base.specs.declared.air.Air.{Ghosts as AirGhosts}
 use Rattle.px_base.specs.declared.out.Out.{Ghosts as OutGhosts}
 use Rattle.px_base.specs.declared.shelf.Shelf.{Ghosts as ShelfGhosts}
-use Rattle.disk_model.specs.declared.disk.Disk.{Ghosts}
-use Rattle.uploader.specs.Carried.{Setting}
+use Rattle.node.specs.Lent.{Lent, Seen}
+use Rattle.uploader.specs.Fetching.{file_asked}
+use Rattle.uploader.specs.Listing.{files_asked}
 use Rattle.command_words.specs.declared.client.ClientRequest.{ClientRequest}
 use Rattle.command_words.specs.declared.client.ClientRequest.TheVariants as client
 use Rattle.command_words.specs.Clients.{ClientTerms as AskedTerms}
@@ -15,7 +15,7 @@ use Rattle.command_words.specs.Laws.{Determined, OnlyOne}
 use Rattle.command_words.specs.Words.{AsksClient, AsksList, IsFetch, IsList, IsSend}
 use Rattle.pacsat_cli.specs.declared.status.Status.{Status}
 use Rattle.pacsat_cli.specs.declared.status.Status.TheVariants as status
-use Rattle.pacsat_cli.specs.Clients.{ClientRan, FetchRan, IsUnlisted, ListRan, MayRun, RunsFetch, RunsList, RunsSend, SendRan, client_terms}
+use Rattle.pacsat_cli.specs.Clients.{ClientRan, FetchRan, IsUnlisted, ListRan, MayRun, RunsFetch, RunsList, RunsSend, SendRan, client_terms, outside}
 use Rattle.pacsat_cli.specs.Run.{Shows, Stays}
 use Rattle.pacsat_cli.specs.Sessions.{HasStoreCause}
 use Rattle.pacsat_cli.specs.Status.{line_of}
@@ -34,78 +34,78 @@ may-run words (client.Send asked) is = record { ranges = is.text.text.ranges; so
 may-run words (client.Fetch asked) is = record { ranges = is.text.text.ranges; some = is.text.in_range.least }
 may-run words (client.List asked) is = record { ranges = is.2.text.text.ranges; hex = (is.0, is.1) }
 
-module _ {A C D S O : Type 0} (g : Ghosts D) (air : AirGhosts A) (given : C → Option (List ℕ)) (sh : ShelfGhosts S) (o : OutGhosts O) (old new : Setting D A C) (shelf shelf_now : S) (out mid now : O) (words : List (List ℕ)) (s : Status) where
+module _ {A C D S O : Type 0} (see : Seen D A C) (sh : ShelfGhosts S) (o : OutGhosts O) (old new : Lent D A C) (shelf shelf_now : S) (out mid now : O) (words : List (List ℕ)) (s : Status) where
   -- the words ask for this one command alone
   module _ (determined : Determined words) (line : Shows o.shown o.faults mid now (line_of s)) (done : line_of s ≡ [] → now ≡ mid) where
-    send-runs : (asked : AskedTerms) (name : List ℕ) → IsSend words asked name → SendRan g air given sh o old new shelf shelf_now out mid (client_terms asked) name s → RunsSend words g air given sh o old new shelf shelf_now out now s
+    send-runs : (asked : AskedTerms) (name : List ℕ) → IsSend words asked name → SendRan see sh o (outside old shelf out) (outside new shelf_now mid) (client_terms asked) name s → RunsSend words see sh o (outside old shelf out) (outside new shelf_now now) s
     send-runs asked name is ran = λ other another too.
         let same = determined.send asked other name another is too in
-        let at_name : List ℕ → Type 0 = λ n. SendRan g air given sh o old new shelf shelf_now out mid (client_terms asked) n s in
-        let at_asked : AskedTerms → Type 0 = λ a. SendRan g air given sh o old new shelf shelf_now out mid (client_terms a) another s in
+        let at_name : List ℕ → Type 0 = λ n. SendRan see sh o (outside old shelf out) (outside new shelf_now mid) (client_terms asked) n s in
+        let at_asked : AskedTerms → Type 0 = λ a. SendRan see sh o (outside old shelf out) (outside new shelf_now mid) (client_terms a) another s in
         record { mid = mid; ran = inr (subst at_asked same.0 (subst at_name same.1 ran)); line = line; done = done }
 
-    fetch-runs : (asked : AskedTerms) (number : ℕ) (name : List ℕ) → IsFetch words asked number name → FetchRan g air given sh o old new shelf shelf_now out mid (client_terms asked) number name s → RunsFetch words g air given sh o old new shelf shelf_now out now s
+    fetch-runs : (asked : AskedTerms) (number : ℕ) (name : List ℕ) → IsFetch words asked number name → FetchRan see sh o (outside old shelf out) (outside new shelf_now mid) (file_asked (client_terms asked) number name) s → RunsFetch words see sh o (outside old shelf out) (outside new shelf_now now) s
     fetch-runs asked number name is ran = λ other more another too.
         let same = determined.fetch asked other number more name another is too in
-        let at_name : List ℕ → Type 0 = λ n. FetchRan g air given sh o old new shelf shelf_now out mid (client_terms asked) number n s in
-        let at_number : ℕ → Type 0 = λ n. FetchRan g air given sh o old new shelf shelf_now out mid (client_terms asked) n another s in
-        let at_asked : AskedTerms → Type 0 = λ a. FetchRan g air given sh o old new shelf shelf_now out mid (client_terms a) more another s in
+        let at_name : List ℕ → Type 0 = λ n. FetchRan see sh o (outside old shelf out) (outside new shelf_now mid) (file_asked (client_terms asked) number n) s in
+        let at_number : ℕ → Type 0 = λ n. FetchRan see sh o (outside old shelf out) (outside new shelf_now mid) (file_asked (client_terms asked) n another) s in
+        let at_asked : AskedTerms → Type 0 = λ a. FetchRan see sh o (outside old shelf out) (outside new shelf_now mid) (file_asked (client_terms a) more another) s in
         record { mid = mid; ran = inr (subst at_asked same.0 (subst at_number same.1 (subst at_name same.2 ran))); line = line; done = done }
 
-    list-runs : (asked : AskedTerms) (tokens : List ℕ) → IsList words asked tokens → shelf_now ≡ shelf → IsUnlisted old new out mid s ⊎ ListRan g air given o old new out mid (client_terms asked) tokens s → RunsList words g air given o old new shelf shelf_now out now s
+    list-runs : (asked : AskedTerms) (tokens : List ℕ) → IsList words asked tokens → shelf_now ≡ shelf → IsUnlisted old new out mid s ⊎ ListRan see o old new out mid (files_asked (client_terms asked) tokens) s → RunsList words see o (outside old shelf out) (outside new shelf_now now) s
     list-runs asked tokens is same_shelf (inl none) = λ other more too. record { mid = mid; ran = inl (none.0, none.1, same_shelf, none.2); line = line; done = done }
     list-runs asked tokens is same_shelf (inr ran) = λ other more too.
         let same = determined.list asked other tokens more is too in
-        let at_tokens : List ℕ → Type 0 = λ t. ListRan g air given o old new out mid (client_terms asked) t s in
-        let at_asked : AskedTerms → Type 0 = λ a. ListRan g air given o old new out mid (client_terms a) more s in
+        let at_tokens : List ℕ → Type 0 = λ t. ListRan see o old new out mid (files_asked (client_terms asked) t) s in
+        let at_asked : AskedTerms → Type 0 = λ a. ListRan see o old new out mid (files_asked (client_terms a) more) s in
         record { mid = mid; ran = inr (subst at_asked same.0 (subst at_tokens same.1 ran)); line = line; done = done }
 
   -- a list, or want of memory for its tokens
-  listed-did : (asked : AskedTerms) (tokens : List ℕ) → IsList words asked tokens → shelf_now ≡ shelf → IsUnlisted old new out mid s ⊎ ListRan g air given o old new out mid (client_terms asked) tokens s → ClientDid g air sh o old new shelf shelf_now out mid words s
-  listed-did asked tokens is same_shelf (inl none) = unread-did g air given sh o old new shelf shelf_now out mid words s (client_terms asked) none.0 none.1 same_shelf none.2
-  listed-did asked tokens is same_shelf (inr ran) = list-did g air given sh o old new shelf shelf_now out mid words s (client_terms asked) tokens (asked, tokens, is) same_shelf ran
+  listed-did : (asked : AskedTerms) (tokens : List ℕ) → IsList words asked tokens → shelf_now ≡ shelf → IsUnlisted old new out mid s ⊎ ListRan see o old new out mid (files_asked (client_terms asked) tokens) s → ClientDid see sh o old new shelf shelf_now out mid words s
+  listed-did asked tokens is same_shelf (inl none) = unread-did see sh o old new shelf shelf_now out mid words s (client_terms asked) none.0 none.1 same_shelf none.2
+  listed-did asked tokens is same_shelf (inr ran) = list-did see sh o old new shelf shelf_now out mid words s (client_terms asked) tokens (asked, tokens, is) same_shelf ran
 
-  pub client-did : (request : ClientRequest) → AsksClientFor words request → ClientRan g air given sh o old new shelf shelf_now out mid request s → ClientDid g air sh o old new shelf shelf_now out mid words s
-  client-did (client.Send asked) is ran = send-did g air given sh o old new shelf shelf_now out mid words s (client_terms (send_terms asked)) asked.name.now (send_terms asked, asked.name.now, is) ran
+  pub client-did : (request : ClientRequest) → AsksClientFor words request → ClientRan see sh o (outside old shelf out) (outside new shelf_now mid) request s → ClientDid see sh o old new shelf shelf_now out mid words s
+  client-did (client.Send asked) is ran = send-did see sh o old new shelf shelf_now out mid words s (client_terms (send_terms asked)) asked.name.now (send_terms asked, asked.name.now, is) ran
   client-did (client.Fetch asked) is ran =
-      fetch-did g air given sh o old new shelf shelf_now out mid words s (client_terms (fetch_terms asked)) asked.number asked.name.now (fetch_terms asked, asked.number, asked.name.now, is) ran
+      fetch-did see sh o old new shelf shelf_now out mid words s (client_terms (fetch_terms asked)) asked.number asked.name.now (fetch_terms asked, asked.number, asked.name.now, is) ran
   client-did (client.List asked) is ran = listed-did (list_terms asked) is.0 is.2 ran.1 (ran.0 is.0 is.1)
 
   -- what the shelf holds stays, but for a file that is fetched
-  pub client-held : (request : ClientRequest) → AsksClientFor words request → ClientRan g air given sh o old new shelf shelf_now out mid request s → (AsksKept words → ⊥) → Stays sh.held shelf shelf_now
+  pub client-held : (request : ClientRequest) → AsksClientFor words request → ClientRan see sh o (outside old shelf out) (outside new shelf_now mid) request s → (AsksKept words → ⊥) → Stays sh.held shelf shelf_now
   client-held (client.Send asked) is ran others = ran.held
   client-held (client.Fetch asked) is ran others = absurd (others (inr (fetch_terms asked, asked.number, asked.name.now, is)))
   client-held (client.List asked) is ran others = ap sh.held ran.1
 
   -- and a list leaves it alone
-  pub client-alone : OnlyOne words → (request : ClientRequest) → AsksClientFor words request → ClientRan g air given sh o old new shelf shelf_now out mid request s → AsksList words → shelf_now ≡ shelf
+  pub client-alone : OnlyOne words → (request : ClientRequest) → AsksClientFor words request → ClientRan see sh o (outside old shelf out) (outside new shelf_now mid) request s → AsksList words → shelf_now ≡ shelf
   client-alone only (client.Send asked) is ran lists = absurd (only.send_list (send_terms asked, asked.name.now, is) lists)
   client-alone only (client.Fetch asked) is ran lists = absurd (only.fetch_list (fetch_terms asked, asked.number, asked.name.now, is) lists)
   client-alone only (client.List asked) is ran lists = ran.1
 
   -- the words ask for this alone
   module _ (only : OnlyOne words) (determined : Determined words) (line : Shows o.shown o.faults mid now (line_of s)) (done : line_of s ≡ [] → now ≡ mid) where
-    pub client-sends : (request : ClientRequest) → AsksClientFor words request → ClientRan g air given sh o old new shelf shelf_now out mid request s → RunsSend words g air given sh o old new shelf shelf_now out now s
+    pub client-sends : (request : ClientRequest) → AsksClientFor words request → ClientRan see sh o (outside old shelf out) (outside new shelf_now mid) request s → RunsSend words see sh o (outside old shelf out) (outside new shelf_now now) s
     client-sends (client.Send asked) is ran = send-runs determined line done (send_terms asked) asked.name.now is ran
     client-sends (client.Fetch asked) is ran = λ other another too. absurd (only.send_fetch (other, another, too) (fetch_terms asked, asked.number, asked.name.now, is))
     client-sends (client.List asked) is ran = λ other another too. absurd (only.send_list (other, another, too) (list_terms asked, is.0, is.2))
 
-    pub client-fetches : (request : ClientRequest) → AsksClientFor words request → ClientRan g air given sh o old new shelf shelf_now out mid request s → RunsFetch words g air given sh o old new shelf shelf_now out now s
+    pub client-fetches : (request : ClientRequest) → AsksClientFor words request → ClientRan see sh o (outside old shelf out) (outside new shelf_now mid) request s → RunsFetch words see sh o (outside old shelf out) (outside new shelf_now now) s
     client-fetches (client.Send asked) is ran = λ other number another too. absurd (only.send_fetch (send_terms asked, asked.name.now, is) (other, number, another, too))
     client-fetches (client.Fetch asked) is ran = fetch-runs determined line done (fetch_terms asked) asked.number asked.name.now is ran
     client-fetches (client.List asked) is ran = λ other number another too. absurd (only.fetch_list (other, number, another, too) (list_terms asked, is.0, is.2))
 
-    pub client-lists : (request : ClientRequest) → AsksClientFor words request → ClientRan g air given sh o old new shelf shelf_now out mid request s → RunsList words g air given o old new shelf shelf_now out now s
+    pub client-lists : (request : ClientRequest) → AsksClientFor words request → ClientRan see sh o (outside old shelf out) (outside new shelf_now mid) request s → RunsList words see o (outside old shelf out) (outside new shelf_now now) s
     client-lists (client.Send asked) is ran = λ other tokens too. absurd (only.send_list (send_terms asked, asked.name.now, is) (other, tokens, too))
     client-lists (client.Fetch asked) is ran = λ other tokens too. absurd (only.fetch_list (fetch_terms asked, asked.number, asked.name.now, is) (other, tokens, too))
     client-lists (client.List asked) is ran = list-runs determined line done (list_terms asked) is.0 is.2 ran.1 (ran.0 is.0 is.1)
 
-  module _ (did : ClientDid g air sh o old new shelf shelf_now out mid words s) where
+  module _ (did : ClientDid see sh o old new shelf shelf_now out mid words s) where
     -- a client's command ends with no other command's status
     pub client-not : (other : Status) → is_client_status other ≡ false → s ≡ other → ⊥
     client-not other isnt is = let kind = did.kind in let same = ap is_client_status is in absurd (cc)
 
-    pub client-store : AsksClient words → OnlyOne words → HasStoreCause words (g.content old.disk) s
+    pub client-store : AsksClient words → OnlyOne words → HasStoreCause words (see.disk.content old.disk) s
     client-store asks only = record {
       asked = λ _ _. inr asks;
       exact = λ asked is _ _ _. absurd (only.session_client (asked, is) asks);

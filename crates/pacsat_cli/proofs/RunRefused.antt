@@ -6,7 +6,7 @@ use Rattle.px_base.specs.declared.air.Air.{Ghosts as AirGhosts}
 use Rattle.px_base.specs.declared.out.Out.{Ghosts as OutGhosts}
 use Rattle.px_base.specs.declared.shelf.Shelf.{Ghosts as ShelfGhosts}
 use Rattle.disk_model.specs.declared.disk.Disk.{Ghosts}
-use Rattle.uploader.specs.Carried.{Setting}
+use Rattle.node.specs.Lent.{Lent, Seen}
 use Rattle.command_words.specs.declared.request.SessionRequest.{SessionRequest}
 use Rattle.command_words.specs.declared.serve.ServeRequest.{ServeRequest}
 use Rattle.px_base.proofs.Told.{Gains-none}
@@ -20,7 +20,7 @@ use Rattle.pacsat_cli.specs.declared.status.Status.{Status}
 use Rattle.pacsat_cli.specs.declared.status.Status.TheVariants as status
 use Rattle.pacsat_cli.specs.declared.files.FileCommand.{FileCommand}
 use Rattle.pacsat_cli.specs.Bodies.{BodyRan, IsOrHindered, body_status}
-use Rattle.pacsat_cli.specs.Clients.{RunsFetch, RunsList, RunsSend}
+use Rattle.pacsat_cli.specs.Clients.{RunsFetch, RunsList, RunsSend, outside}
 use Rattle.pacsat_cli.specs.Files.{FileEnd, FileShown, IsNoSuchBy, IsShownBy, IsTooLongBy}
 use Rattle.pacsat_cli.specs.Making.{IsMakeStatus, MakeRan}
 use Rattle.pacsat_cli.specs.Run.{IsUnless, Shows}
@@ -150,14 +150,14 @@ module _ (words : List (List ℕ)) (only : OnlyOne words) where
     }
 
     -- nothing was touched before the status's line
-    module _ {A C D S O : Type 0} (g : Ghosts D) (air : AirGhosts A) (given : C → Option (List ℕ)) (sh : ShelfGhosts S) (o : OutGhosts O) (old : Setting D A C) (shelf : S) (before now : O) (line : Shows o.shown o.faults before now (line_of (status_of_refusal why))) (done : line_of (status_of_refusal why) ≡ [] → now ≡ before) where
-      pub refused-send : RunsSend words g air given sh o old old shelf shelf before now (status_of_refusal why)
+    module _ {A C D S O : Type 0} (see : Seen D A C) (sh : ShelfGhosts S) (o : OutGhosts O) (old : Lent D A C) (shelf : S) (before now : O) (line : Shows o.shown o.faults before now (line_of (status_of_refusal why))) (done : line_of (status_of_refusal why) ≡ [] → now ≡ before) where
+      pub refused-send : RunsSend words see sh o (outside old shelf before) (outside old shelf now) (status_of_refusal why)
       refused-send = λ asked name is. record { mid = before; ran = inl (client-memory why h (inl (asked, name, is)), refl, refl, refl); line = line; done = done }
 
-      pub refused-fetch : RunsFetch words g air given sh o old old shelf shelf before now (status_of_refusal why)
+      pub refused-fetch : RunsFetch words see sh o (outside old shelf before) (outside old shelf now) (status_of_refusal why)
       refused-fetch = λ asked number name is. record { mid = before; ran = inl (client-memory why h (inr (inl (asked, number, name, is))), refl, refl, refl); line = line; done = done }
 
-      pub refused-list : RunsList words g air given o old old shelf shelf before now (status_of_refusal why)
+      pub refused-list : RunsList words see o (outside old shelf before) (outside old shelf now) (status_of_refusal why)
       refused-list = λ asked tokens is. record { mid = before; ran = inl (client-memory why h (inr (inr (asked, tokens, is))), refl, refl, refl); line = line; done = done }
 
     -- want of memory says nothing of the content

@@ -2,19 +2,17 @@
 -- shelf and output.
 use Rattle.std.specs.Prelude.{◌≡◌, ◌⊎◌, ℕ, ◌≤◌, List, [], length, codes, Option, Result, Ok, Err, IsErrOf, ⊤}
 use Rattle.px_base.specs.Outside.{Gains, GainsPrefix, Rose}
-use Rattle.px_base.specs.declared.air.Air.{Ghosts as AirGhosts}
 use Rattle.px_base.specs.declared.out.Out.{Ghosts as OutGhosts}
 use Rattle.px_base.specs.declared.shelf.Shelf.{Ghosts as ShelfGhosts}
-use Rattle.disk_model.specs.declared.disk.Disk.{Ghosts}
-use Rattle.file_store.specs.Calls.{CountsFault, Runs}
+use Rattle.node.specs.Lent.{Lent, Seen}
+use Rattle.file_store.specs.Calls.{CountsFault}
 use Rattle.uploader.specs.declared.stop.SendStop.{SendStop}
 use Rattle.uploader.specs.declared.stop.SendStop.TheVariants as stop
 use Rattle.uploader.specs.declared.terms.ClientTerms.{ClientTerms}
 use Rattle.uploader.specs.declared.terms.Sent.{Sent}
-use Rattle.uploader.specs.Carried.{Setting}
-use Rattle.uploader.specs.Causes.{HasAirCauseOf}
-use Rattle.uploader.specs.Fetching.{FetchEnds}
-use Rattle.uploader.specs.Listing.{ListEnds}
+use Rattle.uploader.specs.Causes.{HasCauses}
+use Rattle.uploader.specs.Fetching.{FetchEnds, FileAsked, file_asked}
+use Rattle.uploader.specs.Listing.{FilesAsked, ListEnds, files_asked}
 use Rattle.uploader.specs.Loading.{HasShelfCause, IsPastFile, RefusesFile}
 use Rattle.uploader.specs.OnDisk.{RefusesNotes}
 use Rattle.uploader.specs.Sending.{SendEnds}
@@ -55,72 +53,74 @@ abbrev pub Closes : {O T : Type 0} → OutGhosts O → (T → List ℕ) → O �
 Closes o line before now (Ok value) status = PutsLine o (line value) before now status
 Closes o line before now (Err why) status = (status ≡ status_of_stop why) × (now ≡ before)
 
--- What the counts of disk and air say of the end of a command.
-pub record HasCauses {A C D T : Type 0} (g : Ghosts D) (air : AirGhosts A) (old new : Setting D A C)
-    (ended : Result T SendStop) : Type 0 where
-  pub runs : Runs g (IsErrOf ended stop.Disk) old.disk new.disk
-  pub of_air : HasAirCauseOf air.read_faults air.write_faults old.air new.air ended
+-- What a run is lent, with its shelf and its output, at one moment.
+pub record Outside (D A C S O : Type 0) : Type 0 where
+  pub lent : Lent D A C
+  pub shelf : S
+  pub out : O
+
+abbrev pub outside : {D A C S O : Type 0} → Lent D A C → S → O → Outside D A C S O
+outside lent shelf out = record { lent = lent; shelf = shelf; out = out }
+
+-- the same with this output
+abbrev pub with_out : {D A C S O : Type 0} → Outside D A C S O → O → Outside D A C S O
+with_out all out = outside all.lent all.shelf out
 
 -- The file of this name was sent, as far as that came: what was said to what was heard, what stands on the disk at each
 -- moment, why it ended, as the status says, and what was shown of it.
-pub record SendRan {A C D S O : Type 0} (g : Ghosts D) (air : AirGhosts A) (given : C → Option (List ℕ))
-    (s : ShelfGhosts S) (o : OutGhosts O) (old new : Setting D A C) (shelf shelf_now : S) (out out_now : O)
-    (terms : ClientTerms) (name : List ℕ) (status : Status) : Type 0 where
+pub record SendRan {A C D S O : Type 0} (see : Seen D A C) (s : ShelfGhosts S) (o : OutGhosts O)
+    (old new : Outside D A C S O) (terms : ClientTerms) (name : List ℕ) (status : Status) : Type 0 where
   pub ended : Result Sent SendStop
-  pub ends : SendEnds g air given old new (s.held shelf) terms name ended
-  pub causes : HasCauses g air old new ended
-  pub file : RefusesFile (s.held shelf) name ended
-  pub notes : IsPastFile ended → RefusesNotes (g.content old.disk) ended
-  pub held : s.held shelf_now ≡ s.held shelf
-  pub of_shelf : HasShelfCause (s.faults shelf) (s.faults shelf_now) ended
-  pub closes : Closes o acked_line out out_now ended status
+  pub ends : SendEnds see old.lent new.lent (s.held old.shelf) terms name ended
+  pub causes : HasCauses see old.lent new.lent ended
+  pub file : RefusesFile (s.held old.shelf) name ended
+  pub notes : IsPastFile ended → RefusesNotes (see.disk.content old.lent.disk) ended
+  pub held : s.held new.shelf ≡ s.held old.shelf
+  pub of_shelf : HasShelfCause (s.faults old.shelf) (s.faults new.shelf) ended
+  pub closes : Closes o acked_line old.out new.out ended status
 
 -- The file of this number was fetched, and kept under this name, as far as that came.
-pub record FetchRan {A C D S O : Type 0} (g : Ghosts D) (air : AirGhosts A) (given : C → Option (List ℕ))
-    (s : ShelfGhosts S) (o : OutGhosts O) (old new : Setting D A C) (shelf shelf_now : S) (out out_now : O)
-    (terms : ClientTerms) (number : ℕ) (name : List ℕ) (status : Status) : Type 0 where
+pub record FetchRan {A C D S O : Type 0} (see : Seen D A C) (s : ShelfGhosts S) (o : OutGhosts O)
+    (old new : Outside D A C S O) (file : FileAsked) (status : Status) : Type 0 where
   pub ended : Result ⊤ SendStop
-  pub ends : FetchEnds g air given s.held old new shelf shelf_now terms number name ended
-  pub causes : HasCauses g air old new ended
-  pub notes : RefusesNotes (g.content old.disk) ended
-  pub of_shelf : CountsFault (s.faults shelf) (s.faults shelf_now) (IsErrOf ended stop.Shelf)
-  pub closes : Closes o (λ _. fetched_line number) out out_now ended status
+  pub ends : FetchEnds see s.held old.lent new.lent old.shelf new.shelf file ended
+  pub causes : HasCauses see old.lent new.lent ended
+  pub notes : RefusesNotes (see.disk.content old.lent.disk) ended
+  pub of_shelf : CountsFault (s.faults old.shelf) (s.faults new.shelf) (IsErrOf ended stop.Shelf)
+  pub closes : Closes o (λ _. fetched_line file.number) old.out new.out ended status
 
 -- The files that the selection of these tokens holds of were listed, as far as that came. Their lines are all that is shown.
-pub record ListRan {A C D O : Type 0} (g : Ghosts D) (air : AirGhosts A) (given : C → Option (List ℕ))
-    (o : OutGhosts O) (old new : Setting D A C) (out out_now : O) (terms : ClientTerms) (tokens : List ℕ)
-    (status : Status) : Type 0 where
+pub record ListRan {A C D O : Type 0} (see : Seen D A C) (o : OutGhosts O) (old new : Lent D A C) (out out_now : O)
+    (files : FilesAsked) (status : Status) : Type 0 where
   pub ended : Result ⊤ SendStop
-  pub ends : ListEnds g air given o.shown old new out out_now terms tokens ended
-  pub causes : HasCauses g air old new ended
-  pub notes : RefusesNotes (g.content old.disk) ended
+  pub ends : ListEnds see o.shown old new out out_now files ended
+  pub causes : HasCauses see old new ended
+  pub notes : RefusesNotes (see.disk.content old.disk) ended
   pub of_out : CountsFault (o.faults out) (o.faults out_now) (IsErrOf ended stop.Out)
   pub status_is : status ≡ status_of_end ended
 
 -- there was no memory for the tokens of a list, and nothing was touched
-abbrev pub IsUnlisted : {A C D O : Type 0} → Setting D A C → Setting D A C → O → O → Status → Type 0
+abbrev pub IsUnlisted : {A C D O : Type 0} → Lent D A C → Lent D A C → O → O → Status → Type 0
 IsUnlisted old new out out_now status = (status ≡ OutOfMemory) × (new ≡ old) × (out_now ≡ out)
 
 -- so it was with a list, by the text of its tokens
 abbrev pub IsListed :
-    {A C D O : Type 0} → Ghosts D → AirGhosts A → (C → Option (List ℕ)) → OutGhosts O → Setting D A C → Setting D A C
-    → O → O → ListRequest → Status → Type 0
-IsListed g air given o old new out out_now asked status =
+    {A C D O : Type 0} → Seen D A C → OutGhosts O → Lent D A C → Lent D A C → O → O → ListRequest → Status → Type 0
+IsListed see o old new out out_now asked status =
     (tokens : List ℕ) → HexText asked.hex.now tokens
     → IsUnlisted old new out out_now status
-    ⊎ ListRan g air given o old new out out_now (client_terms (list_terms asked)) tokens status
+    ⊎ ListRan see o old new out out_now (files_asked (client_terms (list_terms asked)) tokens) status
 
 -- so it was with what a client was asked for
 abbrev pub ClientRan :
-    {A C D S O : Type 0} → Ghosts D → AirGhosts A → (C → Option (List ℕ)) → ShelfGhosts S → OutGhosts O
-    → Setting D A C → Setting D A C → S → S → O → O → ClientRequest → Status → Type 0
-ClientRan g air given s o old new shelf shelf_now out out_now (client.Send asked) status =
-    SendRan g air given s o old new shelf shelf_now out out_now (client_terms (send_terms asked)) asked.name.now status
-ClientRan g air given s o old new shelf shelf_now out out_now (client.Fetch asked) status =
-    FetchRan g air given s o old new shelf shelf_now out out_now (client_terms (fetch_terms asked)) asked.number
-    asked.name.now status
-ClientRan g air given s o old new shelf shelf_now out out_now (client.List asked) status =
-    IsListed g air given o old new out out_now asked status × (shelf_now ≡ shelf)
+    {A C D S O : Type 0} → Seen D A C → ShelfGhosts S → OutGhosts O → Outside D A C S O → Outside D A C S O
+    → ClientRequest → Status → Type 0
+ClientRan see s o old new (client.Send asked) status =
+    SendRan see s o old new (client_terms (send_terms asked)) asked.name.now status
+ClientRan see s o old new (client.Fetch asked) status =
+    FetchRan see s o old new (file_asked (client_terms (fetch_terms asked)) asked.number asked.name.now) status
+ClientRan see s o old new (client.List asked) status =
+    IsListed see o old.lent new.lent old.out new.out asked status × (new.shelf ≡ old.shelf)
 
 -- The numbers and the texts of a request are such as the words give: of `send` NAME has 1 to 64 octets,
 pub record MaySend (asked : SendRequest) : Type 0 where
@@ -145,9 +145,9 @@ MayRun (client.Fetch asked) = MayFetch asked
 MayRun (client.List asked) = MayList asked
 
 -- there was no memory to read the words, or for the tokens among them, and nothing was touched
-abbrev pub IsUnread : {A C D S O : Type 0} → Setting D A C → Setting D A C → S → S → O → O → Status → Type 0
-IsUnread old new shelf shelf_now out out_now status =
-    (status ≡ OutOfMemory) × (new ≡ old) × (shelf_now ≡ shelf) × (out_now ≡ out)
+abbrev pub IsUnread : {A C D S O : Type 0} → Outside D A C S O → Outside D A C S O → Status → Type 0
+IsUnread old new status =
+    (status ≡ OutOfMemory) × (new.lent ≡ old.lent) × (new.shelf ≡ old.shelf) × (new.out ≡ old.out)
 
 -- A command did this to the output, and ended with this status, or its words couldn't be read. Then the status's line was
 -- shown, if it has one.
@@ -159,28 +159,28 @@ pub record ThenShows {O : Type 0} (o : OutGhosts O) (Unread Ran : O → Type 0) 
 
 -- where the words ask for a file to be sent, it is sent so
 abbrev pub RunsSend :
-    {A C D S O : Type 0} → List (List ℕ) → Ghosts D → AirGhosts A → (C → Option (List ℕ)) → ShelfGhosts S → OutGhosts O
-    → Setting D A C → Setting D A C → S → S → O → O → Status → Type 0
-RunsSend words g air given s o old new shelf shelf_now out out_now status =
+    {A C D S O : Type 0} → List (List ℕ) → Seen D A C → ShelfGhosts S → OutGhosts O → Outside D A C S O
+    → Outside D A C S O → Status → Type 0
+RunsSend words see s o old new status =
     (asked : AskedTerms) (name : List ℕ) → IsSend words asked name
-    → ThenShows o (λ mid. IsUnread old new shelf shelf_now out mid status)
-    (λ mid. SendRan g air given s o old new shelf shelf_now out mid (client_terms asked) name status) out_now status
+    → ThenShows o (λ mid. IsUnread old (with_out new mid) status)
+    (λ mid. SendRan see s o old (with_out new mid) (client_terms asked) name status) new.out status
 
 -- where they ask for one to be fetched, it is fetched so
 abbrev pub RunsFetch :
-    {A C D S O : Type 0} → List (List ℕ) → Ghosts D → AirGhosts A → (C → Option (List ℕ)) → ShelfGhosts S → OutGhosts O
-    → Setting D A C → Setting D A C → S → S → O → O → Status → Type 0
-RunsFetch words g air given s o old new shelf shelf_now out out_now status =
+    {A C D S O : Type 0} → List (List ℕ) → Seen D A C → ShelfGhosts S → OutGhosts O → Outside D A C S O
+    → Outside D A C S O → Status → Type 0
+RunsFetch words see s o old new status =
     (asked : AskedTerms) (number : ℕ) (name : List ℕ) → IsFetch words asked number name
-    → ThenShows o (λ mid. IsUnread old new shelf shelf_now out mid status)
-    (λ mid. FetchRan g air given s o old new shelf shelf_now out mid (client_terms asked) number name status) out_now
+    → ThenShows o (λ mid. IsUnread old (with_out new mid) status)
+    (λ mid. FetchRan see s o old (with_out new mid) (file_asked (client_terms asked) number name) status) new.out
     status
 
 -- where they ask for a list, it is made so
 abbrev pub RunsList :
-    {A C D S O : Type 0} → List (List ℕ) → Ghosts D → AirGhosts A → (C → Option (List ℕ)) → OutGhosts O
-    → Setting D A C → Setting D A C → S → S → O → O → Status → Type 0
-RunsList words g air given o old new shelf shelf_now out out_now status =
+    {A C D S O : Type 0} → List (List ℕ) → Seen D A C → OutGhosts O → Outside D A C S O → Outside D A C S O → Status
+    → Type 0
+RunsList words see o old new status =
     (asked : AskedTerms) (tokens : List ℕ) → IsList words asked tokens
-    → ThenShows o (λ mid. IsUnread old new shelf shelf_now out mid status)
-    (λ mid. ListRan g air given o old new out mid (client_terms asked) tokens status) out_now status
+    → ThenShows o (λ mid. IsUnread old (with_out new mid) status)
+    (λ mid. ListRan see o old.lent new.lent old.out mid (files_asked (client_terms asked) tokens) status) new.out status

@@ -4,32 +4,28 @@ use Rattle.std.specs.Prelude.{◌≡◌, ◌↔◌, ℕ, List, [], ◌∷◌, le
 use Rattle.std.specs.List.{AllByRecursion}
 use Rattle.px_base.specs.Polling.{EndsWith, IsOpen}
 use Rattle.px_base.specs.Shelves.{Holding, content_of}
-use Rattle.px_base.specs.declared.air.Air.{Ghosts as AirGhosts}
 use Rattle.px_base.specs.declared.air.Turn.{Turn}
 use Rattle.px_base.specs.declared.air.Turn.TheVariants as turn
 use Rattle.px_base.specs.declared.shelf.Shelf.{Ghosts as ShelfGhosts}
 use Rattle.disk_model.specs.declared.disk.Disk.{Ghosts}
 use Rattle.file_store.specs.Walk.{state}
+use Rattle.node.specs.Lent.{Lent, Seen}
 use Rattle.uploader.specs.Answers.{IsFull}
 use Rattle.uploader.specs.Command.{NotesCommand}
-use Rattle.uploader.specs.Laws.{after_all}
 use Rattle.uploader.specs.Notes.{Lists}
 use Rattle.uploader.specs.State.{standing_of as notes_standing}
 use Rattle.uploader.specs.Begun.TheVariants as begun
 use Rattle.uploader.specs.NotesRefusal.TheVariants as refusal
-use Rattle.ftl0_client.specs.Work.TheVariants as work
-use Rattle.ftl0_client.specs.Directory.{new_directory}
-use Rattle.ftl0_client.specs.Download.{new_download}
-use Rattle.ftl0_client.specs.Table.{new_job}
-use Rattle.ftl0_client.specs.Upload.{new_upload}
 use Rattle.ftl0_client.specs.declared.outcome.Outcome.{Outcome}
 use Rattle.ftl0_client.specs.declared.outcome.Outcome.TheVariants as outcome
 use Rattle.uploader.specs.declared.sum.FileSum.{FileSum}
 use Rattle.uploader.specs.declared.terms.ClientTerms.{ClientTerms}
-use Rattle.uploader.specs.Carried.{Setting, client_from}
+use Rattle.uploader.specs.Carried.{asked_of}
+use Rattle.uploader.specs.Fetching.{download_of, file_asked}
 use Rattle.uploader.specs.Led.{IsLedTo}
+use Rattle.uploader.specs.Listing.{directory_of}
 use Rattle.uploader.specs.Loading.{IsBad, IsLong, IsSendable, sum_of}
-use Rattle.uploader.specs.Sending.{IsTaskFor, last_answer}
+use Rattle.uploader.specs.Sending.{IsTaskFor, last_answer, upload_of}
 use Rattle.command_words.specs.Clients.{ClientTerms as AskedTerms}
 use Rattle.command_words.specs.Words.{IsFetch, IsList, IsSend}
 use Rattle.pacsat_cli.specs.declared.status.RefusedBy.TheVariants.{Fault, Server}
@@ -90,7 +86,7 @@ pub record NotesTold {D : Type 0} (g : Ghosts D) (disk : D) (start : Lists) : Ty
 
 -- The words ask for a file to be sent. The shelf tells that it has this one under the name, which may be sent, and the disk
 -- the notes.
-pub record SendTold {A C D S : Type 0} (words : List (List ℕ)) (g : Ghosts D) (s : ShelfGhosts S) (old : Setting D A C)
+pub record SendTold {A C D S : Type 0} (words : List (List ℕ)) (g : Ghosts D) (s : ShelfGhosts S) (old : Lent D A C)
     (shelf : S) : Type 0 where
   pub asked : AskedTerms
   pub name : List ℕ
@@ -105,9 +101,8 @@ pub record SendTold {A C D S : Type 0} (words : List (List ℕ)) (g : Ghosts D) 
 
 -- The notes have a task by which it is uploaded, a fresh one or the last one, and what is told of air and clock leads a
 -- client that is asked for this upload, by the definition, to this outcome.
-pub record UploadLed {A C D S : Type 0} (words : List (List ℕ)) (g : Ghosts D) (air : AirGhosts A)
-    (given : C → Option (List ℕ)) (s : ShelfGhosts S) (old new : Setting D A C) (shelf : S)
-    (of : SendTold words g s old shelf) : Type 0 where
+pub record UploadLed {A C D S : Type 0} (words : List (List ℕ)) (see : Seen D A C) (s : ShelfGhosts S)
+    (old new : Lent D A C) (shelf : S) (of : SendTold words see.disk s old shelf) : Type 0 where
   pub task : ℕ
   pub number : ℕ
   pub first : List NotesCommand
@@ -115,38 +110,35 @@ pub record UploadLed {A C D S : Type 0} (words : List (List ℕ)) (g : Ghosts D)
   pub turns : List Turn
   pub reached : Outcome
   pub led :
-      IsLedTo air given old new (client_from (client_terms of.asked) (after_all of.start first))
-      (new_job (work.Upload (new_upload task number of.file))) turns reached
+      IsLedTo see old new (asked_of (client_terms of.asked) of.start first (upload_of task number of.file)) turns
+      reached
 
 -- The words ask for a file to be fetched, the disk tells the notes, and air and clock what leads a client that is asked for
 -- this download to this outcome.
-pub record FetchLed {A C D : Type 0} (words : List (List ℕ)) (g : Ghosts D) (air : AirGhosts A)
-    (given : C → Option (List ℕ)) (old new : Setting D A C) : Type 0 where
+pub record FetchLed {A C D : Type 0} (words : List (List ℕ)) (see : Seen D A C) (old new : Lent D A C) : Type 0 where
   pub asked : AskedTerms
   pub number : ℕ
   pub name : List ℕ
   pub asks : IsFetch words asked number name
   pub start : Lists
-  pub notes : NotesTold g old.disk start
+  pub notes : NotesTold see.disk old.disk start
   pub turns : List Turn
   pub reached : Outcome
   pub led :
-      IsLedTo air given old new (client_from (client_terms asked) start)
-      (new_job (work.Download (new_download asked.server number))) turns reached
+      IsLedTo see old new
+      (asked_of (client_terms asked) start [] (download_of (file_asked (client_terms asked) number name))) turns reached
 
 -- The same of a list.
-pub record ListLed {A C D : Type 0} (words : List (List ℕ)) (g : Ghosts D) (air : AirGhosts A)
-    (given : C → Option (List ℕ)) (old new : Setting D A C) : Type 0 where
+pub record ListLed {A C D : Type 0} (words : List (List ℕ)) (see : Seen D A C) (old new : Lent D A C) : Type 0 where
   pub asked : AskedTerms
   pub tokens : List ℕ
   pub asks : IsList words asked tokens
   pub start : Lists
-  pub notes : NotesTold g old.disk start
+  pub notes : NotesTold see.disk old.disk start
   pub turns : List Turn
   pub reached : Outcome
   pub led :
-      IsLedTo air given old new (client_from (client_terms asked) start)
-      (new_job (work.Directory (new_directory tokens))) turns reached
+      IsLedTo see old new (asked_of (client_terms asked) start [] (directory_of tokens)) turns reached
 
 -- ---- what comes
 
@@ -174,28 +166,21 @@ pub record StartsExactly (terms : ClientTerms) (start : Lists) (name : List ℕ)
   pub already : (number : ℕ) → last_answer terms start name sum ≡ Ok (Some (begun.Already number)) → status ≡ Done
 
 abbrev pub SendStarts :
-    {A C D S : Type 0} → List (List ℕ) → Ghosts D → ShelfGhosts S → Setting D A C → S → Status → Type 0
+    {A C D S : Type 0} → List (List ℕ) → Ghosts D → ShelfGhosts S → Lent D A C → S → Status → Type 0
 SendStarts words g s old shelf status =
     (of : SendTold words g s old shelf) → IsNoFault status
     → StartsExactly (client_terms of.asked) of.start of.name (sum_of of.file) status
 
 abbrev pub SendEndsExactly :
-    {A C D S : Type 0} → List (List ℕ) → Ghosts D → AirGhosts A → (C → Option (List ℕ)) → ShelfGhosts S
-    → Setting D A C → Setting D A C → S → Status → Type 0
-SendEndsExactly words g air given s old new shelf status =
-    (of : SendTold words g s old shelf) (led : UploadLed words g air given s old new shelf of)
+    {A C D S : Type 0} → List (List ℕ) → Seen D A C → ShelfGhosts S → Lent D A C → Lent D A C → S → Status → Type 0
+SendEndsExactly words see s old new shelf status =
+    (of : SendTold words see.disk s old shelf) (led : UploadLed words see s old new shelf of)
     → ComesExactly (IsCause of.asked.polls led.turns led.reached) status
 
-abbrev pub FetchEndsExactly :
-    {A C D : Type 0} → List (List ℕ) → Ghosts D → AirGhosts A → (C → Option (List ℕ)) → Setting D A C → Setting D A C
-    → Status → Type 0
-FetchEndsExactly words g air given old new status =
-    (led : FetchLed words g air given old new)
-    → ComesExactly (IsCause led.asked.polls led.turns led.reached) status
+abbrev pub FetchEndsExactly : {A C D : Type 0} → List (List ℕ) → Seen D A C → Lent D A C → Lent D A C → Status → Type 0
+FetchEndsExactly words see old new status =
+    (led : FetchLed words see old new) → ComesExactly (IsCause led.asked.polls led.turns led.reached) status
 
-abbrev pub ListEndsExactly :
-    {A C D : Type 0} → List (List ℕ) → Ghosts D → AirGhosts A → (C → Option (List ℕ)) → Setting D A C → Setting D A C
-    → Status → Type 0
-ListEndsExactly words g air given old new status =
-    (led : ListLed words g air given old new)
-    → ComesExactly (IsCause led.asked.polls led.turns led.reached) status
+abbrev pub ListEndsExactly : {A C D : Type 0} → List (List ℕ) → Seen D A C → Lent D A C → Lent D A C → Status → Type 0
+ListEndsExactly words see old new status =
+    (led : ListLed words see old new) → ComesExactly (IsCause led.asked.polls led.turns led.reached) status

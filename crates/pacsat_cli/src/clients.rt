@@ -2,9 +2,10 @@
 
 ghost use Rattle.std.specs.Prelude.{◌≡◌, ◌≤◌, length};
 ghost use Rattle.command_words.specs.Asked.{fetch_terms, send_terms};
-ghost use Rattle.uploader.specs.Carried.{setting};
+ghost use Rattle.node.specs.Lent.{lent, seen};
+ghost use Rattle.uploader.specs.Fetching.{file_asked};
 ghost use Rattle.pacsat_cli.specs.Clients.{ClientRan, FetchRan, IsListed, MayFetch, MayList, MayRun, MaySend, PutsLine};
-ghost use Rattle.pacsat_cli.specs.Clients.{SendRan, client_terms};
+ghost use Rattle.pacsat_cli.specs.Clients.{SendRan, client_terms, outside};
 ghost use Rattle.pacsat_cli.specs.Status.{numbered_line};
 ghost use Rattle.pacsat_cli.specs.Stops.{status_of_stop as stop_status};
 
@@ -27,8 +28,9 @@ pub(crate) fn run_client<D: Disk, A: Air, S: Shelf, O: Out, C: Clock>(
     clock: &mut C,
 ) -> Status
     requires { MayRun request.now }
-    ensures { ClientRan D.Disk A.Air C.given S.Shelf O.Out (setting disk.old air.old clock.old)
-        (setting disk.new air.new clock.new) shelf.old shelf.new out.old out.new request.now result }
+    ensures { ClientRan (seen D.Disk A.Air C.given) S.Shelf O.Out
+        (outside (lent disk.old air.old clock.old) shelf.old out.old)
+        (outside (lent disk.new air.new clock.new) shelf.new out.new) request.now result }
 {
     match request {
         ClientRequest::Send(send) => run_send(alloc, send, disk, air, shelf, out, clock),
@@ -48,8 +50,9 @@ fn run_send<D: Disk, A: Air, S: Shelf, O: Out, C: Clock>(
     clock: &mut C,
 ) -> Status
     requires { MaySend request.now }
-    ensures ran { SendRan D.Disk A.Air C.given S.Shelf O.Out (setting disk.old air.old clock.old)
-        (setting disk.new air.new clock.new) shelf.old shelf.new out.old out.new (client_terms (send_terms request.now))
+    ensures ran { SendRan (seen D.Disk A.Air C.given) S.Shelf O.Out
+        (outside (lent disk.old air.old clock.old) shelf.old out.old)
+        (outside (lent disk.new air.new clock.new) shelf.new out.new) (client_terms (send_terms request.now))
         request.now.name.now result }
 {
     let terms = ClientTerms {
@@ -75,9 +78,10 @@ fn run_fetch<D: Disk, A: Air, S: Shelf, O: Out, C: Clock>(
     clock: &mut C,
 ) -> Status
     requires { MayFetch request.now }
-    ensures ran { FetchRan D.Disk A.Air C.given S.Shelf O.Out (setting disk.old air.old clock.old)
-        (setting disk.new air.new clock.new) shelf.old shelf.new out.old out.new (client_terms (fetch_terms request.now))
-        request.now.number request.now.name.now result }
+    ensures ran { FetchRan (seen D.Disk A.Air C.given) S.Shelf O.Out
+        (outside (lent disk.old air.old clock.old) shelf.old out.old)
+        (outside (lent disk.new air.new clock.new) shelf.new out.new)
+        (file_asked (client_terms (fetch_terms request.now)) request.now.number request.now.name.now) result }
 {
     let terms = ClientTerms {
         server: request.server,
@@ -110,8 +114,8 @@ fn run_list<D: Disk, A: Air, O: Out, C: Clock>(
     clock: &mut C,
 ) -> Status
     requires { MayList request.now }
-    ensures ran { IsListed D.Disk A.Air C.given O.Out (setting disk.old air.old clock.old)
-        (setting disk.new air.new clock.new) out.old out.new request.now result }
+    ensures ran { IsListed (seen D.Disk A.Air C.given) O.Out (lent disk.old air.old clock.old)
+        (lent disk.new air.new clock.new) out.old out.new request.now result }
 {
     let Ok(tokens) = request.tokens(alloc) else {
         return Status::OutOfMemory;

@@ -7,8 +7,8 @@ ghost use Rattle.ftl0_session.specs.Laws.{AcknowledgedStandsLaw};
 ghost use Rattle.node.specs.Lent.{lent, seen};
 ghost use Rattle.px_base.specs.Outside.{Rose};
 ghost use Rattle.server_node.specs.Sessions.Laws.{AcknowledgedSinceLaw};
-ghost use Rattle.uploader.specs.Carried.{setting};
-ghost use Rattle.pacsat_cli.specs.Clients.{RunsFetch, RunsList, RunsSend};
+ghost use Rattle.node.specs.Lent.{lent, seen};
+ghost use Rattle.pacsat_cli.specs.Clients.{RunsFetch, RunsList, RunsSend, outside};
 ghost use Rattle.pacsat_cli.specs.Exactly.{FetchEndsExactly, ListEndsExactly, SendEndsExactly, SendRefuses};
 ghost use Rattle.pacsat_cli.specs.Exactly.{SendStarts};
 ghost use Rattle.pacsat_cli.specs.Files.{IsNoSuchBy, IsShownBy, IsTooLongBy};
@@ -88,12 +88,15 @@ pub fn run<D: Disk, A: Air, S: Shelf, O: Out, C: Clock>(
     // status that has its cause. At every moment since the first sync of the recovery each image stands for those notes after
     // the first of the client's commands, none skipped. A file that is acknowledged is so in each image; one that is fetched
     // is kept whole on the shelf. Or there was no memory to read the words.
-    ensures send { RunsSend words.now D.Disk A.Air C.given S.Shelf O.Out (setting disk.old air.old clock.old)
-        (setting disk.new air.new clock.new) shelf.old shelf.new out.old out.new result }
-    ensures fetch { RunsFetch words.now D.Disk A.Air C.given S.Shelf O.Out (setting disk.old air.old clock.old)
-        (setting disk.new air.new clock.new) shelf.old shelf.new out.old out.new result }
-    ensures list { RunsList words.now D.Disk A.Air C.given O.Out (setting disk.old air.old clock.old)
-        (setting disk.new air.new clock.new) shelf.old shelf.new out.old out.new result }
+    ensures send { RunsSend words.now (seen D.Disk A.Air C.given) S.Shelf O.Out
+        (outside (lent disk.old air.old clock.old) shelf.old out.old)
+        (outside (lent disk.new air.new clock.new) shelf.new out.new) result }
+    ensures fetch { RunsFetch words.now (seen D.Disk A.Air C.given) S.Shelf O.Out
+        (outside (lent disk.old air.old clock.old) shelf.old out.old)
+        (outside (lent disk.new air.new clock.new) shelf.new out.new) result }
+    ensures list { RunsList words.now (seen D.Disk A.Air C.given) O.Out
+        (outside (lent disk.old air.old clock.old) shelf.old out.old)
+        (outside (lent disk.new air.new clock.new) shelf.new out.new) result }
     ensures list_alone { AsksList words.now → shelf.new ≡ shelf.old }
 
     // Where it is told what shelf and disk had, and what air and clock gave, each status of a client's command but those of a
@@ -101,13 +104,13 @@ pub fn run<D: Disk, A: Air, S: Shelf, O: Out, C: Clock>(
     // file under the name, by the last task of the name, and by what the definition makes of the job over all that was
     // heard. So a command is done exactly where that leads to what it asks for, or where the file was acknowledged before.
     ensures send_refuses { SendRefuses words.now S.Shelf shelf.old result }
-    ensures send_starts { SendStarts words.now D.Disk S.Shelf (setting disk.old air.old clock.old) shelf.old result }
-    ensures send_exactly { SendEndsExactly words.now D.Disk A.Air C.given S.Shelf (setting disk.old air.old clock.old)
-        (setting disk.new air.new clock.new) shelf.old result }
-    ensures fetch_exactly { FetchEndsExactly words.now D.Disk A.Air C.given (setting disk.old air.old clock.old)
-        (setting disk.new air.new clock.new) result }
-    ensures list_exactly { ListEndsExactly words.now D.Disk A.Air C.given (setting disk.old air.old clock.old)
-        (setting disk.new air.new clock.new) result }
+    ensures send_starts { SendStarts words.now D.Disk S.Shelf (lent disk.old air.old clock.old) shelf.old result }
+    ensures send_exactly { SendEndsExactly words.now (seen D.Disk A.Air C.given) S.Shelf
+        (lent disk.old air.old clock.old) (lent disk.new air.new clock.new) shelf.old result }
+    ensures fetch_exactly { FetchEndsExactly words.now (seen D.Disk A.Air C.given) (lent disk.old air.old clock.old)
+        (lent disk.new air.new clock.new) result }
+    ensures list_exactly { ListEndsExactly words.now (seen D.Disk A.Air C.given) (lent disk.old air.old clock.old)
+        (lent disk.new air.new clock.new) result }
 
     // So what was acknowledged stands: once DATA_END's row replied UL_ACK_RESP, the file's entry is complete, with exactly the
     // octets that came, stamped, in every image in which its commands are done, whatever comes behind them; and so in every

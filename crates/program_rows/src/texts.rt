@@ -1,7 +1,6 @@
 //! Rows of error types: each names one, and the text of each of its values is printed, ended by `|`.
 
 use anyhow::{Result, bail};
-use client_node::NodeStop as ClientStop;
 use command_words::Refusal;
 use ftl0_job::JobStop;
 use ftl0_session::ServerStop;
@@ -20,7 +19,6 @@ impl Player for TextRows {
         match row {
             "words" => words(alloc),
             "send" => send_stops(alloc),
-            "client" => client_stops(alloc),
             "job" => job_stops(alloc),
             "session" => session_stops(alloc),
             "server" => server_stops(alloc),
@@ -78,21 +76,6 @@ fn send_stops(alloc: Global) -> Result<String> {
             SendStop::Strange { kind: 0 },
             SendStop::NotesFull,
             SendStop::TooLong,
-        ],
-    )
-}
-
-/// The stops of a client's turns.
-fn client_stops(alloc: Global) -> Result<String> {
-    joined(
-        alloc,
-        &[
-            ClientStop::AirRead,
-            ClientStop::AirWrite,
-            ClientStop::Disk,
-            ClientStop::Ended,
-            ClientStop::Spent,
-            ClientStop::OutOfMemory,
         ],
     )
 }

@@ -1,96 +1,95 @@
 -- A job is carried out by a client whose notes were recovered.
-use Rattle.std.proofs.Common.{◌≡◌, ℕ, Bool, true, false, List, [], ◌++◌, refl, sym, ◌∙◌, ap, subst, append-nil, Option, IfSome}
-use Rattle.std.specs.Prelude.{◌≢◌, Result, Ok, Err, IfErr, IfOk, IsErrOf, OnOk, if◌then◌else◌, ⊤}
-use Rattle.px_base.specs.declared.air.Air.{Ghosts as AirGhosts}
+use Rattle.std.proofs.Common.{◌≡◌, ℕ, Bool, true, false, List, [], ◌++◌, refl, sym, ◌∙◌, ap, subst, append-nil, Option, None, Some, IfSome}
+use Rattle.std.specs.Prelude.{◌≢◌, Result, Ok, Err, IfErr, IsErrOf}
 use Rattle.disk_model.specs.declared.disk.Disk.{Ghosts}
 use Rattle.client_notes.specs.Calls.{Runs}
 use Rattle.client_notes.specs.Walk.{state}
-use Rattle.client_notes.proofs.Offered.{images-here, Several-then, told_weaker}
+use Rattle.client_notes.proofs.Offered.{images-here, Several-none, Several-then, told_weaker}
 use Rattle.client_notes.specs.Command.{NotesCommand}
 use Rattle.client_notes.specs.Laws.{after_all}
 use Rattle.client_notes.specs.Notes.{Lists}
 use Rattle.client_notes.specs.OnDisk.{EachImage}
 use Rattle.client_notes.specs.Several.{DoesSeveral}
 use Rattle.client_notes.specs.State.{StandsFor, standing_of}
+use Rattle.node.specs.Lent.{Lent, Seen}
+use Rattle.node.specs.Turns as turns
+use Rattle.node.specs.declared.finished.Finished.{Finished}
+use Rattle.node.specs.declared.finished.Finished.TheVariants as finished
+use Rattle.node.specs.declared.stop.NodeStop.{NodeStop}
+use Rattle.node.specs.declared.stop.NodeStop.TheVariants as node
 use Rattle.ftl0_client.specs.Table.{JobState}
 use Rattle.ftl0_client.specs.Client.{Client, ClientEvent}
 use Rattle.ftl0_client.specs.ClientState.{ClientState, listing_in}
+use Rattle.ftl0_client.specs.Going.{Promises}
 use Rattle.ftl0_client.specs.declared.outcome.Outcome.{Outcome}
 use Rattle.ftl0_client.specs.declared.outcome.Outcome.TheVariants as outcome
-use Rattle.client_node.specs.Carried.{Became, CountsBy, CutsOff, EndsOver, answer_of, asked_first, is_working}
-use Rattle.client_node.specs.Came.{CameTo}
-use Rattle.client_node.specs.declared.stop.NodeStop.{NodeStop}
-use Rattle.client_node.specs.declared.stop.NodeStop.TheVariants as node
+use Rattle.uploader.specs.Turns.Carried.{CarriesOut, CountsWhere, CutsOff, EndsOver, Run, asked_first, before_last}
 use Rattle.uploader.specs.declared.stop.SendStop.{SendStop}
 use Rattle.uploader.specs.declared.stop.SendStop.TheVariants as stop
 use Rattle.uploader.specs.declared.terms.ClientTerms.{ClientTerms}
-use Rattle.uploader.specs.Carried.{CameWith, Carries, client_from, setting}
-use Rattle.uploader.specs.Causes.{HasAirCause, is_before_outcome}
+use Rattle.uploader.specs.Carried.{Carries, asked_of, client_from}
+use Rattle.uploader.specs.Causes.{HasAirCause, HasCauses, is_before_outcome}
 use Rattle.uploader.specs.OnDisk.{RefusesNotes, StandsThrough}
-use Rattle.uploader.specs.Ready.{CarriesJob, IsReady}
-use Rattle.uploader.specs.Stops.{by_node, by_outcome, stop_of_node}
+use Rattle.uploader.specs.Ready.{IsReady}
+use Rattle.uploader.specs.Stops.{answer_of, stop_of_node, stop_of_turns}
 use Rattle.uploader.proofs.Standing.{command_runs, none_moves, runs_same, stands_through}
 
--- ---- the answer
-
--- where the turns' answer is what became of the job, that is it
-reached-is : (working : Bool) (why : NodeStop) (reached answer : Outcome) → (if working then Err why else Ok reached) ≡ Ok answer → answer ≡ reached
-reached-is true why reached answer is = absurd (cc is)
-reached-is false why reached answer is = cc is
-
-answer-is : (ended : Result ⊤ NodeStop) (reached answer : Outcome) → answer_of ended reached ≡ Ok answer → answer ≡ reached
-answer-is (Ok closed) reached answer is = cc is
-answer-is (Err node.AirRead) reached answer is = reached-is (is_working reached) node.AirRead reached answer is
-answer-is (Err node.AirWrite) reached answer is = reached-is (is_working reached) node.AirWrite reached answer is
-answer-is (Err node.Ended) reached answer is = reached-is (is_working reached) node.Ended reached answer is
-answer-is (Err node.Spent) reached answer is = reached-is (is_working reached) node.Spent reached answer is
-answer-is (Err node.Disk) reached answer is = absurd (cc is)
-answer-is (Err node.OutOfMemory) reached answer is = absurd (cc is)
-
--- an outcome that a command asks for is the one that came
-pub outcome-is : (reached answer : Outcome) → by_outcome reached ≡ Ok answer → reached ≡ answer
-outcome-is outcome.Idle answer is = cc is
-outcome-is outcome.Working answer is = cc is
-outcome-is (outcome.Acked number) answer is = cc is
-outcome-is (outcome.Refused code) answer is = absurd (cc is)
-outcome-is (outcome.BadFile code) answer is = absurd (cc is)
-outcome-is (outcome.Fetched number) answer is = cc is
-outcome-is outcome.Listed answer is = cc is
-outcome-is (outcome.LinkDown why) answer is = absurd (cc is)
-outcome-is (outcome.Strange kind) answer is = absurd (cc is)
-
-pub came-is : (came : Result Outcome NodeStop) (answer : Outcome) → by_node came ≡ Ok answer → came ≡ Ok answer
-came-is (Ok reached) answer is = ap Ok (outcome-is reached answer is)
-came-is (Err why) answer is = absurd (cc is)
-
--- ---- which stops come of carrying out a job
+-- ---- the stops of a command
 
 -- the error is the error
 error-is : (T : Type 0) (a b : SendStop) → IsErrOf {T = T} (Err a) b → a ≡ b
 error-is T a b is = cc is
 
--- what holds of each stop that an outcome is
-module _ (P : SendStop → Type 0) (refused : (code : ℕ) → P (stop.Refused code)) (bad : (code : ℕ) → P (stop.BadFile code)) (down : P stop.LinkDown) (strange : (kind : ℕ) → P (stop.Strange kind)) where
-  of_outcome : (reached : Outcome) (s : SendStop) → by_outcome reached ≡ Err s → P s
-  of_outcome outcome.Idle s is = absurd (cc is)
-  of_outcome outcome.Working s is = absurd (cc is)
-  of_outcome (outcome.Acked number) s is = absurd (cc is)
-  of_outcome (outcome.Refused code) s is = subst P (error-is Outcome (stop.Refused code) s is) (refused code)
-  of_outcome (outcome.BadFile code) s is = subst P (error-is Outcome (stop.BadFile code) s is) (bad code)
-  of_outcome (outcome.Fetched number) s is = absurd (cc is)
-  of_outcome outcome.Listed s is = absurd (cc is)
-  of_outcome (outcome.LinkDown why) s is = subst P (error-is Outcome stop.LinkDown s is) down
-  of_outcome (outcome.Strange kind) s is = subst P (error-is Outcome (stop.Strange kind) s is) (strange kind)
+same-stop : (T U : Type 0) (a b : SendStop) → IsErrOf {T = T} (Err a) b → IsErrOf {T = U} (Err a) b
+same-stop T U a b is = ap Err (error-is T a b is)
 
-  -- and of the stop that these turns are, holds of what comes of both
-  of_turns : (working : Bool) (why : NodeStop) (reached : Outcome) (s : SendStop) → P (stop_of_node why) → by_node (if working then Err why else Ok reached) ≡ Err s → P s
-  of_turns true why reached s p is = subst P (error-is Outcome (stop_of_node why) s is) p
-  of_turns false why reached s p is = of_outcome reached s is
+-- what is done isn't stopped
+pub ok-never : {T : Type 0} (value : T) (why : SendStop) → ¬ (Ok value ≡ Err why)
+ok-never value why is = cc is
 
-  -- and of each stop that turns are, holds of all
-  of_node : (came : Result Outcome NodeStop) (s : SendStop) → ((why : NodeStop) → P (stop_of_node why)) → by_node came ≡ Err s → P s
-  of_node (Ok reached) s each is = of_outcome reached s is
-  of_node (Err why) s each is = subst P (error-is Outcome (stop_of_node why) s is) (each why)
+-- a stop that fails a test that all stops of a result pass
+pub never : {T : Type 0} (test : SendStop → Bool) (result : Result T SendStop) → IfErr result (λ why. test why ≡ true) → (other : SendStop) → test other ≡ false → ¬ (result ≡ Err other)
+never {T} test (Ok value) pass other none is = cc is
+never {T} test (Err why) pass other none is = cc (sym pass ∙ ap test (error-is T why other is) ∙ none)
+
+-- whether a stop isn't by what the content of the disk stands for
+abbrev pub is_recovered : SendStop → Bool
+is_recovered (stop.NotAStore found) = false
+is_recovered (stop.Damaged at) = false
+is_recovered why = true
+
+-- where none is, the content may stand for notes
+pub recovered_exactly : {T : Type 0} (test : SendStop → Bool) → ((found : List ℕ) → test (stop.NotAStore found) ≡ false) → ((at : ℕ) → test (stop.Damaged at) ≡ false) → (content : Option (List ℕ)) (start : Lists) (result : Result T SendStop)
+    → IfSome content (λ before. standing_of before ≡ state start) → IfErr result (λ why. test why ≡ true) → RefusesNotes content result
+recovered_exactly test no_begin no_damage content start result stood pass no_disk no_memory = told_weaker content _ _ (λ before told is. record {
+  not_a_store = λ found. (λ e. absurd (never test result pass (stop.NotAStore found) (no_begin found) e), λ none. absurd (cc (sym is ∙ none)));
+  damaged = λ at. (λ e. absurd (never test result pass (stop.Damaged at) (no_damage at) e), λ none. absurd (cc (sym is ∙ none)));
+}) stood
+
+-- ---- the stops that come of carrying out a job
+
+-- what holds of each stop that turns are
+pub of_turns : (P : SendStop → Type 0) → P stop.LinkDown → P stop.AirRead → P stop.AirWrite → P stop.Disk → P stop.Spent → P stop.OutOfMemory → (ended : Result Finished NodeStop) → P (stop_of_turns ended)
+of_turns P down read write disk spent memory (Ok finished) = down
+of_turns P down read write disk spent memory (Err node.AirRead) = read
+of_turns P down read write disk spent memory (Err node.AirWrite) = write
+of_turns P down read write disk spent memory (Err node.Disk) = disk
+of_turns P down read write disk spent memory (Err node.Spent) = spent
+of_turns P down read write disk spent memory (Err node.OutOfMemory) = memory
+
+-- what holds of each stop that an outcome is, and of the one that these turns are
+module _ (P : SendStop → Type 0) (refused : (code : ℕ) → P (stop.Refused code)) (bad : (code : ℕ) → P (stop.BadFile code)) (down : P stop.LinkDown) (strange : (kind : ℕ) → P (stop.Strange kind))
+    (ended : Result Finished NodeStop) (turned : P (stop_of_turns ended)) where
+  pub of_answer : (reached : Outcome) (s : SendStop) → answer_of ended reached ≡ Err s → P s
+  of_answer outcome.Idle s is = absurd (cc is)
+  of_answer outcome.Working s is = subst P (error-is Outcome (stop_of_turns ended) s is) turned
+  of_answer (outcome.Acked number) s is = absurd (cc is)
+  of_answer (outcome.Refused code) s is = subst P (error-is Outcome (stop.Refused code) s is) (refused code)
+  of_answer (outcome.BadFile code) s is = subst P (error-is Outcome (stop.BadFile code) s is) (bad code)
+  of_answer (outcome.Fetched number) s is = absurd (cc is)
+  of_answer outcome.Listed s is = absurd (cc is)
+  of_answer (outcome.LinkDown why) s is = subst P (error-is Outcome stop.LinkDown s is) down
+  of_answer (outcome.Strange kind) s is = subst P (error-is Outcome (stop.Strange kind) s is) (strange kind)
 
 -- whether a job's carrying out may stop so
 abbrev pub is_carried : SendStop → Bool
@@ -105,252 +104,219 @@ is_carried stop.LinkDown = true
 is_carried (stop.Strange kind) = true
 is_carried why = false
 
-pub carried : (came : Result Outcome NodeStop) (s : SendStop) → by_node came ≡ Err s → is_carried s ≡ true
-carried came s is = of_node (λ why. is_carried why ≡ true) (λ code. refl) (λ code. refl) refl (λ kind. refl) came s each is
+-- the stop of the node that a stop is, if it is one
+node_of : SendStop → Option NodeStop
+node_of stop.AirRead = Some node.AirRead
+node_of stop.AirWrite = Some node.AirWrite
+node_of stop.Disk = Some node.Disk
+node_of stop.Spent = Some node.Spent
+node_of stop.OutOfMemory = Some node.OutOfMemory
+node_of why = None
+
+node-of : (why : NodeStop) → node_of (stop_of_node why) ≡ Some why
+unfolding node_of
+node-of node.AirRead = refl
+node-of node.AirWrite = refl
+node-of node.Disk = refl
+node-of node.Spent = refl
+node-of node.OutOfMemory = refl
+
+-- it stops by the node exactly where the turns ended by that
+pub turned : (ended : Result Finished NodeStop) (reached : Outcome) (why : NodeStop) → answer_of ended reached ≡ Err (stop_of_node why) → ended ≡ Err why
+unfolding node_of
+turned ended reached why is =
+    of_answer (λ s. node_of s ≡ Some why → ended ≡ Err why) (λ code e. absurd (cc e)) (λ code e. absurd (cc e)) (λ e. absurd (cc e)) (λ kind e. absurd (cc e)) ended (by ended) reached (stop_of_node why) is (node-of why)
   where
-    each : (why : NodeStop) → is_carried (stop_of_node why) ≡ true
-    each node.AirRead = refl
-    each node.AirWrite = refl
-    each node.Disk = refl
-    each node.Ended = refl
-    each node.Spent = refl
-    each node.OutOfMemory = refl
+    by : (those : Result Finished NodeStop) → node_of (stop_of_turns those) ≡ Some why → those ≡ Err why
+    by (Ok finished) e = absurd (cc e)
+    by (Err other) e = let same : other ≡ why = cc (sym (node-of other) ∙ e) in ap Err same
 
--- ---- the causes
+-- ---- what the air counts
 
--- it stops by the disk exactly where the turns ended by it
-pub disk-back : (ended : Result ⊤ NodeStop) (reached : Outcome) → by_node (answer_of ended reached) ≡ Err stop.Disk → ended ≡ Err node.Disk
-disk-back (Ok closed) reached is = absurd (of_outcome (λ s. s ≢ stop.Disk) (λ code e. cc e) (λ code e. cc e) (λ e. cc e) (λ kind e. cc e) reached stop.Disk is refl)
-disk-back (Err node.AirRead) reached is =
-    absurd (of_turns (λ s. s ≢ stop.Disk) (λ code e. cc e) (λ code e. cc e) (λ e. cc e) (λ kind e. cc e) (is_working reached) node.AirRead reached stop.Disk (λ e. cc e) is refl)
-disk-back (Err node.AirWrite) reached is =
-    absurd (of_turns (λ s. s ≢ stop.Disk) (λ code e. cc e) (λ code e. cc e) (λ e. cc e) (λ kind e. cc e) (is_working reached) node.AirWrite reached stop.Disk (λ e. cc e) is refl)
-disk-back (Err node.Ended) reached is =
-    absurd (of_turns (λ s. s ≢ stop.Disk) (λ code e. cc e) (λ code e. cc e) (λ e. cc e) (λ kind e. cc e) (is_working reached) node.Ended reached stop.Disk (λ e. cc e) is refl)
-disk-back (Err node.Spent) reached is =
-    absurd (of_turns (λ s. s ≢ stop.Disk) (λ code e. cc e) (λ code e. cc e) (λ e. cc e) (λ kind e. cc e) (is_working reached) node.Spent reached stop.Disk (λ e. cc e) is refl)
-disk-back (Err node.Disk) reached is = refl
-disk-back (Err node.OutOfMemory) reached is = absurd (cc is)
+module _ (reads reads_n writes writes_n : ℕ) where
+  abbrev Same : Type 0
+  Same = (reads_n ≡ reads) × (writes_n ≡ writes)
 
-pub disk-on : (ended : Result ⊤ NodeStop) (reached : Outcome) → ended ≡ Err node.Disk → by_node (answer_of ended reached) ≡ Err stop.Disk
-disk-on ended reached is = ap (λ e. by_node (answer_of e reached)) is
+  -- turns that neither hearing nor saying ended
+  same-turns : (ended : Result Finished NodeStop) → CountsWhere reads reads_n (IsErrOf ended node.AirRead) → CountsWhere writes writes_n (IsErrOf ended node.AirWrite) → is_before_outcome (stop_of_turns ended) ≡ true → Same
+  same-turns (Ok finished) h k before = absurd (cc before)
+  same-turns (Err node.AirRead) h k before = absurd (cc before)
+  same-turns (Err node.AirWrite) h k before = absurd (cc before)
+  same-turns (Err node.Disk) h k before = (h.same (λ e. cc e), k.same (λ e. cc e))
+  same-turns (Err node.Spent) h k before = (h.same (λ e. cc e), k.same (λ e. cc e))
+  same-turns (Err node.OutOfMemory) h k before = (h.same (λ e. cc e), k.same (λ e. cc e))
 
--- what holds in any case holds of each stop
-always : {T : Type 0} (result : Result T SendStop) (P : SendStop → Type 0) (Q : Type 0) → Q → IfErr result (λ why. P why → Q)
-always (Ok value) P Q q = tt
-always (Err why) P Q q = λ p. q
+  if-err : (result : Result Outcome SendStop) (P : SendStop → Type 0) → ((why : SendStop) → result ≡ Err why → P why) → IfErr result P
+  if-err (Ok value) P h = tt
+  if-err (Err why) P h = h why refl
 
--- what can't be said of the stop
-denied : (result : Result Outcome SendStop) (P : SendStop → Type 0) (Q : Type 0) → ((s : SendStop) → result ≡ Err s → ¬ P s) → IfErr result (λ why. P why → Q)
-denied (Ok value) P Q denies = tt
-denied (Err why) P Q denies = λ p. absurd (denies why refl p)
-
--- the air's counts, by how the turns ended
-module _ (reads reads_n writes writes_n : ℕ) (reached : Outcome) (result : Result Outcome SendStop) where
-  pub air_cause : (ended : Result ⊤ NodeStop) → CountsBy ended reads reads_n writes writes_n → result ≡ by_node (answer_of ended reached) → HasAirCause reads reads_n writes writes_n result
-  air_cause (Ok closed) counts is = record {
-    read = λ e. absurd (of_outcome (λ s. s ≢ stop.AirRead) (λ code q. cc q) (λ code q. cc q) (λ q. cc q) (λ kind q. cc q) reached stop.AirRead (sym is ∙ e) refl);
-    write = λ e. absurd (of_outcome (λ s. s ≢ stop.AirWrite) (λ code q. cc q) (λ code q. cc q) (λ q. cc q) (λ kind q. cc q) reached stop.AirWrite (sym is ∙ e) refl);
-    same = always result (λ s. is_before_outcome s ≡ true) _ (counts.0, counts.1);
-  }
-  air_cause (Err node.AirRead) counts is = record {
-    read = λ e. counts.0;
-    write = λ e. absurd (of_turns (λ s. s ≢ stop.AirWrite) (λ code q. cc q) (λ code q. cc q) (λ q. cc q) (λ kind q. cc q) (is_working reached) node.AirRead reached stop.AirWrite (λ q. cc q) (sym is ∙ e) refl);
-    same = denied result (λ s. is_before_outcome s ≡ true) _ (λ s e. of_turns (λ s. ¬ (is_before_outcome s ≡ true)) (λ code q. cc q) (λ code q. cc q) (λ q. cc q) (λ kind q. cc q) (is_working reached) node.AirRead reached s (λ q. cc q) (sym is ∙ e));
-  }
-  air_cause (Err node.AirWrite) counts is = record {
-    read = λ e. absurd (of_turns (λ s. s ≢ stop.AirRead) (λ code q. cc q) (λ code q. cc q) (λ q. cc q) (λ kind q. cc q) (is_working reached) node.AirWrite reached stop.AirRead (λ q. cc q) (sym is ∙ e) refl);
-    write = λ e. counts.1;
-    same = denied result (λ s. is_before_outcome s ≡ true) _ (λ s e. of_turns (λ s. ¬ (is_before_outcome s ≡ true)) (λ code q. cc q) (λ code q. cc q) (λ q. cc q) (λ kind q. cc q) (is_working reached) node.AirWrite reached s (λ q. cc q) (sym is ∙ e));
-  }
-  air_cause (Err node.Ended) counts is = record {
-    read = λ e. absurd (of_turns (λ s. s ≢ stop.AirRead) (λ code q. cc q) (λ code q. cc q) (λ q. cc q) (λ kind q. cc q) (is_working reached) node.Ended reached stop.AirRead (λ q. cc q) (sym is ∙ e) refl);
-    write = λ e. absurd (of_turns (λ s. s ≢ stop.AirWrite) (λ code q. cc q) (λ code q. cc q) (λ q. cc q) (λ kind q. cc q) (is_working reached) node.Ended reached stop.AirWrite (λ q. cc q) (sym is ∙ e) refl);
-    same = always result (λ s. is_before_outcome s ≡ true) _ (counts.0, counts.1);
-  }
-  air_cause (Err node.Spent) counts is = record {
-    read = λ e. absurd (of_turns (λ s. s ≢ stop.AirRead) (λ code q. cc q) (λ code q. cc q) (λ q. cc q) (λ kind q. cc q) (is_working reached) node.Spent reached stop.AirRead (λ q. cc q) (sym is ∙ e) refl);
-    write = λ e. absurd (of_turns (λ s. s ≢ stop.AirWrite) (λ code q. cc q) (λ code q. cc q) (λ q. cc q) (λ kind q. cc q) (is_working reached) node.Spent reached stop.AirWrite (λ q. cc q) (sym is ∙ e) refl);
-    same = always result (λ s. is_before_outcome s ≡ true) _ (counts.0, counts.1);
-  }
-  air_cause (Err node.Disk) counts is = record {
-    read = λ e. absurd (cc (sym is ∙ e));
-    write = λ e. absurd (cc (sym is ∙ e));
-    same = always result (λ s. is_before_outcome s ≡ true) _ (counts.0, counts.1);
-  }
-  air_cause (Err node.OutOfMemory) counts is = record {
-    read = λ e. absurd (cc (sym is ∙ e));
-    write = λ e. absurd (cc (sym is ∙ e));
-    same = always result (λ s. is_before_outcome s ≡ true) _ (counts.0, counts.1);
+  air-cause : (ended : Result Finished NodeStop) (reached : Outcome) (result : Result Outcome SendStop) → result ≡ answer_of ended reached → CountsWhere reads reads_n (IsErrOf ended node.AirRead)
+      → CountsWhere writes writes_n (IsErrOf ended node.AirWrite) → HasAirCause reads reads_n writes writes_n result
+  air-cause ended reached result is h k = record {
+    read = λ e. h.rose (turned ended reached node.AirRead (sym is ∙ e));
+    write = λ e. k.rose (turned ended reached node.AirWrite (sym is ∙ e));
+    same = if-err result (λ why. is_before_outcome why ≡ true → Same) (λ why e.
+        of_answer (λ s. is_before_outcome s ≡ true → Same) (λ code q. absurd (cc q)) (λ code q. absurd (cc q)) (λ q. absurd (cc q)) (λ kind q. absurd (cc q)) ended (same-turns ended h k) reached why (sym is ∙ e));
   }
 
--- ---- the same of another answer with the same stop
+-- ---- the causes of a command's end
 
--- the stop is the stop
-pub same-stop : (T U : Type 0) (a b : SendStop) → IsErrOf {T = T} (Err a) b → IsErrOf {T = U} (Err a) b
-same-stop T U a b is = ap Err (error-is T a b is)
+module _ {A C D : Type 0} (see : Seen D A C) (old new : Lent D A C) where
+  -- of another answer with the same stop
+  pub causes-err : (T U : Type 0) (why : SendStop) → HasCauses {T = T} see old new (Err why) → HasCauses {T = U} see old new (Err why)
+  causes-err T U why causes = record {
+    runs = runs_same see.disk _ _ (same-stop T U why stop.Disk) (same-stop U T why stop.Disk) old.disk new.disk causes.runs;
+    of_air = record { read = λ is. causes.of_air.read (same-stop U T why stop.AirRead is); write = λ is. causes.of_air.write (same-stop U T why stop.AirWrite is); same = causes.of_air.same };
+  }
 
-pub air_err : (T U : Type 0) (reads reads_n writes writes_n : ℕ) (why : SendStop) → HasAirCause {T = T} reads reads_n writes writes_n (Err why) → HasAirCause {T = U} reads reads_n writes writes_n (Err why)
-air_err T U reads reads_n writes writes_n why cause = record {
-  read = λ is. cause.read (same-stop U T why stop.AirRead is);
-  write = λ is. cause.write (same-stop U T why stop.AirWrite is);
-  same = cause.same;
-}
+  -- of an answer behind an outcome
+  causes-behind : (T U : Type 0) (value : T) (result : Result U SendStop) → IfErr result (λ why. (is_before_outcome why ≡ false) × (why ≢ stop.AirRead) × (why ≢ stop.AirWrite)) → ¬ (result ≡ Err stop.Disk)
+      → HasCauses {T = T} see old new (Ok value) → HasCauses see old new result
+  causes-behind T U value (Ok other) late fine causes =
+      record { runs = runs_same see.disk _ _ (λ e. absurd (cc e)) (λ e. absurd (cc e)) old.disk new.disk causes.runs; of_air = record { read = λ e. absurd (cc e); write = λ e. absurd (cc e); same = tt } }
+  causes-behind T U value (Err why) late fine causes = record {
+    runs = runs_same see.disk _ _ (λ e. absurd (cc e)) (λ e. absurd (fine e)) old.disk new.disk causes.runs;
+    of_air = record { read = λ e. absurd (late.1 (error-is U why stop.AirRead e)); write = λ e. absurd (late.2 (error-is U why stop.AirWrite e)); same = λ before. absurd (cc (sym late.0 ∙ before)) };
+  }
 
--- a stop that neither the air nor what comes before it is
-pub air_other : (T : Type 0) (reads reads_n writes writes_n : ℕ) (why : SendStop) → why ≢ stop.AirRead → why ≢ stop.AirWrite → is_before_outcome why ≡ false → HasAirCause {T = T} reads reads_n writes writes_n (Err why)
-air_other T reads reads_n writes writes_n why no_read no_write later = record {
-  read = λ is. absurd (no_read (error-is T why stop.AirRead is));
-  write = λ is. absurd (no_write (error-is T why stop.AirWrite is));
-  same = λ before. absurd (cc (sym later ∙ before));
-}
+  pub causes-ok : {T U : Type 0} (value : T) (other : U) → HasCauses see old new (Ok value) → HasCauses see old new (Ok other)
+  causes-ok {T} {U} value other = causes-behind T U value (Ok other) tt (λ e. cc e)
 
-pub air_ok : (T : Type 0) (value : T) (reads reads_n writes writes_n : ℕ) → HasAirCause {T = T} reads reads_n writes writes_n (Ok value)
-air_ok T value reads reads_n writes writes_n = record { read = λ is. absurd (cc is); write = λ is. absurd (cc is); same = tt }
+  pub causes-shelf : {T U : Type 0} (value : T) → HasCauses see old new (Ok value) → HasCauses {T = U} see old new (Err stop.Shelf)
+  causes-shelf {T} {U} value = causes-behind T U value (Err stop.Shelf) (refl, λ e. cc e, λ e. cc e) (λ e. cc e)
 
--- where nothing is heard or said
-pub air_still : (T : Type 0) (reads writes : ℕ) (why : SendStop) → why ≢ stop.AirRead → why ≢ stop.AirWrite → HasAirCause {T = T} reads reads writes writes (Err why)
-air_still T reads writes why no_read no_write = record {
-  read = λ is. absurd (no_read (error-is T why stop.AirRead is));
-  write = λ is. absurd (no_write (error-is T why stop.AirWrite is));
-  same = λ before. (refl, refl);
-}
+  pub causes-out : {T U : Type 0} (value : T) → HasCauses see old new (Ok value) → HasCauses {T = U} see old new (Err stop.Out)
+  causes-out {T} {U} value = causes-behind T U value (Err stop.Out) (refl, λ e. cc e, λ e. cc e) (λ e. cc e)
 
-pub runs_err : {D : Type 0} (T U : Type 0) (g : Ghosts D) (old now : D) (why : SendStop) → Runs g (IsErrOf {T = T} (Err why) stop.Disk) old now → Runs g (IsErrOf {T = U} (Err why) stop.Disk) old now
-runs_err T U g old now why runs = runs_same g _ _ (same-stop T U why stop.Disk) (same-stop U T why stop.Disk) old now runs
+  -- where nothing is heard or said
+  pub causes-still : {T : Type 0} (result : Result T SendStop) → ¬ (result ≡ Err stop.AirRead) → ¬ (result ≡ Err stop.AirWrite) → new.air ≡ old.air → Runs see.disk (IsErrOf result stop.Disk) old.disk new.disk
+      → HasCauses see old new result
+  causes-still {T} result no_read no_write same runs = record {
+    runs = runs;
+    of_air = record {
+      read = λ e. absurd (no_read e);
+      write = λ e. absurd (no_write e);
+      same = always result (ap see.air.read_faults same, ap see.air.write_faults same);
+    };
+  }
+    where
+      always : {X : Type 0} (r : Result T SendStop) → X → IfErr r (λ why. is_before_outcome why ≡ true → X)
+      always (Ok value) x = tt
+      always (Err why) x = λ p. x
 
--- where neither stopped by the disk
-pub runs_fine : {D : Type 0} (P Q : Type 0) (g : Ghosts D) (old now : D) → ¬ P → ¬ Q → Runs g P old now → Runs g Q old now
-runs_fine P Q g old now no_p no_q runs = runs_same g P Q (λ p. absurd (no_p p)) (λ q. absurd (no_q q)) old now runs
+-- ---- the whole
 
--- ---- a stop that isn't of the recovery comes of no content that a recovery refuses
-
-pub exactly-ok : {T : Type 0} (value : T) (content : Option (List ℕ)) (start : Lists) → IfSome content (λ before. standing_of before ≡ state start) → RefusesNotes {T = T} content (Ok value)
-exactly-ok {T} value content start stood no_disk no_memory = told_weaker content _ _ (λ before told is. record {
-  not_a_store = λ found. (λ e. absurd (cc e), λ none. absurd (cc (sym is ∙ none)));
-  damaged = λ at. (λ e. absurd (cc e), λ none. absurd (cc (sym is ∙ none)));
-}) stood
-
-pub exactly-err : (T : Type 0) (why : SendStop) (content : Option (List ℕ)) (start : Lists) → ((found : List ℕ) → why ≢ stop.NotAStore found) → ((at : ℕ) → why ≢ stop.Damaged at)
-    → IfSome content (λ before. standing_of before ≡ state start) → RefusesNotes {T = T} content (Err why)
-exactly-err T why content start other_begin other_damage stood no_disk no_memory = told_weaker content _ _ (λ before told is. record {
-  not_a_store = λ found. (λ e. absurd (other_begin found (error-is T why (stop.NotAStore found) e)), λ none. absurd (cc (sym is ∙ none)));
-  damaged = λ at. (λ e. absurd (other_damage at (error-is T why (stop.Damaged at) e)), λ none. absurd (cc (sym is ∙ none)));
-}) stood
-
--- a stop of a job's carrying out is none that isn't
-pub not_carried : (why other : SendStop) → is_carried why ≡ true → is_carried other ≡ false → why ≢ other
-not_carried why other one none is = cc (sym one ∙ ap is_carried is ∙ none)
-
--- ---- nothing is cut off but where the disk failed
-
-cut-none : (ended : Result ⊤ NodeStop) (least : List ClientEvent) (client : Client) (events : List ClientEvent) (reached : Outcome) (text : List ℕ) (done cut : List NotesCommand)
+-- nothing is cut off but where the disk failed
+cut-none : (ended : Result Finished NodeStop) (least : List ClientEvent) (client : Client) (events : List ClientEvent) (reached : Outcome) (text : List ℕ) (done cut : List NotesCommand)
     → ¬ (ended ≡ Err node.Disk) → EndsOver ended least client events reached text done cut → cut ≡ []
-cut-none (Ok closed) least client events reached text done cut fine h = h.4
+cut-none (Ok finished.Over) least client events reached text done cut fine h = h.4
+cut-none (Ok (finished.Closed count)) least client events reached text done cut fine h = h.4
 cut-none (Err node.AirRead) least client events reached text done cut fine h = h.4
-cut-none (Err node.Ended) least client events reached text done cut fine h = h.4
 cut-none (Err node.Spent) least client events reached text done cut fine h = h.4
 cut-none (Err node.AirWrite) least client events reached text done cut fine h = h.stops.stops.5
 cut-none (Err node.Disk) least client events reached text done cut fine h = absurd (fine refl)
 cut-none (Err node.OutOfMemory) least client events reached text done cut fine h = h.stops.stops.4
 
--- ---- the whole
+-- A client whose notes were recovered did these first commands, was asked for this job, and carried it out.
+pub record HasCarried {A C D : Type 0} (see : Seen D A C) (old new : Lent D A C) (terms : ClientTerms) (first : List NotesCommand) (job : JobState) (result : Result Outcome SendStop) : Type 0 where
+  pub mid : D
+  pub between : D
+  pub made : ClientState
+  pub asked : ClientState
+  pub end : ClientState
+  pub ready : IsReady see.disk terms old.disk mid made
+  pub starts : DoesSeveral see.disk ⊥ made.notes asked.notes mid between first
+  pub out : CarriesOut see (turns.lent asked between old.air old.clock) (turns.lent end new.disk new.air new.clock) job terms.polls (client_from terms (after_all made.notes.lists first)) result
 
--- the notes that the recovery gave, those of the job, and those at the end
-module _ {A C D : Type 0} (g : Ghosts D) (air : AirGhosts A) (given : C → Option (List ℕ)) (on : (first second third : D) → g.lasts first second → g.lasts second third → g.lasts first third)
-    (terms : ClientTerms) (disk mid between now : D) (before after : A) (clock clock_n : C) (made asked end : ClientState) (first : List NotesCommand) (job : JobState) (result : Result Outcome SendStop)
-    (ready : IsReady g terms disk mid made) (starts : DoesSeveral g ⊥ made.notes asked.notes mid between first)
-    (h : CarriesJob g air given before after clock clock_n asked end between now job terms.polls (client_from terms (after_all made.notes.lists first)) result) where
-  pub answer : result ≡ by_node (answer_of h.carries.ended h.carries.reached)
-  answer = h.answer ∙ ap by_node h.carries.answer
+-- no command came first
+abbrev pub just-asked : {A C D : Type 0} (see : Seen D A C) → ((disk : D) → see.disk.lasts disk disk) → (old new : Lent D A C) (mid : D) (terms : ClientTerms) (made end : ClientState) (made_job job : JobState)
+    (result : Result Outcome SendStop) → made_job ≡ job → IsReady see.disk terms old.disk mid made
+    → CarriesOut see (turns.lent made mid old.air old.clock) (turns.lent end new.disk new.air new.clock) made_job terms.polls (client_from terms made.notes.lists) result → HasCarried see old new terms [] job result
+just-asked see lasts old new mid terms made end made_job job result is ready out = record {
+  mid = mid;
+  between = mid;
+  made = made;
+  asked = made;
+  end = end;
+  ready = ready;
+  starts = Several-none see.disk ⊥ made.notes mid (λ never. never) ready.stands_on ready.healthy (lasts mid);
+  out = subst (λ (j : JobState). CarriesOut see (turns.lent made mid old.air old.clock) (turns.lent end new.disk new.air new.clock) j terms.polls (client_from terms made.notes.lists) result) is out;
+}
 
-  pub cuts : CutsOff g (IsErrOf h.carries.ended node.Disk) made.notes end.notes mid now (first ++ h.carries.done) h.carries.cut
+module _ {A C D : Type 0} (see : Seen D A C) (on : (first second third : D) → see.disk.lasts first second → see.disk.lasts second third → see.disk.lasts first third) (old new : Lent D A C) (terms : ClientTerms)
+    (first : List NotesCommand) (job : JobState) (result : Result Outcome SendStop) (h : HasCarried see old new terms first job result) where
+  abbrev run : Run
+  run = h.out.run
+
+  abbrev start : Lists
+  start = h.made.notes.lists
+
+  abbrev Failed : Type 0
+  Failed = IsErrOf run.ended node.Disk
+
+  pub cuts : CutsOff see.disk Failed h.made.notes h.end.notes h.mid new.disk (first ++ run.done) run.cut
   cuts = record {
-    notes_then = h.carries.cuts.notes_then;
-    disk_then = h.carries.cuts.disk_then;
-    first = Several-then g on ⊥ ⊥ made.notes asked.notes h.carries.cuts.notes_then mid between h.carries.cuts.disk_then first h.carries.done (λ impossible. impossible) starts h.carries.cuts.first;
-    second = h.carries.cuts.second;
+    notes_then = h.out.cuts.notes_then;
+    disk_then = h.out.cuts.disk_then;
+    first = Several-then see.disk on ⊥ ⊥ h.made.notes h.asked.notes h.out.cuts.notes_then h.mid h.between h.out.cuts.disk_then first run.done (λ never. never) h.starts h.out.cuts.first;
+    second = h.out.cuts.second;
   }
 
-  pub stands : (through : StandsThrough g (IsErrOf h.carries.ended node.Disk) made.notes.lists (first ++ h.carries.done) h.carries.cut disk now) × (through.ready ≡ g.moment mid)
-  stands = stands_through g on (IsErrOf h.carries.ended node.Disk) disk mid now made.notes end.notes (first ++ h.carries.done) h.carries.cut ready.runs.told ready.recovers.stood ready.since_start ready.since_sync cuts
-      ready.magic ready.runs
+  pub all : DoesSeveral see.disk Failed h.made.notes h.end.notes h.mid new.disk ((first ++ run.done) ++ run.cut)
+  all = Several-then see.disk on ⊥ Failed h.made.notes cuts.notes_then h.end.notes h.mid cuts.disk_then new.disk (first ++ run.done) run.cut (λ never. never) cuts.first cuts.second
 
-  pub came : (r : Result Outcome NodeStop) → r ≡ answer_of h.carries.ended h.carries.reached
-      → OnOk r (CameTo end (client_from terms (after_all made.notes.lists first)) (asked_first job h.carries.ran.events) h.carries.reached)
-      → IfOk r (CameWith (client_from terms (after_all made.notes.lists first)) (asked_first job h.carries.ran.events) (listing_in end.attempt))
-  came (Ok reached) same to = record {
-    some = to.some;
-    others = to.others;
-    in_order = to.in_order;
-    frames = to.frames;
-    commands = to.commands;
-    now = to.now;
-    goes = to.goes;
-    outcome_is = answer-is h.carries.ended h.carries.reached reached (sym same) ∙ to.reached_is;
-    listing_is = to.tells.listing;
-  }
-  came (Err why) same to = tt
+  pub stands : (through : StandsThrough see.disk Failed start (first ++ run.done) run.cut old.disk new.disk) × (through.ready ≡ see.disk.moment h.mid)
+  stands =
+      stands_through see.disk on Failed old.disk h.mid new.disk h.made.notes h.end.notes (first ++ run.done) run.cut h.ready.runs.told h.ready.recovers.stood h.ready.since_start h.ready.since_sync cuts h.ready.magic
+      h.ready.runs
 
-  -- where the disk didn't fail the notes at the end are those after all commands
-  pub lists_at_end : ¬ (h.carries.ended ≡ Err node.Disk) → end.notes.lists ≡ after_all made.notes.lists (first ++ h.carries.done)
-  lists_at_end fine =
-      let all = Several-then g on ⊥ (IsErrOf h.carries.ended node.Disk) made.notes cuts.notes_then end.notes mid cuts.disk_then now (first ++ h.carries.done) h.carries.cut (λ impossible. impossible) cuts.first cuts.second in
-      let none = cut-none h.carries.ended _ _ _ _ _ _ _ fine h.carries.ran.ends_over in
-      (all.done fine).0 ∙ ap (after_all made.notes.lists) (ap (λ (cs : List NotesCommand). (first ++ h.carries.done) ++ cs) none ∙ append-nil (first ++ h.carries.done))
+  -- where the disk failed nothing had become of the job
+  pub failed-working : Failed → run.reached ≡ outcome.Working
+  failed-working is =
+      (subst (λ (e : Result Finished NodeStop). EndsOver e (before_last run.turns job h.out.ran.least) (client_from terms (after_all start first)) (asked_first job h.out.ran.events) run.reached run.text run.done run.cut) is h.out.ran.ends_over).stops.stops.4
 
-  -- what the outcome promises stands of them
-  pub promised : (r : Result Outcome NodeStop) → r ≡ answer_of h.carries.ended h.carries.reached → IfOk r (Became end.notes.lists job.work (listing_in end.attempt))
-      → IfOk r (Became (after_all made.notes.lists (first ++ h.carries.done)) job.work (listing_in end.attempt))
-  promised (Ok reached) same p =
-      let fine : ¬ (h.carries.ended ≡ Err node.Disk) = λ e. cc (same ∙ ap (λ (x : Result ⊤ NodeStop). answer_of x h.carries.reached) e) in
-      subst (λ (l : Lists). Became l job.work (listing_in end.attempt) reached) (lists_at_end fine) p
-  promised (Err why) same p = tt
+  -- an outcome comes only where it didn't
+  pub outcome-fine : (reached : Outcome) → result ≡ Ok reached → ¬ Failed
+  outcome-fine reached ok is = cc (sym ok ∙ h.out.answer ∙ ap (answer_of run.ended) (failed-working is))
 
-  unfoldable pub carries : Carries g air given (setting disk before clock) (setting now after clock_n) terms made.notes.lists first job result
-  carries = record {
-    recovered = mid;
-    recovers = ready.recovers;
-    turns = h.carries.turns;
-    moments = h.carries.moments;
-    text = h.carries.text;
-    done = h.carries.done;
-    cut = h.carries.cut;
-    ended = h.carries.ended;
-    reached = h.carries.reached;
-    listing = listing_in end.attempt;
-    answer = answer;
-    turns_heard = h.carries.turns_heard;
-    moments_given = h.carries.moments_given;
-    text_said = h.carries.text_said;
-    ran = h.carries.ran;
-    came =
-        subst (λ (r : Result Outcome NodeStop). IfOk r (CameWith (client_from terms (after_all made.notes.lists first)) (asked_first job h.carries.ran.events) (listing_in end.attempt))) h.carries.answer
-        (came h.came h.carries.answer h.carries.came);
-    promises =
-        subst (λ (r : Result Outcome NodeStop). IfOk r (Became (after_all made.notes.lists (first ++ h.carries.done)) job.work (listing_in end.attempt))) h.carries.answer
-        (promised h.came h.carries.answer h.promises);
-    counts = h.carries.counts;
-    stands = stands.0;
-    ready = stands.1;
-    none = none_moves g on (IsErrOf h.carries.ended node.Disk) disk mid now made.notes end.notes (first ++ h.carries.done) h.carries.cut ready.runs.told ready.recovers.stood ready.since_start ready.since_sync cuts;
-  }
-
-  pub job_air : HasAirCause (air.read_faults before) (air.read_faults after) (air.write_faults before) (air.write_faults after) result
-  job_air = air_cause _ _ _ _ h.carries.reached result h.carries.ended h.carries.counts answer
-
-  pub job_runs : Runs g (IsErrOf result stop.Disk) disk now
-  job_runs =
-      runs_same g (IsErrOf h.carries.ended node.Disk) (IsErrOf result stop.Disk) (λ e. answer ∙ disk-on h.carries.ended h.carries.reached e) (λ e. disk-back h.carries.ended h.carries.reached (sym answer ∙ e)) disk now
-      (command_runs g on (IsErrOf h.carries.ended node.Disk) disk mid now made.notes end.notes (first ++ h.carries.done) h.carries.cut ready.runs.told ready.recovers.stood ready.since_start ready.since_sync cuts ⊥
-      (λ impossible. impossible) ready.runs)
+  -- then the notes at the end are those after all commands,
+  pub lists-at-end : ¬ Failed → h.end.notes.lists ≡ after_all start (first ++ run.done)
+  lists-at-end fine =
+      (all.done fine).0
+      ∙ ap (after_all start) (ap (λ (cs : List NotesCommand). (first ++ run.done) ++ cs) (cut-none run.ended _ _ _ _ _ _ _ fine h.out.ran.ends_over) ∙ append-nil (first ++ run.done))
 
   -- and each image stands for them
-  pub images_at_end : ¬ (h.carries.ended ≡ Err node.Disk) → EachImage g now (λ image. StandsFor image end.notes.lists)
-  images_at_end fine =
-      let all = Several-then g on ⊥ (IsErrOf h.carries.ended node.Disk) made.notes cuts.notes_then end.notes mid cuts.disk_then now (first ++ h.carries.done) h.carries.cut (λ impossible. impossible) cuts.first cuts.second in
-      images-here g end.notes.journal now end.notes.lists (all.same_magic ∙ ready.magic) (all.done fine).1 all.stands_on
+  pub images-at-end : ¬ Failed → EachImage see.disk new.disk (λ image. StandsFor image h.end.notes.lists)
+  images-at-end fine = images-here see.disk h.end.notes.journal new.disk h.end.notes.lists (all.same_magic ∙ h.ready.magic) (all.done fine).1 all.stands_on
 
-  -- an outcome comes only where the disk didn't fail
-  pub outcome_fine : (reached : Outcome) → result ≡ Ok reached → ¬ (h.carries.ended ≡ Err node.Disk)
-  outcome_fine reached ok e = cc (sym ok ∙ answer ∙ disk-on h.carries.ended h.carries.reached e)
+  unfoldable pub carries : Carries see old new (asked_of terms start first job) result
+  carries = record {
+    recovered = h.mid;
+    recovers = h.ready.recovers;
+    run = run;
+    listing = listing_in h.end.attempt;
+    answer = h.out.answer;
+    air = h.out.air;
+    ran = h.out.ran;
+    became = record {
+      over = h.out.became.over;
+      came = h.out.became.came;
+      promises = λ some. subst (λ (l : Lists). Promises l job.work (listing_in h.end.attempt) run.reached) (lists-at-end (λ e. some (failed-working e))) (h.out.became.promises some);
+    };
+    stands = stands.0;
+    ready = stands.1;
+    none = none_moves see.disk on Failed old.disk h.mid new.disk h.made.notes h.end.notes (first ++ run.done) run.cut h.ready.runs.told h.ready.recovers.stood h.ready.since_start h.ready.since_sync cuts;
+  }
+
+  pub causes : HasCauses see old new result
+  causes = record {
+    runs =
+        runs_same see.disk Failed (IsErrOf result stop.Disk) (λ e. h.out.answer ∙ ap (answer_of run.ended) (failed-working e) ∙ ap (λ (r : Result Finished NodeStop). Err (stop_of_turns r)) e)
+        (λ e. turned run.ended run.reached node.Disk (sym h.out.answer ∙ e)) old.disk new.disk
+        (command_runs see.disk on Failed old.disk h.mid new.disk h.made.notes h.end.notes (first ++ run.done) run.cut h.ready.runs.told h.ready.recovers.stood h.ready.since_start h.ready.since_sync cuts ⊥ (λ never. never)
+        h.ready.runs);
+    of_air = air-cause _ _ _ _ run.ended run.reached result h.out.answer h.out.air.reads h.out.air.writes;
+  }
+
+  pub carried : (why : SendStop) → result ≡ Err why → is_carried why ≡ true
+  carried why is = of_answer (λ s. is_carried s ≡ true) (λ code. refl) (λ code. refl) refl (λ kind. refl) run.ended (of_turns (λ s. is_carried s ≡ true) refl refl refl refl refl refl run.ended) run.reached why (sym h.out.answer ∙ is)

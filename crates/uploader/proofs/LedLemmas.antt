@@ -2,18 +2,17 @@
 use Rattle.std.proofs.Common.{◌≡◌, ℕ, List, [], ◌∷◌, ◌++◌, refl, ap, sym, subst, ◌∙◌, inl, inr, Bool, true, false, append_assoc}
 use Rattle.std.proofs.lemmas.List.{append_cancel_left}
 use Rattle.std.specs.List.{AllByRecursion}
-use Rattle.std.specs.Prelude.{◌≢◌, ◌⊎◌, Option, Some, Result, Ok, Err, IfOk, map, ⊤}
+use Rattle.std.specs.Prelude.{◌≢◌, ◌⊎◌, Option, Some, Result, Ok, Err, map}
 use Rattle.px_base.specs.Outside.{Grows}
-use Rattle.px_base.specs.declared.air.Air.{Ghosts as AirGhosts}
 use Rattle.px_base.specs.declared.air.Turn.{Turn}
-use Rattle.disk_model.specs.declared.disk.Disk.{Ghosts}
-use Rattle.client_node.specs.FrameText.{FrameValue}
-use Rattle.client_node.specs.Events.{NodeEvent, NodeEvents}
-use Rattle.client_node.specs.Laws.{OneRunLaw}
+use Rattle.ax25_frames.specs.FrameText.{FrameValue}
+use Rattle.node.specs.Events.{NodeEvent, NodeEvents}
+use Rattle.node.specs.Laws.{OneRunLaw}
+use Rattle.node.specs.Lent.{Seen}
+use Rattle.node.specs.Turns.{TurnsBy}
+use Rattle.node.specs.declared.finished.Finished.{Finished}
+use Rattle.node.specs.declared.finished.Finished.TheVariants as finished
 use Rattle.client_notes.specs.Command.{NotesCommand}
-use Rattle.client_notes.specs.Laws.{after_all}
-use Rattle.client_notes.specs.Notes.{Lists}
-use Rattle.ftl0_client.specs.Work.{Work}
 use Rattle.ftl0_client.specs.Table.{JobState}
 use Rattle.ftl0_client.specs.Client.{Client, ClientEvent, asks}
 use Rattle.ftl0_client.specs.Going.{AsksNothing, GoesOver, StaysLaw}
@@ -21,16 +20,16 @@ use Rattle.ftl0_client.specs.Laws.{OneStepLaw}
 use Rattle.ftl0_client.specs.Outcomes.{outcome_by}
 use Rattle.ftl0_client.specs.declared.outcome.Outcome.{Outcome}
 use Rattle.ftl0_client.specs.declared.outcome.Outcome.TheVariants as outcome
-use Rattle.client_node.specs.Carried.{Became, EndsOver, TurnsBy, answer_of, asked_first, before_last, reached_or}
-use Rattle.client_node.specs.Carrying.{StopsBehind, TakesAll, event_of}
-use Rattle.client_node.specs.declared.stop.NodeStop.{NodeStop}
-use Rattle.client_node.specs.declared.stop.NodeStop.TheVariants as node
-use Rattle.client_node.proofs.GoesLemmas.{goes-alike, goes-append, goes-one}
-use Rattle.client_node.proofs.PromiseLemmas.{nothing-asked}
+use Rattle.uploader.specs.Turns.Carried.{EndsOver, asked_first, before_last}
+use Rattle.uploader.specs.Turns.Carrying.{StopsBehind, TakesAll, event_of}
+use Rattle.node.specs.declared.stop.NodeStop.{NodeStop}
+use Rattle.node.specs.declared.stop.NodeStop.TheVariants as node
+use Rattle.uploader.proofs.turns.GoesLemmas.{goes-alike, goes-append, goes-one}
+use Rattle.uploader.proofs.turns.PromiseLemmas.{nothing-asked}
 use Rattle.uploader.specs.declared.stop.SendStop.{SendStop}
-use Rattle.uploader.specs.Carried.{client_from}
-use Rattle.uploader.specs.Led.{ComesBy, LedLaw, is_of_turns}
-use Rattle.uploader.specs.Stops.{by_node, by_outcome, stop_of_node}
+use Rattle.uploader.specs.Carried.{client_of}
+use Rattle.uploader.specs.Led.{ComesBy, IsCutShort, LedLaw, is_of_turns}
+use Rattle.uploader.specs.Stops.{answer_of, by_outcome, stop_of_turns}
 
 -- what is told to have come since is what came
 pub told-same : {X : Type 0} (before now : Option (List X)) (earlier xs ys : List X) → before ≡ Some earlier → now ≡ Some (earlier ++ xs) → Grows before now ys → ys ≡ xs
@@ -106,28 +105,18 @@ asked-up job events (event ∷ before) next later is =
 
 -- ---- the answer of the turns
 
--- either nothing became of the job, and it is the stop, or something did, and it is that
-at-stop : (why : NodeStop) (reached : Outcome) (P : Result Outcome NodeStop → Type 0) → (reached ≡ outcome.Working → P (Err why)) → (reached ≢ outcome.Working → P (Ok reached)) → P (reached_or why reached)
-at-stop why outcome.Working P stopped came = stopped refl
-at-stop why outcome.Idle P stopped came = came (λ e. cc e)
-at-stop why (outcome.Acked number) P stopped came = came (λ e. cc e)
-at-stop why (outcome.Refused code) P stopped came = came (λ e. cc e)
-at-stop why (outcome.BadFile code) P stopped came = came (λ e. cc e)
-at-stop why (outcome.Fetched number) P stopped came = came (λ e. cc e)
-at-stop why outcome.Listed P stopped came = came (λ e. cc e)
-at-stop why (outcome.LinkDown reason) P stopped came = came (λ e. cc e)
-at-stop why (outcome.Strange kind) P stopped came = came (λ e. cc e)
-
--- the same where that is what the definition leads to
-came-to : (polls : ℕ) (turns : List Turn) (got reached : Outcome) → got ≡ reached → got ≢ outcome.Working → ComesBy polls turns reached (by_node (Ok got))
-came-to polls turns got reached same done = inl ((λ working. done (same ∙ working)), ap by_outcome same)
-
-of-turns : (polls : ℕ) (turns : List Turn) (why : NodeStop) (got reached : Outcome) → is_of_turns why ≡ true → TurnsBy (Err why) polls turns → got ≡ reached
-    → ComesBy polls turns reached (by_node (reached_or why got))
-of-turns polls turns why got reached of ends same =
-    at-stop why got (λ (r : Result Outcome NodeStop). ComesBy polls turns reached (by_node r))
-    (λ working. inr (inl (record { why = why; of_turns = of; working = sym same ∙ working; ends = ends; came_is = refl })))
-    (came-to polls turns got reached same)
+-- either nothing became of the job, and it is the turns' stop, or something did, and it is that
+at-stop : (ended : Result Finished NodeStop) (reached : Outcome) (P : Result Outcome SendStop → Type 0) → (reached ≡ outcome.Working → P (Err (stop_of_turns ended))) → (reached ≢ outcome.Working → P (by_outcome reached))
+    → P (answer_of ended reached)
+at-stop ended outcome.Working P stopped came = stopped refl
+at-stop ended outcome.Idle P stopped came = came (λ e. cc e)
+at-stop ended (outcome.Acked number) P stopped came = came (λ e. cc e)
+at-stop ended (outcome.Refused code) P stopped came = came (λ e. cc e)
+at-stop ended (outcome.BadFile code) P stopped came = came (λ e. cc e)
+at-stop ended (outcome.Fetched number) P stopped came = came (λ e. cc e)
+at-stop ended outcome.Listed P stopped came = came (λ e. cc e)
+at-stop ended (outcome.LinkDown reason) P stopped came = came (λ e. cc e)
+at-stop ended (outcome.Strange kind) P stopped came = came (λ e. cc e)
 
 -- ---- what was reached
 
@@ -159,44 +148,54 @@ module _ (steps : OneStepLaw) (stays : StaysLaw) (client : Client) where
       came ∙ sym stayed ∙ is
 
   -- by how the turns ended
-  comes-by : (job : JobState) (polls : ℕ) (turns : List Turn) (least : List ClientEvent) (events : List NodeEvent) (ended : Result ⊤ NodeStop) (got reached : Outcome) (text : List ℕ) (done cut : List NotesCommand)
-      (frames : List FrameValue) (commands : List NotesCommand) (now : Client) → IfOk (answer_of ended got) (λ r. r ≢ outcome.Working) → TurnsBy ended polls turns
-      → EndsOver ended least client (asked_first job events) got text done cut → GoesOver client (asked_first job events) frames commands now → outcome_by now.attempt ≡ reached
-      → ComesBy polls turns reached (by_node (answer_of ended got))
-  comes-by job polls turns least events (Ok closed) got reached text done cut frames commands now some ends h goes is =
-      came-to polls turns got reached (taken-same (asked_first job events) true got reached text done cut frames commands now h goes is) some
-  comes-by job polls turns least events (Err node.AirRead) got reached text done cut frames commands now some ends h goes is =
-      of-turns polls turns node.AirRead got reached refl ends (taken-same (asked_first job events) false got reached text done cut frames commands now h goes is)
-  comes-by job polls turns least events (Err node.Ended) got reached text done cut frames commands now some ends h goes is =
-      of-turns polls turns node.Ended got reached refl ends (taken-same (asked_first job events) false got reached text done cut frames commands now h goes is)
-  comes-by job polls turns least events (Err node.Spent) got reached text done cut frames commands now some ends h goes is =
-      of-turns polls turns node.Spent got reached refl ends (taken-same (asked_first job events) false got reached text done cut frames commands now h goes is)
-  comes-by job polls turns least events (Err node.AirWrite) got reached text done cut frames commands now some ends h goes is =
-      at-stop node.AirWrite got (λ (r : Result Outcome NodeStop). ComesBy polls turns reached (by_node r)) (λ working. inr (inr (inl refl)))
-      (λ something. came-to polls turns got reached (unsaid-same job least events got reached text done cut frames commands now h goes is something) something)
-  comes-by job polls turns least events (Err node.Disk) got reached text done cut frames commands now some ends h goes is = inr (inr (inr (inl refl)))
-  comes-by job polls turns least events (Err node.OutOfMemory) got reached text done cut frames commands now some ends h goes is = inr (inr (inr (inr refl)))
+  module _ (job : JobState) (polls : ℕ) (turns : List Turn) (least : List ClientEvent) (events : List NodeEvent) (got reached : Outcome) (text : List ℕ) (done cut : List NotesCommand) (frames : List FrameValue)
+      (commands : List NotesCommand) (now : Client) (goes : GoesOver client (asked_first job events) frames commands now) (is : outcome_by now.attempt ≡ reached) where
+    abbrev Comes : Result Finished NodeStop → Type 0
+    Comes ended = ComesBy polls turns reached (answer_of ended got)
 
--- what an answer promises says that something became of the job
-done-of : (lists : Lists) (asked : Work) (listing : List ℕ) (r : Result Outcome NodeStop) → IfOk r (Became lists asked listing) → IfOk r (λ reached. reached ≢ outcome.Working)
-done-of lists asked listing (Ok reached) became = became.done
-done-of lists asked listing (Err why) became = tt
+    -- something became of the job, which the definition leads to
+    came-to : got ≡ reached → got ≢ outcome.Working → ComesBy polls turns reached (by_outcome got)
+    came-to same some = inl ((λ working. some (same ∙ working)), ap by_outcome same)
 
-pub led-law : {A C D : Type 0} (g : Ghosts D) (air : AirGhosts A) (given : C → Option (List ℕ)) → OneRunLaw → OneStepLaw → StaysLaw → LedLaw g air given
-led-law g air given runs steps stays old new terms start first job came turns reached h led =
-    let client : Client = client_from terms (after_all start first) in
+    of-turns : (ended : Result Finished NodeStop) (over : Bool) → is_of_turns ended ≡ true → TurnsBy ended polls turns → TakesAll client (asked_first job events) over got text done cut → Comes ended
+    of-turns ended over of ends h =
+        let same = taken-same (asked_first job events) over got reached text done cut frames commands now h goes is in
+        at-stop ended got (λ (r : Result Outcome SendStop). ComesBy polls turns reached r)
+        (λ working. inr (inl (record { ended = ended; of_turns = of; working = sym same ∙ working; ends = ends; came_is = refl }))) (came-to same)
+
+    -- it was cut short before anything became of the job
+    cut-short : (ended : Result Finished NodeStop) → IsCutShort (Err (stop_of_turns ended)) → got ≡ outcome.Working → Comes ended
+    cut-short ended short working = at-stop ended got (λ (r : Result Outcome SendStop). ComesBy polls turns reached r) (λ still. inr (inr short)) (λ some. absurd (some working))
+
+    comes-by : (ended : Result Finished NodeStop) → (ended ≡ Ok finished.Over → got ≢ outcome.Working) → TurnsBy ended polls turns → EndsOver ended least client (asked_first job events) got text done cut → Comes ended
+    comes-by (Ok finished.Over) over ends h =
+        at-stop (Ok finished.Over) got (λ (r : Result Outcome SendStop). ComesBy polls turns reached r) (λ working. absurd (over refl working))
+        (came-to (taken-same (asked_first job events) true got reached text done cut frames commands now h goes is))
+    comes-by (Ok (finished.Closed count)) over ends h = of-turns (Ok (finished.Closed count)) false refl ends h
+    comes-by (Err node.AirRead) over ends h = of-turns (Err node.AirRead) false refl ends h
+    comes-by (Err node.Spent) over ends h = of-turns (Err node.Spent) false refl ends h
+    comes-by (Err node.AirWrite) over ends h =
+        at-stop (Err node.AirWrite) got (λ (r : Result Outcome SendStop). ComesBy polls turns reached r) (λ working. inr (inr (inl refl)))
+        (λ some. came-to (unsaid-same job least events got reached text done cut frames commands now h goes is some) some)
+    comes-by (Err node.Disk) over ends h = cut-short (Err node.Disk) (inr (inl refl)) h.stops.stops.4
+    comes-by (Err node.OutOfMemory) over ends h = cut-short (Err node.OutOfMemory) (inr (inr refl)) h.stops.stops.5
+
+pub led-law : {A C D : Type 0} (see : Seen D A C) → OneRunLaw → OneStepLaw → StaysLaw → LedLaw see
+led-law see runs steps stays old new asked came turns reached h led =
+    let client : Client = client_of asked in
     let told = led.told in
     let leads = led.leads in
-    let same_turns : h.turns ≡ turns = told-same (air.heard old.air) (air.heard new.air) told.before turns h.turns told.heard told.heard_now h.turns_heard in
-    let same_moments : h.moments ≡ led.moments = told-same (given old.clock) (given new.clock) told.earlier led.moments h.moments told.told told.told_now h.moments_given in
-    let at_turns : List Turn → Type 0 = λ x. NodeEvents client.me x h.moments h.ran.events in
+    let run = h.run in
+    let same_turns : run.turns ≡ turns = told-same (see.air.heard old.air) (see.air.heard new.air) told.before turns run.turns told.heard told.heard_now h.air.turns_heard in
+    let same_moments : run.moments ≡ led.moments = told-same (see.given old.clock) (see.given new.clock) told.earlier led.moments run.moments told.told told.told_now h.air.moments_given in
+    let at_turns : List Turn → Type 0 = λ x. NodeEvents client.me x run.moments h.ran.events in
     let at_moments : List ℕ → Type 0 = λ x. NodeEvents client.me turns x h.ran.events in
     let brings = subst at_moments same_moments (subst at_turns same_turns h.ran.brings) in
     let same_events : leads.events ≡ h.ran.events = runs client.me turns led.moments leads.events h.ran.events leads.brings brings in
-    let at_events : List NodeEvent → Type 0 = λ x. GoesOver client (asked_first job x) leads.frames leads.commands leads.now in
-    let P : Result Outcome SendStop → Type 0 = λ r. ComesBy terms.polls turns reached r in
-    let Q : List Turn → Type 0 = λ x. ComesBy terms.polls x reached (by_node (answer_of h.ended h.reached)) in
+    let at_events : List NodeEvent → Type 0 = λ x. GoesOver client (asked_first asked.job x) leads.frames leads.commands leads.now in
+    let P : Result Outcome SendStop → Type 0 = λ r. ComesBy asked.terms.polls turns reached r in
+    let Q : List Turn → Type 0 = λ x. ComesBy asked.terms.polls x reached (answer_of run.ended run.reached) in
     subst P (sym h.answer)
     (subst Q same_turns
-    (comes-by steps stays client job terms.polls h.turns (before_last h.turns job h.ran.least) h.ran.events h.ended h.reached reached h.text h.done h.cut leads.frames leads.commands leads.now
-    (done-of _ _ _ (answer_of h.ended h.reached) h.promises) h.ran.ends h.ran.ends_over (subst at_events same_events leads.goes) leads.reached_is))
+    (comes-by steps stays client asked.job asked.terms.polls run.turns (before_last run.turns asked.job h.ran.least) h.ran.events run.reached reached run.text run.done run.cut leads.frames leads.commands leads.now
+    (subst at_events same_events leads.goes) leads.reached_is run.ended h.became.over h.ran.ends h.ran.ends_over))

@@ -1,7 +1,6 @@
 -- The recovery of the notes: refused, or done.
-use Rattle.std.proofs.Common.{◌≡◌, inl, inr, ⊎_elim, List, ℕ, refl, sym, ◌∙◌, ap, subst, Option, IfSome}
-use Rattle.std.specs.Prelude.{Result, Err, IsErrAnd, IsErrOf}
-use Rattle.std.proofs.lemmas.Result.{err_from_is_err_and}
+use Rattle.std.proofs.Common.{◌≡◌, inl, inr, ⊎_elim, List, ℕ, refl, ap, Option, IfSome}
+use Rattle.std.specs.Prelude.{Result, Err, IsErrOf}
 use Rattle.disk_model.specs.declared.disk.Disk.{Ghosts}
 use Rattle.client_notes.specs.Calls.{Leaves, Runs}
 use Rattle.client_notes.specs.JournalRecovery.{IsFailedSync, IsSyncedFirst}
@@ -15,12 +14,6 @@ use Rattle.uploader.specs.declared.terms.ClientTerms.{ClientTerms}
 use Rattle.uploader.specs.OnDisk.{IsOfStanding, LeavesStanding}
 use Rattle.uploader.specs.Ready.{IsReady}
 use Rattle.uploader.proofs.Standing.{runs_same}
-
--- what holds of the error that a `?` hands on holds of the result
-pub at_exit : {T E : Type 0} (P : Result T E → Type 0) (result : Result T E) (why : E) → IsErrAnd result (λ e. e ≡ why) → P (Err why) → P result
-at_exit P result why h k =
-    let p = err_from_is_err_and result h in
-    subst P (sym (p.1 ∙ ap Err p.2)) k
 
 module _ (T : Type 0) where
   -- the fault is the fault

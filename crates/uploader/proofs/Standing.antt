@@ -12,7 +12,7 @@ use Rattle.client_notes.specs.Records.{notes_magic}
 use Rattle.client_notes.specs.Recovery.{StandsAlike}
 use Rattle.client_notes.specs.Several.{DoesSeveral, MakesFirst}
 use Rattle.client_notes.specs.State.{NotesState, StandsFor, standing_of}
-use Rattle.client_node.specs.Carried.{CutsOff}
+use Rattle.uploader.specs.Turns.Carried.{CutsOff}
 use Rattle.uploader.specs.OnDisk.{StandsThrough}
 
 module _ {D : Type 0} (g : Ghosts D) (on : (first second third : D) → g.lasts first second → g.lasts second third → g.lasts first third) (failed : Type 0) (old mid now : D) (start new : NotesState)

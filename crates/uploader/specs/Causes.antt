@@ -1,6 +1,8 @@
--- What the air counts by how a command ends.
+-- What disk and air count by how a command ends.
 use Rattle.std.specs.Prelude.{◌≡◌, ℕ, Bool, true, false, IfErr, IsErrOf, Result}
 use Rattle.px_base.specs.Outside.{Rose}
+use Rattle.client_notes.specs.Calls.{Runs}
+use Rattle.node.specs.Lent.{Lent, Seen}
 use Rattle.uploader.specs.declared.stop.SendStop.{SendStop}
 use Rattle.uploader.specs.declared.stop.SendStop.TheVariants as stop
 
@@ -24,7 +26,10 @@ pub record HasAirCause {T : Type 0} (reads reads_now writes writes_now : ℕ) (r
   pub write : IsErrOf result stop.AirWrite → Rose writes writes_now
   pub same : IfErr result (λ why. is_before_outcome why ≡ true → (reads_now ≡ reads) × (writes_now ≡ writes))
 
--- the same of an air, before the command and now, by what it counts
-abbrev pub HasAirCauseOf : {A T : Type 0} → (A → ℕ) → (A → ℕ) → A → A → Result T SendStop → Type 0
-HasAirCauseOf reads writes before now result =
-    HasAirCause (reads before) (reads now) (writes before) (writes now) result
+-- Each cause of a command's end rose in a count: of a fault of the disk, and of hearing or saying.
+pub record HasCauses {A C D T : Type 0} (see : Seen D A C) (old new : Lent D A C) (result : Result T SendStop)
+    : Type 0 where
+  pub runs : Runs see.disk (IsErrOf result stop.Disk) old.disk new.disk
+  pub of_air :
+      HasAirCause (see.air.read_faults old.air) (see.air.read_faults new.air) (see.air.write_faults old.air)
+      (see.air.write_faults new.air) result

@@ -1,27 +1,26 @@
 -- What the definition makes of a job over all that was heard, and that a command comes to exactly that.
-use Rattle.std.specs.Prelude.{◌≡◌, ◌≢◌, ◌⊎◌, ℕ, List, ◌++◌, Bool, true, false, Option, Some, Result, Err}
-use Rattle.px_base.specs.declared.air.Air.{Ghosts as AirGhosts}
+use Rattle.std.specs.Prelude.{◌≡◌, ◌≢◌, ◌⊎◌, ℕ, List, ◌++◌, Bool, true, false, Some, Result, Ok, Err}
 use Rattle.px_base.specs.declared.air.Turn.{Turn}
-use Rattle.disk_model.specs.declared.disk.Disk.{Ghosts}
-use Rattle.client_node.specs.FrameText.{FrameValue}
-use Rattle.client_node.specs.Events.{NodeEvent, NodeEvents}
+use Rattle.ax25_frames.specs.FrameText.{FrameValue}
+use Rattle.node.specs.Events.{NodeEvent, NodeEvents}
+use Rattle.node.specs.Lent.{Lent, Seen}
+use Rattle.node.specs.Turns.{TurnsBy}
+use Rattle.node.specs.declared.finished.Finished.{Finished}
+use Rattle.node.specs.declared.finished.Finished.TheVariants as finished
+use Rattle.node.specs.declared.stop.NodeStop.{NodeStop}
+use Rattle.node.specs.declared.stop.NodeStop.TheVariants as node
 use Rattle.client_notes.specs.Command.{NotesCommand}
-use Rattle.client_notes.specs.Laws.{after_all}
-use Rattle.client_notes.specs.Notes.{Lists}
 use Rattle.ftl0_client.specs.Table.{JobState}
 use Rattle.ftl0_client.specs.Client.{Client}
 use Rattle.ftl0_client.specs.Going.{GoesOver}
 use Rattle.ftl0_client.specs.Outcomes.{outcome_by}
 use Rattle.ftl0_client.specs.declared.outcome.Outcome.{Outcome}
 use Rattle.ftl0_client.specs.declared.outcome.Outcome.TheVariants as outcome
-use Rattle.client_node.specs.Carried.{TurnsBy, asked_first}
-use Rattle.client_node.specs.declared.stop.NodeStop.{NodeStop}
-use Rattle.client_node.specs.declared.stop.NodeStop.TheVariants as node
 use Rattle.uploader.specs.declared.stop.SendStop.{SendStop}
 use Rattle.uploader.specs.declared.stop.SendStop.TheVariants as stop
-use Rattle.uploader.specs.declared.terms.ClientTerms.{ClientTerms}
-use Rattle.uploader.specs.Carried.{Carries, Setting, client_from}
-use Rattle.uploader.specs.Stops.{by_outcome, stop_of_node}
+use Rattle.uploader.specs.Carried.{Asked, Carries, client_of}
+use Rattle.uploader.specs.Stops.{by_outcome, stop_of_turns}
+use Rattle.uploader.specs.Turns.Carried.{asked_first}
 
 -- The definition leads this client that is asked for this job to this outcome, over all that these turns bring at these
 -- moments.
@@ -36,40 +35,41 @@ pub record LeadsTo (client : Client) (job : JobState) (turns : List Turn) (momen
   pub reached_is : outcome_by now.attempt ≡ reached
 
 -- What is told of a command: what its air heard, and at which moments.
-pub record IsToldOf {A C D : Type 0} (air : AirGhosts A) (given : C → Option (List ℕ)) (old new : Setting D A C)
-    (turns : List Turn) (moments : List ℕ) : Type 0 where
+pub record IsToldOf {A C D : Type 0} (see : Seen D A C) (old new : Lent D A C) (turns : List Turn)
+    (moments : List ℕ) : Type 0 where
   pub before : List Turn
-  pub heard : air.heard old.air ≡ Some before
-  pub heard_now : air.heard new.air ≡ Some (before ++ turns)
+  pub heard : see.air.heard old.air ≡ Some before
+  pub heard_now : see.air.heard new.air ≡ Some (before ++ turns)
   pub earlier : List ℕ
-  pub told : given old.clock ≡ Some earlier
-  pub told_now : given new.clock ≡ Some (earlier ++ moments)
+  pub told : see.given old.clock ≡ Some earlier
+  pub told_now : see.given new.clock ≡ Some (earlier ++ moments)
 
--- What is told leads this client that is asked for this job, by the definition, to this outcome.
-pub record IsLedTo {A C D : Type 0} (air : AirGhosts A) (given : C → Option (List ℕ)) (old new : Setting D A C)
-    (client : Client) (job : JobState) (turns : List Turn) (reached : Outcome) : Type 0 where
+-- What is told leads the client that is asked, by the definition, to this outcome.
+pub record IsLedTo {A C D : Type 0} (see : Seen D A C) (old new : Lent D A C) (asked : Asked) (turns : List Turn)
+    (reached : Outcome) : Type 0 where
   pub moments : List ℕ
-  pub told : IsToldOf air given old new turns moments
-  pub leads : LeadsTo client job turns moments reached
+  pub told : IsToldOf see old new turns moments
+  pub leads : LeadsTo (client_of asked) asked.job turns moments reached
 
 -- whether the turns themselves end a command so: a poll failed, the end of the air was read, or as many polls were made
 -- as may be
-abbrev pub is_of_turns : NodeStop → Bool
-is_of_turns node.AirRead = true
-is_of_turns node.Ended = true
-is_of_turns node.Spent = true
-is_of_turns node.AirWrite = false
-is_of_turns node.Disk = false
-is_of_turns node.OutOfMemory = false
+abbrev pub is_of_turns : Result Finished NodeStop → Bool
+is_of_turns (Ok finished.Over) = false
+is_of_turns (Ok (finished.Closed count)) = true
+is_of_turns (Err node.AirRead) = true
+is_of_turns (Err node.Spent) = true
+is_of_turns (Err node.AirWrite) = false
+is_of_turns (Err node.Disk) = false
+is_of_turns (Err node.OutOfMemory) = false
 
 -- Nothing became of the job, and the turns, of which there are at most so many, ended so.
 pub record EndsWithTurns (polls : ℕ) (turns : List Turn) (reached : Outcome) (came : Result Outcome SendStop)
     : Type 0 where
-  pub why : NodeStop
-  pub of_turns : is_of_turns why ≡ true
+  pub ended : Result Finished NodeStop
+  pub of_turns : is_of_turns ended ≡ true
   pub working : reached ≡ outcome.Working
-  pub ends : TurnsBy (Err why) polls turns
-  pub came_is : came ≡ Err (stop_of_node why)
+  pub ends : TurnsBy ended polls turns
+  pub came_is : came ≡ Err (stop_of_turns ended)
 
 -- A put failed, or the disk did, or there was no memory.
 abbrev pub IsCutShort : Result Outcome SendStop → Type 0
@@ -83,10 +83,8 @@ ComesBy polls turns reached came =
     ⊎ (EndsWithTurns polls turns reached came ⊎ IsCutShort came)
 
 -- A command that carried out a job comes to what the definition makes of it over what is told.
-abbrev pub LedLaw : {A C D : Type 0} → Ghosts D → AirGhosts A → (C → Option (List ℕ)) → Type 0
-LedLaw {A} {C} {D} g air given =
-    (old new : Setting D A C) (terms : ClientTerms) (start : Lists) (first : List NotesCommand) (job : JobState)
-    (came : Result Outcome SendStop) (turns : List Turn) (reached : Outcome)
-    → Carries g air given old new terms start first job came
-    → IsLedTo air given old new (client_from terms (after_all start first)) job turns reached
-    → ComesBy terms.polls turns reached came
+abbrev pub LedLaw : {A C D : Type 0} → Seen D A C → Type 0
+LedLaw {A} {C} {D} see =
+    (old new : Lent D A C) (asked : Asked) (came : Result Outcome SendStop) (turns : List Turn) (reached : Outcome)
+    → Carries see old new asked came → IsLedTo see old new asked turns reached
+    → ComesBy asked.terms.polls turns reached came

@@ -9,8 +9,7 @@ pub mod OnDisk
 pub mod Ready
 pub mod Sending
 pub mod Stops
-pub use Rattle.client_node.specs.Carried as ClientNodeCarried
-pub use Rattle.client_node.specs.declared.stop.NodeStop
+pub mod Turns
 pub use Rattle.client_notes.specs.Answers
 pub use Rattle.client_notes.specs.Command
 pub use Rattle.client_notes.specs.Laws

@@ -2,8 +2,8 @@
 use Rattle.std.specs.Prelude.{◌≡◌, ◌⊎◌, ℕ, ◌+◌, List, [], ◌∷◌, Option, None, Some, IfOk, IfSome, IsErrAnd, IsErrOf}
 use Rattle.std.specs.Prelude.{MatchResult, Result, Ok, Err}
 use Rattle.px_base.specs.Shelves.{Holding, content_of}
-use Rattle.px_base.specs.declared.air.Air.{Ghosts as AirGhosts}
 use Rattle.disk_model.specs.declared.disk.Disk.{Ghosts}
+use Rattle.node.specs.Lent.{Lent, Seen}
 use Rattle.client_notes.specs.Answers.{IsFull, answer_of, fresh_task}
 use Rattle.client_notes.specs.Command.{NotesCommand}
 use Rattle.client_notes.specs.Notes.{Lists, last_task, task_count}
@@ -13,7 +13,7 @@ use Rattle.client_notes.specs.declared.answers.Begun.TheVariants as begun
 use Rattle.client_notes.specs.declared.refusals.NotesRefusal.{NotesRefusal}
 use Rattle.ftl0_client.specs.Work.TheVariants as work
 use Rattle.ftl0_client.specs.JobLaws.{IsAckedIn}
-use Rattle.ftl0_client.specs.Table.{new_job}
+use Rattle.ftl0_client.specs.Table.{JobState, new_job}
 use Rattle.ftl0_client.specs.Upload.{new_upload}
 use Rattle.ftl0_client.specs.declared.outcome.Outcome.{Outcome}
 use Rattle.ftl0_client.specs.declared.outcome.Outcome.TheVariants as outcome
@@ -22,14 +22,14 @@ use Rattle.uploader.specs.declared.stop.SendStop.TheVariants as stop
 use Rattle.uploader.specs.declared.sum.FileSum.{FileSum}
 use Rattle.uploader.specs.declared.terms.ClientTerms.{ClientTerms}
 use Rattle.uploader.specs.declared.terms.Sent.{Sent}
-use Rattle.uploader.specs.Carried.{Carries, IsUnrecovered, Setting}
+use Rattle.uploader.specs.Carried.{Carries, IsUnrecovered, asked_of}
 use Rattle.uploader.specs.Loading.{IsSendable, IsUnfit, sum_of}
 use Rattle.uploader.specs.OnDisk.{Recovers, StandsThrough}
 use Rattle.uploader.specs.Stops.{stop_of_start}
 
 -- The file isn't sent, by what the shelf has under its name, by a fault of the shelf or for want of memory. Nothing
 -- else was touched.
-pub record IsUnloaded {A C D : Type 0} (old new : Setting D A C) (held : Option Holding) (name : List ℕ)
+pub record IsUnloaded {A C D : Type 0} (old new : Lent D A C) (held : Option Holding) (name : List ℕ)
     (why : SendStop) : Type 0 where
   pub untouched : new ≡ old
   pub cause : IsUnfit held name why
@@ -70,7 +70,7 @@ IsLastAcked g disk terms lists name number =
 
 -- The notes were recovered, and no job was asked: nothing was heard or said, and the clock wasn't asked. But for a
 -- fault of the disk in a fresh task's command the disk is as the recovery left it.
-pub record IsUnstarted {A C D : Type 0} (g : Ghosts D) (old new : Setting D A C) (terms : ClientTerms)
+pub record IsUnstarted {A C D : Type 0} (g : Ghosts D) (old new : Lent D A C) (terms : ClientTerms)
     (name file : List ℕ) (result : Result Sent SendStop) : Type 0 where
   pub start : Lists
   pub recovered : D
@@ -94,38 +94,39 @@ IsTaskFor terms lists name sum task number first =
     × (number ≡ 0) × (first ≡ first_command terms lists name sum ∷ []))
     ⊎ ((last_answer terms lists name sum ≡ Ok (Some (begun.Going task number))) × (first ≡ []))
 
+-- the upload of a file by a task, which was just asked
+abbrev pub upload_of : ℕ → ℕ → List ℕ → JobState
+upload_of task number file = new_job (work.Upload (new_upload task number file))
+
 -- The file was uploaded, as far as that came. It is sent exactly where the outcome is that it was acknowledged, and in
 -- each image its task then was, with the same number.
-pub record Uploads {A C D : Type 0} (g : Ghosts D) (air : AirGhosts A) (given : C → Option (List ℕ))
-    (old new : Setting D A C) (terms : ClientTerms) (name file : List ℕ) (result : Result Sent SendStop)
-    : Type 0 where
+pub record Uploads {A C D : Type 0} (see : Seen D A C) (old new : Lent D A C) (terms : ClientTerms)
+    (name file : List ℕ) (result : Result Sent SendStop) : Type 0 where
   pub start : Lists
   pub task : ℕ
   pub number : ℕ
   pub first : List NotesCommand
   pub task_for : IsTaskFor terms start name (sum_of file) task number first
   pub came : Result Outcome SendStop
-  pub carries :
-      Carries g air given old new terms start first (new_job (work.Upload (new_upload task number file))) came
+  pub carries : Carries see old new (asked_of terms start first (upload_of task number file)) came
   pub answer : MatchResult result (λ sent. came ≡ Ok (outcome.Acked sent.number)) (λ why. came ≡ Err why)
-  pub acked : IfOk result (λ sent. EachImage g new.disk (IsAckedIn task sent.number))
+  pub acked : IfOk result (λ sent. EachImage see.disk new.disk (IsAckedIn task sent.number))
 
 -- The file may be sent, and is what the shelf has under the name. Then the notes weren't recovered; or no job was
 -- asked; or it was uploaded.
-pub record Sends {A C D : Type 0} (g : Ghosts D) (air : AirGhosts A) (given : C → Option (List ℕ))
-    (old new : Setting D A C) (held : Option Holding) (terms : ClientTerms) (name : List ℕ)
-    (result : Result Sent SendStop) : Type 0 where
+pub record Sends {A C D : Type 0} (see : Seen D A C) (old new : Lent D A C) (held : Option Holding)
+    (terms : ClientTerms) (name : List ℕ) (result : Result Sent SendStop) : Type 0 where
   pub file : List ℕ
   pub sendable : IsSendable file
   pub there : IfSome held (λ shelf. content_of shelf name ≡ Some file)
   pub ends :
-      IsErrAnd result (IsUnrecovered g old new)
-      ⊎ IsUnstarted g old new terms name file result
-      ⊎ Uploads g air given old new terms name file result
+      IsErrAnd result (IsUnrecovered see.disk old new)
+      ⊎ IsUnstarted see.disk old new terms name file result
+      ⊎ Uploads see old new terms name file result
 
 -- The file wasn't loaded, or it was.
 abbrev pub SendEnds :
-    {A C D : Type 0} → Ghosts D → AirGhosts A → (C → Option (List ℕ)) → Setting D A C → Setting D A C
-    → Option Holding → ClientTerms → List ℕ → Result Sent SendStop → Type 0
-SendEnds g air given old new held terms name result =
-    IsErrAnd result (IsUnloaded old new held name) ⊎ Sends g air given old new held terms name result
+    {A C D : Type 0} → Seen D A C → Lent D A C → Lent D A C → Option Holding → ClientTerms → List ℕ
+    → Result Sent SendStop → Type 0
+SendEnds see old new held terms name result =
+    IsErrAnd result (IsUnloaded old new held name) ⊎ Sends see old new held terms name result

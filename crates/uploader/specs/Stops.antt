@@ -8,8 +8,13 @@ use Rattle.client_notes.specs.declared.refusals.StoreFault.{StoreFault}
 use Rattle.client_notes.specs.declared.refusals.StoreFault.TheVariants as fault
 use Rattle.ftl0_client.specs.declared.outcome.Outcome.{Outcome}
 use Rattle.ftl0_client.specs.declared.outcome.Outcome.TheVariants as outcome
-use Rattle.client_node.specs.declared.stop.NodeStop.{NodeStop}
-use Rattle.client_node.specs.declared.stop.NodeStop.TheVariants as node
+use Rattle.ftl0_client.specs.JobStop.{JobStop}
+use Rattle.ftl0_client.specs.JobStop.TheVariants as job_stop
+use Rattle.node.specs.declared.finished.Finished.{Finished}
+use Rattle.node.specs.declared.halt.Halt.{Halt}
+use Rattle.node.specs.declared.halt.Halt.TheVariants as halt
+use Rattle.node.specs.declared.stop.NodeStop.{NodeStop}
+use Rattle.node.specs.declared.stop.NodeStop.TheVariants as node
 use Rattle.uploader.specs.declared.stop.SendStop.{SendStop}
 use Rattle.uploader.specs.declared.stop.SendStop.TheVariants as stop
 use Rattle.uploader.specs.declared.sum.FileSum.{FileSum}
@@ -37,14 +42,18 @@ stop_of_start given refusal.Disk = stop.Disk
 stop_of_start given refusal.Failed = stop.Disk
 stop_of_start given refusal.OutOfMemory = stop.OutOfMemory
 
--- turns that ended before anything became of the job: at the end of the air the link is down
+-- a stop of the node's turns before anything became of the job
 abbrev pub stop_of_node : NodeStop → SendStop
 stop_of_node node.AirRead = stop.AirRead
 stop_of_node node.AirWrite = stop.AirWrite
 stop_of_node node.Disk = stop.Disk
-stop_of_node node.Ended = stop.LinkDown
 stop_of_node node.Spent = stop.Spent
 stop_of_node node.OutOfMemory = stop.OutOfMemory
+
+-- turns that ended before anything became of the job: at the end of the air, or of the link, the link is down
+abbrev pub stop_of_turns : Result Finished NodeStop → SendStop
+stop_of_turns (Ok finished) = stop.LinkDown
+stop_of_turns (Err why) = stop_of_node why
 
 -- what a job's outcome is to the command that asked for it: each that isn't the one that it asked for is a stop
 abbrev pub by_outcome : Outcome → Result Outcome SendStop
@@ -58,7 +67,12 @@ by_outcome outcome.Listed = Ok outcome.Listed
 by_outcome outcome.Idle = Ok outcome.Idle
 by_outcome outcome.Working = Ok outcome.Working
 
--- what became of the job, or why the turns ended before anything did
-abbrev pub by_node : Result Outcome NodeStop → Result Outcome SendStop
-by_node (Ok reached) = by_outcome reached
-by_node (Err why) = Err (stop_of_node why)
+-- what a command makes of its turns: what became of the job, or why they ended before anything did
+abbrev pub answer_of : Result Finished NodeStop → Outcome → Result Outcome SendStop
+answer_of ended outcome.Working = Err (stop_of_turns ended)
+answer_of ended reached = by_outcome reached
+
+-- how a stop of the client halts its station
+abbrev pub halt_of_job : JobStop → Halt
+halt_of_job job_stop.Disk = halt.Disk
+halt_of_job job_stop.OutOfMemory = halt.OutOfMemory

@@ -2,13 +2,14 @@
 
 ghost use Rattle.std.specs.Prelude.{◌≡◌, ◌≤◌, IsErrOf};
 ghost use Rattle.ftl0_client.specs.Window.{IsGoodK};
-ghost use Rattle.client_notes.specs.Calls.{CountsFault, Runs};
-ghost use Rattle.uploader.specs.Carried.{setting};
-ghost use Rattle.uploader.specs.Causes.{HasAirCauseOf};
-ghost use Rattle.uploader.specs.Fetching.{FetchEnds};
+ghost use Rattle.client_notes.specs.Calls.{CountsFault};
+ghost use Rattle.node.specs.Lent.{lent, seen};
+ghost use Rattle.uploader.specs.Causes.{HasCauses};
+ghost use Rattle.uploader.specs.Fetching.{FetchEnds, file_asked};
 ghost use Rattle.uploader.specs.OnDisk.{RefusesNotes};
 
-use crate::carrying::{carry, recover_client};
+use crate::recovering::recover_client;
+use crate::turns::carry_out;
 use crate::{ClientTerms, SendStop};
 use disk_model::Disk;
 use ftl0_client::Job;
@@ -42,22 +43,24 @@ pub fn fetch<D: Disk, A: Air, S: Shelf, C: Clock>(
     ensures notes { RefusesNotes (D.content disk.old) result }
 
     // How it ended: what was touched, said and kept, and what stands on the disk at each moment.
-    ensures ends { FetchEnds D.Disk A.Air C.given S.held (setting disk.old air.old clock.old)
-        (setting disk.new air.new clock.new) shelf.old shelf.new terms.now number name.now result }
+    ensures ends { FetchEnds (seen D.Disk A.Air C.given) S.held (lent disk.old air.old clock.old)
+        (lent disk.new air.new clock.new) shelf.old shelf.new (file_asked terms.now number name.now) result }
 
     // Each cause rose in a count.
     ensures shelf { CountsFault (S.faults shelf.old) (S.faults shelf.new) (IsErrOf result SendStop.Shelf) }
-    ensures air { HasAirCauseOf A.read_faults A.write_faults air.old air.new result }
-    ensures runs { Runs D.Disk (IsErrOf result SendStop.Disk) disk.old disk.new }
+    ensures causes { HasCauses (seen D.Disk A.Air C.given) (lent disk.old air.old clock.old)
+        (lent disk.new air.new clock.new) result }
 {
     let client = recover_client(alloc, disk, terms)?;
     // What is got of a file is no longer than a file may be.
     let _held = client.notes().got_len(terms.server, number);
     let job = Job::download(terms.server, number);
-    let (client, came) = carry(alloc, terms, client, job, disk, air, clock);
-    let _fetched = came?;
-    match shelf.keep(name, client.notes().got_octets(terms.server, number)) {
-        Ok(()) => Ok(()),
-        Err(_down) => Err(SendStop::Shelf),
+    let (client, came) = carry_out(alloc, client, job, disk, air, clock, terms.polls);
+    match came {
+        Ok(_fetched) => match shelf.keep(name, client.notes().got_octets(terms.server, number)) {
+            Ok(()) => Ok(()),
+            Err(_down) => Err(SendStop::Shelf),
+        },
+        Err(stop) => Err(stop),
     }
 }

@@ -2,15 +2,16 @@
 //! listed (FTL0 1990), over the client's notes on a disk, an air and a clock.
 #![tactic(auto)]
 
-mod carrying;
 mod fetching;
 mod line;
 mod listing;
 mod loading;
+mod recovering;
 mod sending;
 mod stop;
 mod sum;
 mod terms;
+mod turns;
 
 pub use fetching::fetch;
 pub use listing::list;

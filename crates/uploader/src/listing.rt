@@ -3,15 +3,16 @@
 ghost use Rattle.std.specs.Prelude.{◌≡◌, ◌≤◌, length, IsErrOf, OnErr, OnOk};
 ghost use Rattle.px_base.specs.Outside.{Gains, GainsPrefix, HasCause};
 ghost use Rattle.ftl0_client.specs.Window.{IsGoodK};
-ghost use Rattle.client_notes.specs.Calls.{CountsFault, Runs};
-ghost use Rattle.uploader.specs.Carried.{setting};
-ghost use Rattle.uploader.specs.Causes.{HasAirCauseOf};
+ghost use Rattle.client_notes.specs.Calls.{CountsFault};
+ghost use Rattle.node.specs.Lent.{lent, seen};
+ghost use Rattle.uploader.specs.Causes.{HasCauses};
 ghost use Rattle.uploader.specs.Lines.{listing_lines};
-ghost use Rattle.uploader.specs.Listing.{ListEnds};
+ghost use Rattle.uploader.specs.Listing.{ListEnds, files_asked};
 ghost use Rattle.uploader.specs.OnDisk.{RefusesNotes};
 
-use crate::carrying::{carry, recover_client};
 use crate::line::{SHORT_LEN, line_of_header};
+use crate::recovering::recover_client;
+use crate::turns::carry_out;
 use crate::{ClientTerms, SendStop};
 use disk_model::Disk;
 use ftl0_client::Job;
@@ -43,24 +44,26 @@ pub fn list<D: Disk, A: Air, O: Out, C: Clock>(
     ensures notes { RefusesNotes (D.content disk.old) result }
 
     // How it ended: what was touched, said and shown, and what stands on the disk at each moment.
-    ensures ends { ListEnds D.Disk A.Air C.given O.shown (setting disk.old air.old clock.old)
-        (setting disk.new air.new clock.new) out.old out.new terms.now tokens.now result }
+    ensures ends { ListEnds (seen D.Disk A.Air C.given) O.shown (lent disk.old air.old clock.old)
+        (lent disk.new air.new clock.new) out.old out.new (files_asked terms.now tokens.now) result }
 
     // Each cause rose in a count.
     ensures out { CountsFault (O.faults out.old) (O.faults out.new) (IsErrOf result SendStop.Out) }
-    ensures air { HasAirCauseOf A.read_faults A.write_faults air.old air.new result }
-    ensures runs { Runs D.Disk (IsErrOf result SendStop.Disk) disk.old disk.new }
+    ensures causes { HasCauses (seen D.Disk A.Air C.given) (lent disk.old air.old clock.old)
+        (lent disk.new air.new clock.new) result }
 {
     let client = recover_client(alloc, disk, terms)?;
     let Ok(tokens) = FileBytes::copy_of(alloc, tokens) else {
         return Err(SendStop::OutOfMemory);
     };
     let job = Job::list(alloc, tokens);
-    let (client, came) = carry(alloc, terms, client, job, disk, air, clock);
-    let _listed = came?;
-    match show_lines(client.listing(), out) {
-        Ok(()) => Ok(()),
-        Err(_down) => Err(SendStop::Out),
+    let (client, came) = carry_out(alloc, client, job, disk, air, clock, terms.polls);
+    match came {
+        Ok(_listed) => match show_lines(client.listing(), out) {
+            Ok(()) => Ok(()),
+            Err(_down) => Err(SendStop::Out),
+        },
+        Err(stop) => Err(stop),
     }
 }
 

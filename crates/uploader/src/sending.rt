@@ -1,23 +1,24 @@
 //! A file is sent.
 
-ghost use Rattle.std.specs.Prelude.{◌≡◌, ◌≤◌, length, IsErrOf};
+ghost use Rattle.std.specs.Prelude.{◌≡◌, ◌≤◌, length};
 ghost use Rattle.ftl0_client.specs.Window.{IsGoodK};
-ghost use Rattle.client_notes.specs.Calls.{Runs};
-ghost use Rattle.uploader.specs.Carried.{setting};
-ghost use Rattle.uploader.specs.Causes.{HasAirCauseOf};
+ghost use Rattle.node.specs.Lent.{lent, seen};
+ghost use Rattle.node.specs.Turns as turns;
+ghost use Rattle.uploader.specs.Causes.{HasCauses};
 ghost use Rattle.uploader.specs.Loading.{HasShelfCause, IsPastFile, RefusesFile};
 ghost use Rattle.uploader.specs.OnDisk.{RefusesNotes};
 ghost use Rattle.uploader.specs.Sending.{SendEnds};
 ghost use Rattle.ftl0_client.specs.JobState.{IsNew, NotesGoWith};
 ghost use Rattle.ftl0_client.specs.Client.{Client as ClientValue};
 ghost use Rattle.ftl0_client.specs.ClientState.{IsClient, IsFree, IsOwn};
-ghost use Rattle.client_node.specs.Carried.{MayCarryOut};
+ghost use Rattle.uploader.specs.Turns.Carried.{MayCarryOut};
 ghost use Rattle.uploader.specs.Ready.{IsUpload, UploadsJob};
 ghost use Rattle.uploader.specs.Stops.{stop_of_start};
 
-use crate::carrying::{carry, recover_client};
 use crate::loading::load_file;
+use crate::recovering::recover_client;
 use crate::sum::sum_of_file;
+use crate::turns::carry_out;
 use crate::{ClientTerms, FileSum, SendStop, Sent};
 use client_notes::{Begun, NotesRefusal};
 use disk_model::Disk;
@@ -53,14 +54,14 @@ pub fn send<D: Disk, A: Air, S: Shelf, C: Clock>(
     ensures notes { IsPastFile result → RefusesNotes (D.content disk.old) result }
 
     // How it ended: what was touched and said, and what stands on the disk at each moment.
-    ensures ends { SendEnds D.Disk A.Air C.given (setting disk.old air.old clock.old)
-        (setting disk.new air.new clock.new) (S.held shelf.old) terms.now name.now result }
+    ensures ends { SendEnds (seen D.Disk A.Air C.given) (lent disk.old air.old clock.old)
+        (lent disk.new air.new clock.new) (S.held shelf.old) terms.now name.now result }
     ensures held { S.held shelf.new ≡ S.held shelf.old }
 
     // Each cause rose in a count.
     ensures shelf { HasShelfCause (S.faults shelf.old) (S.faults shelf.new) result }
-    ensures air { HasAirCauseOf A.read_faults A.write_faults air.old air.new result }
-    ensures runs { Runs D.Disk (IsErrOf result SendStop.Disk) disk.old disk.new }
+    ensures causes { HasCauses (seen D.Disk A.Air C.given) (lent disk.old air.old clock.old)
+        (lent disk.new air.new clock.new) result }
 {
     let file = load_file(alloc, shelf, name)?;
     let sum = sum_of_file(file.as_slice());
@@ -69,11 +70,11 @@ pub fn send<D: Disk, A: Air, S: Shelf, C: Clock>(
         Ok(Begun::Already { number }) => Ok(Sent { number }),
         Ok(Begun::Fresh { task }) => {
             let job = Job::upload(task, 0, file);
-            upload(alloc, terms, client, job, disk, air, clock).1
+            upload(alloc, client, job, disk, air, clock, terms.polls).1
         }
         Ok(Begun::Going { task, number }) => {
             let job = Job::upload(task, number, file);
-            upload(alloc, terms, client, job, disk, air, clock).1
+            upload(alloc, client, job, disk, air, clock, terms.polls).1
         }
         Err(refusal) => Err(stop_of_refusal(refusal, sum)),
     }
@@ -83,14 +84,13 @@ pub fn send<D: Disk, A: Air, S: Shelf, C: Clock>(
 /// Gives the client back. Takes memory.
 fn upload<D: Disk, A: Air, C: Clock>(
     alloc: Global,
-    terms: &ClientTerms,
     client: Client,
     job: Job,
     disk: &mut D,
     air: &mut A,
     clock: &mut C,
+    polls: u64,
 ) -> (Client, Result<Sent, SendStop>)
-    requires me { client.me ≡ terms.now.me }
     requires may { MayCarryOut D.Disk client disk.old }
     requires free { IsFree client }
     requires new { IsNew job }
@@ -98,12 +98,12 @@ fn upload<D: Disk, A: Air, C: Clock>(
     requires own { IsOwn client job.work }
     requires upload { IsUpload job.work }
     ensures uploaded { (base : ClientValue) → IsClient client base →
-        UploadsJob D.Disk A.Air C.given air.old air.new clock.old clock.new client result.0 disk.old disk.new job
-        terms.now.polls base result.1 }
+        UploadsJob (seen D.Disk A.Air C.given) (turns.lent client disk.old air.old clock.old)
+        (turns.lent result.0 disk.new air.new clock.new) job polls base result.1 }
 {
     // The client stands for some client of the definitions.
     client.some_law();
-    let (client, came) = carry(alloc, terms, client, job, disk, air, clock);
+    let (client, came) = carry_out(alloc, client, job, disk, air, clock, polls);
     match came {
         Ok(outcome) => match outcome {
             Outcome::Acked { number } => (client, Ok(Sent { number })),

@@ -4,8 +4,8 @@ ghost use Rattle.std.specs.Prelude.{◌≡◌};
 ghost use Rattle.uploader.specs.Stops.{stop_of_fault, stop_of_load, stop_of_node};
 
 use crate::FileSum;
-use client_node::NodeStop;
 use client_notes::StoreFault;
+use node::NodeStop;
 use px_base::ShelfRefusal;
 use thiserror::Error;
 
@@ -119,7 +119,6 @@ impl From<NodeStop> for SendStop {
             NodeStop::AirRead => SendStop::AirRead,
             NodeStop::AirWrite => SendStop::AirWrite,
             NodeStop::Disk => SendStop::Disk,
-            NodeStop::Ended => SendStop::LinkDown,
             NodeStop::Spent => SendStop::Spent,
             NodeStop::OutOfMemory => SendStop::OutOfMemory,
         }

@@ -7,7 +7,7 @@ use Rattle.pacsat_cli.specs.declared.status.Status.TheVariants as status
 use Rattle.pacsat_cli.specs.Status.{line_of}
 use Rattle.pacsat_cli.specs.Stops.{status_of_refusal}
 use Rattle.pacsat_cli.specs.Tasks.{AsksFile, AsksText}
-use Rattle.uploader.specs.Carried.{setting}
+use Rattle.node.specs.Lent.{lent, seen}
 use Rattle.pacsat_cli.proofs.ExactCarried.{fetch-exactly, list-exactly}
 use Rattle.pacsat_cli.proofs.ExactSend.{send-exactly, send-refuses, send-starts}
 use Rattle.pacsat_cli.proofs.OneTask.{file-client, file-make, make-client, node-client, refused-client, node-file, node-make, one-text, serve-file, serve-make, session-file, session-make, unbuilt-file, unbuilt-make, usage-file, usage-make}
@@ -28,9 +28,9 @@ returns-in-Err g c =
     let h = means words why (Err why) refl refused.usage refused.unbuilt refused.memory in
     let line = rw c.status_of_refused-status.ensures at c.show_line.ensures in
     let held = g.S.Shelf.held c.args.shelf.now in
-    let send = refused-send words only why h g.D.Disk g.A.Air g.C.Clock.given g.S.Shelf g.O.Out (setting c.args.disk.now c.args.air.now c.args.clock.now) c.args.shelf.now c.args.out.now c.show_line.new.out line.shown line.no_line in
-    let fetch = refused-fetch words only why h g.D.Disk g.A.Air g.C.Clock.given g.S.Shelf g.O.Out (setting c.args.disk.now c.args.air.now c.args.clock.now) c.args.shelf.now c.args.out.now c.show_line.new.out line.shown line.no_line in
-    let list = refused-list words only why h g.D.Disk g.A.Air g.C.Clock.given g.S.Shelf g.O.Out (setting c.args.disk.now c.args.air.now c.args.clock.now) c.args.shelf.now c.args.out.now c.show_line.new.out line.shown line.no_line in
+    let send = refused-send words only why h (seen g.D.Disk g.A.Air g.C.Clock.given) g.S.Shelf g.O.Out (lent c.args.disk.now c.args.air.now c.args.clock.now) c.args.shelf.now c.args.out.now c.show_line.new.out line.shown line.no_line in
+    let fetch = refused-fetch words only why h (seen g.D.Disk g.A.Air g.C.Clock.given) g.S.Shelf g.O.Out (lent c.args.disk.now c.args.air.now c.args.clock.now) c.args.shelf.now c.args.out.now c.show_line.new.out line.shown line.no_line in
+    let list = refused-list words only why h (seen g.D.Disk g.A.Air g.C.Clock.given) g.S.Shelf g.O.Out (lent c.args.disk.now c.args.air.now c.args.clock.now) c.args.shelf.now c.args.out.now c.show_line.new.out line.shown line.no_line in
     rw c.status_of_refused-status.ensures
     (record {
       usage = refused-usage words only why h;
@@ -49,11 +49,11 @@ returns-in-Err g c =
       fetch = fetch;
       list = list;
       list_alone = λ _. refl;
-      send_refuses = send-refuses g.D.Disk g.A.Air g.C.Clock.given g.S.Shelf g.O.Out words (setting c.args.disk.now c.args.air.now c.args.clock.now) (setting c.args.disk.now c.args.air.now c.args.clock.now) c.args.shelf.now c.args.shelf.now (status_of_refusal why) c.args.out.now c.show_line.new.out send;
-      send_starts = send-starts g.D.Disk g.A.Air g.C.Clock.given g.S.Shelf g.O.Out words (setting c.args.disk.now c.args.air.now c.args.clock.now) (setting c.args.disk.now c.args.air.now c.args.clock.now) c.args.shelf.now c.args.shelf.now (status_of_refusal why) c.args.out.now c.show_line.new.out send;
-      send_exactly = send-exactly g.D.Disk g.A.Air g.C.Clock.given g.S.Shelf g.O.Out words (setting c.args.disk.now c.args.air.now c.args.clock.now) (setting c.args.disk.now c.args.air.now c.args.clock.now) c.args.shelf.now c.args.shelf.now (status_of_refusal why) c.args.out.now c.show_line.new.out send c.one_run_law.ensures c.one_step_law.ensures c.stays_law.ensures;
-      fetch_exactly = fetch-exactly g.D.Disk g.A.Air g.C.Clock.given c.one_run_law.ensures c.one_step_law.ensures c.stays_law.ensures (setting c.args.disk.now c.args.air.now c.args.clock.now) (setting c.args.disk.now c.args.air.now c.args.clock.now) g.S.Shelf g.O.Out words c.args.shelf.now c.args.shelf.now c.args.out.now c.show_line.new.out (status_of_refusal why) fetch;
-      list_exactly = list-exactly g.D.Disk g.A.Air g.C.Clock.given c.one_run_law.ensures c.one_step_law.ensures c.stays_law.ensures (setting c.args.disk.now c.args.air.now c.args.clock.now) (setting c.args.disk.now c.args.air.now c.args.clock.now) g.S.Shelf g.O.Out words c.args.shelf.now c.args.shelf.now c.args.out.now c.show_line.new.out (status_of_refusal why) list;
+      send_refuses = send-refuses (seen g.D.Disk g.A.Air g.C.Clock.given) g.S.Shelf g.O.Out words (lent c.args.disk.now c.args.air.now c.args.clock.now) (lent c.args.disk.now c.args.air.now c.args.clock.now) c.args.shelf.now c.args.shelf.now (status_of_refusal why) c.args.out.now c.show_line.new.out send;
+      send_starts = send-starts (seen g.D.Disk g.A.Air g.C.Clock.given) g.S.Shelf g.O.Out words (lent c.args.disk.now c.args.air.now c.args.clock.now) (lent c.args.disk.now c.args.air.now c.args.clock.now) c.args.shelf.now c.args.shelf.now (status_of_refusal why) c.args.out.now c.show_line.new.out send;
+      send_exactly = send-exactly (seen g.D.Disk g.A.Air g.C.Clock.given) g.S.Shelf g.O.Out words (lent c.args.disk.now c.args.air.now c.args.clock.now) (lent c.args.disk.now c.args.air.now c.args.clock.now) c.args.shelf.now c.args.shelf.now (status_of_refusal why) c.args.out.now c.show_line.new.out send c.one_run_law.ensures c.one_step_law.ensures c.stays_law.ensures;
+      fetch_exactly = fetch-exactly (seen g.D.Disk g.A.Air g.C.Clock.given) c.one_run_law.ensures c.one_step_law.ensures c.stays_law.ensures (lent c.args.disk.now c.args.air.now c.args.clock.now) (lent c.args.disk.now c.args.air.now c.args.clock.now) g.S.Shelf g.O.Out words c.args.shelf.now c.args.shelf.now c.args.out.now c.show_line.new.out (status_of_refusal why) fetch;
+      list_exactly = list-exactly (seen g.D.Disk g.A.Air g.C.Clock.given) c.one_run_law.ensures c.one_step_law.ensures c.stays_law.ensures (lent c.args.disk.now c.args.air.now c.args.clock.now) (lent c.args.disk.now c.args.air.now c.args.clock.now) g.S.Shelf g.O.Out words c.args.shelf.now c.args.shelf.now c.args.out.now c.show_line.new.out (status_of_refusal why) list;
       acknowledged = c.acknowledged_stands_law.ensures;
       acknowledged_since = c.acknowledged_since_law.ensures;
       disk_alone = λ _. refl;
@@ -371,11 +371,11 @@ returns-in-Client g c =
     let determined = c.one_meaning.ensures.determined words in
     let ran = c.run_client-status in
     let line = c.show_line-in-Client.ensures in
-    let did = client-did g.D.Disk g.A.Air g.C.Clock.given g.S.Shelf g.O.Out (setting c.args.disk.now c.args.air.now c.args.clock.now) (setting ran.new.disk ran.new.air ran.new.clock) c.args.shelf.now ran.new.shelf c.args.out.now ran.new.out c.show_line-in-Client.new.out words ran.result request asks ran.ensures in
-    let isnt = client-not g.D.Disk g.A.Air g.C.Clock.given g.S.Shelf g.O.Out (setting c.args.disk.now c.args.air.now c.args.clock.now) (setting ran.new.disk ran.new.air ran.new.clock) c.args.shelf.now ran.new.shelf c.args.out.now ran.new.out c.show_line-in-Client.new.out words ran.result did in
-    let sends = client-sends g.D.Disk g.A.Air g.C.Clock.given g.S.Shelf g.O.Out (setting c.args.disk.now c.args.air.now c.args.clock.now) (setting ran.new.disk ran.new.air ran.new.clock) c.args.shelf.now ran.new.shelf c.args.out.now ran.new.out c.show_line-in-Client.new.out words ran.result only determined line.shown line.no_line request asks ran.ensures in
-    let fetches = client-fetches g.D.Disk g.A.Air g.C.Clock.given g.S.Shelf g.O.Out (setting c.args.disk.now c.args.air.now c.args.clock.now) (setting ran.new.disk ran.new.air ran.new.clock) c.args.shelf.now ran.new.shelf c.args.out.now ran.new.out c.show_line-in-Client.new.out words ran.result only determined line.shown line.no_line request asks ran.ensures in
-    let lists = client-lists g.D.Disk g.A.Air g.C.Clock.given g.S.Shelf g.O.Out (setting c.args.disk.now c.args.air.now c.args.clock.now) (setting ran.new.disk ran.new.air ran.new.clock) c.args.shelf.now ran.new.shelf c.args.out.now ran.new.out c.show_line-in-Client.new.out words ran.result only determined line.shown line.no_line request asks ran.ensures in
+    let did = client-did (seen g.D.Disk g.A.Air g.C.Clock.given) g.S.Shelf g.O.Out (lent c.args.disk.now c.args.air.now c.args.clock.now) (lent ran.new.disk ran.new.air ran.new.clock) c.args.shelf.now ran.new.shelf c.args.out.now ran.new.out c.show_line-in-Client.new.out words ran.result request asks ran.ensures in
+    let isnt = client-not (seen g.D.Disk g.A.Air g.C.Clock.given) g.S.Shelf g.O.Out (lent c.args.disk.now c.args.air.now c.args.clock.now) (lent ran.new.disk ran.new.air ran.new.clock) c.args.shelf.now ran.new.shelf c.args.out.now ran.new.out c.show_line-in-Client.new.out words ran.result did in
+    let sends = client-sends (seen g.D.Disk g.A.Air g.C.Clock.given) g.S.Shelf g.O.Out (lent c.args.disk.now c.args.air.now c.args.clock.now) (lent ran.new.disk ran.new.air ran.new.clock) c.args.shelf.now ran.new.shelf c.args.out.now ran.new.out c.show_line-in-Client.new.out words ran.result only determined line.shown line.no_line request asks ran.ensures in
+    let fetches = client-fetches (seen g.D.Disk g.A.Air g.C.Clock.given) g.S.Shelf g.O.Out (lent c.args.disk.now c.args.air.now c.args.clock.now) (lent ran.new.disk ran.new.air ran.new.clock) c.args.shelf.now ran.new.shelf c.args.out.now ran.new.out c.show_line-in-Client.new.out words ran.result only determined line.shown line.no_line request asks ran.ensures in
+    let lists = client-lists (seen g.D.Disk g.A.Air g.C.Clock.given) g.S.Shelf g.O.Out (lent c.args.disk.now c.args.air.now c.args.clock.now) (lent ran.new.disk ran.new.air ran.new.clock) c.args.shelf.now ran.new.shelf c.args.out.now ran.new.out c.show_line-in-Client.new.out words ran.result only determined line.shown line.no_line request asks ran.ensures in
     record {
       usage = λ e. absurd (isnt status.Usage refl e);
       usage_told = λ usage. absurd (only.usage_client usage client);
@@ -383,7 +383,7 @@ returns-in-Client g c =
       unbuilt_words = λ unbuilt. absurd (only.unbuilt_client unbuilt client);
       unread = λ refused. absurd (refused-client words only refused client);
       untouched = λ refused. absurd (refused-client words only refused client);
-      held = client-held g.D.Disk g.A.Air g.C.Clock.given g.S.Shelf g.O.Out (setting c.args.disk.now c.args.air.now c.args.clock.now) (setting ran.new.disk ran.new.air ran.new.clock) c.args.shelf.now ran.new.shelf c.args.out.now ran.new.out c.show_line-in-Client.new.out words ran.result request asks ran.ensures;
+      held = client-held (seen g.D.Disk g.A.Air g.C.Clock.given) g.S.Shelf g.O.Out (lent c.args.disk.now c.args.air.now c.args.clock.now) (lent ran.new.disk ran.new.air ran.new.clock) c.args.shelf.now ran.new.shelf c.args.out.now ran.new.out c.show_line-in-Client.new.out words ran.result request asks ran.ensures;
       session = λ other is. absurd (only.session_client (other, is) client);
       session_alone = λ session. absurd (only.session_client session client);
       serve = λ other is. absurd (only.serve_client (other, is) client);
@@ -392,12 +392,12 @@ returns-in-Client g c =
       send = sends;
       fetch = fetches;
       list = lists;
-      list_alone = client-alone g.D.Disk g.A.Air g.C.Clock.given g.S.Shelf g.O.Out (setting c.args.disk.now c.args.air.now c.args.clock.now) (setting ran.new.disk ran.new.air ran.new.clock) c.args.shelf.now ran.new.shelf c.args.out.now ran.new.out c.show_line-in-Client.new.out words ran.result only request asks ran.ensures;
-      send_refuses = send-refuses g.D.Disk g.A.Air g.C.Clock.given g.S.Shelf g.O.Out words (setting c.args.disk.now c.args.air.now c.args.clock.now) (setting ran.new.disk ran.new.air ran.new.clock) c.args.shelf.now ran.new.shelf ran.result c.args.out.now c.show_line-in-Client.new.out sends;
-      send_starts = send-starts g.D.Disk g.A.Air g.C.Clock.given g.S.Shelf g.O.Out words (setting c.args.disk.now c.args.air.now c.args.clock.now) (setting ran.new.disk ran.new.air ran.new.clock) c.args.shelf.now ran.new.shelf ran.result c.args.out.now c.show_line-in-Client.new.out sends;
-      send_exactly = send-exactly g.D.Disk g.A.Air g.C.Clock.given g.S.Shelf g.O.Out words (setting c.args.disk.now c.args.air.now c.args.clock.now) (setting ran.new.disk ran.new.air ran.new.clock) c.args.shelf.now ran.new.shelf ran.result c.args.out.now c.show_line-in-Client.new.out sends c.one_run_law.ensures c.one_step_law.ensures c.stays_law.ensures;
-      fetch_exactly = fetch-exactly g.D.Disk g.A.Air g.C.Clock.given c.one_run_law.ensures c.one_step_law.ensures c.stays_law.ensures (setting c.args.disk.now c.args.air.now c.args.clock.now) (setting ran.new.disk ran.new.air ran.new.clock) g.S.Shelf g.O.Out words c.args.shelf.now ran.new.shelf c.args.out.now c.show_line-in-Client.new.out ran.result fetches;
-      list_exactly = list-exactly g.D.Disk g.A.Air g.C.Clock.given c.one_run_law.ensures c.one_step_law.ensures c.stays_law.ensures (setting c.args.disk.now c.args.air.now c.args.clock.now) (setting ran.new.disk ran.new.air ran.new.clock) g.S.Shelf g.O.Out words c.args.shelf.now ran.new.shelf c.args.out.now c.show_line-in-Client.new.out ran.result lists;
+      list_alone = client-alone (seen g.D.Disk g.A.Air g.C.Clock.given) g.S.Shelf g.O.Out (lent c.args.disk.now c.args.air.now c.args.clock.now) (lent ran.new.disk ran.new.air ran.new.clock) c.args.shelf.now ran.new.shelf c.args.out.now ran.new.out c.show_line-in-Client.new.out words ran.result only request asks ran.ensures;
+      send_refuses = send-refuses (seen g.D.Disk g.A.Air g.C.Clock.given) g.S.Shelf g.O.Out words (lent c.args.disk.now c.args.air.now c.args.clock.now) (lent ran.new.disk ran.new.air ran.new.clock) c.args.shelf.now ran.new.shelf ran.result c.args.out.now c.show_line-in-Client.new.out sends;
+      send_starts = send-starts (seen g.D.Disk g.A.Air g.C.Clock.given) g.S.Shelf g.O.Out words (lent c.args.disk.now c.args.air.now c.args.clock.now) (lent ran.new.disk ran.new.air ran.new.clock) c.args.shelf.now ran.new.shelf ran.result c.args.out.now c.show_line-in-Client.new.out sends;
+      send_exactly = send-exactly (seen g.D.Disk g.A.Air g.C.Clock.given) g.S.Shelf g.O.Out words (lent c.args.disk.now c.args.air.now c.args.clock.now) (lent ran.new.disk ran.new.air ran.new.clock) c.args.shelf.now ran.new.shelf ran.result c.args.out.now c.show_line-in-Client.new.out sends c.one_run_law.ensures c.one_step_law.ensures c.stays_law.ensures;
+      fetch_exactly = fetch-exactly (seen g.D.Disk g.A.Air g.C.Clock.given) c.one_run_law.ensures c.one_step_law.ensures c.stays_law.ensures (lent c.args.disk.now c.args.air.now c.args.clock.now) (lent ran.new.disk ran.new.air ran.new.clock) g.S.Shelf g.O.Out words c.args.shelf.now ran.new.shelf c.args.out.now c.show_line-in-Client.new.out ran.result fetches;
+      list_exactly = list-exactly (seen g.D.Disk g.A.Air g.C.Clock.given) c.one_run_law.ensures c.one_step_law.ensures c.stays_law.ensures (lent c.args.disk.now c.args.air.now c.args.clock.now) (lent ran.new.disk ran.new.air ran.new.clock) g.S.Shelf g.O.Out words c.args.shelf.now ran.new.shelf c.args.out.now c.show_line-in-Client.new.out ran.result lists;
       acknowledged = c.acknowledged_stands_law.ensures;
       acknowledged_since = c.acknowledged_since_law.ensures;
       disk_alone = λ none. absurd (none (inr client));
@@ -417,10 +417,10 @@ returns-in-Client g c =
       air_write = did.write;
       disk = did.disk;
       shelf = did.of_shelf;
-      out = client-rose g.D.Disk g.A.Air g.C.Clock.given g.S.Shelf g.O.Out (setting c.args.disk.now c.args.air.now c.args.clock.now) (setting ran.new.disk ran.new.air ran.new.clock) c.args.shelf.now ran.new.shelf c.args.out.now ran.new.out c.show_line-in-Client.new.out words ran.result did line.no_fewer_faults;
-      bad_store = client-store g.D.Disk g.A.Air g.C.Clock.given g.S.Shelf g.O.Out (setting c.args.disk.now c.args.air.now c.args.clock.now) (setting ran.new.disk ran.new.air ran.new.clock) c.args.shelf.now ran.new.shelf c.args.out.now ran.new.out c.show_line-in-Client.new.out words ran.result did client only;
+      out = client-rose (seen g.D.Disk g.A.Air g.C.Clock.given) g.S.Shelf g.O.Out (lent c.args.disk.now c.args.air.now c.args.clock.now) (lent ran.new.disk ran.new.air ran.new.clock) c.args.shelf.now ran.new.shelf c.args.out.now ran.new.out c.show_line-in-Client.new.out words ran.result did line.no_fewer_faults;
+      bad_store = client-store (seen g.D.Disk g.A.Air g.C.Clock.given) g.S.Shelf g.O.Out (lent c.args.disk.now c.args.air.now c.args.clock.now) (lent ran.new.disk ran.new.air ran.new.clock) c.args.shelf.now ran.new.shelf c.args.out.now ran.new.out c.show_line-in-Client.new.out words ran.result did client only;
       node_done = λ node. absurd (node-client words only node client);
-      done = client-done g.D.Disk g.A.Air g.C.Clock.given g.S.Shelf g.O.Out (setting c.args.disk.now c.args.air.now c.args.clock.now) (setting ran.new.disk ran.new.air ran.new.clock) c.args.shelf.now ran.new.shelf c.args.out.now ran.new.out c.show_line-in-Client.new.out words ran.result did line.no_line;
+      done = client-done (seen g.D.Disk g.A.Air g.C.Clock.given) g.S.Shelf g.O.Out (lent c.args.disk.now c.args.air.now c.args.clock.now) (lent ran.new.disk ran.new.air ran.new.clock) c.args.shelf.now ran.new.shelf c.args.out.now ran.new.out c.show_line-in-Client.new.out words ran.result did line.no_line;
       unshown = λ _ others. absurd (others (inr client));
       shown = λ others. absurd (others (inr client));
     }

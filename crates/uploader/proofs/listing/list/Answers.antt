@@ -1,24 +1,19 @@
 -- The recovery is refused, or there was no memory for the tokens; or the list stops, or came whole and is shown.
-use Rattle.std.proofs.Common.{◌≡◌, inl, inr, ℕ, List, refl, ap, ◌∙◌, subst, sym}
-use Rattle.std.specs.Prelude.{Result, Ok, Err, IsErrOf, ⊤}
+use Rattle.std.proofs.Common.{◌≡◌, inl, inr, ℕ, List, [], refl, ap, ◌∙◌, subst}
+use Rattle.std.specs.Prelude.{Result, Ok, Err, ⊤}
 use Rattle.px_base.specs.Outside.{Gains, GainsPrefix}
-use Rattle.client_notes.specs.Calls.{CountsFault, Runs}
 use Rattle.client_notes.proofs.Offered.{counts_none}
 use Rattle.client_notes.specs.declared.refusals.StoreFault.TheVariants as fault
-use Rattle.ftl0_client.specs.Work.TheVariants as work
-use Rattle.ftl0_client.specs.Directory.{new_directory}
-use Rattle.ftl0_client.specs.Table.{new_job}
+use Rattle.node.specs.Lent.{lent, seen}
 use Rattle.ftl0_client.specs.declared.outcome.Outcome.{Outcome}
 use Rattle.uploader.specs.declared.stop.SendStop.{SendStop}
 use Rattle.uploader.specs.declared.stop.SendStop.TheVariants as stop
-use Rattle.uploader.specs.Carried.{setting}
-use Rattle.uploader.specs.Causes.{HasAirCause}
+use Rattle.uploader.specs.Causes.{HasCauses}
 use Rattle.uploader.specs.Lines.{listing_lines}
-use Rattle.uploader.specs.Listing.{ListEnds}
-use Rattle.uploader.specs.OnDisk.{RefusesNotes}
-use Rattle.uploader.proofs.CarryLemmas.{air_err, air_ok, air_other, exactly-err, not_carried, runs_err, runs_fine}
-use Rattle.uploader.proofs.ListLemmas.{list-air, list-carried, list-runs, list-shows, list-stops}
-use Rattle.uploader.proofs.ReadyLemmas.{at_exit, unmade_leaves}
+use Rattle.uploader.specs.Listing.{directory_of, files_asked}
+use Rattle.uploader.proofs.CarryLemmas.{carried, causes, causes-err, causes-ok, causes-out, is_carried, just-asked, never, recovered_exactly}
+use Rattle.uploader.proofs.ListLemmas.{list-shows, list-stops}
+use Rattle.uploader.proofs.ReadyLemmas.{unmade_leaves}
 use Rattle.uploader.proofs.listing.list.Goals as goal
 
 pub returns-in_default-clause-ends : goal.returns-in_default-clause-ends
@@ -34,88 +29,57 @@ returns-in_default-clause-ends g c =
       refl,
     )
 
-pub returns-in_err-_listed-clause-notes : goal.returns-in_err-_listed-clause-notes
-returns-in_err-_listed-clause-notes g c =
-    let why = c.in_err-_listed.field-0.0 in
+pub returns : goal.returns
+returns g c =
+    let see = seen g.D.Disk g.A.Air g.C.Clock.given in
     let ready = c.in_ok-client.ensures.ready in
-    let carried = list-carried g.D.Disk g.A.Air g.C.Clock.given g.O.Out.shown g.met.D.Disk.lasts_same g.met.D.Disk.lasts_on c.args.terms.now c.args.disk.now c.recover_client.new.disk c.carry-client.new.disk
-    c.args.air.now c.carry-client.new.air c.args.clock.now c.carry-client.new.clock c.in_ok-client.client c.carry-client.result.0 c.args.tokens.now c.list-job.result c.carry-client.result.1 (c.list-job.ensures ∙ ap (λ (t : List ℕ). new_job (work.Directory (new_directory t))) c.in-Ok.ensures) ready
-    (c.carry-client.ensures.carried _ ready.is) why c.in_err-_listed.was in
-    at_exit (RefusesNotes (g.D.Disk.content c.args.disk.now)) c.from_residual-in_err-_listed.result why c.from_residual-in_err-_listed.ensures.1
-    (exactly-err ⊤ why (g.D.Disk.content c.args.disk.now) c.in_ok-client.client.notes.lists (λ found. not_carried why (stop.NotAStore found) carried refl) (λ at. not_carried why (stop.Damaged at) carried refl)
-    ready.recovers.stood)
-
-pub returns-in_err-_listed-clause-ends : goal.returns-in_err-_listed-clause-ends
-returns-in_err-_listed-clause-ends g c =
-    let why = c.in_err-_listed.field-0.0 in
-    let ready = c.in_ok-client.ensures.ready in
-    at_exit
-    (ListEnds g.D.Disk g.A.Air g.C.Clock.given g.O.Out.shown (setting c.args.disk.now c.args.air.now c.args.clock.now) (setting c.carry-client.new.disk c.carry-client.new.air c.carry-client.new.clock) c.args.out.now
-    c.args.out.now c.args.terms.now c.args.tokens.now)
-    c.from_residual-in_err-_listed.result why c.from_residual-in_err-_listed.ensures.1
-    (inr (list-stops g.D.Disk g.A.Air g.C.Clock.given g.O.Out.shown g.met.D.Disk.lasts_same g.met.D.Disk.lasts_on c.args.terms.now c.args.disk.now c.recover_client.new.disk c.carry-client.new.disk
-    c.args.air.now c.carry-client.new.air c.args.clock.now c.carry-client.new.clock c.in_ok-client.client c.carry-client.result.0 c.args.tokens.now c.list-job.result c.carry-client.result.1 (c.list-job.ensures ∙ ap (λ (t : List ℕ). new_job (work.Directory (new_directory t))) c.in-Ok.ensures) ready
-    (c.carry-client.ensures.carried _ ready.is) why c.in_err-_listed.was c.args.out.now))
-
-pub returns-in_err-_listed-clause-out : goal.returns-in_err-_listed-clause-out
-returns-in_err-_listed-clause-out g c =
-    let why = c.in_err-_listed.field-0.0 in
-    let ready = c.in_ok-client.ensures.ready in
-    let carried = list-carried g.D.Disk g.A.Air g.C.Clock.given g.O.Out.shown g.met.D.Disk.lasts_same g.met.D.Disk.lasts_on c.args.terms.now c.args.disk.now c.recover_client.new.disk c.carry-client.new.disk
-    c.args.air.now c.carry-client.new.air c.args.clock.now c.carry-client.new.clock c.in_ok-client.client c.carry-client.result.0 c.args.tokens.now c.list-job.result c.carry-client.result.1 (c.list-job.ensures ∙ ap (λ (t : List ℕ). new_job (work.Directory (new_directory t))) c.in-Ok.ensures) ready
-    (c.carry-client.ensures.carried _ ready.is) why c.in_err-_listed.was in
-    at_exit (λ (r : Result ⊤ SendStop). CountsFault (g.O.Out.faults c.args.out.now) (g.O.Out.faults c.args.out.now) (IsErrOf r stop.Out)) c.from_residual-in_err-_listed.result why
-    c.from_residual-in_err-_listed.ensures.1 (counts_none _ _ (λ is. not_carried why stop.Out carried refl (let e : why ≡ stop.Out = cc is in e)))
-
-pub returns-in_err-_listed-clause-air : goal.returns-in_err-_listed-clause-air
-returns-in_err-_listed-clause-air g c =
-    let why = c.in_err-_listed.field-0.0 in
-    let ready = c.in_ok-client.ensures.ready in
-    at_exit (HasAirCause (g.A.Air.read_faults c.args.air.now) (g.A.Air.read_faults c.carry-client.new.air) (g.A.Air.write_faults c.args.air.now) (g.A.Air.write_faults c.carry-client.new.air))
-    c.from_residual-in_err-_listed.result why c.from_residual-in_err-_listed.ensures.1
-    (air_err Outcome ⊤ _ _ _ _ why (subst (λ (r : Result Outcome SendStop). HasAirCause (g.A.Air.read_faults c.args.air.now) (g.A.Air.read_faults c.carry-client.new.air) (g.A.Air.write_faults c.args.air.now) (g.A.Air.write_faults c.carry-client.new.air) r) c.in_err-_listed.was (list-air g.D.Disk g.A.Air g.C.Clock.given g.O.Out.shown g.met.D.Disk.lasts_same g.met.D.Disk.lasts_on c.args.terms.now c.args.disk.now c.recover_client.new.disk
-    c.carry-client.new.disk c.args.air.now c.carry-client.new.air c.args.clock.now c.carry-client.new.clock c.in_ok-client.client c.carry-client.result.0 c.args.tokens.now c.list-job.result c.carry-client.result.1
-    (c.list-job.ensures ∙ ap (λ (t : List ℕ). new_job (work.Directory (new_directory t))) c.in-Ok.ensures) ready (c.carry-client.ensures.carried _ ready.is))))
-
-pub returns-in_err-_listed-clause-runs : goal.returns-in_err-_listed-clause-runs
-returns-in_err-_listed-clause-runs g c =
-    let why = c.in_err-_listed.field-0.0 in
-    let ready = c.in_ok-client.ensures.ready in
-    at_exit (λ (r : Result ⊤ SendStop). Runs g.D.Disk (IsErrOf r stop.Disk) c.args.disk.now c.carry-client.new.disk) c.from_residual-in_err-_listed.result why c.from_residual-in_err-_listed.ensures.1
-    (runs_err Outcome ⊤ g.D.Disk c.args.disk.now c.carry-client.new.disk why (subst (λ (r : Result Outcome SendStop). Runs g.D.Disk (IsErrOf r stop.Disk) c.args.disk.now c.carry-client.new.disk) c.in_err-_listed.was (list-runs g.D.Disk g.A.Air g.C.Clock.given g.O.Out.shown g.met.D.Disk.lasts_same g.met.D.Disk.lasts_on c.args.terms.now
-    c.args.disk.now c.recover_client.new.disk c.carry-client.new.disk c.args.air.now c.carry-client.new.air c.args.clock.now c.carry-client.new.clock c.in_ok-client.client c.carry-client.result.0 c.args.tokens.now
-    c.list-job.result c.carry-client.result.1 (c.list-job.ensures ∙ ap (λ (t : List ℕ). new_job (work.Directory (new_directory t))) c.in-Ok.ensures) ready (c.carry-client.ensures.carried _ ready.is))))
+    let why = c.in-Err.stop in
+    let h = just-asked see g.met.D.Disk.lasts_same (lent c.args.disk.now c.args.air.now c.args.clock.now) (lent c.carry_out-client.new.disk c.carry_out-client.new.air c.carry_out-client.new.clock) c.recover_client.new.disk c.args.terms.now
+    c.in_ok-client.client c.carry_out-client.result.0 c.list-job.result (directory_of c.args.tokens.now) c.carry_out-client.result.1 (c.list-job.ensures ∙ ap (λ (t : List ℕ). directory_of t) c.in-Ok.ensures) ready (c.carry_out-client.ensures.carried _ ready.is) in
+    let carried_ = carried see g.met.D.Disk.lasts_on (lent c.args.disk.now c.args.air.now c.args.clock.now) (lent c.carry_out-client.new.disk c.carry_out-client.new.air c.carry_out-client.new.clock) c.args.terms.now [] (directory_of c.args.tokens.now) c.carry_out-client.result.1 h why c.in-Err.is in
+    record {
+      notes = recovered_exactly is_carried (λ found. refl) (λ at. refl) (g.D.Disk.content c.args.disk.now) c.in_ok-client.client.notes.lists (Err why) ready.recovers.stood carried_;
+      ends = inr (list-stops see g.O.Out.shown g.met.D.Disk.lasts_on (lent c.args.disk.now c.args.air.now c.args.clock.now) (lent c.carry_out-client.new.disk c.carry_out-client.new.air c.carry_out-client.new.clock) (files_asked c.args.terms.now c.args.tokens.now) c.carry_out-client.result.1 h why c.in-Err.is c.args.out.now);
+      out = counts_none _ _ (never {T = ⊤} is_carried (Err why) carried_ stop.Out refl);
+      causes =
+          causes-err see (lent c.args.disk.now c.args.air.now c.args.clock.now) (lent c.carry_out-client.new.disk c.carry_out-client.new.air c.carry_out-client.new.clock) Outcome ⊤ why (subst (λ (r : Result Outcome SendStop). HasCauses see (lent c.args.disk.now c.args.air.now c.args.clock.now) (lent c.carry_out-client.new.disk c.carry_out-client.new.air c.carry_out-client.new.clock) r) c.in-Err.is
+          (causes see g.met.D.Disk.lasts_on (lent c.args.disk.now c.args.air.now c.args.clock.now) (lent c.carry_out-client.new.disk c.carry_out-client.new.air c.carry_out-client.new.clock) c.args.terms.now [] (directory_of c.args.tokens.now) c.carry_out-client.result.1 h));
+    }
 
 pub returns-in-Ok-show_lines-clause-ends : goal.returns-in-Ok-show_lines-clause-ends
 returns-in-Ok-show_lines-clause-ends g c =
+    let see = seen g.D.Disk g.A.Air g.C.Clock.given in
     let ready = c.in_ok-client.ensures.ready in
-    inr (list-shows g.D.Disk g.A.Air g.C.Clock.given g.O.Out.shown g.met.D.Disk.lasts_same g.met.D.Disk.lasts_on c.args.terms.now c.args.disk.now c.recover_client.new.disk c.carry-client.new.disk
-    c.args.air.now c.carry-client.new.air c.args.clock.now c.carry-client.new.clock c.in_ok-client.client c.carry-client.result.0 c.args.tokens.now c.list-job.result c.carry-client.result.1
-    (c.list-job.ensures ∙ ap (λ (t : List ℕ). new_job (work.Directory (new_directory t))) c.in-Ok.ensures) ready (c.carry-client.ensures.carried _ ready.is) c.in_ok-_listed._listed c.in_ok-_listed.was c.args.out.now c.show_lines.new.out (Ok tt)
+    let h = just-asked see g.met.D.Disk.lasts_same (lent c.args.disk.now c.args.air.now c.args.clock.now) (lent c.carry_out-client.new.disk c.carry_out-client.new.air c.carry_out-client.new.clock) c.recover_client.new.disk c.args.terms.now
+    c.in_ok-client.client c.carry_out-client.result.0 c.list-job.result (directory_of c.args.tokens.now) c.carry_out-client.result.1 (c.list-job.ensures ∙ ap (λ (t : List ℕ). directory_of t) c.in-Ok.ensures) ready (c.carry_out-client.ensures.carried _ ready.is) in
+    inr (list-shows see g.O.Out.shown g.met.D.Disk.lasts_on (lent c.args.disk.now c.args.air.now c.args.clock.now) (lent c.carry_out-client.new.disk c.carry_out-client.new.air c.carry_out-client.new.clock) (files_asked c.args.terms.now c.args.tokens.now) c.carry_out-client.result.1 h c.in-Ok-came._listed c.in-Ok-came.is c.args.out.now c.show_lines.new.out (Ok tt)
     (subst (Gains (g.O.Out.shown c.args.out.now) (g.O.Out.shown c.show_lines.new.out)) (ap listing_lines c.listing.ensures) c.in-Ok-show_lines.ensures.ok))
 
-pub returns-in-Ok-show_lines-clause-air : goal.returns-in-Ok-show_lines-clause-air
-returns-in-Ok-show_lines-clause-air g c = air_ok ⊤ tt _ _ _ _
-
-pub returns-in-Ok-show_lines-clause-runs : goal.returns-in-Ok-show_lines-clause-runs
-returns-in-Ok-show_lines-clause-runs g c =
+pub returns-in-Ok-show_lines-clause-causes : goal.returns-in-Ok-show_lines-clause-causes
+returns-in-Ok-show_lines-clause-causes g c =
+    let see = seen g.D.Disk g.A.Air g.C.Clock.given in
     let ready = c.in_ok-client.ensures.ready in
-    runs_fine _ _ g.D.Disk c.args.disk.now c.carry-client.new.disk (λ e. cc (sym c.in_ok-_listed.was ∙ e)) (λ e. cc e) (list-runs g.D.Disk g.A.Air g.C.Clock.given g.O.Out.shown g.met.D.Disk.lasts_same g.met.D.Disk.lasts_on
-    c.args.terms.now c.args.disk.now c.recover_client.new.disk c.carry-client.new.disk c.args.air.now c.carry-client.new.air c.args.clock.now c.carry-client.new.clock c.in_ok-client.client c.carry-client.result.0 c.args.tokens.now c.list-job.result c.carry-client.result.1 (c.list-job.ensures ∙ ap (λ (t : List ℕ). new_job (work.Directory (new_directory t))) c.in-Ok.ensures) ready (c.carry-client.ensures.carried _ ready.is))
+    let h = just-asked see g.met.D.Disk.lasts_same (lent c.args.disk.now c.args.air.now c.args.clock.now) (lent c.carry_out-client.new.disk c.carry_out-client.new.air c.carry_out-client.new.clock) c.recover_client.new.disk c.args.terms.now
+    c.in_ok-client.client c.carry_out-client.result.0 c.list-job.result (directory_of c.args.tokens.now) c.carry_out-client.result.1 (c.list-job.ensures ∙ ap (λ (t : List ℕ). directory_of t) c.in-Ok.ensures) ready (c.carry_out-client.ensures.carried _ ready.is) in
+    causes-ok see (lent c.args.disk.now c.args.air.now c.args.clock.now) (lent c.carry_out-client.new.disk c.carry_out-client.new.air c.carry_out-client.new.clock) c.in-Ok-came._listed tt
+    (subst (λ (r : Result Outcome SendStop). HasCauses see (lent c.args.disk.now c.args.air.now c.args.clock.now) (lent c.carry_out-client.new.disk c.carry_out-client.new.air c.carry_out-client.new.clock) r) c.in-Ok-came.is
+    (causes see g.met.D.Disk.lasts_on (lent c.args.disk.now c.args.air.now c.args.clock.now) (lent c.carry_out-client.new.disk c.carry_out-client.new.air c.carry_out-client.new.clock) c.args.terms.now [] (directory_of c.args.tokens.now) c.carry_out-client.result.1 h))
 
-pub returns-clause-ends : goal.returns-clause-ends
-returns-clause-ends g c =
+pub returns-in-Ok-came-clause-ends : goal.returns-in-Ok-came-clause-ends
+returns-in-Ok-came-clause-ends g c =
+    let see = seen g.D.Disk g.A.Air g.C.Clock.given in
     let ready = c.in_ok-client.ensures.ready in
-    inr (list-shows g.D.Disk g.A.Air g.C.Clock.given g.O.Out.shown g.met.D.Disk.lasts_same g.met.D.Disk.lasts_on c.args.terms.now c.args.disk.now c.recover_client.new.disk c.carry-client.new.disk
-    c.args.air.now c.carry-client.new.air c.args.clock.now c.carry-client.new.clock c.in_ok-client.client c.carry-client.result.0 c.args.tokens.now c.list-job.result c.carry-client.result.1
-    (c.list-job.ensures ∙ ap (λ (t : List ℕ). new_job (work.Directory (new_directory t))) c.in-Ok.ensures) ready (c.carry-client.ensures.carried _ ready.is) c.in_ok-_listed._listed c.in_ok-_listed.was c.args.out.now c.show_lines.new.out (Err stop.Out)
-    (refl, subst (GainsPrefix (g.O.Out.shown c.args.out.now) (g.O.Out.shown c.show_lines.new.out)) (ap listing_lines c.listing.ensures) c.in-Err.ensures.err))
+    let h = just-asked see g.met.D.Disk.lasts_same (lent c.args.disk.now c.args.air.now c.args.clock.now) (lent c.carry_out-client.new.disk c.carry_out-client.new.air c.carry_out-client.new.clock) c.recover_client.new.disk c.args.terms.now
+    c.in_ok-client.client c.carry_out-client.result.0 c.list-job.result (directory_of c.args.tokens.now) c.carry_out-client.result.1 (c.list-job.ensures ∙ ap (λ (t : List ℕ). directory_of t) c.in-Ok.ensures) ready (c.carry_out-client.ensures.carried _ ready.is) in
+    inr (list-shows see g.O.Out.shown g.met.D.Disk.lasts_on (lent c.args.disk.now c.args.air.now c.args.clock.now) (lent c.carry_out-client.new.disk c.carry_out-client.new.air c.carry_out-client.new.clock) (files_asked c.args.terms.now c.args.tokens.now) c.carry_out-client.result.1 h c.in-Ok-came._listed c.in-Ok-came.is c.args.out.now c.show_lines.new.out (Err stop.Out)
+    (refl, subst (GainsPrefix (g.O.Out.shown c.args.out.now) (g.O.Out.shown c.show_lines.new.out)) (ap listing_lines c.listing.ensures) c.in-Err-show_lines.ensures.err))
 
-pub returns-clause-air : goal.returns-clause-air
-returns-clause-air g c = air_other ⊤ _ _ _ _ stop.Out (λ e. cc e) (λ e. cc e) refl
-
-pub returns-clause-runs : goal.returns-clause-runs
-returns-clause-runs g c =
+pub returns-in-Ok-came-clause-causes : goal.returns-in-Ok-came-clause-causes
+returns-in-Ok-came-clause-causes g c =
+    let see = seen g.D.Disk g.A.Air g.C.Clock.given in
     let ready = c.in_ok-client.ensures.ready in
-    runs_fine _ _ g.D.Disk c.args.disk.now c.carry-client.new.disk (λ e. cc (sym c.in_ok-_listed.was ∙ e)) (λ e. cc e) (list-runs g.D.Disk g.A.Air g.C.Clock.given g.O.Out.shown g.met.D.Disk.lasts_same g.met.D.Disk.lasts_on
-    c.args.terms.now c.args.disk.now c.recover_client.new.disk c.carry-client.new.disk c.args.air.now c.carry-client.new.air c.args.clock.now c.carry-client.new.clock c.in_ok-client.client c.carry-client.result.0 c.args.tokens.now c.list-job.result c.carry-client.result.1 (c.list-job.ensures ∙ ap (λ (t : List ℕ). new_job (work.Directory (new_directory t))) c.in-Ok.ensures) ready (c.carry-client.ensures.carried _ ready.is))
+    let h = just-asked see g.met.D.Disk.lasts_same (lent c.args.disk.now c.args.air.now c.args.clock.now) (lent c.carry_out-client.new.disk c.carry_out-client.new.air c.carry_out-client.new.clock) c.recover_client.new.disk c.args.terms.now
+    c.in_ok-client.client c.carry_out-client.result.0 c.list-job.result (directory_of c.args.tokens.now) c.carry_out-client.result.1 (c.list-job.ensures ∙ ap (λ (t : List ℕ). directory_of t) c.in-Ok.ensures) ready (c.carry_out-client.ensures.carried _ ready.is) in
+    causes-out see (lent c.args.disk.now c.args.air.now c.args.clock.now) (lent c.carry_out-client.new.disk c.carry_out-client.new.air c.carry_out-client.new.clock) c.in-Ok-came._listed
+    (subst (λ (r : Result Outcome SendStop). HasCauses see (lent c.args.disk.now c.args.air.now c.args.clock.now) (lent c.carry_out-client.new.disk c.carry_out-client.new.air c.carry_out-client.new.clock) r) c.in-Ok-came.is
+    (causes see g.met.D.Disk.lasts_on (lent c.args.disk.now c.args.air.now c.args.clock.now) (lent c.carry_out-client.new.disk c.carry_out-client.new.air c.carry_out-client.new.clock) c.args.terms.now [] (directory_of c.args.tokens.now) c.carry_out-client.result.1 h))

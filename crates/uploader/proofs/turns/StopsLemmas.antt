@@ -1,0 +1,178 @@
+-- A frame at which the client halts.
+use Rattle.std.proofs.Common.{◌≡◌, ℕ, List, [], ◌∷◌, ◌++◌, length, take, Option, Err, refl, ap, sym, ◌∙◌, subst, append_assoc, arith, take-append-drop, drop}
+use Rattle.std.specs.Prelude.{None, Some, IsErrOf, ⊤}
+use Rattle.disk_model.specs.declared.disk.Disk.{Ghosts}
+use Rattle.ax25_frames.specs.FrameText.{FrameValue}
+use Rattle.client_notes.specs.Command.{NotesCommand}
+use Rattle.client_notes.specs.Laws.{after_all}
+use Rattle.client_notes.specs.Notes.{Lists}
+use Rattle.client_notes.specs.Several.{DoesSeveral}
+use Rattle.client_notes.specs.State.{NotesState}
+use Rattle.client_notes.proofs.Offered.{Several-same, Several-then}
+use Rattle.node.specs.declared.finished.Finished.{Finished}
+use Rattle.node.specs.Course.{AtDisk, stop_of}
+use Rattle.node.specs.Events as node
+use Rattle.ftl0_client.specs.Layout.{Item}
+use Rattle.ftl0_client.specs.JobStop.{JobStop}
+use Rattle.ftl0_client.specs.JobStop.TheVariants as job_stop
+use Rattle.ftl0_client.specs.Table.{job_row}
+use Rattle.ftl0_client.specs.Attempt.Attempted.{Attempted}
+use Rattle.ftl0_client.specs.Attempt.AttemptState.{AttemptState, StopsAmong}
+use Rattle.ftl0_client.specs.Attempt.Hearing.{after_hearing, packets_heard}
+use Rattle.ftl0_client.specs.Attempt.Taking.{taking}
+use Rattle.ftl0_client.proofs.attempt.TakingLemmas.{noted-front}
+use Rattle.ftl0_client.specs.Calls.{StopsBy}
+use Rattle.ftl0_client.specs.Client.{Client, attempt_for, client_hearing, hearing_by, hears}
+use Rattle.ftl0_client.specs.ClientState.{outcome_in}
+use Rattle.ftl0_client.specs.Going.{GoesLaw}
+use Rattle.ftl0_client.specs.Laws.{IsToldDownOf}
+use Rattle.ftl0_client.specs.declared.outcome.Outcome.TheVariants as outcome
+use Rattle.uploader.specs.Turns.Carried.{CutsOff}
+use Rattle.uploader.specs.Turns.Carrying.{StopsAt}
+use Rattle.uploader.specs.Turns.Course.{CameOf, IsFit, Past, StoppedAt, all_events, further}
+use Rattle.uploader.specs.Stops.{halt_of_job}
+use Rattle.uploader.specs.declared.turns.station.ClientStation.{ClientStation}
+use Rattle.node.specs.declared.stop.NodeStop.{NodeStop}
+use Rattle.node.specs.declared.stop.NodeStop.TheVariants as stop
+use Rattle.uploader.proofs.turns.CourseLemmas.{asked-append, came-silent}
+use Rattle.uploader.proofs.turns.CutLemmas.{cuts-none, cuts-then}
+use Rattle.uploader.proofs.turns.MemoryLemmas.{still-working, stopped-working}
+use Rattle.uploader.proofs.turns.PromiseLemmas.{nothing-asked}
+
+-- how a stop of the client ends its turns
+abbrev stopping : JobStop → NodeStop
+stopping why = stop_of (halt_of_job why)
+
+module _ {D : Type 0} (g : Ghosts D) (lasts : (disk : D) → g.lasts disk disk) (on : (first second third : D) → g.lasts first second → g.lasts second third → g.lasts first third) where
+  some-cut : (P : Type 0) (old new : NotesState) (disk disk_n : D) (commands : List NotesCommand) → P → DoesSeveral g P old new disk disk_n commands → commands ≡ [] → ⊥
+  some-cut P old new disk disk_n commands failed does none =
+      let few = (does.cut failed).fewer in
+      let empty : length commands ≡ 0 = ap (λ (cs : List NotesCommand). length cs) none in
+      omega (arith, few, empty)
+
+  module _ (old new : NotesState) (disk disk_n : D) (frame : FrameValue) (client : Client) (lists_are : old.lists ≡ client.lists) (told : IsToldDownOf client.attempt) where
+    -- what it stopped by, of this frame's commands
+    abbrev Halted : JobStop → Type 0
+    Halted why =
+        (done : List NotesCommand) × (cut : List NotesCommand) × StopsAt (stopping why) client (hears frame) outcome.Working [] done cut
+        × CutsOff g (IsErrOf {T = Finished} (Err (stopping why)) stop.Disk) old new disk disk_n done cut
+
+    module _ (a : Attempted) (hears_it : attempt_for client frame ≡ Some a) (attempt : AttemptState) where
+      abbrev start : Attempted
+      start = after_hearing client.window a frame
+
+      abbrev Among : JobStop → Type 0
+      Among why = StopsAmong g start (packets_heard client.window a frame) old new disk disk_n attempt why
+
+      -- the commands of the packets before, those of this one, and those behind
+      noted-all : (why : JobStop) (h : Among why) → (more : List NotesCommand)
+          × ((client_hearing client frame).noted ≡ (taking old.lists start h.before).noted ++ ((job_row h.notes_then.lists (taking old.lists start h.before).after.job h.item).commands ++ more))
+      noted-all why h =
+          let part = taking old.lists start h.before in
+          let then_is : h.notes_then.lists ≡ after_all old.lists part.noted = (h.done.done (λ never. never)).0 in
+          let front = noted-front old.lists start h.before h.item h.behind h.stops.no_outcome in
+          let row : Lists → List NotesCommand = λ l. (job_row l part.after.job h.item).commands in (
+            front.0,
+            ap (λ (o : Option Attempted). (hearing_by client frame o).noted) hears_it
+                ∙ ap (λ (l : Lists). (taking l start (packets_heard client.window a frame)).noted) (sym lists_are)
+                ∙ ap (λ (items : List Item). (taking old.lists start items).noted) h.is_part
+                ∙ front.1
+                ∙ ap (λ (l : Lists). part.noted ++ (row l ++ front.0)) (sym then_is),
+          )
+
+      halted-among : (why : JobStop) → Among why → Halted why
+      halted-among job_stop.Disk h =
+          let part = taking old.lists start h.before in
+          let cut : List NotesCommand = (job_row h.notes_then.lists part.after.job h.item).commands in
+          let all = noted-all job_stop.Disk h in (
+            part.noted,
+            cut,
+            (all.0, all.1, some-cut ⊤ h.notes_then new h.disk_then disk_n cut tt h.stops.noted, refl, refl),
+            record {
+              notes_then = h.notes_then;
+              disk_then = h.disk_then;
+              first = h.done;
+              second = Several-same g ⊤ (IsErrOf {T = Finished} (Err stop.Disk) stop.Disk) h.notes_then new h.disk_then disk_n cut (λ _. refl) (λ _. tt) h.stops.noted;
+            },
+          )
+      halted-among job_stop.OutOfMemory h =
+          let part = taking old.lists start h.before in
+          let all_of : List NotesCommand = (job_row h.notes_then.lists part.after.job h.item).commands in
+          let all = noted-all job_stop.OutOfMemory h in
+          let count : ℕ = h.stops.noted.0 in
+          let first : List NotesCommand = take count all_of in
+          let rest : List NotesCommand = drop count all_of ++ all.0 in
+          let does = Several-then g on ⊥ ⊥ old h.notes_then new disk h.disk_then disk_n part.noted first (λ never. never) h.done h.stops.noted.2 in (
+            part.noted ++ first,
+            [],
+            (
+              rest,
+              all.1
+                  ∙ ap (λ (cs : List NotesCommand). part.noted ++ (cs ++ all.0)) (sym (take-append-drop count all_of))
+                  ∙ ap (λ (cs : List NotesCommand). part.noted ++ cs) (append_assoc first (drop count all_of) all.0)
+                  ∙ sym (append_assoc part.noted first rest),
+              stopped-working client frame told a hears_it g old new disk disk_n attempt job_stop.OutOfMemory h,
+              refl,
+              refl,
+              refl,
+            ),
+            cuts-none g lasts (IsErrOf {T = Finished} (Err stop.OutOfMemory) stop.Disk) old new disk disk_n (part.noted ++ first) (λ e. cc e) does,
+          )
+
+  -- the attempt that hears the frame stopped at one of its packets
+  halted-by : (old new : AtDisk ClientStation D) (frame : FrameValue) (client : Client) (lists_are : old.it.client.notes.lists ≡ client.lists) (told : IsToldDownOf client.attempt) (o : Option Attempted)
+      → attempt_for client frame ≡ o → (why : JobStop) → StopsBy g client.window frame o old.it.client new.it.client old.disk new.disk why
+      → Halted old.it.client.notes new.it.client.notes old.disk new.disk frame client lists_are told why
+  halted-by old new frame client lists_are told None is why h = absurd h
+  halted-by old new frame client lists_are told (Some a) is why h =
+      halted-among old.it.client.notes new.it.client.notes old.disk new.disk frame client lists_are told a is h.0 why h.2
+
+  -- and nothing became of the job
+  working-on : (old new : AtDisk ClientStation D) (frame : FrameValue) (client : Client) (told : IsToldDownOf client.attempt) (o : Option Attempted) → attempt_for client frame ≡ o → (why : JobStop)
+      → StopsBy g client.window frame o old.it.client new.it.client old.disk new.disk why → outcome_in new.it.client.attempt ≡ outcome.Working
+  working-on old new frame client told None is why h = absurd h
+  working-on old new frame client told (Some a) is why h =
+      ap outcome_in h.1 ∙ still-working client frame told a is g old.it.client.notes new.it.client.notes old.disk new.disk h.0 why h.2
+
+  module _ (law : GoesLaw) (a b : AtDisk ClientStation D) (fit : IsFit g a) (frame : FrameValue) (moment : ℕ) (why : JobStop) where
+    abbrev event : node.NodeEvent
+    event = node.hears frame moment
+
+    pub event-halted : (past : Past D) (h : CameOf g past a) → StopsBy g h.now.window frame (attempt_for h.now frame) a.it.client b.it.client a.disk b.disk why
+        → StoppedAt g (further past (event ∷ []) []) (stopping why) b
+    event-halted past h stops =
+        let goes = came-silent g past a h fit.nothing.silent in
+        let stands = (law past.base past.job _ h.frames h.commands h.now h.just h.go_with (nothing-asked past.events) goes).stands in
+        let told : IsToldDownOf h.now.attempt = subst (λ (o : Option Attempted). IsToldDownOf o) (sym stands.is_attempt) stands.told_down in
+        let halted = halted-by a b frame h.now h.is.lists told (attempt_for h.now frame) refl why stops in
+        record {
+          done = h.commands ++ halted.0;
+          cut = halted.1;
+          reached = outcome.Working;
+          stops =
+              record {
+                stops =
+                    record {
+                      before = all_events past;
+                      next = hears frame;
+                      later = [];
+                      events_are = asked-append past (event ∷ []);
+                      frames = h.frames;
+                      commands = h.commands;
+                      client_then = h.now;
+                      goes = goes;
+                      last = [];
+                      more = halted.0;
+                      stops = halted.2;
+                      text_is = ap (λ (t : List ℕ). t ++ []) h.text_is;
+                      done_is = refl;
+                    };
+                between = h.owes.between;
+                in_order = h.owes.in_order;
+              };
+          cuts =
+              cuts-then g on (IsErrOf {T = Finished} (Err (stopping why)) stop.Disk) past.client.notes a.it.client.notes b.it.client.notes past.disk a.disk b.disk h.commands halted.0 halted.1 h.does
+              halted.3;
+          tells = working-on a b frame h.now told (attempt_for h.now frame) refl why stops;
+          came = λ some. absurd (some refl);
+        }

@@ -1,0 +1,4 @@
+pub mod Came
+pub mod Carried
+pub mod Carrying
+pub mod Course
