@@ -233,9 +233,13 @@ class Client:
         self.link.tick()
         self.settle()
 
-    def texts(self):
+    def frames(self):
+        """The frames that are pending, in their order."""
         while self.strangers:
             caller, frame = self.strangers.pop(0)
-            yield kiss_text(write_frame(caller, self.me, frame))
+            yield write_frame(caller, self.me, frame)
         while self.link.pending():
-            yield kiss_text(write_frame(self.server, self.me, self.link.next_out()))
+            yield write_frame(self.server, self.me, self.link.next_out())
+
+    def texts(self):
+        return (kiss_text(octets) for octets in self.frames())

@@ -77,6 +77,17 @@ def header_of(items):
     return text
 
 
+def file_of(name, ext, moment, file_type, others, body):
+    """The file that is made of a body: the mandatory items in ascending order, the others, and the body."""
+    time = struct.pack("<I", moment)
+    items = [(1, bytes(4)), (2, name.ljust(8)), (3, ext.ljust(3)), (4, bytes(4)), (5, time), (6, time)]
+    items += [(7, b"\0"), (8, bytes([file_type])), (9, struct.pack("<H", sum16(body))), (10, bytes(2)), (11, bytes(2))]
+    items += others
+    length = len(header_of(items))
+    lengths = {4: struct.pack("<I", length + len(body)), 11: struct.pack("<H", length)}
+    return header_of([(key, lengths.get(key, content)) for key, content in items]) + body
+
+
 def stamped(octets, number, caller, moment):
     """The file as a server keeps it."""
     items, end = items_of(octets)
