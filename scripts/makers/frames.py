@@ -40,29 +40,34 @@ def kiss_text(octets):
     return bytes([FEND, 0]) + text + bytes([FEND])
 
 
-def read_entry(octets):
-    """The call of an entry, its upper bit and whether it is the last one; None where it is none."""
-    if len(octets) < 7 or any(octet & 1 for octet in octets[:6]):
-        return None
-    text = bytes(octet >> 1 for octet in octets[:6])
-    base = text.rstrip(b" ")
-    if not base or not all(c in b"ABCDEFGHIJKLMNOPQRSTUVWXYZ0123456789" for c in base):
-        return None
+def read_call(octets):
+    """The call of an address entry, or its first fault from left to right."""
+    base = ""
+    for octet in octets[:6]:
+        char = chr(octet >> 1)
+        blank = base != base.rstrip(" ")
+        if octet & 1 or not (char == " " and base or not blank and char in "ABCDEFGHIJKLMNOPQRSTUVWXYZ0123456789"):
+            return None, "address"
+        base += char
+    if len(octets) < 7:
+        return None, "short"
     ssid = octets[6] >> 1 & 15
-    return base.decode() + ("-%d" % ssid if ssid else ""), octets[6] & 0x80, octets[6] & 1
+    return base.rstrip(" ") + ("-%d" % ssid if ssid else ""), None
 
 
 def read_frame(octets):
     """Destination, source, how many repeaters, and the frame as links.py has it; None where the octets are no frame."""
-    entries, at = [], 0
-    while not entries or not entries[-1][2]:
-        entry = read_entry(octets[at : at + 7])
-        if entry is None or len(entries) == 10 or not entries and entry[2]:
+    entries, at, last = [], 0, 0
+    while not last:
+        entry = octets[at : at + 7]
+        call, fault = read_call(entry)
+        if fault or len(entries) == 10 or not entries and entry[6] & 1:
             return None
-        entries.append(entry)
+        entries.append((call, entry[6] & 0x80))
+        last = entry[6] & 1
         at += 7
     rest = octets[at:]
-    if len(entries) < 2 or not rest or not has_form(rest[0], len(rest) - 1):
+    if not rest or not has_form(rest[0], len(rest) - 1):
         return None
     return entries[0][0], entries[1][0], len(entries) - 2, ("c" if entries[0][1] else "r", rest)
 
@@ -88,3 +93,10 @@ def entry_text(call, bit, last):
     base, _, ssid = call.partition("-")
     octets = bytes(2 * ord(c) for c in base.ljust(6))
     return octets + bytes([(0x80 if bit else 0) | 0x60 | 2 * int(ssid or 0) | (1 if last else 0)])
+
+
+def heard(reader, octet, me):
+    """The source of the frame for the station that an octet ends, and the frame, if it ends one."""
+    content = reader.feed(octet)
+    frame = read_frame(content) if content is not None else None
+    return (frame[1], frame[3]) if frame and frame[0] == me and frame[2] == 0 else None

@@ -175,6 +175,14 @@ class Link:
         return frame
 
 
+def draws(seed):
+    """A linear congruential generator modulo 2^64, of which the upper 31 bits are drawn, modulo the count that is sent."""
+    count = yield
+    while True:
+        seed = (seed * 6364136223846793005 + 1442695040888963407) % 2**64
+        count = yield (seed >> 33) % count
+
+
 def command(kind):
     return ("c", bytes([kind | 0x10]))
 

@@ -5,12 +5,59 @@ import sys
 
 
 def write(parts):
-    """Writes parts, which scripts/makers/check reads: each is a path in the repository, and the lines that stand there together."""
+    """Writes parts, which scripts/makers/check reads: each is a path in the repository, and lines that stand there together."""
     for path, lines in parts:
         print("=== " + path)
         for line in lines:
             print(line)
     sys.stdout.flush()
+
+
+def rows_of(path):
+    """The lines of a file of rows in the repository."""
+    with open("../../" + path, encoding="utf-8") as file:
+        return file.read().split("\n")[:-1]
+
+
+def is_row(line):
+    return line != "" and not line.startswith("#")
+
+
+def played(heading, path, given):
+    """The lines that a family prints: its heading, and what each row gives; each other line as it is."""
+    return [heading] + [given(line) if is_row(line) else line for line in rows_of(path)]
+
+
+def played_sections(path, play, before):
+    """The lines of the sections that can be played, those that stand together in one list. A row is played behind what the one
+    before it left: `play` gives its line and what it leaves, or None where it can't."""
+    parts, section, left = [[]], [], before
+    for line in rows_of(path) + ["#"]:
+        if not is_row(line):
+            if section is not None:
+                parts[-1] += section
+            else:
+                parts.append([])
+            section = [line]
+        elif section is not None:
+            given = play(line, left)
+            if given is None:
+                section, left = None, before
+            else:
+                section.append(given[0])
+                left = given[1]
+    return [part for part in parts if len(part) > 1]
+
+
+class Counted:
+    """Calls that are counted, of which those with these numbers fail."""
+
+    def __init__(self, failing):
+        self.calls, self.failing = 0, [int(text) for text in failing.split()]
+
+    def passes(self):
+        self.calls += 1
+        return self.calls not in self.failing
 
 
 def sum16(octets):

@@ -78,11 +78,14 @@ class Server:
                 place["session"].park()
 
     def texts(self):
-        """The KISS text of the frames that are pending, in their order; places that are done with are empty then."""
+        return (kiss_text(octets) for octets in self.frames())
+
+    def frames(self):
+        """The frames that are pending, in their order; places that are done with are empty then."""
         if self.stranger:
             caller, frame = self.stranger
             self.stranger = None
-            yield kiss_text(write_frame(caller, self.me, frame))
+            yield write_frame(caller, self.me, frame)
         for at, place in enumerate(self.places):
             if not place:
                 continue
@@ -92,6 +95,6 @@ class Server:
                     link.push(session.next_due())
                 if not link.pending():
                     break
-                yield kiss_text(write_frame(place["caller"], self.me, link.next_out()))
+                yield write_frame(place["caller"], self.me, link.next_out())
             if link.state == "Down":
                 self.places[at] = None

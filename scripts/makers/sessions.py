@@ -5,13 +5,13 @@ import struct
 from disks import Journal, Stopped
 from journal import call_octets
 from rows import sum16
+from selections import Fault, holds
 from stores import LONGEST, MAGIC, MANDATORY, Store, begin, blocks_of, drop, first_fault, grow, seal
 
 DATA, DATA_END, LOGIN, UPLOAD, UL_GO, UL_ERROR, UL_ACK, UL_NAK, DOWNLOAD, DL_ERROR = range(10)
 DL_ABORTED, DL_COMPLETED, DL_ACK, DL_NAK, DIR_SHORT, DIR_LONG, SELECT, SELECT_RESP = range(10, 18)
 LENGTHS = {DATA_END: 0, LOGIN: 5, UPLOAD: 8, UL_GO: 8, UL_ERROR: 1, UL_ACK: 0, UL_NAK: 1, DOWNLOAD: 9, DL_ERROR: 1}
 LENGTHS.update({DL_ABORTED: 0, DL_COMPLETED: 0, DL_ACK: 0, DL_NAK: 0, DIR_SHORT: 4, DIR_LONG: 4, SELECT_RESP: 2})
-NUMBERS = {0x01, 0x04, 0x05, 0x06, 0x07, 0x08, 0x09, 0x0A, 0x0B, 0x12, 0x13, 0x16, 0x17, 0x18}
 PIECE = 254
 MOST_LISTS = 64
 
@@ -22,6 +22,25 @@ class DiskFailed(Exception):
 
 def packet(kind, information=b""):
     return bytes([len(information) & 0xFF, len(information) >> 8 << 5 | kind]) + information
+
+
+def reader():
+    """Gives the kind and the information of the packet that an octet ends, where it ends one."""
+    waiting = bytearray()
+
+    def feed(octet):
+        waiting.append(octet)
+        if len(waiting) < 2 or len(waiting) < 2 + (waiting[0] | waiting[1] >> 5 << 8):
+            return None
+        whole = bytes(waiting)
+        waiting.clear()
+        return whole[1] & 0x1F, whole[2:]
+
+    return feed
+
+
+def login_text(moment, flags):
+    return packet(LOGIN, struct.pack("<IB", moment, flags))
 
 
 def error(kind, code):
@@ -58,6 +77,17 @@ def header_of(items):
     return text
 
 
+def file_of(name, ext, moment, file_type, others, body):
+    """The file that is made of a body: the mandatory items in ascending order, the others, and the body."""
+    time = struct.pack("<I", moment)
+    items = [(1, bytes(4)), (2, name.ljust(8)), (3, ext.ljust(3)), (4, bytes(4)), (5, time), (6, time)]
+    items += [(7, b"\0"), (8, bytes([file_type])), (9, struct.pack("<H", sum16(body))), (10, bytes(2)), (11, bytes(2))]
+    items += others
+    length = len(header_of(items))
+    lengths = {4: struct.pack("<I", length + len(body)), 11: struct.pack("<H", length)}
+    return header_of([(key, lengths.get(key, content)) for key, content in items]) + body
+
+
 def stamped(octets, number, caller, moment):
     """The file as a server keeps it."""
     items, end = items_of(octets)
@@ -70,50 +100,16 @@ def short_form(octets):
     return header_of([(number, items[number]) for number, _ in MANDATORY])
 
 
-# ---- selections
-
-
-def selected(tokens, items):
-    """Whether a selection holds of a header's items, or None where it has a fault."""
-    stack, at, count = [], 0, 0
-    while at < len(tokens):
-        count += 1
-        kind = tokens[at]
-        if count > 64 or kind not in range(0x10, 0x16) and kind not in (0x20, 0x21, 0x22):
-            return None
-        if kind < 0x20:
-            if at + 4 > len(tokens) or at + 4 + tokens[at + 3] > len(tokens):
-                return None
-            number = struct.unpack("<H", tokens[at + 1 : at + 3])[0]
-            constant = tokens[at + 4 : at + 4 + tokens[at + 3]]
-            at += 4 + len(constant)
-            stack.append(any(satisfies(kind, key, content, constant) for key, content in items if key == number))
-            continue
-        at += 1
-        if len(stack) < (1 if kind == 0x22 else 2):
-            return None
-        last = stack.pop()
-        if kind == 0x22:
-            stack.append(not last)
-        else:
-            first = stack.pop()
-            stack.append(first and last if kind == 0x20 else first or last)
-    return stack[0] if len(stack) == 1 else None
-
-
-def satisfies(kind, number, content, constant):
-    if number in NUMBERS:
-        if len(content) != len(constant):
-            return False
-        content, constant = content[::-1], constant[::-1]
-    return {
-        0x10: content == constant,
-        0x11: content != constant,
-        0x12: content < constant,
-        0x13: content <= constant,
-        0x14: content > constant,
-        0x15: content >= constant,
-    }[kind]
+def is_short_form(octets):
+    """Whether octets have the form of a short header: the mandatory items with their lengths, in ascending order."""
+    form = b"\xaa\x55" + b"".join(struct.pack("<HB", number, length) + bytes(length) for number, length in MANDATORY)
+    fixed, at = set(range(2)), 2
+    for _, length in MANDATORY:
+        fixed |= set(range(at, at + 3))
+        at += 3 + length
+    fixed |= set(range(at, at + 3))
+    form += bytes(3)
+    return len(octets) == len(form) and all(octets[place] == form[place] for place in fixed)
 
 
 # ---- the store on a disk
@@ -168,7 +164,7 @@ class Session:
     def __init__(self, store, caller, lists=None, linked=False):
         self.store, self.caller, self.state, self.linked = store, call_octets(caller), "Command", linked
         self.lists = {} if lists is None else lists
-        self.number, self.waiting, self.over, self.due, self.after = None, b"", False, [], None
+        self.number, self.feed, self.over, self.due, self.after = None, reader(), False, [], None
 
     @property
     def selection(self):
@@ -185,18 +181,7 @@ class Session:
             del self.lists[next(iter(self.lists))]
 
     def login(self, moment):
-        return packet(LOGIN, struct.pack("<IB", moment, 4 | (8 if self.selection else 0)))
-
-    def feed(self, octet):
-        """The kind and the information of the packet that an octet ends, if it ends one."""
-        self.waiting += bytes([octet])
-        if len(self.waiting) < 2:
-            return None
-        length = self.waiting[0] | self.waiting[1] >> 5 << 8
-        if len(self.waiting) < 2 + length:
-            return None
-        whole, self.waiting = self.waiting, b""
-        return whole[1] & 0x1F, whole[2:]
+        return login_text(moment, 4 | (8 if self.selection else 0))
 
     def take(self, kind, information, moment):
         """The replies to a packet, and the DATA that are due behind them, and how that ends."""
@@ -342,8 +327,10 @@ class Session:
         return self.data(b"".join(headers), "Listing", "Command")
 
     def select(self, tokens):
-        if selected(tokens, []) is None:
+        try:
+            holds(tokens, [])
+        except Fault:
             return error(DL_ERROR, 8)
         numbers = sorted(number for number in self.store.entries if self.store.complete(number) is not None)
-        self.set_selection([number for number in numbers if selected(tokens, items_of(self.store.complete(number))[0])])
+        self.set_selection([number for number in numbers if holds(tokens, items_of(self.store.complete(number))[0])])
         return packet(SELECT_RESP, struct.pack("<H", len(self.selection)))
