@@ -17,10 +17,10 @@ use Rattle.file_journal.proofs.Offered.{one_walk, reading_none, stands_from_read
 use Rattle.client_notes.specs.Command.{NotesCommand, after, is_allowed}
 use Rattle.client_notes.specs.Records.{IsWritable, command_of, notes_after, notes_magic, notes_step, record_of_command}
 use Rattle.client_notes.specs.Notes.{Lists, no_notes}
-use Rattle.client_notes.proofs.RecordLemmas.{read-written, records}
+use Rattle.client_notes.proofs.RecordLemmas.{records}
 use Rattle.client_notes.specs.Laws.{AreAllowed, IsNotesAfter, after_all}
 use Rattle.client_notes.specs.State.{StandsFor, fresh_notes}
-use Rattle.client_notes.proofs.PutLemmas.{allowed-step}
+use Rattle.client_notes.proofs.KeptLemmas.{step-command as written-step}
 
 -- ---- records and commands
 
@@ -65,7 +65,7 @@ pub takes-commands : (commands : List NotesCommand) (before : Lists) → AllByRe
     → Takes notes_step before (map record_of_command commands) (after_all before commands)
 takes-commands [] before writable allowed = refl
 takes-commands (command ∷ commands) before writable allowed =
-    (after before command, allowed-step before command (record_of_command command) (read-written command writable.0) allowed.0, takes-commands commands (after before command) writable.1 allowed.1)
+    (after before command, written-step before command (record_of_command command) refl writable.0 allowed.0, takes-commands commands (after before command) writable.1 allowed.1)
 
 pub standing-back : (octets : List ℕ) (lists : Lists) (commands : List NotesCommand) → IsNotesAfter octets lists commands → StandsFor octets lists
 standing-back octets lists commands is =

@@ -1,8 +1,9 @@
 -- Laws of a client's notes.
-use Rattle.std.specs.Prelude.{◌≡◌, ◌↔◌, ℕ, List, [], ◌∷◌, ◌++◌, map, Option, Some, IsTrue, ⊤}
+use Rattle.std.specs.Prelude.{◌≡◌, ◌↔◌, ℕ, List, [], ◌++◌, map, Option, Some, IsTrue}
 use Rattle.std.specs.List.{AllByRecursion}
 use Rattle.px_base.specs.CallSign.{CallSign}
 use Rattle.px_base.specs.Octets.{IsOctets}
+use Rattle.file_journal.specs.Commands as kept
 use Rattle.file_journal.specs.Journal.{journal_of, store}
 use Rattle.file_journal.specs.Records.{IsRecord, Record, whole}
 use Rattle.client_notes.specs.Answers.{noted_at}
@@ -22,13 +23,11 @@ RecordsLaw =
 
 -- the notes after these commands, one after another
 abbrev pub after_all : Lists → List NotesCommand → Lists
-after_all lists [] = lists
-after_all lists (command ∷ commands) = after_all (after lists command) commands
+after_all lists commands = kept.after_all after lists commands
 
 -- the condition of each command holds when its turn comes
 abbrev pub AreAllowed : Lists → List NotesCommand → Type 0
-AreAllowed lists [] = ⊤
-AreAllowed lists (command ∷ commands) = IsTrue (is_allowed lists command) × AreAllowed (after lists command) commands
+AreAllowed lists commands = kept.AreAllowed (λ now command. IsTrue (is_allowed now command)) after lists commands
 
 -- The octets are a journal, with a block number or none yet, and its records are these commands, each of which the notes
 -- before it allow, from no notes on; and these are the notes after them.

@@ -1,16 +1,13 @@
 -- What a command of a call does to the disk of the notes, at every moment of it.
 use Rattle.std.specs.Prelude.{◌≡◌, ◌⊎◌, ◌↔◌, ℕ, ◌+◌, ◌≤◌, List, true, false, IfSome, IsTrue, Result, IsErr, IsErrOf}
 use Rattle.disk_model.specs.declared.disk.Disk.{Ghosts}
-use Rattle.file_journal.specs.Calls.{Leaves, Puts, images_now}
+use Rattle.file_journal.specs.Calls.{Leaves, Puts}
+pub use Rattle.file_journal.specs.Calls.{EachImage}
 use Rattle.file_journal.specs.declared.faults.JournalFault.{JournalFault}
 use Rattle.file_journal.specs.declared.faults.JournalFault.TheVariants as fault
 use Rattle.client_notes.specs.Command.{NotesCommand, after, is_allowed}
 use Rattle.client_notes.specs.Notes.{Lists}
 use Rattle.client_notes.specs.State.{NotesState, StandsFor, StandsOn}
-
--- each image that a crash since this moment might have left, where the disk tells, has P
-abbrev pub EachImage : {D : Type 0} → Ghosts D → D → (List ℕ → Type 0) → Type 0
-EachImage g disk P = IfSome (g.content disk) (λ _. (image : List ℕ) → images_now g disk image → P image)
 
 -- the image stands for the notes before the command or after it
 abbrev pub IsBeforeOrAfter : Lists → NotesCommand → List ℕ → Type 0

@@ -37,10 +37,12 @@ pub record IsFormOf {L S C T D : Type 0} (one : Form S C) (held_by : L → S) (o
   pub magic : one.magic ≡ other.magic
   pub fresh : (blocks : ℕ) → state_of (one.fresh blocks) ≡ other.fresh blocks
   pub number : (now : S) → one.number now ≡ other.number (state_of now)
-  pub step : (now next : S) (entry : Record) → one.step now entry ≡ Some next
+  pub step :
+      (now next : S) (entry : Record) → one.step now entry ≡ Some next
       → other.step (state_of now) entry ≡ Some (state_of next)
   pub allowed : (now : S) (command : C) → one.allowed now command → other.allowed (state_of now) (command_of command)
-  pub after : (now : S) (command : C) → state_of (one.after now command) ≡ other.after (state_of now) (command_of command)
+  pub after :
+      (now : S) (command : C) → state_of (one.after now command) ≡ other.after (state_of now) (command_of command)
   pub holds : (ledger : L) → state_of (held_by ledger) ≡ held ledger
 
 -- each form is that of itself

@@ -25,8 +25,8 @@ kept_on now journal disk = record { now = now; journal = journal; disk = disk }
 abbrev pub kept_at : {D L S : Type 0} → (L → S) → Kept L → D → KeptOn D S
 kept_at state kept disk = kept_on (state kept.ledger) kept.journal disk
 
--- The journal keeps the state on the disk: it has failed, or the content, where it is told, and each image stand for the
--- state.
+-- The journal keeps the state on the disk: it has failed, or the content, where it is told, and each image stand for
+-- the state.
 abbrev pub IsKept : {D S C : Type 0} → Ghosts D → Form S C → KeptOn D S → Type 0
 IsKept g form at = KeepsState form.fresh form.step g at.journal at.now at.disk
 

@@ -1,7 +1,6 @@
 -- What octets stand for where each record has to be one that the state before it allows. A step gives the state after a
 -- record, where the state before it allows that record.
-use Rattle.std.specs.Prelude.{◌≡◌, ◌⊎◌, ℕ, ◌+◌, List, [], ◌∷◌, length, true, false, Option, None, Some, IfSome}
-use Rattle.disk_model.specs.Moments.{LeavesSince}
+use Rattle.std.specs.Prelude.{◌≡◌, ℕ, ◌+◌, List, [], ◌∷◌, length, true, false, Option, None, Some, IfSome}
 use Rattle.disk_model.specs.declared.disk.Disk.{Ghosts}
 use Rattle.file_journal.specs.Calls.{images_now}
 use Rattle.file_journal.specs.Journal as journal
@@ -63,11 +62,6 @@ StandAsBefore fresh step magic blocks before octets =
 abbrev pub StandFor : {S : Type 0} → (ℕ → S) → (S → Record → Option S) → Position → S → List ℕ → Type 0
 StandFor fresh step position now octets = stands_for fresh step position.magic position.blocks octets ≡ state now
 
--- they stand for one of these two
-abbrev pub StandForEither : {S : Type 0} → (ℕ → S) → (S → Record → Option S) → Position → S → S → List ℕ → Type 0
-StandForEither fresh step position before after octets =
-    StandFor fresh step position before octets ⊎ StandFor fresh step position after octets
-
 -- each octet list that a crash since this moment might have left stands for this state
 abbrev pub ImagesStandFor : {D S : Type 0} → (ℕ → S) → (S → Record → Option S) → Ghosts D → Position → S → D → Type 0
 ImagesStandFor fresh step g position now disk =
@@ -89,15 +83,6 @@ pub record KeepsState
   pub content : position.failed ≡ false → IfSome (g.content disk) (StandFor fresh step position now)
   pub images :
       position.failed ≡ false → IfSome (g.content disk) (λ octets. ImagesStandFor fresh step g position now disk)
-
--- Where no append failed before, a crash since the moment in which one began leaves what stands for the state before or
--- after it.
-abbrev pub LeavesEither :
-    {D S : Type 0} → (ℕ → S) → (S → Record → Option S) → Ghosts D → Position → S → S → D → D → Type 0
-LeavesEither fresh step g position before after old new =
-    position.failed ≡ false
-    → IfSome (g.content old) (λ octets.
-    LeavesSince (g.moment old) (g.images_since new) (StandForEither fresh step position before after))
 
 -- A record that the state allows, put at the end of a store, takes what it stands for to the state after it.
 abbrev pub IsOneStep : {S : Type 0} → (S → Record → Option S) → Type 0

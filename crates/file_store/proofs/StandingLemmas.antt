@@ -1,5 +1,5 @@
 -- What octets stand for as a store of files: the store after the commands that their records are.
-use Rattle.std.proofs.Common.{◌≡◌, ◌⊎◌, inl, inr, ⊎_elim, ℕ, ◌<◌, Bool, true, false, not, nat_le, nat_lt, List, [], ◌∷◌, length, take, drop, map, Option, None, Some, refl, sym, ◌∙◌, ap, subst, arith}
+use Rattle.std.proofs.Common.{◌≡◌, ◌⊎◌, inl, inr, ⊎_elim, ℕ, ◌<◌, Bool, true, false, not, nat_le, nat_lt, List, [], ◌∷◌, length, take, drop, map, Option, None, Some, IfSome, refl, sym, ◌∙◌, ap, subst, arith}
 use Rattle.std.specs.Prelude.{IsTrue, if◌then◌else◌}
 use Rattle.std.specs.List.{AllByRecursion}
 use Rattle.std.specs.Option.{option_and_then}
@@ -7,20 +7,30 @@ use Rattle.std.specs.Str.{bytes_eq}
 use Rattle.std.proofs.lemmas.List.Elements.{All-drop}
 use Rattle.px_base.specs.Numbers.{le32}
 use Rattle.px_base.specs.Octets.{IsOctets}
+use Rattle.disk_model.specs.declared.disk.Disk.{Ghosts}
+use Rattle.file_journal.specs.AmongReads.{among_reads}
+use Rattle.file_journal.specs.Calls.{Leaves, TellsAlike}
 use Rattle.file_journal.specs.Form.{TellsItsNumber}
 use Rattle.file_journal.specs.Journal as journal
 use Rattle.file_journal.specs.Journal.{Standing, is_block_number, journal_of}
+use Rattle.file_journal.specs.Kept.{alone}
 use Rattle.file_journal.specs.Laws.{ComesTo}
 use Rattle.file_journal.specs.Ledger.{Takes}
 use Rattle.file_journal.specs.Records.{IsRecord, Reading, Record, StandsFrom, reading_from, whole}
+use Rattle.file_journal.specs.Recovery.{IsSyncedFirst}
+use Rattle.file_journal.specs.Through.{StandsThrough}
 use Rattle.file_journal.specs.Walk.{number_or, stands_of, state, walk}
-use Rattle.file_journal.proofs.Offered.{one_walk, own_number, reading_none, stands_from_read}
+use Rattle.file_journal.proofs.Offered.{one_walk, own_number, reading_none, stands_from_read, stands_through}
 use Rattle.file_entries.specs.Command.{AreAllowed, Command, after, after_all, begin, drop_entry, grow, is_allowed, seal}
 use Rattle.file_entries.specs.Records.{IsWritable, command_of, record_of_command, store_after, store_form, store_magic, store_step}
 use Rattle.file_entries.specs.Store.{Store, empty_store}
 use Rattle.file_entries.proofs.Offered.{read-written, records}
 use Rattle.file_store.specs.Laws.{IsStoreAfter}
-use Rattle.file_store.specs.State.{StandsFor}
+use Rattle.file_store.specs.OnDisk.{kept_at}
+use Rattle.file_store.specs.Recovery.{StandsAlike}
+use Rattle.file_store.specs.State.{StandsFor, StoreState, standing_of, store_in}
+use Rattle.file_store.specs.Working.{CutsOffAmongReads}
+use Rattle.file_store.proofs.DoesLemmas.{cuts-among-all}
 
 -- a command leaves the block number
 after-blocks : (store : Store) (command : Command) → (after store command).blocks ≡ store.blocks
@@ -162,3 +172,15 @@ standing-forth octets files are stands = by (journal_of store_magic octets) refl
             after = all.after_is ∙ ap (λ (n : ℕ). after_all (empty_store n) all.commands) same;
           },
         )
+
+-- What stands through a recovery of the store and the calls that come behind it, of which the disk may have cut off the
+-- last.
+module _ {D : Type 0} (g : Ghosts D) (on : (first second third : D) → g.lasts first second → g.lasts second third → g.lasts first third) (failed : Type 0) (blocks : ℕ) (old mid now : D)
+    (start new : StoreState) (done cut : List Command) (missed : ℕ) (alike : TellsAlike (g.content old) (g.content mid))
+    (stood : IfSome (g.content old) (λ before. standing_of blocks before ≡ state (store_in start)))
+    (since_start : Leaves g old mid (StandsAlike blocks)) (since_sync : IfSome (g.content old) (λ before. IsSyncedFirst g old mid (StandsAlike blocks before)))
+    (magic_is : start.journal.magic ≡ store_magic) (cuts : CutsOffAmongReads g failed missed start new mid now done cut) where
+  pub stands-through : (stands : StandsThrough g store_form failed (store_in start) done cut old now) × (stands.ready ≡ g.moment mid)
+  stands-through =
+      stands_through g store_form own-number blocks failed old (kept_at start mid) (kept_at cuts.store_then cuts.disk_then) (kept_at new now) done cut alike stood since_start since_sync magic_is
+      (among_reads g failed missed) (among_reads g ⊥ missed) (alone g failed) (cuts-among-all g on failed missed start new mid now done cut cuts) cuts.first cuts.second cuts.first.puts.told
