@@ -1,4 +1,2 @@
-mod ServesLemmas
 mod StationLemmas
-pub mod StoreLemmas
 mod TurnsLemmas

@@ -1,5 +1,5 @@
 -- How a server goes over the events of its node.
-use Rattle.std.proofs.Common.{◌≡◌, ℕ, ◌+◌, Bool, true, false, List, [], ◌∷◌, ◌++◌, Option, None, Some, refl, ap, sym, subst, ◌∙◌, inl, inr, true≢false, append_assoc, append-nil}
+use Rattle.std.proofs.Common.{◌≡◌, ℕ, ◌+◌, Bool, true, false, List, [], ◌∷◌, ◌++◌, Option, None, Some, refl, ap, ap₂, sym, subst, ◌∙◌, inl, inr, true≢false, append_assoc, append-nil}
 use Rattle.std.specs.Prelude.{◌≢◌, Result, Ok, Err, ⊤}
 use Rattle.kiss.specs.KissText.{kiss_text}
 use Rattle.px_base.specs.Octets.{IsFront}
@@ -24,14 +24,26 @@ use Rattle.ftl0_server.specs.Calls.{HandsOut, HandsOutNext, Hears, HearsBy}
 use Rattle.ftl0_server.specs.Server.{IsSilent, Server, ServerHappened, ServerSends, server_next, settled}
 use Rattle.ftl0_server.specs.ServerState.{IsServer, SendsFor, ServerState, server_pending}
 use Rattle.ftl0_server.specs.ServerStep.{Empties, ServerStep, happening}
-use Rattle.ftl0_server.proofs.Offered.{empties-silent, silent-settled, uncut}
+use Rattle.ftl0_server.specs.Serving.{TakesEvent}
+use Rattle.ftl0_server.proofs.Offered.{empties-silent, serves-append, serves-one, silent-settled, uncut}
 use Rattle.server_node.specs.Sessions.Running.{IsSaid}
-use Rattle.server_node.specs.OnAir.Serving.{StopsAt, TakesEvent, failing, server_steps, text_of}
+use Rattle.server_node.specs.OnAir.Serving.{StopsAt, failing, server_steps, text_of}
 use Rattle.server_node.specs.OnAir.Station.{ComesOn, HaltsOn, IsServing, IsUp, OwesOver, OwesRest, StandsBy, WholeBy, server_course, serving_at, with_server}
 use Rattle.server_node.specs.Steps.{RunsOn, made, with_store}
 use Rattle.server_node.specs.declared.on_air.station.ServerStation.{ServerStation}
-use Rattle.server_node.proofs.StepsLemmas.{runs-none, runs-on, stop-one, stops-more, stops-on}
-use Rattle.server_node.proofs.on_air.ServesLemmas.{are_steps, serves-one}
+use Rattle.std.proofs.lemmas.List.Concat.{flat_map-append}
+use Rattle.server_node.proofs.StepsLemmas.{AreSteps, runs-none, runs-on, stop-one, stops-more, stops-on}
+
+-- a server goes over its events one after another
+pub are_steps : AreSteps server_steps
+are_steps = record {
+  none = λ server. record { frames = []; text_is = refl; serves = (refl, refl, refl, refl) };
+  on = λ server mid now events others all more h k. record {
+    frames = h.frames ++ k.frames;
+    text_is = ap₂ (λ (t u : List ℕ). t ++ u) h.text_is k.text_is ∙ sym (flat_map-append (λ (frame : FrameValue). kiss_text (canonical frame)) h.frames k.frames);
+    serves = serves-append server events h.frames all.done all.missed mid others k.frames more.done more.missed now h.serves k.serves;
+  };
+}
 
 -- how a server answers an event, by the halt of its node
 abbrev answer_by : Option Halt → Result ⊤ ServerStop
@@ -83,7 +95,7 @@ module _ {D : Type 0} (g : Ghosts D) (lasts : (disk : D) → g.lasts disk disk) 
       event-taken stands = record {
         next = settled last;
         serving = record { is = stands; silent = silent-settled last (empties-silent taken.after frames last sent) };
-        runs = record { done = taken.done; missed = taken.missed; goes = serves-one server event taken.done frames taken.missed (settled last) takes-event; does = moved taken.missed taken.done by.2 };
+        runs = record { done = taken.done; missed = taken.missed; goes = record { frames = frames; text_is = refl; serves = serves-one server event taken.done frames taken.missed (settled last) takes-event }; does = moved taken.missed taken.done by.2 };
       }
 
       -- All of it was taken, and saying its frames failed.

@@ -33,8 +33,7 @@ use Rattle.server_node.specs.OnAir.Serving.{server_steps}
 use Rattle.server_node.specs.OnAir.Station.{ComesOn, HaltsOn, IsServing, IsUp, server_course, serving_at}
 use Rattle.server_node.proofs.Ending.{Did, Stopped, Taken, but_last, did-by, disk-stop, never-over}
 use Rattle.server_node.proofs.StepsLemmas.{behind-all, cuts-all}
-use Rattle.server_node.proofs.on_air.ServesLemmas.{are_steps}
-use Rattle.server_node.proofs.on_air.StationLemmas.{goes-none}
+use Rattle.server_node.proofs.on_air.StationLemmas.{are_steps, goes-none}
 
 -- what the node of a server is driven by
 abbrev pub turn_terms : ServerTerms → TurnTerms

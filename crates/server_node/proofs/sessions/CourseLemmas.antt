@@ -19,10 +19,10 @@ use Rattle.server_node.specs.Steps.{RunsOn, StopsOn, StopsOver, made}
 use Rattle.server_node.specs.Sessions.ServerState.{IsUp, ServerState}
 use Rattle.server_node.specs.Stops.{halt_of_session}
 use Rattle.server_node.proofs.sessions.PacketLemmas.{both-octets, events-append, events-then, hears-none, hears-then, events-of}
-use Rattle.server_node.proofs.StepsLemmas.{does-none, runs-none, runs-on, stop-one, stops-more, stops-on}
-use Rattle.server_node.proofs.sessions.RunLemmas.{are_steps}
+use Rattle.std.proofs.lemmas.List.{map-append}
+use Rattle.server_node.proofs.StepsLemmas.{AreSteps, does-none, runs-none, runs-on, stop-one, stops-more, stops-on}
 use Rattle.ftl0_packets.proofs.SplitLemmas.{nothing_partial, texts-append, under-way-whole}
-use Rattle.ftl0_session.proofs.Offered.{answer-all, answer-first, answer-more, answer-some, row-first, smaller, with_part}
+use Rattle.ftl0_session.proofs.Offered.{answer-all, answer-first, answer-more, answer-some, row-first, runs-trans, smaller, with_part}
 use Rattle.std.proofs.Math.Nat.{add-zero}
 use Rattle.std.proofs.lemmas.Bool.Decides.{nat_tests}
 use Rattle.px_base.specs.Octets.{IsFront, IsOctets}
@@ -48,6 +48,20 @@ use Rattle.ftl0_session.specs.declared.stop.ServerStop.{ServerStop}
 use Rattle.node.specs.declared.halt.Halt.TheVariants as halt
 use Rattle.node.specs.declared.stop.NodeStop.TheVariants as node_stop
 use Rattle.ftl0_session.specs.declared.stop.ServerStop.TheVariants as session_stop
+
+-- a session goes over its events one after another
+pub are_steps : (caller : CallSign) → AreSteps (session_steps caller)
+are_steps caller = record {
+  none = λ s. record { met = []; heard = refl; said = []; text_is = refl; missed_is = refl; runs = (refl, refl, refl, refl, refl) };
+  on = λ a b c xs ys m n h k. record {
+    met = h.met ++ k.met;
+    heard = map-append heard_of h.met k.met ∙ ap₂ (λ es os. es ++ os) h.heard k.heard;
+    said = h.said ++ k.said;
+    text_is = ap₂ (λ t u. t ++ u) h.text_is k.text_is ∙ sym (texts-append h.said k.said);
+    missed_is = ap₂ (λ t u. t + u) h.missed_is k.missed_is ∙ sym (told-append h.said k.said);
+    runs = runs-trans caller a.store a.lists a.state h.met h.said m.done b.store b.lists b.state k.met k.said n.done c.store c.lists c.state h.runs k.runs;
+  };
+}
 
 -- ---- texts
 

@@ -39,7 +39,7 @@ use Rattle.server_node.proofs.StepsLemmas.{behind-all, cuts-all}
 use Rattle.ftl0_packets.proofs.SplitLemmas.{nothing_partial}
 use Rattle.ftl0_session.proofs.Offered.{brings-init, brings-more, brings-stream}
 use Rattle.server_node.proofs.sessions.PacketLemmas.{both-octets, brings-of, events-then}
-use Rattle.server_node.proofs.sessions.RunLemmas.{are_steps}
+use Rattle.server_node.proofs.sessions.CourseLemmas.{are_steps}
 
 -- the moments of turns of which the first one's was taken before: with it there is one at least
 record FirstOf (given : Option ℕ) (before now : Option (List ℕ)) (first : ℕ) (moments : List ℕ) (count : ℕ) : Type 0 where
