@@ -1,4 +1,3 @@
 mod Ending
 mod Standing
-mod Starting
 mod StepsLemmas

@@ -1,5 +1,5 @@
 -- The course of a session's server: that it is lawful, what the server owes by what it hears, and what it gives.
-use Rattle.std.proofs.Common.{◌≡◌, inl, inr, ℕ, Bool, false, None, List, [], ◌++◌, refl, ap, ap₂, sym, ◌∙◌, subst, append_assoc, append-nil, ◌⊎◌, suc, ◌+◌, ◌==◌, ◌<◌, ◌∷◌, length, true, Option, Some, arith, take, map}
+use Rattle.std.proofs.Common.{◌≡◌, inl, inr, ℕ, Bool, false, None, List, [], ◌++◌, refl, ap, ap₂, sym, ◌∙◌, subst, append_assoc, append-nil, ◌⊎◌, ◌+◌, ◌==◌, ◌<◌, ◌∷◌, length, true, Option, Some, arith, take, map}
 use Rattle.std.specs.List.{AllByRecursion}
 use Rattle.px_base.specs.CallSign.{CallSign}
 use Rattle.disk_model.specs.declared.disk.Disk.{Ghosts}
@@ -19,7 +19,7 @@ use Rattle.server_node.specs.Steps.{RunsOn, StopsOn, StopsOver, made}
 use Rattle.server_node.specs.Sessions.ServerState.{IsUp, ServerState}
 use Rattle.server_node.specs.Stops.{halt_of_session}
 use Rattle.server_node.proofs.sessions.PacketLemmas.{both-octets, events-append, events-then, hears-none, hears-then, events-of}
-use Rattle.std.proofs.lemmas.List.{map-append}
+use Rattle.std.proofs.lemmas.List.{map-append, nil_from_length}
 use Rattle.server_node.proofs.StepsLemmas.{AreSteps, does-none, runs-none, runs-on, stop-one, stops-more, stops-on}
 use Rattle.ftl0_packets.proofs.SplitLemmas.{nothing_partial, texts-append, under-way-whole}
 use Rattle.ftl0_session.proofs.Offered.{answer-all, answer-first, answer-more, answer-some, row-first, runs-trans, smaller, with_part}
@@ -38,7 +38,7 @@ use Rattle.ftl0_session.specs.SessionState.{SessionState, state_in}
 use Rattle.ftl0_session.specs.Taking.{row_over, TakesPacket, Working}
 use Rattle.ftl0_session.proofs.WorkingLemmas.{Sent, due-among, told-append, taken-among, taken-cut, taken-none}
 use Rattle.node.specs.declared.halt.Halt.{Halt}
-use Rattle.server_node.specs.Sessions.Server.{IsServer, IsWaiting}
+use Rattle.server_node.specs.Sessions.Server.{IsServer, server_state}
 use Rattle.server_node.specs.declared.sessions.server.SessionServer.TheInside.{Inside}
 use Rattle.std.specs.Prelude.{Result, Ok, Err, IsTrue, ⊤}
 use Rattle.ftl0_packets.specs.Reading.{is_whole, under_way}
@@ -83,8 +83,7 @@ texts-last sent packet = texts-append sent (packet ∷ []) ∙ ap (λ (text : Li
 
 -- no items are none
 pub is-nil : {X : Type 0} (xs : List X) → (length xs == 0) ≡ true → xs ≡ []
-is-nil [] e = refl
-is-nil (x ∷ xs) e = absurd (let zero : suc (length xs) ≡ 0 = grind (arith, nat_tests) in omega arith)
+is-nil xs e = nil_from_length xs (grind (arith, nat_tests))
 
 pub not-nil : {X : Type 0} (xs : List X) → (length xs == 0) ≡ false → xs ≡ [] → ⊥
 not-nil xs some none = let e : true ≡ false = sym (ap (λ ys. length ys == 0) none) ∙ some in absurd (cc e)
@@ -418,23 +417,32 @@ module _ {D : Type 0} (g : Ghosts D) (lasts : (disk : D) → g.lasts disk disk) 
 -- ---- what it owes by what it hears
 
 module _ {D : Type 0} (g : Ghosts D) (lasts : (disk : D) → g.lasts disk disk) (on : (first second third : D) → g.lasts first second → g.lasts second third → g.lasts first third)
-    (moment : ℕ) (a : ServerState) (disk : D) (ready : IsReady g (at a disk)) (waits : IsWaiting a.octets)
-    (piece : List ℕ) (are : IsOctets piece) (taken : ℕ) (reader : List ℕ) (fed : reader ≡ a.octets ++ take taken piece) where
+    (moment : ℕ) (inside : Inside) (self : ServerState) (is : server_state inside ≡ self) (disk : D) (fit : IsReady g (at self disk)) (holds : IsServer inside)
+    (piece : List ℕ) (are : IsOctets piece) (taken : ℕ) (reader : List ℕ) (fed : reader ≡ under_way inside.reader ++ take taken piece) where
   abbrev inputs : List Input
   inputs = octets_at moment (take taken piece)
 
+  abbrev a : ServerState
+  a = server_state inside
+
+  ready : IsReady g (at a disk)
+  ready = subst (λ (s : ServerState). IsReady g (at s disk)) (sym is) fit
+
+  of_self : (why : Option Halt) (now : AtDisk ServerState D) → Owes g (at a disk) inputs why [] now → Owes g (at self disk) inputs why [] now
+  of_self why now h = subst (λ (s : ServerState). Owes g (at s disk) inputs why [] now) is h
+
   heard : (items : List Item) → Stream reader items (under_way reader) → (events_to a inputs ≡ at_moment moment items) × (waiting_behind a.octets inputs ≡ under_way reader)
   heard items stream =
-      events-of moment a.octets (take taken piece) items (under_way reader) waits (IsOctets-take taken piece are) (subst (λ (o : List ℕ). Stream o items (under_way reader)) fed stream)
+      events-of moment a.octets (take taken piece) items (under_way reader) holds.waiting (IsOctets-take taken piece are) (subst (λ (o : List ℕ). Stream o items (under_way reader)) fed stream)
 
   inputs-octets : IsOctets (octets_in inputs)
   inputs-octets = subst (λ (o : List ℕ). IsOctets o) (sym (octets_in-at moment (take taken piece))) (IsOctets-take taken piece are)
 
   -- no packet is whole
-  pub owes-more : IsPartial reader → under_way reader ≡ reader → Owes g (at a disk) inputs None [] (at (record a { octets = under_way reader }) disk)
+  pub owes-more : IsPartial reader → under_way reader ≡ reader → Owes g (at self disk) inputs None [] (at (record a { octets = under_way reader }) disk)
   owes-more partial same =
       let h = heard [] (sym same, subst (λ (o : List ℕ). IsPartial o) (sym same) partial) in
-      record {
+      of_self None _ (record {
         hears = record { caller = refl; are_octets = inputs-octets; waits = sym h.1 };
         goes_on = ready.goes_on;
         said = [];
@@ -442,7 +450,7 @@ module _ {D : Type 0} (g : Ghosts D) (lasts : (disk : D) → g.lasts disk disk) 
         commands = [];
         answered = subst (λ (es : List Event). IsAnswered a a.store a.lists a.state es [] []) (sym h.0) (refl, refl, refl, refl, refl, ready.none_due);
         does = does-none g a.store disk ready.up.healthy ready.up.stands_on (lasts disk);
-      }
+      })
 
   -- this packet is whole
   module _ (item : Item) (packet : PacketText item reader) (whole : IsTrue (is_whole reader)) where
@@ -469,8 +477,8 @@ module _ {D : Type 0} (g : Ghosts D) (lasts : (disk : D) → g.lasts disk disk) 
       abbrev row : Bool → Row
       row fails = row_over a.caller moment before item fails
 
-      pub owes-taken : (caller : CallSign) (halted : Bool) → caller ≡ a.caller → halted ≡ false → Takes (Ok tt) → Owes g (at a disk) inputs None [] (at (server_n caller halted) disk_n)
-      owes-taken caller halted same going takes = record {
+      pub owes-taken : (caller : CallSign) (halted : Bool) → caller ≡ a.caller → halted ≡ false → Takes (Ok tt) → Owes g (at self disk) inputs None [] (at (server_n caller halted) disk_n)
+      owes-taken caller halted same going takes = of_self None _ (record {
         hears = record { caller = same; are_octets = inputs-octets; waits = sym only.1 };
         goes_on = going;
         said = (row takes.fails).replies;
@@ -480,12 +488,12 @@ module _ {D : Type 0} (g : Ghosts D) (lasts : (disk : D) → g.lasts disk disk) 
             subst (λ (es : List Event). IsAnswered a now.store now.lists now.state es (row takes.fails).replies (row takes.fails).commands) (sym only.0)
             (ready.silent, answer-first a.caller (session_in a) event takes.fails now.lists now.state takes.answers.1 takes.answers.2);
         does = taken-among g on a.caller moment item before now disk disk_n replies ready.up.healthy ready.up.stands_on tt takes;
-      }
+      })
 
       -- the session stopped at it
       halting : (caller : CallSign) (why : Halt) (fails : Bool) (cut : List Command) → LastOf why a.state (met_with event (with_part fails 0 [])) (row fails) replies cut
-          → CutsOffAmongReads g (why ≡ halt.Disk) (failed_reads_told (row fails).replies) a.store now.store disk disk_n [] cut → Owes g (at a disk) inputs (Some why) [] (at (server_n caller true) disk_n)
-      halting caller why fails cut last cuts = record {
+          → CutsOffAmongReads g (why ≡ halt.Disk) (failed_reads_told (row fails).replies) a.store now.store disk disk_n [] cut → Owes g (at self disk) inputs (Some why) [] (at (server_n caller true) disk_n)
+      halting caller why fails cut last cuts = of_self (Some why) _ (record {
         are_octets = inputs-octets;
         halted = refl;
         silent = ready.silent;
@@ -497,16 +505,19 @@ module _ {D : Type 0} (g : Ghosts D) (lasts : (disk : D) → g.lasts disk disk) 
         cut = cut;
         last = last;
         cuts = cuts;
-      }
+      })
 
-      pub owes-last : (caller : CallSign) (stop : ServerStop) → Takes (Err stop) → Owes g (at a disk) inputs (Some (halt_of_session stop)) [] (at (server_n caller true) disk_n)
-      owes-last caller session_stop.Disk takes =
+      last-of : (caller : CallSign) (stop : ServerStop) → Takes (Err stop) → Owes g (at self disk) inputs (Some (halt_of_session stop)) [] (at (server_n caller true) disk_n)
+      last-of caller session_stop.Disk takes =
           halting caller halt.Disk takes.fails (row takes.fails).commands (takes.answers.2, refl)
           (cuts-among-same g ⊤ (halt.Disk ≡ halt.Disk) (failed_reads_told (row takes.fails).replies) (failed_reads_told (row takes.fails).replies) a.store now.store disk disk_n [] (row takes.fails).commands
           (λ _. refl) (λ _. tt) refl (taken-cut g on a.caller moment item before now disk disk_n replies ready.up.healthy ready.up.stands_on takes))
-      owes-last caller session_stop.OutOfMemory takes =
+      last-of caller session_stop.OutOfMemory takes =
           let none = taken-none g on a.caller moment item before now disk disk_n replies ready.up.healthy ready.up.stands_on takes in
           let missed : ℕ = failed_reads_told (row takes.fails).replies in
           halting caller halt.OutOfMemory takes.fails [] (takes.answers.0, takes.answers.2, refl)
           (cuts-among-none g (halt.OutOfMemory ≡ halt.Disk) missed a.store now.store disk disk_n [] (λ e. cc e) (lasts disk_n)
           (subst (λ (s : StoreState). DoesAmongReads g ⊥ missed a.store s disk disk_n []) (sym none.0) none.1))
+
+      pub owes-last : (caller : CallSign) (stop : ServerStop) (why : Halt) → why ≡ halt_of_session stop → Takes (Err stop) → Owes g (at self disk) inputs (Some why) [] (at (server_n caller true) disk_n)
+      owes-last caller stop why is_why takes = subst (λ (w : Halt). Owes g (at self disk) inputs (Some w) [] (at (server_n caller true) disk_n)) (sym is_why) (last-of caller stop takes)
