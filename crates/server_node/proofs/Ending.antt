@@ -1,47 +1,114 @@
 -- A session or a server from the recovery of its store, which is refused or gives one, to its end by the turns of its
--- node, and what stands on the disk then.
-use Rattle.std.proofs.Common.{◌≡◌, ℕ, List, [], ◌∷◌, ◌++◌, Bool, true, false, refl, ap, sym, ◌∙◌, subst, inl, inr, ⊎_elim, arith, Result, Ok, Err, Option}
-use Rattle.std.specs.Prelude.{◌≢◌, Result, Ok, Err, IsErrOf, IfSome, Option, IsErrAnd}
+-- node; what it does to its disk, and what stands there.
+use Rattle.std.proofs.Common.{◌≡◌, inl, inr, ⊎_elim, ◌⊎◌, ℕ, ◌+◌, ◌≤◌, List, ◌++◌, length, refl, ◌∙◌, ap, subst, arith, IfSome, length-append, append_assoc, [], ◌∷◌, Bool, true, false, sym, Result, Ok, Err, Option}
+use Rattle.std.specs.Prelude.{Result, Ok, Err, IsErrOf, ◌≢◌, IfSome, Option, IsErrAnd}
 use Rattle.disk_model.specs.declared.disk.Disk.{Ghosts}
+use Rattle.file_journal.specs.Through.{StandsThrough}
+use Rattle.file_store.specs.Calls.{Runs, ChangesReads, Becomes, Leaves, TakesStep}
+use Rattle.file_store.specs.Command.{AreAllowed, Command}
+use Rattle.file_store.specs.OnDisk.{MakesBetween, StayDone, kept_at}
+use Rattle.file_store.specs.Records.{store_form, store_magic}
+use Rattle.file_store.specs.Store.{Store}
+use Rattle.file_store.specs.Working.{PutsAmongReads, CutsOffAmongReads}
+use Rattle.file_store.proofs.Offered.{told_weaker, cuts-among-all, cuts-among-puts, cuts-among-same, own-number}
+use Rattle.ftl0_session.specs.Laws.{AcknowledgedStandsLaw}
+use Rattle.server_node.specs.OnDisk.{NodeRuns}
+use Rattle.server_node.specs.Sessions.Laws.{AcknowledgedSinceLaw}
+use Rattle.server_node.specs.declared.stop.NodeStop.{NodeStop}
+use Rattle.server_node.specs.declared.terms.Served.{Served}
 use Rattle.px_base.specs.Moments.{MomentsOf}
 use Rattle.px_base.specs.Outside.{Gains}
 use Rattle.px_base.specs.Polling.{HearsAll}
 use Rattle.px_base.specs.declared.air.Air.{Ghosts as AirGhosts}
 use Rattle.px_base.specs.declared.air.Turn.{Turn}
-use Rattle.file_store.specs.Calls.{ChangesReads, Becomes, Leaves, Runs, TakesStep}
-use Rattle.file_store.specs.Command.{Command}
 use Rattle.file_store.specs.JournalRecovery.{IsFailedSync, IsSyncedFirst}
 use Rattle.file_store.specs.Recovery.{StandsAlike, IsRecovered, LeavesAlikeSinceSync, RefusesRecovery}
 use Rattle.file_store.specs.State.{StoreState, store_in}
-use Rattle.file_store.specs.Store.{Store}
-use Rattle.file_store.specs.Working.{CutsOffAmongReads, PutsAmongReads}
-use Rattle.file_store.proofs.Offered.{cuts-among-all, cuts-among-puts, cuts-among-same, own-number, told_weaker}
 use Rattle.node.specs.Course.{AtDisk, Course}
 use Rattle.node.specs.Lent.{Lent, Seen, lent}
 use Rattle.node.specs.Turns.{HasAirCause as NodeHasCause, IsButLast, IsUnsaid, RanBy, StoppedInLast, TookAll, TurnsBy as NodeTurnsBy, Brought}
 use Rattle.node.specs.declared.finished.Finished.{Finished}
 use Rattle.node.specs.declared.stop.NodeStop.{NodeStop as Stop}
-use Rattle.server_node.specs.declared.stop.NodeStop.{NodeStop}
-use Rattle.server_node.specs.declared.terms.Served.{Served}
 use Rattle.file_journal.specs.AmongReads.{among_reads}
 use Rattle.file_journal.specs.Kept.{alone}
-use Rattle.file_journal.specs.Through.{StandsThrough}
 use Rattle.file_journal.proofs.Offered.{runs_among, runs_missed, stands_through, runs_same}
-use Rattle.file_store.specs.OnDisk.{kept_at}
-use Rattle.file_store.specs.Records.{store_form, store_magic}
 use Rattle.server_node.specs.Served.{Run, TurnsBy, Ends}
 use Rattle.server_node.specs.Steps.{EndsOver, Made, Steps, StopsBehind, TakesAll}
 use Rattle.server_node.specs.Stops.{HasAirCause, served_by, stop_of_node, RefusesSession, stop_of_fault}
-use Rattle.server_node.proofs.Standing.{node_runs, runs_refused}
 use Rattle.std.proofs.lemmas.Result.{err_from_is_err_and}
 use Rattle.file_store.specs.IsStore.{IsStore}
 use Rattle.file_store.specs.Journal.{after_recovery}
 use Rattle.file_store.specs.declared.refusals.StoreFault.{StoreFault}
-use Rattle.server_node.specs.OnDisk.{NodeRuns}
+use Rattle.server_node.specs.declared.stop.NodeStop.TheVariants as stop
 use Rattle.file_store.specs.declared.refusals.StoreFault.TheVariants as fault
 use Rattle.node.specs.declared.finished.Finished.TheVariants as finished
 use Rattle.node.specs.declared.stop.NodeStop.TheVariants as node_stop
-use Rattle.server_node.specs.declared.stop.NodeStop.TheVariants as stop
+
+-- what a session does to its disk, by its writes and syncs
+pub node_runs : {D : Type 0} (g : Ghosts D) (failed : Type 0) (old now : D) → PutsAmongReads g failed old now → NodeRuns g failed old now
+node_runs g failed old now puts = record {
+  told = puts.told;
+  reads = puts.reads;
+  writes = puts.faults.no_less;
+  rose = λ stopped. inr (puts.faults.rose stopped);
+  same = puts.faults.same;
+  stops = puts.stops;
+  lasts = puts.lasts;
+}
+
+-- and by a recovery that is all that it does
+pub runs_refused : {D : Type 0} (g : Ghosts D) (failed : Type 0) (old now : D) → Runs g failed old now → NodeRuns g failed old now
+runs_refused g failed old now runs = record {
+  told = runs.told;
+  reads = runs.faults.reads;
+  writes = runs.faults.writes;
+  rose = runs.faults.rose;
+  same = λ fine. (runs.faults.same fine).1;
+  stops = record { last = runs.stops.last; lasts = runs.stops.lasts; writes = runs.stops.writes; since = ⊎_elim (λ (one : _). inl (one.1, one.2)) (λ only. inr only) runs.stops.since };
+  lasts = runs.lasts;
+}
+
+-- whether the disk failed
+by_disk : (result : Result Served NodeStop) → IsErrOf result stop.Disk ⊎ ¬ IsErrOf result stop.Disk
+by_disk (Ok served) = inr (λ is. cc is)
+by_disk (Err stop.Disk) = inl refl
+by_disk (Err stop.AirRead) = inr (λ is. cc is)
+by_disk (Err stop.AirWrite) = inr (λ is. cc is)
+by_disk (Err (stop.NotAStore found)) = inr (λ is. cc is)
+by_disk (Err (stop.Damaged at)) = inr (λ is. cc is)
+by_disk (Err stop.Spent) = inr (λ is. cc is)
+by_disk (Err stop.OutOfMemory) = inr (λ is. cc is)
+
+-- the commands done stay, whether the disk failed in one behind them or not
+stay_done : {D : Type 0} (g : Ghosts D) (failed : Type 0) (start : Store) (done cut : List Command) (disk disk_n : D) (stands : StandsThrough g store_form failed start done cut disk disk_n) → failed ⊎ ¬ failed
+    → IfSome (g.content disk) (λ _. StayDone g stands.ready (length done) start (done ++ cut) disk_n)
+stay_done g failed start done cut disk disk_n stands (inl stopped) =
+    let end = stands.interrupted stopped in
+    told_weaker (g.content disk) _ _ (λ octets told stay count some most. stay count some (omega (arith, most, end.no_less))) end.stay
+stay_done g failed start done cut disk disk_n stands (inr fine) =
+    told_weaker (g.content disk) _ _ (λ octets told stay count some most. stay count some (omega (arith, most, length-append done cut))) (stands.stay fine)
+
+pub acknowledged_since : {D : Type 0} (g : Ghosts D) → AcknowledgedStandsLaw → AcknowledgedSinceLaw g
+acknowledged_since g law = record {
+  since = λ result start done cut disk disk_n stands file is whole.
+      let before : List Command = file.before in
+      let ack = law file.caller start file.store file.lists file.fails before file.moment file.number file.entry file.held file.rest is whole in
+      record {
+        row = ack.row;
+        is_row = ack.is_row;
+        replies = ack.replies;
+        since = λ others parts.
+            let all : done ++ cut ≡ before ++ (ack.row.commands ++ (others ++ cut)) =
+            ap (λ (cs : List Command). cs ++ cut) parts ∙ append_assoc before (ack.row.commands ++ others) cut ∙ ap (λ (cs : List Command). before ++ cs) (append_assoc ack.row.commands others cut) in
+            let count : ℕ = length before + length ack.row.commands in
+            let some : 1 ≤ count = omega (arith, ack.some) in
+            let most : count ≤ length done = omega (arith, ap length parts, length-append before (ack.row.commands ++ others), length-append ack.row.commands others) in
+            told_weaker (g.content disk) _ _ (λ octets told stay image left.
+            ack.stands (others ++ cut) count (length (done ++ cut)) image (subst (λ (cs : List Command). AreAllowed start cs) all stands.allowed) (omega arith)
+            (subst (λ (cs : List Command). MakesBetween count (length (done ++ cut)) start cs image) all (stay count some most image left)))
+            (stay_done g (IsErrOf result stop.Disk) start done cut disk disk_n stands (by_disk result));
+      };
+}
 
 -- what the clauses of serving say
 pub record Serves {A C D : Type 0} (seen : Seen D A C) (blocks : ℕ) (given : Option ℕ) (Ran : Result Served NodeStop → Store → Run → Type 0) (old new : Lent D A C) (result : Result Served NodeStop) : Type 0 where
@@ -186,10 +253,7 @@ by-disk node_stop.OutOfMemory is = absurd (cc is)
 pub disk-stop : {D : Type 0} (g : Ghosts D) (why : Stop) (missed : ℕ) (old new : StoreState) (disk disk_n : D) (done cut : List Command) → CutsOffAmongReads g (why ≡ node_stop.Disk) missed old new disk disk_n done cut
     → CutsOffAmongReads g (IsErrOf {T = Served} (Err (stop_of_node why)) stop.Disk) missed old new disk disk_n done cut
 disk-stop g why missed old new disk disk_n done cut cuts =
-    cuts-among-same g (why ≡ node_stop.Disk) _ missed missed old new disk disk_n done cut (λ is. ap (λ (w : Stop). Err (stop_of_node w)) is) (λ is. by-disk why (of_error (stop_of_node why) is)) refl cuts
-  where
-    of_error : (a : NodeStop) → IsErrOf {T = Served} (Err a) stop.Disk → a ≡ stop.Disk
-    of_error a is = cc is
+    cuts-among-same g (why ≡ node_stop.Disk) _ missed missed old new disk disk_n done cut (λ is. ap (λ (w : Stop). Err (stop_of_node w)) is) (λ is. by-disk why (error_of {T = Served} (stop_of_node why) stop.Disk is)) refl cuts
 
 -- ---- by how the turns ended: all that they bring was taken, or it stopped at an event of the last one
 

@@ -1,2 +1,1 @@
-mod StationLemmas
-mod TurnsLemmas
+mod ServerLemmas

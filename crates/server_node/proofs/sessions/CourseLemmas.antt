@@ -20,6 +20,7 @@ use Rattle.server_node.specs.Sessions.ServerState.{IsUp, ServerState}
 use Rattle.server_node.specs.Stops.{halt_of_session}
 use Rattle.server_node.proofs.sessions.PacketLemmas.{both-octets, events-append, events-then, hears-none, hears-then, events-of}
 use Rattle.std.proofs.lemmas.List.{map-append, nil_from_length}
+use Rattle.server_node.proofs.Ending.{append-none}
 use Rattle.server_node.proofs.StepsLemmas.{AreSteps, does-none, runs-none, runs-on, stop-one, stops-more, stops-on}
 use Rattle.ftl0_packets.proofs.SplitLemmas.{nothing_partial, texts-append, under-way-whole}
 use Rattle.ftl0_session.proofs.Offered.{answer-all, answer-first, answer-more, answer-some, row-first, runs-trans, smaller, with_part}
@@ -64,11 +65,6 @@ are_steps caller = record {
 }
 
 -- ---- texts
-
--- a text that ends with some octets isn't empty
-some-last : (a b : List ℕ) → (b ≡ [] → ⊥) → a ++ b ≡ [] → ⊥
-some-last [] b some none = some none
-some-last (x ∷ a) b some none = absurd (cc none)
 
 -- a front of a text's end, behind the rest of it
 front-behind : (said text front all : List ℕ) → IsFront front text → said ++ text ≡ all → IsFront (said ++ front) all
@@ -239,7 +235,7 @@ module _ {D : Type 0} (g : Ghosts D) (lasts : (disk : D) → g.lasts disk disk) 
     halts-cut : (why : Option Halt) → OwesAll g start inputs why (said ++ text) now → HaltsOver g start inputs (stop_at_put why) true (said ++ front) now
     halts-cut (Some halt.Disk) h =
         stops-so halt.Disk (said ++ text) h true (said ++ front) (λ is. absurd (cc is)) (front-behind said text front _ is_front h.last.0, refl, refl, h.last.1)
-    halts-cut (Some halt.OutOfMemory) h = absurd (some-last said text some h.last.1)
+    halts-cut (Some halt.OutOfMemory) h = absurd (some (append-none said text h.last.1).1)
     halts-cut None h = (h.hears.are_octets, by (events_to start.it inputs) refl h.answered)
       where
         does : (missed : ℕ) (commands : List Command) → failed_reads_told h.said ≡ missed → h.commands ≡ commands → DoesAmongReads g ⊥ missed start.it.store now.it.store start.disk now.disk commands
@@ -252,7 +248,7 @@ module _ {D : Type 0} (g : Ghosts D) (lasts : (disk : D) → g.lasts disk disk) 
         by [] is none =
             let first : said ++ text ≡ start.it.replies = h.text_is ∙ ap (λ (ps : List PacketValue). start.it.replies ++ texts ps) none.0 ∙ append-nil start.it.replies in
             inl (record {
-              some = λ empty. some-last said text some (first ∙ empty);
+              some = λ empty. some (append-none said text (first ∙ empty)).1;
               front = front-behind said text front start.it.replies is_front first;
               why_is = refl;
               does = does 0 [] (ap failed_reads_told none.0) none.1;
@@ -268,7 +264,7 @@ module _ {D : Type 0} (g : Ghosts D) (lasts : (disk : D) → g.lasts disk disk) 
                   stop-at g start (at now.it.store now.disk) (events_to start.it inputs) event is an.1.parts row an.1.is_row node_stop.AirWrite true (said ++ front) row.commands [] (failed_reads_told answer) (
                     an.1.sent,
                     answer-some start.it.caller (session_in start.it) event h.said h.commands now.it.lists now.it.state an.1,
-                    (λ none. some-last said text some (whole ∙ none)),
+                    (λ none. some (append-none said text (whole ∙ none)).1),
                     front-behind said text front (texts answer) is_front whole,
                     refl,
                     refl,

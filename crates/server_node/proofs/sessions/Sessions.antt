@@ -78,10 +78,6 @@ init-of : (turns earlier : List Turn) (moments : List ℕ) (events : List Event)
 init-of turns earlier moments events rest (inl none) h = ([], [], subst (λ (ts : List Turn). Brings [] ts moments [] []) (sym none.1) (refl, refl))
 init-of turns earlier moments events rest (inr some) h = brings-init [] earlier some.0 moments events rest (subst (λ (ts : List Turn). Brings [] ts moments events rest) some.1 h)
 
-no-event : (xs : List Event) (x : Event) (ys : List Event) → [] ≡ xs ++ x ∷ ys → ⊥
-no-event [] x ys h = absurd (cc h)
-no-event (y ∷ xs) x ys h = absurd (cc h)
-
 -- how a session comes to a run
 abbrev pub Ran : SessionTerms → Result Served NodeStop → Store → Run → Type 0
 Ran terms result start run = SessionRan terms start run result
@@ -217,7 +213,7 @@ module _ {A C D : Type 0} (seen : Seen D A C) (terms : SessionTerms) (first : �
                     }))
                     (cuts-among-none g (IsErrOf {T = Served} (Err (stop_of_node why)) stop.Disk) 0 start new.party.store mid new.disk [] (λ failed. absurd (let e = sym is_air ∙ failed in cc e)) (lasts new.disk) unsaid.does)
                     )
-                | inr stopped ↦ absurd (no-event _ _ stopped.stops.stops.later (sym (ap (events_to server) no_more) ∙ stopped.stops.stops.events_are))
+                | inr stopped ↦ absurd (let e = (append-none stopped.stops.stops.before _ (sym stopped.stops.stops.events_are ∙ ap (events_to server) no_more)).1 in cc e)
               ]
 
           -- in the last turn
