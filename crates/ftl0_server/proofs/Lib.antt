@@ -10,6 +10,7 @@ mod OutLemmas
 mod PlaceLemmas
 mod QueuedLemmas
 mod SeatLemmas
+mod ServingLemmas
 mod SettledLemmas
 mod StartLemmas
 mod StepLemmas

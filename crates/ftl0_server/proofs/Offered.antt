@@ -1,3 +1,4 @@
 -- The lemmas that crates above may use.
 pub use Rattle.ftl0_server.proofs.FitsLemmas.{empties-silent, silent-settled}
-pub use Rattle.ftl0_server.proofs.HappeningLemmas.{empties_store, happening_store, uncut}
+pub use Rattle.ftl0_server.proofs.HappeningLemmas.{uncut}
+pub use Rattle.ftl0_server.proofs.ServingLemmas.{serves, serves-append, serves-one}

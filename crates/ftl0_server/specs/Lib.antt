@@ -7,6 +7,7 @@ pub mod Places
 pub mod Server
 pub mod ServerState
 pub mod ServerStep
+pub mod Serving
 pub mod Slots
 pub use Rattle.ax25_link.specs.Calls as LinkCalls
 pub use Rattle.ax25_link.specs.Ends

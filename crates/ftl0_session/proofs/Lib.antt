@@ -5,6 +5,7 @@ mod FaultLemmas
 mod FillLemmas
 mod LawLemmas
 pub mod Offered
+mod OverLemmas
 mod RowLemmas
 mod RunLemmas
 mod TakenLemmas

@@ -5,6 +5,7 @@ pub mod Filling
 pub mod Laws
 pub mod Lists
 pub mod Run
+pub mod RunLaws
 pub mod SessionState
 pub mod Table
 pub mod Taking

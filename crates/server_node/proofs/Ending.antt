@@ -1,42 +1,237 @@
--- The end of a session or a server, by the turns of its node, and what stands on the disk then.
-use Rattle.std.proofs.Common.{◌≡◌, ℕ, List, [], ◌∷◌, ◌++◌, Bool, true, false, refl, ap, sym, ◌∙◌, subst, inl, inr, ⊎_elim}
-use Rattle.std.specs.Prelude.{◌≢◌, Result, Ok, Err, IsErrOf, IfSome, Option}
+-- A session or a server from the recovery of its store, which is refused or gives one, to its end by the turns of its
+-- node; what it does to its disk, and what stands there.
+use Rattle.std.proofs.Common.{◌≡◌, inl, inr, ⊎_elim, ◌⊎◌, ℕ, ◌+◌, ◌≤◌, List, ◌++◌, length, refl, ◌∙◌, ap, subst, arith, IfSome, length-append, append_assoc, [], ◌∷◌, Bool, true, false, sym, Result, Ok, Err, Option}
+use Rattle.std.specs.Prelude.{Result, Ok, Err, IsErrOf, ◌≢◌, IfSome, Option, IsErrAnd}
 use Rattle.disk_model.specs.declared.disk.Disk.{Ghosts}
+use Rattle.file_journal.specs.Through.{StandsThrough}
+use Rattle.file_store.specs.Calls.{Runs, ChangesReads, Becomes, Leaves, TakesStep}
+use Rattle.file_store.specs.Command.{AreAllowed, Command}
+use Rattle.file_store.specs.OnDisk.{MakesBetween, StayDone, kept_at}
+use Rattle.file_store.specs.Records.{store_form, store_magic}
+use Rattle.file_store.specs.Store.{Store}
+use Rattle.file_store.specs.Working.{PutsAmongReads, CutsOffAmongReads}
+use Rattle.file_store.proofs.Offered.{told_weaker, cuts-among-all, cuts-among-puts, cuts-among-same, own-number}
+use Rattle.ftl0_session.specs.Laws.{AcknowledgedStandsLaw}
+use Rattle.server_node.specs.OnDisk.{NodeRuns}
+use Rattle.server_node.specs.Sessions.Laws.{AcknowledgedSinceLaw}
+use Rattle.server_node.specs.declared.stop.NodeStop.{NodeStop}
+use Rattle.server_node.specs.declared.terms.Served.{Served}
 use Rattle.px_base.specs.Moments.{MomentsOf}
 use Rattle.px_base.specs.Outside.{Gains}
 use Rattle.px_base.specs.Polling.{HearsAll}
 use Rattle.px_base.specs.declared.air.Air.{Ghosts as AirGhosts}
 use Rattle.px_base.specs.declared.air.Turn.{Turn}
-use Rattle.file_store.specs.Calls.{ChangesReads}
-use Rattle.file_store.specs.Command.{Command}
 use Rattle.file_store.specs.JournalRecovery.{IsFailedSync, IsSyncedFirst}
-use Rattle.file_store.specs.Recovery.{StandsAlike}
+use Rattle.file_store.specs.Recovery.{StandsAlike, IsRecovered, LeavesAlikeSinceSync, RefusesRecovery}
 use Rattle.file_store.specs.State.{StoreState, store_in}
-use Rattle.file_store.specs.Store.{Store}
-use Rattle.file_store.specs.Working.{CutsOffAmongReads, PutsAmongReads}
-use Rattle.file_store.specs.declared.refusals.StoreFault.TheVariants as fault
-use Rattle.file_store.proofs.Offered.{cuts-among-all, cuts-among-puts, cuts-among-same, own-number, told_weaker}
 use Rattle.node.specs.Course.{AtDisk, Course}
-use Rattle.node.specs.Lent.{Lent, Seen}
+use Rattle.node.specs.Lent.{Lent, Seen, lent}
 use Rattle.node.specs.Turns.{HasAirCause as NodeHasCause, IsButLast, IsUnsaid, RanBy, StoppedInLast, TookAll, TurnsBy as NodeTurnsBy, Brought}
 use Rattle.node.specs.declared.finished.Finished.{Finished}
-use Rattle.node.specs.declared.finished.Finished.TheVariants as finished
 use Rattle.node.specs.declared.stop.NodeStop.{NodeStop as Stop}
-use Rattle.node.specs.declared.stop.NodeStop.TheVariants as node_stop
-use Rattle.server_node.specs.declared.stop.NodeStop.{NodeStop}
-use Rattle.server_node.specs.declared.stop.NodeStop.TheVariants as stop
-use Rattle.server_node.specs.declared.terms.Served.{Served}
 use Rattle.file_journal.specs.AmongReads.{among_reads}
 use Rattle.file_journal.specs.Kept.{alone}
-use Rattle.file_journal.specs.Through.{StandsThrough}
-use Rattle.file_journal.proofs.Offered.{runs_among, runs_missed, stands_through}
-use Rattle.file_store.specs.OnDisk.{kept_at}
-use Rattle.file_store.specs.Records.{store_form}
-use Rattle.server_node.specs.Served.{Run, TurnsBy}
+use Rattle.file_journal.proofs.Offered.{runs_among, runs_missed, stands_through, runs_same}
+use Rattle.server_node.specs.Served.{Run, TurnsBy, Ends}
 use Rattle.server_node.specs.Steps.{EndsOver, Made, Steps, StopsBehind, TakesAll}
-use Rattle.server_node.specs.Stops.{HasAirCause, served_by, stop_of_node}
-use Rattle.server_node.proofs.Standing.{node_runs}
-use Rattle.server_node.proofs.Starting.{Recovers, Serves}
+use Rattle.server_node.specs.Stops.{HasAirCause, served_by, stop_of_node, RefusesSession, stop_of_fault}
+use Rattle.std.proofs.lemmas.Result.{err_from_is_err_and}
+use Rattle.file_store.specs.IsStore.{IsStore}
+use Rattle.file_store.specs.Journal.{after_recovery}
+use Rattle.file_store.specs.declared.refusals.StoreFault.{StoreFault}
+use Rattle.server_node.specs.declared.stop.NodeStop.TheVariants as stop
+use Rattle.file_store.specs.declared.refusals.StoreFault.TheVariants as fault
+use Rattle.node.specs.declared.finished.Finished.TheVariants as finished
+use Rattle.node.specs.declared.stop.NodeStop.TheVariants as node_stop
+
+-- what a session does to its disk, by its writes and syncs
+pub node_runs : {D : Type 0} (g : Ghosts D) (failed : Type 0) (old now : D) → PutsAmongReads g failed old now → NodeRuns g failed old now
+node_runs g failed old now puts = record {
+  told = puts.told;
+  reads = puts.reads;
+  writes = puts.faults.no_less;
+  rose = λ stopped. inr (puts.faults.rose stopped);
+  same = puts.faults.same;
+  stops = puts.stops;
+  lasts = puts.lasts;
+}
+
+-- and by a recovery that is all that it does
+pub runs_refused : {D : Type 0} (g : Ghosts D) (failed : Type 0) (old now : D) → Runs g failed old now → NodeRuns g failed old now
+runs_refused g failed old now runs = record {
+  told = runs.told;
+  reads = runs.faults.reads;
+  writes = runs.faults.writes;
+  rose = runs.faults.rose;
+  same = λ fine. (runs.faults.same fine).1;
+  stops = record { last = runs.stops.last; lasts = runs.stops.lasts; writes = runs.stops.writes; since = ⊎_elim (λ (one : _). inl (one.1, one.2)) (λ only. inr only) runs.stops.since };
+  lasts = runs.lasts;
+}
+
+-- whether the disk failed
+by_disk : (result : Result Served NodeStop) → IsErrOf result stop.Disk ⊎ ¬ IsErrOf result stop.Disk
+by_disk (Ok served) = inr (λ is. cc is)
+by_disk (Err stop.Disk) = inl refl
+by_disk (Err stop.AirRead) = inr (λ is. cc is)
+by_disk (Err stop.AirWrite) = inr (λ is. cc is)
+by_disk (Err (stop.NotAStore found)) = inr (λ is. cc is)
+by_disk (Err (stop.Damaged at)) = inr (λ is. cc is)
+by_disk (Err stop.Spent) = inr (λ is. cc is)
+by_disk (Err stop.OutOfMemory) = inr (λ is. cc is)
+
+-- the commands done stay, whether the disk failed in one behind them or not
+stay_done : {D : Type 0} (g : Ghosts D) (failed : Type 0) (start : Store) (done cut : List Command) (disk disk_n : D) (stands : StandsThrough g store_form failed start done cut disk disk_n) → failed ⊎ ¬ failed
+    → IfSome (g.content disk) (λ _. StayDone g stands.ready (length done) start (done ++ cut) disk_n)
+stay_done g failed start done cut disk disk_n stands (inl stopped) =
+    let end = stands.interrupted stopped in
+    told_weaker (g.content disk) _ _ (λ octets told stay count some most. stay count some (omega (arith, most, end.no_less))) end.stay
+stay_done g failed start done cut disk disk_n stands (inr fine) =
+    told_weaker (g.content disk) _ _ (λ octets told stay count some most. stay count some (omega (arith, most, length-append done cut))) (stands.stay fine)
+
+pub acknowledged_since : {D : Type 0} (g : Ghosts D) → AcknowledgedStandsLaw → AcknowledgedSinceLaw g
+acknowledged_since g law = record {
+  since = λ result start done cut disk disk_n stands file is whole.
+      let before : List Command = file.before in
+      let ack = law file.caller start file.store file.lists file.fails before file.moment file.number file.entry file.held file.rest is whole in
+      record {
+        row = ack.row;
+        is_row = ack.is_row;
+        replies = ack.replies;
+        since = λ others parts.
+            let all : done ++ cut ≡ before ++ (ack.row.commands ++ (others ++ cut)) =
+            ap (λ (cs : List Command). cs ++ cut) parts ∙ append_assoc before (ack.row.commands ++ others) cut ∙ ap (λ (cs : List Command). before ++ cs) (append_assoc ack.row.commands others cut) in
+            let count : ℕ = length before + length ack.row.commands in
+            let some : 1 ≤ count = omega (arith, ack.some) in
+            let most : count ≤ length done = omega (arith, ap length parts, length-append before (ack.row.commands ++ others), length-append ack.row.commands others) in
+            told_weaker (g.content disk) _ _ (λ octets told stay image left.
+            ack.stands (others ++ cut) count (length (done ++ cut)) image (subst (λ (cs : List Command). AreAllowed start cs) all stands.allowed) (omega arith)
+            (subst (λ (cs : List Command). MakesBetween count (length (done ++ cut)) start cs image) all (stay count some most image left)))
+            (stay_done g (IsErrOf result stop.Disk) start done cut disk disk_n stands (by_disk result));
+      };
+}
+
+-- what the clauses of serving say
+pub record Serves {A C D : Type 0} (seen : Seen D A C) (blocks : ℕ) (given : Option ℕ) (Ran : Result Served NodeStop → Store → Run → Type 0) (old new : Lent D A C) (result : Result Served NodeStop) : Type 0 where
+  pub refuses : RefusesSession blocks (seen.disk.content old.disk) result
+  pub ends : Ends seen blocks given (Ran result) old new result
+  pub counts : HasAirCause seen.air.read_faults seen.air.write_faults old.air new.air result
+  pub runs : NodeRuns seen.disk (IsErrOf result stop.Disk) old.disk new.disk
+
+-- ---- a recovery that is refused, whatever it would have given
+
+-- one fault is one stop
+fault_of : NodeStop → StoreFault
+fault_of (stop.NotAStore found) = fault.NotAStore found
+fault_of (stop.Damaged at) = fault.Damaged at
+fault_of stop.Disk = fault.Disk
+fault_of stop.AirRead = fault.OutOfMemory
+fault_of stop.AirWrite = fault.OutOfMemory
+fault_of stop.Spent = fault.OutOfMemory
+fault_of stop.OutOfMemory = fault.OutOfMemory
+
+of_stop : (why : StoreFault) → fault_of (stop_of_fault why) ≡ why
+unfolding fault_of
+of_stop (fault.NotAStore found) = refl
+of_stop (fault.Damaged at) = refl
+of_stop fault.Disk = refl
+of_stop fault.OutOfMemory = refl
+
+same_fault : (why other : StoreFault) → stop_of_fault why ≡ stop_of_fault other → why ≡ other
+same_fault why other is = sym (of_stop why) ∙ ap fault_of is ∙ of_stop other
+
+-- the error of an answer
+error_of : {T E : Type 0} (a b : E) → IsErrOf {T = T} (Err a) b → a ≡ b
+error_of a b is = cc is
+
+refused_counts : {A : Type 0} (reads writes : A → ℕ) (air : A) (why : StoreFault) → HasAirCause {T = Served} reads writes air air (Err (stop_of_fault why))
+refused_counts reads writes air (fault.NotAStore found) = (refl, refl)
+refused_counts reads writes air (fault.Damaged at) = (refl, refl)
+refused_counts reads writes air fault.Disk = (refl, omega arith)
+refused_counts reads writes air fault.OutOfMemory = (refl, refl)
+
+-- The answer of the recovery fails by the disk exactly where this fault is the disk's: it is that fault, or there was no
+-- memory behind it.
+module _ {A C D T : Type 0} (seen : Seen D A C) (blocks : ℕ) (given : Option ℕ) (Ran : Result Served NodeStop → Store → Run → Type 0) (old : Lent D A C) (disk_n : D) (answer : Result T StoreFault)
+    (why : StoreFault) (there : IsErrOf answer fault.Disk → why ≡ fault.Disk) (back : why ≡ fault.Disk → IsErrOf answer fault.Disk)
+    (runs : Runs seen.disk (IsErrOf answer fault.Disk) old.disk disk_n) (since_start : Leaves seen.disk old.disk disk_n (StandsAlike blocks)) (since_sync : LeavesAlikeSinceSync seen.disk blocks answer old.disk disk_n)
+    (untouched : (found : List ℕ) → why ≡ fault.NotAStore found → seen.disk.content disk_n ≡ seen.disk.content old.disk)
+    (damage : (at : ℕ) → why ≡ fault.Damaged at → seen.disk.content disk_n ≡ seen.disk.content old.disk)
+    (refuses : RefusesSession {T = Served} blocks (seen.disk.content old.disk) (Err (stop_of_fault why))) where
+  abbrev Refused : Result Served NodeStop
+  Refused = Err (stop_of_fault why)
+
+  refused_runs : Runs seen.disk (IsErrOf Refused stop.Disk) old.disk disk_n
+  refused_runs =
+      runs_same seen.disk _ _ old.disk disk_n (λ is. ap (λ (f : StoreFault). Err (stop_of_fault f)) (there is)) (λ is. back (same_fault why fault.Disk (error_of (stop_of_fault why) stop.Disk is))) runs
+
+  pub unserved : Serves seen blocks given Ran old (lent disk_n old.air old.clock) Refused
+  unserved = record {
+    refuses = refuses;
+    ends = inl (record {
+      fault = why;
+      answer = refl;
+      air = refl;
+      clock = refl;
+      leaves =
+          record {
+            since_sync = told_weaker (seen.disk.content old.disk) _ _ (λ before told left. ⊎_elim
+                (λ (synced : IsSyncedFirst seen.disk old.disk disk_n (StandsAlike blocks before)). inl synced)
+                (λ (failed : IsErrOf answer fault.Disk × IsFailedSync seen.disk old.disk disk_n). inr (there failed.0, failed.1))
+                left) since_sync;
+            since_start = since_start;
+            not_a_store = untouched;
+            damaged = damage;
+          };
+      runs = refused_runs;
+    });
+    counts = refused_counts seen.air.read_faults seen.air.write_faults old.air why;
+    runs = runs_refused seen.disk _ old.disk disk_n refused_runs;
+  }
+
+module _ {A C D T : Type 0} (seen : Seen D A C) (blocks : ℕ) (given : Option ℕ) (Ran : Result Served NodeStop → Store → Run → Type 0) (old : Lent D A C) (disk_n : D) where
+  -- the recovery was refused
+  pub refused : (why : StoreFault) (result : Result Served NodeStop) → IsErrAnd result (λ e. e ≡ stop_of_fault why) → RefusesRecovery {T = T} blocks (seen.disk.content old.disk) (Err why)
+      → Runs seen.disk (IsErrOf {T = T} (Err why) fault.Disk) old.disk disk_n → Leaves seen.disk old.disk disk_n (StandsAlike blocks) → LeavesAlikeSinceSync {T = T} seen.disk blocks (Err why) old.disk disk_n
+      → ((found : List ℕ) → IsErrOf {T = T} (Err why) (fault.NotAStore found) → seen.disk.content disk_n ≡ seen.disk.content old.disk)
+      → ((at : ℕ) → IsErrOf {T = T} (Err why) (fault.Damaged at) → seen.disk.content disk_n ≡ seen.disk.content old.disk)
+      → Serves seen blocks given Ran old (lent disk_n old.air old.clock) result
+  refused why result is refuses runs since_start since_sync untouched damage =
+      let error = err_from_is_err_and result is in
+      subst (Serves seen blocks given Ran old (lent disk_n old.air old.clock)) (sym (error.1 ∙ ap Err error.2))
+      (unserved seen blocks given Ran old disk_n (Err why) why (λ e. error_of why fault.Disk e) (λ e. ap Err e) runs since_start since_sync
+      (λ found e. untouched found (ap Err e)) (λ at e. damage at (ap Err e)) refuses_so)
+    where
+      there : (other : StoreFault) → IsErrOf {T = T} (Err why) other → IsErrOf {T = Served} (Err (stop_of_fault why)) (stop_of_fault other)
+      there other e = ap (λ (f : StoreFault). Err (stop_of_fault f)) (error_of why other e)
+
+      back : (other : StoreFault) → IsErrOf {T = Served} (Err (stop_of_fault why)) (stop_of_fault other) → IsErrOf {T = T} (Err why) other
+      back other e = ap Err (same_fault why other (error_of (stop_of_fault why) (stop_of_fault other) e))
+
+      refuses_so : RefusesSession {T = Served} blocks (seen.disk.content old.disk) (Err (stop_of_fault why))
+      refuses_so no_disk no_memory =
+          told_weaker (seen.disk.content old.disk) _ _ (λ before told exact. record {
+            not_a_store = λ found. (λ e. (exact.not_a_store found).0 (back (fault.NotAStore found) e), λ stood. there (fault.NotAStore found) ((exact.not_a_store found).1 stood));
+            damaged = λ at. (λ e. (exact.damaged at).0 (back (fault.Damaged at) e), λ stood. there (fault.Damaged at) ((exact.damaged at).1 stood));
+          }) (refuses (λ e. no_disk (there fault.Disk e)) (λ e. no_memory (there fault.OutOfMemory e)))
+
+  -- it gave this, and there was no memory behind it
+  pub unlisted : (value : T) → Runs seen.disk (IsErrOf {T = T} (Ok value) fault.Disk) old.disk disk_n → Leaves seen.disk old.disk disk_n (StandsAlike blocks)
+      → LeavesAlikeSinceSync {T = T} seen.disk blocks (Ok value) old.disk disk_n → Serves seen blocks given Ran old (lent disk_n old.air old.clock) (Err stop.OutOfMemory)
+  unlisted value runs since_start since_sync =
+      unserved seen blocks given Ran old disk_n (Ok value) fault.OutOfMemory (λ e. absurd (cc e)) (λ e. absurd (cc e)) runs since_start since_sync (λ found e. absurd (cc e)) (λ at e. absurd (cc e))
+      (λ no_disk no_memory. absurd (no_memory refl))
+
+-- ---- a recovery that gave a store
+
+-- The recovery gave this, with this store on the disk.
+pub record Recovers {D T : Type 0} (g : Ghosts D) (blocks : ℕ) (old mid : D) (value : T) (start : StoreState) : Type 0 where
+  pub recovered : IsRecovered g blocks old mid start
+  pub magic_is : start.journal.magic ≡ store_magic
+  pub rules : IsStore (store_in start)
+  pub runs : Runs g (IsErrOf {T = T} (Ok value) fault.Disk) old mid
+  pub octets : TakesStep g old mid (Becomes (after_recovery store_magic blocks))
+  pub since_start : Leaves g old mid (StandsAlike blocks)
+  pub since_sync : LeavesAlikeSinceSync {T = T} g blocks (Ok value) old mid
 
 -- all turns but the last
 pub but_last : (turns : List Turn) → (earlier : List Turn) × IsButLast turns earlier
@@ -58,10 +253,7 @@ by-disk node_stop.OutOfMemory is = absurd (cc is)
 pub disk-stop : {D : Type 0} (g : Ghosts D) (why : Stop) (missed : ℕ) (old new : StoreState) (disk disk_n : D) (done cut : List Command) → CutsOffAmongReads g (why ≡ node_stop.Disk) missed old new disk disk_n done cut
     → CutsOffAmongReads g (IsErrOf {T = Served} (Err (stop_of_node why)) stop.Disk) missed old new disk disk_n done cut
 disk-stop g why missed old new disk disk_n done cut cuts =
-    cuts-among-same g (why ≡ node_stop.Disk) _ missed missed old new disk disk_n done cut (λ is. ap (λ (w : Stop). Err (stop_of_node w)) is) (λ is. by-disk why (of_error (stop_of_node why) is)) refl cuts
-  where
-    of_error : (a : NodeStop) → IsErrOf {T = Served} (Err a) stop.Disk → a ≡ stop.Disk
-    of_error a is = cc is
+    cuts-among-same g (why ≡ node_stop.Disk) _ missed missed old new disk disk_n done cut (λ is. ap (λ (w : Stop). Err (stop_of_node w)) is) (λ is. by-disk why (error_of {T = Served} (stop_of_node why) stop.Disk is)) refl cuts
 
 -- ---- by how the turns ended: all that they bring was taken, or it stopped at an event of the last one
 
@@ -98,8 +290,8 @@ module _ {P D A E S F : Type 0} (Brings : List Turn → List ℕ → List E → 
 
 -- ---- what that says of the disk
 
--- no commands but those of two empty lists
-append-none : (a b : List Command) → a ++ b ≡ [] → (a ≡ []) × (b ≡ [])
+-- nothing but two empty lists
+pub append-none : {X : Type 0} (a b : List X) → a ++ b ≡ [] → (a ≡ []) × (b ≡ [])
 append-none [] b none = (refl, none)
 append-none (c ∷ a) b none = absurd (cc none)
 

@@ -1,4 +1,2 @@
 mod Ending
-mod Standing
-mod Starting
 mod StepsLemmas

@@ -1,4 +1,1 @@
-mod ServesLemmas
-mod StationLemmas
-pub mod StoreLemmas
-mod TurnsLemmas
+mod ServerLemmas

@@ -1,4 +1,3 @@
 mod CourseLemmas
 mod PacketLemmas
-pub mod RunLemmas
-pub mod Sessions
+mod Sessions

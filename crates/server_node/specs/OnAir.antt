@@ -1,4 +1,3 @@
-pub mod Laws
 pub mod Served
 pub mod Serving
 pub mod Station

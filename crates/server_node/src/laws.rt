@@ -1,7 +1,8 @@
 //! Laws of a session and of a server: of what they went over, and of what stands on the disk.
 
-ghost use Rattle.server_node.specs.OnAir.Laws.{ServesLaw};
-ghost use Rattle.server_node.specs.Sessions.Laws.{AcknowledgedSinceLaw, RunsLaw};
+ghost use Rattle.ftl0_server.specs.Serving.{ServesLaw};
+ghost use Rattle.ftl0_session.specs.RunLaws.{RunsLaw};
+ghost use Rattle.server_node.specs.Sessions.Laws.{AcknowledgedSinceLaw};
 
 use disk_model::Disk;
 use ftl0_session::laws::acknowledged_stands_law;

@@ -1,5 +1,5 @@
 -- The course of a session's server: that it is lawful, what the server owes by what it hears, and what it gives.
-use Rattle.std.proofs.Common.{◌≡◌, inl, inr, ℕ, Bool, false, None, List, [], ◌++◌, refl, ap, ap₂, sym, ◌∙◌, subst, append_assoc, append-nil, ◌⊎◌, suc, ◌+◌, ◌==◌, ◌<◌, ◌∷◌, length, true, Option, Some, arith, take, map}
+use Rattle.std.proofs.Common.{◌≡◌, inl, inr, ℕ, Bool, false, None, List, [], ◌++◌, refl, ap, ap₂, sym, ◌∙◌, subst, append_assoc, append-nil, ◌⊎◌, ◌+◌, ◌==◌, ◌<◌, ◌∷◌, length, true, Option, Some, arith, take, map}
 use Rattle.std.specs.List.{AllByRecursion}
 use Rattle.px_base.specs.CallSign.{CallSign}
 use Rattle.disk_model.specs.declared.disk.Disk.{Ghosts}
@@ -19,10 +19,11 @@ use Rattle.server_node.specs.Steps.{RunsOn, StopsOn, StopsOver, made}
 use Rattle.server_node.specs.Sessions.ServerState.{IsUp, ServerState}
 use Rattle.server_node.specs.Stops.{halt_of_session}
 use Rattle.server_node.proofs.sessions.PacketLemmas.{both-octets, events-append, events-then, hears-none, hears-then, events-of}
-use Rattle.server_node.proofs.StepsLemmas.{does-none, runs-none, runs-on, stop-one, stops-more, stops-on}
-use Rattle.server_node.proofs.sessions.RunLemmas.{are_steps}
+use Rattle.std.proofs.lemmas.List.{map-append, nil_from_length}
+use Rattle.server_node.proofs.Ending.{append-none}
+use Rattle.server_node.proofs.StepsLemmas.{AreSteps, does-none, runs-none, runs-on, stop-one, stops-more, stops-on}
 use Rattle.ftl0_packets.proofs.SplitLemmas.{nothing_partial, texts-append, under-way-whole}
-use Rattle.ftl0_session.proofs.Offered.{answer-all, answer-first, answer-more, answer-some, row-first, smaller, with_part}
+use Rattle.ftl0_session.proofs.Offered.{answer-all, answer-first, answer-more, answer-some, row-first, runs-trans, smaller, with_part}
 use Rattle.std.proofs.Math.Nat.{add-zero}
 use Rattle.std.proofs.lemmas.Bool.Decides.{nat_tests}
 use Rattle.px_base.specs.Octets.{IsFront, IsOctets}
@@ -38,7 +39,7 @@ use Rattle.ftl0_session.specs.SessionState.{SessionState, state_in}
 use Rattle.ftl0_session.specs.Taking.{row_over, TakesPacket, Working}
 use Rattle.ftl0_session.proofs.WorkingLemmas.{Sent, due-among, told-append, taken-among, taken-cut, taken-none}
 use Rattle.node.specs.declared.halt.Halt.{Halt}
-use Rattle.server_node.specs.Sessions.Server.{IsServer, IsWaiting}
+use Rattle.server_node.specs.Sessions.Server.{IsServer, server_state}
 use Rattle.server_node.specs.declared.sessions.server.SessionServer.TheInside.{Inside}
 use Rattle.std.specs.Prelude.{Result, Ok, Err, IsTrue, ⊤}
 use Rattle.ftl0_packets.specs.Reading.{is_whole, under_way}
@@ -49,12 +50,21 @@ use Rattle.node.specs.declared.halt.Halt.TheVariants as halt
 use Rattle.node.specs.declared.stop.NodeStop.TheVariants as node_stop
 use Rattle.ftl0_session.specs.declared.stop.ServerStop.TheVariants as session_stop
 
--- ---- texts
+-- a session goes over its events one after another
+pub are_steps : (caller : CallSign) → AreSteps (session_steps caller)
+are_steps caller = record {
+  none = λ s. record { met = []; heard = refl; said = []; text_is = refl; missed_is = refl; runs = (refl, refl, refl, refl, refl) };
+  on = λ a b c xs ys m n h k. record {
+    met = h.met ++ k.met;
+    heard = map-append heard_of h.met k.met ∙ ap₂ (λ es os. es ++ os) h.heard k.heard;
+    said = h.said ++ k.said;
+    text_is = ap₂ (λ t u. t ++ u) h.text_is k.text_is ∙ sym (texts-append h.said k.said);
+    missed_is = ap₂ (λ t u. t + u) h.missed_is k.missed_is ∙ sym (told-append h.said k.said);
+    runs = runs-trans caller a.store a.lists a.state h.met h.said m.done b.store b.lists b.state k.met k.said n.done c.store c.lists c.state h.runs k.runs;
+  };
+}
 
--- a text that ends with some octets isn't empty
-some-last : (a b : List ℕ) → (b ≡ [] → ⊥) → a ++ b ≡ [] → ⊥
-some-last [] b some none = some none
-some-last (x ∷ a) b some none = absurd (cc none)
+-- ---- texts
 
 -- a front of a text's end, behind the rest of it
 front-behind : (said text front all : List ℕ) → IsFront front text → said ++ text ≡ all → IsFront (said ++ front) all
@@ -69,8 +79,7 @@ texts-last sent packet = texts-append sent (packet ∷ []) ∙ ap (λ (text : Li
 
 -- no items are none
 pub is-nil : {X : Type 0} (xs : List X) → (length xs == 0) ≡ true → xs ≡ []
-is-nil [] e = refl
-is-nil (x ∷ xs) e = absurd (let zero : suc (length xs) ≡ 0 = grind (arith, nat_tests) in omega arith)
+is-nil xs e = nil_from_length xs (grind (arith, nat_tests))
 
 pub not-nil : {X : Type 0} (xs : List X) → (length xs == 0) ≡ false → xs ≡ [] → ⊥
 not-nil xs some none = let e : true ≡ false = sym (ap (λ ys. length ys == 0) none) ∙ some in absurd (cc e)
@@ -226,7 +235,7 @@ module _ {D : Type 0} (g : Ghosts D) (lasts : (disk : D) → g.lasts disk disk) 
     halts-cut : (why : Option Halt) → OwesAll g start inputs why (said ++ text) now → HaltsOver g start inputs (stop_at_put why) true (said ++ front) now
     halts-cut (Some halt.Disk) h =
         stops-so halt.Disk (said ++ text) h true (said ++ front) (λ is. absurd (cc is)) (front-behind said text front _ is_front h.last.0, refl, refl, h.last.1)
-    halts-cut (Some halt.OutOfMemory) h = absurd (some-last said text some h.last.1)
+    halts-cut (Some halt.OutOfMemory) h = absurd (some (append-none said text h.last.1).1)
     halts-cut None h = (h.hears.are_octets, by (events_to start.it inputs) refl h.answered)
       where
         does : (missed : ℕ) (commands : List Command) → failed_reads_told h.said ≡ missed → h.commands ≡ commands → DoesAmongReads g ⊥ missed start.it.store now.it.store start.disk now.disk commands
@@ -239,7 +248,7 @@ module _ {D : Type 0} (g : Ghosts D) (lasts : (disk : D) → g.lasts disk disk) 
         by [] is none =
             let first : said ++ text ≡ start.it.replies = h.text_is ∙ ap (λ (ps : List PacketValue). start.it.replies ++ texts ps) none.0 ∙ append-nil start.it.replies in
             inl (record {
-              some = λ empty. some-last said text some (first ∙ empty);
+              some = λ empty. some (append-none said text (first ∙ empty)).1;
               front = front-behind said text front start.it.replies is_front first;
               why_is = refl;
               does = does 0 [] (ap failed_reads_told none.0) none.1;
@@ -255,7 +264,7 @@ module _ {D : Type 0} (g : Ghosts D) (lasts : (disk : D) → g.lasts disk disk) 
                   stop-at g start (at now.it.store now.disk) (events_to start.it inputs) event is an.1.parts row an.1.is_row node_stop.AirWrite true (said ++ front) row.commands [] (failed_reads_told answer) (
                     an.1.sent,
                     answer-some start.it.caller (session_in start.it) event h.said h.commands now.it.lists now.it.state an.1,
-                    (λ none. some-last said text some (whole ∙ none)),
+                    (λ none. some (append-none said text (whole ∙ none)).1),
                     front-behind said text front (texts answer) is_front whole,
                     refl,
                     refl,
@@ -404,23 +413,32 @@ module _ {D : Type 0} (g : Ghosts D) (lasts : (disk : D) → g.lasts disk disk) 
 -- ---- what it owes by what it hears
 
 module _ {D : Type 0} (g : Ghosts D) (lasts : (disk : D) → g.lasts disk disk) (on : (first second third : D) → g.lasts first second → g.lasts second third → g.lasts first third)
-    (moment : ℕ) (a : ServerState) (disk : D) (ready : IsReady g (at a disk)) (waits : IsWaiting a.octets)
-    (piece : List ℕ) (are : IsOctets piece) (taken : ℕ) (reader : List ℕ) (fed : reader ≡ a.octets ++ take taken piece) where
+    (moment : ℕ) (inside : Inside) (self : ServerState) (is : server_state inside ≡ self) (disk : D) (fit : IsReady g (at self disk)) (holds : IsServer inside)
+    (piece : List ℕ) (are : IsOctets piece) (taken : ℕ) (reader : List ℕ) (fed : reader ≡ under_way inside.reader ++ take taken piece) where
   abbrev inputs : List Input
   inputs = octets_at moment (take taken piece)
 
+  abbrev a : ServerState
+  a = server_state inside
+
+  ready : IsReady g (at a disk)
+  ready = subst (λ (s : ServerState). IsReady g (at s disk)) (sym is) fit
+
+  of_self : (why : Option Halt) (now : AtDisk ServerState D) → Owes g (at a disk) inputs why [] now → Owes g (at self disk) inputs why [] now
+  of_self why now h = subst (λ (s : ServerState). Owes g (at s disk) inputs why [] now) is h
+
   heard : (items : List Item) → Stream reader items (under_way reader) → (events_to a inputs ≡ at_moment moment items) × (waiting_behind a.octets inputs ≡ under_way reader)
   heard items stream =
-      events-of moment a.octets (take taken piece) items (under_way reader) waits (IsOctets-take taken piece are) (subst (λ (o : List ℕ). Stream o items (under_way reader)) fed stream)
+      events-of moment a.octets (take taken piece) items (under_way reader) holds.waiting (IsOctets-take taken piece are) (subst (λ (o : List ℕ). Stream o items (under_way reader)) fed stream)
 
   inputs-octets : IsOctets (octets_in inputs)
   inputs-octets = subst (λ (o : List ℕ). IsOctets o) (sym (octets_in-at moment (take taken piece))) (IsOctets-take taken piece are)
 
   -- no packet is whole
-  pub owes-more : IsPartial reader → under_way reader ≡ reader → Owes g (at a disk) inputs None [] (at (record a { octets = under_way reader }) disk)
+  pub owes-more : IsPartial reader → under_way reader ≡ reader → Owes g (at self disk) inputs None [] (at (record a { octets = under_way reader }) disk)
   owes-more partial same =
       let h = heard [] (sym same, subst (λ (o : List ℕ). IsPartial o) (sym same) partial) in
-      record {
+      of_self None _ (record {
         hears = record { caller = refl; are_octets = inputs-octets; waits = sym h.1 };
         goes_on = ready.goes_on;
         said = [];
@@ -428,7 +446,7 @@ module _ {D : Type 0} (g : Ghosts D) (lasts : (disk : D) → g.lasts disk disk) 
         commands = [];
         answered = subst (λ (es : List Event). IsAnswered a a.store a.lists a.state es [] []) (sym h.0) (refl, refl, refl, refl, refl, ready.none_due);
         does = does-none g a.store disk ready.up.healthy ready.up.stands_on (lasts disk);
-      }
+      })
 
   -- this packet is whole
   module _ (item : Item) (packet : PacketText item reader) (whole : IsTrue (is_whole reader)) where
@@ -455,8 +473,8 @@ module _ {D : Type 0} (g : Ghosts D) (lasts : (disk : D) → g.lasts disk disk) 
       abbrev row : Bool → Row
       row fails = row_over a.caller moment before item fails
 
-      pub owes-taken : (caller : CallSign) (halted : Bool) → caller ≡ a.caller → halted ≡ false → Takes (Ok tt) → Owes g (at a disk) inputs None [] (at (server_n caller halted) disk_n)
-      owes-taken caller halted same going takes = record {
+      pub owes-taken : (caller : CallSign) (halted : Bool) → caller ≡ a.caller → halted ≡ false → Takes (Ok tt) → Owes g (at self disk) inputs None [] (at (server_n caller halted) disk_n)
+      owes-taken caller halted same going takes = of_self None _ (record {
         hears = record { caller = same; are_octets = inputs-octets; waits = sym only.1 };
         goes_on = going;
         said = (row takes.fails).replies;
@@ -466,12 +484,12 @@ module _ {D : Type 0} (g : Ghosts D) (lasts : (disk : D) → g.lasts disk disk) 
             subst (λ (es : List Event). IsAnswered a now.store now.lists now.state es (row takes.fails).replies (row takes.fails).commands) (sym only.0)
             (ready.silent, answer-first a.caller (session_in a) event takes.fails now.lists now.state takes.answers.1 takes.answers.2);
         does = taken-among g on a.caller moment item before now disk disk_n replies ready.up.healthy ready.up.stands_on tt takes;
-      }
+      })
 
       -- the session stopped at it
       halting : (caller : CallSign) (why : Halt) (fails : Bool) (cut : List Command) → LastOf why a.state (met_with event (with_part fails 0 [])) (row fails) replies cut
-          → CutsOffAmongReads g (why ≡ halt.Disk) (failed_reads_told (row fails).replies) a.store now.store disk disk_n [] cut → Owes g (at a disk) inputs (Some why) [] (at (server_n caller true) disk_n)
-      halting caller why fails cut last cuts = record {
+          → CutsOffAmongReads g (why ≡ halt.Disk) (failed_reads_told (row fails).replies) a.store now.store disk disk_n [] cut → Owes g (at self disk) inputs (Some why) [] (at (server_n caller true) disk_n)
+      halting caller why fails cut last cuts = of_self (Some why) _ (record {
         are_octets = inputs-octets;
         halted = refl;
         silent = ready.silent;
@@ -483,16 +501,19 @@ module _ {D : Type 0} (g : Ghosts D) (lasts : (disk : D) → g.lasts disk disk) 
         cut = cut;
         last = last;
         cuts = cuts;
-      }
+      })
 
-      pub owes-last : (caller : CallSign) (stop : ServerStop) → Takes (Err stop) → Owes g (at a disk) inputs (Some (halt_of_session stop)) [] (at (server_n caller true) disk_n)
-      owes-last caller session_stop.Disk takes =
+      last-of : (caller : CallSign) (stop : ServerStop) → Takes (Err stop) → Owes g (at self disk) inputs (Some (halt_of_session stop)) [] (at (server_n caller true) disk_n)
+      last-of caller session_stop.Disk takes =
           halting caller halt.Disk takes.fails (row takes.fails).commands (takes.answers.2, refl)
           (cuts-among-same g ⊤ (halt.Disk ≡ halt.Disk) (failed_reads_told (row takes.fails).replies) (failed_reads_told (row takes.fails).replies) a.store now.store disk disk_n [] (row takes.fails).commands
           (λ _. refl) (λ _. tt) refl (taken-cut g on a.caller moment item before now disk disk_n replies ready.up.healthy ready.up.stands_on takes))
-      owes-last caller session_stop.OutOfMemory takes =
+      last-of caller session_stop.OutOfMemory takes =
           let none = taken-none g on a.caller moment item before now disk disk_n replies ready.up.healthy ready.up.stands_on takes in
           let missed : ℕ = failed_reads_told (row takes.fails).replies in
           halting caller halt.OutOfMemory takes.fails [] (takes.answers.0, takes.answers.2, refl)
           (cuts-among-none g (halt.OutOfMemory ≡ halt.Disk) missed a.store now.store disk disk_n [] (λ e. cc e) (lasts disk_n)
           (subst (λ (s : StoreState). DoesAmongReads g ⊥ missed a.store s disk disk_n []) (sym none.0) none.1))
+
+      pub owes-last : (caller : CallSign) (stop : ServerStop) (why : Halt) → why ≡ halt_of_session stop → Takes (Err stop) → Owes g (at self disk) inputs (Some why) [] (at (server_n caller true) disk_n)
+      owes-last caller stop why is_why takes = subst (λ (w : Halt). Owes g (at self disk) inputs (Some w) [] (at (server_n caller true) disk_n)) (sym is_why) (last-of caller stop takes)

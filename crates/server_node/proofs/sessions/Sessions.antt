@@ -34,12 +34,13 @@ use Rattle.ftl0_session.specs.Answering.{Session}
 use Rattle.server_node.specs.Sessions.Running.{first_session, session_steps}
 use Rattle.server_node.specs.Sessions.ServerState.{ServerState, new_server}
 use Rattle.server_node.specs.Sessions.SessionRan.{IsGreeted, IsUngreeted, SessionRan, login_text}
-use Rattle.server_node.proofs.Ending.{Did, Stopped, Taken, but_last, did-by, disk-stop, never-over}
+use Rattle.std.proofs.lemmas.List.{nil_from_length}
+use Rattle.server_node.proofs.Ending.{Did, Stopped, Taken, append-none, but_last, did-by, disk-stop, never-over}
 use Rattle.server_node.proofs.StepsLemmas.{behind-all, cuts-all}
 use Rattle.ftl0_packets.proofs.SplitLemmas.{nothing_partial}
 use Rattle.ftl0_session.proofs.Offered.{brings-init, brings-more, brings-stream}
 use Rattle.server_node.proofs.sessions.PacketLemmas.{both-octets, brings-of, events-then}
-use Rattle.server_node.proofs.sessions.RunLemmas.{are_steps}
+use Rattle.server_node.proofs.sessions.CourseLemmas.{are_steps}
 
 -- the moments of turns of which the first one's was taken before: with it there is one at least
 record FirstOf (given : Option ℕ) (before now : Option (List ℕ)) (first : ℕ) (moments : List ℕ) (count : ℕ) : Type 0 where
@@ -72,30 +73,10 @@ moments-first None a m n first later h k = Grows-trans a m n (first ∷ []) late
 moments-first (Some moment) a m n first later h k = ((h.0.0, k.0), k.1 ∙ h.1)
 
 -- all turns but the last bring something
-record InitOf (turns : List Turn) (moments : List ℕ) : Type 0 where
-  earlier : List Turn
-  is_init : IsButLast turns earlier
-  least : List Event
-  left : List ℕ
-  brought : Brings [] earlier moments least left
-
-init-of : (turns earlier : List Turn) (moments : List ℕ) (events : List Event) (rest : List ℕ) → IsButLast turns earlier → Brings [] turns moments events rest → InitOf turns moments
-init-of turns earlier moments events rest (inl none) h = record { earlier = []; is_init = inl (none.0, refl); least = []; left = []; brought = (refl, refl) }
-init-of turns earlier moments events rest (inr some) h =
-    let brought = brings-init [] earlier some.0 moments events rest (subst (λ (ts : List Turn). Brings [] ts moments events rest) some.1 h) in
-    record { earlier = earlier; is_init = inr some; least = brought.0; left = brought.1; brought = brought.2 }
-
-no-event : (xs : List Event) (x : Event) (ys : List Event) → [] ≡ xs ++ x ∷ ys → ⊥
-no-event [] x ys h = absurd (cc h)
-no-event (y ∷ xs) x ys h = absurd (cc h)
-
-none-behind : (xs ys : List Input) → xs ++ ys ≡ [] → ys ≡ []
-none-behind [] ys none = none
-none-behind (x ∷ xs) ys none = absurd (cc none)
-
-no-moment : (ms : List ℕ) → length ms ≡ 0 → ms ≡ []
-no-moment [] none = refl
-no-moment (m ∷ ms) none = absurd (omega (arith, none))
+init-of : (turns earlier : List Turn) (moments : List ℕ) (events : List Event) (rest : List ℕ) → IsButLast turns earlier → Brings [] turns moments events rest
+    → (least : List Event) × (left : List ℕ) × Brings [] earlier moments least left
+init-of turns earlier moments events rest (inl none) h = ([], [], subst (λ (ts : List Turn). Brings [] ts moments [] []) (sym none.1) (refl, refl))
+init-of turns earlier moments events rest (inr some) h = brings-init [] earlier some.0 moments events rest (subst (λ (ts : List Turn). Brings [] ts moments events rest) some.1 h)
 
 -- how a session comes to a run
 abbrev pub Ran : SessionTerms → Result Served NodeStop → Store → Run → Type 0
@@ -197,12 +178,12 @@ module _ {A C D : Type 0} (seen : Seen D A C) (terms : SessionTerms) (first : �
           (inr (record {
             replies = goes.replies;
             text_is = goes.text_is;
-            earlier = init.earlier;
-            but_last = init.is_init;
-            least = init.least;
-            left = init.left;
-            brought = init.brought;
-            ends_over = over init.least (made goes.replies runs.done runs.missed) (_, runs.goes, refl);
+            earlier = last.0;
+            but_last = last.1;
+            least = init.0;
+            left = init.1;
+            brought = init.2;
+            ends_over = over init.0 (made goes.replies runs.done runs.missed) (_, runs.goes, refl);
           }))
           (cuts-among-none g (IsErrOf result stop.Disk) runs.missed start new.party.store mid new.disk runs.done fine (lasts new.disk) runs.does)
 
@@ -215,9 +196,9 @@ module _ {A C D : Type 0} (seen : Seen D A C) (terms : SessionTerms) (first : �
           -- before the first turn LOGIN_RESP was cut off
           at-first : took.all.turns ≡ [] → h.first ≡ [] → HaltsOver g (at server mid) h.more why took.unsaid h.last (party_at new) → DidSo (Err (stop_of_node why))
           at-first no_turn none_first halts =
-              let no_moments : took.all.moments ≡ [] = no-moment took.all.moments (took.one_each ∙ ap (λ (ts : List Turn). length ts) no_turn) in
+              let no_moments : took.all.moments ≡ [] = nil_from_length took.all.moments (took.one_each ∙ ap (λ (ts : List Turn). length ts) no_turn) in
               let no_inputs : took.all.events ≡ [] = took.brings ∙ ap (λ (ms : List ℕ). inputs_of took.all.turns ms) no_moments in
-              let no_more : h.more ≡ [] = none-behind h.least h.more (sym h.events_are ∙ no_inputs) in
+              let no_more : h.more ≡ [] = (append-none h.least h.more (sym h.events_are ∙ no_inputs)).1 in
               elim halts.1 [
                 | inl unsaid ↦ (
                     let is_air : IsErrOf {T = Served} (Err (stop_of_node why)) stop.AirWrite = ap (λ (w : Stop). Err (stop_of_node w)) unsaid.why_is in
@@ -232,7 +213,7 @@ module _ {A C D : Type 0} (seen : Seen D A C) (terms : SessionTerms) (first : �
                     }))
                     (cuts-among-none g (IsErrOf {T = Served} (Err (stop_of_node why)) stop.Disk) 0 start new.party.store mid new.disk [] (λ failed. absurd (let e = sym is_air ∙ failed in cc e)) (lasts new.disk) unsaid.does)
                     )
-                | inr stopped ↦ absurd (no-event _ _ stopped.stops.stops.later (sym (ap (events_to server) no_more) ∙ stopped.stops.stops.events_are))
+                | inr stopped ↦ absurd (let e = (append-none stopped.stops.stops.before _ (sym stopped.stops.stops.events_are ∙ ap (events_to server) no_more)).1 in cc e)
               ]
 
           -- in the last turn

@@ -1,6 +1,6 @@
 -- How a server goes on over the events of its node: which frames it says, and which commands of the store it does, up
 -- to a stop.
-use Rattle.std.specs.Prelude.{◌≡◌, ◌≢◌, ◌⊎◌, ℕ, ◌+◌, List, [], ◌∷◌, ◌++◌, flat_map, Bool}
+use Rattle.std.specs.Prelude.{◌≡◌, ◌≢◌, ◌⊎◌, ℕ, ◌+◌, List, [], ◌++◌, flat_map, Bool}
 use Rattle.px_base.specs.Octets.{IsFront}
 use Rattle.kiss.specs.KissText.{kiss_text}
 use Rattle.ax25_frames.specs.FrameText.{FrameValue, canonical}
@@ -9,9 +9,10 @@ use Rattle.node.specs.Events.{NodeEvent}
 use Rattle.node.specs.declared.stop.NodeStop.{NodeStop as Stop}
 use Rattle.node.specs.declared.stop.NodeStop.TheVariants as node_stop
 use Rattle.ftl0_server.specs.Failures.{failed_reads, failed_write}
-use Rattle.ftl0_server.specs.Connection.Taking.{fails, goes_on}
+use Rattle.ftl0_server.specs.Connection.Taking.{fails}
 use Rattle.ftl0_server.specs.Server.{Server, ServerHappened}
 use Rattle.ftl0_server.specs.ServerStep.{ServerStep, happening}
+use Rattle.ftl0_server.specs.Serving.{ServesOver, TakesEvent}
 use Rattle.server_node.specs.Sessions.Running.{IsSaid}
 use Rattle.server_node.specs.Steps.{Made, Steps}
 
@@ -19,25 +20,7 @@ use Rattle.server_node.specs.Steps.{Made, Steps}
 abbrev pub text_of : List FrameValue → List ℕ
 text_of frames = flat_map (λ frame. kiss_text (canonical frame)) frames
 
--- The server takes an event at which no write and no sync fails: it sends these frames and does these commands. Reads
--- fail at some parts of the event, or at none, and so many parts tell of one.
-pub record TakesEvent (server : Server) (event : NodeEvent) (sent : List FrameValue) (done : List Command)
-    (told : ℕ) (next : Server) : Type 0 where
-  pub parts : List ℕ
-  pub step : ServerStep server event (failed_reads parts) done [] told goes_on sent next
-
--- Over these events, at none of which it stops, the server comes from one to another, says these frames and does these
--- commands; so many parts of them tell that a read failed.
-abbrev pub ServesOver : Server → List NodeEvent → List FrameValue → List Command → ℕ → Server → Type 0
-ServesOver server [] frames commands missed now =
-    (frames ≡ []) × (commands ≡ []) × (missed ≡ 0) × (now ≡ server)
-ServesOver server (event ∷ events) frames commands missed now =
-    (done : List Command) × (sent : List FrameValue) × (told : ℕ) × (next : Server) × (others : List Command)
-    × (more : List FrameValue) × (later : ℕ) × TakesEvent server event sent done told next
-    × (frames ≡ sent ++ more) × (commands ≡ done ++ others) × (missed ≡ (told + later))
-    × ServesOver next events more others later now
-
--- the same, by all that was said and done
+-- Over these events, at none of which it stops, the server comes from one to another, by all that was said and done.
 pub record ServesAs (server : Server) (events : List NodeEvent) (all : Made) (now : Server) : Type 0 where
   pub frames : List FrameValue
   pub text_is : all.text ≡ text_of frames

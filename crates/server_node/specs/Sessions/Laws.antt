@@ -1,48 +1,19 @@
--- What a session went over, and from which moment of its disk on an acknowledged file stands.
+-- From which moment of its disk on an acknowledged file stands.
 use Rattle.std.specs.Prelude.{◌≡◌, ℕ, ◌+◌, ◌*◌, List, [], ◌∷◌, ◌++◌, length, Bool, IfSome, Result, Ok, IsErrOf}
 use Rattle.px_base.specs.CallSign.{CallSign}
 use Rattle.disk_model.specs.Moments.{LeavesSince}
 use Rattle.disk_model.specs.declared.disk.Disk.{Ghosts}
-use Rattle.ftl0_packets.specs.Layout.{PacketValue, data_end, ul_ack_resp}
+use Rattle.ftl0_packets.specs.Layout.{data_end, ul_ack_resp}
 use Rattle.ftl0_session.specs.Lists.Lists.{CallerList}
 use Rattle.file_journal.specs.Through.{StandsThrough}
 use Rattle.file_store.specs.Command.{Command, after_all}
 use Rattle.file_store.specs.Records.{store_form}
 use Rattle.file_store.specs.Store.{Entry, Store}
 use Rattle.ftl0_session.specs.Uploads.Laws.{HasEntry, IsWhole, kept}
-use Rattle.ftl0_session.specs.Run.{Event, RunsOver, event_row}
-use Rattle.ftl0_session.specs.Table.{Row, State, receiving, session_row}
+use Rattle.ftl0_session.specs.Table.{Row, receiving, session_row}
 use Rattle.server_node.specs.declared.stop.NodeStop.{NodeStop}
 use Rattle.server_node.specs.declared.stop.NodeStop.TheVariants as stop
 use Rattle.server_node.specs.declared.terms.Served.{Served}
-
--- A session that did these commands came to this event behind the earlier ones, over a store and lists and in a state.
--- The commands of the event's row are behind those of the earlier events, and others are behind them.
-pub record ComesTo (caller : CallSign) (start : Store) (lists : List CallerList) (state : State) (earlier : List Event)
-    (next : Event) (commands : List Command) : Type 0 where
-  pub said : List PacketValue
-  pub before : List Command
-  pub store_then : Store
-  pub lists_then : List CallerList
-  pub state_then : State
-  pub runs : RunsOver caller start lists state earlier said before store_then lists_then state_then
-  pub others : List Command
-  pub commands_are :
-      commands ≡ before ++ ((event_row caller store_then lists_then state_then next).commands ++ others)
-
--- Over the events that a session went over: the store that it came to is the one after its commands, and it came to
--- each of them.
-pub record RunsLaw : Type 0 where
-  pub store :
-      (caller : CallSign) (start : Store) (lists : List CallerList) (state : State) (events : List Event)
-      (said : List PacketValue) (commands : List Command) (now : Store) (lists_now : List CallerList) (next : State)
-      → RunsOver caller start lists state events said commands now lists_now next → now ≡ after_all start commands
-  pub comes_to :
-      (caller : CallSign) (start : Store) (lists : List CallerList) (state : State) (earlier : List Event)
-      (next : Event) (later : List Event) (said : List PacketValue) (commands : List Command) (now : Store)
-      (lists_now : List CallerList) (last : State)
-      → RunsOver caller start lists state (earlier ++ next ∷ later) said commands now lists_now last
-      → ComesTo caller start lists state earlier next commands
 
 -- DATA_END of a file of which all octets came, those that are held and the rest: whose upload it is, which commands
 -- were done before, over which store and lists it comes, whether a read fails, and when it comes.

@@ -1,5 +1,5 @@
 -- From the law of the session's table.
-use Rattle.server_node.proofs.Standing.{acknowledged_since}
+use Rattle.server_node.proofs.Ending.{acknowledged_since}
 use Rattle.server_node.proofs.laws.acknowledged_since_law.Goals as goal
 
 pub returns : goal.returns

@@ -1,4 +1,5 @@
-use Rattle.server_node.proofs.on_air.StoreLemmas.{serves}
+-- From the law of a server over events.
+use Rattle.ftl0_server.proofs.Offered.{serves}
 use Rattle.server_node.proofs.laws.serves_law.Goals as goal
 
 pub returns : goal.returns

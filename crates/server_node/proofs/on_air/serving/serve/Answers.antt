@@ -6,10 +6,8 @@ use Rattle.node.specs.Lent.{lent as lent_so, seen}
 use Rattle.node.specs.Turns.{lent}
 use Rattle.server_node.specs.declared.stop.NodeStop.{NodeStop}
 use Rattle.server_node.specs.declared.terms.Served.{Served}
-use Rattle.server_node.proofs.Ending.{Did, served}
-use Rattle.server_node.proofs.Starting.{Recovers, refused}
-use Rattle.server_node.proofs.on_air.StationLemmas.{owes-none}
-use Rattle.server_node.proofs.on_air.TurnsLemmas.{Ran, not-over, server-did, started}
+use Rattle.server_node.proofs.Ending.{Did, Recovers, refused, served}
+use Rattle.server_node.proofs.on_air.ServerLemmas.{owes-none, Ran, not-over, server-did, started}
 use Rattle.server_node.proofs.on_air.serving.serve.Goals as goal
 
 pub drive-station-requires-clause-owes : goal.drive-station-requires-clause-owes

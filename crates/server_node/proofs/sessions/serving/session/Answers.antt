@@ -9,8 +9,7 @@ use Rattle.server_node.specs.declared.terms.Served.{Served}
 use Rattle.server_node.specs.Sessions.Course.{Owes}
 use Rattle.server_node.specs.Sessions.ServerState.{ServerState, new_server}
 use Rattle.server_node.specs.Sessions.SessionRan.{login_text}
-use Rattle.server_node.proofs.Ending.{Did, served}
-use Rattle.server_node.proofs.Starting.{refused, unlisted}
+use Rattle.server_node.proofs.Ending.{Did, refused, served, unlisted}
 use Rattle.server_node.proofs.sessions.CourseLemmas.{owes-first}
 use Rattle.server_node.proofs.sessions.Sessions.{Ran, not-over, session-did}
 use Rattle.server_node.proofs.sessions.serving.session.Goals as goal

@@ -1,5 +1,5 @@
 -- The course of a server is lawful.
-use Rattle.server_node.proofs.on_air.StationLemmas.{lawful}
+use Rattle.server_node.proofs.on_air.ServerLemmas.{lawful}
 use Rattle.server_node.proofs.on_air.station.ServerStationStation.is_lawful.Goals as goal
 
 pub returns : goal.returns

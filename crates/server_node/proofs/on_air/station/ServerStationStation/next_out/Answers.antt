@@ -1,6 +1,6 @@
 -- What the server sends is given, one frame after another; after want of memory nothing is.
 use Rattle.node.specs.Course.{at}
-use Rattle.server_node.proofs.on_air.StationLemmas.{gave-all, gave-none, gives-next}
+use Rattle.server_node.proofs.on_air.ServerLemmas.{gave-all, gave-none, gives-next}
 use Rattle.server_node.proofs.on_air.station.ServerStationStation.next_out.Goals as goal
 
 pub returns-then-self-clause-all : goal.returns-then-self-clause-all

@@ -2,7 +2,7 @@
 use Rattle.std.proofs.Common.{None}
 use Rattle.node.specs.Course.{at}
 use Rattle.node.specs.Events.{ticks}
-use Rattle.server_node.proofs.on_air.StationLemmas.{owes-event}
+use Rattle.server_node.proofs.on_air.ServerLemmas.{owes-event}
 use Rattle.server_node.proofs.on_air.station.ServerStationStation.tick.Goals as goal
 
 pub returns-clause-takes : goal.returns-clause-takes

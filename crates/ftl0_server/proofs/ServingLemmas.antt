@@ -1,17 +1,46 @@
--- The store of a server is the one after its commands.
-use Rattle.std.proofs.Common.{◌≡◌, ℕ, ◌+◌, List, [], ◌∷◌, ◌++◌, refl, ap, sym, ◌∙◌, append_assoc}
+-- A server over events, and others behind them; and its store is the one after its commands.
+use Rattle.std.proofs.Common.{◌≡◌, ℕ, ◌+◌, List, [], ◌∷◌, ◌++◌, refl, ap, sym, ◌∙◌, subst, append_assoc, append-nil}
+use Rattle.std.proofs.Math.Nat.{add-zero, add_assoc, zero-add}
 use Rattle.ax25_frames.specs.FrameText.{FrameValue}
 use Rattle.file_store.specs.Command.{Command, after_all}
 use Rattle.file_store.specs.Store.{Store}
 use Rattle.file_store.proofs.Offered.{after_all-append}
 use Rattle.node.specs.Events.{NodeEvent}
-use Rattle.ftl0_server.specs.Failures.{failed_reads}
+use Rattle.ftl0_session.specs.Uploads.Failures.{failed_reads}
 use Rattle.ftl0_server.specs.Server.{Server}
 use Rattle.ftl0_server.specs.ServerStep.{happening}
-use Rattle.ftl0_server.proofs.Offered.{empties_store, happening_store}
-use Rattle.server_node.specs.OnAir.Laws.{ServerComesTo, ServesLaw}
-use Rattle.server_node.specs.OnAir.Serving.{ServesOver}
+use Rattle.ftl0_server.specs.Serving.{ServerComesTo, ServesLaw, ServesOver, TakesEvent}
+use Rattle.ftl0_server.proofs.HappeningLemmas.{empties_store, happening_store}
 
+-- one event
+pub serves-one : (server : Server) (event : NodeEvent) (done : List Command) (sent : List FrameValue) (told : ℕ) (next : Server)
+    → TakesEvent server event sent done told next → ServesOver server (event ∷ []) sent done told next
+serves-one server event done sent told next taken =
+    (done, sent, told, next, [], [], 0, taken, sym (append-nil sent), sym (append-nil done), sym (add-zero told), (refl, refl, refl, refl))
+
+-- events and then others
+pub serves-append :
+    (server : Server) (events : List NodeEvent) (frames : List FrameValue) (commands : List Command) (missed : ℕ) (mid : Server) (others : List NodeEvent) (more : List FrameValue) (further : List Command)
+    (other : ℕ) (now : Server) → ServesOver server events frames commands missed mid → ServesOver mid others more further other now
+    → ServesOver server (events ++ others) (frames ++ more) (commands ++ further) (missed + other) now
+serves-append server [] frames commands missed mid others more further other now h k =
+    rw (h.0, h.1, h.2, sym h.3) (subst (λ (n : ℕ). ServesOver mid others more further n now) (sym (zero-add other)) k)
+serves-append server (e ∷ events) frames commands missed mid others more further other now h k = (
+  h.0,
+  h.1,
+  h.2,
+  h.3,
+  h.4 ++ further,
+  h.5 ++ more,
+  h.6 + other,
+  h.7,
+  ap (λ (fs : List FrameValue). fs ++ more) h.8 ∙ append_assoc h.1 h.5 more,
+  ap (λ (cs : List Command). cs ++ further) h.9 ∙ append_assoc h.0 h.4 further,
+  ap (λ (n : ℕ). n + other) h.10 ∙ add_assoc h.2 h.6 other,
+  serves-append h.3 events h.5 h.4 h.6 mid others more further other now h.11 k,
+)
+
+-- the store that it comes to
 serves_store : (server : Server) (events : List NodeEvent) (frames : List FrameValue) (commands : List Command) (missed : ℕ) (now : Server) → ServesOver server events frames commands missed now
     → now.store ≡ after_all server.store commands
 serves_store server [] frames commands missed now h = rw (h.1, h.3) refl

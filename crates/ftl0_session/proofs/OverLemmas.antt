@@ -1,21 +1,17 @@
--- How a session goes on over events and sends what is due, and how it stops.
-use Rattle.std.proofs.Common.{List, [], ◌∷◌, ◌+◌, ◌++◌, refl, ap, ap₂, sym, ◌∙◌, append_assoc}
-use Rattle.std.proofs.lemmas.List.{map-append}
+-- A session over events, and others behind them.
+use Rattle.std.proofs.Common.{List, [], ◌∷◌, ◌++◌, refl, ap, sym, ◌∙◌, append_assoc}
 use Rattle.px_base.specs.CallSign.{CallSign}
 use Rattle.ftl0_packets.specs.Layout.{PacketValue}
 use Rattle.ftl0_session.specs.Lists.Lists.{CallerList}
 use Rattle.file_store.specs.Command.{Command, after_all}
 use Rattle.file_store.specs.Store.{Store}
-use Rattle.ftl0_session.specs.Run.{Event as MetEvent, RunsOver, event_row, heard_of}
+use Rattle.ftl0_session.specs.Run.{Event as MetEvent, RunsOver, event_row}
+use Rattle.ftl0_session.specs.RunLaws.{ComesTo, RunsLaw}
 use Rattle.ftl0_session.specs.Table.{Row, State}
-use Rattle.ftl0_session.proofs.WorkingLemmas.{told-append}
-use Rattle.ftl0_packets.proofs.SplitLemmas.{texts-append}
-use Rattle.server_node.specs.Sessions.Laws.{ComesTo}
-use Rattle.server_node.specs.Sessions.Running.{session_steps}
-use Rattle.server_node.proofs.StepsLemmas.{AreSteps}
+use Rattle.ftl0_session.proofs.RunLemmas.{commands}
 
 -- each event was come to, behind the earlier ones
-pub comes-to :
+comes-to :
     (caller : CallSign) (store : Store) (lists : List CallerList) (state : State) (earlier : List MetEvent) (next : MetEvent) (later : List MetEvent) (said : List PacketValue) (commands : List Command)
     (now : Store) (lists_n : List CallerList) (last : State)
     → RunsOver caller store lists state (earlier ++ next ∷ later) said commands now lists_n last → ComesTo caller store lists state earlier next commands
@@ -65,15 +61,5 @@ module _ (caller : CallSign) where
     runs-trans (after_all store h.0.commands) h.0.lists h.2 events h.3 h.4 mid lists_m between others more further now lists_n next h.9 k,
   )
 
-  pub are_steps : AreSteps (session_steps caller)
-  are_steps = record {
-    none = λ s. record { met = []; heard = refl; said = []; text_is = refl; missed_is = refl; runs = (refl, refl, refl, refl, refl) };
-    on = λ a b c xs ys m n h k. record {
-      met = h.met ++ k.met;
-      heard = map-append heard_of h.met k.met ∙ ap₂ (λ es os. es ++ os) h.heard k.heard;
-      said = h.said ++ k.said;
-      text_is = ap₂ (λ t u. t ++ u) h.text_is k.text_is ∙ sym (texts-append h.said k.said);
-      missed_is = ap₂ (λ t u. t + u) h.missed_is k.missed_is ∙ sym (told-append h.said k.said);
-      runs = runs-trans a.store a.lists a.state h.met h.said m.done b.store b.lists b.state k.met k.said n.done c.store c.lists c.state h.runs k.runs;
-    };
-  }
+pub runs : RunsLaw
+runs = record { store = commands; comes_to = comes-to }
