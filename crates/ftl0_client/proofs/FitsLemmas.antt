@@ -1,15 +1,15 @@
 -- Each event leaves the end of a client's link such as frames and ticks bring about.
 use Rattle.std.proofs.Common.{◌≡◌, ℕ, List, [], ◌∷◌, refl}
-use Rattle.std.specs.Prelude.{◌&&◌, Option, None, Some, ⊤}
+use Rattle.std.specs.Prelude.{Option, None, Some, ⊤}
 use Rattle.std.proofs.lemmas.Bool.{cond_both}
 use Rattle.ax25_frames.specs.FrameText.{FrameValue}
 use Rattle.ax25_link.specs.Calls.{after_hang_up, after_push}
-use Rattle.ax25_link.specs.Ends.{IsEnd, LinkEnd, free_octets}
+use Rattle.ax25_link.specs.Ends.{IsEnd, LinkEnd}
 use Rattle.ax25_link.specs.LinkStep.{heard_of_tick}
 use Rattle.ax25_link.specs.Refusals.{is_answered}
 use Rattle.ax25_link.specs.Rows.{after_frame, heard_of}
 use Rattle.ax25_link.specs.Sending.{IsQuiet, Sending, next_sending}
-use Rattle.ax25_link.specs.Timer.{after_tick, is_up, told_of_tick}
+use Rattle.ax25_link.specs.Timer.{after_tick, told_of_tick}
 use Rattle.ax25_link.specs.Window.{Window}
 use Rattle.ax25_link.specs.declared.state.Heard.{Heard}
 use Rattle.ax25_link.specs.declared.state.Heard.TheVariants.{Nothing, Opened, Reopened, Bytes, Closed}
@@ -25,8 +25,7 @@ use Rattle.ftl0_job.specs.Row.{Row}
 use Rattle.ftl0_job.specs.Table.{job_after, job_row}
 use Rattle.ftl0_client.specs.Attempt.Attempted.{Attempted}
 use Rattle.ftl0_client.specs.Attempt.Hearing.{after_hearing, after_told, packets_heard, with_end}
-use Rattle.ftl0_client.specs.Attempt.Settling.{is_all_free, is_later, parting_later}
-use Rattle.ftl0_client.specs.Attempt.Settling.{queuing, settled}
+use Rattle.ftl0_client.specs.Attempt.Settling.{settled}
 use Rattle.ftl0_client.specs.Attempt.Taking.{Happened, after_replies, parting, replied, taking, taking_by}
 use Rattle.ftl0_client.specs.Attempt.Taking.{taking_one}
 use Rattle.ftl0_client.specs.Client.{Client, ClientEvent, IsSilent, Refused, asks, attempt_for, hearing_by}
@@ -34,7 +33,7 @@ use Rattle.ftl0_client.specs.Client.{hears, refusing, sends_by, sends_of_attempt
 use Rattle.ftl0_client.specs.Client.{ticking_by, ticks}
 use Rattle.ftl0_client.specs.ClientStep.{happening}
 use Rattle.ftl0_client.specs.Laws.{EndFits}
-use Rattle.ftl0_client.proofs.attempt.SettlingLemmas.{queuing-keeps}
+use Rattle.ftl0_client.proofs.attempt.SettlingLemmas.{settled-keeps}
 
 -- ---- ends
 
@@ -60,17 +59,9 @@ module _ (w : Window) where
       taking-fits (after_all lists one.noted) one.after items (one-fits a.job.ending lists a item is)
 
   -- at the end of an event
-  queuing-fits : (count : ℕ) (a : Attempted) → IsEnd w a.end → IsEnd w (queuing count a).end
-  queuing-fits = queuing-keeps (λ (a : Attempted). IsEnd w a.end) (λ a due is fit. after_push-IsEnd w a.end (packet_text due.packet) fit)
-
   settled-fits : (a : Attempted) → IsEnd w a.end → IsEnd w (settled a).end
-  settled-fits a is =
-      let q : Attempted = queuing (free_octets a.end) a in
-      let queued : IsEnd w q.end = queuing-fits (free_octets a.end) a is in
-      cond_both (is_up a.end.state) (parting_later q) a (λ (b : Attempted). IsEnd w b.end)
-      (λ up.
-      cond_both (is_later q.job.ending && is_all_free q.end) (with_end q (after_hang_up q.end)) q (λ (b : Attempted). IsEnd w b.end) (λ both. after_hang_up-IsEnd w q.end queued) (λ other. queued))
-      (λ down. is)
+  settled-fits =
+      settled-keeps (λ (a : Attempted). IsEnd w a.end) (λ a due is fit. after_push-IsEnd w a.end (packet_text due.packet) fit) (λ a fit. after_hang_up-IsEnd w a.end fit)
 
   told-fits : (told : Heard) (a : Attempted) (octets : List ℕ) → IsEnd w a.end → IsEnd w (after_told told a octets).end
   told-fits Nothing a octets is = is

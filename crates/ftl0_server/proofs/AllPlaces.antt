@@ -1,11 +1,16 @@
 -- Facts of each place of a server and the slot at it.
-use Rattle.std.proofs.Common.{◌≡◌, ◌≢◌, ℕ, zero, suc, ◌+◌, List, [], ◌∷◌, length, set, map, Bool, not, cond, nat_lt, Option, None, Some, refl, sym, ◌∙◌, ap, subst}
+use Rattle.std.proofs.Common.{◌≡◌, ◌≢◌, ℕ, zero, suc, ◌+◌, List, [], ◌∷◌, length, set, map, Bool, false, not, cond, nat_lt, Option, None, Some, refl, sym, ◌∙◌, ap, subst}
 use Rattle.std.specs.Prelude.{slice_get}
 use Rattle.std.specs.List.{position, prefix_len}
 use Rattle.std.proofs.lemmas.Option.{same_Some}
+use Rattle.ax25_link.specs.Kept.{Kept, StandsFor, is_pending}
+use Rattle.ax25_link.specs.Window.{Window}
+use Rattle.ftl0_server.specs.Connection.Connected.{Connected}
+use Rattle.ftl0_server.specs.Connection.ConnectionState.{ConnectionState}
 use Rattle.ftl0_server.specs.declared.place.Place.{Place}
-use Rattle.ftl0_server.specs.ServerState.{AllPlaces}
-use Rattle.ftl0_server.specs.Slots.{Slot}
+use Rattle.ftl0_server.specs.declared.place.Place.TheVariants.{Free, Talking, Leaving}
+use Rattle.ftl0_server.specs.ServerState.{AllPlaces, SendsAs}
+use Rattle.ftl0_server.specs.Slots.{Slot, connected, free, leaving}
 
 pub never : {X : Type 0} (x : X) → None ≡ Some x → ⊥
 never x same = cc
@@ -15,6 +20,20 @@ suc_no j same = cc
 
 suc_same : (j i : ℕ) → suc j ≡ suc i → j ≡ i
 suc_same j i same = cc
+
+-- A place and a slot that send alike are of one of these four pairs.
+pub sends-cases : (w : Window) (P : Place → Slot → Type 0) → P Free free → ((d : ConnectionState) (c : Connected) → StandsFor w d.link c.end → P (Talking d) (connected c))
+    → ((link : Kept) → is_pending link ≡ false → P (Leaving link) free) → ((link : Kept) (c : Connected) → StandsFor w link c.end → P (Leaving link) (leaving c))
+    → (p : Place) (s : Slot) → SendsAs w p s → P p s
+sends-cases w P none talks silent leaves Free free sends = none
+sends-cases w P none talks silent leaves Free (connected c) sends = absurd sends
+sends-cases w P none talks silent leaves Free (leaving c) sends = absurd sends
+sends-cases w P none talks silent leaves (Talking d) free sends = absurd sends
+sends-cases w P none talks silent leaves (Talking d) (connected c) sends = talks d c sends
+sends-cases w P none talks silent leaves (Talking d) (leaving c) sends = absurd sends
+sends-cases w P none talks silent leaves (Leaving link) free sends = silent link sends
+sends-cases w P none talks silent leaves (Leaving link) (connected c) sends = absurd sends
+sends-cases w P none talks silent leaves (Leaving link) (leaving c) sends = leaves link c sends
 
 module _ (P : Place → Slot → Type 0) where
   -- what holds of the place at an index and its slot

@@ -12,14 +12,13 @@ use Rattle.ax25_link.proofs.Offered.{left_to_send, next_sending-Sends}
 use Rattle.ftl0_server.specs.Connection.Hearing.{with_end}
 use Rattle.ftl0_server.specs.AtPlace.{AllFit, PlaceFits}
 use Rattle.ftl0_server.specs.declared.place.Place.{Place}
-use Rattle.ftl0_server.specs.declared.place.Place.TheVariants.{Free, Talking, Leaving}
 use Rattle.ftl0_server.specs.Laws.{OneStepLaw, SlotFits, SlotsFit}
 use Rattle.ftl0_server.specs.Server.{Refused, Server, ServerSends, sends_by, sends_of_places, server_next, settled}
 use Rattle.ftl0_server.specs.ServerState.{AllPlaces, SendsAs, SendsFor, ServerState}
 use Rattle.ftl0_server.specs.ServerStep.{Empties}
 use Rattle.ftl0_server.specs.Slots.{PlacesSend, Slot, SlotSends, connected, first_of, free, leaving, places_next}
 use Rattle.ftl0_server.specs.Slots.{slot_next, slot_sends}
-use Rattle.ftl0_server.proofs.AllPlaces.{never}
+use Rattle.ftl0_server.proofs.AllPlaces.{never, sends-cases}
 
 -- ---- one list of frames
 
@@ -96,22 +95,14 @@ module _ (w : Window) where
   places-less (s ∷ ss) fits z sends =
       first-less s ss (slot_next w s) (places_next w ss) (slot-less s fits.0) (places-less ss fits.1) fits.0 fits.1 z sends
 
-  slot-fits : (p : Place) (s : Slot) → PlaceFits p → SendsAs w p s → SlotFits w s
-  slot-fits Free free fit sends = tt
-  slot-fits Free (connected c) fit sends = absurd sends
-  slot-fits Free (leaving c) fit sends = absurd sends
-  slot-fits (Talking d) free fit sends = absurd sends
-  slot-fits (Talking d) (connected c) fit sends = fit w c.end sends
-  slot-fits (Talking d) (leaving c) fit sends = absurd sends
-  slot-fits (Leaving link) free fit sends = tt
-  slot-fits (Leaving link) (connected c) fit sends = absurd sends
-  slot-fits (Leaving link) (leaving c) fit sends = fit w c.end sends
+  slot-fits : (p : Place) (s : Slot) → SendsAs w p s → PlaceFits p → SlotFits w s
+  slot-fits = sends-cases w (λ p s. PlaceFits p → SlotFits w s) (λ fit. tt) (λ d c stands fit. fit w c.end stands) (λ link none fit. tt) (λ link c stands fit. fit w c.end stands)
 
   slots-fit : (places : List Place) (slots : List Slot) → AllFit places → AllPlaces (SendsAs w) places slots → SlotsFit w slots
   slots-fit [] [] fit all = tt
   slots-fit [] (s ∷ ss) fit all = absurd all
   slots-fit (p ∷ ps) [] fit all = absurd all
-  slots-fit (p ∷ ps) (s ∷ ss) fit all = (slot-fits p s (fit 0 p refl) all.0, slots-fit ps ss (λ i here at. fit (suc i) here at) all.1)
+  slots-fit (p ∷ ps) (s ∷ ss) fit all = (slot-fits p s all.0 (fit 0 p refl), slots-fit ps ss (λ i here at. fit (suc i) here at) all.1)
 
 -- how many are left of a server
 abbrev pub server_left : Server → ℕ

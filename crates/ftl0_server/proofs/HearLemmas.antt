@@ -38,7 +38,7 @@ use Rattle.ftl0_server.specs.ServerState.{AllPlaces, IsServer, SaysAs, SendsAs, 
 use Rattle.ftl0_server.specs.ServerState.{has_caller, is_empty_place, place_pending}
 use Rattle.ftl0_server.specs.Slots.{Slot, connected, first_empty, free, is_callers, is_empty, leaving, place_of}
 use Rattle.ftl0_server.specs.Slots.{slot_after}
-use Rattle.ftl0_server.proofs.AllPlaces.{all-both, all-get, all-set, all-to, never, same-position}
+use Rattle.ftl0_server.proofs.AllPlaces.{all-both, all-get, all-set, all-to, never, same-position, sends-cases}
 use Rattle.ftl0_server.proofs.NextLemmas.{none_first}
 use Rattle.ftl0_server.proofs.TickLemmas.{all-works, own-only}
 
@@ -108,16 +108,9 @@ module _ (self : ServerState) (server : Server) (is : IsServer self server) wher
 
   same-caller : (caller : CallSign) (p : Place) (s : Slot) → ((c : ConnectionState) → p ≡ Talking c → c.link.peer ≡ caller_of c.session)
       → SendsAs server.window p s → has_caller caller p ≡ is_callers caller s
-  same-caller caller Free free peer sends = refl
-  same-caller caller Free (connected d) peer sends = absurd sends
-  same-caller caller Free (leaving d) peer sends = absurd sends
-  same-caller caller (Talking c) free peer sends = absurd sends
-  same-caller caller (Talking c) (connected d) peer sends =
-      ap (λ (x : CallSign). is_same_call x caller) (sym (peer c refl) ∙ ap (λ (k : Kept). k.peer) sends.kept)
-  same-caller caller (Talking c) (leaving d) peer sends = absurd sends
-  same-caller caller (Leaving link) free peer sends = refl
-  same-caller caller (Leaving link) (connected d) peer sends = absurd sends
-  same-caller caller (Leaving link) (leaving d) peer sends = refl
+  same-caller caller p s peer sends =
+      sends-cases server.window (λ p s. ((c : ConnectionState) → p ≡ Talking c → c.link.peer ≡ caller_of c.session) → has_caller caller p ≡ is_callers caller s) (λ peer. refl)
+      (λ d c stands peer. ap (λ (x : CallSign). is_same_call x caller) (sym (peer d refl) ∙ ap (λ (k : Kept). k.peer) stands.kept)) (λ link none peer. refl) (λ link c stands peer. refl) p s sends peer
 
   -- the caller's place
   pub same-place_of : (me : CallSign) (k : ℕ) → IsSettled me k self.store self.places → (caller : CallSign)
@@ -129,15 +122,8 @@ module _ (self : ServerState) (server : Server) (is : IsServer self server) wher
       is.sends.links)
 
   same-empty : (p : Place) (s : Slot) → SendsAs server.window p s → is_empty_place p ≡ is_empty s
-  same-empty Free free sends = refl
-  same-empty Free (connected d) sends = absurd sends
-  same-empty Free (leaving d) sends = absurd sends
-  same-empty (Talking c) free sends = absurd sends
-  same-empty (Talking c) (connected d) sends = refl
-  same-empty (Talking c) (leaving d) sends = absurd sends
-  same-empty (Leaving link) free sends = refl
-  same-empty (Leaving link) (connected d) sends = absurd sends
-  same-empty (Leaving link) (leaving d) sends = refl
+  same-empty =
+      sends-cases server.window (λ p s. is_empty_place p ≡ is_empty s) refl (λ d c stands. refl) (λ link none. refl) (λ link c stands. refl)
 
   -- the lowest free place
   pub same-first_empty : position is_empty_place self.places ≡ first_empty server.slots

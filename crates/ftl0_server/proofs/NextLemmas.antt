@@ -16,9 +16,9 @@ use Rattle.ftl0_server.specs.Places.{GivesOut, PlacesGive, SamePlace}
 use Rattle.ftl0_server.specs.declared.place.Place.{Place}
 use Rattle.ftl0_server.specs.declared.place.Place.TheVariants.{Free, Talking, Leaving}
 use Rattle.ftl0_server.specs.ServerState.{AllPlaces, SendsAs, any_pending, place_most, place_pending, places_most}
-use Rattle.ftl0_server.specs.Slots.{PlacesSend, Slot, SlotSends, connected, first_of, free, leaving, places_next}
+use Rattle.ftl0_server.specs.Slots.{PlacesSend, Slot, SlotSends, connected, first_of, leaving, places_next}
 use Rattle.ftl0_server.specs.Slots.{slot_next, slot_sends}
-use Rattle.ftl0_server.proofs.AllPlaces.{never}
+use Rattle.ftl0_server.proofs.AllPlaces.{never, sends-cases}
 
 pub true_no : {X : Type 0} → true ≡ false → X
 true_no same = absurd (let x : ⊥ = cc in x)
@@ -55,17 +55,10 @@ pub quiet-link : (w : Window) (link : Kept) (end : LinkEnd) → StandsFor w link
 quiet-link w link end stands none = quiet-end w end (ap (λ (x : Kept). is_pending x) (sym stands.kept) ∙ none)
 
 pub quiet-slot : (w : Window) (place : Place) (slot : Slot) → SendsAs w place slot → place_pending place ≡ false → slot_next w slot ≡ None
-quiet-slot w Free free sends none = refl
-quiet-slot w Free (connected c) sends none = absurd sends
-quiet-slot w Free (leaving c) sends none = absurd sends
-quiet-slot w (Talking connection) free sends none = absurd sends
-quiet-slot w (Talking connection) (connected c) sends none =
-    ap (λ (o : Option Sending). option_map (slot_sends (λ end. connected (with_end c end))) o) (quiet-link w connection.link c.end sends none)
-quiet-slot w (Talking connection) (leaving c) sends none = absurd sends
-quiet-slot w (Leaving link) free sends none = refl
-quiet-slot w (Leaving link) (connected c) sends none = absurd sends
-quiet-slot w (Leaving link) (leaving c) sends none =
-    ap (λ (o : Option Sending). option_map (slot_sends (λ end. leaving (with_end c end))) o) (quiet-link w link c.end sends none)
+quiet-slot w =
+    sends-cases w (λ place slot. place_pending place ≡ false → slot_next w slot ≡ None) (λ none. refl)
+    (λ d c stands none. ap (λ (o : Option Sending). option_map (slot_sends (λ end. connected (with_end c end))) o) (quiet-link w d.link c.end stands none)) (λ link silent none. refl)
+    (λ link c stands none. ap (λ (o : Option Sending). option_map (slot_sends (λ end. leaving (with_end c end))) o) (quiet-link w link c.end stands none))
 
 -- neither the first nor the others
 pub none_first : (a b : Bool) → (a || b) ≡ false → (a ≡ false) × (b ≡ false)

@@ -26,7 +26,7 @@ use Rattle.ftl0_server.specs.ServerState.{AllPlaces, IsServer, SaysAs, SendsAs, 
 use Rattle.ftl0_server.specs.ServerState.{place_pending}
 use Rattle.ftl0_server.specs.Slots.{PlacesSend, Slot, SlotSends, connected, first_of, free, freed, leaving, places_next}
 use Rattle.ftl0_server.specs.Slots.{slot_next, slot_sends}
-use Rattle.ftl0_server.proofs.AllPlaces.{never}
+use Rattle.ftl0_server.proofs.AllPlaces.{never, sends-cases}
 use Rattle.ftl0_server.proofs.NextLemmas.{none_first}
 
 -- the DM to a station without a connection goes out
@@ -156,16 +156,9 @@ module _ (old new : ServerState) (server : Server) (before now : List ℕ) (answ
 
 -- ---- nothing is pending
 
-freed-sends : (w : Window) (p : Place) (s : Slot) → place_pending p ≡ false → SendsAs w p s → SendsAs w p (freed s)
-freed-sends w Free free none sends = tt
-freed-sends w Free (connected c) none sends = sends
-freed-sends w Free (leaving c) none sends = tt
-freed-sends w (Talking d) free none sends = sends
-freed-sends w (Talking d) (connected c) none sends = sends
-freed-sends w (Talking d) (leaving c) none sends = sends
-freed-sends w (Leaving link) free none sends = none
-freed-sends w (Leaving link) (connected c) none sends = sends
-freed-sends w (Leaving link) (leaving c) none sends = none
+freed-sends : (w : Window) (p : Place) (s : Slot) → SendsAs w p s → place_pending p ≡ false → SendsAs w p (freed s)
+freed-sends w =
+    sends-cases w (λ p s. place_pending p ≡ false → SendsAs w p (freed s)) (λ none. tt) (λ d c stands none. stands) (λ link silent none. none) (λ link c stands none. none)
 
 freed-says : (store : StoreState) (p : Place) (s : Slot) → SaysAs store p s → SaysAs store p (freed s)
 freed-says store Free s says = tt
@@ -181,7 +174,7 @@ all-freed-sends w [] (s ∷ ss) none all = absurd all
 all-freed-sends w (p ∷ ps) [] none all = absurd all
 all-freed-sends w (p ∷ ps) (s ∷ ss) none all =
     let parts = none_first (place_pending p) (any_pending ps) none in
-    (freed-sends w p s parts.0 all.0, all-freed-sends w ps ss parts.1 all.1)
+    (freed-sends w p s all.0 parts.0, all-freed-sends w ps ss parts.1 all.1)
 
 all-freed-says : (store : StoreState) (places : List Place) (slots : List Slot) → AllPlaces (SaysAs store) places slots → AllPlaces (SaysAs store) places (map freed slots)
 all-freed-says store [] [] all = tt

@@ -1,5 +1,4 @@
 mod AnswerLemmas
-mod DoingLemmas
 mod DueLemmas
 mod FailureLemmas
 mod FeedLemmas
@@ -8,5 +7,4 @@ mod HearsLemmas
 mod Invariants
 mod OctetsLemmas
 pub mod QueuingLemmas
-mod StartLemmas
 mod TakingLemmas

@@ -1,8 +1,8 @@
 -- A link that carries packets as contracts see it, and what its calls do.
-use Rattle.std.specs.Prelude.{◌≡◌, ℕ, ◌<◌, List, [], ◌∷◌, ◌++◌, length, IsTrue}
+use Rattle.std.specs.Prelude.{◌≡◌, ℕ, ◌<◌, List, [], ◌∷◌, ◌++◌, length, Bool, false, true, IsTrue}
 use Rattle.px_base.specs.Octets.{IsOctets}
 use Rattle.ax25_link.specs.Ends.{LinkEnd}
-use Rattle.ax25_link.specs.Kept.{Kept, StandsFor}
+use Rattle.ax25_link.specs.Kept.{GivesNext, Kept, SameStations, StandsFor, is_pending, most_pending}
 use Rattle.ax25_link.specs.Window.{Window}
 use Rattle.ax25_link.specs.declared.state.Heard.{Heard}
 use Rattle.ax25_link.specs.declared.state.Heard.TheVariants.{Closed}
@@ -34,6 +34,21 @@ pub record IsWaiting (octets : List ℕ) : Type 0 where
 -- the link isn't down by what was told
 abbrev pub IsOpen : Heard → Type 0
 IsOpen told = (reason : Why) → told ≡ Closed reason → ⊥
+
+-- its stations stay, and what its reader has
+pub record KeepsReader (old new : PacketLinkState) : Type 0 where
+  pub stations : SameStations old.link new.link
+  pub reader : new.reader ≡ old.reader
+
+-- Of what has a link a frame is given out exactly where one is pending, the octets of the frame that is sent next, and
+-- fewer are left; else nothing changes. The state stays.
+pub record GivesFrame {S : Type 0} (link : S → Kept) (old new : S) (before after : List ℕ) (answer : Bool) : Type 0
+  where
+    pub pending : answer ≡ is_pending (link old)
+    pub none : answer ≡ false → (new ≡ old) × (after ≡ before)
+    pub fewer : answer ≡ true → most_pending (link new) < most_pending (link old)
+    pub next : GivesNext (link old) (link new) before after answer
+    pub state : (link new).state ≡ (link old).state
 
 -- These packets are at the front of the octets before, and the octets after are behind them: the packets and the rest
 -- of those before are these packets and those of the octets after, and their rest.

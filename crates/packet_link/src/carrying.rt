@@ -5,15 +5,16 @@ ghost use Rattle.ax25_frames.specs.Values.{value_of};
 ghost use Rattle.ax25_link.specs.Air.{is_information};
 ghost use Rattle.ax25_link.specs.Calls.{after_abandon, after_hang_up, after_push};
 ghost use Rattle.ax25_link.specs.Ends.{answering_end, calling_end, free_octets};
-ghost use Rattle.ax25_link.specs.Kept.{Fits, GivesNext, HasStations, IsFromPeer, SameStations, StandsFor, Steps, Tells};
-ghost use Rattle.ax25_link.specs.Kept.{is_pending, most_pending};
+ghost use Rattle.ax25_link.specs.Kept.{Fits, HasStations, IsFromPeer, StandsFor, Steps, Tells};
+ghost use Rattle.ax25_link.specs.Kept.{is_pending};
 ghost use Rattle.ax25_link.specs.Queue.{room_of};
 ghost use Rattle.ax25_link.specs.Rows.{after_frame, heard_of};
 ghost use Rattle.ax25_link.specs.Timer.{after_tick, told_of_tick};
 ghost use Rattle.ax25_link.specs.Window.{IsGoodK, window_of};
 ghost use Rattle.ftl0_packets.specs.Reading.{is_whole, read_item};
 ghost use Rattle.ftl0_packets.specs.Values.{item_of};
-ghost use Rattle.packet_link.specs.PacketLink.{FindsNone, FindsPacket, IsOpen, StandsForSome, octets_in};
+ghost use Rattle.packet_link.specs.PacketLink.{FindsNone, FindsPacket, GivesFrame, IsOpen, KeepsReader};
+ghost use Rattle.packet_link.specs.PacketLink.{PacketLinkState as LinkValue, StandsForSome, octets_in};
 ghost use Rattle.packet_link.specs.Queuing.{enough_free};
 
 use arrayvec::ArrayVec;
@@ -97,8 +98,7 @@ impl PacketLink {
         ensures bytes { result ≡ Heard.Bytes → IsTrue (is_information (value_of frame.now).kind.control) }
         ensures next { result ≡ Heard.Bytes → self.new.link.state ≡ LinkState.Up }
         ensures up { self.old.link.state ≡ LinkState.Up → IsOpen result → self.new.link.state ≡ LinkState.Up }
-        ensures stations { SameStations self.old.link self.new.link }
-        ensures reader { self.new.reader ≡ self.old.reader }
+        ensures keeps { KeepsReader self.old self.new }
     {
         self.link.take(frame)
     }
@@ -155,8 +155,7 @@ impl PacketLink {
         ensures fewer { 0 < length octets.now → 0 < room_of self.old.link.queue →
             room_of self.new.link.queue < room_of self.old.link.queue }
         ensures up { self.new.link.state ≡ LinkState.Up }
-        ensures stations { SameStations self.old.link self.new.link }
-        ensures reader { self.new.reader ≡ self.old.reader }
+        ensures keeps { KeepsReader self.old self.new }
     {
         let _count = self.link.push(octets);
     }
@@ -176,8 +175,7 @@ impl PacketLink {
         ensures after { Steps self.old.link self.new.link (λ w end. after_tick end) }
         ensures told { Tells self.old.link (λ w end. told_of_tick end) result }
         ensures up { self.old.link.state ≡ LinkState.Up → result ≡ None → self.new.link.state ≡ LinkState.Up }
-        ensures stations { SameStations self.old.link self.new.link }
-        ensures reader { self.new.reader ≡ self.old.reader }
+        ensures keeps { KeepsReader self.old self.new }
     {
         self.link.tick()
     }
@@ -186,8 +184,7 @@ impl PacketLink {
     pub fn hang_up(&mut self)
         requires { self.old.link.state ≡ LinkState.Up }
         ensures after { Steps self.old.link self.new.link (λ w end. after_hang_up end) }
-        ensures stations { SameStations self.old.link self.new.link }
-        ensures reader { self.new.reader ≡ self.old.reader }
+        ensures keeps { KeepsReader self.old self.new }
     {
         self.link.hang_up();
     }
@@ -196,8 +193,7 @@ impl PacketLink {
     pub fn abandon(&mut self)
         requires { self.old.link.state ≡ LinkState.Up }
         ensures after { Steps self.old.link self.new.link (λ w end. after_abandon end) }
-        ensures stations { SameStations self.old.link self.new.link }
-        ensures reader { self.new.reader ≡ self.old.reader }
+        ensures keeps { KeepsReader self.old self.new }
     {
         self.link.abandon();
     }
@@ -205,13 +201,9 @@ impl PacketLink {
     /// Replaces `out` by the octets of the next pending frame, which is then sent. It is false, and changes nothing,
     /// exactly where nothing is pending. Takes no memory.
     pub fn next_out(&mut self, out: &mut ArrayVec<u8, 400>) -> bool
-        ensures pending { result ≡ is_pending self.old.link }
-        ensures none { result ≡ false → (self.new ≡ self.old) × (out.new.items ≡ out.old.items) }
-        ensures fewer { result ≡ true → most_pending self.new.link < most_pending self.old.link }
-        ensures next { GivesNext self.old.link self.new.link out.old.items out.new.items result }
-        ensures state { self.new.link.state ≡ self.old.link.state }
-        ensures stations { SameStations self.old.link self.new.link }
-        ensures reader { self.new.reader ≡ self.old.reader }
+        ensures gives { GivesFrame {S = LinkValue} (λ it. it.link) self.old self.new
+            out.old.items out.new.items result }
+        ensures keeps { KeepsReader self.old self.new }
     {
         self.link.next_out(out)
     }
@@ -241,8 +233,7 @@ impl PacketLink {
     /// A law, which does nothing: the link stands for some end, and whatever end it stands for is one that frames and
     /// ticks can bring about.
     pub fn stands_law(&self)
-        ensures some { StandsForSome self.now.link }
-        ensures fits { Fits self.now.link }
+        ensures { StandsForSome self.now.link × Fits self.now.link }
     {
         let _ = self.link.state();
     }

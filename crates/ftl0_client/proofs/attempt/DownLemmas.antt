@@ -27,12 +27,12 @@ use Rattle.ftl0_job.specs.Table.{JobState}
 use Rattle.ftl0_client.specs.Attempt.Attempted.{Attempted, outcome_by, outcome_of}
 use Rattle.ftl0_client.specs.Attempt.Hearing.{after_told, closing, hearing, packets_told, settling, ticking, with_end}
 use Rattle.ftl0_client.specs.Attempt.Laws.{IsToldDown, OutcomeLaw, StaysReached}
-use Rattle.ftl0_client.specs.Attempt.Settling.{is_all_free, is_later, parting_later}
+use Rattle.ftl0_client.specs.Attempt.Settling.{parting_later}
 use Rattle.ftl0_client.specs.Attempt.Settling.{queuing, settled}
 use Rattle.ftl0_client.specs.Attempt.Taking.{Happened, taking}
 use Rattle.ftl0_client.proofs.attempt.EndedLemmas.{stays-law}
 use Rattle.ftl0_client.proofs.attempt.TakingLemmas.{taking-keeps}
-use Rattle.ftl0_client.proofs.attempt.SettlingLemmas.{queuing-keeps}
+use Rattle.ftl0_client.proofs.attempt.SettlingLemmas.{settled-keeps}
 
 -- ---- the link is down where that is told
 
@@ -103,14 +103,8 @@ settled-still : (a : Attempted) → a.end.state ≡ Down → settled a ≡ a
 settled-still a is = ap (λ (s : LinkState). if is_up s then parting_later (queuing (free_octets a.end) a) else a) is
 
 -- why the link went down stays
-queuing-still : (count : ℕ) (a : Attempted) → (queuing count a).down ≡ a.down
-queuing-still count a = queuing-keeps (λ (now : Attempted). now.down ≡ a.down) (λ now due is same. same) count a refl
-
 settled-same : (a : Attempted) → (settled a).down ≡ a.down
-settled-same a =
-    let q : Attempted = queuing (free_octets a.end) a in
-    let later : (parting_later q).down ≡ q.down = cond_both (is_later q.job.ending && is_all_free q.end) _ _ (λ (now : Attempted). now.down ≡ q.down) (λ both. refl) (λ not_both. refl) in
-    cond_both (is_up a.end.state) _ _ (λ (now : Attempted). now.down ≡ a.down) (λ up. later ∙ queuing-still (free_octets a.end) a) (λ not_up. refl)
+settled-same a = settled-keeps (λ (now : Attempted). now.down ≡ a.down) (λ now due is same. same) (λ now same. same) a refl
 
 -- ---- what became of it
 

@@ -2,12 +2,9 @@
 use Rattle.std.proofs.Common.{◌≡◌, ℕ, Bool, true, false, List, [], ◌∷◌, ◌++◌, refl, ap, sym, ◌∙◌, subst}
 use Rattle.std.specs.Prelude.{Option, None, Some}
 use Rattle.std.specs.Option.{option_map}
-use Rattle.std.proofs.lemmas.Bool.{cond_both}
 use Rattle.ax25_frames.specs.FrameText.{FrameValue}
 use Rattle.ax25_link.specs.declared.state.Why.{Why}
-use Rattle.ax25_link.specs.Ends.{free_octets}
 use Rattle.ax25_link.specs.Rows.{after_frame, heard_of}
-use Rattle.ax25_link.specs.Timer.{is_up}
 use Rattle.ax25_link.specs.Window.{Window}
 use Rattle.ftl0_packets.specs.Items.{kind_of_item, texts}
 use Rattle.ftl0_packets.specs.Layout.{Item}
@@ -26,10 +23,10 @@ use Rattle.ftl0_job.specs.Table.{JobState, job_after, job_row, new_job, row_of}
 use Rattle.ftl0_client.specs.declared.attempt.outcome.AttemptOutcome.TheVariants.{Reached}
 use Rattle.ftl0_client.specs.Attempt.Attempted.{Attempted, outcome_by, outcome_of}
 use Rattle.ftl0_client.specs.Attempt.Hearing.{after_hearing, hearing, packets_heard, with_end}
-use Rattle.ftl0_client.specs.Attempt.Settling.{queuing, settled}
+use Rattle.ftl0_client.specs.Attempt.Settling.{settled}
 use Rattle.ftl0_client.specs.Attempt.Taking.{Happened, after_replies, answering, taking, taking_by, taking_one}
-use Rattle.ftl0_client.proofs.attempt.EndedLemmas.{parting-job, taking-ended, told-job}
-use Rattle.ftl0_client.proofs.attempt.SettlingLemmas.{queuing-keeps}
+use Rattle.ftl0_client.proofs.attempt.EndedLemmas.{taking-ended, told-job}
+use Rattle.ftl0_client.proofs.attempt.SettlingLemmas.{settled-keeps}
 
 -- ---- the end of the event
 
@@ -41,15 +38,9 @@ due-ending : (o : Option Ending) (doing : Work) (due : DuePacket JobState) → d
 due-ending None doing due is = mapped (work_due doing) due is
 due-ending (Some ending) doing due is = absurd (cc is)
 
-queuing-ending : (count : ℕ) (a : Attempted) → (queuing count a).job.ending ≡ a.job.ending
-queuing-ending count a =
-    queuing-keeps (λ (now : Attempted). now.job.ending ≡ a.job.ending) (λ now due is same. due-ending now.job.ending now.job.work due is ∙ same) count a refl
-
 settled-ending : (a : Attempted) → (settled a).job.ending ≡ a.job.ending
 settled-ending a =
-    let q : Attempted = queuing (free_octets a.end) a in
-    cond_both (is_up a.end.state) _ _ (λ (now : Attempted). now.job.ending ≡ a.job.ending)
-    (λ up. ap (λ (j : JobState). j.ending) (parting-job q) ∙ queuing-ending (free_octets a.end) a) (λ not_up. refl)
+    settled-keeps (λ (now : Attempted). now.job.ending ≡ a.job.ending) (λ now due is same. due-ending now.job.ending now.job.work due is ∙ same) (λ now same. same) a refl
 
 reached-by : (o : Option Ending) (down : Option Why) (of : Outcome) → outcome_by o down ≡ Some (Reached of) → (e : Ending) × (o ≡ Some e) × (e.outcome ≡ of)
 reached-by None None of is = absurd (cc is)

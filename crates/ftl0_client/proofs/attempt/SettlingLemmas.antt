@@ -2,6 +2,7 @@
 use Rattle.std.proofs.Common.{◌≡◌, inl, inr, ℕ, ◌<◌, ◌≤◌, Bool, true, false, ◌&&◌, List, refl, subst, sym, arith}
 use Rattle.std.specs.Prelude.{Option, None, Some, if◌then◌else◌}
 use Rattle.std.proofs.lemmas.Bool.{cond_both}
+use Rattle.ax25_link.specs.Calls.{after_hang_up}
 use Rattle.ax25_link.specs.declared.state.LinkState.{LinkState}
 use Rattle.ax25_link.specs.Ends.{LinkEnd, free_octets}
 use Rattle.ax25_link.specs.Timer.{is_up}
@@ -14,7 +15,7 @@ use Rattle.ftl0_job.specs.Due.{DuePacket, PutsDue, due_by, next_due}
 use Rattle.ftl0_job.specs.Table.{JobState}
 use Rattle.ftl0_client.specs.Attempt.Attempted.{Attempted}
 use Rattle.ftl0_client.specs.Attempt.Laws.{IsQueued, QueuedLaw}
-use Rattle.ftl0_client.specs.Attempt.Settling.{after_due, is_all_free, is_later, parting_later, queuing}
+use Rattle.ftl0_client.specs.Attempt.Settling.{after_due, is_all_free, is_later, parting_later, queuing, settled}
 
 -- the packet that was put
 pub due-put : (due : Option (DuePacket JobState)) (job job_n : JobState) (out out_n : List ℕ) → PutsDue due true job job_n out out_n
@@ -37,6 +38,14 @@ due_of a = next_due a.job
 pub queuing-keeps : (Holds : Attempted → Type 0) → ((a : Attempted) (due : DuePacket JobState) → next_due a.job ≡ Some due → Holds a → Holds (after_due due a)) → (count : ℕ) (a : Attempted)
     → Holds a → Holds (queuing count a)
 queuing-keeps = filling-keeps end_of due_of after_due
+
+-- and at the end of the event, where it stands of each that is hung up too
+pub settled-keeps : (Holds : Attempted → Type 0) → ((a : Attempted) (due : DuePacket JobState) → next_due a.job ≡ Some due → Holds a → Holds (after_due due a))
+    → ((a : Attempted) → Holds a → Holds (record a { end = after_hang_up a.end })) → (a : Attempted) → Holds a → Holds (settled a)
+settled-keeps Holds each parts a here =
+    let q : Attempted = queuing (free_octets a.end) a in
+    let queued : Holds q = queuing-keeps Holds each (free_octets a.end) a here in
+    cond_both (is_up a.end.state) (parting_later q) a Holds (λ up. cond_both (is_later q.job.ending && is_all_free q.end) _ q Holds (λ both. parts q queued) (λ not_both. queued)) (λ down. here)
 
 -- a packet, and then the others
 pub queuing-next : (a : Attempted) (due : DuePacket JobState) → next_due a.job ≡ Some due → enough_free ≤ free_octets a.end

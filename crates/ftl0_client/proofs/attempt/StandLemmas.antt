@@ -1,13 +1,11 @@
 -- What stands of an attempt stands after each event, and once something became of it nothing more is noted.
 use Rattle.std.proofs.Common.{◌≡◌, ℕ, Bool, true, false, List, [], ◌∷◌, refl, ap, sym, ◌∙◌, subst}
 use Rattle.std.specs.Prelude.{Option, None, Some}
-use Rattle.std.proofs.lemmas.Bool.{cond_both}
 use Rattle.ax25_link.specs.declared.state.Heard.{Heard}
 use Rattle.ax25_link.specs.declared.state.Why.{Why}
-use Rattle.ax25_link.specs.Ends.{free_octets}
 use Rattle.ax25_link.specs.LinkStep.{heard_of_tick}
 use Rattle.ax25_link.specs.Rows.{after_frame, heard_of}
-use Rattle.ax25_link.specs.Timer.{after_tick, is_up, told_of_tick}
+use Rattle.ax25_link.specs.Timer.{after_tick, told_of_tick}
 use Rattle.ftl0_packets.specs.Items.{kind_of_item, texts}
 use Rattle.ftl0_packets.specs.Layout.{Item}
 use Rattle.packet_link.specs.Queuing.{fits}
@@ -27,12 +25,12 @@ use Rattle.ftl0_client.specs.Attempt.Attempted.{Attempted, outcome_by}
 use Rattle.ftl0_client.specs.Attempt.Hearing.{after_hearing, after_ticking, after_told, hearing, packets_heard}
 use Rattle.ftl0_client.specs.Attempt.Hearing.{packets_told, with_end}
 use Rattle.ftl0_client.specs.Attempt.Laws.{CallingLaw, QuietLaw, StandsLaw}
-use Rattle.ftl0_client.specs.Attempt.Settling.{queuing, settled}
+use Rattle.ftl0_client.specs.Attempt.Settling.{settled}
 use Rattle.ftl0_client.specs.Attempt.Taking.{Happened, after_replies, taking, taking_by, taking_one}
 use Rattle.ftl0_client.proofs.attempt.DownLemmas.{outcome-law, still-silent}
-use Rattle.ftl0_client.proofs.attempt.EndedLemmas.{parting-job, stays-law, told-job}
+use Rattle.ftl0_client.proofs.attempt.EndedLemmas.{stays-law, told-job}
 use Rattle.ftl0_client.proofs.attempt.ToldLemmas.{heard-told, ticked-told}
-use Rattle.ftl0_client.proofs.attempt.SettlingLemmas.{queuing-keeps}
+use Rattle.ftl0_client.proofs.attempt.SettlingLemmas.{settled-keeps}
 
 -- ---- packets
 
@@ -67,14 +65,8 @@ module _ (law : PromisesLaw) (asked : Work) where
 -- ---- the end of an event
 
 module _ (law : DueLaw) (asked : Work) (lists : Lists) where
-  queuing-stands : (count : ℕ) (a : Attempted) → JobStands asked lists a.job → JobStands asked lists (queuing count a).job
-  queuing-stands = queuing-keeps (λ (a : Attempted). JobStands asked lists a.job) (λ a due is stands. law asked lists a.job due stands is)
-
   settled-stands : (a : Attempted) → JobStands asked lists a.job → JobStands asked lists (settled a).job
-  settled-stands a stands =
-      let q : Attempted = queuing (free_octets a.end) a in
-      cond_both (is_up a.end.state) _ _ (λ (now : Attempted). JobStands asked lists now.job)
-      (λ up. subst (JobStands asked lists) (sym (parting-job q)) (queuing-stands (free_octets a.end) a stands)) (λ not_up. stands)
+  settled-stands = settled-keeps (λ (a : Attempted). JobStands asked lists a.job) (λ a due is stands. law asked lists a.job due stands is) (λ a stands. stands)
 
 -- ---- events
 

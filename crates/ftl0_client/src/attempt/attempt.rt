@@ -4,18 +4,20 @@ ghost use Rattle.std.specs.Prelude.{◌≡◌, ◌<◌, ◌++◌, false, true};
 ghost use Rattle.std.specs.Prelude.{IfOk, IsTrue, None, OnOk};
 ghost use Rattle.ax25_frames.specs.Values.{value_of};
 ghost use Rattle.ax25_link.specs.Ends.{LinkEnd, free_octets};
-ghost use Rattle.ax25_link.specs.Kept.{Fits, GivesNext, HasStations, IsFromPeer, SameStations, StandsFor, Steps};
+ghost use Rattle.ax25_link.specs.Kept.{Fits, HasStations, IsFromPeer, SameStations, StandsFor, Steps};
 ghost use Rattle.ax25_link.specs.Kept.{is_pending, most_pending};
 ghost use Rattle.ax25_link.specs.declared.state.LinkState.{LinkState};
 ghost use Rattle.ax25_link.specs.Window.{IsGoodK, Window, window_of};
 ghost use Rattle.ftl0_packets.specs.Items.{kind_of_item};
 ghost use Rattle.ftl0_packets.specs.Reading.{is_whole, read_item};
 ghost use Rattle.ftl0_packets.specs.Values.{item_of};
-ghost use Rattle.packet_link.specs.PacketLink.{octets_in};
+ghost use Rattle.packet_link.specs.PacketLink.{GivesFrame, KeepsReader, octets_in};
+ghost use Rattle.ftl0_client.specs.Calls.{SameJob};
 ghost use Rattle.client_notes.specs.Notes.{Lists};
 ghost use Rattle.ftl0_job.specs.JobState.{MayTake, NotesGoWith};
 ghost use Rattle.ftl0_job.specs.Table.{listing_of};
 ghost use Rattle.ftl0_client.specs.Attempt.Attempted.{Attempted, calling, outcome_by};
+ghost use Rattle.ftl0_client.specs.Attempt.AttemptState.{AttemptState as Carried};
 ghost use Rattle.ftl0_client.specs.Attempt.AttemptState.{Becomes, Hears, HearsBy, IsAttempt, IsSomeAttempt, LeavesFit};
 ghost use Rattle.ftl0_client.specs.Attempt.AttemptState.{PutsBy, is_closed, working};
 ghost use Rattle.ftl0_client.specs.Attempt.Feeding.{AnswersPacket, KeepsFit, KeepsUp, MayAnswer, QueuesNext};
@@ -134,15 +136,9 @@ impl Attempt {
     /// Replaces `out` by the octets of the next pending frame, which is then sent. It is false, and changes nothing,
     /// exactly where nothing is pending. Takes no memory.
     pub fn next_out(&mut self, out: &mut ArrayVec<u8, 400>) -> bool
-        ensures pending { result ≡ is_pending self.old.link }
-        ensures none { result ≡ false → (self.new ≡ self.old) × (out.new.items ≡ out.old.items) }
-        ensures fewer { result ≡ true → most_pending self.new.link < most_pending self.old.link }
-        ensures next { GivesNext self.old.link self.new.link out.old.items out.new.items result }
-        ensures job { self.new.job ≡ self.old.job }
-        ensures octets { self.new.octets ≡ self.old.octets }
-        ensures down { self.new.down ≡ self.old.down }
-        ensures state { self.new.link.state ≡ self.old.link.state }
-        ensures stations { SameStations self.old.link self.new.link }
+        ensures gives { GivesFrame {S = Carried} (λ it. it.link) self.old self.new
+            out.old.items out.new.items result }
+        ensures same { SameJob self.old self.new }
     {
         self.link.next_out(out)
     }
@@ -369,8 +365,7 @@ fn reply(link: &mut PacketLink, job: &mut Job, text: &[u8], kind: u8)
         RepliesAndParts kind text.now job.old job.new w end link.new.link }
     ensures up { job.new.ending ≡ None → link.new.link.state ≡ LinkState.Up }
     ensures notes_are { (lists : Lists) → NotesGoWith lists job.old → NotesGoWith lists job.new }
-    ensures stations { SameStations link.old.link link.new.link }
-    ensures reader { link.new.reader ≡ link.old.reader }
+    ensures keeps { KeepsReader link.old link.new }
 {
     queue_replies(link, job, text, kind);
     hang_up_at_once(link, job.ending());
@@ -384,8 +379,7 @@ fn queue_replies(link: &mut PacketLink, job: &mut Job, text: &[u8], kind: u8)
         HasReplied kind text.now job.old job.new w end link.new.link }
     ensures notes_are { (lists : Lists) → NotesGoWith lists job.old → NotesGoWith lists job.new }
     ensures up { link.new.link.state ≡ LinkState.Up }
-    ensures stations { SameStations link.old.link link.new.link }
-    ensures reader { link.new.reader ≡ link.old.reader }
+    ensures keeps { KeepsReader link.old link.new }
 {
     if text.len() > link.free() {
         job.lose_reply(kind);
@@ -399,8 +393,7 @@ fn hang_up_at_once(link: &mut PacketLink, ending: Option<Ending>)
     requires { link.old.link.state ≡ LinkState.Up }
     ensures parts { Steps link.old.link link.new.link (λ w end. parting ending end) }
     ensures stays { ending ≡ None → link.new ≡ link.old }
-    ensures stations { SameStations link.old.link link.new.link }
-    ensures reader { link.new.reader ≡ link.old.reader }
+    ensures keeps { KeepsReader link.old link.new }
 {
     if let Some(ending) = ending {
         if !ending.later {

@@ -11,12 +11,12 @@ use Rattle.ax25_link.specs.Window.{Window}
 use Rattle.ftl0_packets.specs.Layout.{Item}
 use Rattle.ftl0_session.specs.Lists.Lists.{CallerList}
 use Rattle.file_store.specs.Calls.{Leaves}
-use Rattle.file_store.specs.Command.{after_all}
+use Rattle.file_store.specs.Command.{Command, after_all}
 use Rattle.file_store.specs.Store.{Store}
 use Rattle.file_store.specs.OnDisk.{MakesFirst}
 use Rattle.file_store.specs.State.{StoreState, store_in}
 use Rattle.file_store.specs.Working.{CutsOffAmongReads, DoesAmongReads}
-use Rattle.file_store.proofs.Offered.{among-then, cuts-among-all, cuts-among-then}
+use Rattle.file_store.proofs.Offered.{among-then, cuts-among-all, cuts-among-then, makes-first, makes-within, told_weaker, weaker}
 use Rattle.ftl0_session.specs.Uploads.Failures.{Failure, failed_reads, failed_write, write_fails}
 use Rattle.ftl0_session.specs.declared.stop.ServerStop.{ServerStop}
 use Rattle.ftl0_session.specs.declared.stop.ServerStop.TheVariants as stop
@@ -29,12 +29,21 @@ use Rattle.ftl0_server.specs.Connection.ConnectionState.{with_reads}
 use Rattle.ftl0_server.specs.Connection.Feeding.{HearsParts, IsAmong, IsGoing, TakesPackets}
 use Rattle.ftl0_server.specs.Connection.Hearing.{Happened, progressed}
 use Rattle.ftl0_server.specs.Connection.Taking.{Halt, Progress, fails, goes_on, taking}
-use Rattle.ftl0_server.proofs.connection.DoingLemmas.{leaves-front}
 use Rattle.ftl0_server.proofs.connection.FailureLemmas.{AreWrites, alike-first, alike-second, none-writes, one-writes}
 use Rattle.ftl0_server.proofs.connection.FailureLemmas.{other-part, reads-among, same-part, writes-none}
 use Rattle.ftl0_server.proofs.connection.TakingLemmas.{IsFront, behind, front-part, goes_from, going, is_going}
 use Rattle.ftl0_server.proofs.connection.TakingLemmas.{taking-alike, taking-begins, taking-ended, taking-failed}
 use Rattle.ftl0_server.proofs.connection.TakingLemmas.{taking-fails, taking-on, taking-part}
+
+-- the first of some commands, for some number of them, are the first of more commands
+pub leaves-front : {D : Type 0} (g : Ghosts D) (store : Store) (disk disk_n : D) (front all : List Command) → IsFront front all → Leaves g disk disk_n (λ _. MakesFirst store front)
+    → Leaves g disk disk_n (λ _. MakesFirst store all)
+leaves-front g store disk disk_n front all h leaves =
+    let sum : length (front ++ h.0) ≡ length front + length h.0 = length-append front h.0 in
+    subst (λ (commands : List Command). Leaves g disk disk_n (λ _. MakesFirst store commands)) (sym h.1)
+    (told_weaker (g.content disk) _ _ (λ before told left.
+    weaker g.moment g.images_since disk disk_n (MakesFirst store front) (MakesFirst store (front ++ h.0))
+    (λ image here. makes-within 0 (length front) 0 (length (front ++ h.0)) store (front ++ h.0) image (omega arith) (omega (arith, sum)) (makes-first 0 (length front) store front h.0 image (omega arith) here)) left) leaves)
 
 -- whether more is taken, by its parts
 pub going-on : (progress : Progress) → progress.over ≡ false → progress.halt ≡ goes_on → going progress ≡ true

@@ -4,7 +4,7 @@ ghost use Rattle.std.specs.Prelude.{◌≡◌, ◌<◌, ◌↔◌, ℕ, [], ◌�
 ghost use Rattle.std.specs.Prelude.{IfOk, IsTrue, None};
 ghost use Rattle.ax25_frames.specs.Values.{value_of};
 ghost use Rattle.ax25_link.specs.Ends.{LinkEnd};
-ghost use Rattle.ax25_link.specs.Kept.{Fits, GivesNext, HasStations, IsFromPeer, SameStations, StandsFor, Steps};
+ghost use Rattle.ax25_link.specs.Kept.{Fits, HasStations, IsFromPeer, SameStations, StandsFor, Steps};
 ghost use Rattle.ax25_link.specs.Kept.{Tells, is_pending, most_pending};
 ghost use Rattle.ax25_link.specs.declared.state.LinkState.{LinkState};
 ghost use Rattle.ax25_link.specs.Window.{IsGoodK, Window, window_of};
@@ -16,14 +16,16 @@ ghost use Rattle.ftl0_session.specs.Uploads.SessionState.{IsHeld, IsOnlyOut, NoO
 ghost use Rattle.ftl0_session.specs.Downloads.Needs.{IsDueIn};
 ghost use Rattle.ftl0_session.specs.SessionState.{MayTake as SessionMayTake, caller_of, new_session, state_in};
 ghost use Rattle.ftl0_server.specs.Connection.Connected.{Connected, answering, beginning, greeted};
-ghost use Rattle.ftl0_server.specs.Connection.ConnectionState.{Hears, IsConnection, StandsAfter};
+ghost use Rattle.ftl0_server.specs.Connection.ConnectionState.{ConnectionState as Carried, Hears, IsConnection};
+ghost use Rattle.ftl0_server.specs.Connection.ConnectionState.{StandsAfter};
 ghost use Rattle.ftl0_server.specs.Connection.ConnectionState.{is_over};
 ghost use Rattle.ftl0_server.specs.Connection.Feeding.{FeedsAll, HearsParts, IsGoing, KeepsFit, LeavesFit, MayTake};
 ghost use Rattle.ftl0_server.specs.Connection.Feeding.{QueuesDue};
 ghost use Rattle.ftl0_server.specs.Connection.Feeding.{QueuesNext, TakesPackets, carrying};
 ghost use Rattle.ftl0_server.specs.Connection.Hearing.{hearing, parts_of_frame, rest_of_frame, ticking};
 ghost use Rattle.ftl0_server.specs.Connection.Taking.{replied};
-ghost use Rattle.packet_link.specs.PacketLink.{octets_in};
+ghost use Rattle.packet_link.specs.PacketLink.{GivesFrame, KeepsReader, octets_in};
+ghost use Rattle.ftl0_server.specs.Places.{SameTalk};
 ghost use Rattle.packet_link.specs.Queuing.{fits};
 
 use crate::connection::Fate;
@@ -146,14 +148,9 @@ impl Connection {
     /// Replaces `out` by the octets of the next pending frame, which is then sent. It is false, and changes nothing,
     /// exactly where nothing is pending. Takes no memory.
     pub fn next_out(&mut self, out: &mut ArrayVec<u8, 400>) -> bool
-        ensures pending { result ≡ is_pending self.old.link }
-        ensures none { result ≡ false → (self.new ≡ self.old) × (out.new.items ≡ out.old.items) }
-        ensures fewer { result ≡ true → most_pending self.new.link < most_pending self.old.link }
-        ensures next { GivesNext self.old.link self.new.link out.old.items out.new.items result }
-        ensures session { self.new.session ≡ self.old.session }
-        ensures octets { self.new.octets ≡ self.old.octets }
-        ensures state { self.new.link.state ≡ self.old.link.state }
-        ensures stations { SameStations self.old.link self.new.link }
+        ensures gives { GivesFrame {S = Carried} (λ it. it.link) self.old self.new
+            out.old.items out.new.items result }
+        ensures same { SameTalk self.old self.new }
     {
         self.link.next_out(out)
     }
@@ -357,8 +354,7 @@ fn greet(link: &mut PacketLink, caller: Call, moment: u32, lists: &Lists) -> Ses
     ensures session { result ≡ new_session caller }
     ensures queued { Steps link.old.link link.new.link (λ w end. greeted end moment (has_left lists.now caller)) }
     ensures up { link.new.link.state ≡ LinkState.Up }
-    ensures stations { SameStations link.old.link link.new.link }
-    ensures reader { link.new.reader ≡ link.old.reader }
+    ensures keeps { KeepsReader link.old link.new }
 {
     let mut replies = Replies::new();
     let session = Session::new(caller, moment, lists, &mut replies);
@@ -372,8 +368,7 @@ fn reply(link: &mut PacketLink, text: &[u8]) -> Fate
     ensures queued { Steps link.old.link link.new.link (λ w end. replied end text.now) }
     ensures over { Tells link.old.link (λ w end. not (fits end text.now)) (is_over result) }
     ensures up { result ≡ Fate.Stays → link.new.link.state ≡ LinkState.Up }
-    ensures stations { SameStations link.old.link link.new.link }
-    ensures reader { link.new.reader ≡ link.old.reader }
+    ensures keeps { KeepsReader link.old link.new }
 {
     if text.len() > link.free() {
         link.abandon();

@@ -31,7 +31,7 @@ returns-in-Ok-clause-fit g c =
       fit = record { stands_on = c.in-Ok.ensures.stands_on; held = c.in-Ok.ensures.held; only = c.in-Ok.ensures.only; due = c.in-Ok.ensures.due; complete = c.in-Ok.ensures.complete };
       up = c.reply.ensures.up;
       caller = c.in-Ok.ensures.caller;
-      stations = c.reply.ensures.stations;
+      stations = c.reply.ensures.keeps.stations;
     }
 
 pub returns-in-Err-Disk-clause-takes : goal.returns-in-Err-Disk-clause-takes
@@ -61,7 +61,7 @@ returns-in-Err-Disk-clause-fit g c =
           };
       up = λ stays. absurd cc;
       caller = c.in-Err-Disk.ensures.caller;
-      stations = c.reply-in-Err-Disk.ensures.stations;
+      stations = c.reply-in-Err-Disk.ensures.keeps.stations;
     }
 
 pub returns-in-Err-OutOfMemory-clause-takes : goal.returns-in-Err-OutOfMemory-clause-takes

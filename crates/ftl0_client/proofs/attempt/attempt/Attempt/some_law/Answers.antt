@@ -5,4 +5,4 @@ use Rattle.ftl0_client.proofs.attempt.SomeLemmas.{some-attempt}
 use Rattle.ftl0_client.proofs.attempt.attempt.Attempt.some_law.Goals as goal
 
 pub returns : goal.returns
-returns c = subst IsSomeAttempt c.self.view_is (some-attempt (attempt_state c.self.inside) c.stands_law.ensures.some)
+returns c = subst IsSomeAttempt c.self.view_is (some-attempt (attempt_state c.self.inside) c.stands_law.ensures.0)

@@ -32,13 +32,13 @@ returns-in-Bytes-clause-hears g c =
     subst P c.self.view_is (λ w a is.
     hears-told g.D.Disk w frame c.args.notes.now c.take_packets.new.notes c.args.disk.now c.take_packets.new.disk (attempt_state s) now Bytes c.take_packets.result c.in-Bytes.ensures.heard a is
     (hears-octets g.D.Disk w mid now (with_end a (after_frame w a.end frame))
-    (record { link = c.in-Bytes.ensures.after w a.end is.link; rest = ap under_way c.in-Bytes.ensures.reader ∙ is.rest; job = is.job; down = is.down }) frame.kind.information c.args.notes.now
+    (record { link = c.in-Bytes.ensures.after w a.end is.link; rest = ap under_way c.in-Bytes.ensures.keeps.reader ∙ is.rest; job = is.job; down = is.down }) frame.kind.information c.args.notes.now
     c.take_packets.new.notes c.args.disk.now c.take_packets.new.disk refl c.take_packets.result takes))
 
 pub returns-in-Bytes-clause-puts : goal.returns-in-Bytes-clause-puts
 returns-in-Bytes-clause-puts g c =
     let s = c.self.inside in
-    let some = c.stands_law.ensures.some in
+    let some = c.stands_law.ensures.0 in
     let mid = attempt_state (record { link = c.take.new.self; job = s.job; down = s.down }) in
     let now = attempt_state (record { link = c.take_packets.new.link; job = c.take_packets.new.job; down = s.down }) in
     let a : Attempted = record { end = some.end; rest = mid.octets; job = s.job; down = s.down } in

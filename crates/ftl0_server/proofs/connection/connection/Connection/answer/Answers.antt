@@ -10,6 +10,6 @@ pub returns-clause-connection : goal.returns-clause-connection
 returns-clause-connection c store =
     record {
       link = c.greet-session.ensures.queued (window_of c.args.k) (answering_end c.args.me c.args.caller c.args.poll) c.in_ok-link.ensures.end;
-      rest = ap under_way c.greet-session.ensures.reader ∙ c.in_ok-link.ensures.octets;
+      rest = ap under_way c.greet-session.ensures.keeps.reader ∙ c.in_ok-link.ensures.octets;
       state = ap (state_in store) c.greet-session.ensures.session;
     }

@@ -88,7 +88,7 @@ returns-clause-keeps g c =
       stands_on = subst (λ (s : StoreState). StandsOn g.D.Disk s c.fill.new.disk) c.fill.ensures.store c.fill.ensures.stands_on;
       due = subst (λ (s : StoreState). IsDueIn (store_in s) c.fill.new.self.downloads) c.fill.ensures.store c.fill.ensures.due;
       uploads = c.fill.ensures.uploads;
-      octets = ap under_way c.push.ensures.reader;
+      octets = ap under_way c.push.ensures.keeps.reader;
       up = c.push.ensures.up;
-      stations = c.push.ensures.stations;
+      stations = c.push.ensures.keeps.stations;
     })

@@ -38,7 +38,7 @@ returns-in-Nothing-clause-hears g c =
     (parts-quiet g.D.Disk w c.args.moment frame c.args.store.now c.args.store.now c.args.lists.now c.args.lists.now c.args.disk.now c.args.disk.now now (Stays, Ok tt) c.take.result d
     (after_frame w d.end frame) frame.kind.information c.in-Nothing.is
     (parts-on g.D.Disk g.met.D.Disk.lasts_same w d.rest (after_frame w d.end frame) d.state c.args.lists.now c.args.store.now c.args.store.now c.args.disk.now now c.requires.may.healthy
-    c.requires.may.stands_on refl refl (record { link = c.take.ensures.after w d.end is.link; rest = ap under_way c.take.ensures.reader ∙ is.rest; state = is.state }))))
+    c.requires.may.stands_on refl refl (record { link = c.take.ensures.after w d.end is.link; rest = ap under_way c.take.ensures.keeps.reader ∙ is.rest; state = is.state }))))
 
 pub returns-in-Nothing-clause-fit : goal.returns-in-Nothing-clause-fit
 returns-in-Nothing-clause-fit g c =
@@ -52,7 +52,7 @@ returns-in-Nothing-clause-fit g c =
     c.take.ensures.up up (λ reason closed. elim c.in-Nothing.is [
       | inl is ↦ absurd (let same : Nothing ≡ Closed reason = sym is ∙ closed in cc)
       | inr is ↦ absurd (let same : Opened ≡ Closed reason = sym is ∙ closed in cc)
-    ])) c.take.ensures.stations) c.requires.may
+    ])) c.take.ensures.keeps.stations) c.requires.may
 
 pub returns-in-Reopened-clause-hears : goal.returns-in-Reopened-clause-hears
 returns-in-Reopened-clause-hears g c =
@@ -81,7 +81,7 @@ returns-in-Reopened-clause-fit g c =
     subst P c.self.view_is (λ may.
     fit-anew g.D.Disk c.args.store.now c.begin_anew.new.store c.args.disk.now c.args.lists.now a.link.link c.begin_anew.new.self.link a.session c.begin_anew.new.self.session
     (g.met.D.Disk.lasts_same c.args.disk.now) may parked.0 parked.1 c.begin_anew.ensures.session c.begin_anew.ensures.only c.begin_anew.ensures.others c.begin_anew.ensures.up
-    (stations-then a.link.link c.take.new.self.link c.begin_anew.new.self.link c.take.ensures.stations c.begin_anew.ensures.stations)) c.requires.may
+    (stations-then a.link.link c.take.new.self.link c.begin_anew.new.self.link c.take.ensures.keeps.stations c.begin_anew.ensures.stations)) c.requires.may
 
 pub returns-in-Bytes-clause-hears : goal.returns-in-Bytes-clause-hears
 returns-in-Bytes-clause-hears g c =
@@ -99,11 +99,11 @@ returns-in-Bytes-clause-hears g c =
     parts-told g.D.Disk w c.args.moment frame c.args.store.now c.take_packets.new.store c.args.lists.now c.take_packets.new.lists c.args.disk.now c.take_packets.new.disk now c.take_packets.result
     (connection_state a) Bytes c.in-Bytes.ensures.heard d is
     (parts-bytes g.D.Disk w c.args.moment frame c.args.store.now c.take_packets.new.store c.args.lists.now c.take_packets.new.lists c.args.disk.now c.take_packets.new.disk now c.take_packets.result d end
-    c.information.result.now frame.kind.information (same-peer w a.link.link c.take.new.self.link d.end end is.link stands c.take.ensures.stations.peer)
+    c.information.result.now frame.kind.information (same-peer w a.link.link c.take.new.self.link d.end end is.link stands c.take.ensures.keeps.stations.peer)
     (c.information.ensures (c.in-Bytes.ensures.bytes refl))
     (hears-all g.D.Disk g.met.D.Disk.lasts_on c.args.moment mid now c.information.result.now c.args.store.now c.take_packets.new.store c.args.lists.now c.take_packets.new.lists c.args.disk.now
-    c.take_packets.new.disk c.take_packets.result (c.take.ensures.stations.peer ∙ c.self.invariant.peer) w (with_end d end)
-    (record { link = stands; rest = ap under_way c.in-Bytes.ensures.reader ∙ is.rest; state = is.state }) c.take_packets.ensures.feeds)))
+    c.take_packets.new.disk c.take_packets.result (c.take.ensures.keeps.stations.peer ∙ c.self.invariant.peer) w (with_end d end)
+    (record { link = stands; rest = ap under_way c.in-Bytes.ensures.keeps.reader ∙ is.rest; state = is.state }) c.take_packets.ensures.feeds)))
 
 pub returns-in-Bytes-clause-fit : goal.returns-in-Bytes-clause-fit
 returns-in-Bytes-clause-fit g c =
@@ -120,7 +120,7 @@ returns-in-Bytes-clause-fit g c =
       fit = fit.fit;
       up = fit.up;
       caller = fit.caller;
-      stations = stations-then a.link.link c.take.new.self.link c.take_packets.new.link.link c.take.ensures.stations fit.stations;
+      stations = stations-then a.link.link c.take.new.self.link c.take_packets.new.link.link c.take.ensures.keeps.stations fit.stations;
     })
 
 pub returns-in-Closed-clause-hears : goal.returns-in-Closed-clause-hears
@@ -146,4 +146,4 @@ returns-in-Closed-clause-fit g c =
     → LeavesFit g.D.Disk c.args.store.now c.args.store.now c.args.lists.now c.args.disk.now c.args.disk.now s.link c.take.new.self.link s.session a.session (Ends, Ok tt) in
     subst P c.self.view_is (λ may.
     fit-heard g.D.Disk c.args.store.now c.args.disk.now c.args.lists.now a.link.link c.take.new.self.link a.session Ends (g.met.D.Disk.lasts_same c.args.disk.now) may (λ stays. absurd cc)
-    c.take.ensures.stations) c.requires.may
+    c.take.ensures.keeps.stations) c.requires.may
