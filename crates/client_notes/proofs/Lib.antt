@@ -1,3 +1,4 @@
+mod CutLemmas
 mod GotLemmas
 mod KeptLemmas
 mod ListLemmas
@@ -6,4 +7,6 @@ mod PutLemmas
 mod RecordLemmas
 mod SeveralLemmas
 mod StandingLemmas
+mod StartLemmas
 mod TaskLemmas
+mod ThroughLemmas

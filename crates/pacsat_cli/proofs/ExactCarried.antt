@@ -25,7 +25,7 @@ use Rattle.uploader.specs.Carried.{Carries, IsUnrecovered, asked_of}
 use Rattle.uploader.specs.Fetching.{KeepsBy, file_asked}
 use Rattle.uploader.specs.Led.{ComesBy, IsLedTo}
 use Rattle.uploader.specs.Listing.{ShowsBy, files_asked}
-use Rattle.uploader.specs.OnDisk.{IsOfStanding, Recovers}
+use Rattle.uploader.specs.NotesThrough.{IsOfStanding, Recovers}
 use Rattle.uploader.specs.Stops.{stop_of_fault}
 use Rattle.uploader.proofs.LedLemmas.{led-law}
 use Rattle.pacsat_cli.specs.declared.status.Status.{Status}

@@ -1,6 +1,6 @@
 -- What a run of the program did as a client of a server, by its words, by what was heard, by its notes' disk, and by its
 -- shelf and output.
-use Rattle.std.specs.Prelude.{◌≡◌, ◌⊎◌, ℕ, ◌≤◌, List, [], length, codes, Option, Result, Ok, Err, IsErrOf, ⊤}
+use Rattle.std.specs.Prelude.{◌≡◌, ◌⊎◌, ℕ, ◌≤◌, List, [], length, codes, Result, Ok, Err, IsErrOf, ⊤}
 use Rattle.px_base.specs.Outside.{Gains, GainsPrefix, Rose}
 use Rattle.px_base.specs.declared.out.Out.{Ghosts as OutGhosts}
 use Rattle.px_base.specs.declared.shelf.Shelf.{Ghosts as ShelfGhosts}

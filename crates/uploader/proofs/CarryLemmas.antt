@@ -1,7 +1,6 @@
 -- A job is carried out by a client whose notes were recovered.
 use Rattle.std.proofs.Common.{◌≡◌, ℕ, Bool, true, false, List, [], ◌++◌, refl, sym, ◌∙◌, ap, subst, append-nil, Option, None, Some, IfSome}
 use Rattle.std.specs.Prelude.{◌≢◌, Result, Ok, Err, IfErr, IsErrOf}
-use Rattle.disk_model.specs.declared.disk.Disk.{Ghosts}
 use Rattle.client_notes.specs.Calls.{Runs}
 use Rattle.client_notes.specs.Walk.{state}
 use Rattle.client_notes.proofs.Offered.{images-here, Several-none, Several-then, told_weaker}
@@ -23,16 +22,18 @@ use Rattle.ftl0_client.specs.ClientState.{ClientState, listing_in}
 use Rattle.ftl0_client.specs.Going.{Promises}
 use Rattle.ftl0_client.specs.declared.outcome.Outcome.{Outcome}
 use Rattle.ftl0_client.specs.declared.outcome.Outcome.TheVariants as outcome
-use Rattle.uploader.specs.Turns.Carried.{CarriesOut, CountsWhere, CutsOff, EndsOver, Run, asked_first, before_last}
+use Rattle.client_notes.specs.Through.{CutsOff}
+use Rattle.uploader.specs.Turns.Carried.{CarriesOut, CountsWhere, EndsOver, Run, asked_first, before_last}
 use Rattle.uploader.specs.declared.stop.SendStop.{SendStop}
 use Rattle.uploader.specs.declared.stop.SendStop.TheVariants as stop
 use Rattle.uploader.specs.declared.terms.ClientTerms.{ClientTerms}
 use Rattle.uploader.specs.Carried.{Carries, asked_of, client_from}
 use Rattle.uploader.specs.Causes.{HasAirCause, HasCauses, is_before_outcome}
-use Rattle.uploader.specs.OnDisk.{RefusesNotes, StandsThrough}
+use Rattle.client_notes.specs.Through.{StandsThrough}
+use Rattle.uploader.specs.OnDisk.{RefusesNotes}
 use Rattle.uploader.specs.Ready.{IsReady}
 use Rattle.uploader.specs.Stops.{answer_of, stop_of_node, stop_of_turns}
-use Rattle.uploader.proofs.Standing.{command_runs, none_moves, runs_same, stands_through}
+use Rattle.client_notes.proofs.Offered.{command_runs, none_moves, runs_same, stands_through}
 
 -- ---- the stops of a command
 

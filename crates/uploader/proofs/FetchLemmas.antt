@@ -1,5 +1,5 @@
 -- How `fetch` ends.
-use Rattle.std.proofs.Common.{◌≡◌, ℕ, ◌≤◌, true, List, [], length, refl, sym, ap, ◌∙◌, subst, arith, None, Option}
+use Rattle.std.proofs.Common.{◌≡◌, ℕ, ◌≤◌, List, [], length, refl, sym, ap, ◌∙◌, subst, arith, None, Option}
 use Rattle.std.specs.Prelude.{Result, Ok, Err, ⊤}
 use Rattle.pfh_reader.specs.Faults.{fault_code}
 use Rattle.px_base.specs.CallSign.{CallSign}

@@ -2,7 +2,7 @@
 use Rattle.std.proofs.Common.{◌≡◌, ℕ, List, [], ◌∷◌, ◌++◌, refl, ap, sym, subst, ◌∙◌, inl, inr, Bool, true, false, append_assoc}
 use Rattle.std.proofs.lemmas.List.{append_cancel_left}
 use Rattle.std.specs.List.{AllByRecursion}
-use Rattle.std.specs.Prelude.{◌≢◌, ◌⊎◌, Option, Some, Result, Ok, Err, map}
+use Rattle.std.specs.Prelude.{◌≢◌, Option, Some, Result, Ok, Err, map}
 use Rattle.px_base.specs.Outside.{Grows}
 use Rattle.px_base.specs.declared.air.Turn.{Turn}
 use Rattle.ax25_frames.specs.FrameText.{FrameValue}

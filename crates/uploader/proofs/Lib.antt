@@ -6,5 +6,4 @@ mod ListLemmas
 mod OutcomeLemmas
 mod ReadyLemmas
 mod SendLemmas
-mod Standing
 pub mod StartLemmas

@@ -8,14 +8,13 @@ use Rattle.disk_model.specs.declared.disk.Disk.{Ghosts}
 use Rattle.client_notes.specs.Calls.{Runs}
 use Rattle.client_notes.proofs.Offered.{alike_same, images-here, Several-none, Several-one, Several-same, stops_none, told_weaker}
 use Rattle.client_notes.specs.Walk.{state}
-use Rattle.client_notes.specs.Answers.{StartsBy, answer_of, fresh_task, noted_at, start_reaches}
+use Rattle.client_notes.specs.Answers.{StartsBy, answer_of, fresh_task, start_reaches}
 use Rattle.client_notes.specs.Command.{NotesCommand}
 use Rattle.client_notes.specs.declared.answers.Begun.{Begun}
 use Rattle.client_notes.specs.declared.answers.Begun.TheVariants as begun
 use Rattle.client_notes.specs.declared.answers.Noted.TheVariants as noted
 use Rattle.client_notes.specs.declared.refusals.NotesRefusal.{NotesRefusal}
 use Rattle.client_notes.specs.declared.refusals.NotesRefusal.TheVariants as refusal
-use Rattle.client_notes.specs.Laws.{after_all}
 use Rattle.client_notes.specs.Notes.{Lists, last_task}
 use Rattle.client_notes.specs.OnDisk.{Does, EachImage, Untouched}
 use Rattle.client_notes.specs.Several.{DoesSeveral}
@@ -26,10 +25,11 @@ use Rattle.ftl0_client.specs.JobLaws.{IsAckedIn}
 use Rattle.ftl0_client.specs.Table.{JobState}
 use Rattle.ftl0_client.specs.Upload.{new_upload}
 use Rattle.ftl0_client.specs.Client.{Client}
-use Rattle.ftl0_client.specs.ClientState.{ClientState, GoWithAttempt, IsClient, MayHear, client_pending, listing_in, new_state}
+use Rattle.ftl0_client.specs.ClientState.{ClientState, GoWithAttempt, IsClient, MayHear, client_pending, listing_in}
 use Rattle.ftl0_client.specs.declared.outcome.Outcome.{Outcome}
 use Rattle.ftl0_client.specs.declared.outcome.Outcome.TheVariants as outcome
-use Rattle.uploader.specs.Turns.Carried.{CarriesOut, CutsOff, MayCarryOut}
+use Rattle.client_notes.specs.Through.{CutsOff}
+use Rattle.uploader.specs.Turns.Carried.{CarriesOut, MayCarryOut}
 use Rattle.uploader.specs.declared.stop.SendStop.{SendStop}
 use Rattle.uploader.specs.declared.stop.SendStop.TheVariants as stop
 use Rattle.uploader.specs.declared.sum.FileSum.{FileSum}
@@ -44,8 +44,9 @@ use Rattle.uploader.specs.Sending.{EndsAtStart, IsLastAcked, IsTaskFor, IsUnstar
 use Rattle.uploader.specs.Stops.{stop_of_start}
 use Rattle.uploader.proofs.CarryLemmas.{HasCarried, carries, causes, causes-err, causes-ok, causes-still, images-at-end, never, of_answer, of_turns, outcome-fine, recovered_exactly}
 use Rattle.uploader.proofs.OutcomeLemmas.{acked-in, never-bad, upload-reached}
-use Rattle.uploader.proofs.Standing.{command_runs, none_moves, stands_through}
-use Rattle.uploader.proofs.StartLemmas.{acked-last, begun-fresh, begun-kept, cut_of, not-failed, of_task, refused-start}
+use Rattle.client_notes.proofs.Offered.{command_runs, none_moves, stands_through}
+use Rattle.client_notes.proofs.Offered.{acked-last, begun-fresh, begun-kept, not-failed, of_task}
+use Rattle.uploader.proofs.StartLemmas.{cut_of, refused-start}
 
 -- nothing is called
 pub runs_still : {D : Type 0} (g : Ghosts D) (P : Type 0) (disk : D) → ¬ P → g.lasts disk disk → Runs g P disk disk

@@ -1,6 +1,5 @@
 mod CarriedLemmas
 mod CourseLemmas
-mod CutLemmas
 pub mod GoesLemmas
 mod MemoryLemmas
 mod OwesLemmas

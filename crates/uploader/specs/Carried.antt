@@ -13,7 +13,7 @@ use Rattle.ftl0_client.specs.Client.{Client, new_client}
 use Rattle.ftl0_client.specs.declared.outcome.Outcome.{Outcome}
 use Rattle.uploader.specs.declared.stop.SendStop.{SendStop}
 use Rattle.uploader.specs.declared.terms.ClientTerms.{ClientTerms}
-use Rattle.uploader.specs.OnDisk.{LeavesStanding, Recovers, StandsThrough}
+use Rattle.client_notes.specs.Through.{LeavesStanding, Recovers, StandsThrough}
 use Rattle.uploader.specs.Stops.{answer_of, stop_of_fault}
 use Rattle.uploader.specs.Turns.Carried.{Became, ClientRan, Run, TakesAir}
 

@@ -1,5 +1,5 @@
 -- What the commands share: a client whose notes were recovered, and a job that it is asked for.
-use Rattle.std.specs.Prelude.{◌≡◌, ℕ, List, false, Option, IfOk, IfSome, MatchResult, Result, Ok, Err, ⊤}
+use Rattle.std.specs.Prelude.{◌≡◌, ℕ, false, IfSome, MatchResult, Result, Ok, Err, ⊤}
 use Rattle.disk_model.specs.declared.disk.Disk.{Ghosts}
 use Rattle.node.specs.Lent.{Seen}
 use Rattle.node.specs.Turns.{Lent}
@@ -21,7 +21,7 @@ use Rattle.uploader.specs.declared.stop.SendStop.{SendStop}
 use Rattle.uploader.specs.declared.terms.ClientTerms.{ClientTerms}
 use Rattle.uploader.specs.declared.terms.Sent.{Sent}
 use Rattle.uploader.specs.Carried.{client_from}
-use Rattle.uploader.specs.OnDisk.{LeavesStanding, Recovers}
+use Rattle.client_notes.specs.Through.{LeavesStanding, Recovers}
 use Rattle.uploader.specs.Stops.{stop_of_fault}
 
 -- A client of these terms was made over the notes that the recovery gave, which stand on the disk. Nothing was asked.
@@ -49,8 +49,8 @@ IsUpload (work.Directory at) = ⊥
 IsUpload (work.Download at) = ⊥
 
 -- A client that stands for this one was asked for an upload and carried it out, and this is what `send` makes of it.
-pub record UploadsJob {A C D : Type 0} (see : Seen D A C) (old new : Lent ClientState D A C) (job : JobState) (polls : ℕ)
-    (base : Client) (result : Result Sent SendStop) : Type 0 where
+pub record UploadsJob {A C D : Type 0} (see : Seen D A C) (old new : Lent ClientState D A C) (job : JobState)
+    (polls : ℕ) (base : Client) (result : Result Sent SendStop) : Type 0 where
   pub came : Result Outcome SendStop
   pub carries : CarriesOut see old new job polls base came
   pub answer : MatchResult result (λ sent. came ≡ Ok (outcome.Acked sent.number)) (λ why. came ≡ Err why)

@@ -24,7 +24,7 @@ use Rattle.uploader.specs.declared.terms.ClientTerms.{ClientTerms}
 use Rattle.uploader.specs.declared.terms.Sent.{Sent}
 use Rattle.uploader.specs.Carried.{Carries, IsUnrecovered, asked_of}
 use Rattle.uploader.specs.Loading.{IsSendable, IsUnfit, sum_of}
-use Rattle.uploader.specs.OnDisk.{Recovers, StandsThrough}
+use Rattle.client_notes.specs.Through.{Recovers, StandsThrough}
 use Rattle.uploader.specs.Stops.{stop_of_start}
 
 -- The file isn't sent, by what the shelf has under its name, by a fault of the shelf or for want of memory. Nothing

@@ -1,5 +1,5 @@
 -- What is carried out, from the asking to the answer.
-use Rattle.std.proofs.Common.{◌≡◌, ◌⊎◌, ℕ, List, [], ◌∷◌, ◌++◌, length, Bool, false, true, Option, Result, Ok, Err, refl, ap, sym, subst, ◌∙◌, inl, inr, suc, arith, append-nil}
+use Rattle.std.proofs.Common.{◌≡◌, ◌⊎◌, ℕ, List, [], ◌∷◌, ◌++◌, length, Bool, false, true, Result, Ok, Err, refl, ap, sym, subst, ◌∙◌, inl, inr, suc, arith, append-nil}
 use Rattle.std.specs.Prelude.{◌≢◌, None, IsErrOf}
 use Rattle.px_base.specs.declared.air.Turn.{Turn}
 use Rattle.px_base.proofs.Told.{Gains-none, Grows-none}
@@ -18,7 +18,7 @@ use Rattle.node.specs.declared.stop.NodeStop.{NodeStop}
 use Rattle.node.specs.declared.stop.NodeStop.TheVariants as stop
 use Rattle.ftl0_client.specs.Calls.{HasAsked}
 use Rattle.ftl0_client.specs.Client.{Client, ClientEvent, IsSilent, asking, asks}
-use Rattle.ftl0_client.specs.ClientState.{ClientState, IsClient, MayHear, listing_in, outcome_in}
+use Rattle.ftl0_client.specs.ClientState.{ClientState, IsClient, MayHear, outcome_in}
 use Rattle.ftl0_client.specs.Going.{GoesLaw, GoesOver, is_over}
 use Rattle.ftl0_client.specs.JobState.{IsNew, NotesGoWith}
 use Rattle.ftl0_client.specs.Laws.{OneStepLaw}
@@ -29,12 +29,13 @@ use Rattle.ftl0_client.specs.declared.outcome.Outcome.TheVariants as outcome
 use Rattle.uploader.specs.declared.stop.SendStop.{SendStop}
 use Rattle.uploader.specs.declared.stop.SendStop.TheVariants as send_stop
 use Rattle.uploader.specs.Stops.{answer_of}
-use Rattle.uploader.specs.Turns.Carried.{CarriesOut, ClientRan, CountsWhere, CutsOff, EndsOver, IsOpenBeforeEach, MayCarryOut, Run, asked_first, before_last}
+use Rattle.client_notes.specs.Through.{CutsOff}
+use Rattle.uploader.specs.Turns.Carried.{CarriesOut, ClientRan, CountsWhere, EndsOver, IsOpenBeforeEach, MayCarryOut, Run, asked_first, before_last}
 use Rattle.uploader.specs.Turns.Carrying.{StopsBehind, StopsOver, TakesAll}
 use Rattle.uploader.specs.Turns.Course.{CameOf, CameToSome, Past, StoppedAt, client_course, further}
 use Rattle.uploader.specs.declared.turns.station.ClientStation.{ClientStation}
 use Rattle.uploader.proofs.turns.CourseLemmas.{came-silent, came-whole}
-use Rattle.uploader.proofs.turns.CutLemmas.{cuts-none, does-nothing}
+use Rattle.client_notes.proofs.Offered.{cuts-none, does-nothing}
 use Rattle.uploader.proofs.turns.GoesLemmas.{goes-alike}
 use Rattle.uploader.proofs.turns.MemoryLemmas.{no-split}
 use Rattle.uploader.proofs.turns.OwesLemmas.{owes-more}

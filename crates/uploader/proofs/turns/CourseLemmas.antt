@@ -8,7 +8,7 @@ use Rattle.client_notes.proofs.Offered.{Several-then}
 use Rattle.node.specs.Course.{AtDisk, IsLawful}
 use Rattle.node.specs.Events.{NodeEvent}
 use Rattle.ftl0_client.specs.Client.{Client, ClientEvent, IsSilent, asks}
-use Rattle.ftl0_client.specs.ClientState.{ClientState, IsClient, MayHear}
+use Rattle.ftl0_client.specs.ClientState.{IsClient, MayHear}
 use Rattle.ftl0_client.specs.ClientStep.{happening}
 use Rattle.ftl0_client.specs.Going.{GoesOver}
 use Rattle.uploader.specs.Turns.Carrying.{StopsBehind, event_of}

@@ -21,7 +21,7 @@ use Rattle.uploader.specs.Turns.Course.{CameOf, HaltsBy, IsQuiet, OwesBy, Past, 
 use Rattle.uploader.specs.declared.turns.station.ClientStation.{ClientStation}
 use Rattle.node.specs.declared.stop.NodeStop.TheVariants as stop
 use Rattle.uploader.proofs.turns.CourseLemmas.{further-said}
-use Rattle.uploader.proofs.turns.CutLemmas.{cuts-none}
+use Rattle.client_notes.proofs.Offered.{cuts-none}
 use Rattle.uploader.proofs.turns.GoesLemmas.{text-more}
 use Rattle.uploader.proofs.turns.OwesLemmas.{owes-sent}
 use Rattle.uploader.proofs.turns.QuietLemmas.{may-still, tells-of, tells-sent}

@@ -27,7 +27,7 @@ use Rattle.ftl0_client.specs.ClientState.{outcome_in}
 use Rattle.ftl0_client.specs.Going.{GoesLaw}
 use Rattle.ftl0_client.specs.Laws.{IsToldDownOf}
 use Rattle.ftl0_client.specs.declared.outcome.Outcome.TheVariants as outcome
-use Rattle.uploader.specs.Turns.Carried.{CutsOff}
+use Rattle.client_notes.specs.Through.{CutsOff}
 use Rattle.uploader.specs.Turns.Carrying.{StopsAt}
 use Rattle.uploader.specs.Turns.Course.{CameOf, IsFit, Past, StoppedAt, all_events, further}
 use Rattle.uploader.specs.Stops.{halt_of_job}
@@ -35,7 +35,7 @@ use Rattle.uploader.specs.declared.turns.station.ClientStation.{ClientStation}
 use Rattle.node.specs.declared.stop.NodeStop.{NodeStop}
 use Rattle.node.specs.declared.stop.NodeStop.TheVariants as stop
 use Rattle.uploader.proofs.turns.CourseLemmas.{asked-append, came-silent}
-use Rattle.uploader.proofs.turns.CutLemmas.{cuts-none, cuts-then}
+use Rattle.client_notes.proofs.Offered.{cuts-none, cuts-then}
 use Rattle.uploader.proofs.turns.MemoryLemmas.{still-working, stopped-working}
 use Rattle.uploader.proofs.turns.PromiseLemmas.{nothing-asked}
 

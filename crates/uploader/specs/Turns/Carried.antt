@@ -7,8 +7,8 @@ use Rattle.disk_model.specs.declared.disk.Disk.{Ghosts}
 use Rattle.ax25_frames.specs.FrameText.{FrameValue}
 use Rattle.client_notes.specs.Command.{NotesCommand}
 use Rattle.client_notes.specs.Notes.{Lists}
-use Rattle.client_notes.specs.Several.{DoesSeveral}
-use Rattle.client_notes.specs.State.{NotesState, StandsOn}
+use Rattle.client_notes.specs.State.{StandsOn}
+use Rattle.client_notes.specs.Through.{CutsOff}
 use Rattle.node.specs.Events.{NodeEvent, NodeEvents}
 use Rattle.node.specs.Lent.{Seen}
 use Rattle.node.specs.Turns.{IsButLast, Lent, TurnsBy}
@@ -84,8 +84,8 @@ IsOpenBeforeEach base job moments turns =
     → is_over client ≡ false
 
 -- A client that was asked for a job took these turns, of which there are at most so many: this was said and noted, they
--- ended so, and this became of the job. Nothing was heard after what ended them: a stop is at an event that only the last
--- turn brings, behind all those that the others bring, or there is no turn, and it is at the asking.
+-- ended so, and this became of the job. Nothing was heard after what ended them: a stop is at an event that only the
+-- last turn brings, behind all those that the others bring, or there is no turn, and it is at the asking.
 pub record ClientRan (base : Client) (job : JobState) (polls : ℕ) (run : Run) : Type 0 where
   pub one_each : length run.moments ≡ length run.turns
   pub events : List NodeEvent
@@ -109,8 +109,8 @@ pub record CountsWhere (before now : ℕ) (failed : Type 0) : Type 0 where
   pub rose : failed → Rose before now
   pub same : ¬ failed → now ≡ before
 
--- Over a run this was heard, given and said. Where hearing or saying failed the air's count of such faults rose, and each
--- other is as it was.
+-- Over a run this was heard, given and said. Where hearing or saying failed the air's count of such faults rose, and
+-- each other is as it was.
 pub record TakesAir {A C D : Type 0} (see : Seen D A C) (air air_now : A) (clock clock_now : C) (run : Run)
     : Type 0 where
   pub turns_heard : HearsAll (see.air.heard air) (see.air.heard air_now) run.turns
@@ -118,14 +118,6 @@ pub record TakesAir {A C D : Type 0} (see : Seen D A C) (air air_now : A) (clock
   pub text_said : Gains (see.air.said air) (see.air.said air_now) run.text
   pub reads : CountsWhere (see.air.read_faults air) (see.air.read_faults air_now) (IsErrOf run.ended stop.AirRead)
   pub writes : CountsWhere (see.air.write_faults air) (see.air.write_faults air_now) (IsErrOf run.ended stop.AirWrite)
-
--- The notes did these commands, and then those, in one of which the disk failed, if it did.
-pub record CutsOff {D : Type 0} (g : Ghosts D) (failed : Type 0) (old new : NotesState) (disk disk_now : D)
-    (done cut : List NotesCommand) : Type 0 where
-  pub notes_then : NotesState
-  pub disk_then : D
-  pub first : DoesSeveral g ⊥ old notes_then disk disk_then done
-  pub second : DoesSeveral g failed notes_then new disk_then disk_now cut
 
 -- What a run of these events comes to: once something became of the job, this list came, and what the outcome promises
 -- stands of these notes. A client that was closed came so far.
@@ -137,8 +129,8 @@ pub record Became (base : Client) (job : JobState) (events : List NodeEvent) (li
 
 -- A client that stands for this one was asked for a job, and took turns: what was heard, given and said, what was
 -- noted, why the turns ended, what became of the job, and what a command makes of that.
-pub record CarriesOut {A C D : Type 0} (see : Seen D A C) (old new : Lent ClientState D A C) (job : JobState) (polls : ℕ)
-    (base : Client) (result : Result Outcome SendStop) : Type 0 where
+pub record CarriesOut {A C D : Type 0} (see : Seen D A C) (old new : Lent ClientState D A C) (job : JobState)
+    (polls : ℕ) (base : Client) (result : Result Outcome SendStop) : Type 0 where
   pub run : Run
   pub answer : result ≡ answer_of run.ended run.reached
   pub air : TakesAir see old.air new.air old.clock new.clock run

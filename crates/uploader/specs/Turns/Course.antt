@@ -12,7 +12,8 @@ use Rattle.node.specs.declared.halt.Halt.{Halt}
 use Rattle.node.specs.declared.stop.NodeStop.{NodeStop}
 use Rattle.node.specs.declared.stop.NodeStop.TheVariants as stop
 use Rattle.ftl0_client.specs.Client.{Client, ClientEvent, IsSilent}
-use Rattle.ftl0_client.specs.ClientState.{ClientState, IsClient, MayHear, client_closed, client_most, client_pending, listing_in, outcome_in}
+use Rattle.ftl0_client.specs.ClientState.{ClientState, IsClient, MayHear, client_closed, client_most, client_pending}
+use Rattle.ftl0_client.specs.ClientState.{listing_in, outcome_in}
 use Rattle.ftl0_client.specs.ClientStep.{Empties}
 use Rattle.ftl0_client.specs.Going.{GoesOver}
 use Rattle.ftl0_client.specs.JobState.{IsNew, NotesGoWith}
@@ -21,7 +22,8 @@ use Rattle.ftl0_client.specs.Table.{JobState}
 use Rattle.ftl0_client.specs.declared.outcome.Outcome.{Outcome}
 use Rattle.ftl0_client.specs.declared.outcome.Outcome.TheVariants as outcome
 use Rattle.uploader.specs.Turns.Came.{CameWith, TellsOf}
-use Rattle.uploader.specs.Turns.Carried.{CutsOff, asked_first}
+use Rattle.client_notes.specs.Through.{CutsOff}
+use Rattle.uploader.specs.Turns.Carried.{asked_first}
 use Rattle.uploader.specs.Turns.Carrying.{StopsBehind, text_of}
 use Rattle.uploader.specs.declared.turns.station.ClientStation.{ClientStation}
 
@@ -84,7 +86,8 @@ pub record StoppedAt {D : Type 0} (g : Ghosts D) (past : Past D) (why : NodeStop
   pub reached : Outcome
   pub stops : StopsBehind past.whole past.base (all_events past) why reached past.text done cut
   pub cuts :
-      CutsOff g (IsErrOf {T = Finished} (Err why) stop.Disk) past.client.notes a.it.client.notes past.disk a.disk done cut
+      CutsOff g (IsErrOf {T = Finished} (Err why) stop.Disk) past.client.notes a.it.client.notes past.disk a.disk done
+      cut
   pub tells : outcome_in a.it.client.attempt ≡ reached
   pub came : reached ≢ outcome.Working → CameToSome a.it.client past.base (all_events past) reached
 

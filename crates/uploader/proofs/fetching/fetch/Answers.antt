@@ -1,5 +1,5 @@
 -- The recovery is refused; or the download stops, or is fetched, and the file is kept.
-use Rattle.std.proofs.Common.{◌≡◌, inr, [], length, refl, ap, ◌∙◌, subst}
+use Rattle.std.proofs.Common.{inr, [], length, refl, ap, ◌∙◌, subst}
 use Rattle.std.specs.Prelude.{Result, Ok, Err, ⊤}
 use Rattle.client_notes.proofs.Offered.{counts_none}
 use Rattle.client_notes.specs.Notes.{got_of}

@@ -1,5 +1,5 @@
 -- The recovery is refused, or there was no memory for the tokens; or the list stops, or came whole and is shown.
-use Rattle.std.proofs.Common.{◌≡◌, inl, inr, ℕ, List, [], refl, ap, ◌∙◌, subst}
+use Rattle.std.proofs.Common.{inl, inr, ℕ, List, [], refl, ap, ◌∙◌, subst}
 use Rattle.std.specs.Prelude.{Result, Ok, Err, ⊤}
 use Rattle.px_base.specs.Outside.{Gains, GainsPrefix}
 use Rattle.client_notes.proofs.Offered.{counts_none}

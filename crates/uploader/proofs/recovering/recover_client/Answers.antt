@@ -1,9 +1,6 @@
 -- The recovery is refused.
-use Rattle.std.proofs.Common.{refl, sym, subst}
 use Rattle.client_notes.specs.State.{NotesState}
-use Rattle.uploader.specs.declared.stop.SendStop.{SendStop}
-use Rattle.uploader.specs.Ready.{IsUnready}
-use Rattle.uploader.proofs.ReadyLemmas.{refused_leaves}
+use Rattle.client_notes.proofs.Offered.{refused_leaves}
 use Rattle.uploader.proofs.recovering.recover_client.Goals as goal
 
 pub returns-in-Err-clause-unready : goal.returns-in-Err-clause-unready

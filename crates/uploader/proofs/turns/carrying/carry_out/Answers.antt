@@ -6,7 +6,7 @@ use Rattle.node.specs.Events.{NodeEvents}
 use Rattle.node.specs.Lent.{seen}
 use Rattle.node.specs.Turns.{TookTurns, lent}
 use Rattle.ftl0_client.specs.Calls.{HasAsked}
-use Rattle.ftl0_client.specs.ClientState.{ClientState, IsClient}
+use Rattle.ftl0_client.specs.ClientState.{IsClient}
 use Rattle.uploader.specs.Stops.{answer_of}
 use Rattle.uploader.specs.Turns.Course.{client_course}
 use Rattle.uploader.specs.declared.turns.station.ClientStation.{ClientStation}

@@ -4,7 +4,7 @@ use Rattle.node.specs.Events.{ticks}
 use Rattle.ftl0_client.proofs.KeptLemmas.{may-kept}
 use Rattle.uploader.specs.declared.turns.station.ClientStation.{ClientStation}
 use Rattle.uploader.proofs.turns.CourseLemmas.{event-taken}
-use Rattle.uploader.proofs.turns.CutLemmas.{does-nothing}
+use Rattle.client_notes.proofs.Offered.{does-nothing}
 use Rattle.uploader.proofs.turns.station.ClientStationStation.tick.Goals as goal
 
 pub returns-clause-takes : goal.returns-clause-takes

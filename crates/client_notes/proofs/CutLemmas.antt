@@ -5,8 +5,8 @@ use Rattle.disk_model.specs.declared.disk.Disk.{Ghosts}
 use Rattle.client_notes.specs.Command.{NotesCommand}
 use Rattle.client_notes.specs.Several.{DoesSeveral}
 use Rattle.client_notes.specs.State.{NotesState, StandsOn}
-use Rattle.client_notes.proofs.Offered.{Several-none, Several-then}
-use Rattle.uploader.specs.Turns.Carried.{CutsOff}
+use Rattle.client_notes.proofs.SeveralLemmas.{Several-none, Several-then}
+use Rattle.client_notes.specs.Through.{CutsOff}
 
 module _ {D : Type 0} (g : Ghosts D) (lasts : (disk : D) → g.lasts disk disk) where
   -- nothing is noted where the notes are as they were
