@@ -5,6 +5,7 @@ mod crash;
 mod disk;
 mod disk_call;
 mod fuse_disk;
+mod halt;
 mod history;
 mod limits;
 mod memory_disk;
@@ -13,6 +14,7 @@ mod replay;
 
 pub use disk::{Disk, DiskFault};
 pub use fuse_disk::FuseDisk;
+pub use halt::Halt;
 pub use limits::{MOST_OCTETS, ends_within};
 pub use memory_disk::MemoryDisk;
 pub use overwriting::overwrite;

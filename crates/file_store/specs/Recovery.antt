@@ -8,8 +8,8 @@ use Rattle.file_journal.specs.Recovery.{IsFailedSync, IsSyncedFirst}
 use Rattle.file_journal.specs.Restoring as restoring
 use Rattle.file_journal.specs.Walk.{damaged_at, no_store, state}
 use Rattle.file_store.specs.State.{StandsOn, StoreState, standing_of, store_in}
-use Rattle.file_store.specs.declared.refusals.StoreFault.{StoreFault}
-use Rattle.file_store.specs.declared.refusals.StoreFault.TheVariants as fault
+use Rattle.file_journal.specs.declared.faults.StoreFault.{StoreFault}
+use Rattle.file_journal.specs.declared.faults.StoreFault.TheVariants as fault
 
 -- The store that a recovery gives is the one that the content stood for. No upload is out, the store hasn't failed, and it
 -- stands on the disk, which is quiet.
@@ -21,16 +21,12 @@ pub record IsRecovered {D : Type 0} (g : Ghosts D) (blocks : ℕ) (disk disk_now
   pub quiet : IsQuietNow g disk_now
 
 -- each refusal comes exactly where the content stands for it
-pub record RefusesExactly {T : Type 0} (blocks : ℕ) (before : List ℕ) (result : Result T StoreFault) : Type 0 where
-  pub not_a_store :
-      (found : List ℕ) → IsErrOf result (fault.NotAStore found) ↔ (standing_of blocks before ≡ no_store found)
-  pub damaged : (at : ℕ) → IsErrOf result (fault.Damaged at) ↔ (standing_of blocks before ≡ damaged_at at)
+abbrev pub RefusesExactly : {T : Type 0} → ℕ → List ℕ → Result T StoreFault → Type 0
+RefusesExactly blocks before result = restoring.RefusesExactly store_form blocks before result
 
 -- but for a fault of the disk and want of memory, and where the content is told
 abbrev pub RefusesRecovery : {T : Type 0} → ℕ → Option (List ℕ) → Result T StoreFault → Type 0
-RefusesRecovery blocks content result =
-    ¬ IsErrOf result fault.Disk → ¬ IsErrOf result fault.OutOfMemory
-    → IfSome content (λ before. RefusesExactly blocks before result)
+RefusesRecovery blocks content result = restoring.RefusesRecovery store_form blocks content result
 
 -- The octets stand for what these stand for, and differ from them only as the journal's recovery may leave them: 18
 -- octets or more are left as they are.
@@ -41,7 +37,4 @@ StandsAlike blocks before image = restoring.StandsAlike store_form blocks before
 -- octets or more as it is; only where that sync failed, and the answer is that fault, a crash may leave what it might
 -- have left before.
 abbrev pub LeavesAlikeSinceSync : {D T : Type 0} → Ghosts D → ℕ → Result T StoreFault → D → D → Type 0
-LeavesAlikeSinceSync g blocks result disk disk_now =
-    IfSome (g.content disk) (λ before.
-    IsSyncedFirst g disk disk_now (StandsAlike blocks before)
-    ⊎ (IsErrOf result fault.Disk × IsFailedSync g disk disk_now))
+LeavesAlikeSinceSync g blocks result disk disk_now = restoring.LeavesAlikeSinceSync g store_form blocks result disk disk_now

@@ -15,8 +15,9 @@ mod receipt;
 mod refusals;
 
 pub use file_entries::{Info, LAST_NEXT, LONGEST_FILE, MOST_ENTRIES, header_in};
+pub use file_journal::StoreFault;
 pub use file_store::FileStore;
 pub use limits::Limits;
 pub use open_upload::OpenUpload;
 pub use receipt::Receipt;
-pub use refusals::{AppendRefusal, BeginRefusal, ResumeRefusal, SealRefusal, StoreFault};
+pub use refusals::{AppendRefusal, BeginRefusal, ResumeRefusal, SealRefusal};

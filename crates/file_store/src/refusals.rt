@@ -1,7 +1,7 @@
 //! Why a call of the store did not do what it was asked.
 
 ghost use Rattle.std.specs.Prelude.{◌≡◌};
-ghost use Rattle.file_store.specs.Refusals.{fault_of_kept, refusal_of_bar};
+ghost use Rattle.file_store.specs.Refusals.{refusal_of_bar};
 ghost use Rattle.file_store.specs.declared.refusals.BeginRefusal.TheVariants.{Disk as begin_disk, OutOfMemory as begin_memory};
 
 use crate::OpenUpload;
@@ -9,43 +9,6 @@ use disk_model::DiskFault;
 use file_entries::BeginBar;
 use px_base::OutOfMemory;
 use thiserror::Error;
-
-/// Why a disk's content isn't read as a store of files.
-#[derive(Clone, Copy, Debug, PartialEq, Eq, Error)]
-pub enum StoreFault {
-    /// There are more than 16 octets, and they don't begin with the store's magic.
-    #[error("no store: it begins with {found:?}")]
-    NotAStore {
-        /// The first eight octets.
-        found: [u8; 8],
-    },
-    /// The block number isn't in 1..=65,536; or the record behind an open gate is cut, or is no command that the store
-    /// before it allows.
-    #[error("the store is damaged at octet {at}")]
-    Damaged {
-        /// 8 for the block number, else the place of the gate.
-        at: u64,
-    },
-    /// The disk failed, and its count of faults rose.
-    #[error("the disk failed")]
-    Disk,
-    /// No memory was left for the entries.
-    #[error("out of memory")]
-    OutOfMemory,
-}
-
-impl From<file_journal::StoreFault> for StoreFault {
-    ghost from_gives = { λ fault result. result ≡ fault_of_kept fault };
-
-    fn from(fault: file_journal::StoreFault) -> StoreFault {
-        match fault {
-            file_journal::StoreFault::NotAStore { found } => StoreFault::NotAStore { found },
-            file_journal::StoreFault::Damaged { at } => StoreFault::Damaged { at },
-            file_journal::StoreFault::Disk => StoreFault::Disk,
-            file_journal::StoreFault::OutOfMemory => StoreFault::OutOfMemory,
-        }
-    }
-}
 
 /// Why a file was not begun. But for `Disk` neither the store nor its disk was touched.
 #[derive(Clone, Copy, Debug, PartialEq, Eq, Error)]

@@ -7,7 +7,7 @@ use Rattle.ax25_link.specs.Window.{Window}
 use Rattle.client_notes.specs.Calls.{Leaves}
 use Rattle.client_notes.specs.Notes.{Lists}
 use Rattle.client_notes.specs.Several.{DoesSeveral, MakesFirst}
-use Rattle.ftl0_job.specs.declared.stop.JobStop.{JobStop}
+use Rattle.disk_model.specs.declared.halt.Halt.{Halt}
 use Rattle.ftl0_client.specs.Attempt.Attempted.{Attempted}
 use Rattle.ftl0_client.specs.Attempt.AttemptState.{AttemptState, StopsAmong}
 use Rattle.ftl0_client.specs.Attempt.Hearing.{after_hearing, packets_heard}
@@ -20,7 +20,7 @@ Becomes old new made = (client : Client) → IsClient old client → IsClient ne
 
 -- Its attempt, which is there, stopped at a packet of this frame.
 abbrev pub StopsBy :
-    {D : Type 0} → Ghosts D → Window → FrameValue → Option Attempted → ClientState → ClientState → D → D → JobStop
+    {D : Type 0} → Ghosts D → Window → FrameValue → Option Attempted → ClientState → ClientState → D → D → Halt
     → Type 0
 StopsBy g w frame None old new disk disk_now why = ⊥
 StopsBy g w frame (Some a) old new disk disk_now why =
@@ -30,7 +30,7 @@ StopsBy g w frame (Some a) old new disk disk_now why =
 -- What a frame does: the client is what it makes of it, and its commands are done; or the attempt that hears it stopped
 -- at one of its packets, because the disk failed or there was no memory.
 abbrev pub HearsBy :
-    {D : Type 0} → Ghosts D → Client → FrameValue → ClientState → ClientState → D → D → Result ⊤ JobStop → Type 0
+    {D : Type 0} → Ghosts D → Client → FrameValue → ClientState → ClientState → D → D → Result ⊤ Halt → Type 0
 HearsBy g client frame old new disk disk_now (Ok done) =
     IsClient new (client_hearing client frame).after
     × DoesSeveral g ⊥ old.notes new.notes disk disk_now (client_hearing client frame).noted
@@ -40,7 +40,7 @@ HearsBy g client frame old new disk disk_now (Err why) =
 -- This frame was heard by a client that stands for this one. Since it came each image stands for the notes after the
 -- first of the commands that the event has where nothing stops it, for some number of them.
 pub record Hears {D : Type 0} (g : Ghosts D) (client : Client) (frame : FrameValue) (old new : ClientState)
-    (disk disk_now : D) (result : Result ⊤ JobStop) : Type 0 where
+    (disk disk_now : D) (result : Result ⊤ Halt) : Type 0 where
   pub by : HearsBy g client frame old new disk disk_now result
   pub since : Leaves g disk disk_now (λ _. MakesFirst client.lists (client_hearing client frame).noted)
 

@@ -16,6 +16,5 @@ pub use Rattle.ftl0_job.specs.Short
 pub use Rattle.ftl0_job.specs.Table
 pub use Rattle.ftl0_job.specs.Upload
 pub use Rattle.ftl0_job.specs.declared.ending.Ending
-pub use Rattle.ftl0_job.specs.declared.stop.JobStop
 pub use Rattle.ftl0_job.specs.declared.work.Work
 pub use Rattle.ftl0_packets.specs.Layout

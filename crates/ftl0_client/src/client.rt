@@ -28,9 +28,9 @@ use arrayvec::ArrayVec;
 use ax25_frames::Frame;
 use ax25_link::{Refusal, is_answered};
 use client_notes::{Begun, Notes, NotesRefusal};
-use disk_model::Disk;
+use disk_model::{Disk, Halt};
+use ftl0_job::Job;
 use ftl0_job::laws::{owned_law, started_law};
-use ftl0_job::{Job, JobStop};
 use px_base::{Call, OutOfMemory};
 use std::alloc::Global;
 use std::marker::Model;
@@ -154,7 +154,7 @@ impl Client {
     /// After a stop no frame of the event is given out, and only `outcome`, `listing` and `notes` are called. After
     /// `Disk` the commands before the one in which the disk failed are noted, and that one may be. After `OutOfMemory`
     /// those before the one for which there was no memory are.
-    pub fn hear<D: Disk>(&mut self, disk: &mut D, frame: &Frame<'_>) -> Result<(), JobStop>
+    pub fn hear<D: Disk>(&mut self, disk: &mut D, frame: &Frame<'_>) -> Result<(), Halt>
         requires frame { IsFor self.old.me (value_of frame.now) }
         requires numbers { FitsControl (value_of frame.now).kind.control }
         requires quiet { client_pending self.old ≡ false }

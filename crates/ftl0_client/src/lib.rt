@@ -9,5 +9,5 @@ pub mod laws;
 mod outcome;
 
 pub use client::Client;
-pub use ftl0_job::{Job, JobStop};
+pub use ftl0_job::Job;
 pub use outcome::Outcome;

@@ -12,8 +12,8 @@ use Rattle.client_notes.specs.Notes.{Lists, got_of}
 use Rattle.client_notes.specs.Several.{DoesSeveral}
 use Rattle.client_notes.specs.State.{NotesState}
 use Rattle.client_notes.proofs.Offered.{got-allowed, got-append, Several-longer, Several-then}
-use Rattle.ftl0_job.specs.declared.stop.JobStop.{JobStop}
-use Rattle.ftl0_job.specs.declared.stop.JobStop.TheVariants as stop
+use Rattle.disk_model.specs.declared.halt.Halt.{Halt}
+use Rattle.disk_model.specs.declared.halt.Halt.TheVariants as stop
 use Rattle.ftl0_job.specs.Download.{gots}
 use Rattle.ftl0_job.specs.Noting.{HasNoted, IsBefore}
 
@@ -121,7 +121,7 @@ module _ {D : Type 0} (g : Ghosts D) (on : (first second third : D) → g.lasts 
   more-noted second = more-by ⊥ second
 
   -- one isn't: the disk failed in it, or there was no memory for it
-  pub one-stopped : (T U : Type 0) (why : JobStop) → i < n → AreAllowed old.lists (gots server number n octets) → HasNoted {T = T} g mid new disk_mid disk_now (got server number block ∷ []) (Err why)
+  pub one-stopped : (T U : Type 0) (why : Halt) → i < n → AreAllowed old.lists (gots server number n octets) → HasNoted {T = T} g mid new disk_mid disk_now (got server number block ∷ []) (Err why)
       → HasNoted {T = U} g old new disk disk_now (gots server number n octets) (Err why)
   one-stopped T U stop.Disk below allowed noted =
       let split = gots-split server number (i + 1) n octets (omega arith) in

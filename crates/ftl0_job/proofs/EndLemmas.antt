@@ -17,8 +17,8 @@ use Rattle.client_notes.proofs.Offered.{AreAllowed-append, got-allowed, got-appe
 use Rattle.ftl0_job.specs.declared.ending.Ending.{Ending}
 use Rattle.ftl0_job.specs.declared.ending.Outcome.TheVariants as outcome
 use Rattle.ftl0_job.specs.declared.phases.DownloadPhase.TheVariants as phase
-use Rattle.ftl0_job.specs.declared.stop.JobStop.{JobStop}
-use Rattle.ftl0_job.specs.declared.stop.JobStop.TheVariants as stop
+use Rattle.disk_model.specs.declared.halt.Halt.{Halt}
+use Rattle.disk_model.specs.declared.halt.Halt.TheVariants as stop
 use Rattle.ftl0_job.specs.Download.{Download, data_end_row, in_phase, last_got, whole_row, with_rest}
 use Rattle.ftl0_job.specs.JobState.{HasGot}
 use Rattle.ftl0_job.specs.Noting.{HasNoted}
@@ -41,7 +41,7 @@ last-after server number (octet ∷ octets) lists = got-append lists server numb
 module _ {D : Type 0} (g : Ghosts D) (on : (first second third : D) → g.lasts first second → g.lasts second third → g.lasts first third) where
   -- ---- a stop in the first of two lists of commands, and in the second
 
-  pub first-stopped : (T U : Type 0) (old new : NotesState) (disk disk_now : D) (a b : List NotesCommand) (why : JobStop) → AreAllowed old.lists (a ++ b) → HasNoted {T = T} g old new disk disk_now a (Err why)
+  pub first-stopped : (T U : Type 0) (old new : NotesState) (disk disk_now : D) (a b : List NotesCommand) (why : Halt) → AreAllowed old.lists (a ++ b) → HasNoted {T = T} g old new disk disk_now a (Err why)
       → HasNoted {T = U} g old new disk disk_now (a ++ b) (Err why)
   first-stopped T U old new disk disk_now a b stop.Disk allowed noted = Several-longer g ⊤ old new disk disk_now a b tt allowed noted
   first-stopped T U old new disk disk_now [] [] stop.OutOfMemory allowed noted = noted
@@ -56,7 +56,7 @@ module _ {D : Type 0} (g : Ghosts D) (on : (first second third : D) → g.lasts 
         subst (λ (cs : List NotesCommand). DoesSeveral g ⊥ old new disk disk_now cs) (sym (take-append-le noted.0 (command ∷ commands) b (omega (arith, few)))) noted.2,
       )
 
-  pub second-stopped : (T U : Type 0) (old mid new : NotesState) (disk disk_mid disk_now : D) (a : List NotesCommand) (command : NotesCommand) (why : JobStop) → DoesSeveral g ⊥ old mid disk disk_mid a
+  pub second-stopped : (T U : Type 0) (old mid new : NotesState) (disk disk_mid disk_now : D) (a : List NotesCommand) (command : NotesCommand) (why : Halt) → DoesSeveral g ⊥ old mid disk disk_mid a
       → HasNoted {T = T} g mid new disk_mid disk_now (command ∷ []) (Err why) → HasNoted {T = U} g old new disk disk_now (a ++ command ∷ []) (Err why)
   second-stopped T U old mid new disk disk_mid disk_now a command stop.Disk first noted = Several-then g on ⊥ ⊤ old mid new disk disk_mid disk_now a (command ∷ []) (λ never. never) first noted
   second-stopped T U old mid new disk disk_mid disk_now a command stop.OutOfMemory first noted =
@@ -77,7 +77,7 @@ module _ {D : Type 0} (g : Ghosts D) (on : (first second third : D) → g.lasts 
         AreAllowed-append (last_got at.server at.number at.rest) (forgot at.server at.number ∷ []) old.lists (last-allowed at.server at.number at.rest old.lists some few has.fits) (refl, tt)
 
     -- the rest isn't noted
-    pub end-stopped : (T : Type 0) (why : JobStop) (replies : List ℕ) → replies ≡ [] → HasNoted {T = T} g old mid disk disk_mid (last_got at.server at.number at.rest) (Err why)
+    pub end-stopped : (T : Type 0) (why : Halt) (replies : List ℕ) → replies ≡ [] → HasNoted {T = T} g old mid disk disk_mid (last_got at.server at.number at.rest) (Err why)
         → TakesRow g (data_end_row (got_of old.lists at.server at.number) at) at at old mid disk disk_mid replies (Err why)
     end-stopped T why replies none noted = by (fault_code (got_of old.lists at.server at.number ++ at.rest))
       where
@@ -117,7 +117,7 @@ module _ {D : Type 0} (g : Ghosts D) (on : (first second third : D) → g.lasts 
             })
 
         -- that isn't noted
-        pub end-bad-stopped : (T : Type 0) (why : JobStop) (replies : List ℕ) → replies ≡ [] → HasNoted {T = T} g mid new disk_mid disk_now (forgot at.server at.number ∷ []) (Err why)
+        pub end-bad-stopped : (T : Type 0) (why : Halt) (replies : List ℕ) → replies ≡ [] → HasNoted {T = T} g mid new disk_mid disk_now (forgot at.server at.number ∷ []) (Err why)
             → TakesRow g (data_end_row (got_of old.lists at.server at.number) at) at at old new disk disk_now replies (Err why)
         end-bad-stopped T why replies none noted =
             subst (λ (r : Row Download). TakesRow g r at at old new disk disk_now replies (Err why)) (sym (whole-is (Some code) is))

@@ -8,8 +8,8 @@ use Rattle.client_notes.specs.Notes.{Lists}
 use Rattle.client_notes.specs.Several.{DoesSeveral}
 use Rattle.client_notes.specs.State.{NotesState, StandsOn}
 use Rattle.ftl0_job.specs.declared.ending.Ending.{Ending}
-use Rattle.ftl0_job.specs.declared.stop.JobStop.{JobStop}
-use Rattle.ftl0_job.specs.declared.stop.JobStop.TheVariants as stop
+use Rattle.disk_model.specs.declared.halt.Halt.{Halt}
+use Rattle.disk_model.specs.declared.halt.Halt.TheVariants as stop
 use Rattle.ftl0_job.specs.declared.work.Work.{Work}
 use Rattle.ftl0_job.specs.declared.work.Work.TheVariants as work
 use Rattle.ftl0_job.specs.Directory.{Directory, directory_row}
@@ -56,7 +56,7 @@ module _ {D : Type 0} (g : Ghosts D) where
         }
 
     -- or stopped
-    pub takes-stop : (why : JobStop) → TakesRow g (item_row notes.lists job.work item) job.work doing notes notes_now disk disk_now replies (Err why) → StopsAt {T = Option Ending} job.work (Err why)
+    pub takes-stop : (why : Halt) → TakesRow g (item_row notes.lists job.work item) job.work doing notes notes_now disk disk_now replies (Err why) → StopsAt {T = Option Ending} job.work (Err why)
         → TakesPacket g item job (record { work = doing; ending = job.ending }) notes notes_now disk disk_now replies (Err why)
     takes-stop why takes stops =
         let row = job-in notes.lists job item is in
@@ -67,7 +67,7 @@ module _ {D : Type 0} (g : Ghosts D) where
           stops = stops-err job.work why stops;
         }
       where
-        stops-err : (at : Work) (why : JobStop) → StopsAt {T = Option Ending} at (Err why) → StopsAt {T = ⊤} at (Err why)
+        stops-err : (at : Work) (why : Halt) → StopsAt {T = Option Ending} at (Err why) → StopsAt {T = ⊤} at (Err why)
         stops-err at stop.Disk stops = stops
         stops-err at stop.OutOfMemory stops = stops
 

@@ -15,8 +15,8 @@ use Rattle.client_notes.specs.Several.{DoesSeveral}
 use Rattle.client_notes.specs.State.{NotesState, StandsOn}
 use Rattle.client_notes.proofs.Offered.{Several-none, Several-one, Several-same}
 use Rattle.ftl0_job.specs.declared.ending.Ending.{Ending}
-use Rattle.ftl0_job.specs.declared.stop.JobStop.{JobStop}
-use Rattle.ftl0_job.specs.declared.stop.JobStop.TheVariants as stop
+use Rattle.disk_model.specs.declared.halt.Halt.{Halt}
+use Rattle.disk_model.specs.declared.halt.Halt.TheVariants as stop
 use Rattle.ftl0_job.specs.JobState.{HasTask, number_in}
 use Rattle.ftl0_job.specs.Noting.{HasNoted, IsAnswer, IsAnswerOf, IsOfNoting}
 use Rattle.ftl0_job.specs.Row.{Row}
@@ -24,10 +24,10 @@ use Rattle.ftl0_job.specs.Taking.{Gives, TakesRow}
 use Rattle.ftl0_job.specs.Upload.{Upload}
 
 -- the answers by name
-abbrev done : Result ⊤ JobStop
+abbrev done : Result ⊤ Halt
 done = Ok tt
 
-abbrev stopped : JobStop → Result ⊤ JobStop
+abbrev stopped : Halt → Result ⊤ Halt
 stopped why = Err why
 
 module _ {D : Type 0} (g : Ghosts D) where
@@ -36,13 +36,13 @@ module _ {D : Type 0} (g : Ghosts D) where
   pub does-one : (P Q : Type 0) (old new : NotesState) (disk disk_now : D) (command : NotesCommand) → (P → Q) → (Q → P) → Does g P old new disk disk_now command → DoesSeveral g Q old new disk disk_now (command ∷ [])
   does-one P Q old new disk disk_now command there back does = Several-same g P Q old new disk disk_now (command ∷ []) there back (Several-one g P old new disk disk_now command does)
 
-  pub answers-noted : (old new : NotesState) (disk disk_now : D) (command : NotesCommand) (answer : Result ⊤ JournalFault) (result : Result ⊤ JobStop)
+  pub answers-noted : (old new : NotesState) (disk disk_now : D) (command : NotesCommand) (answer : Result ⊤ JournalFault) (result : Result ⊤ Halt)
       → Answers g old new disk disk_now command answer → IsAnswer answer result → HasNoted g old new disk disk_now (command ∷ []) result
   answers-noted old new disk disk_now command (Ok x) result answers is =
-      subst (λ (r : Result ⊤ JobStop). HasNoted g old new disk disk_now (command ∷ []) r) (sym is)
+      subst (λ (r : Result ⊤ Halt). HasNoted g old new disk disk_now (command ∷ []) r) (sym is)
       (does-one (IsErr {T = ⊤} {E = JournalFault} (Ok x)) ⊥ old new disk disk_now command (λ e. cc e) (λ never. absurd never) (answers.does (λ e. cc e)))
   answers-noted old new disk disk_now command (Err fault.Disk) result answers is =
-      subst (λ (r : Result ⊤ JobStop). HasNoted g old new disk disk_now (command ∷ []) r) (sym is)
+      subst (λ (r : Result ⊤ Halt). HasNoted g old new disk disk_now (command ∷ []) r) (sym is)
       (does-one (IsErr {T = ⊤} {E = JournalFault} (Err fault.Disk)) ⊤ old new disk disk_now command (λ e. tt) (λ e. refl) (answers.does (λ e. cc e)))
   answers-noted old new disk disk_now command (Err fault.Failed) result answers is = absurd is
 
@@ -51,7 +51,7 @@ module _ {D : Type 0} (g : Ghosts D) where
       → IsErrOf answer fault.Failed → ⊥
   not-failed old new disk disk_now command answer healthy answers is = let failed = answers.failed.0 is in cc
 
-  pub no-memory : (answer : Result ⊤ JournalFault) (result : Result ⊤ JobStop) → IsAnswer answer result → IsErrOf result stop.OutOfMemory → ⊥
+  pub no-memory : (answer : Result ⊤ JournalFault) (result : Result ⊤ Halt) → IsAnswer answer result → IsErrOf result stop.OutOfMemory → ⊥
   no-memory (Ok x) result is e = cc
   no-memory (Err fault.Disk) result is e = cc
   no-memory (Err fault.Failed) result is e = absurd is
@@ -69,17 +69,17 @@ module _ {D : Type 0} (g : Ghosts D) where
   untouched-of old new disk disk_now (inl never) = absurd (cc never)
   untouched-of old new disk disk_now (inr same) = same
 
-  pub noting-noted : (old new : NotesState) (disk disk_now : D) (command : NotesCommand) (answer : Result ⊤ NotesRefusal) (result : Result ⊤ JobStop) → old.journal.failed ≡ false → StandsOn g old disk
+  pub noting-noted : (old new : NotesState) (disk disk_now : D) (command : NotesCommand) (answer : Result ⊤ NotesRefusal) (result : Result ⊤ Halt) → old.journal.failed ≡ false → StandsOn g old disk
       → g.lasts disk disk → Noting g old new disk disk_now command answer → IsAnswerOf answer result → HasNoted g old new disk disk_now (command ∷ []) result
   noting-noted old new disk disk_now command (Ok x) result healthy stands lasts noting is =
-      subst (λ (r : Result ⊤ JobStop). HasNoted g old new disk disk_now (command ∷ []) r) (sym is)
+      subst (λ (r : Result ⊤ Halt). HasNoted g old new disk disk_now (command ∷ []) r) (sym is)
       (does-one (IsErr {T = ⊤} {E = NotesRefusal} (Ok x)) ⊥ old new disk disk_now command (λ e. cc e) (λ never. absurd never) (noting.does refl))
   noting-noted old new disk disk_now command (Err refusal.Disk) result healthy stands lasts noting is =
-      subst (λ (r : Result ⊤ JobStop). HasNoted g old new disk disk_now (command ∷ []) r) (sym is)
+      subst (λ (r : Result ⊤ Halt). HasNoted g old new disk disk_now (command ∷ []) r) (sym is)
       (does-one (IsErr {T = ⊤} {E = NotesRefusal} (Err refusal.Disk)) ⊤ old new disk disk_now command (λ e. tt) (λ e. refl) (noting.does refl))
   noting-noted old new disk disk_now command (Err refusal.OutOfMemory) result healthy stands lasts noting is =
       let same = untouched-of old new disk disk_now noting.untouched in
-      subst (λ (r : Result ⊤ JobStop). HasNoted g old new disk disk_now (command ∷ []) r) (sym is)
+      subst (λ (r : Result ⊤ Halt). HasNoted g old new disk disk_now (command ∷ []) r) (sym is)
       (0, omega arith, subst (λ (d : D). DoesSeveral g ⊥ old new disk d []) (sym same.same_disk) (subst (λ (n : NotesState). DoesSeveral g ⊥ old n disk disk []) (sym same.same) (noted-none old disk healthy stands lasts)))
   noting-noted old new disk disk_now command (Err refusal.Failed) result healthy stands lasts noting is = absurd is
   noting-noted old new disk disk_now command (Err refusal.Full) result healthy stands lasts noting is = absurd is
@@ -96,7 +96,7 @@ module _ {D : Type 0} (g : Ghosts D) where
   -- ---- a row
 
   -- the same stop, of another type of answers
-  pub noted-err : (T U : Type 0) (old new : NotesState) (disk disk_now : D) (commands : List NotesCommand) (why : JobStop) → HasNoted {T = T} g old new disk disk_now commands (Err why)
+  pub noted-err : (T U : Type 0) (old new : NotesState) (disk disk_now : D) (commands : List NotesCommand) (why : Halt) → HasNoted {T = T} g old new disk disk_now commands (Err why)
       → HasNoted {T = U} g old new disk disk_now commands (Err why)
   noted-err T U old new disk disk_now commands stop.Disk noted = noted
   noted-err T U old new disk disk_now commands stop.OutOfMemory noted = noted
@@ -108,7 +108,7 @@ module _ {D : Type 0} (g : Ghosts D) where
     takes-done x commands ending is noted gives = record { answers = gives; noted = subst (λ (cs : List NotesCommand). DoesSeveral g ⊥ notes notes_now disk disk_now cs) (sym is) noted }
 
     -- a stop in one of them
-    pub takes-stopped : (T : Type 0) (why : JobStop) (commands : List NotesCommand) → row.commands ≡ commands → now ≡ before → replies ≡ [] → HasNoted {T = T} g notes notes_now disk disk_now commands (Err why)
+    pub takes-stopped : (T : Type 0) (why : Halt) (commands : List NotesCommand) → row.commands ≡ commands → now ≡ before → replies ≡ [] → HasNoted {T = T} g notes notes_now disk disk_now commands (Err why)
         → TakesRow g row before now notes notes_now disk disk_now replies (Err why)
     takes-stopped T why commands is same none noted = record {
       answers = (same, none);

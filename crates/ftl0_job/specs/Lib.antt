@@ -7,7 +7,6 @@ pub mod Noting
 pub mod Promises
 pub mod Row
 pub mod Short
-pub mod Stops
 pub mod Table
 pub mod Taking
 pub mod Upload

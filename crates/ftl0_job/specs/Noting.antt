@@ -8,8 +8,8 @@ use Rattle.client_notes.specs.declared.refusals.NotesRefusal.{NotesRefusal}
 use Rattle.client_notes.specs.declared.refusals.NotesRefusal.TheVariants as refusal
 use Rattle.client_notes.specs.Several.{DoesSeveral}
 use Rattle.client_notes.specs.State.{NotesState}
-use Rattle.ftl0_job.specs.declared.stop.JobStop.{JobStop}
-use Rattle.ftl0_job.specs.declared.stop.JobStop.TheVariants as stop
+use Rattle.disk_model.specs.declared.halt.Halt.{Halt}
+use Rattle.disk_model.specs.declared.halt.Halt.TheVariants as stop
 
 -- so many of these commands are done, and one is still to be, where there are any
 abbrev pub IsBefore : ℕ → List NotesCommand → Type 0
@@ -19,20 +19,20 @@ IsBefore count (command ∷ commands) = count < length (command ∷ commands)
 -- The commands are done; or the disk failed in one of them; or there was no memory for one of them, and those before it
 -- are done. A crash since the call began leaves the notes after the first of the commands, for some number of them.
 abbrev pub HasNoted :
-    {D T : Type 0} → Ghosts D → NotesState → NotesState → D → D → List NotesCommand → Result T JobStop → Type 0
+    {D T : Type 0} → Ghosts D → NotesState → NotesState → D → D → List NotesCommand → Result T Halt → Type 0
 HasNoted g old new disk disk_now commands (Ok done) = DoesSeveral g ⊥ old new disk disk_now commands
 HasNoted g old new disk disk_now commands (Err stop.Disk) = DoesSeveral g ⊤ old new disk disk_now commands
 HasNoted g old new disk disk_now commands (Err stop.OutOfMemory) =
     (count : ℕ) × IsBefore count commands × DoesSeveral g ⊥ old new disk disk_now (take count commands)
 
 -- an answer of notes that hadn't failed, as one of a job
-abbrev pub IsAnswer : Result ⊤ JournalFault → Result ⊤ JobStop → Type 0
+abbrev pub IsAnswer : Result ⊤ JournalFault → Result ⊤ Halt → Type 0
 IsAnswer (Ok done) result = result ≡ Ok tt
 IsAnswer (Err fault.Disk) result = result ≡ Err stop.Disk
 IsAnswer (Err fault.Failed) result = ⊥
 
 -- the same of a call that takes memory
-abbrev pub IsAnswerOf : Result ⊤ NotesRefusal → Result ⊤ JobStop → Type 0
+abbrev pub IsAnswerOf : Result ⊤ NotesRefusal → Result ⊤ Halt → Type 0
 IsAnswerOf (Ok done) result = result ≡ Ok tt
 IsAnswerOf (Err refusal.Disk) result = result ≡ Err stop.Disk
 IsAnswerOf (Err refusal.OutOfMemory) result = result ≡ Err stop.OutOfMemory

@@ -6,8 +6,8 @@ use Rattle.ftl0_packets.specs.Layout.{Item}
 use Rattle.client_notes.specs.State.{NotesState}
 use Rattle.px_base.specs.declared.memory.OutOfMemory.{OutOfMemory}
 use Rattle.ftl0_job.specs.declared.ending.Ending.{Ending}
-use Rattle.ftl0_job.specs.declared.stop.JobStop.{JobStop}
-use Rattle.ftl0_job.specs.declared.stop.JobStop.TheVariants as stop
+use Rattle.disk_model.specs.declared.halt.Halt.{Halt}
+use Rattle.disk_model.specs.declared.halt.Halt.TheVariants as stop
 use Rattle.ftl0_job.specs.declared.work.Work.{Work}
 use Rattle.ftl0_job.specs.Noting.{HasNoted}
 use Rattle.ftl0_job.specs.Row.{Row}
@@ -19,13 +19,13 @@ Gives row now replies ending = (now ≡ row.state) × (replies ≡ texts row.rep
 
 -- A packet with this row was answered as the row says; or the disk failed in one of the row's commands, or there was no
 -- memory, and then the state is as it was, and nothing is replied.
-abbrev pub Answers : {S : Type 0} → Row S → S → S → List ℕ → Result (Option Ending) JobStop → Type 0
+abbrev pub Answers : {S : Type 0} → Row S → S → S → List ℕ → Result (Option Ending) Halt → Type 0
 Answers row before now replies (Ok ending) = Gives row now replies ending
 Answers row before now replies (Err why) = (now ≡ before) × (replies ≡ [])
 
 -- What a packet with this row does: its answer, and what the row's commands do to the notes and their disk.
 pub record TakesRow {D S : Type 0} (g : Ghosts D) (row : Row S) (before now : S) (notes notes_now : NotesState)
-    (disk disk_now : D) (replies : List ℕ) (result : Result (Option Ending) JobStop) : Type 0 where
+    (disk disk_now : D) (replies : List ℕ) (result : Result (Option Ending) Halt) : Type 0 where
   pub answers : Answers row before now replies result
   pub noted : HasNoted g notes notes_now disk disk_now row.commands result
 
@@ -35,19 +35,19 @@ AnswersAlone row before now replies (Ok ending) = Gives row now replies ending
 AnswersAlone row before now replies (Err refused) = (now ≡ before) × (replies ≡ [])
 
 -- the same for a job, whose ending is part of it
-abbrev pub JobAnswers : Row Work → JobState → JobState → List ℕ → Result ⊤ JobStop → Type 0
+abbrev pub JobAnswers : Row Work → JobState → JobState → List ℕ → Result ⊤ Halt → Type 0
 JobAnswers row before now replies (Ok done) = Gives row now.work replies now.ending
 JobAnswers row before now replies (Err why) = (now ≡ before) × (replies ≡ [])
 
 -- memory was wanting where it is taken
-abbrev pub StopsAt : {T : Type 0} → Work → Result T JobStop → Type 0
+abbrev pub StopsAt : {T : Type 0} → Work → Result T Halt → Type 0
 StopsAt doing (Ok done) = ⊤
 StopsAt doing (Err stop.Disk) = ⊤
 StopsAt doing (Err stop.OutOfMemory) = IsTrue (takes_memory doing)
 
 -- A job takes a packet, malformed or not: its row of the table.
 pub record TakesPacket {D : Type 0} (g : Ghosts D) (item : Item) (before now : JobState) (notes notes_now : NotesState)
-    (disk disk_now : D) (replies : List ℕ) (result : Result ⊤ JobStop) : Type 0 where
+    (disk disk_now : D) (replies : List ℕ) (result : Result ⊤ Halt) : Type 0 where
   pub answers : JobAnswers (job_row notes.lists before item) before now replies result
   pub noted : HasNoted g notes notes_now disk disk_now (job_row notes.lists before item).commands result
   pub stops : StopsAt before.work result

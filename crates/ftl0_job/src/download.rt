@@ -14,10 +14,10 @@ ghost use Rattle.ftl0_job.specs.Taking.{Answers, TakesRow};
 use crate::ending::strange;
 use crate::noting::{note_forgot, note_got};
 use crate::phases::DownloadPhase;
-use crate::{Ending, JobStop, Outcome, Replies};
+use crate::{Ending, Outcome, Replies};
 use arrayvec::ArrayVec;
 use client_notes::{LONGEST_FILE, MOST_GOT, Notes};
-use disk_model::Disk;
+use disk_model::{Disk, Halt};
 use ftl0_packets::{Packet, write_packet};
 use pfh_reader::check;
 use px_base::Call;
@@ -74,7 +74,7 @@ impl Download {
         packet: &Packet<'_>,
         notes: &mut Notes,
         replies: &mut Replies,
-    ) -> Result<Option<Ending>, JobStop>
+    ) -> Result<Option<Ending>, Halt>
         requires empty { replies.old.items ≡ [] }
         requires healthy { notes.old.journal.failed ≡ false }
         requires stands_on { StandsOn D.Disk notes.old disk.old }
@@ -123,7 +123,7 @@ impl Download {
         packet: &Packet<'_>,
         notes: &mut Notes,
         replies: &mut Replies,
-    ) -> Result<Option<Ending>, JobStop>
+    ) -> Result<Option<Ending>, Halt>
         requires empty { replies.old.items ≡ [] }
         requires healthy { notes.old.journal.failed ≡ false }
         requires stands_on { StandsOn D.Disk notes.old disk.old }
@@ -146,7 +146,7 @@ impl Download {
         disk: &mut D,
         octets: &[u8],
         notes: &mut Notes,
-    ) -> Result<Option<Ending>, JobStop>
+    ) -> Result<Option<Ending>, Halt>
         requires healthy { notes.old.journal.failed ≡ false }
         requires stands_on { StandsOn D.Disk notes.old disk.old }
         ensures { TakesRow D.Disk
@@ -167,7 +167,7 @@ impl Download {
         disk: &mut D,
         notes: &mut Notes,
         replies: &mut Replies,
-    ) -> Result<Option<Ending>, JobStop>
+    ) -> Result<Option<Ending>, Halt>
         requires empty { replies.old.items ≡ [] }
         requires healthy { notes.old.journal.failed ≡ false }
         requires stands_on { StandsOn D.Disk notes.old disk.old }
@@ -195,7 +195,7 @@ impl Download {
         disk: &mut D,
         code: u8,
         notes: &mut Notes,
-    ) -> Result<Option<Ending>, JobStop>
+    ) -> Result<Option<Ending>, Halt>
         requires healthy { notes.old.journal.failed ≡ false }
         requires stands_on { StandsOn D.Disk notes.old disk.old }
         ensures { TakesRow D.Disk (error_row self.now code) self.now self.now notes.old notes.new disk.old disk.new []
@@ -228,7 +228,7 @@ fn note_blocks<D: Disk>(
     number: u32,
     rest: &Block,
     octets: &[u8],
-) -> Result<Block, JobStop>
+) -> Result<Block, Halt>
     requires healthy { notes.old.journal.failed ≡ false }
     requires stands_on { StandsOn D.Disk notes.old disk.old }
     requires few { length rest.now.items < 512 }
@@ -268,7 +268,7 @@ fn note_rest<D: Disk>(
     server: Call,
     number: u32,
     rest: &Block,
-) -> Result<(), JobStop>
+) -> Result<(), Halt>
     requires healthy { notes.old.journal.failed ≡ false }
     requires stands_on { StandsOn D.Disk notes.old disk.old }
     requires some { 1 ≤ number }

@@ -21,10 +21,10 @@ use crate::download::Download;
 use crate::ending::strange;
 use crate::upload::Upload;
 use crate::work::Work;
-use crate::{Ending, JobStop, Outcome};
+use crate::{Ending, Outcome};
 use arrayvec::ArrayVec;
 use client_notes::Notes;
-use disk_model::Disk;
+use disk_model::{Disk, Halt};
 use ftl0_packets::{Malformed, Packet};
 use px_base::{Call, FileBytes};
 use std::alloc::Global;
@@ -98,7 +98,7 @@ impl Job {
         packet: Result<Packet<'_>, Malformed>,
         notes: &mut Notes,
         replies: &mut Replies,
-    ) -> Result<(), JobStop>
+    ) -> Result<(), Halt>
         requires empty { replies.old.items ≡ [] }
         requires healthy { notes.old.journal.failed ≡ false }
         requires stands_on { StandsOn D.Disk notes.old disk.old }

@@ -14,11 +14,9 @@ mod limits;
 mod noting;
 mod phases;
 mod short;
-mod stop;
 mod upload;
 mod work;
 
 pub use ending::{Ending, Outcome};
 pub use job::{Job, Replies};
 pub use limits::LONGEST_LISTING;
-pub use stop::JobStop;

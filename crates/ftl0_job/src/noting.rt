@@ -6,9 +6,8 @@ ghost use Rattle.client_notes.specs.State.{StandsOn};
 ghost use Rattle.ftl0_job.specs.Noting.{HasNoted, IsAnswer, IsAnswerOf, IsOfNoting};
 ghost use Rattle.ftl0_job.specs.Upload.{refusal_of};
 
-use crate::JobStop;
 use client_notes::{Notes, NotesRefusal};
-use disk_model::Disk;
+use disk_model::{Disk, Halt};
 use file_journal::JournalFault;
 use px_base::Call;
 
@@ -21,23 +20,23 @@ pub(crate) fn note_number<D: Disk>(
     notes: &mut Notes,
     task: u32,
     number: u32,
-) -> Result<(), JobStop>
+) -> Result<(), Halt>
     requires healthy { notes.old.journal.failed ≡ false }
     requires stands_on { StandsOn D.Disk notes.old disk.old }
     requires allowed { IsTrue (is_allowed notes.old.lists (numbered task number)) }
     ensures noted { HasNoted D.Disk notes.old notes.new disk.old disk.new (numbered task number ∷ []) result }
-    ensures memory { ¬ IsErrOf result JobStop.OutOfMemory }
+    ensures memory { ¬ IsErrOf result Halt.OutOfMemory }
 {
     answer_of(notes.numbered(disk, task, number))
 }
 
 /// Notes that a task's file was acknowledged. Takes no memory.
-pub(crate) fn note_acked<D: Disk>(disk: &mut D, notes: &mut Notes, task: u32) -> Result<(), JobStop>
+pub(crate) fn note_acked<D: Disk>(disk: &mut D, notes: &mut Notes, task: u32) -> Result<(), Halt>
     requires healthy { notes.old.journal.failed ≡ false }
     requires stands_on { StandsOn D.Disk notes.old disk.old }
     requires allowed { IsTrue (is_allowed notes.old.lists (acked task)) }
     ensures noted { HasNoted D.Disk notes.old notes.new disk.old disk.new (acked task ∷ []) result }
-    ensures memory { ¬ IsErrOf result JobStop.OutOfMemory }
+    ensures memory { ¬ IsErrOf result Halt.OutOfMemory }
 {
     answer_of(notes.acked(disk, task))
 }
@@ -48,12 +47,12 @@ pub(crate) fn note_refused<D: Disk>(
     notes: &mut Notes,
     task: u32,
     code: u8,
-) -> Result<(), JobStop>
+) -> Result<(), Halt>
     requires healthy { notes.old.journal.failed ≡ false }
     requires stands_on { StandsOn D.Disk notes.old disk.old }
     requires allowed { IsTrue (is_allowed notes.old.lists (refused task code)) }
     ensures noted { HasNoted D.Disk notes.old notes.new disk.old disk.new (refusal_of task code) result }
-    ensures memory { ¬ IsErrOf result JobStop.OutOfMemory }
+    ensures memory { ¬ IsErrOf result Halt.OutOfMemory }
 {
     if code == FILE_SYSTEM {
         return Ok(());
@@ -67,7 +66,7 @@ pub(crate) fn note_forgot<D: Disk>(
     notes: &mut Notes,
     server: Call,
     number: u32,
-) -> Result<(), JobStop>
+) -> Result<(), Halt>
     requires healthy { notes.old.journal.failed ≡ false }
     requires stands_on { StandsOn D.Disk notes.old disk.old }
     ensures { HasNoted D.Disk notes.old notes.new disk.old disk.new (forgot server number ∷ []) result }
@@ -82,7 +81,7 @@ pub(crate) fn note_got<D: Disk>(
     server: Call,
     number: u32,
     octets: &[u8],
-) -> Result<(), JobStop>
+) -> Result<(), Halt>
     requires healthy { notes.old.journal.failed ≡ false }
     requires stands_on { StandsOn D.Disk notes.old disk.old }
     requires allowed { IsTrue (is_allowed notes.old.lists (got server number octets.now)) }
@@ -92,26 +91,26 @@ pub(crate) fn note_got<D: Disk>(
 }
 
 /// The answer of notes that hadn't failed.
-fn answer_of(answer: Result<(), JournalFault>) -> Result<(), JobStop>
+fn answer_of(answer: Result<(), JournalFault>) -> Result<(), Halt>
     requires { ¬ IsErrOf answer JournalFault.Failed }
     ensures { IsAnswer answer result }
 {
     match answer {
         Ok(()) => Ok(()),
-        Err(JournalFault::Disk) => Err(JobStop::Disk),
+        Err(JournalFault::Disk) => Err(Halt::Disk),
         Err(JournalFault::Failed) => unreachable!(),
     }
 }
 
 /// The answer of notes that hadn't failed to octets that came.
-fn answer_of_noting(answer: Result<(), NotesRefusal>) -> Result<(), JobStop>
+fn answer_of_noting(answer: Result<(), NotesRefusal>) -> Result<(), Halt>
     requires { IsOfNoting answer }
     ensures { IsAnswerOf answer result }
 {
     match answer {
         Ok(()) => Ok(()),
-        Err(NotesRefusal::Disk) => Err(JobStop::Disk),
-        Err(NotesRefusal::OutOfMemory) => Err(JobStop::OutOfMemory),
+        Err(NotesRefusal::Disk) => Err(Halt::Disk),
+        Err(NotesRefusal::OutOfMemory) => Err(Halt::OutOfMemory),
         Err(NotesRefusal::Failed | NotesRefusal::Full | NotesRefusal::Changed { .. }) => {
             unreachable!()
         }

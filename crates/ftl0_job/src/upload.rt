@@ -16,10 +16,10 @@ use crate::ending::strange;
 use crate::limits::MOST_DATA;
 use crate::noting::{note_acked, note_number, note_refused};
 use crate::phases::UploadPhase;
-use crate::{Ending, JobStop, Outcome, Replies};
+use crate::{Ending, Outcome, Replies};
 use arrayvec::ArrayVec;
 use client_notes::Notes;
-use disk_model::Disk;
+use disk_model::{Disk, Halt};
 use ftl0_packets::{Packet, write_packet};
 use px_base::FileBytes;
 use std::marker::Model;
@@ -74,14 +74,14 @@ impl Upload {
         packet: &Packet<'_>,
         notes: &mut Notes,
         replies: &mut Replies,
-    ) -> Result<Option<Ending>, JobStop>
+    ) -> Result<Option<Ending>, Halt>
         requires empty { replies.old.items ≡ [] }
         requires healthy { notes.old.journal.failed ≡ false }
         requires stands_on { StandsOn D.Disk notes.old disk.old }
         requires task { HasTask notes.old.lists self.old }
         ensures takes { TakesRow D.Disk (upload_row self.old (value_of packet.now)) self.old self.new notes.old notes.new
             disk.old disk.new replies.new.items result }
-        ensures memory { ¬ IsErrOf result JobStop.OutOfMemory }
+        ensures memory { ¬ IsErrOf result Halt.OutOfMemory }
     {
         match self.phase {
             UploadPhase::Login => Ok(self.take_login(packet, replies)),
@@ -115,14 +115,14 @@ impl Upload {
         disk: &mut D,
         packet: &Packet<'_>,
         notes: &mut Notes,
-    ) -> Result<Option<Ending>, JobStop>
+    ) -> Result<Option<Ending>, Halt>
         requires healthy { notes.old.journal.failed ≡ false }
         requires stands_on { StandsOn D.Disk notes.old disk.old }
         requires task { HasTask notes.old.lists self.old }
         requires go { self.old.phase ≡ UploadPhase.Go }
         ensures takes { TakesRow D.Disk (go_row self.old (value_of packet.now)) self.old self.new notes.old notes.new
             disk.old disk.new [] result }
-        ensures memory { ¬ IsErrOf result JobStop.OutOfMemory }
+        ensures memory { ¬ IsErrOf result Halt.OutOfMemory }
     {
         match *packet {
             Packet::UlGoResp { number, offset } => self.send_from(disk, notes, number, offset),
@@ -138,14 +138,14 @@ impl Upload {
         notes: &mut Notes,
         number: u32,
         offset: u32,
-    ) -> Result<Option<Ending>, JobStop>
+    ) -> Result<Option<Ending>, Halt>
         requires healthy { notes.old.journal.failed ≡ false }
         requires stands_on { StandsOn D.Disk notes.old disk.old }
         requires task { HasTask notes.old.lists self.old }
         requires go { self.old.phase ≡ UploadPhase.Go }
         ensures takes { TakesRow D.Disk (go_resp_row self.old number offset) self.old self.new notes.old notes.new
             disk.old disk.new [] result }
-        ensures memory { ¬ IsErrOf result JobStop.OutOfMemory }
+        ensures memory { ¬ IsErrOf result Halt.OutOfMemory }
     {
         if !self.may_go(number, offset) {
             return Ok(Some(strange(UL_GO_RESP)));
@@ -177,19 +177,14 @@ impl Upload {
     }
 
     /// Notes the number of a new file.
-    fn note_number<D: Disk>(
-        &self,
-        disk: &mut D,
-        notes: &mut Notes,
-        number: u32,
-    ) -> Result<(), JobStop>
+    fn note_number<D: Disk>(&self, disk: &mut D, notes: &mut Notes, number: u32) -> Result<(), Halt>
         requires healthy { notes.old.journal.failed ≡ false }
         requires stands_on { StandsOn D.Disk notes.old disk.old }
         requires task { HasTask notes.old.lists self.now }
         requires go { self.now.phase ≡ UploadPhase.Go }
         requires some { is_new_upload self.now ≡ true → 1 ≤ number }
         ensures noted { HasNoted D.Disk notes.old notes.new disk.old disk.new (number_commands self.now number) result }
-        ensures memory { ¬ IsErrOf result JobStop.OutOfMemory }
+        ensures memory { ¬ IsErrOf result Halt.OutOfMemory }
     {
         if self.is_new() {
             note_number(disk, notes, self.task, number)?;
@@ -203,14 +198,14 @@ impl Upload {
         disk: &mut D,
         notes: &mut Notes,
         code: u8,
-    ) -> Result<Option<Ending>, JobStop>
+    ) -> Result<Option<Ending>, Halt>
         requires healthy { notes.old.journal.failed ≡ false }
         requires stands_on { StandsOn D.Disk notes.old disk.old }
         requires task { HasTask notes.old.lists self.now }
         requires go { self.now.phase ≡ UploadPhase.Go }
         ensures takes { TakesRow D.Disk (error_row self.now code) self.now self.now notes.old notes.new
             disk.old disk.new [] result }
-        ensures memory { ¬ IsErrOf result JobStop.OutOfMemory }
+        ensures memory { ¬ IsErrOf result Halt.OutOfMemory }
     {
         if !self.is_new() && code == FILE_COMPLETE {
             note_acked(disk, notes, self.task)?;
@@ -227,14 +222,14 @@ impl Upload {
         packet: &Packet<'_>,
         notes: &mut Notes,
         replies: &mut Replies,
-    ) -> Result<Option<Ending>, JobStop>
+    ) -> Result<Option<Ending>, Halt>
         requires empty { replies.old.items ≡ [] }
         requires healthy { notes.old.journal.failed ≡ false }
         requires stands_on { StandsOn D.Disk notes.old disk.old }
         requires task { HasTask notes.old.lists self.now }
         ensures takes { TakesRow D.Disk (sending_row self.now (value_of packet.now)) self.now self.now notes.old notes.new
             disk.old disk.new replies.new.items result }
-        ensures memory { ¬ IsErrOf result JobStop.OutOfMemory }
+        ensures memory { ¬ IsErrOf result Halt.OutOfMemory }
     {
         let Packet::UlNakResp(code) = *packet else {
             return Ok(Some(strange(packet.kind())));
@@ -251,7 +246,7 @@ impl Upload {
         packet: &Packet<'_>,
         notes: &mut Notes,
         number: u32,
-    ) -> Result<Option<Ending>, JobStop>
+    ) -> Result<Option<Ending>, Halt>
         requires healthy { notes.old.journal.failed ≡ false }
         requires stands_on { StandsOn D.Disk notes.old disk.old }
         requires task { HasTask notes.old.lists self.now }
@@ -259,7 +254,7 @@ impl Upload {
         requires some { 1 ≤ number }
         ensures takes { TakesRow D.Disk (ack_row self.now number (value_of packet.now)) self.now self.now
             notes.old notes.new disk.old disk.new [] result }
-        ensures memory { ¬ IsErrOf result JobStop.OutOfMemory }
+        ensures memory { ¬ IsErrOf result Halt.OutOfMemory }
     {
         match *packet {
             Packet::UlAckResp => {

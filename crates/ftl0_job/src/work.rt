@@ -12,10 +12,10 @@ use crate::directory::Directory;
 use crate::download::Download;
 use crate::ending::strange;
 use crate::upload::Upload;
-use crate::{Ending, JobStop, Replies};
+use crate::{Ending, Replies};
 use arrayvec::ArrayVec;
 use client_notes::Notes;
-use disk_model::Disk;
+use disk_model::{Disk, Halt};
 use ftl0_packets::{Malformed, Packet};
 
 /// What a job does.
@@ -37,7 +37,7 @@ impl Work {
         packet: Result<Packet<'_>, Malformed>,
         notes: &mut Notes,
         replies: &mut Replies,
-    ) -> Result<Option<Ending>, JobStop>
+    ) -> Result<Option<Ending>, Halt>
         requires empty { replies.old.items ≡ [] }
         requires healthy { notes.old.journal.failed ≡ false }
         requires stands_on { StandsOn D.Disk notes.old disk.old }
@@ -59,7 +59,7 @@ impl Work {
         packet: &Packet<'_>,
         notes: &mut Notes,
         replies: &mut Replies,
-    ) -> Result<Option<Ending>, JobStop>
+    ) -> Result<Option<Ending>, Halt>
         requires empty { replies.old.items ≡ [] }
         requires healthy { notes.old.journal.failed ≡ false }
         requires stands_on { StandsOn D.Disk notes.old disk.old }

@@ -21,8 +21,8 @@ use Rattle.ftl0_session.specs.Uploads.Failures.{Failure, failed_write}
 use Rattle.ftl0_session.specs.Uploads.Session.{is_same_call}
 use Rattle.ftl0_session.proofs.uploads.UploadRows.{same_call-decides}
 use Rattle.ftl0_session.specs.SessionState.{caller_of}
-use Rattle.ftl0_session.specs.declared.stop.ServerStop.{ServerStop}
-use Rattle.ftl0_session.specs.declared.stop.ServerStop.TheVariants as stop
+use Rattle.disk_model.specs.declared.halt.Halt.{Halt as Stop}
+use Rattle.disk_model.specs.declared.halt.Halt.TheVariants as stop
 use Rattle.ftl0_server.specs.Connection.Connected.{Connected}
 use Rattle.ftl0_server.specs.Connection.ConnectionState.{ConnectionState, with_reads}
 use Rattle.ftl0_server.specs.Connection.Hearing.{Happened, hearing}
@@ -171,7 +171,7 @@ module _ {D : Type 0} (g : Ghosts D) (old new : ServerState) (server : Server) (
       }
 
   module _ (event : List Failure → Happened) where
-    heard-by : (result : Result ⊤ ServerStop) → PlaceHearsBy g server.window event old.store new.store new.lists disk disk_now p result
+    heard-by : (result : Result ⊤ Stop) → PlaceHearsBy g server.window event old.store new.store new.lists disk disk_now p result
         → HearsBy g (λ failures. heard_at server place (event failures)) old new disk disk_now result
     heard-by (Ok done) by = (
       by.0,
@@ -194,7 +194,7 @@ module _ {D : Type 0} (g : Ghosts D) (old new : ServerState) (server : Server) (
       let of = connected-of server.window old.store c got.0 got.2 in
       (of.0, got.1 ∙ ap (λ (s : Slot). Some s) of.1, of.2)
 
-  pub server-hears : (result : Result ⊤ ServerStop)
+  pub server-hears : (result : Result ⊤ Stop)
       → ((w : Window) (d : Connected) → IsPlace w old.store (Talking c) (connected d)
       → PlaceHears g w (hearing w moment (store_in old.store) old.lists d frame) old.store new.store new.lists disk disk_now p result)
       → Hears g (server_hearing server frame moment) old new disk disk_now result
@@ -224,13 +224,13 @@ module _ {D : Type 0} (g : Ghosts D) (old new : ServerState) (server : Server) (
       subst (λ (s : StoreState). DoesAmongReads g ⊥ 0 old.store s disk disk []) (sym same)
       (does-among g ⊥ old.store old.store disk disk [] (Does-none g ⊥ old.store disk (λ never. never) stands healthy lasts))
 
-  stranger-by : (result : Result ⊤ ServerStop) → HearsStranger (λ s. hearing_stranger s frame moment) old new result
+  stranger-by : (result : Result ⊤ Stop) → HearsStranger (λ s. hearing_stranger s frame moment) old new result
       → HearsBy g (λ failures. becoming (hearing_stranger server frame moment)) old new disk disk result
   stranger-by (Ok done) heard = (refl, heard server is, nothing-done)
   stranger-by (Err stop.Disk) heard = absurd heard
   stranger-by (Err stop.OutOfMemory) heard = inl nothing-done
 
-  pub stranger-hears : (result : Result ⊤ ServerStop) → HearsStranger (λ s. hearing_stranger s frame moment) old new result
+  pub stranger-hears : (result : Result ⊤ Stop) → HearsStranger (λ s. hearing_stranger s frame moment) old new result
       → Hears g (server_hearing server frame moment) old new disk disk result
   stranger-hears result heard =
       let by : Hears g (λ failures. becoming (hearing_stranger server frame moment)) old new disk disk result =
@@ -239,7 +239,7 @@ module _ {D : Type 0} (g : Ghosts D) (old new : ServerState) (server : Server) (
       (sym found ∙ same-place_of old server is old.me old.k settled frame.src) by
 
 -- what a frame of a station without a connection makes of a server, said otherwise
-pub stranger-at : (step other : Server → Server) (old new : ServerState) (result : Result ⊤ ServerStop) → ((s : Server) → step s ≡ other s)
+pub stranger-at : (step other : Server → Server) (old new : ServerState) (result : Result ⊤ Stop) → ((s : Server) → step s ≡ other s)
     → HearsStranger step old new result → HearsStranger other old new result
 stranger-at step other old new (Ok done) same heard = λ server is. subst (λ (s : Server). IsServer new s) (same server) (heard server is)
 stranger-at step other old new (Err stop.Disk) same heard = heard

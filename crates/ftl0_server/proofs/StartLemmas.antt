@@ -3,8 +3,8 @@ use Rattle.std.proofs.Common.{◌≡◌, ℕ, List, Option, sym, ◌∙◌, ap}
 use Rattle.std.specs.Prelude.{Result, Err}
 use Rattle.file_store.proofs.Offered.{told_weaker}
 use Rattle.file_store.specs.Recovery.{RefusesExactly, RefusesRecovery}
-use Rattle.file_store.specs.declared.refusals.StoreFault.{StoreFault}
-use Rattle.file_store.specs.declared.refusals.StoreFault.TheVariants as fault
+use Rattle.file_store.specs.StoreFault.{StoreFault}
+use Rattle.file_store.specs.StoreFault.TheVariants as fault
 
 module _ {A B : Type 0} (result : Result A StoreFault) (other : Result B StoreFault) (e : StoreFault) (is : result ≡ Err e) (other_is : other ≡ Err e) where
   there : (x : StoreFault) → other ≡ Err x → result ≡ Err x

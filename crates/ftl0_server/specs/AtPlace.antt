@@ -15,8 +15,8 @@ use Rattle.ftl0_session.specs.Uploads.Others.{KeepsOtherCallers}
 use Rattle.ftl0_session.specs.Uploads.SessionState.{IsHeld, IsOnlyOut, NoOtherOut, Parks}
 use Rattle.ftl0_session.specs.Downloads.Needs.{IsDueIn}
 use Rattle.ftl0_session.specs.SessionState.{caller_of}
-use Rattle.ftl0_session.specs.declared.stop.ServerStop.{ServerStop}
-use Rattle.ftl0_session.specs.declared.stop.ServerStop.TheVariants as stop
+use Rattle.disk_model.specs.declared.halt.Halt.{Halt as Stop}
+use Rattle.disk_model.specs.declared.halt.Halt.TheVariants as stop
 use Rattle.ftl0_server.specs.Connection.ConnectionState.{ConnectionState, with_reads}
 use Rattle.ftl0_server.specs.Connection.Hearing.{Happened}
 use Rattle.ftl0_server.specs.Connection.Taking.{fails, goes_on}
@@ -84,7 +84,7 @@ Works before now (Leaving link) new = (now ≡ before) × (new ≡ Leaving link)
 -- and syncs that fail in it: as the connection's call says it, but that the place is the one that is left.
 abbrev pub PlaceHearsBy :
     {D : Type 0} → Ghosts D → Window → (List Failure → Happened) → StoreState → StoreState → List CallerList → D → D
-    → Place → Result ⊤ ServerStop → Type 0
+    → Place → Result ⊤ Stop → Type 0
 PlaceHearsBy g w event store store_now lists_now disk disk_now place (Ok done) =
     ((event []).halt ≡ goes_on) × (lists_now ≡ (event []).lists) × IsPlace w store_now place (slot_after (event []))
     × DoesAmongReads g ⊥ (event []).missed store store_now disk disk_now (event []).done
@@ -102,7 +102,7 @@ PlaceHearsBy g w event store store_now lists_now disk disk_now place (Err stop.O
 -- it has where no write and no sync fails, for some number of them.
 pub record PlaceHears {D : Type 0} (g : Ghosts D) (w : Window) (event : List Failure → Happened)
     (store store_now : StoreState) (lists_now : List CallerList) (disk disk_now : D) (place : Place)
-    (result : Result ⊤ ServerStop) : Type 0 where
+    (result : Result ⊤ Stop) : Type 0 where
   pub parts : List ℕ
   pub by : PlaceHearsBy g w (with_reads event parts) store store_now lists_now disk disk_now place result
   pub since : Leaves g disk disk_now (λ _. MakesFirst (store_in store) (with_reads event parts []).done)

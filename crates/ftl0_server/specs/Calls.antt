@@ -11,8 +11,8 @@ use Rattle.file_store.specs.State.{store_in}
 use Rattle.file_store.specs.Working.{CutsOffAmongReads, DoesAmongReads}
 use Rattle.ftl0_session.specs.Uploads.Failures.{Failure, failed_write}
 use Rattle.ftl0_session.specs.SessionState.{caller_of, new_session}
-use Rattle.ftl0_session.specs.declared.stop.ServerStop.{ServerStop}
-use Rattle.ftl0_session.specs.declared.stop.ServerStop.TheVariants as stop
+use Rattle.disk_model.specs.declared.halt.Halt.{Halt as Stop}
+use Rattle.disk_model.specs.declared.halt.Halt.TheVariants as stop
 use Rattle.ftl0_server.specs.Connection.ConnectionState.{ConnectionState, with_reads}
 use Rattle.ftl0_server.specs.Connection.Taking.{fails, goes_on}
 use Rattle.ftl0_server.specs.declared.place.Place.{Place}
@@ -27,7 +27,7 @@ use Rattle.ftl0_server.specs.ServerState.{IsServer, SendsFor, ServerState}
 -- then are those of that step. Where there was no memory none is done, as for a new session, or, at some packet, those
 -- before it. The count of failed reads rose exactly where a part told of one.
 abbrev pub HearsBy :
-    {D : Type 0} → Ghosts D → (List Failure → ServerHappened) → ServerState → ServerState → D → D → Result ⊤ ServerStop
+    {D : Type 0} → Ghosts D → (List Failure → ServerHappened) → ServerState → ServerState → D → D → Result ⊤ Stop
     → Type 0
 HearsBy g event old new disk disk_now (Ok done) =
     ((event []).halt ≡ goes_on) × IsServer new (event []).after
@@ -46,7 +46,7 @@ HearsBy g event old new disk disk_now (Err stop.OutOfMemory) =
 -- of it. Since it came each image stands for the store after the first of the commands that it has where no write and
 -- no sync fails, for some number of them: that is what a power cut inside it leaves.
 pub record Hears {D : Type 0} (g : Ghosts D) (event : List Failure → ServerHappened) (old new : ServerState)
-    (disk disk_now : D) (result : Result ⊤ ServerStop) : Type 0 where
+    (disk disk_now : D) (result : Result ⊤ Stop) : Type 0 where
   pub parts : List ℕ
   pub by : HearsBy g (with_reads event parts) old new disk disk_now result
   pub since : Leaves g disk disk_now (λ _. MakesFirst (store_in old.store) (with_reads event parts []).done)
@@ -82,7 +82,7 @@ pub record SameButLinks (old new : ServerState) : Type 0 where
 
 -- A frame of a station without a connection makes this of whichever server it was, or there is no memory, and nothing
 -- changes.
-abbrev pub HearsStranger : (Server → Server) → ServerState → ServerState → Result ⊤ ServerStop → Type 0
+abbrev pub HearsStranger : (Server → Server) → ServerState → ServerState → Result ⊤ Stop → Type 0
 HearsStranger step old new (Ok done) = (server : Server) → IsServer old server → IsServer new (step server)
 HearsStranger step old new (Err stop.Disk) = ⊥
 HearsStranger step old new (Err stop.OutOfMemory) = new ≡ old

@@ -20,4 +20,3 @@ pub use Rattle.ftl0_packets.specs.Reading
 pub use Rattle.ftl0_session.specs.Lists.Lists
 pub use Rattle.ftl0_session.specs.Table
 pub use Rattle.ftl0_session.specs.Uploads.Failures
-pub use Rattle.ftl0_session.specs.declared.stop.ServerStop

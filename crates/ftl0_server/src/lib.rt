@@ -9,5 +9,4 @@ mod place;
 mod places;
 mod server;
 
-pub use ftl0_session::ServerStop;
 pub use server::{PLACES, Server};

@@ -19,9 +19,8 @@ use crate::connection::{Connection, Fate};
 use arrayvec::ArrayVec;
 use ax25_frames::Frame;
 use ax25_link::Link;
-use disk_model::Disk;
+use disk_model::{Disk, Halt};
 use file_store::FileStore;
-use ftl0_session::ServerStop;
 use ftl0_session::lists::Lists;
 use px_base::Call;
 use std::mem;
@@ -107,7 +106,7 @@ impl Place {
         lists: &mut Lists,
         frame: &Frame<'_>,
         moment: u32,
-    ) -> Result<(), ServerStop>
+    ) -> Result<(), Halt>
         requires may { MayHear store.old (value_of frame.now) self.old }
         requires healthy { store.old.journal.failed ≡ false }
         requires stands_on { StandsOn D.Disk store.old disk.old }
@@ -115,10 +114,10 @@ impl Place {
         ensures hears { (w : Window) (c : Connected) → IsPlace w store.old self.old (connected c) →
             PlaceHears D.Disk w (hearing w moment (store_in store.old) lists.old c (value_of frame.now))
             store.old store.new lists.new disk.old disk.new self.new result }
-        ensures puts { PutsAmongReads D.Disk (IsErrOf result ServerStop.Disk) disk.old disk.new }
+        ensures puts { PutsAmongReads D.Disk (IsErrOf result Halt.Disk) disk.old disk.new }
         ensures kept { KeepsComplete (store_in store.old) (store_in store.new) }
         ensures works { Works store.old store.new self.old self.new }
-        ensures healthy { ¬ IsErrOf result ServerStop.Disk → store.new.journal.failed ≡ false }
+        ensures healthy { ¬ IsErrOf result Halt.Disk → store.new.journal.failed ≡ false }
         ensures stands_on { StandsOn D.Disk store.new disk.new }
         ensures complete { AreComplete (store_in store.new) lists.new }
     {

@@ -32,10 +32,9 @@ use crate::places::{
 use arrayvec::ArrayVec;
 use ax25_frames::Frame;
 use ax25_link::{Refusal, is_call};
-use disk_model::Disk;
+use disk_model::{Disk, Halt};
 use file_store::laws::state_law;
 use file_store::{FileStore, Limits, StoreFault};
-use ftl0_session::ServerStop;
 use ftl0_session::lists::Lists;
 use px_base::{Call, OutOfMemory};
 use std::alloc::Global;
@@ -144,7 +143,7 @@ impl Server {
         disk: &mut D,
         frame: &Frame<'_>,
         moment: u32,
-    ) -> Result<(), ServerStop>
+    ) -> Result<(), Halt>
         requires frame { IsFor self.old.me (value_of frame.now) }
         requires numbers { FitsControl (value_of frame.now).kind.control }
         requires silent { server_pending self.old ≡ false }
@@ -155,11 +154,11 @@ impl Server {
         ensures hears { (server : ServerValue) → IsServer self.old server →
             Hears D.Disk (server_hearing server (value_of frame.now) moment)
             self.old self.new disk.old disk.new result }
-        ensures puts { PutsAmongReads D.Disk (IsErrOf result ServerStop.Disk) disk.old disk.new }
+        ensures puts { PutsAmongReads D.Disk (IsErrOf result Halt.Disk) disk.old disk.new }
         ensures kept { KeepsComplete (store_in self.old.store) (store_in self.new.store) }
 
         // What the next event needs.
-        ensures healthy { ¬ IsErrOf result ServerStop.Disk → self.new.store.journal.failed ≡ false }
+        ensures healthy { ¬ IsErrOf result Halt.Disk → self.new.store.journal.failed ≡ false }
         ensures stands_on { StandsOn D.Disk self.new.store disk.new }
         ensures me { self.new.me ≡ self.old.me }
     {
@@ -172,7 +171,7 @@ impl Server {
     /// Counts a tick on each link, while nothing is pending (AX.25 2.0, 2.4.7): a session is over whose caller doesn't
     /// answer any more. It frees no octets of a link, so nothing more of what is due is queued. So far a tick has
     /// nothing to do on the disk, and its moment makes no difference. It costs the eight places. Takes no memory.
-    pub fn tick<D: Disk>(&mut self, _disk: &mut D, _moment: u32) -> Result<(), ServerStop>
+    pub fn tick<D: Disk>(&mut self, _disk: &mut D, _moment: u32) -> Result<(), Halt>
         requires silent { server_pending self.old ≡ false }
         requires healthy { self.old.store.journal.failed ≡ false }
         requires stands_on { StandsOn D.Disk self.old.store _disk.old }
@@ -181,7 +180,7 @@ impl Server {
         // What a power cut inside it leaves, said as of a frame.
         ensures happens { (server : ServerValue) → IsServer self.old server →
             Hears D.Disk (happening server (ticks _moment)) self.old self.new _disk.old _disk.new result }
-        ensures puts { PutsAmongReads D.Disk (IsErrOf result ServerStop.Disk) _disk.old _disk.new }
+        ensures puts { PutsAmongReads D.Disk (IsErrOf result Halt.Disk) _disk.old _disk.new }
         ensures kept { KeepsComplete (store_in self.old.store) (store_in self.new.store) }
         ensures ticks { (server : ServerValue) → IsServer self.old server → IsServer self.new (server_ticking server) }
         ensures untouched { _disk.new ≡ _disk.old }
@@ -264,7 +263,7 @@ impl Server {
         disk: &mut D,
         frame: &Frame<'_>,
         moment: u32,
-    ) -> Result<(), ServerStop>
+    ) -> Result<(), Halt>
         requires place { position (has_caller (value_of frame.now).src) self.old.places ≡ Some place }
         requires frame { IsFor self.old.me (value_of frame.now) }
         requires numbers { FitsControl (value_of frame.now).kind.control }
@@ -274,9 +273,9 @@ impl Server {
         ensures hears { (server : ServerValue) → IsServer self.old server →
             Hears D.Disk (server_hearing server (value_of frame.now) moment)
             self.old self.new disk.old disk.new result }
-        ensures puts { PutsAmongReads D.Disk (IsErrOf result ServerStop.Disk) disk.old disk.new }
+        ensures puts { PutsAmongReads D.Disk (IsErrOf result Halt.Disk) disk.old disk.new }
         ensures kept { KeepsComplete (store_in self.old.store) (store_in self.new.store) }
-        ensures healthy { ¬ IsErrOf result ServerStop.Disk → self.new.store.journal.failed ≡ false }
+        ensures healthy { ¬ IsErrOf result Halt.Disk → self.new.store.journal.failed ≡ false }
         ensures stands_on { StandsOn D.Disk self.new.store disk.new }
         ensures me { self.new.me ≡ self.old.me }
     {
@@ -286,7 +285,7 @@ impl Server {
     }
 
     /// Hears a frame of a station without a connection (AX.25 2.0, 2.4.3).
-    fn hear_stranger(&mut self, frame: &Frame<'_>, moment: u32) -> Result<(), ServerStop>
+    fn hear_stranger(&mut self, frame: &Frame<'_>, moment: u32) -> Result<(), Halt>
         requires { position (has_caller (value_of frame.now).src) self.old.places ≡ None }
         ensures heard { HearsStranger (λ server. hearing_stranger server (value_of frame.now) moment)
             self.old self.new result }
@@ -305,7 +304,7 @@ impl Server {
     /// Answers a SABM with this P bit of a station without a connection: by a session at the lowest free place, whose
     /// LOGIN_RESP says whether numbers are left in the station's list, or by DM where none is free (AX.25 2.0, 2.4.3.1;
     /// FTL0 1990, LOGIN_RESP).
-    fn answer(&mut self, caller: Call, poll: bool, moment: u32) -> Result<(), ServerStop>
+    fn answer(&mut self, caller: Call, poll: bool, moment: u32) -> Result<(), Halt>
         requires { position (has_caller caller) self.old.places ≡ None }
         ensures heard { HearsStranger (λ server. called_by server caller poll moment (first_empty server.slots))
             self.old self.new result }
@@ -330,7 +329,7 @@ impl Server {
                 self.seat(place, connection);
                 Ok(())
             }
-            Err(OutOfMemory) => Err(ServerStop::OutOfMemory),
+            Err(OutOfMemory) => Err(Halt::OutOfMemory),
         }
     }
 

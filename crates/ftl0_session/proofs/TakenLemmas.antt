@@ -20,8 +20,8 @@ use Rattle.ftl0_session.proofs.uploads.Rows.{others-same}
 use Rattle.ftl0_session.specs.Downloads.Needs.{AreComplete, IsDueIn}
 use Rattle.ftl0_session.specs.Downloads.Table.{DownloadRow, DownloadState}
 use Rattle.ftl0_session.specs.Downloads.Taking.{IsRow, Made, made, made_by}
-use Rattle.ftl0_session.specs.declared.stop.ServerStop.{ServerStop}
-use Rattle.ftl0_session.specs.declared.stop.ServerStop.TheVariants as stop
+use Rattle.disk_model.specs.declared.halt.Halt.{Halt}
+use Rattle.disk_model.specs.declared.halt.Halt.TheVariants as stop
 use Rattle.ftl0_session.specs.SessionState.{DoesOne, MayTake, SessionState, caller_of, session_of, state_in}
 use Rattle.ftl0_session.specs.Table.{Row, by_download, download_row, downloading, error_by, error_row, state_by}
 use Rattle.ftl0_session.specs.Table.{upload_row}
@@ -29,7 +29,7 @@ use Rattle.ftl0_session.specs.Taking.{Taken, TakesDownload, row_over, working}
 use Rattle.ftl0_session.proofs.RowLemmas.{download-command, row-download, row-error}
 
 -- the answer that all was done
-abbrev answered : Result ⊤ ServerStop
+abbrev answered : Result ⊤ Halt
 answered = Ok tt
 
 -- a packet that was taken had a row, and that was made

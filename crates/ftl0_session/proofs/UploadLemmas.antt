@@ -12,8 +12,7 @@ use Rattle.file_store.specs.Command.{Command, DoesAll}
 use Rattle.file_store.specs.EntriesKept.{KeepsComplete}
 use Rattle.file_store.specs.OnDisk.{Does}
 use Rattle.file_store.specs.State.{StandsOn, StoreState, store_in}
-use Rattle.ftl0_session.specs.declared.uploads.stop.ServerStop.{ServerStop as UploadStop}
-use Rattle.ftl0_session.specs.declared.uploads.stop.ServerStop.TheVariants as upload_stop
+use Rattle.disk_model.specs.declared.halt.Halt.{Halt}
 use Rattle.ftl0_session.specs.Uploads.Others.{KeepsOtherCallers}
 use Rattle.ftl0_session.specs.Uploads.Session as upload
 use Rattle.ftl0_session.specs.Uploads.Session.{is_upload_kind, session_row as upload_session_row}
@@ -22,26 +21,15 @@ use Rattle.ftl0_session.specs.Uploads.Taking.{Answers as UploadAnswers, LeavesDi
 use Rattle.ftl0_session.proofs.uploads.Rows.{row-some}
 use Rattle.ftl0_session.specs.Downloads.Needs.{AreComplete}
 use Rattle.ftl0_session.specs.Downloads.Table.{ready}
-use Rattle.ftl0_session.specs.declared.stop.ServerStop.TheVariants as stop
+use Rattle.disk_model.specs.declared.halt.Halt.TheVariants as stop
 use Rattle.ftl0_session.specs.SessionState.{session_of}
 use Rattle.ftl0_session.specs.Table.{Row, State, by_upload, state_by, takes_memory}
-use Rattle.ftl0_session.specs.Taking.{Answers, PutsRow, Taken, Working, answer_by, row_over, working}
+use Rattle.ftl0_session.specs.Taking.{Answers, PutsRow, Taken, Working, row_over, working}
 use Rattle.ftl0_session.proofs.RowLemmas.{row-upload, upload-free, upload_part-free}
 
 -- what a session works on, by its parts
 abbrev working_at : List CallerList → StoreState → State → Working
 working_at lists store state = record { store = store; lists = lists; state = state }
-
--- a fault of the disk is one in both
-fault-back : (given : Result ⊤ UploadStop) → IsErrOf (answer_by given) stop.Disk → IsErrOf given upload_stop.Disk
-fault-back (Ok done) fault = absurd (cc fault)
-fault-back (Err upload_stop.Disk) fault = refl
-fault-back (Err upload_stop.OutOfMemory) fault = absurd (cc fault)
-
-fault-on : (given : Result ⊤ UploadStop) → IsErrOf given upload_stop.Disk → IsErrOf (answer_by given) stop.Disk
-fault-on (Ok done) fault = absurd (cc fault)
-fault-on (Err upload_stop.Disk) fault = refl
-fault-on (Err upload_stop.OutOfMemory) fault = absurd (cc fault)
 
 module _ {D : Type 0} (g : Ghosts D) (moment : ℕ) (item : Item) (uploads uploads_now : Uploading) (store store_now : StoreState) (lists : List CallerList) (disk disk_now : D) (replies : List ℕ) where
   abbrev part : upload.State
@@ -61,8 +49,8 @@ module _ {D : Type 0} (g : Ghosts D) (moment : ℕ) (item : Item) (uploads uploa
   row-is given is fails =
       row-upload uploads.caller moment (store_in store) lists (state_by part ready) item fails given (upload-free uploads.caller moment (store_in store) part item ∙ is)
 
-  answers-by : (given : Result ⊤ UploadStop) → UploadAnswers uploads.caller moment store part item store_now (state_of store_now uploads_now.phase) replies given
-      → Answers before item (row false) now replies (answer_by given)
+  answers-by : (given : Result ⊤ Halt) → UploadAnswers uploads.caller moment store part item store_now (state_of store_now uploads_now.phase) replies given
+      → Answers before item (row false) now replies given
   answers-by (Ok done) said =
       let is = row-is said.0 said.1 false in (
         subst (λ (cs : List Command). DoesAll (store_in store) (store_in store_now) cs) (sym (ap (λ (r : Row). r.commands) is)) said.2.0,
@@ -70,12 +58,12 @@ module _ {D : Type 0} (g : Ghosts D) (moment : ℕ) (item : Item) (uploads uploa
         ap (λ (p : upload.State). state_by p ready) said.2.1 ∙ sym (ap (λ (r : Row). r.state) is),
         said.2.2 ∙ sym (ap (λ (r : Row). texts r.replies) is),
       )
-  answers-by (Err upload_stop.Disk) said = (
+  answers-by (Err stop.Disk) said = (
     ap (λ (p : upload.State). state_by p ready) said.2,
     refl,
     said.3 ∙ ap (λ (p : upload.State). texts (upload.fault_reply p ∷ [])) (sym (upload_part-free part)),
   )
-  answers-by (Err upload_stop.OutOfMemory) said =
+  answers-by (Err stop.OutOfMemory) said =
       let is = row-is said.0 said.1 false in (
         subst (λ (r : Row). IsTrue (takes_memory item r.state)) (sym is)
             (subst (λ (p : upload.State). IsTrue (upload.takes_memory item p)) (sym (upload_part-free said.0.state)) said.2),
@@ -83,24 +71,24 @@ module _ {D : Type 0} (g : Ghosts D) (moment : ℕ) (item : Item) (uploads uploa
         said.3.2,
       )
 
-  on_disk-by : (given : Result ⊤ UploadStop) → UploadAnswers uploads.caller moment store part item store_now (state_of store_now uploads_now.phase) replies given
-      → UploadPuts g store store_now disk disk_now (row_of uploads.caller moment store part item) given → PutsRow g store store_now disk disk_now (row false) (answer_by given)
+  on_disk-by : (given : Result ⊤ Halt) → UploadAnswers uploads.caller moment store part item store_now (state_of store_now uploads_now.phase) replies given
+      → UploadPuts g store store_now disk disk_now (row_of uploads.caller moment store part item) given → PutsRow g store store_now disk disk_now (row false) given
   on_disk-by (Ok done) said puts =
       subst (λ (cs : List Command). Does g ⊥ store store_now disk disk_now cs) (sym (ap (λ (r : Row). r.commands) (row-is said.0 said.1 false)))
       (at_told (λ (r : upload.Row). Does g ⊥ store store_now disk disk_now r.commands) said.0 said.1 puts)
-  on_disk-by (Err upload_stop.Disk) said puts =
+  on_disk-by (Err stop.Disk) said puts =
       subst (λ (cs : List Command). Does g ⊤ store store_now disk disk_now cs) (sym (ap (λ (r : Row). r.commands) (row-is said.0 said.1 false)))
       (at_told (λ (r : upload.Row). Does g ⊤ store store_now disk disk_now r.commands) said.0 said.1 puts)
-  on_disk-by (Err upload_stop.OutOfMemory) said puts = puts
+  on_disk-by (Err stop.OutOfMemory) said puts = puts
 
-  pub taken-upload : (given : Result ⊤ UploadStop) → is_upload_kind (kind_of_item item) ≡ true
+  pub taken-upload : (given : Result ⊤ Halt) → is_upload_kind (kind_of_item item) ≡ true
       → UploadAnswers uploads.caller moment store part item store_now (state_of store_now uploads_now.phase) replies given
       → UploadPuts g store store_now disk disk_now (row_of uploads.caller moment store part item) given
-      → LeavesDisk disk disk_now (row_of uploads.caller moment store part item) → Puts g (IsErrOf given upload_stop.Disk) disk disk_now
-      → (IsErrOf given upload_stop.Disk → store_now.journal.failed ≡ true) → KeepsComplete (store_in store) (store_in store_now) → KeepsOtherCallers store store_now uploads.caller
-      → uploads_now.caller ≡ uploads.caller → (¬ IsErrOf given upload_stop.Disk → store_now.journal.failed ≡ false) → StandsOn g store_now disk_now
+      → LeavesDisk disk disk_now (row_of uploads.caller moment store part item) → Puts g (IsErrOf given stop.Disk) disk disk_now
+      → (IsErrOf given stop.Disk → store_now.journal.failed ≡ true) → KeepsComplete (store_in store) (store_in store_now) → KeepsOtherCallers store store_now uploads.caller
+      → uploads_now.caller ≡ uploads.caller → (¬ IsErrOf given stop.Disk → store_now.journal.failed ≡ false) → StandsOn g store_now disk_now
       → IsHeld store_now uploads_now → IsOnlyOut store_now uploads_now → AreComplete (store_in store_now) lists → g.lasts disk disk
-      → Taken g moment item (session_of uploads ready) (session_of uploads_now ready) store store_now lists lists disk disk_now replies (answer_by given)
+      → Taken g moment item (session_of uploads ready) (session_of uploads_now ready) store store_now lists lists disk disk_now replies given
   taken-upload given kind said on_disk untouched puts failed kept others caller healthy stands held only complete lasts =
       let has = row-some uploads.caller moment (store_in store) part item kind in
       let same : has.0.commands ≡ [] → disk_now ≡ disk = at_told (λ (r : upload.Row). r.commands ≡ [] → disk_now ≡ disk) has.0 has.1 untouched in
@@ -112,15 +100,15 @@ module _ {D : Type 0} (g : Ghosts D) (moment : ℕ) (item : Item) (uploads uploa
           disk_then = disk;
           reads = reads_none g disk (IsTrue false) (λ never. true≢false (sym never)) lasts;
           on_disk = on_disk-by given said on_disk;
-          puts = puts_same g disk disk_now (IsErrOf given upload_stop.Disk) (IsErrOf (answer_by given) stop.Disk) (fault-on given) (fault-back given) puts;
+          puts = puts;
         };
         untouched = λ fails without.
             subst (λ (d : D). ChangesReads g disk d) (sym (same (sym (ap (λ (r : Row). r.commands) (row-is has.0 has.1 fails)) ∙ without))) (reads-none g disk);
-        failed = λ fault. failed (fault-back given fault);
+        failed = failed;
         kept = kept;
         others = others;
         caller = caller;
-        healthy = λ fine. healthy (λ fault. fine (fault-on given fault));
+        healthy = healthy;
         stands_on = stands;
         held = held;
         only = only;

@@ -17,8 +17,8 @@ use Rattle.file_store.specs.Working.{CutsOffAmongReads, DoesAmongReads, one_if}
 use Rattle.ftl0_session.specs.Uploads.Failures.{Failure, failed_reads, failed_write, is_read_fault, is_write_fault}
 use Rattle.ftl0_session.specs.Uploads.Failures.{read_fails, write_fails}
 use Rattle.ftl0_session.specs.Downloads.Sending as due
-use Rattle.ftl0_session.specs.declared.stop.ServerStop.{ServerStop}
-use Rattle.ftl0_session.specs.declared.stop.ServerStop.TheVariants as stop
+use Rattle.disk_model.specs.declared.halt.Halt.{Halt}
+use Rattle.disk_model.specs.declared.halt.Halt.TheVariants as stop
 use Rattle.ftl0_session.specs.Filling.{IsDue, PutsDue}
 use Rattle.ftl0_session.specs.Table.{DuePacket, Row, State, download_part, due_at, in_session, next_due, row_at}
 use Rattle.ftl0_session.specs.Table.{failed_reads_told, tells_failed_read}
@@ -50,7 +50,7 @@ told-append (x ∷ xs) ys =
 module _ {D : Type 0} (g : Ghosts D) (on : (first second third : D) → g.lasts first second → g.lasts second third → g.lasts first third)
     (caller : CallSign) (moment : ℕ) (item : Item) (before now : Working) (disk disk_now : D) (replies : List ℕ) (healthy : before.store.journal.failed ≡ false) (stands : StandsOn g before.store disk) where
   -- its reads
-  first : (result : Result ⊤ ServerStop) (takes : TakesPacket g caller moment item before now disk disk_now replies result)
+  first : (result : Result ⊤ Halt) (takes : TakesPacket g caller moment item before now disk disk_now replies result)
       → DoesAmongReads g ⊥ (failed_reads_told (row_over caller moment before item takes.fails).replies) before.store before.store disk takes.disk_then []
   first result takes =
       among-same g ⊥ ⊥ (one_if takes.fails) (failed_reads_told (row_over caller moment before item takes.fails).replies) before.store before.store disk takes.disk_then [] (λ p. p) (λ p. p)

@@ -10,15 +10,13 @@ use Rattle.file_store.specs.EntriesKept.{KeepsComplete}
 use Rattle.file_store.specs.Calls.{ChangesReads, Puts, Reads}
 use Rattle.file_store.specs.OnDisk.{Does}
 use Rattle.file_store.specs.State.{StandsOn, StoreState, store_in}
-use Rattle.ftl0_session.specs.declared.uploads.stop.ServerStop.{ServerStop as UploadStop}
-use Rattle.ftl0_session.specs.declared.uploads.stop.ServerStop.TheVariants as upload_stop
+use Rattle.disk_model.specs.declared.halt.Halt.{Halt}
 use Rattle.ftl0_session.specs.Uploads.Others.{KeepsOtherCallers}
 use Rattle.ftl0_session.specs.Uploads.SessionState.{IsHeld, IsOnlyOut, SessionState as Uploading}
 use Rattle.ftl0_session.specs.Downloads.Needs.{AreComplete, IsDueIn}
 use Rattle.ftl0_session.specs.Downloads.Table.{DownloadState}
 use Rattle.ftl0_session.specs.Downloads.Taking.{IsRow, made}
-use Rattle.ftl0_session.specs.declared.stop.ServerStop.{ServerStop}
-use Rattle.ftl0_session.specs.declared.stop.ServerStop.TheVariants as stop
+use Rattle.disk_model.specs.declared.halt.Halt.TheVariants as stop
 use Rattle.ftl0_session.specs.SessionState.{SessionState, caller_of, session_of, state_in}
 use Rattle.ftl0_session.specs.Table.{Row, State, command, download_row, fault_reply, session_row, takes_memory}
 
@@ -48,7 +46,7 @@ Gives before row now replies =
 -- The answer to a packet is its row of the table. A stop says that there is no memory, where the row begins a file or
 -- takes octets, and nothing changed and nothing is replied; or that the disk failed in one of the row's commands, which
 -- code 3 replies.
-abbrev pub Answers : Working → Item → Row → Working → List ℕ → Result ⊤ ServerStop → Type 0
+abbrev pub Answers : Working → Item → Row → Working → List ℕ → Result ⊤ Halt → Type 0
 Answers before item row now replies (Ok done) = Gives before row now replies
 Answers before item row now replies (Err stop.OutOfMemory) =
     IsTrue (takes_memory item row.state) × (now ≡ before) × (replies ≡ [])
@@ -59,7 +57,7 @@ Answers before item row now replies (Err stop.Disk) =
 -- the disk failed in one of them: a crash since the packet came leaves the store after the first so many of them. Else
 -- the disk isn't touched.
 abbrev pub PutsRow :
-    {D : Type 0} → Ghosts D → StoreState → StoreState → D → D → Row → Result ⊤ ServerStop → Type 0
+    {D : Type 0} → Ghosts D → StoreState → StoreState → D → D → Row → Result ⊤ Halt → Type 0
 PutsRow g before now disk disk_now row (Ok done) = Does g ⊥ before now disk disk_now row.commands
 PutsRow g before now disk disk_now row (Err stop.Disk) = Does g ⊤ before now disk disk_now row.commands
 PutsRow g before now disk disk_now row (Err stop.OutOfMemory) = disk_now ≡ disk
@@ -67,7 +65,7 @@ PutsRow g before now disk disk_now row (Err stop.OutOfMemory) = disk_now ≡ dis
 -- A session takes a packet, malformed or not. First the disk is read, and a read failed or none did; the answer is the
 -- packet's row for that, which tells of a read that failed by code 3. Then the row's commands are done.
 pub record TakesPacket {D : Type 0} (g : Ghosts D) (caller : CallSign) (moment : ℕ) (item : Item)
-    (before now : Working) (disk disk_now : D) (replies : List ℕ) (result : Result ⊤ ServerStop) : Type 0 where
+    (before now : Working) (disk disk_now : D) (replies : List ℕ) (result : Result ⊤ Halt) : Type 0 where
   pub fails : Bool
   pub told : fails ≡ true → (row_over caller moment before item fails).replies ≡ dl_error_resp 3 ∷ []
   pub answers : Answers before item (row_over caller moment before item fails) now replies result
@@ -84,7 +82,7 @@ ReadsAlone g row disk disk_now = (fails : Bool) → (row fails).commands ≡ [] 
 -- What a packet does to a session, to the store, the lists and the disk, and what it keeps.
 pub record Taken {D : Type 0} (g : Ghosts D) (moment : ℕ) (item : Item) (old new : SessionState)
     (store store_now : StoreState) (lists lists_now : List CallerList) (disk disk_now : D) (replies : List ℕ)
-    (result : Result ⊤ ServerStop) : Type 0 where
+    (result : Result ⊤ Halt) : Type 0 where
   pub takes :
       TakesPacket g (caller_of old) moment item (working old store lists) (working new store_now lists_now) disk
       disk_now replies result
@@ -116,9 +114,3 @@ pub record TakesDownload {D : Type 0} (g : Ghosts D) (item : Item) (uploads : Up
       IsRow
       (download_row uploads.caller (store_in store) lists (state_in store (session_of uploads downloads)) item fails) taken
       disk disk_now (made downloads lists []) (made downloads_now lists_now replies)
-
--- an answer of uploading, as one of the session
-abbrev pub answer_by : Result ⊤ UploadStop → Result ⊤ ServerStop
-answer_by (Ok done) = Ok tt
-answer_by (Err upload_stop.Disk) = Err stop.Disk
-answer_by (Err upload_stop.OutOfMemory) = Err stop.OutOfMemory

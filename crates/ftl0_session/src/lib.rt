@@ -10,9 +10,7 @@ pub mod downloads;
 pub mod laws;
 pub mod lists;
 mod session;
-mod stop;
 pub mod uploads;
 
 pub use crate::uploads::Replies;
 pub use session::Session;
-pub use stop::ServerStop;

@@ -15,16 +15,15 @@ ghost use Rattle.ftl0_session.specs.Downloads.Table.{ready};
 ghost use Rattle.ftl0_session.specs.Filling.{PutsDue};
 ghost use Rattle.ftl0_session.specs.SessionState.{DoesOne, MayTake, caller_of, new_session, session_of, state_in};
 ghost use Rattle.ftl0_session.specs.Table.{error_by, flags, greeting};
-ghost use Rattle.ftl0_session.specs.Taking.{ReadsAlone, Taken, TakesDownload, TakesPacket, answer_by, row_over};
+ghost use Rattle.ftl0_session.specs.Taking.{ReadsAlone, Taken, TakesDownload, TakesPacket, row_over};
 ghost use Rattle.ftl0_session.specs.Taking.{working};
 
-use crate::ServerStop;
 use crate::downloads::Downloads;
 use crate::downloads::laws::stays_law;
 use crate::lists::Lists;
-use crate::uploads::{Replies, ServerStop as UploadStop, Session as Uploads};
+use crate::uploads::{Replies, Session as Uploads};
 use arrayvec::ArrayVec;
-use disk_model::Disk;
+use disk_model::{Disk, Halt};
 use file_store::FileStore;
 use ftl0_packets::{Malformed, Packet, write_packet};
 use px_base::Call;
@@ -85,6 +84,9 @@ impl Session {
     /// Takes a packet: one row of the session's table, or code 3 where a write or a sync of the disk fails. The row's
     /// commands are on the disk before its replies are given. A read that fails gives the row for that, and the session
     /// goes on. Takes memory, before it writes to the disk.
+    ///
+    /// `Disk`: the upload is spent, and the store has failed. Some of the packet's octets may be held, and its file begun,
+    /// complete or gone. `OutOfMemory`: the packet gave nothing; session, store, lists and disk are as they were.
     pub fn take<D: Disk>(
         &mut self,
         disk: &mut D,
@@ -93,7 +95,7 @@ impl Session {
         store: &mut FileStore,
         lists: &mut Lists,
         replies: &mut Replies,
-    ) -> Result<(), ServerStop>
+    ) -> Result<(), Halt>
         requires empty { replies.old.items ≡ [] }
         requires healthy { store.old.journal.failed ≡ false }
         requires stands_on { StandsOn D.Disk store.old disk.old }
@@ -110,13 +112,13 @@ impl Session {
         ensures untouched { ReadsAlone D.Disk
             (row_over (caller_of self.old) moment (working self.old store.old lists.old) (item_of packet.entry))
             disk.old disk.new }
-        ensures failed { IsErrOf result ServerStop.Disk → store.new.journal.failed ≡ true }
+        ensures failed { IsErrOf result Halt.Disk → store.new.journal.failed ≡ true }
         ensures kept { KeepsComplete (store_in store.old) (store_in store.new) }
         ensures others { KeepsOtherCallers store.old store.new (caller_of self.old) }
 
         // What the next packet needs.
         ensures caller { caller_of self.new ≡ caller_of self.old }
-        ensures healthy { ¬ IsErrOf result ServerStop.Disk → store.new.journal.failed ≡ false }
+        ensures healthy { ¬ IsErrOf result Halt.Disk → store.new.journal.failed ≡ false }
         ensures stands_on { StandsOn D.Disk store.new disk.new }
         ensures held { IsHeld store.new self.new.uploads }
         ensures only { IsOnlyOut store.new self.new.uploads }
@@ -191,7 +193,7 @@ fn take_packet<D: Disk>(
     store: &mut FileStore,
     lists: &mut Lists,
     replies: &mut Replies,
-) -> Result<(), ServerStop>
+) -> Result<(), Halt>
     requires empty { replies.old.items ≡ [] }
     requires may { MayTake D.Disk store.old disk.old lists.old (session_of uploads.old downloads.old) }
     requires one { DoesOne uploads.old.phase downloads.old }
@@ -226,7 +228,7 @@ fn take_upload<D: Disk>(
     store: &mut FileStore,
     lists: &Lists,
     replies: &mut Replies,
-) -> Result<(), ServerStop>
+) -> Result<(), Halt>
     requires empty { replies.old.items ≡ [] }
     requires may { MayTake D.Disk store.old disk.old lists.now (session_of uploads.old ready) }
     requires kind { is_upload_kind (kind_of_item (item_of packet)) ≡ true }
@@ -235,7 +237,7 @@ fn take_upload<D: Disk>(
 {
     // While the store keeps its complete files, so do the lists.
     stays_law();
-    answer_of(uploads.take(disk, packet, moment, store, replies))
+    uploads.take(disk, packet, moment, store, replies)
 }
 
 /// Takes any other packet: by its row of downloading, or by error 1.
@@ -308,17 +310,6 @@ fn is_of_uploading(packet: &Result<Packet<'_>, Malformed>) -> bool
     ensures { result ≡ is_upload_kind (kind_of_item (item_of packet.now)) }
 {
     matches!(kind_of(packet), 0 | 1 | 3)
-}
-
-/// An answer of uploading, as one of the session.
-fn answer_of(taken: Result<(), UploadStop>) -> Result<(), ServerStop>
-    ensures { result ≡ answer_by taken }
-{
-    match taken {
-        Ok(()) => Ok(()),
-        Err(UploadStop::Disk) => Err(ServerStop::Disk),
-        Err(UploadStop::OutOfMemory) => Err(ServerStop::OutOfMemory),
-    }
 }
 
 /// A packet that is malformed or has no row in the state: error 1.

@@ -5,8 +5,6 @@ mod asked;
 pub mod laws;
 mod phase;
 mod session;
-mod stop;
 
 pub use phase::Phase;
 pub use session::{Replies, Session};
-pub use stop::ServerStop;

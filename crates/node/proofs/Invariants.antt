@@ -8,7 +8,7 @@ use Rattle.px_base.specs.declared.air.Turn.{Turn}
 use Rattle.node.specs.Course.{AtDisk, Course}
 use Rattle.node.specs.Inputs.{Input, inputs_of}
 use Rattle.node.specs.Turns.{AreHandedOver, IsOpenBefore, Lent, MomentsTaken, party_at}
-use Rattle.node.specs.declared.halt.Halt.{Halt}
+use Rattle.disk_model.specs.declared.halt.Halt.{Halt}
 use Rattle.node.specs.declared.terms.TurnTerms.{TurnTerms}
 
 -- the loop over texts that are said

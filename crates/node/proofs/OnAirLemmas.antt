@@ -14,7 +14,7 @@ use Rattle.node.specs.Laws.{SomeFramesLaw}
 use Rattle.node.specs.OnAir.{Brings, BringsOver, HasHeardSome, StaysOnAir, inner, on_air}
 use Rattle.node.specs.Reading.{HasHeard, HearsRun}
 use Rattle.node.specs.Station.{StationValue}
-use Rattle.node.specs.declared.halt.Halt.{Halt}
+use Rattle.disk_model.specs.declared.halt.Halt.{Halt}
 use Rattle.node.specs.declared.on_air.OnAir.{OnAir}
 use Rattle.node.proofs.BringsLemmas.{brings-octet, brings-run, brings-then}
 use Rattle.node.proofs.InputLemmas.{are-octets, octets_at-append, octets_in-append, octets_in-at}

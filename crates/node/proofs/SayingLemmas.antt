@@ -10,8 +10,8 @@ use Rattle.px_base.proofs.Told.{Gains-front, Gains-none, Gains-trans}
 use Rattle.node.specs.Course.{AtDisk, Course, GaveAll, GivesNext, IsLawful, stop_at_put, stop_of}
 use Rattle.node.specs.Inputs.{Input, IsInput}
 use Rattle.node.specs.Turns.{CountsBy, IsByParty, IsUnsaid, SaysAll, Takes}
-use Rattle.node.specs.declared.halt.Halt.{Halt}
-use Rattle.node.specs.declared.halt.Halt.TheVariants as halt
+use Rattle.disk_model.specs.declared.halt.Halt.{Halt}
+use Rattle.disk_model.specs.declared.halt.Halt.TheVariants as halt
 use Rattle.node.specs.declared.stop.NodeStop.{NodeStop}
 use Rattle.node.specs.declared.stop.NodeStop.TheVariants as stop
 use Rattle.node.proofs.Invariants.{IsSaying}

@@ -2,8 +2,8 @@
 use Rattle.std.specs.Prelude.{ℕ, List, [], ◌++◌, take, Bool, true, false, Option, None, Some, Result, Ok, Err, ⊤}
 use Rattle.std.specs.List.{AllByRecursion}
 use Rattle.px_base.specs.Octets.{IsFront}
-use Rattle.node.specs.declared.halt.Halt.{Halt}
-use Rattle.node.specs.declared.halt.Halt.TheVariants as halt
+use Rattle.disk_model.specs.declared.halt.Halt.{Halt}
+use Rattle.disk_model.specs.declared.halt.Halt.TheVariants as halt
 use Rattle.node.specs.declared.stop.NodeStop.{NodeStop}
 use Rattle.node.specs.declared.stop.NodeStop.TheVariants as stop
 

@@ -4,7 +4,6 @@
 
 mod driving;
 mod finished;
-mod halt;
 pub mod laws;
 mod on_air;
 mod party;
@@ -14,9 +13,9 @@ mod stop;
 mod terms;
 mod turns;
 
+pub use disk_model::Halt;
 pub use driving::drive;
 pub use finished::Finished;
-pub use halt::Halt;
 pub use party::{MOST_SAID, Party};
 pub use station::Station;
 pub use station_reader::StationReader;

@@ -11,8 +11,8 @@ use Rattle.file_store.specs.Walk.{state}
 use Rattle.file_store.specs.Store.{Store, empty_store}
 use Rattle.file_store.specs.State.{standing_of}
 use Rattle.file_store.specs.Working.{CountsSome}
-use Rattle.file_store.specs.declared.refusals.StoreFault.{StoreFault}
-use Rattle.file_store.specs.declared.refusals.StoreFault.TheVariants as fault
+use Rattle.file_store.specs.StoreFault.{StoreFault}
+use Rattle.file_store.specs.StoreFault.TheVariants as fault
 use Rattle.node.specs.Lent.{lent, seen}
 use Rattle.server_node.specs.Sessions.SessionRan.{SessionEnds, SessionRan}
 use Rattle.server_node.specs.Stops.{HasAirCause, EndsExactly, RefusesSession, stop_of_fault}

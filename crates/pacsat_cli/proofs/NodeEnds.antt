@@ -8,8 +8,8 @@ use Rattle.px_base.specs.declared.air.Turn.{Turn}
 use Rattle.disk_model.specs.declared.disk.Disk.{Ghosts}
 use Rattle.file_store.specs.State.{standing_of}
 use Rattle.file_store.specs.Working.{PutsAmongReads}
-use Rattle.file_store.specs.declared.refusals.StoreFault.{StoreFault}
-use Rattle.file_store.specs.declared.refusals.StoreFault.TheVariants as fault
+use Rattle.file_store.specs.StoreFault.{StoreFault}
+use Rattle.file_store.specs.StoreFault.TheVariants as fault
 use Rattle.server_node.specs.OnDisk.{NodeRuns}
 use Rattle.server_node.specs.Served.{TurnsBy}
 use Rattle.server_node.specs.Stops.{CountsBy, EndsExactly, RefusesSession, stop_of_fault}

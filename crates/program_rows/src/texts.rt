@@ -2,8 +2,7 @@
 
 use anyhow::{Result, bail};
 use command_words::Refusal;
-use ftl0_job::JobStop;
-use ftl0_session::ServerStop;
+use disk_model::Halt;
 use row_words::Player;
 use server_node::NodeStop as SessionStop;
 use std::alloc::Global;
@@ -82,7 +81,7 @@ fn send_stops(alloc: Global) -> Result<String> {
 
 /// The stops of a job.
 fn job_stops(alloc: Global) -> Result<String> {
-    joined(alloc, &[JobStop::Disk, JobStop::OutOfMemory])
+    joined(alloc, &[Halt::Disk, Halt::OutOfMemory])
 }
 
 /// The stops of a session over an air.
@@ -105,5 +104,5 @@ fn session_stops(alloc: Global) -> Result<String> {
 
 /// The stops of a server's session.
 fn server_stops(alloc: Global) -> Result<String> {
-    joined(alloc, &[ServerStop::Disk, ServerStop::OutOfMemory])
+    joined(alloc, &[Halt::Disk, Halt::OutOfMemory])
 }

@@ -38,9 +38,9 @@ use Rattle.server_node.specs.Stops.{HasAirCause, served_by, stop_of_node, Refuse
 use Rattle.std.proofs.lemmas.Result.{err_from_is_err_and}
 use Rattle.file_store.specs.IsStore.{IsStore}
 use Rattle.file_store.specs.Journal.{after_recovery}
-use Rattle.file_store.specs.declared.refusals.StoreFault.{StoreFault}
+use Rattle.file_store.specs.StoreFault.{StoreFault}
 use Rattle.server_node.specs.declared.stop.NodeStop.TheVariants as stop
-use Rattle.file_store.specs.declared.refusals.StoreFault.TheVariants as fault
+use Rattle.file_store.specs.StoreFault.TheVariants as fault
 use Rattle.node.specs.declared.finished.Finished.TheVariants as finished
 use Rattle.node.specs.declared.stop.NodeStop.TheVariants as node_stop
 

@@ -6,8 +6,8 @@ use Rattle.file_store.specs.Calls.{Leaves, TellsAlike}
 use Rattle.file_store.specs.JournalRecovery.{IsFailedSync, IsSyncedFirst}
 use Rattle.file_store.specs.Recovery.{StandsAlike}
 use Rattle.file_store.specs.Working.{StopsAtFailedWrite}
-use Rattle.file_store.specs.declared.refusals.StoreFault.{StoreFault}
-use Rattle.file_store.specs.declared.refusals.StoreFault.TheVariants as fault
+use Rattle.file_store.specs.StoreFault.{StoreFault}
+use Rattle.file_store.specs.StoreFault.TheVariants as fault
 
 -- What a recovery that is refused leaves on the disk: what a crash might have left before, or what stands for the same
 -- as the content, and is the content where that has 18 octets or more; since the end of the first sync the latter, but

@@ -17,7 +17,7 @@ use Rattle.file_store.specs.State.{standing_of}
 use Rattle.file_store.specs.Store.{Store}
 use Rattle.file_store.specs.Walk.{state}
 use Rattle.file_store.specs.Working.{CountsSome, PutsAmongReads}
-use Rattle.file_store.specs.declared.refusals.StoreFault.{StoreFault}
+use Rattle.file_store.specs.StoreFault.{StoreFault}
 use Rattle.node.specs.Lent.{Lent, Seen}
 use Rattle.node.specs.Turns.{IsUnsaid}
 use Rattle.server_node.specs.declared.stop.NodeStop.{NodeStop}

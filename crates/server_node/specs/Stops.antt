@@ -3,14 +3,10 @@ use Rattle.std.specs.Prelude.{◌≡◌, ◌↔◌, ℕ, ◌≤◌, List, Option
 use Rattle.px_base.specs.Outside.{Rose}
 use Rattle.file_store.specs.Walk.{damaged_at, no_store}
 use Rattle.file_store.specs.State.{standing_of}
-use Rattle.file_store.specs.declared.refusals.StoreFault.{StoreFault}
-use Rattle.file_store.specs.declared.refusals.StoreFault.TheVariants as fault
-use Rattle.ftl0_session.specs.declared.stop.ServerStop.{ServerStop}
-use Rattle.ftl0_session.specs.declared.stop.ServerStop.TheVariants as session_stop
+use Rattle.file_store.specs.StoreFault.{StoreFault}
+use Rattle.file_store.specs.StoreFault.TheVariants as fault
 use Rattle.node.specs.declared.finished.Finished.{Finished}
 use Rattle.node.specs.declared.finished.Finished.TheVariants as finished
-use Rattle.node.specs.declared.halt.Halt.{Halt}
-use Rattle.node.specs.declared.halt.Halt.TheVariants as halt
 use Rattle.node.specs.declared.stop.NodeStop.{NodeStop as Stop}
 use Rattle.node.specs.declared.stop.NodeStop.TheVariants as node_stop
 use Rattle.server_node.specs.declared.stop.NodeStop.{NodeStop}
@@ -23,11 +19,6 @@ stop_of_fault (fault.NotAStore found) = stop.NotAStore found
 stop_of_fault (fault.Damaged at) = stop.Damaged at
 stop_of_fault fault.Disk = stop.Disk
 stop_of_fault fault.OutOfMemory = stop.OutOfMemory
-
--- how a session's stop halts its node
-abbrev pub halt_of_session : ServerStop → Halt
-halt_of_session session_stop.Disk = halt.Disk
-halt_of_session session_stop.OutOfMemory = halt.OutOfMemory
 
 -- how a node's stop stops its session
 abbrev pub stop_of_node : Stop → NodeStop

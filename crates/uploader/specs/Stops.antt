@@ -8,11 +8,7 @@ use Rattle.client_notes.specs.declared.refusals.StoreFault.{StoreFault}
 use Rattle.client_notes.specs.declared.refusals.StoreFault.TheVariants as fault
 use Rattle.ftl0_client.specs.declared.outcome.Outcome.{Outcome}
 use Rattle.ftl0_client.specs.declared.outcome.Outcome.TheVariants as outcome
-use Rattle.ftl0_client.specs.JobStop.{JobStop}
-use Rattle.ftl0_client.specs.JobStop.TheVariants as job_stop
 use Rattle.node.specs.declared.finished.Finished.{Finished}
-use Rattle.node.specs.declared.halt.Halt.{Halt}
-use Rattle.node.specs.declared.halt.Halt.TheVariants as halt
 use Rattle.node.specs.declared.stop.NodeStop.{NodeStop}
 use Rattle.node.specs.declared.stop.NodeStop.TheVariants as node
 use Rattle.uploader.specs.declared.stop.SendStop.{SendStop}
@@ -71,8 +67,3 @@ by_outcome outcome.Working = Ok outcome.Working
 abbrev pub answer_of : Result Finished NodeStop → Outcome → Result Outcome SendStop
 answer_of ended outcome.Working = Err (stop_of_turns ended)
 answer_of ended reached = by_outcome reached
-
--- how a stop of the client halts its station
-abbrev pub halt_of_job : JobStop → Halt
-halt_of_job job_stop.Disk = halt.Disk
-halt_of_job job_stop.OutOfMemory = halt.OutOfMemory

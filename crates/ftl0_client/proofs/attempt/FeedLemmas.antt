@@ -12,7 +12,7 @@ use Rattle.client_notes.specs.Laws.{after_all}
 use Rattle.client_notes.specs.Notes.{Lists}
 use Rattle.client_notes.specs.State.{NotesState}
 use Rattle.client_notes.proofs.Offered.{Several-none, Several-then}
-use Rattle.ftl0_job.specs.declared.stop.JobStop.{JobStop}
+use Rattle.disk_model.specs.declared.halt.Halt.{Halt}
 use Rattle.ftl0_job.specs.Table.{JobState}
 use Rattle.ftl0_client.specs.Attempt.Attempted.{Attempted}
 use Rattle.ftl0_client.specs.Attempt.AttemptState.{AttemptState, HearsBy, IsAttempt, LeavesFit, StopsAtPacket, Working, working}
@@ -58,7 +58,7 @@ module _ {D : Type 0} (g : Ghosts D) where
 
     module _ (octets left back : List ℕ) (before mid now : Working D) (item : Item) (h : IsTaking g octets left before mid) (front : HasFront left back (item ∷ [])) where
       -- what a packet leaves is what all leave
-      pub fit-then : {T : Type 0} (result : Result T JobStop) → LeavesFit g mid now result → LeavesFit g before now result
+      pub fit-then : {T : Type 0} (result : Result T Halt) → LeavesFit g mid now result → LeavesFit g before now result
       fit-then result fit = record { may = fit.may; stands_on = fit.stands_on; stations = stations-then before.link mid.link now.link h.fit.stations fit.stations }
 
       pub taking-next : Takes g (item ∷ []) mid now → (now.job.ending ≡ None → now.link.state ≡ Up) → LeavesFit {T = ⊤} g mid now (Ok tt) → IsTaking g octets back before now
@@ -72,7 +72,7 @@ module _ {D : Type 0} (g : Ghosts D) where
         fit = fit-then (Ok tt) fit;
       }
 
-      pub taking-stops : (why : JobStop) → StopsHere g item mid now why → StopsAmongOctets g octets before now why
+      pub taking-stops : (why : Halt) → StopsHere g item mid now why → StopsAmongOctets g octets before now why
       taking-stops why stops = record {
         items = h.items;
         item = item;
@@ -95,12 +95,12 @@ module _ {D : Type 0} (g : Ghosts D) where
     abbrev start : Attempted
     start = accepting a octets
 
-    abbrev Heard : List ℕ → Result ⊤ JobStop → Type 0
+    abbrev Heard : List ℕ → Result ⊤ Halt → Type 0
     Heard waiting result =
         HearsBy g w (taking notes.lists (accepting (record a { rest = waiting }) octets) (packets_of (waiting ++ octets))) (accepting (record a { rest = waiting }) octets) (packets_of (waiting ++ octets))
         notes notes_n disk disk_n now result
 
-    heard-octets : (result : Result ⊤ JobStop) → TakesOctetsBy g (old.octets ++ octets) now.octets (working old.link old.job notes disk) (working now.link now.job notes_n disk_n) result → Heard old.octets result
+    heard-octets : (result : Result ⊤ Halt) → TakesOctetsBy g (old.octets ++ octets) now.octets (working old.link old.job notes disk) (working now.link now.job notes_n disk_n) result → Heard old.octets result
     heard-octets (Ok done) h =
         let begun : Attempted = accepting (record a { rest = old.octets }) octets in
         let made = h.0 w begun is.link is.job in
@@ -120,6 +120,6 @@ module _ {D : Type 0} (g : Ghosts D) where
           down = down ∙ is.down;
         }
 
-    pub hears-octets : (result : Result ⊤ JobStop) → TakesOctetsBy g (old.octets ++ octets) now.octets (working old.link old.job notes disk) (working now.link now.job notes_n disk_n) result
+    pub hears-octets : (result : Result ⊤ Halt) → TakesOctetsBy g (old.octets ++ octets) now.octets (working old.link old.job notes disk) (working now.link now.job notes_n disk_n) result
         → HearsBy g w (taking notes.lists start (packets_of (a.rest ++ octets))) start (packets_of (a.rest ++ octets)) notes notes_n disk disk_n now result
     hears-octets result h = subst (λ (waiting : List ℕ). Heard waiting result) is.rest (heard-octets result h)

@@ -17,8 +17,8 @@ use Rattle.client_notes.specs.Laws.{after_all}
 use Rattle.client_notes.specs.Notes.{Lists}
 use Rattle.client_notes.specs.Several.{DoesSeveral, MakesFirst}
 use Rattle.client_notes.specs.State.{NotesState}
-use Rattle.ftl0_job.specs.declared.stop.JobStop.{JobStop}
-use Rattle.ftl0_job.specs.declared.stop.JobStop.TheVariants as stop
+use Rattle.disk_model.specs.declared.halt.Halt.{Halt}
+use Rattle.disk_model.specs.declared.halt.Halt.TheVariants as stop
 use Rattle.ftl0_job.specs.Noting.{HasNoted}
 use Rattle.ftl0_job.specs.Table.{job_row}
 use Rattle.ftl0_client.specs.Attempt.Attempted.{Attempted}
@@ -40,7 +40,7 @@ module _ {D : Type 0} (g : Ghosts D) where
   module _ (on : (first second third : D) → g.lasts first second → g.lasts second third → g.lasts first third) (old mid new : NotesState) (disk disk_m disk_n : D) (done commands : List NotesCommand)
       (first : DoesSeveral g ⊥ old mid disk disk_m done) where
     -- what stands since commands began, behind which the disk failed or no memory was there
-    noted-since : (more : List NotesCommand) (why : JobStop) → HasNoted {T = ⊤} g mid new disk_m disk_n commands (Err why) → Leaves g disk disk_n (λ _. MakesFirst old.lists (done ++ (commands ++ more)))
+    noted-since : (more : List NotesCommand) (why : Halt) → HasNoted {T = ⊤} g mid new disk_m disk_n commands (Err why) → Leaves g disk disk_n (λ _. MakesFirst old.lists (done ++ (commands ++ more)))
     noted-since more stop.Disk noted =
         subst (λ (all : List NotesCommand). Leaves g disk disk_n (λ _. MakesFirst old.lists all)) (append_assoc done commands more)
         (leaves-front old.lists disk disk_n (done ++ commands) more (Several-then g on ⊥ ⊤ old mid new disk disk_m disk_n done commands (λ never. never) first noted).since)
@@ -54,13 +54,13 @@ module _ {D : Type 0} (g : Ghosts D) where
         (leaves-front old.lists disk disk_n (done ++ some) (others ++ more) (Several-then g on ⊥ ⊥ old mid new disk disk_m disk_n done some (λ never. never) first noted.2).since)
 
     -- and what is said of the counts
-    noted-puts : (why : JobStop) → HasNoted {T = ⊤} g mid new disk_m disk_n commands (Err why) → PutsBy g disk disk_n (Err why)
+    noted-puts : (why : Halt) → HasNoted {T = ⊤} g mid new disk_m disk_n commands (Err why) → PutsBy g disk disk_n (Err why)
     noted-puts stop.Disk noted = puts_same g disk disk_n ⊤ _ (λ all. refl) (λ e. tt) (puts_on g on disk disk_m disk_n ⊥ ⊤ (λ never. never) first.puts noted.puts)
     noted-puts stop.OutOfMemory noted = puts_same g disk disk_n ⊥ _ (λ never. absurd never) (λ e. cc e) (puts_on g on disk disk_m disk_n ⊥ ⊥ (λ never. never) first.puts noted.2.puts)
 
   module _ (on : (first second third : D) → g.lasts first second → g.lasts second third → g.lasts first third) (a : Attempted) (items : List Item) (notes notes_n : NotesState) (disk disk_n : D)
       (attempt : AttemptState) where
-    stopped-since : (why : JobStop) → StopsAmong g a items notes notes_n disk disk_n attempt why → Leaves g disk disk_n (λ _. MakesFirst notes.lists (taking notes.lists a items).noted)
+    stopped-since : (why : Halt) → StopsAmong g a items notes notes_n disk disk_n attempt why → Leaves g disk disk_n (λ _. MakesFirst notes.lists (taking notes.lists a items).noted)
     stopped-since why h =
         let p : Happened = taking notes.lists a h.before in
         let at : h.notes_then.lists ≡ after_all notes.lists p.noted = (h.done.done (λ never. never)).0 in
@@ -71,19 +71,19 @@ module _ {D : Type 0} (g : Ghosts D) where
         subst (λ (cs : List NotesCommand). Leaves g disk disk_n (λ _. MakesFirst notes.lists cs)) (sym all)
         (noted-since on notes h.notes_then notes_n disk h.disk_then disk_n p.noted (job_row h.notes_then.lists p.after.job h.item).commands h.done front.0 why h.stops.noted)
 
-    pub hears-since : (w : Window) (event : Happened) (result : Result ⊤ JobStop) → event.noted ≡ (taking notes.lists a items).noted → HearsBy g w event a items notes notes_n disk disk_n attempt result
+    pub hears-since : (w : Window) (event : Happened) (result : Result ⊤ Halt) → event.noted ≡ (taking notes.lists a items).noted → HearsBy g w event a items notes notes_n disk disk_n attempt result
         → Leaves g disk disk_n (λ _. MakesFirst notes.lists event.noted)
     hears-since w event (Ok done) same h = h.1.since
     hears-since w event (Err why) same h = subst (λ (cs : List NotesCommand). Leaves g disk disk_n (λ _. MakesFirst notes.lists cs)) (sym same) (stopped-since why h)
 
-    pub hears-puts : (w : Window) (event : Happened) (result : Result ⊤ JobStop) → HearsBy g w event a items notes notes_n disk disk_n attempt result → PutsBy g disk disk_n result
+    pub hears-puts : (w : Window) (event : Happened) (result : Result ⊤ Halt) → HearsBy g w event a items notes notes_n disk disk_n attempt result → PutsBy g disk disk_n result
     hears-puts w event (Ok done) h = puts_same g disk disk_n ⊥ _ (λ never. absurd never) (λ e. cc e) h.1.puts
     hears-puts w event (Err why) h =
         noted-puts on notes h.notes_then notes_n disk h.disk_then disk_n (taking notes.lists a h.before).noted
         (job_row h.notes_then.lists (taking notes.lists a h.before).after.job h.item).commands h.done why h.stops.noted
 
   -- what the link told decides
-  pub hears-told : (w : Window) (frame : FrameValue) (notes notes_n : NotesState) (disk disk_n : D) (old now : AttemptState) (told : Heard) (result : Result ⊤ JobStop)
+  pub hears-told : (w : Window) (frame : FrameValue) (notes notes_n : NotesState) (disk disk_n : D) (old now : AttemptState) (told : Heard) (result : Result ⊤ Halt)
       → Tells old.link (λ w end. heard_of w end frame) told → (a : Attempted) → IsAttempt w old a
       → HearsBy g w (taking notes.lists (after_told told (with_end a (after_frame w a.end frame)) frame.kind.information) (packets_told told a frame.kind.information))
       (after_told told (with_end a (after_frame w a.end frame)) frame.kind.information) (packets_told told a frame.kind.information) notes notes_n disk disk_n now result

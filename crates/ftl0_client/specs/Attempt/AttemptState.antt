@@ -11,8 +11,8 @@ use Rattle.ftl0_packets.specs.Layout.{Item}
 use Rattle.client_notes.specs.Calls.{Leaves, Puts}
 use Rattle.client_notes.specs.Several.{DoesSeveral, MakesFirst}
 use Rattle.client_notes.specs.State.{NotesState, StandsOn}
-use Rattle.ftl0_job.specs.declared.stop.JobStop.{JobStop}
-use Rattle.ftl0_job.specs.declared.stop.JobStop.TheVariants as stop
+use Rattle.disk_model.specs.declared.halt.Halt.{Halt}
+use Rattle.disk_model.specs.declared.halt.Halt.TheVariants as stop
 use Rattle.ftl0_job.specs.JobState.{MayTake}
 use Rattle.ftl0_job.specs.Noting.{HasNoted}
 use Rattle.ftl0_job.specs.Table.{JobState, job_row}
@@ -51,7 +51,7 @@ is_closed link = is_down link.state && not (is_pending link)
 -- A packet was to be taken by a job without an outcome. The disk failed in one of its row's commands; or there was no
 -- memory for one of them, or none for the octets of a list, and the commands before are done. The job is as it was.
 pub record StopsAtPacket {D : Type 0} (g : Ghosts D) (item : Item) (job job_now : JobState)
-    (notes notes_now : NotesState) (disk disk_now : D) (why : JobStop) : Type 0 where
+    (notes notes_now : NotesState) (disk disk_now : D) (why : Halt) : Type 0 where
   pub no_outcome : job.ending ≡ None
   pub same : job_now ≡ job
   pub noted : HasNoted {T = ⊤} g notes notes_now disk disk_now (job_row notes.lists job item).commands (Err why)
@@ -60,7 +60,7 @@ pub record StopsAtPacket {D : Type 0} (g : Ghosts D) (item : Item) (job job_now 
 -- Of these packets of an event those before one were taken, from this attempt on, and their commands are done. At that
 -- one it stopped, over the notes then.
 pub record StopsAmong {D : Type 0} (g : Ghosts D) (a : Attempted) (items : List Item) (notes notes_now : NotesState)
-    (disk disk_now : D) (attempt : AttemptState) (why : JobStop) : Type 0 where
+    (disk disk_now : D) (attempt : AttemptState) (why : Halt) : Type 0 where
   pub before : List Item
   pub item : Item
   pub behind : List Item
@@ -77,7 +77,7 @@ pub record StopsAmong {D : Type 0} (g : Ghosts D) (a : Attempted) (items : List 
 -- done; or it stops at one of the packets.
 abbrev pub HearsBy :
     {D : Type 0} → Ghosts D → Window → Happened → Attempted → List Item → NotesState → NotesState → D → D
-    → AttemptState → Result ⊤ JobStop → Type 0
+    → AttemptState → Result ⊤ Halt → Type 0
 HearsBy g w event a items notes notes_now disk disk_now attempt (Ok done) =
     IsAttempt w attempt event.after × DoesSeveral g ⊥ notes notes_now disk disk_now event.noted
 HearsBy g w event a items notes notes_now disk disk_now attempt (Err why) =
@@ -86,7 +86,7 @@ HearsBy g w event a items notes notes_now disk disk_now attempt (Err why) =
 -- This frame was heard by an attempt that stands for this one. Since it came each image stands for the notes after the
 -- first of the commands that the event has where nothing stops it, for some number of them.
 pub record Hears {D : Type 0} (g : Ghosts D) (w : Window) (a : Attempted) (frame : FrameValue)
-    (notes notes_now : NotesState) (disk disk_now : D) (attempt : AttemptState) (result : Result ⊤ JobStop)
+    (notes notes_now : NotesState) (disk disk_now : D) (attempt : AttemptState) (result : Result ⊤ Halt)
     : Type 0 where
   pub by :
       HearsBy g w (hearing w notes.lists a frame) (after_hearing w a frame) (packets_heard w a frame) notes notes_now
@@ -104,11 +104,11 @@ abbrev pub working : {D : Type 0} → Kept → JobState → NotesState → D →
 working link job notes disk = record { link = link; job = job; notes = notes; disk = disk }
 
 -- What an event leaves of them: what the next event needs, where nothing stopped it.
-pub record LeavesFit {D T : Type 0} (g : Ghosts D) (before now : Working D) (result : Result T JobStop) : Type 0 where
+pub record LeavesFit {D T : Type 0} (g : Ghosts D) (before now : Working D) (result : Result T Halt) : Type 0 where
   pub may : OnOk result (MayTake g now.notes now.disk now.job)
   pub stands_on : StandsOn g now.notes now.disk
   pub stations : SameStations before.link now.link
 
 -- what is said of the disk's counts
-abbrev pub PutsBy : {D : Type 0} → Ghosts D → D → D → Result ⊤ JobStop → Type 0
+abbrev pub PutsBy : {D : Type 0} → Ghosts D → D → D → Result ⊤ Halt → Type 0
 PutsBy g disk disk_now result = Puts g (IsErrOf result stop.Disk) disk disk_now

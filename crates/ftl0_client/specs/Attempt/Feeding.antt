@@ -13,7 +13,7 @@ use Rattle.ftl0_packets.specs.Reading.{packets_of, rest_of}
 use Rattle.packet_link.specs.Queuing.{enough_free, fits}
 use Rattle.client_notes.specs.Notes.{Lists}
 use Rattle.client_notes.specs.Several.{DoesSeveral}
-use Rattle.ftl0_job.specs.declared.stop.JobStop.{JobStop}
+use Rattle.disk_model.specs.declared.halt.Halt.{Halt}
 use Rattle.ftl0_job.specs.Due.{DuePacket, next_due}
 use Rattle.ftl0_job.specs.JobState.{MayTake, NotesGoWith}
 use Rattle.ftl0_job.specs.Table.{JobState}
@@ -50,17 +50,17 @@ Takes g items before now =
     → Made g w (taking before.notes.lists a items) before now
 
 -- the job stopped at this packet
-abbrev pub StopsHere : {D : Type 0} → Ghosts D → Item → Working D → Working D → JobStop → Type 0
+abbrev pub StopsHere : {D : Type 0} → Ghosts D → Item → Working D → Working D → Halt → Type 0
 StopsHere g item before now why =
     StopsAtPacket g item before.job now.job before.notes now.notes before.disk now.disk why
 
 -- one packet was taken, or the job stopped at it
-abbrev pub AnswersPacket : {D : Type 0} → Ghosts D → Item → Working D → Working D → Result ⊤ JobStop → Type 0
+abbrev pub AnswersPacket : {D : Type 0} → Ghosts D → Item → Working D → Working D → Result ⊤ Halt → Type 0
 AnswersPacket g item before now (Ok done) = Takes g (item ∷ []) before now
 AnswersPacket g item before now (Err why) = StopsHere g item before now why
 
 -- Of these octets packets were taken, up to one at which the job stopped.
-pub record StopsAmongOctets {D : Type 0} (g : Ghosts D) (octets : List ℕ) (before now : Working D) (why : JobStop) :
+pub record StopsAmongOctets {D : Type 0} (g : Ghosts D) (octets : List ℕ) (before now : Working D) (why : Halt) :
     Type 0 where
   pub items : List Item
   pub item : Item
@@ -72,7 +72,7 @@ pub record StopsAmongOctets {D : Type 0} (g : Ghosts D) (octets : List ℕ) (bef
 
 -- the packets of these octets were taken, and these are left; or the job stopped at one of them
 abbrev pub TakesOctetsBy :
-    {D : Type 0} → Ghosts D → List ℕ → List ℕ → Working D → Working D → Result ⊤ JobStop → Type 0
+    {D : Type 0} → Ghosts D → List ℕ → List ℕ → Working D → Working D → Result ⊤ Halt → Type 0
 TakesOctetsBy g octets left before now (Ok done) = Takes g (packets_of octets) before now × (left ≡ rest_of octets)
 TakesOctetsBy g octets left before now (Err why) = StopsAmongOctets g octets before now why
 

@@ -32,8 +32,8 @@ use arrayvec::ArrayVec;
 use ax25_frames::Frame;
 use ax25_link::{Heard, LinkState, Why, information};
 use client_notes::Notes;
-use disk_model::Disk;
-use ftl0_job::{Ending, Job, JobStop, Replies};
+use disk_model::{Disk, Halt};
+use ftl0_job::{Ending, Job, Replies};
 use ftl0_packets::{Malformed, Packet};
 use packet_link::PacketLink;
 use px_base::{Call, OutOfMemory};
@@ -102,7 +102,7 @@ impl Attempt {
         disk: &mut D,
         notes: &mut Notes,
         frame: &Frame<'_>,
-    ) -> Result<(), JobStop>
+    ) -> Result<(), Halt>
         requires frame { IsFromPeer self.old.link (value_of frame.now) }
         requires quiet { is_pending self.old.link ≡ false }
         requires may { MayTake D.Disk notes.old disk.old self.old.job }
@@ -203,7 +203,7 @@ impl Attempt {
         disk: &mut D,
         notes: &mut Notes,
         frame: &Frame<'_>,
-    ) -> Result<(), JobStop>
+    ) -> Result<(), Halt>
         requires frame { IsFromPeer self.old.link (value_of frame.now) }
         requires quiet { is_pending self.old.link ≡ false }
         requires may { MayTake D.Disk notes.old disk.old self.old.job }
@@ -315,7 +315,7 @@ fn take_packets<D: Disk>(
     disk: &mut D,
     notes: &mut Notes,
     octets: &[u8],
-) -> Result<(), JobStop>
+) -> Result<(), Halt>
     requires { MayAnswer D.Disk (working link.old.link job.old notes.old disk.old) }
     ensures takes { TakesOctetsBy D.Disk (octets_in link.old ++ octets.now) (octets_in link.new)
         (working link.old.link job.old notes.old disk.old) (working link.new.link job.new notes.new disk.new) result }
@@ -336,7 +336,7 @@ fn answer<D: Disk>(
     job: &mut Job,
     disk: &mut D,
     notes: &mut Notes,
-) -> Result<(), JobStop>
+) -> Result<(), Halt>
     requires whole { IsTrue (is_whole link.old.reader) }
     requires may { MayAnswer D.Disk (working link.old.link job.old notes.old disk.old) }
     ensures answers { AnswersPacket D.Disk (read_item link.old.reader)

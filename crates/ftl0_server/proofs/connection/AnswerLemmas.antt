@@ -16,8 +16,8 @@ use Rattle.file_store.specs.State.{StandsOn, StoreState, store_in}
 use Rattle.file_store.specs.Working.{CutsOffAmongReads, DoesAmongReads, PutsAmongReads}
 use Rattle.file_store.proofs.Offered.{among-at, among-same, puts-among, puts-among-reads, puts-among-then}
 use Rattle.ftl0_session.specs.Uploads.Failures.{Failure, failed_reads, failed_write, read_fails, write_fails}
-use Rattle.ftl0_session.specs.declared.stop.ServerStop.{ServerStop}
-use Rattle.ftl0_session.specs.declared.stop.ServerStop.TheVariants as stop
+use Rattle.disk_model.specs.declared.halt.Halt.{Halt as Stop}
+use Rattle.disk_model.specs.declared.halt.Halt.TheVariants as stop
 use Rattle.ftl0_session.specs.SessionState.{SessionState, caller_of, state_in}
 use Rattle.ftl0_session.specs.Table.{Row, failed_reads_told}
 use Rattle.ftl0_session.specs.Taking.{TakesPacket, Working, row_over, working}
@@ -51,10 +51,10 @@ module _ {D : Type 0} (g : Ghosts D) (on : (first second third : D) → g.lasts 
   one-is failures reads writes is_read is_written =
       ap (λ (b : Bool). one (write_fails failures first) (row_here b)) is_read ∙ ap (λ (b : Bool). one b (row_here reads)) is_written
 
-  abbrev Takes : Result ⊤ ServerStop → List ℕ → Type 0
+  abbrev Takes : Result ⊤ Stop → List ℕ → Type 0
   Takes result replies = TakesPacket g (caller_of session) moment item (working session store lists) (working session_n store_n lists_n) disk disk_n replies result
 
-  abbrev Made : Fate × Result ⊤ ServerStop → Type 0
+  abbrev Made : Fate × Result ⊤ Stop → Type 0
   Made told = TakesPackets g w moment session store store_n lists lists_n end (item ∷ []) first disk disk_n link_n session_n told
 
   abbrev Done : Fate → Progress → Type 0
@@ -120,7 +120,7 @@ module _ {D : Type 0} (g : Ghosts D) (on : (first second third : D) → g.lasts 
 
 -- the same of the packet as it is read
 pub takes-read : {D : Type 0} (g : Ghosts D) (w : Window) (end : LinkEnd) (moment : ℕ) (session session_n : SessionState) (store store_n : StoreState) (lists lists_n : List CallerList) (disk disk_n : D)
-    (link_n : Kept) (first : ℕ) (told : Fate × Result ⊤ ServerStop) (item read : Item) → item ≡ read → TakesPackets g w moment session store store_n lists lists_n end (item ∷ []) first disk disk_n link_n session_n told
+    (link_n : Kept) (first : ℕ) (told : Fate × Result ⊤ Stop) (item read : Item) → item ≡ read → TakesPackets g w moment session store store_n lists lists_n end (item ∷ []) first disk disk_n link_n session_n told
     → TakesPackets g w moment session store store_n lists lists_n end (read ∷ []) first disk disk_n link_n session_n told
 takes-read g w end moment session session_n store store_n lists lists_n disk disk_n link_n first told item read same takes =
     subst (λ (i : Item). TakesPackets g w moment session store store_n lists lists_n end (i ∷ []) first disk disk_n link_n session_n told) same takes
@@ -129,7 +129,7 @@ takes-read g w end moment session session_n store store_n lists lists_n disk dis
 
 -- what a packet does to the disk, with its reads
 pub taken-puts : {D : Type 0} (g : Ghosts D) (on : (first second third : D) → g.lasts first second → g.lasts second third → g.lasts first third) (caller : CallSign) (moment : ℕ) (item : Item)
-    (before now : Working) (disk disk_n : D) (replies : List ℕ) (result : Result ⊤ ServerStop) → TakesPacket g caller moment item before now disk disk_n replies result
+    (before now : Working) (disk disk_n : D) (replies : List ℕ) (result : Result ⊤ Stop) → TakesPacket g caller moment item before now disk disk_n replies result
     → PutsAmongReads g (IsErrOf result stop.Disk) disk disk_n
 taken-puts g on caller moment item before now disk disk_n replies result takes =
     puts-among-then g on ⊥ (IsErrOf result stop.Disk) disk takes.disk_then disk_n (λ never. never) (puts-among-reads g (IsTrue takes.fails) ⊥ disk takes.disk_then (λ never. never) takes.reads)

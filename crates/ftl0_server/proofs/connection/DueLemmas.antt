@@ -18,8 +18,8 @@ use Rattle.file_store.specs.Working.{DoesAmongReads, one_if}
 use Rattle.file_store.proofs.Offered.{among-at, among-same, among-then, does-among, Does-none, puts-among-then}
 use Rattle.ftl0_session.specs.Uploads.Failures.{Failure, failed_reads, failed_write, read_fails}
 use Rattle.ftl0_session.specs.Downloads.Needs.{IsDueIn}
-use Rattle.ftl0_session.specs.declared.stop.ServerStop.{ServerStop}
-use Rattle.ftl0_session.specs.declared.stop.ServerStop.TheVariants as stop
+use Rattle.disk_model.specs.declared.halt.Halt.{Halt as Stop}
+use Rattle.disk_model.specs.declared.halt.Halt.TheVariants as stop
 use Rattle.ftl0_session.specs.SessionState.{state_in}
 use Rattle.ftl0_session.specs.Table.{State, due_at, next_due, tells_failed_read}
 use Rattle.ftl0_server.specs.declared.connection.fate.Fate.{Fate}
@@ -182,7 +182,7 @@ module _ {D : Type 0} (g : Ghosts D) (lasts : (disk : D) → g.lasts disk disk) 
       stopped : (failures : List Failure) → (event failures).over ≡ true → whole failures ≡ event failures
       stopped failures is = queued-over (store_in store) failures (event failures) is
 
-      by-stopped : (fate : Fate) (result : Result ⊤ ServerStop) → IsStop (fate, result)
+      by-stopped : (fate : Fate) (result : Result ⊤ Stop) → IsStop (fate, result)
           → HearsBy g w (λ writes. progressed left (event (writes ++ failed_reads parts))) store store_n lists_n disk disk_n now fate result
           → HearsBy g w (λ writes. progressed left (whole (writes ++ failed_reads parts))) store store_n lists_n disk disk_n now fate result
       by-stopped Stays (Ok tt) stops h = absurd (stops refl)
@@ -200,7 +200,7 @@ module _ {D : Type 0} (g : Ghosts D) (lasts : (disk : D) → g.lasts disk disk) 
           let at : P (whole failures) = subst P (sym (stopped failures (over failures h.1))) (h.0, h.1, h.2, h.3) in
           (h.0, at.1, at.2, at.3)
 
-    pub hears-stop : (now : ConnectionState) (told : Fate × Result ⊤ ServerStop) → IsStop told → HearsParts g w left event store store_n lists_n disk disk_n now told
+    pub hears-stop : (now : ConnectionState) (told : Fate × Result ⊤ Stop) → IsStop told → HearsParts g w left event store store_n lists_n disk disk_n now told
         → Hears g w (λ failures. progressed left (whole failures)) store store_n lists_n disk disk_n now told
     hears-stop now told stops heard =
         let failures : List Failure = [] ++ failed_reads heard.hears.parts in

@@ -23,8 +23,8 @@ use Rattle.file_store.specs.State.{StandsOn, StoreState, store_in}
 use Rattle.ftl0_session.specs.Uploads.Others.{KeepsOtherCallers}
 use Rattle.ftl0_session.specs.Uploads.SessionState.{IsHeld, IsOnlyOut, NoOtherOut, SessionState as Uploading}
 use Rattle.ftl0_session.specs.Downloads.Needs.{AreComplete, IsDueIn}
-use Rattle.ftl0_session.specs.declared.stop.ServerStop.{ServerStop}
-use Rattle.ftl0_session.specs.declared.stop.ServerStop.TheVariants as stop
+use Rattle.disk_model.specs.declared.halt.Halt.{Halt as Stop}
+use Rattle.disk_model.specs.declared.halt.Halt.TheVariants as stop
 use Rattle.ftl0_session.specs.SessionState.{MayTake as SessionMayTake, SessionState, IsFit, caller_of, new_session}
 use Rattle.ftl0_server.specs.declared.connection.fate.Fate.{Fate}
 use Rattle.ftl0_server.specs.declared.connection.fate.Fate.TheVariants.{Stays}
@@ -51,7 +51,7 @@ complete-then : (a b c : Store) → KeepsComplete a b → KeepsComplete b c → 
 complete-then a b c first second number e found complete = second number e (first number e found complete) complete
 
 -- no stop
-abbrev pub fine : Result ⊤ ServerStop
+abbrev pub fine : Result ⊤ Stop
 fine = Ok tt
 
 pub no-fault : fine ≡ Err stop.Disk → ⊥
@@ -142,7 +142,7 @@ module _ {D : Type 0} (g : Ghosts D) where
 
   module _ (on : (first second third : D) → g.lasts first second → g.lasts second third → g.lasts first third) where
     -- one part, and then another
-    pub fit-then : (a b c : StoreState) (d e f : D) (lists_m lists_n : List CallerList) (link link_m link_n : Kept) (session session_m session_n : SessionState) (told : Fate × Result ⊤ ServerStop)
+    pub fit-then : (a b c : StoreState) (d e f : D) (lists_m lists_n : List CallerList) (link link_m link_n : Kept) (session session_m session_n : SessionState) (told : Fate × Result ⊤ Stop)
         → LeavesFit g a b lists_m d e link link_m session session_m (Stays, Ok tt) → LeavesFit g b c lists_n e f link_m link_n session_m session_n told
         → LeavesFit g a c lists_n d f link link_n session session_n told
     fit-then a b c d e f lists_m lists_n link link_m link_n session session_m session_n told first second = record {
@@ -202,7 +202,7 @@ module _ {D : Type 0} (g : Ghosts D) where
       }
 
       -- some packets, and then one
-      module _ (mid now : ConnectionState) (store_m store_n : StoreState) (lists_m lists_n : List CallerList) (disk_m disk_n : D) (told : Fate × Result ⊤ ServerStop) (item : Item)
+      module _ (mid now : ConnectionState) (store_m store_n : StoreState) (lists_m lists_n : List CallerList) (disk_m disk_n : D) (told : Fate × Result ⊤ Stop) (item : Item)
           (h : IsTaking g moment old mid store store_m lists lists_m disk disk_m) (front : HasFront mid.octets now.octets (item ∷ []))
           (takes : (w : Window) (end : LinkEnd) (first : ℕ) → StandsFor w mid.link end
           → TakesPackets g w moment mid.session store_m store_n lists_m lists_n end (item ∷ []) first disk_m disk_n now.link now.session told) where
@@ -221,7 +221,7 @@ module _ {D : Type 0} (g : Ghosts D) where
 
           pub taking-next : IsGoing told → IsTaking g moment old now store store_n lists lists_n disk disk_n
           taking-next going =
-              let P : Fate × Result ⊤ ServerStop → Type 0 =
+              let P : Fate × Result ⊤ Stop → Type 0 =
               λ t. Feeds g moment old now store store_n lists lists_n disk disk_n t × LeavesFit g store store_n lists_n disk disk_n old.link now.link old.session now.session t in
               let at : P (Stays, Ok tt) = subst P going (feeds-one, fit-all) in
               record { feeds = at.0; fit = at.1 }

@@ -20,7 +20,7 @@ use Rattle.ftl0_session.specs.declared.uploads.phase.Phase.{Phase}
 use Rattle.ftl0_session.specs.declared.uploads.phase.Phase.TheVariants as phase
 use Rattle.ftl0_session.specs.Uploads.Failures.{Failure}
 use Rattle.ftl0_session.specs.Uploads.SessionState.{Parks}
-use Rattle.ftl0_session.specs.declared.stop.ServerStop.{ServerStop}
+use Rattle.disk_model.specs.declared.halt.Halt.{Halt as Stop}
 use Rattle.ftl0_session.specs.Table.{State}
 use Rattle.ftl0_server.specs.declared.connection.fate.Fate.{Fate}
 use Rattle.ftl0_server.specs.declared.connection.fate.Fate.TheVariants.{Stays, Ends}
@@ -64,11 +64,11 @@ module _ {D : Type 0} (g : Ghosts D) (lasts : (disk : D) → g.lasts disk disk) 
   parts-over stands = record {
     hears = record { parts = []; by = (refl, (refl, (refl, stands)), does-nothing); since = does-nothing.since };
     over = λ failures halts. absurd cc;
-    settled = λ goes. absurd (let same : Ends ≡ Stays = ap (λ (t : Fate × Result ⊤ ServerStop). t.0) goes in cc);
+    settled = λ goes. absurd (let same : Ends ≡ Stays = ap (λ (t : Fate × Result ⊤ Stop). t.0) goes in cc);
   }
 
 module _ {D : Type 0} (g : Ghosts D) (w : Window) (moment : ℕ) (frame : FrameValue) (store store_n : StoreState) (lists lists_n : List CallerList) (disk disk_n : D) (now : ConnectionState)
-    (result : Fate × Result ⊤ ServerStop) where
+    (result : Fate × Result ⊤ Stop) where
   -- what the link told decides
   pub parts-told : (old : ConnectionState) (told : Heard) → Tells old.link (λ w end. heard_of w end frame) told → (c : Connected) → IsConnection w store old c
       → HearsParts g w (rest_as told c frame.kind.information) (parts_as told moment (store_in store) lists c (after_frame w c.end frame) frame.kind.information) store store_n lists_n disk disk_n now result

@@ -18,8 +18,8 @@ use Rattle.file_store.specs.State.{StoreState, store_in}
 use Rattle.file_store.specs.Working.{CutsOffAmongReads, DoesAmongReads}
 use Rattle.file_store.proofs.Offered.{among-then, cuts-among-all, cuts-among-then, makes-first, makes-within, told_weaker, weaker}
 use Rattle.ftl0_session.specs.Uploads.Failures.{Failure, failed_reads, failed_write, write_fails}
-use Rattle.ftl0_session.specs.declared.stop.ServerStop.{ServerStop}
-use Rattle.ftl0_session.specs.declared.stop.ServerStop.TheVariants as stop
+use Rattle.disk_model.specs.declared.halt.Halt.{Halt as Stop}
+use Rattle.disk_model.specs.declared.halt.Halt.TheVariants as stop
 use Rattle.ftl0_session.specs.SessionState.{SessionState, caller_of, state_in}
 use Rattle.ftl0_session.specs.Table.{State}
 use Rattle.ftl0_server.specs.declared.connection.fate.Fate.{Fate}
@@ -60,7 +60,7 @@ going-halted : (progress : Progress) (halt : Halt) → is_going halt ≡ false �
 going-halted progress halt never is = ap (λ (h : Halt). not progress.over && is_going h) is ∙ ap (λ (b : Bool). not progress.over && b) never ∙ not-both (not progress.over)
 
 -- a frame stopped the connection
-abbrev pub IsStop : Fate × Result ⊤ ServerStop → Type 0
+abbrev pub IsStop : Fate × Result ⊤ Stop → Type 0
 IsStop told = IsGoing told → ⊥
 
 module _ {D : Type 0} (g : Ghosts D) (on : (first second third : D) → g.lasts first second → g.lasts second third → g.lasts first third) (w : Window) where
@@ -70,7 +70,7 @@ module _ {D : Type 0} (g : Ghosts D) (on : (first second third : D) → g.lasts 
   abbrev pub BeginsWhole : (List Failure → Happened) → Type 0
   BeginsWhole event = (part : ℕ) → IsFront ((event (failed_write part)).done ++ (event (failed_write part)).cut) (event []).done
 
-  pub by-since : (event : List Failure → Happened) (store store_n : StoreState) (lists_n : List CallerList) (disk disk_n : D) (connection : ConnectionState) (fate : Fate) (result : Result ⊤ ServerStop)
+  pub by-since : (event : List Failure → Happened) (store store_n : StoreState) (lists_n : List CallerList) (disk disk_n : D) (connection : ConnectionState) (fate : Fate) (result : Result ⊤ Stop)
       → BeginsWhole event → HearsBy g w event store store_n lists_n disk disk_n connection fate result → Leaves g disk disk_n (λ _. MakesFirst (store_in store) (event []).done)
   by-since event store store_n lists_n disk disk_n connection fate (Ok done) begins h = h.2.since
   by-since event store store_n lists_n disk disk_n connection fate (Err stop.Disk) begins h =
@@ -135,7 +135,7 @@ module _ {D : Type 0} (g : Ghosts D) (on : (first second third : D) → g.lasts 
         ∙ taking-alike (caller_of session_m) moment (store_in store_m) lists_m (state_in store_m session_m) made.end others all (writes ++ failed_reads parts) next
         (alike-second writes one.parts parts next (next + length others) are before))
 
-    by-then : (parts : List ℕ) → All (λ part. next ≤ part) parts → (fate : Fate) (result : Result ⊤ ServerStop)
+    by-then : (parts : List ℕ) → All (λ part. next ≤ part) parts → (fate : Fate) (result : Result ⊤ Stop)
         → HearsBy g w (λ writes. progressed [] (part_of (writes ++ failed_reads parts))) store_m store_n lists_n disk_m disk_n (with_nothing_left link_n session_n) fate result
         → HearsBy g w (λ writes. progressed [] (whole (writes ++ failed_reads (one.parts ++ parts)))) store store_n lists_n disk disk_n (with_nothing_left link_n session_n) fate result
     by-then parts later fate (Ok done) h =
@@ -178,7 +178,7 @@ module _ {D : Type 0} (g : Ghosts D) (on : (first second third : D) → g.lasts 
         (h.0, at.0, at.1, at.2)
 
     -- packets were taken, and then the others
-    pub takes-then : (told : Fate × Result ⊤ ServerStop)
+    pub takes-then : (told : Fate × Result ⊤ Stop)
         → ((at : LinkEnd) → StandsFor w link_m at → TakesPackets g w moment session_m store_m store_n lists_m lists_n at others next disk_m disk_n link_n session_n told)
         → TakesPackets g w moment session store store_n lists lists_n end (items ++ others) first disk disk_n link_n session_n told
     takes-then told more =
@@ -208,7 +208,7 @@ module _ {D : Type 0} (g : Ghosts D) (on : (first second third : D) → g.lasts 
       ended : (failures : List Failure) → going (of_items failures) ≡ false → of_all failures ≡ of_items failures
       ended failures stops = taking-ended (caller_of session) moment (store_in store) lists (state_in store session) end items others failures 0 stops
 
-      by-ended : (parts : List ℕ) (fate : Fate) (result : Result ⊤ ServerStop) → IsStop (fate, result)
+      by-ended : (parts : List ℕ) (fate : Fate) (result : Result ⊤ Stop) → IsStop (fate, result)
           → HearsBy g w (λ writes. progressed [] (of_items (writes ++ failed_reads parts))) store store_n lists_n disk disk_n (with_nothing_left now.link now.session) fate result
           → HearsBy g w (λ writes. progressed left (of_all (writes ++ failed_reads parts))) store store_n lists_n disk disk_n now fate result
       by-ended parts Stays (Ok tt) stops h = absurd (stops refl)
@@ -233,7 +233,7 @@ module _ {D : Type 0} (g : Ghosts D) (on : (first second third : D) → g.lasts 
           (h.0, at.0, at.1, at.2)
 
       -- whatever comes behind packets that stopped the connection isn't taken
-      pub parts-stopped : (told : Fate × Result ⊤ ServerStop) → IsStop told
+      pub parts-stopped : (told : Fate × Result ⊤ Stop) → IsStop told
           → TakesPackets g w moment session store store_n lists lists_n end items 0 disk disk_n now.link now.session told
           → HearsParts g w left of_all store store_n lists_n disk disk_n now told
       parts-stopped told stops takes =

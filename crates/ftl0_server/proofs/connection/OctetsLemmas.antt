@@ -11,7 +11,7 @@ use Rattle.packet_link.proofs.Fronts.{front-whole}
 use Rattle.ftl0_session.specs.Lists.Lists.{CallerList}
 use Rattle.file_store.specs.State.{StoreState, store_in}
 use Rattle.ftl0_session.specs.Uploads.Failures.{Failure}
-use Rattle.ftl0_session.specs.declared.stop.ServerStop.{ServerStop}
+use Rattle.disk_model.specs.declared.halt.Halt.{Halt as Stop}
 use Rattle.ftl0_session.specs.SessionState.{caller_of, state_in}
 use Rattle.ftl0_session.specs.Table.{State}
 use Rattle.ftl0_server.specs.declared.connection.fate.Fate.{Fate}
@@ -24,13 +24,13 @@ use Rattle.ftl0_server.specs.Connection.Taking.{Progress, taking}
 use Rattle.ftl0_server.proofs.connection.HearsLemmas.{IsStop, parts-stopped, parts-whole}
 
 -- the connection goes on, or it stops
-going-or : (told : Fate × Result ⊤ ServerStop) → IsGoing told ⊎ IsStop told
+going-or : (told : Fate × Result ⊤ Stop) → IsGoing told ⊎ IsStop told
 going-or (Stays, Ok done) = inl refl
-going-or (Stays, Err why) = inr (λ going. (let same : Err why ≡ Ok tt = ap (λ (t : Fate × Result ⊤ ServerStop). t.1) going in cc same))
-going-or (Ends, result) = inr (λ going. (let same : Ends ≡ Stays = ap (λ (t : Fate × Result ⊤ ServerStop). t.0) going in cc same))
+going-or (Stays, Err why) = inr (λ going. (let same : Err why ≡ Ok tt = ap (λ (t : Fate × Result ⊤ Stop). t.1) going in cc same))
+going-or (Ends, result) = inr (λ going. (let same : Ends ≡ Stays = ap (λ (t : Fate × Result ⊤ Stop). t.0) going in cc same))
 
 module _ {D : Type 0} (g : Ghosts D) (on : (first second third : D) → g.lasts first second → g.lasts second third → g.lasts first third) (moment : ℕ) (old now : ConnectionState) (octets : List ℕ)
-    (store store_n : StoreState) (lists lists_n : List CallerList) (disk disk_n : D) (told : Fate × Result ⊤ ServerStop) (peer : old.link.peer ≡ caller_of old.session) (w : Window) (c : Connected)
+    (store store_n : StoreState) (lists lists_n : List CallerList) (disk disk_n : D) (told : Fate × Result ⊤ Stop) (peer : old.link.peer ≡ caller_of old.session) (w : Window) (c : Connected)
     (is : IsConnection w store old c) where
   -- what packets make of this caller's session in this state
   abbrev taking_items : CallSign → State → List Item → List Failure → Progress
@@ -53,7 +53,7 @@ module _ {D : Type 0} (g : Ghosts D) (on : (first second third : D) → g.lasts 
 
   module _ (h : FeedsAll g moment (carrying old.link (old.octets ++ octets) old.session) now store store_n lists lists_n disk disk_n told) where
     -- the same of these packets
-    abbrev Made : List Item → Fate × Result ⊤ ServerStop → Type 0
+    abbrev Made : List Item → Fate × Result ⊤ Stop → Type 0
     Made items result =
         HearsParts g w (rest_of (old.octets ++ octets)) (taking_items (caller_of old.session) (state_in store old.session) items) store store_n lists_n disk disk_n now result
 
@@ -69,11 +69,11 @@ module _ {D : Type 0} (g : Ghosts D) (on : (first second third : D) → g.lasts 
     hears-whole : IsGoing told → HearsParts g w (rest_of (c.rest ++ octets)) (taking_octets moment (store_in store) lists c c.end octets) store store_n lists_n disk disk_n now told
     hears-whole going =
         let whole = front-whole (old.octets ++ octets) h.left now.octets h.feeds.items h.feeds.front (h.none going) (h.rest going) in
-        let Takes : Fate × Result ⊤ ServerStop → Type 0 =
+        let Takes : Fate × Result ⊤ Stop → Type 0 =
         λ t. TakesPackets g w moment old.session store store_n lists lists_n c.end h.feeds.items 0 disk disk_n now.link now.session t in
         at-connected
         (subst (λ (items : List Item). Made items told) whole.0
-        (subst (λ (t : Fate × Result ⊤ ServerStop). Made h.feeds.items t) (sym going)
+        (subst (λ (t : Fate × Result ⊤ Stop). Made h.feeds.items t) (sym going)
         (parts-whole g on w moment old.session store store_n lists lists_n disk disk_n now c.end h.feeds.items (rest_of (old.octets ++ octets)) whole.1
         (subst Takes going (h.feeds.takes w c.end 0 is.link)))))
 

@@ -9,8 +9,8 @@ use Rattle.file_store.specs.OnDisk.{MakesFirst}
 use Rattle.file_store.specs.State.{StoreState, store_in}
 use Rattle.file_store.specs.Working.{CutsOffAmongReads, DoesAmongReads}
 use Rattle.ftl0_session.specs.Uploads.Failures.{Failure, failed_reads, failed_write}
-use Rattle.ftl0_session.specs.declared.stop.ServerStop.{ServerStop}
-use Rattle.ftl0_session.specs.declared.stop.ServerStop.TheVariants as stop
+use Rattle.disk_model.specs.declared.halt.Halt.{Halt as Stop}
+use Rattle.disk_model.specs.declared.halt.Halt.TheVariants as stop
 use Rattle.ftl0_session.specs.SessionState.{SessionState, state_in}
 use Rattle.ftl0_server.specs.declared.connection.fate.Fate.{Fate}
 use Rattle.ftl0_server.specs.declared.connection.fate.Fate.TheVariants.{Stays, Ends}
@@ -52,7 +52,7 @@ IsAfter w store lists connection happened fate =
 -- before it are done, and its own aren't begun. The count of failed reads rose by at least as many as the parts told of.
 abbrev pub HearsBy :
     {D : Type 0} → Ghosts D → Window → (List Failure → Happened) → StoreState → StoreState → List CallerList → D → D
-    → ConnectionState → Fate → Result ⊤ ServerStop → Type 0
+    → ConnectionState → Fate → Result ⊤ Stop → Type 0
 HearsBy g w event store store_now lists_now disk disk_now connection fate (Ok done) =
     ((event []).halt ≡ goes_on) × IsAfter w store_now lists_now connection (event []) fate
     × DoesAmongReads g ⊥ (event []).missed store store_now disk disk_now (event []).done
@@ -75,7 +75,7 @@ with_reads event parts writes = event (writes ++ failed_reads parts)
 -- write and no sync fails, for some number of them.
 pub record Hears {D : Type 0} (g : Ghosts D) (w : Window) (event : List Failure → Happened)
     (store store_now : StoreState) (lists_now : List CallerList) (disk disk_now : D) (connection : ConnectionState)
-    (heard : Fate × Result ⊤ ServerStop) : Type 0 where
+    (heard : Fate × Result ⊤ Stop) : Type 0 where
   pub parts : List ℕ
   pub by :
       HearsBy g w (with_reads event parts) store store_now lists_now disk disk_now connection heard.0 heard.1

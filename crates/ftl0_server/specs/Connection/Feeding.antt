@@ -21,8 +21,8 @@ use Rattle.file_store.specs.Working.{DoesAmongReads, PutsAmongReads, one_if}
 use Rattle.ftl0_session.specs.Uploads.Failures.{Failure, failed_reads}
 use Rattle.ftl0_session.specs.Uploads.Others.{KeepsOtherCallers}
 use Rattle.ftl0_session.specs.Downloads.Needs.{IsDueIn}
-use Rattle.ftl0_session.specs.declared.stop.ServerStop.{ServerStop}
-use Rattle.ftl0_session.specs.declared.stop.ServerStop.TheVariants as stop
+use Rattle.disk_model.specs.declared.halt.Halt.{Halt as Stop}
+use Rattle.disk_model.specs.declared.halt.Halt.TheVariants as stop
 use Rattle.ftl0_session.specs.SessionState.{MayTake as SessionMayTake, SessionState, IsFit, caller_of, state_in}
 use Rattle.ftl0_session.specs.Table.{DuePacket, State, next_due, tells_failed_read}
 use Rattle.ftl0_server.specs.declared.connection.fate.Fate.{Fate}
@@ -41,7 +41,7 @@ pub record MayTake {D : Type 0} (g : Ghosts D) (store : StoreState) (disk : D) (
 
 -- What packets leave of a link, a session, the store, the lists and the disk, whatever they were.
 pub record LeavesFit {D : Type 0} (g : Ghosts D) (store store_now : StoreState) (lists_now : List CallerList)
-    (disk disk_now : D) (link link_now : Kept) (session session_now : SessionState) (told : Fate × Result ⊤ ServerStop)
+    (disk disk_now : D) (link link_now : Kept) (session session_now : SessionState) (told : Fate × Result ⊤ Stop)
     : Type 0 where
   pub puts : PutsAmongReads g (IsErrOf told.1 stop.Disk) disk disk_now
   pub kept : KeepsComplete (store_in store) (store_in store_now)
@@ -53,7 +53,7 @@ pub record LeavesFit {D : Type 0} (g : Ghosts D) (store store_now : StoreState) 
   pub stations : SameStations link link_now
 
 -- nothing stopped the connection or the server
-abbrev pub IsGoing : Fate × Result ⊤ ServerStop → Type 0
+abbrev pub IsGoing : Fate × Result ⊤ Stop → Type 0
 IsGoing told = told ≡ (Stays, Ok tt)
 
 -- a connection with this link and this session, and these octets of which no packet was taken
@@ -73,7 +73,7 @@ taking_some moment session state store lists end items first failures =
 -- Packets were taken as the parts of an event from this one on, and reads failed at these of them.
 pub record TakesPackets {D : Type 0} (g : Ghosts D) (w : Window) (moment : ℕ) (session : SessionState)
     (store store_now : StoreState) (lists lists_now : List CallerList) (end : LinkEnd) (items : List Item) (first : ℕ)
-    (disk disk_now : D) (link_now : Kept) (session_now : SessionState) (told : Fate × Result ⊤ ServerStop)
+    (disk disk_now : D) (link_now : Kept) (session_now : SessionState) (told : Fate × Result ⊤ Stop)
     : Type 0 where
   pub parts : List ℕ
   pub among : All (IsAmong first (length items)) parts
@@ -85,7 +85,7 @@ pub record TakesPackets {D : Type 0} (g : Ghosts D) (w : Window) (moment : ℕ) 
 -- Packets at the front of the octets were taken, up to one that stops the connection, if one does: the rest are those
 -- of the octets that are left now.
 pub record Feeds {D : Type 0} (g : Ghosts D) (moment : ℕ) (before now : ConnectionState) (store store_now : StoreState)
-    (lists lists_now : List CallerList) (disk disk_now : D) (told : Fate × Result ⊤ ServerStop) : Type 0 where
+    (lists lists_now : List CallerList) (disk disk_now : D) (told : Fate × Result ⊤ Stop) : Type 0 where
   pub items : List Item
   pub front : HasFront before.octets now.octets items
   pub takes :
@@ -97,7 +97,7 @@ pub record Feeds {D : Type 0} (g : Ghosts D) (moment : ℕ) (before now : Connec
 -- the octets now are the rest.
 pub record FeedsAll {D : Type 0} (g : Ghosts D) (moment : ℕ) (before now : ConnectionState)
     (store store_now : StoreState) (lists lists_now : List CallerList) (disk disk_now : D)
-    (told : Fate × Result ⊤ ServerStop) : Type 0 where
+    (told : Fate × Result ⊤ Stop) : Type 0 where
   pub left : List ℕ
   pub feeds :
       Feeds g moment before (carrying now.link left now.session) store store_now lists lists_now disk disk_now told
@@ -115,7 +115,7 @@ pub record IsSettled (event : List Failure → Progress) (parts : List ℕ) : Ty
 -- isn't queued yet. Where a write or a sync fails the session is over.
 pub record HearsParts {D : Type 0} (g : Ghosts D) (w : Window) (left : List ℕ) (event : List Failure → Progress)
     (store store_now : StoreState) (lists_now : List CallerList) (disk disk_now : D) (connection : ConnectionState)
-    (told : Fate × Result ⊤ ServerStop) : Type 0 where
+    (told : Fate × Result ⊤ Stop) : Type 0 where
   pub hears :
       Hears g w (λ failures. progressed left (event failures)) store store_now lists_now disk disk_now connection told
   pub over : (failures : List Failure) → (event failures).halt ≡ fails → (event failures).over ≡ true

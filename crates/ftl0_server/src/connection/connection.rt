@@ -32,10 +32,10 @@ use crate::connection::Fate;
 use arrayvec::ArrayVec;
 use ax25_frames::Frame;
 use ax25_link::{Heard, Link, information};
-use disk_model::Disk;
+use disk_model::{Disk, Halt};
 use file_store::FileStore;
 use ftl0_session::lists::Lists;
-use ftl0_session::{Replies, ServerStop, Session};
+use ftl0_session::{Replies, Session};
 use packet_link::PacketLink;
 use px_base::{Call, OutOfMemory};
 use std::alloc::Global;
@@ -43,7 +43,7 @@ use std::marker::Model;
 use std::mem;
 
 /// What a frame that was heard did: what becomes of the session, and whether the server goes on.
-pub type Told = (Fate, Result<(), ServerStop>);
+pub type Told = (Fate, Result<(), Halt>);
 
 /// A caller's connection. It must be ended, which parks the session's upload. Contracts see it as a `ConnectionState`,
 /// and speak of the connections of the definitions that it stands for, whose links have all that was pushed, sent and
@@ -333,11 +333,11 @@ fn answer<D: Disk>(
     let mut replies = Replies::new();
     match session.take(disk, link.packet(), moment, store, lists, &mut replies) {
         Ok(()) => (reply(link, replies.as_slice()), Ok(())),
-        Err(ServerStop::Disk) => {
+        Err(Halt::Disk) => {
             reply(link, replies.as_slice());
-            (Fate::Ends, Err(ServerStop::Disk))
+            (Fate::Ends, Err(Halt::Disk))
         }
-        Err(ServerStop::OutOfMemory) => (Fate::Stays, Err(ServerStop::OutOfMemory)),
+        Err(Halt::OutOfMemory) => (Fate::Stays, Err(Halt::OutOfMemory)),
     }
 }
 

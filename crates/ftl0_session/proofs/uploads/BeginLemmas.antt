@@ -18,8 +18,8 @@ use Rattle.file_store.specs.Upload.{Upload}
 use Rattle.file_store.specs.declared.refusals.BeginRefusal.{BeginRefusal}
 use Rattle.file_store.specs.declared.refusals.BeginRefusal.TheVariants as refusal
 use Rattle.ftl0_session.specs.declared.uploads.phase.Phase.TheVariants as phase
-use Rattle.ftl0_session.specs.declared.uploads.stop.ServerStop.{ServerStop}
-use Rattle.ftl0_session.specs.declared.uploads.stop.ServerStop.TheVariants as stop
+use Rattle.disk_model.specs.declared.halt.Halt.{Halt}
+use Rattle.disk_model.specs.declared.halt.Halt.TheVariants as stop
 use Rattle.ftl0_session.specs.Uploads.Others.{KeepsOtherCallers}
 use Rattle.ftl0_packets.specs.Items.{texts}
 use Rattle.ftl0_session.specs.Uploads.Session.{command, granted_row, refused_row, session_row}
@@ -83,18 +83,18 @@ module _ {D : Type 0} (g : Ghosts D) (caller : CallSign) (moment len : ℕ) (bef
   abbrev Item-asked : Item
   Item-asked = Ok (upload_cmd 0 len)
 
-  abbrev Gives-it : StoreState → D → List ℕ → Result ⊤ ServerStop → Type 0
+  abbrev Gives-it : StoreState → D → List ℕ → Result ⊤ Halt → Type 0
   Gives-it now disk_now replies result = Answered g caller moment command (Ok (upload_cmd 0 len)) before now disk disk_now replies (phase.Command, result)
 
   -- nothing was touched
-  untouched : (replies : List ℕ) (result : Result ⊤ ServerStop) → (now ≡ before) × (disk_now ≡ disk) → Gives-it before disk replies result → Gives-it now disk_now replies result
+  untouched : (replies : List ℕ) (result : Result ⊤ Halt) → (now ≡ before) × (disk_now ≡ disk) → Gives-it before disk replies result → Gives-it now disk_now replies result
   untouched replies result same given =
       subst (λ (s : StoreState). Gives-it s disk_now replies result) (sym same.0) (subst (λ (d : D). Gives-it before d replies result) (sym same.1) given)
 
-  barred : (replies : List ℕ) (result : Result ⊤ ServerStop) → (now ≡ before) × (disk_now ≡ disk)
+  barred : (replies : List ℕ) (result : Result ⊤ Halt) → (now ≡ before) × (disk_now ≡ disk)
       → session_row caller moment (store_in before) command (Ok (upload_cmd 0 len)) ≡ Some (refused_row command 13) → (result ≡ Ok tt) × (replies ≡ texts (ul_error_resp 13 ∷ [])) → Gives-it now disk_now replies result
   barred replies result same row answer =
-      subst (λ (r : Result ⊤ ServerStop). Gives-it now disk_now replies r) (sym answer.0)
+      subst (λ (r : Result ⊤ Halt). Gives-it now disk_now replies r) (sym answer.0)
       (untouched replies (Ok tt) same
       (answered-alone g caller moment command (Ok (upload_cmd 0 len)) before before disk replies (phase.Command, Ok tt) ready.healthy ready.stands_on lasts
       (alone-row caller moment command (Ok (upload_cmd 0 len)) before phase.Command (refused_row command 13) replies row refl
@@ -104,7 +104,7 @@ module _ {D : Type 0} (g : Ghosts D) (caller : CallSign) (moment len : ℕ) (bef
   not_reached (inl never) = absurd (true≢false (sym never))
   not_reached (inr p) = p
 
-  pub begin-refused : (r : BeginRefusal) (replies : List ℕ) (result : Result ⊤ ServerStop) → RefusesBegin before len r
+  pub begin-refused : (r : BeginRefusal) (replies : List ℕ) (result : Result ⊤ Halt) → RefusesBegin before len r
       → IsTrue (begin_reaches (refusing r)) ⊎ ((now ≡ before) × (disk_now ≡ disk))
       → (IsTrue (begin_reaches (refusing r)) → Does g (IsErr (refusing r)) before now disk disk_now (begin (store_in before).next caller len moment ∷ []))
       → KeepsUploads before now → KeepsRests before.files now.files (store_in before).next → KeepsComplete (store_in before) (store_in now)
@@ -120,7 +120,7 @@ module _ {D : Type 0} (g : Ghosts D) (caller : CallSign) (moment len : ℕ) (bef
   begin-refused refusal.Failed replies result refused same does uploads rests kept answer = absurd answer
   begin-refused refusal.OutOfMemory replies result refused same does uploads rests kept answer =
       let row = row-granted caller moment (store_in before) len (may-can (store_in before) len is refused.0) in
-      subst (λ (r : Result ⊤ ServerStop). Gives-it now disk_now replies r) (sym answer.0)
+      subst (λ (r : Result ⊤ Halt). Gives-it now disk_now replies r) (sym answer.0)
       (untouched replies (Err stop.OutOfMemory) (not_reached same)
       (record {
         answers = (granted_row caller moment (store_in before).next len, row, refl, (refl, refl, answer.1));
@@ -137,7 +137,7 @@ module _ {D : Type 0} (g : Ghosts D) (caller : CallSign) (moment len : ℕ) (bef
       let none : cut.count ≡ 0 = let few : cut.count < 1 = cut.fewer in omega arith in
       let row = row-granted caller moment (store_in before) len (begin-can _ _ done.allowed.0) in
       let still : store_in now ≡ store_in before = cut.state ∙ ap (λ (count : ℕ). after_first count (store_in before) (begin (store_in before).next caller len moment ∷ [])) none in
-      subst (λ (r : Result ⊤ ServerStop). Gives-it now disk_now replies r) (sym answer.0)
+      subst (λ (r : Result ⊤ Halt). Gives-it now disk_now replies r) (sym answer.0)
       (record {
         answers = (granted_row caller moment (store_in before).next len, row, refl, answer.1);
         on_disk = does-row g caller moment command (Ok (upload_cmd 0 len)) before now disk disk_now _ ⊤ (granted_row caller moment (store_in before).next len) row (λ failed. tt) (λ failed. refl) done;

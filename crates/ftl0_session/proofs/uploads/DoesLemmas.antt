@@ -12,13 +12,13 @@ use Rattle.file_store.specs.Store.{Store}
 use Rattle.file_store.specs.OnDisk.{Does}
 use Rattle.file_store.specs.State.{StandsOn, StoreState, store_in}
 use Rattle.ftl0_session.specs.declared.uploads.phase.Phase.{Phase}
-use Rattle.ftl0_session.specs.declared.uploads.stop.ServerStop.{ServerStop}
-use Rattle.ftl0_session.specs.declared.uploads.stop.ServerStop.TheVariants as stop
+use Rattle.disk_model.specs.declared.halt.Halt.{Halt}
+use Rattle.disk_model.specs.declared.halt.Halt.TheVariants as stop
 use Rattle.ftl0_session.specs.Uploads.Session.{Row, State, session_row}
 use Rattle.ftl0_session.specs.Uploads.Taking.{Answered, AnsweredAlone, Answers, DoesRow, LeavesDisk, PutsRow, row_of}
 
 -- the answer that is this stop
-abbrev stopped : ServerStop → Result ⊤ ServerStop
+abbrev stopped : Halt → Result ⊤ Halt
 stopped stop = Err stop
 
 module _ {D : Type 0} (g : Ghosts D) where
@@ -40,7 +40,7 @@ module _ {D : Type 0} (g : Ghosts D) where
   does-row caller moment state item before now disk disk_now P Q row is there back does =
       subst (λ (o : Option Row). IfSome o (λ r. Does g Q before now disk disk_now r.commands)) (sym is) (Does-same g P Q before now disk disk_now row.commands there back does)
 
-  on_disk-alone : (caller : CallSign) (moment : ℕ) (state : State) (item : Item) (before now : StoreState) (disk : D) (result : Result ⊤ ServerStop)
+  on_disk-alone : (caller : CallSign) (moment : ℕ) (state : State) (item : Item) (before now : StoreState) (disk : D) (result : Result ⊤ Halt)
       → ¬ IsErrOf result stop.Disk → IfSome (session_row caller moment (store_in before) state item) (λ row. row.commands ≡ [])
       → Does g ⊥ before now disk disk [] → PutsRow g before now disk disk (row_of caller moment before state item) result
   on_disk-alone caller moment state item before now disk (Ok done) no_fault none does =
@@ -49,7 +49,7 @@ module _ {D : Type 0} (g : Ghosts D) where
   on_disk-alone caller moment state item before now disk (Err stop.OutOfMemory) no_fault none does = refl
 
   -- a packet that leaves the disk alone
-  pub answered-alone : (caller : CallSign) (moment : ℕ) (state : State) (item : Item) (before now : StoreState) (disk : D) (replies : List ℕ) (taken : Phase × Result ⊤ ServerStop)
+  pub answered-alone : (caller : CallSign) (moment : ℕ) (state : State) (item : Item) (before now : StoreState) (disk : D) (replies : List ℕ) (taken : Phase × Result ⊤ Halt)
       → before.journal.failed ≡ false → StandsOn g before disk → g.lasts disk disk → AnsweredAlone caller moment state item before now replies taken
       → Answered g caller moment state item before now disk disk replies taken
   answered-alone caller moment state item before now disk replies taken healthy stands lasts alone = record {
@@ -66,7 +66,7 @@ module _ {D : Type 0} (g : Ghosts D) where
 
   -- What stands after a packet, whatever the answer.
   module _ (caller : CallSign) (moment : ℕ) (state : State) (item : Item) (before now : StoreState) (disk disk_now : D) (next : State) (replies : List ℕ) where
-    pub after-puts : (result : Result ⊤ ServerStop) → g.lasts disk disk → Answers caller moment before state item now next replies result
+    pub after-puts : (result : Result ⊤ Halt) → g.lasts disk disk → Answers caller moment before state item now next replies result
         → PutsRow g before now disk disk_now (row_of caller moment before state item) result → Puts g (IsErrOf result stop.Disk) disk disk_now
     after-puts (Ok done) lasts answers on_disk =
         puts_same g disk disk_now ⊥ _ (λ never. absurd never) (λ e. cc e) (at_told (λ row. Does g ⊥ before now disk disk_now row.commands) answers.0 answers.1 on_disk).puts
@@ -76,19 +76,19 @@ module _ {D : Type 0} (g : Ghosts D) where
         let fine : ¬ IsErrOf (stopped stop.OutOfMemory) stop.Disk = λ e. cc e in
         subst (λ (d : D). Puts g (IsErrOf (stopped stop.OutOfMemory) stop.Disk) disk d) (sym on_disk) (puts_none g disk (IsErrOf (stopped stop.OutOfMemory) stop.Disk) fine lasts)
 
-    pub after-failed : (result : Result ⊤ ServerStop) → Answers caller moment before state item now next replies result
+    pub after-failed : (result : Result ⊤ Halt) → Answers caller moment before state item now next replies result
         → PutsRow g before now disk disk_now (row_of caller moment before state item) result → IsErrOf result stop.Disk → now.journal.failed ≡ true
     after-failed (Ok done) answers on_disk e = absurd (cc e)
     after-failed (Err stop.Disk) answers on_disk e = ((at_told (λ row. Does g ⊤ before now disk disk_now row.commands) answers.0 answers.1 on_disk).cut tt).failed
     after-failed (Err stop.OutOfMemory) answers on_disk e = absurd (cc e)
 
-    pub after-healthy : (result : Result ⊤ ServerStop) → before.journal.failed ≡ false → Answers caller moment before state item now next replies result
+    pub after-healthy : (result : Result ⊤ Halt) → before.journal.failed ≡ false → Answers caller moment before state item now next replies result
         → PutsRow g before now disk disk_now (row_of caller moment before state item) result → ¬ IsErrOf result stop.Disk → now.journal.failed ≡ false
     after-healthy (Ok done) healthy answers on_disk fine = ((at_told (λ row. Does g ⊥ before now disk disk_now row.commands) answers.0 answers.1 on_disk).done (λ never. never)).1
     after-healthy (Err stop.Disk) healthy answers on_disk fine = absurd (fine refl)
     after-healthy (Err stop.OutOfMemory) healthy answers on_disk fine = ap (λ (s : StoreState). s.journal.failed) answers.3.0 ∙ healthy
 
-    pub after-stands : (result : Result ⊤ ServerStop) → StandsOn g before disk → Answers caller moment before state item now next replies result
+    pub after-stands : (result : Result ⊤ Halt) → StandsOn g before disk → Answers caller moment before state item now next replies result
         → PutsRow g before now disk disk_now (row_of caller moment before state item) result → StandsOn g now disk_now
     after-stands (Ok done) stands answers on_disk = (at_told (λ row. Does g ⊥ before now disk disk_now row.commands) answers.0 answers.1 on_disk).stands_on
     after-stands (Err stop.Disk) stands answers on_disk = (at_told (λ row. Does g ⊤ before now disk disk_now row.commands) answers.0 answers.1 on_disk).stands_on

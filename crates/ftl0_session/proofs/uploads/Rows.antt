@@ -11,7 +11,7 @@ use Rattle.ftl0_session.specs.declared.uploads.asked.Asked.{Asked}
 use Rattle.ftl0_session.specs.declared.uploads.asked.Asked.TheVariants as asked
 use Rattle.ftl0_session.specs.declared.uploads.phase.Phase.{Phase}
 use Rattle.ftl0_session.specs.declared.uploads.phase.Phase.TheVariants as phase
-use Rattle.ftl0_session.specs.declared.uploads.stop.ServerStop.{ServerStop}
+use Rattle.disk_model.specs.declared.halt.Halt.{Halt}
 use Rattle.ftl0_session.specs.Uploads.Laws.{RowsLaw}
 use Rattle.ftl0_session.specs.Uploads.Others.{KeepsOtherCallers}
 use Rattle.ftl0_packets.specs.Items.{kind_of_item, texts}
@@ -137,15 +137,15 @@ module _ (caller : CallSign) (moment : ℕ) (state : State) (item : Item) (store
   }
 
   -- one that is refused with a code
-  pub alone-refused : (here : Phase) (code : ℕ) (replies : List ℕ) (taken : Phase × Result ⊤ ServerStop) → session_row caller moment (store_in store) state item ≡ Some (refused_row state code)
+  pub alone-refused : (here : Phase) (code : ℕ) (replies : List ℕ) (taken : Phase × Result ⊤ Halt) → session_row caller moment (store_in store) state item ≡ Some (refused_row state code)
       → state_of store here ≡ state → taken ≡ (here, Ok tt) → replies ≡ texts (ul_error_resp code ∷ []) → PhaseIsHeld store caller here → NoOtherOut store caller (number_of here)
       → AnsweredAlone caller moment state item store store replies taken
   alone-refused here code replies taken row at is text held only =
-      subst (λ (t : Phase × Result ⊤ ServerStop). AnsweredAlone caller moment state item store store replies t) (sym is)
+      subst (λ (t : Phase × Result ⊤ Halt). AnsweredAlone caller moment state item store store replies t) (sym is)
       (alone-row here (refused_row state code) replies row refl (refused_row state code, row, ((tt, refl), at, text)) held only)
 
 -- An UPLOAD_CMD that is refused, over a store that stays.
-pub upload-refused : (caller : CallSign) (moment : ℕ) (item : Item) (before now : StoreState) (code : ℕ) (replies : List ℕ) (taken : Phase × Result ⊤ ServerStop)
+pub upload-refused : (caller : CallSign) (moment : ℕ) (item : Item) (before now : StoreState) (code : ℕ) (replies : List ℕ) (taken : Phase × Result ⊤ Halt)
     → session_row caller moment (store_in before) command item ≡ Some (refused_row command code) → now ≡ before → taken ≡ (phase.Command, Ok tt) → replies ≡ texts (ul_error_resp code ∷ [])
     → NoOtherOut before caller None → AnsweredAlone caller moment command item before now replies taken
 upload-refused caller moment item before now code replies taken row same is text only =

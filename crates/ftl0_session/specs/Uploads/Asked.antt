@@ -7,7 +7,7 @@ use Rattle.file_store.specs.State.{StoreState}
 use Rattle.ftl0_session.specs.declared.uploads.asked.Asked.{Asked}
 use Rattle.ftl0_session.specs.declared.uploads.asked.Asked.TheVariants as asked
 use Rattle.ftl0_session.specs.declared.uploads.phase.Phase.{Phase}
-use Rattle.ftl0_session.specs.declared.uploads.stop.ServerStop.{ServerStop}
+use Rattle.disk_model.specs.declared.halt.Halt.{Halt}
 use Rattle.ftl0_packets.specs.Items.{kind_of_item}
 use Rattle.ftl0_session.specs.Uploads.Session.{State, aborting, is_upload_kind}
 use Rattle.ftl0_session.specs.Uploads.SessionState.{NoOtherOut}
@@ -23,12 +23,12 @@ IsAsked item asked.Malformed = IsErr item × (is_upload_kind (kind_of_item item)
 -- what each packet that asks this gives in a state
 abbrev pub AnswersAsked :
     {D : Type 0} → Ghosts D → CallSign → ℕ → State → Asked → StoreState → StoreState → D → D → List ℕ
-    → (Phase × Result ⊤ ServerStop) → Type 0
+    → (Phase × Result ⊤ Halt) → Type 0
 AnswersAsked g caller moment state what before now disk disk_now replies taken =
     (item : Item) → IsAsked item what → Answered g caller moment state item before now disk disk_now replies taken
 
 -- In Aborting, whoever the caller is and whatever the store, which stays.
-abbrev pub AnswersAborting : Asked → List ℕ → (Phase × Result ⊤ ServerStop) → Type 0
+abbrev pub AnswersAborting : Asked → List ℕ → (Phase × Result ⊤ Halt) → Type 0
 AnswersAborting what replies taken =
     (caller : CallSign) (moment : ℕ) (store : StoreState) (item : Item) → NoOtherOut store caller None
     → IsAsked item what → AnsweredAlone caller moment aborting item store store replies taken

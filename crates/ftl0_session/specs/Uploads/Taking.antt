@@ -13,8 +13,8 @@ use Rattle.file_store.specs.declared.refusals.BeginRefusal.TheVariants as refusa
 use Rattle.file_store.specs.OnDisk.{Does}
 use Rattle.file_store.specs.State.{StoreState, store_in}
 use Rattle.ftl0_session.specs.declared.uploads.phase.Phase.{Phase}
-use Rattle.ftl0_session.specs.declared.uploads.stop.ServerStop.{ServerStop}
-use Rattle.ftl0_session.specs.declared.uploads.stop.ServerStop.TheVariants as stop
+use Rattle.disk_model.specs.declared.halt.Halt.{Halt}
+use Rattle.disk_model.specs.declared.halt.Halt.TheVariants as stop
 use Rattle.ftl0_session.specs.Uploads.Others.{KeepsOtherCallers}
 use Rattle.ftl0_packets.specs.Items.{texts}
 use Rattle.ftl0_session.specs.Uploads.Session.{Row, State, command, fault_reply, session_row, takes_memory}
@@ -36,7 +36,7 @@ GivesNothing before state now next replies = (now ≡ before) × (next ≡ state
 -- The answer to a packet is its row of the table. A stop says that there is no memory, where the row begins a file or
 -- takes octets, and nothing changed; or that the disk failed in one of the row's commands, which code 3 replies.
 abbrev pub Answers :
-    CallSign → ℕ → StoreState → State → Item → StoreState → State → List ℕ → Result ⊤ ServerStop → Type 0
+    CallSign → ℕ → StoreState → State → Item → StoreState → State → List ℕ → Result ⊤ Halt → Type 0
 Answers caller moment before state item now next replies (Ok done) =
     (row : Row) × (row_of caller moment before state item ≡ Some row) × Gives before row now next replies
 Answers caller moment before state item now next replies (Err stop.OutOfMemory) =
@@ -54,7 +54,7 @@ DoesRow g failed before now disk disk_now row = IfSome row (λ r. Does g failed 
 -- in one of them: a crash since the packet came leaves the store after the first so many of them. Else the disk isn't
 -- touched.
 abbrev pub PutsRow :
-    {D : Type 0} → Ghosts D → StoreState → StoreState → D → D → Option Row → Result ⊤ ServerStop → Type 0
+    {D : Type 0} → Ghosts D → StoreState → StoreState → D → D → Option Row → Result ⊤ Halt → Type 0
 PutsRow g before now disk disk_now row (Ok done) = DoesRow g ⊥ before now disk disk_now row
 PutsRow g before now disk disk_now row (Err stop.Disk) = DoesRow g ⊤ before now disk disk_now row
 PutsRow g before now disk disk_now row (Err stop.OutOfMemory) = disk_now ≡ disk
@@ -64,12 +64,12 @@ abbrev pub LeavesDisk : {D : Type 0} → D → D → Option Row → Type 0
 LeavesDisk disk disk_now row = IfSome row (λ r. r.commands ≡ [] → disk_now ≡ disk)
 
 -- the answer by UL_ERROR_RESP with this code
-abbrev pub AnswersCode : ℕ → List ℕ → Result ⊤ ServerStop → Type 0
+abbrev pub AnswersCode : ℕ → List ℕ → Result ⊤ Halt → Type 0
 AnswersCode code replies result = (result ≡ Ok tt) × (replies ≡ texts (ul_error_resp code ∷ []))
 
 -- The answer to a refusal to begin a file, of a store that hadn't failed before: error 13; code 3 where the disk
 -- failed; or a stop.
-abbrev pub AnswersRefusal : BeginRefusal → List ℕ → Result ⊤ ServerStop → Type 0
+abbrev pub AnswersRefusal : BeginRefusal → List ℕ → Result ⊤ Halt → Type 0
 AnswersRefusal refusal.TooLong replies result = AnswersCode 13 replies result
 AnswersRefusal refusal.TooMany replies result = AnswersCode 13 replies result
 AnswersRefusal refusal.NumbersGone replies result = AnswersCode 13 replies result
@@ -82,7 +82,7 @@ AnswersRefusal refusal.OutOfMemory replies result = (result ≡ Err stop.OutOfMe
 -- replies.
 abbrev pub TakesPacket :
     ℕ → SessionState → StoreState → Result Packet Malformed → SessionState → StoreState → List ℕ
-    → Result ⊤ ServerStop → Type 0
+    → Result ⊤ Halt → Type 0
 TakesPacket moment old before packet new now replies result =
     Answers old.caller moment before (state_of before old.phase) (item_of packet)
     now (state_of now new.phase) replies result
@@ -94,13 +94,13 @@ row_for moment old before packet = row_of old.caller moment before (state_of bef
 -- and what that does to the store's disk
 abbrev pub PutsPacket :
     {D : Type 0} → Ghosts D → ℕ → SessionState → StoreState → D → Result Packet Malformed → StoreState → D
-    → Result ⊤ ServerStop → Type 0
+    → Result ⊤ Halt → Type 0
 PutsPacket g moment old before disk packet now disk_now result =
     PutsRow g before now disk disk_now (row_for moment old before packet) result
 
 -- What a packet gives in a state: the phase after it and the answer, and what it keeps.
 pub record Answered {D : Type 0} (g : Ghosts D) (caller : CallSign) (moment : ℕ) (state : State) (item : Item)
-    (before now : StoreState) (disk disk_now : D) (replies : List ℕ) (taken : Phase × Result ⊤ ServerStop) :
+    (before now : StoreState) (disk disk_now : D) (replies : List ℕ) (taken : Phase × Result ⊤ Halt) :
     Type 0 where
   pub answers : Answers caller moment before state item now (state_of now taken.0) replies taken.1
   pub on_disk : PutsRow g before now disk disk_now (row_of caller moment before state item) taken.1
@@ -113,7 +113,7 @@ pub record Answered {D : Type 0} (g : Ghosts D) (caller : CallSign) (moment : �
 -- What a packet gives that leaves the disk alone: the files are as they were, but that an upload may have gone out or
 -- been given up.
 pub record AnsweredAlone (caller : CallSign) (moment : ℕ) (state : State) (item : Item) (before now : StoreState)
-    (replies : List ℕ) (taken : Phase × Result ⊤ ServerStop) : Type 0 where
+    (replies : List ℕ) (taken : Phase × Result ⊤ Halt) : Type 0 where
   pub answers : Answers caller moment before state item now (state_of now taken.0) replies taken.1
   pub no_fault : ¬ IsErrOf taken.1 stop.Disk
   pub no_commands : IfSome (row_of caller moment before state item) (λ row. row.commands ≡ [])

@@ -18,10 +18,10 @@ ghost use Rattle.ftl0_session.specs.Uploads.Taking.{TakesPacket, row_for};
 ghost use Rattle.ftl0_session.specs.declared.uploads.phase.Phase.TheVariants.{Command as command_phase};
 ghost use Rattle.ftl0_session.specs.declared.uploads.phase.Phase.TheVariants.{Receiving as receiving_phase};
 
+use crate::uploads::Phase;
 use crate::uploads::asked::Asked;
-use crate::uploads::{Phase, ServerStop};
 use arrayvec::ArrayVec;
-use disk_model::Disk;
+use disk_model::{Disk, Halt};
 use file_store::laws::state_law;
 use file_store::{
     AppendRefusal, BeginRefusal, FileStore, OpenUpload, Receipt, ResumeRefusal, SealRefusal,
@@ -70,7 +70,7 @@ impl Model for Session {
 }
 
 /// What a packet gives in a phase: the phase after it, and the answer.
-type Taken = (Phase, Result<(), ServerStop>);
+type Taken = (Phase, Result<(), Halt>);
 
 impl Session {
     /// The session of this caller, in the state Command; nothing is replied. Takes no memory.
@@ -106,7 +106,7 @@ impl Session {
         moment: u32,
         store: &mut FileStore,
         replies: &mut Replies,
-    ) -> Result<(), ServerStop>
+    ) -> Result<(), Halt>
         requires empty { replies.old.items ≡ [] }
         requires kind { is_upload_kind (kind_of_item (item_of packet)) ≡ true }
         requires healthy { store.old.journal.failed ≡ false }
@@ -118,14 +118,14 @@ impl Session {
         ensures takes { TakesPacket moment self.old store.old packet.entry self.new store.new replies.new.items result }
         ensures on_disk { PutsPacket D.Disk moment self.old store.old disk.old packet.entry store.new disk.new result }
         ensures untouched { LeavesDisk disk.old disk.new (row_for moment self.old store.old packet.entry) }
-        ensures puts { Puts D.Disk (IsErrOf result ServerStop.Disk) disk.old disk.new }
-        ensures failed { IsErrOf result ServerStop.Disk → store.new.journal.failed ≡ true }
+        ensures puts { Puts D.Disk (IsErrOf result Halt.Disk) disk.old disk.new }
+        ensures failed { IsErrOf result Halt.Disk → store.new.journal.failed ≡ true }
         ensures kept { KeepsComplete (store_in store.old) (store_in store.new) }
         ensures others { KeepsOtherCallers store.old store.new self.old.caller }
 
         // What the next packet needs.
         ensures caller { self.new.caller ≡ self.old.caller }
-        ensures healthy { ¬ IsErrOf result ServerStop.Disk → store.new.journal.failed ≡ false }
+        ensures healthy { ¬ IsErrOf result Halt.Disk → store.new.journal.failed ≡ false }
         ensures stands_on { StandsOn D.Disk store.new disk.new }
         ensures held { IsHeld store.new self.new }
         ensures only { IsOnlyOut store.new self.new }
@@ -242,7 +242,7 @@ impl Session {
             }
             Err(SealRefusal::Disk) => {
                 write_packet(&Packet::UlNakResp(FILE_SYSTEM), replies);
-                (Phase::Command, Err(ServerStop::Disk))
+                (Phase::Command, Err(Halt::Disk))
             }
             Err(SealRefusal::Failed) => unreachable!(),
         }
@@ -296,7 +296,7 @@ fn begin<D: Disk>(
 }
 
 /// Answers a refusal to begin a file. The store hadn't failed before.
-fn refuse_begin(refusal: BeginRefusal, replies: &mut Replies) -> Result<(), ServerStop>
+fn refuse_begin(refusal: BeginRefusal, replies: &mut Replies) -> Result<(), Halt>
     requires empty { replies.old.items ≡ [] }
     requires healthy { refusal ≢ BeginRefusal.Failed }
     ensures { AnswersRefusal refusal replies.new.items result }
@@ -311,9 +311,9 @@ fn refuse_begin(refusal: BeginRefusal, replies: &mut Replies) -> Result<(), Serv
         }
         BeginRefusal::Disk => {
             write_packet(&Packet::UlErrorResp(FILE_SYSTEM), replies);
-            Err(ServerStop::Disk)
+            Err(Halt::Disk)
         }
-        BeginRefusal::OutOfMemory => Err(ServerStop::OutOfMemory),
+        BeginRefusal::OutOfMemory => Err(Halt::OutOfMemory),
         BeginRefusal::Failed => unreachable!(),
     }
 }
@@ -386,11 +386,9 @@ fn take_data<D: Disk>(
         }
         Err(AppendRefusal::Disk) => {
             write_packet(&Packet::UlNakResp(FILE_SYSTEM), replies);
-            (Phase::Command, Err(ServerStop::Disk))
+            (Phase::Command, Err(Halt::Disk))
         }
-        Err(AppendRefusal::OutOfMemory(up)) => {
-            (Phase::Receiving(up), Err(ServerStop::OutOfMemory))
-        }
+        Err(AppendRefusal::OutOfMemory(up)) => { (Phase::Receiving(up), Err(Halt::OutOfMemory)) }
         Err(AppendRefusal::Failed) => unreachable!(),
     }
 }

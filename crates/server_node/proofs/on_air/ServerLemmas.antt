@@ -11,11 +11,10 @@ use Rattle.file_store.specs.Working.{CutsOffAmongReads, DoesAmongReads}
 use Rattle.file_store.proofs.Offered.{among-healthy, cuts-among-none, cuts-among-same}
 use Rattle.node.specs.Course.{AtDisk, GaveAll, GivesNext, IsLawful, at, stop_at_put}
 use Rattle.node.specs.Events.{NodeEvent, NodeEvents}
-use Rattle.node.specs.declared.halt.Halt.{Halt}
+use Rattle.disk_model.specs.declared.halt.Halt.{Halt}
 use Rattle.node.specs.declared.stop.NodeStop.{NodeStop as Stop}
 use Rattle.ftl0_server.specs.Failures.{failed_reads, failed_write}
 use Rattle.ftl0_server.specs.Connection.Taking.{fails}
-use Rattle.ftl0_server.specs.ServerStop.{ServerStop}
 use Rattle.ftl0_server.specs.Connection.ConnectionState.{with_reads}
 use Rattle.ftl0_server.specs.Calls.{HandsOut, HandsOutNext, Hears, HearsBy}
 use Rattle.ftl0_server.specs.Server.{IsSilent, Server, ServerHappened, ServerSends, server_next, settled}
@@ -45,9 +44,8 @@ use Rattle.server_node.specs.Served.{Run, TurnsBy}
 use Rattle.server_node.specs.Stops.{HasAirCause, served_by, stop_of_node}
 use Rattle.server_node.specs.OnAir.Served.{ServerRan, server_from}
 use Rattle.server_node.proofs.Ending.{Did, Stopped, Taken, but_last, did-by, disk-stop, never-over}
-use Rattle.node.specs.declared.halt.Halt.TheVariants as halt
+use Rattle.disk_model.specs.declared.halt.Halt.TheVariants as halt
 use Rattle.node.specs.declared.stop.NodeStop.TheVariants as node_stop
-use Rattle.ftl0_server.specs.ServerStop.TheVariants as server_stop
 use Rattle.node.specs.declared.finished.Finished.TheVariants as finished
 use Rattle.server_node.specs.declared.stop.NodeStop.TheVariants as stop
 
@@ -63,10 +61,10 @@ are_steps = record {
 }
 
 -- how a server answers an event, by the halt of its node
-abbrev answer_by : Option Halt → Result ⊤ ServerStop
+abbrev answer_by : Option Halt → Result ⊤ Halt
 answer_by None = Ok tt
-answer_by (Some halt.Disk) = Err server_stop.Disk
-answer_by (Some halt.OutOfMemory) = Err server_stop.OutOfMemory
+answer_by (Some halt.Disk) = Err halt.Disk
+answer_by (Some halt.OutOfMemory) = Err halt.OutOfMemory
 
 -- whether nothing more is said
 abbrev silenced_by : Bool → Option Halt → Bool
@@ -78,7 +76,7 @@ module _ {D : Type 0} (g : Ghosts D) (lasts : (disk : D) → g.lasts disk disk) 
   -- ---- one event
 
   module _ (old new : AtDisk ServerStation D) (event : NodeEvent) (server : Server) (serving : IsServing old.it.server server) (made_so : ServerState) (parts : List ℕ) (same : new.it.server.store ≡ made_so.store) where
-    abbrev Heard : Result ⊤ ServerStop → Type 0
+    abbrev Heard : Result ⊤ Halt → Type 0
     Heard result = HearsBy g (with_reads (happening server event) parts) old.it.server made_so old.disk new.disk result
 
     -- what it makes of the server where no write and no sync fails
@@ -122,7 +120,7 @@ module _ {D : Type 0} (g : Ghosts D) (lasts : (disk : D) → g.lasts disk disk) 
           (none-cut node_stop.AirWrite (λ e. cc e) taken.done taken.missed by.2) (λ is. cc is)
 
     -- The disk failed in it, and the frames of that step were said, or a front of them.
-    event-failed : (by : Heard (Err server_stop.Disk)) (frames : List FrameValue) (last : Server) → Empties (failing server event by.0 parts).after frames last → (text : List ℕ) (unsaid : Bool)
+    event-failed : (by : Heard (Err halt.Disk)) (frames : List FrameValue) (last : Server) → Empties (failing server event by.0 parts).after frames last → (text : List ℕ) (unsaid : Bool)
         → IsSaid unsaid (text_of frames) text → HaltsOn g server old (event ∷ []) node_stop.Disk unsaid text new
     event-failed by frames last sent text unsaid said =
         let failed : ServerHappened = failing server event by.0 parts in
@@ -133,7 +131,7 @@ module _ {D : Type 0} (g : Ghosts D) (lasts : (disk : D) → g.lasts disk disk) 
         (subst (λ (store : StoreState). CutsOffAmongReads g ⊤ failed.missed old.it.server.store store old.disk new.disk failed.done failed.cut) (sym same) by.3)) (λ is. cc is)
 
     -- There was no memory for it.
-    event-unmade : Heard (Err server_stop.OutOfMemory) → HaltsOn g server old (event ∷ []) node_stop.OutOfMemory false [] new
+    event-unmade : Heard (Err halt.OutOfMemory) → HaltsOn g server old (event ∷ []) node_stop.OutOfMemory false [] new
     event-unmade (inl does) = stopped node_stop.OutOfMemory false [] [] [] 0 (inl (refl, refl), refl, refl) (none-cut node_stop.OutOfMemory (λ e. cc e) [] 0 does) (λ is. refl)
     event-unmade (inr by) =
         let failed : ServerHappened = failing server event by.0 parts in

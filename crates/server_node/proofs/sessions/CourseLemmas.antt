@@ -17,7 +17,6 @@ use Rattle.server_node.specs.Sessions.Packets.{events_behind, events_to, waiting
 use Rattle.server_node.specs.Sessions.Running.{StopsAt, session_steps}
 use Rattle.server_node.specs.Steps.{RunsOn, StopsOn, StopsOver, made}
 use Rattle.server_node.specs.Sessions.ServerState.{IsUp, ServerState}
-use Rattle.server_node.specs.Stops.{halt_of_session}
 use Rattle.server_node.proofs.sessions.PacketLemmas.{both-octets, events-append, events-then, hears-none, hears-then, events-of}
 use Rattle.std.proofs.lemmas.List.{map-append, nil_from_length}
 use Rattle.server_node.proofs.Ending.{append-none}
@@ -38,17 +37,15 @@ use Rattle.ftl0_session.specs.Filling.{PutsDue}
 use Rattle.ftl0_session.specs.SessionState.{SessionState, state_in}
 use Rattle.ftl0_session.specs.Taking.{row_over, TakesPacket, Working}
 use Rattle.ftl0_session.proofs.WorkingLemmas.{Sent, due-among, told-append, taken-among, taken-cut, taken-none}
-use Rattle.node.specs.declared.halt.Halt.{Halt}
+use Rattle.disk_model.specs.declared.halt.Halt.{Halt}
 use Rattle.server_node.specs.Sessions.Server.{IsServer, server_state}
 use Rattle.server_node.specs.declared.sessions.server.SessionServer.TheInside.{Inside}
 use Rattle.std.specs.Prelude.{Result, Ok, Err, IsTrue, ⊤}
 use Rattle.ftl0_packets.specs.Reading.{is_whole, under_way}
 use Rattle.ftl0_packets.specs.Stream.{IsPartial, Stream}
 use Rattle.ftl0_packets.proofs.OctetLemmas.{IsOctets-take, IsOctets-nil}
-use Rattle.ftl0_session.specs.declared.stop.ServerStop.{ServerStop}
-use Rattle.node.specs.declared.halt.Halt.TheVariants as halt
+use Rattle.disk_model.specs.declared.halt.Halt.TheVariants as halt
 use Rattle.node.specs.declared.stop.NodeStop.TheVariants as node_stop
-use Rattle.ftl0_session.specs.declared.stop.ServerStop.TheVariants as session_stop
 
 -- a session goes over its events one after another
 pub are_steps : (caller : CallSign) → AreSteps (session_steps caller)
@@ -462,7 +459,7 @@ module _ {D : Type 0} (g : Ghosts D) (lasts : (disk : D) → g.lasts disk disk) 
     before = record { store = a.store; lists = a.lists; state = a.state }
 
     module _ (now : Working) (disk_n : D) (replies : List ℕ) where
-      abbrev Takes : Result ⊤ ServerStop → Type 0
+      abbrev Takes : Result ⊤ Halt → Type 0
       Takes result = TakesPacket g a.caller moment item before now disk disk_n replies result
 
       -- the server behind it
@@ -503,17 +500,14 @@ module _ {D : Type 0} (g : Ghosts D) (lasts : (disk : D) → g.lasts disk disk) 
         cuts = cuts;
       })
 
-      last-of : (caller : CallSign) (stop : ServerStop) → Takes (Err stop) → Owes g (at self disk) inputs (Some (halt_of_session stop)) [] (at (server_n caller true) disk_n)
-      last-of caller session_stop.Disk takes =
+      pub owes-last : (caller : CallSign) (stop : Halt) → Takes (Err stop) → Owes g (at self disk) inputs (Some stop) [] (at (server_n caller true) disk_n)
+      owes-last caller halt.Disk takes =
           halting caller halt.Disk takes.fails (row takes.fails).commands (takes.answers.2, refl)
           (cuts-among-same g ⊤ (halt.Disk ≡ halt.Disk) (failed_reads_told (row takes.fails).replies) (failed_reads_told (row takes.fails).replies) a.store now.store disk disk_n [] (row takes.fails).commands
           (λ _. refl) (λ _. tt) refl (taken-cut g on a.caller moment item before now disk disk_n replies ready.up.healthy ready.up.stands_on takes))
-      last-of caller session_stop.OutOfMemory takes =
+      owes-last caller halt.OutOfMemory takes =
           let none = taken-none g on a.caller moment item before now disk disk_n replies ready.up.healthy ready.up.stands_on takes in
           let missed : ℕ = failed_reads_told (row takes.fails).replies in
           halting caller halt.OutOfMemory takes.fails [] (takes.answers.0, takes.answers.2, refl)
           (cuts-among-none g (halt.OutOfMemory ≡ halt.Disk) missed a.store now.store disk disk_n [] (λ e. cc e) (lasts disk_n)
           (subst (λ (s : StoreState). DoesAmongReads g ⊥ missed a.store s disk disk_n []) (sym none.0) none.1))
-
-      pub owes-last : (caller : CallSign) (stop : ServerStop) (why : Halt) → why ≡ halt_of_session stop → Takes (Err stop) → Owes g (at self disk) inputs (Some why) [] (at (server_n caller true) disk_n)
-      owes-last caller stop why is_why takes = subst (λ (w : Halt). Owes g (at self disk) inputs (Some w) [] (at (server_n caller true) disk_n)) (sym is_why) (last-of caller stop takes)

@@ -16,8 +16,8 @@ use Rattle.ftl0_session.specs.Table.{Row, State, download_part, failed_reads_tol
 use Rattle.ftl0_session.specs.Table.{takes_memory}
 use Rattle.node.specs.Course.{AtDisk, Course, at}
 use Rattle.node.specs.Inputs.{Input, octets_in}
-use Rattle.node.specs.declared.halt.Halt.{Halt}
-use Rattle.node.specs.declared.halt.Halt.TheVariants as halt
+use Rattle.disk_model.specs.declared.halt.Halt.{Halt}
+use Rattle.disk_model.specs.declared.halt.Halt.TheVariants as halt
 use Rattle.node.specs.declared.stop.NodeStop.{NodeStop as Stop}
 use Rattle.node.specs.declared.stop.NodeStop.TheVariants as node_stop
 use Rattle.server_node.specs.Sessions.Packets.{Hears, events_to}

@@ -6,8 +6,8 @@ ghost use Rattle.server_node.specs.OnAir.Station.{server_course};
 use arrayvec::ArrayVec;
 use ax25_frames::Frame;
 use disk_model::Disk;
+use ftl0_server::Server;
 use ftl0_server::laws::empties_law;
-use ftl0_server::{Server, ServerStop};
 use node::{Halt, Station};
 
 /// A server as a station. It must be closed, which parks all uploads.
@@ -48,8 +48,8 @@ impl<D: Disk> Station<D> for ServerStation {
     fn hear(&mut self, disk: &mut D, frame: &Frame<'_>, moment: u32) -> Result<(), Halt> {
         match self.server.hear(disk, frame, moment) {
             Ok(()) => Ok(()),
-            Err(ServerStop::Disk) => Err(Halt::Disk),
-            Err(ServerStop::OutOfMemory) => {
+            Err(Halt::Disk) => Err(Halt::Disk),
+            Err(Halt::OutOfMemory) => {
                 self.is_out_of_memory = true;
                 Err(Halt::OutOfMemory)
             }

@@ -5,14 +5,13 @@ ghost use Rattle.file_store.specs.Files.{NothingOut};
 ghost use Rattle.server_node.specs.Sessions.Course.{session_course};
 ghost use Rattle.server_node.specs.Sessions.ServerState.{new_server};
 ghost use Rattle.server_node.specs.Sessions.SessionRan.{login_text};
-ghost use Rattle.server_node.specs.Stops.{halt_of_session};
 
 use arrayvec::ArrayVec;
 use disk_model::Disk;
 use file_store::FileStore;
 use ftl0_packets::{PacketFed, PacketReader};
 use ftl0_session::lists::Lists;
-use ftl0_session::{Replies, ServerStop, Session};
+use ftl0_session::{Replies, Session};
 use node::{Halt, Party};
 use px_base::Call;
 use std::marker::Model;
@@ -93,9 +92,9 @@ impl<D: Disk> Party<D> for SessionServer {
                 &mut self.lists,
                 &mut self.replies,
             );
-            if let Err(stop) = answer {
+            if let Err(why) = answer {
                 self.halted = true;
-                return Err(halt_of(stop));
+                return Err(why);
             }
         }
         Ok(taken)
@@ -125,16 +124,6 @@ impl<D: Disk> Party<D> for SessionServer {
     }
 
     fn is_lawful() {}
-}
-
-/// Why a server halts, by why its session does.
-fn halt_of(stop: ServerStop) -> Halt
-    ensures { result ≡ halt_of_session stop }
-{
-    match stop {
-        ServerStop::Disk => Halt::Disk,
-        ServerStop::OutOfMemory => Halt::OutOfMemory,
-    }
 }
 
 /// Replaces a text by these octets.

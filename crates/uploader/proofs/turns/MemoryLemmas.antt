@@ -13,7 +13,7 @@ use Rattle.client_notes.specs.Notes.{Lists, is_same_call}
 use Rattle.client_notes.specs.State.{NotesState}
 use Rattle.ftl0_client.specs.Layout.{Item}
 use Rattle.ftl0_client.specs.Ending.{Ending}
-use Rattle.ftl0_client.specs.JobStop.{JobStop}
+use Rattle.disk_model.specs.declared.halt.Halt.{Halt}
 use Rattle.ftl0_client.specs.Table.{JobState}
 use Rattle.ftl0_client.specs.Attempt.Attempted as attempted
 use Rattle.ftl0_client.specs.Attempt.Attempted.{Attempted}
@@ -64,7 +64,7 @@ module _ (client : Client) (frame : FrameValue) (told : IsToldDownOf client.atte
   not-down before item behind parts (Some why) is = absurd (some-packet before item behind parts (told_a why is))
 
   -- the client was at work
-  pub stopped-working : {D : Type 0} (g : Ghosts D) (notes notes_n : NotesState) (disk disk_n : D) (attempt : AttemptState) (why : JobStop)
+  pub stopped-working : {D : Type 0} (g : Ghosts D) (notes notes_n : NotesState) (disk disk_n : D) (attempt : AttemptState) (why : Halt)
       → StopsAmong g start (packets_heard client.window a frame) notes notes_n disk disk_n attempt why → outcome_by client.attempt ≡ outcome.Working
   stopped-working g notes notes_n disk disk_n attempt why h =
       ap outcome_by is_attempt
@@ -79,7 +79,7 @@ module _ (client : Client) (frame : FrameValue) (told : IsToldDownOf client.atte
   told-down Bytes b octets before item behind parts = refl
   told-down (Closed why) b octets before item behind parts = absurd (no-split before item behind parts)
 
-  pub still-working : {D : Type 0} (g : Ghosts D) (notes notes_n : NotesState) (disk disk_n : D) (attempt : AttemptState) (why : JobStop)
+  pub still-working : {D : Type 0} (g : Ghosts D) (notes notes_n : NotesState) (disk disk_n : D) (attempt : AttemptState) (why : Halt)
       → StopsAmong g start (packets_heard client.window a frame) notes notes_n disk disk_n attempt why → outcome_as (attempted.outcome_by attempt.job.ending attempt.down) ≡ outcome.Working
   still-working g notes notes_n disk disk_n attempt why h =
       let ending : attempt.job.ending ≡ None = ap (λ (j : JobState). j.ending) h.stops.same ∙ h.stops.no_outcome in

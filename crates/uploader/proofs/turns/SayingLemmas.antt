@@ -10,7 +10,7 @@ use Rattle.client_notes.specs.State.{NotesState}
 use Rattle.node.specs.declared.finished.Finished.{Finished}
 use Rattle.node.specs.Course.{AtDisk, GaveAll, GivesNext, at, stop_at_put}
 use Rattle.node.specs.Events.{NodeEvent}
-use Rattle.node.specs.declared.halt.Halt.{Halt}
+use Rattle.disk_model.specs.declared.halt.Halt.{Halt}
 use Rattle.ftl0_client.specs.Calls.{HandsOut, HandsOutNext, SameButFrames}
 use Rattle.ftl0_client.specs.Client.{Client, ClientSends, IsSilent, client_next}
 use Rattle.ftl0_client.specs.ClientState.{ClientState, IsClient}

@@ -13,8 +13,8 @@ use Rattle.node.specs.declared.finished.Finished.{Finished}
 use Rattle.node.specs.Course.{AtDisk, stop_of}
 use Rattle.node.specs.Events as node
 use Rattle.ftl0_client.specs.Layout.{Item}
-use Rattle.ftl0_client.specs.JobStop.{JobStop}
-use Rattle.ftl0_client.specs.JobStop.TheVariants as job_stop
+use Rattle.disk_model.specs.declared.halt.Halt.{Halt}
+use Rattle.disk_model.specs.declared.halt.Halt.TheVariants as halt
 use Rattle.ftl0_client.specs.Table.{job_row}
 use Rattle.ftl0_client.specs.Attempt.Attempted.{Attempted}
 use Rattle.ftl0_client.specs.Attempt.AttemptState.{AttemptState, StopsAmong}
@@ -30,7 +30,6 @@ use Rattle.ftl0_client.specs.declared.outcome.Outcome.TheVariants as outcome
 use Rattle.client_notes.specs.Through.{CutsOff}
 use Rattle.uploader.specs.Turns.Carrying.{StopsAt}
 use Rattle.uploader.specs.Turns.Course.{CameOf, IsFit, Past, StoppedAt, all_events, further}
-use Rattle.uploader.specs.Stops.{halt_of_job}
 use Rattle.uploader.specs.declared.turns.station.ClientStation.{ClientStation}
 use Rattle.node.specs.declared.stop.NodeStop.{NodeStop}
 use Rattle.node.specs.declared.stop.NodeStop.TheVariants as stop
@@ -40,8 +39,8 @@ use Rattle.uploader.proofs.turns.MemoryLemmas.{still-working, stopped-working}
 use Rattle.uploader.proofs.turns.PromiseLemmas.{nothing-asked}
 
 -- how a stop of the client ends its turns
-abbrev stopping : JobStop → NodeStop
-stopping why = stop_of (halt_of_job why)
+abbrev stopping : Halt → NodeStop
+stopping why = stop_of why
 
 module _ {D : Type 0} (g : Ghosts D) (lasts : (disk : D) → g.lasts disk disk) (on : (first second third : D) → g.lasts first second → g.lasts second third → g.lasts first third) where
   some-cut : (P : Type 0) (old new : NotesState) (disk disk_n : D) (commands : List NotesCommand) → P → DoesSeveral g P old new disk disk_n commands → commands ≡ [] → ⊥
@@ -52,7 +51,7 @@ module _ {D : Type 0} (g : Ghosts D) (lasts : (disk : D) → g.lasts disk disk) 
 
   module _ (old new : NotesState) (disk disk_n : D) (frame : FrameValue) (client : Client) (lists_are : old.lists ≡ client.lists) (told : IsToldDownOf client.attempt) where
     -- what it stopped by, of this frame's commands
-    abbrev Halted : JobStop → Type 0
+    abbrev Halted : Halt → Type 0
     Halted why =
         (done : List NotesCommand) × (cut : List NotesCommand) × StopsAt (stopping why) client (hears frame) outcome.Working [] done cut
         × CutsOff g (IsErrOf {T = Finished} (Err (stopping why)) stop.Disk) old new disk disk_n done cut
@@ -61,11 +60,11 @@ module _ {D : Type 0} (g : Ghosts D) (lasts : (disk : D) → g.lasts disk disk) 
       abbrev start : Attempted
       start = after_hearing client.window a frame
 
-      abbrev Among : JobStop → Type 0
+      abbrev Among : Halt → Type 0
       Among why = StopsAmong g start (packets_heard client.window a frame) old new disk disk_n attempt why
 
       -- the commands of the packets before, those of this one, and those behind
-      noted-all : (why : JobStop) (h : Among why) → (more : List NotesCommand)
+      noted-all : (why : Halt) (h : Among why) → (more : List NotesCommand)
           × ((client_hearing client frame).noted ≡ (taking old.lists start h.before).noted ++ ((job_row h.notes_then.lists (taking old.lists start h.before).after.job h.item).commands ++ more))
       noted-all why h =
           let part = taking old.lists start h.before in
@@ -80,11 +79,11 @@ module _ {D : Type 0} (g : Ghosts D) (lasts : (disk : D) → g.lasts disk disk) 
                 ∙ ap (λ (l : Lists). part.noted ++ (row l ++ front.0)) (sym then_is),
           )
 
-      halted-among : (why : JobStop) → Among why → Halted why
-      halted-among job_stop.Disk h =
+      halted-among : (why : Halt) → Among why → Halted why
+      halted-among halt.Disk h =
           let part = taking old.lists start h.before in
           let cut : List NotesCommand = (job_row h.notes_then.lists part.after.job h.item).commands in
-          let all = noted-all job_stop.Disk h in (
+          let all = noted-all halt.Disk h in (
             part.noted,
             cut,
             (all.0, all.1, some-cut ⊤ h.notes_then new h.disk_then disk_n cut tt h.stops.noted, refl, refl),
@@ -95,10 +94,10 @@ module _ {D : Type 0} (g : Ghosts D) (lasts : (disk : D) → g.lasts disk disk) 
               second = Several-same g ⊤ (IsErrOf {T = Finished} (Err stop.Disk) stop.Disk) h.notes_then new h.disk_then disk_n cut (λ _. refl) (λ _. tt) h.stops.noted;
             },
           )
-      halted-among job_stop.OutOfMemory h =
+      halted-among halt.OutOfMemory h =
           let part = taking old.lists start h.before in
           let all_of : List NotesCommand = (job_row h.notes_then.lists part.after.job h.item).commands in
-          let all = noted-all job_stop.OutOfMemory h in
+          let all = noted-all halt.OutOfMemory h in
           let count : ℕ = h.stops.noted.0 in
           let first : List NotesCommand = take count all_of in
           let rest : List NotesCommand = drop count all_of ++ all.0 in
@@ -111,7 +110,7 @@ module _ {D : Type 0} (g : Ghosts D) (lasts : (disk : D) → g.lasts disk disk) 
                   ∙ ap (λ (cs : List NotesCommand). part.noted ++ (cs ++ all.0)) (sym (take-append-drop count all_of))
                   ∙ ap (λ (cs : List NotesCommand). part.noted ++ cs) (append_assoc first (drop count all_of) all.0)
                   ∙ sym (append_assoc part.noted first rest),
-              stopped-working client frame told a hears_it g old new disk disk_n attempt job_stop.OutOfMemory h,
+              stopped-working client frame told a hears_it g old new disk disk_n attempt halt.OutOfMemory h,
               refl,
               refl,
               refl,
@@ -121,20 +120,20 @@ module _ {D : Type 0} (g : Ghosts D) (lasts : (disk : D) → g.lasts disk disk) 
 
   -- the attempt that hears the frame stopped at one of its packets
   halted-by : (old new : AtDisk ClientStation D) (frame : FrameValue) (client : Client) (lists_are : old.it.client.notes.lists ≡ client.lists) (told : IsToldDownOf client.attempt) (o : Option Attempted)
-      → attempt_for client frame ≡ o → (why : JobStop) → StopsBy g client.window frame o old.it.client new.it.client old.disk new.disk why
+      → attempt_for client frame ≡ o → (why : Halt) → StopsBy g client.window frame o old.it.client new.it.client old.disk new.disk why
       → Halted old.it.client.notes new.it.client.notes old.disk new.disk frame client lists_are told why
   halted-by old new frame client lists_are told None is why h = absurd h
   halted-by old new frame client lists_are told (Some a) is why h =
       halted-among old.it.client.notes new.it.client.notes old.disk new.disk frame client lists_are told a is h.0 why h.2
 
   -- and nothing became of the job
-  working-on : (old new : AtDisk ClientStation D) (frame : FrameValue) (client : Client) (told : IsToldDownOf client.attempt) (o : Option Attempted) → attempt_for client frame ≡ o → (why : JobStop)
+  working-on : (old new : AtDisk ClientStation D) (frame : FrameValue) (client : Client) (told : IsToldDownOf client.attempt) (o : Option Attempted) → attempt_for client frame ≡ o → (why : Halt)
       → StopsBy g client.window frame o old.it.client new.it.client old.disk new.disk why → outcome_in new.it.client.attempt ≡ outcome.Working
   working-on old new frame client told None is why h = absurd h
   working-on old new frame client told (Some a) is why h =
       ap outcome_in h.1 ∙ still-working client frame told a is g old.it.client.notes new.it.client.notes old.disk new.disk h.0 why h.2
 
-  module _ (law : GoesLaw) (a b : AtDisk ClientStation D) (fit : IsFit g a) (frame : FrameValue) (moment : ℕ) (why : JobStop) where
+  module _ (law : GoesLaw) (a b : AtDisk ClientStation D) (fit : IsFit g a) (frame : FrameValue) (moment : ℕ) (why : Halt) where
     abbrev event : node.NodeEvent
     event = node.hears frame moment
 

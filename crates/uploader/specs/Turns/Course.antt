@@ -8,7 +8,7 @@ use Rattle.client_notes.specs.Several.{DoesSeveral}
 use Rattle.node.specs.Course.{AtDisk, Course, stop_of}
 use Rattle.node.specs.Events.{NodeEvent}
 use Rattle.node.specs.declared.finished.Finished.{Finished}
-use Rattle.node.specs.declared.halt.Halt.{Halt}
+use Rattle.disk_model.specs.declared.halt.Halt.{Halt}
 use Rattle.node.specs.declared.stop.NodeStop.{NodeStop}
 use Rattle.node.specs.declared.stop.NodeStop.TheVariants as stop
 use Rattle.ftl0_client.specs.Client.{Client, ClientEvent, IsSilent}

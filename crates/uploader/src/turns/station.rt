@@ -3,13 +3,12 @@
 ghost use Rattle.std.specs.Prelude.{◌≡◌, false};
 ghost use Rattle.ftl0_client.specs.ClientState.{client_pending};
 ghost use Rattle.uploader.specs.Turns.Course.{IsQuiet, client_course};
-ghost use Rattle.uploader.specs.Stops.{halt_of_job};
 
 use arrayvec::ArrayVec;
 use ax25_frames::Frame;
 use disk_model::Disk;
+use ftl0_client::Client;
 use ftl0_client::laws::{empties_law, goes_law};
-use ftl0_client::{Client, JobStop};
 use node::{Halt, Station};
 
 /// A client as a station: it hears frames for its call, and keeps no moments. Once a frame halted it, because the disk
@@ -31,9 +30,9 @@ impl<D: Disk> Station<D> for ClientStation {
         goes_law();
         match self.client.hear(disk, frame) {
             Ok(()) => Ok(()),
-            Err(stop) => {
+            Err(why) => {
                 self.halted = true;
-                Err(halt_of(stop))
+                Err(why)
             }
         }
     }
@@ -67,14 +66,4 @@ pub(crate) fn sends_nothing(client: &mut Client)
 {
     let mut frame = ArrayVec::new();
     let _given = client.next_out(&mut frame);
-}
-
-/// How a stop of the client halts its station.
-fn halt_of(stop: JobStop) -> Halt
-    ensures { result ≡ halt_of_job stop }
-{
-    match stop {
-        JobStop::Disk => Halt::Disk,
-        JobStop::OutOfMemory => Halt::OutOfMemory,
-    }
 }

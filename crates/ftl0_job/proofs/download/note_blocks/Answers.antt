@@ -2,7 +2,7 @@ use Rattle.std.proofs.Common.{◌≡◌, ℕ, ◌+◌, ◌-◌, ◌*◌, ◌/◌
 use Rattle.std.specs.Prelude.{⊤, Result, Err}
 use Rattle.arrayvec.specs.declared.array_vec.ArrayVec.{ArrayVec}
 use Rattle.client_notes.specs.Several.{DoesSeveral}
-use Rattle.ftl0_job.specs.declared.stop.JobStop.{JobStop}
+use Rattle.disk_model.specs.declared.halt.Halt.{Halt}
 use Rattle.ftl0_job.specs.Download.{gots}
 use Rattle.ftl0_job.specs.Noting.{HasNoted}
 use Rattle.ftl0_job.proofs.BlockLemmas.{block-allowed, gots-allowed, more-noted, one-stopped}
@@ -37,7 +37,7 @@ returns-in_err-note_got-clause-noted g c =
     let fits = c.requires.fits in
     let allowed = gots-allowed c.args.server c.args.number n all c.args.notes.now.lists c.requires.some (omega arith) (omega (arith, fits)) in
     let stops : c.from_residual.result ≡ Err why = search rules in
-    subst (λ (r : Result Block JobStop). HasNoted g.D.Disk c.args.notes.now c.note_got.new.notes c.args.disk.now c.note_got.new.disk (gots c.args.server c.args.number n all) r) (sym stops)
+    subst (λ (r : Result Block Halt). HasNoted g.D.Disk c.args.notes.now c.note_got.new.notes c.args.disk.now c.note_got.new.disk (gots c.args.server c.args.number n all) r) (sym stops)
     (one-stopped g.D.Disk g.met.D.Disk.lasts_on c.args.server c.args.number n c.loop.counter all c.as_slice-in-loop.result.now c.args.notes.now c.loop.notes c.note_got.new.notes c.args.disk.now c.loop.disk
     c.note_got.new.disk is c.loop.invariant.noted ⊤ Block why below allowed c.in_err-note_got.ensures)
 

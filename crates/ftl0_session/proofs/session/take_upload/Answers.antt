@@ -4,7 +4,7 @@ use Rattle.std.specs.Prelude.{⊤, Result}
 use Rattle.ftl0_packets.specs.Values.{item_of}
 use Rattle.file_store.specs.State.{store_in}
 use Rattle.ftl0_session.specs.Downloads.Table.{ready}
-use Rattle.ftl0_session.specs.declared.stop.ServerStop.{ServerStop}
+use Rattle.disk_model.specs.declared.halt.Halt.{Halt}
 use Rattle.ftl0_session.specs.SessionState.{session_of}
 use Rattle.ftl0_session.specs.Taking.{Taken}
 use Rattle.ftl0_session.proofs.UploadLemmas.{taken-upload}
@@ -12,11 +12,8 @@ use Rattle.ftl0_session.proofs.session.take_upload.Goals as goal
 
 pub returns : goal.returns
 returns g c =
-    let P : Result ⊤ ServerStop → Type 0 = λ result. Taken g.D.Disk c.args.moment (item_of c.args.packet) (session_of c.args.uploads.now ready) (session_of c.take.new.self ready)
-    c.args.store.now c.take.new.store c.args.lists.now c.args.lists.now c.args.disk.now c.take.new.disk c.take.new.replies.items result in
-    subst P (sym c.answer_of.ensures)
-    (taken-upload g.D.Disk c.args.moment (item_of c.args.packet) c.args.uploads.now c.take.new.self c.args.store.now c.take.new.store c.args.lists.now c.args.disk.now c.take.new.disk
+    taken-upload g.D.Disk c.args.moment (item_of c.args.packet) c.args.uploads.now c.take.new.self c.args.store.now c.take.new.store c.args.lists.now c.args.disk.now c.take.new.disk
     c.take.new.replies.items c.take.result c.requires.kind c.take.ensures.takes c.take.ensures.on_disk c.take.ensures.untouched
     c.take.ensures.puts c.take.ensures.failed c.take.ensures.kept c.take.ensures.others c.take.ensures.caller c.take.ensures.healthy c.take.ensures.stands_on c.take.ensures.held
     c.take.ensures.only (c.stays_law.ensures.lists (store_in c.args.store.now) (store_in c.take.new.store) c.args.lists.now c.take.ensures.kept c.requires.may.complete)
-    (g.met.D.Disk.lasts_same c.args.disk.now))
+    (g.met.D.Disk.lasts_same c.args.disk.now)

@@ -6,4 +6,4 @@ use Rattle.file_store.proofs.file_store.FileStore.recover.Goals as goal
 pub returns-in_err-kept-clause-refuses : goal.returns-in_err-kept-clause-refuses
 returns-in_err-kept-clause-refuses g c =
     let p = err_from_is_err_and c.from_residual.result c.from_residual.ensures.1 in
-    recovery-refuses _ g.D.Disk c.args.limits.blocks c.args.disk.now c.recover.new.disk c.in_err-kept.field-0.0 c.from_residual.result (p.1 ∙ ap (λ x. Err x) p.2) c.in_err-kept.ensures.answers
+    recovery-refuses c.args.limits.blocks (g.D.Disk.content c.args.disk.now) c.in_err-kept.field-0.0 c.from_residual.result (p.1 ∙ ap (λ x. Err x) p.2) c.in_err-kept.ensures.answers.refuses

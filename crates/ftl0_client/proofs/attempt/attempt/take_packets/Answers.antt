@@ -4,7 +4,7 @@ use Rattle.std.specs.Prelude.{Result, ⊤}
 use Rattle.ax25_link.specs.Kept.{Kept}
 use Rattle.ftl0_packets.specs.Reading.{read_item, under_way}
 use Rattle.packet_link.specs.PacketLink.{octets_in}
-use Rattle.ftl0_job.specs.declared.stop.JobStop.{JobStop}
+use Rattle.disk_model.specs.declared.halt.Halt.{Halt}
 use Rattle.ftl0_client.specs.Attempt.AttemptState.{working}
 use Rattle.ftl0_client.specs.Attempt.Feeding.{TakesOctetsBy}
 use Rattle.ftl0_client.proofs.attempt.FeedLemmas.{taking-next, taking-start, taking-stops}
@@ -25,7 +25,7 @@ returns-in_err-answer-clause-takes g c =
     let mid = working c.next_packet.new.self.link c.loop-left.job c.loop-left.notes c.loop-left.disk in
     let P : Kept → Type 0 =
     λ k. IsTaking g.D.Disk all (octets_in c.loop-left.link ++ c.loop-left.piece.now) before (working k c.loop-left.job c.loop-left.notes c.loop-left.disk) in
-    subst (λ (r : Result ⊤ JobStop). TakesOctetsBy g.D.Disk all (octets_in c.answer.new.link) before now r) (sym stops)
+    subst (λ (r : Result ⊤ Halt). TakesOctetsBy g.D.Disk all (octets_in c.answer.new.link) before now r) (sym stops)
     (taking-stops g.D.Disk g.met.D.Disk.lasts_on all (octets_in c.loop-left.link ++ c.loop-left.piece.now) (octets_in c.next_packet.new.self ++ c.in-Some.left.now) before mid now
     (read_item c.next_packet.new.self.reader) (subst P (sym c.in-Some.ensures.link) c.loop-left.invariant) c.in-Some.ensures.found.front why c.in_err-answer.ensures.answers)
 

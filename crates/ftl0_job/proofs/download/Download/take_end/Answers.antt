@@ -6,7 +6,7 @@ use Rattle.client_notes.specs.Notes.{got_of}
 use Rattle.ftl0_job.specs.declared.ending.Ending.{Ending}
 use Rattle.ftl0_job.specs.declared.ending.Outcome.TheVariants as outcome
 use Rattle.ftl0_job.specs.declared.phases.DownloadPhase.TheVariants as phase
-use Rattle.ftl0_job.specs.declared.stop.JobStop.{JobStop}
+use Rattle.disk_model.specs.declared.halt.Halt.{Halt}
 use Rattle.ftl0_job.specs.Download.{Download, data_end_row}
 use Rattle.ftl0_job.specs.JobState.{HasGot}
 use Rattle.ftl0_job.specs.Row.{later}
@@ -24,7 +24,7 @@ returns-in_err-note_rest g c =
     let stops : c.from_residual.result ≡ Err why = search rules in
     let P : Download → Type 0 = λ d. TakesRow g.D.Disk (data_end_row (got_of old.lists d.server d.number) d) d d old c.note_rest.new.notes c.args.disk.now c.note_rest.new.disk c.args.replies.now.items
     c.from_residual.result in
-    let Q : Result (Option Ending) JobStop → Type 0 = λ r. TakesRow g.D.Disk (data_end_row (got_of old.lists at.server at.number) at) at at old c.note_rest.new.notes c.args.disk.now c.note_rest.new.disk
+    let Q : Result (Option Ending) Halt → Type 0 = λ r. TakesRow g.D.Disk (data_end_row (got_of old.lists at.server at.number) at) at at old c.note_rest.new.notes c.args.disk.now c.note_rest.new.disk
     c.args.replies.now.items r in
     subst P c.self.view_is
     (subst Q (sym stops)
@@ -59,7 +59,7 @@ returns-in_err-note_forgot g c =
     let stops : c.from_residual-in_err-note_forgot.result ≡ Err why = search rules in
     let P : Download → Type 0 = λ d. TakesRow g.D.Disk (data_end_row (got_of old.lists d.server d.number) d) d d old c.note_forgot.new.notes c.args.disk.now c.note_forgot.new.disk c.args.replies.now.items
     c.from_residual-in_err-note_forgot.result in
-    let Q : Result (Option Ending) JobStop → Type 0 = λ r. TakesRow g.D.Disk (data_end_row (got_of old.lists at.server at.number) at) at at old c.note_forgot.new.notes c.args.disk.now c.note_forgot.new.disk
+    let Q : Result (Option Ending) Halt → Type 0 = λ r. TakesRow g.D.Disk (data_end_row (got_of old.lists at.server at.number) at) at at old c.note_forgot.new.notes c.args.disk.now c.note_forgot.new.disk
     c.args.replies.now.items r in
     subst P c.self.view_is
     (subst Q (sym stops)

@@ -3,7 +3,7 @@ use Rattle.std.proofs.Common.{◌≡◌, Ok, rules, sym, ◌∙◌, ap, subst, t
 use Rattle.std.specs.Prelude.{⊤, is_some, Option, Result, Err}
 use Rattle.ftl0_packets.specs.Values.{item_of}
 use Rattle.ftl0_job.specs.declared.ending.Ending.{Ending}
-use Rattle.ftl0_job.specs.declared.stop.JobStop.{JobStop}
+use Rattle.disk_model.specs.declared.halt.Halt.{Halt}
 use Rattle.ftl0_job.specs.JobState.{GoBy, GoWith, NotesGoWith}
 use Rattle.ftl0_job.specs.Table.{JobState}
 use Rattle.ftl0_job.specs.Taking.{TakesPacket}
@@ -28,7 +28,7 @@ returns-in_err-self-inside-clause-takes g c =
     let stops : c.from_residual.result ≡ Err why = search rules in
     let P : JobState → Type 0 = λ j. TakesPacket g.D.Disk (item_of c.args.packet) j now c.args.notes.now c.take_item.new.notes c.args.disk.now c.take_item.new.disk c.take_item.new.replies.items
     c.from_residual.result in
-    let Q : Result ⊤ JobStop → Type 0 = λ r. TakesPacket g.D.Disk (item_of c.args.packet) job now c.args.notes.now c.take_item.new.notes c.args.disk.now c.take_item.new.disk c.take_item.new.replies.items r in
+    let Q : Result ⊤ Halt → Type 0 = λ r. TakesPacket g.D.Disk (item_of c.args.packet) job now c.args.notes.now c.take_item.new.notes c.args.disk.now c.take_item.new.disk c.take_item.new.replies.items r in
     subst P c.self.view_is
     (subst Q (sym stops)
     (takes-stop g.D.Disk (item_of c.args.packet) job c.take_item.new.self c.args.notes.now c.take_item.new.notes c.args.disk.now c.take_item.new.disk c.take_item.new.replies.items is why

@@ -2,7 +2,7 @@
 use Rattle.std.proofs.Common.{Ok, Err, refl}
 use Rattle.ftl0_packets.specs.Reading.{read_item}
 use Rattle.ftl0_packets.specs.Values.{item_of}
-use Rattle.ftl0_session.specs.declared.stop.ServerStop.TheVariants as stop
+use Rattle.disk_model.specs.declared.halt.Halt.TheVariants as stop
 use Rattle.ftl0_session.specs.SessionState.{caller_of}
 use Rattle.ftl0_session.specs.Taking.{working}
 use Rattle.ftl0_server.specs.declared.connection.fate.Fate.TheVariants.{Stays, Ends}

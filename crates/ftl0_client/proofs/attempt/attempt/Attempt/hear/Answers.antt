@@ -2,7 +2,7 @@
 use Rattle.std.proofs.Common.{◌≡◌, Err, rules, refl, sym, subst}
 use Rattle.std.specs.Prelude.{Result, ⊤}
 use Rattle.ax25_frames.specs.Values.{value_of}
-use Rattle.ftl0_job.specs.declared.stop.JobStop.{JobStop}
+use Rattle.disk_model.specs.declared.halt.Halt.{Halt}
 use Rattle.ftl0_client.specs.Attempt.AttemptState.{Hears, PutsBy}
 use Rattle.ftl0_client.specs.Attempt.Hearing.{after_hearing, packets_heard}
 use Rattle.ftl0_client.specs.Attempt.Taking.{taking}
@@ -14,7 +14,7 @@ returns-in_err-take_frame-clause-hears g c w a is =
     let frame = value_of c.args.frame.now in
     let why = c.in_err-take_frame.field-0.0 in
     let stops : c.from_residual.result ≡ Err why = search rules in
-    let at_result : Result ⊤ JobStop → Type 0 =
+    let at_result : Result ⊤ Halt → Type 0 =
     λ r. Hears g.D.Disk w a frame c.args.notes.now c.take_frame.new.notes c.args.disk.now c.take_frame.new.disk c.take_frame.new.self r in
     let by = c.in_err-take_frame.ensures.hears w a is in
     subst at_result (sym stops)
@@ -28,7 +28,7 @@ returns-in_err-take_frame-clause-hears g c w a is =
 pub returns-in_err-take_frame-clause-puts : goal.returns-in_err-take_frame-clause-puts
 returns-in_err-take_frame-clause-puts g c =
     let stops : c.from_residual.result ≡ Err c.in_err-take_frame.field-0.0 = search rules in
-    let at_result : Result ⊤ JobStop → Type 0 = λ r. PutsBy g.D.Disk c.args.disk.now c.take_frame.new.disk r in
+    let at_result : Result ⊤ Halt → Type 0 = λ r. PutsBy g.D.Disk c.args.disk.now c.take_frame.new.disk r in
     subst at_result (sym stops) c.in_err-take_frame.ensures.puts
 
 pub returns-clause-hears : goal.returns-clause-hears

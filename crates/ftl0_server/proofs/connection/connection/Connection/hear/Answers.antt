@@ -3,7 +3,7 @@ use Rattle.std.proofs.Common.{◌≡◌, true, false, sym, subst}
 use Rattle.std.specs.Prelude.{Result, ⊤}
 use Rattle.ax25_frames.specs.Values.{value_of}
 use Rattle.file_store.specs.State.{store_in}
-use Rattle.ftl0_session.specs.declared.stop.ServerStop.{ServerStop}
+use Rattle.disk_model.specs.declared.halt.Halt.{Halt as Stop}
 use Rattle.ftl0_server.specs.declared.connection.fate.Fate.{Fate}
 use Rattle.ftl0_server.specs.Connection.ConnectionState.{Hears}
 use Rattle.ftl0_server.specs.Connection.Feeding.{HearsParts, LeavesFit}
@@ -17,10 +17,10 @@ returns-then-goes_on-clause-hears g c w d is =
     let frame = value_of c.args.frame.now in
     let going = c.goes_on.ensures.0 c.if-goes_on.true in
     let keeps = c.queue_due.ensures.keeps in
-    let P : Fate × Result ⊤ ServerStop → Type 0 =
+    let P : Fate × Result ⊤ Stop → Type 0 =
     λ t. HearsParts g.D.Disk w (rest_of_frame w d frame) (parts_of_frame w c.args.moment (store_in c.args.store.now) c.args.lists.now d frame) c.args.store.now c.take_frame-told.new.store
     c.take_frame-told.new.lists c.args.disk.now c.take_frame-told.new.disk c.take_frame-told.new.self t in
-    let Q : Fate × Result ⊤ ServerStop → Type 0 =
+    let Q : Fate × Result ⊤ Stop → Type 0 =
     λ t. Hears g.D.Disk w (hearing w c.args.moment (store_in c.args.store.now) c.args.lists.now d frame) c.args.store.now c.queue_due.new.store c.take_frame-told.new.lists c.args.disk.now
     c.queue_due.new.disk c.queue_due.new.self t in
     subst Q (sym going)
@@ -31,10 +31,10 @@ returns-then-goes_on-clause-hears g c w d is =
 pub returns-then-goes_on-clause-fit : goal.returns-then-goes_on-clause-fit
 returns-then-goes_on-clause-fit g c =
     let going = c.goes_on.ensures.0 c.if-goes_on.true in
-    let P : Fate × Result ⊤ ServerStop → Type 0 =
+    let P : Fate × Result ⊤ Stop → Type 0 =
     λ t. LeavesFit g.D.Disk c.args.store.now c.take_frame-told.new.store c.take_frame-told.new.lists c.args.disk.now c.take_frame-told.new.disk c.args.self.now.link c.take_frame-told.new.self.link
     c.args.self.now.session c.take_frame-told.new.self.session t in
-    let Q : Fate × Result ⊤ ServerStop → Type 0 =
+    let Q : Fate × Result ⊤ Stop → Type 0 =
     λ t. LeavesFit g.D.Disk c.args.store.now c.queue_due.new.store c.take_frame-told.new.lists c.args.disk.now c.queue_due.new.disk c.args.self.now.link c.queue_due.new.self.link c.args.self.now.session
     c.queue_due.new.self.session t in
     subst Q (sym going)

@@ -3,7 +3,7 @@ use Rattle.std.proofs.Common.{None, Some}
 use Rattle.ax25_frames.specs.Values.{value_of}
 use Rattle.node.specs.Course.{at}
 use Rattle.node.specs.Events.{hears}
-use Rattle.node.specs.declared.halt.Halt.TheVariants as halt
+use Rattle.disk_model.specs.declared.halt.Halt.TheVariants as halt
 use Rattle.server_node.proofs.on_air.ServerLemmas.{owes-event}
 use Rattle.server_node.proofs.on_air.station.ServerStationStation.hear.Goals as goal
 
