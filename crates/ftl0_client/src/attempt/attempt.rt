@@ -5,7 +5,7 @@ ghost use Rattle.std.specs.Prelude.{IfOk, IsTrue, None, OnOk};
 ghost use Rattle.ax25_frames.specs.Values.{value_of};
 ghost use Rattle.ax25_link.specs.Ends.{LinkEnd, free_octets};
 ghost use Rattle.ax25_link.specs.Kept.{Fits, HasStations, IsFromPeer, SameStations, StandsFor, Steps};
-ghost use Rattle.ax25_link.specs.Kept.{is_pending, most_pending};
+ghost use Rattle.ax25_link.specs.Kept.{is_pending};
 ghost use Rattle.ax25_link.specs.declared.state.LinkState.{LinkState};
 ghost use Rattle.ax25_link.specs.Window.{IsGoodK, Window, window_of};
 ghost use Rattle.ftl0_packets.specs.Items.{kind_of_item};
