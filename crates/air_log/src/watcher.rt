@@ -157,7 +157,7 @@ fn show_part(fed: KissFed, reader: &KissReader, lines: &mut Lines)
 {
     let word = match fed {
         KissFed::Frame => {
-            let mut text = ArrayVec::new();
+            let mut text = ArrayVec::<u8, 810>::new();
             if write_frame(reader.frame(), &mut text).is_ok() {
                 let _ = show_frames(&text, lines);
             }
