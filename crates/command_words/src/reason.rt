@@ -31,8 +31,8 @@ pub fn refusal_text(alloc: Global, words: &Words) -> Option<String> {
 
 /// What is said where `clap` takes the words.
 const OUT_OF_RANGE: &str =
-    "a call is none (capitals, digits, SSID), HEX isn't hexadecimal, a number is out of range, a name is too long, \
-     or there is no disk or air";
+    "a call is none (capitals, digits, SSID), HEX isn't hexadecimal, a number is out of range, \
+     a name, an extension or a text is too long, or there is no disk or air";
 
 /// What `clap` reads the words of this command by.
 fn parser_of<'a>(
