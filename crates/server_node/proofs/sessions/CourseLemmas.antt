@@ -6,7 +6,7 @@ use Rattle.disk_model.specs.declared.disk.Disk.{Ghosts}
 use Rattle.file_store.specs.State.{store_in, StoreState}
 use Rattle.ftl0_session.specs.Uploads.Events.{Event, at_moment}
 use Rattle.ftl0_session.specs.Answering.{IsAnswering, met_with, octets_left}
-use Rattle.ftl0_session.specs.Run.{Event as MetEvent, RunsOver, heard_of}
+use Rattle.ftl0_session.specs.Run.{Event as MetEvent, RunsOver, heard_of, session_over}
 use Rattle.ftl0_session.specs.Table.{next_due, Row, State, download_part, failed_reads_told, tells_failed_read}
 use Rattle.node.specs.Course.{AtDisk, IsLawful, GaveAll, GivesNext, OwesSome, at, stop_at_put, stop_of}
 use Rattle.node.specs.Inputs.{Input, IsInput, octets_at, octets_in}
@@ -282,7 +282,7 @@ module _ {D : Type 0} (g : Ghosts D) (lasts : (disk : D) → g.lasts disk disk) 
   )
     where
       ran : (events : List Event) (met : List MetEvent) → map heard_of met ≡ events
-          → RunsOver start.it.caller (store_in start.it.store) start.it.lists start.it.state met h.said h.commands (store_in now.it.store) now.it.lists now.it.state
+          → RunsOver start.it.caller (session_over (store_in start.it.store) start.it.lists start.it.state) met h.said h.commands (session_over (store_in now.it.store) now.it.lists now.it.state)
           → RunsOn g (session_steps start.it.caller) (session_at start) (session_at now) events (texts h.said)
       ran events met heard runs =
           record { done = h.commands; missed = failed_reads_told h.said; goes = record { met = met; heard = heard; said = h.said; text_is = refl; missed_is = refl; runs = runs }; does = h.does }

@@ -49,7 +49,7 @@ pub record RunsAs (caller : CallSign) (start : Session) (events : List Event) (a
   pub said : List PacketValue
   pub text_is : all.text ≡ texts said
   pub missed_is : all.missed ≡ failed_reads_told said
-  pub runs : RunsOver caller start.store start.lists start.state met said all.done now.store now.lists now.state
+  pub runs : RunsOver caller start met said all.done now
 
 -- The session stopped at this event, at some parts of which reads failed, or at none.
 pub record StopsAs (caller : CallSign) (why : Stop) (unsaid : Bool) (now : Session) (event : Event) (all : Made)
