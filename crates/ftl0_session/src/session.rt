@@ -90,7 +90,8 @@ impl Session {
     /// goes on. Takes memory, before it writes to the disk.
     ///
     /// `Disk`: the upload is spent, and the store has failed. Some of the packet's octets may be held, and its file
-    /// begun, complete or gone. `OutOfMemory`: the packet gave nothing; session, store, lists and disk are as they were.
+    /// begun, complete or gone. `OutOfMemory`: the packet gave nothing; session, store, lists and disk are as they
+    /// were.
     pub fn take<D: Disk>(
         &mut self,
         disk: &mut D,

@@ -18,14 +18,17 @@ use Rattle.file_store.proofs.Offered.{among-at, among-same, puts-among, puts-amo
 use Rattle.ftl0_session.specs.Uploads.Failures.{Failure, failed_reads, failed_write, read_fails, write_fails}
 use Rattle.disk_model.specs.declared.halt.Halt.{Halt as Stop}
 use Rattle.disk_model.specs.declared.halt.Halt.TheVariants as stop
-use Rattle.ftl0_session.specs.SessionState.{SessionState, caller_of, state_in}
+use Rattle.ftl0_session.specs.SessionState.{SessionState, caller_of, state_in, working_on}
 use Rattle.ftl0_session.specs.Table.{Row, failed_reads_told}
 use Rattle.ftl0_session.specs.Taking.{TakesPacket, Working, row_over, working}
+use Rattle.ftl0_session.specs.Uploads.SessionState.{with_disk}
+use Rattle.ftl0_session.specs.Run.{session_over}
+use Rattle.ftl0_session.specs.Uploads.Events.{packet_of}
 use Rattle.ftl0_session.proofs.WorkingLemmas.{taken-among, taken-cut, taken-none}
 use Rattle.ftl0_server.specs.declared.connection.fate.Fate.{Fate}
 use Rattle.ftl0_server.specs.declared.connection.fate.Fate.TheVariants.{Stays, Ends}
 use Rattle.ftl0_server.specs.Connection.ConnectionState.{IsAfter, is_over, with_nothing_left}
-use Rattle.ftl0_server.specs.Connection.Feeding.{IsAmong, TakesPackets}
+use Rattle.ftl0_server.specs.Connection.Feeding.{IsAmong, TakesPackets, taking_some}
 use Rattle.ftl0_server.specs.Connection.Hearing.{progressed}
 use Rattle.ftl0_server.specs.Connection.Taking.{Progress, fails, fits, goes_on, replied, resting, taking}
 use Rattle.ftl0_server.proofs.connection.FailureLemmas.{All-at, at_part, none-writes, one-writes, reads-at, writes-at}
@@ -44,7 +47,7 @@ module _ {D : Type 0} (g : Ghosts D) (on : (first second third : D) → g.lasts 
   one failed row = by_tests end (state_in store session) lists first row failed (fits end (texts row.replies)) (resting (after_push end (texts row.replies)) row.state row.lists (suc first))
 
   abbrev taking_one : List Failure → Progress
-  taking_one failures = taking (caller_of session) moment (store_in store) lists (state_in store session) end (item ∷ []) failures first
+  taking_one failures = taking (caller_of session) moment (session_over (store_in store) lists (state_in store session)) end (item ∷ []) failures first
 
   -- the failures of the event decide
   one-is : (failures : List Failure) (reads writes : Bool) → read_fails failures first ≡ reads → write_fails failures first ≡ writes → taking_one failures ≡ one writes (row_here reads)
@@ -52,10 +55,10 @@ module _ {D : Type 0} (g : Ghosts D) (on : (first second third : D) → g.lasts 
       ap (λ (b : Bool). one (write_fails failures first) (row_here b)) is_read ∙ ap (λ (b : Bool). one b (row_here reads)) is_written
 
   abbrev Takes : Result ⊤ Stop → List ℕ → Type 0
-  Takes result replies = TakesPacket g (caller_of session) moment item (working session store lists) (working session_n store_n lists_n) disk disk_n replies result
+  Takes result replies = TakesPacket g (packet_of (caller_of session) moment item) (with_disk (working session store lists) disk) (with_disk (working session_n store_n lists_n) disk_n) replies result
 
   abbrev Made : Fate × Result ⊤ Stop → Type 0
-  Made told = TakesPackets g w moment session store store_n lists lists_n end (item ∷ []) first disk disk_n link_n session_n told
+  Made told = TakesPackets g w (taking_some moment session (working_on store lists disk) end (item ∷ []) first) (IsAmong first 1) (with_disk store disk) (working_on store_n lists_n disk_n) (with_nothing_left link_n session_n) told
 
   abbrev Done : Fate → Progress → Type 0
   Done fate p = (p.halt ≡ goes_on) × IsAfter w store_n lists_n (with_nothing_left link_n session_n) (progressed [] p) fate × DoesAmongReads g ⊥ p.missed store store_n disk disk_n p.done
@@ -118,18 +121,11 @@ module _ {D : Type 0} (g : Ghosts D) (on : (first second third : D) → g.lasts 
       ) in
       record { parts = parts; among = All-at (IsAmong first 1) takes.fails first (omega arith, omega arith); by = (first, at.0, at.1, at.2) }
 
--- the same of the packet as it is read
-pub takes-read : {D : Type 0} (g : Ghosts D) (w : Window) (end : LinkEnd) (moment : ℕ) (session session_n : SessionState) (store store_n : StoreState) (lists lists_n : List CallerList) (disk disk_n : D)
-    (link_n : Kept) (first : ℕ) (told : Fate × Result ⊤ Stop) (item read : Item) → item ≡ read → TakesPackets g w moment session store store_n lists lists_n end (item ∷ []) first disk disk_n link_n session_n told
-    → TakesPackets g w moment session store store_n lists lists_n end (read ∷ []) first disk disk_n link_n session_n told
-takes-read g w end moment session session_n store store_n lists lists_n disk disk_n link_n first told item read same takes =
-    subst (λ (i : Item). TakesPackets g w moment session store store_n lists lists_n end (i ∷ []) first disk disk_n link_n session_n told) same takes
-
 -- ---- the disk
 
 -- what a packet does to the disk, with its reads
 pub taken-puts : {D : Type 0} (g : Ghosts D) (on : (first second third : D) → g.lasts first second → g.lasts second third → g.lasts first third) (caller : CallSign) (moment : ℕ) (item : Item)
-    (before now : Working) (disk disk_n : D) (replies : List ℕ) (result : Result ⊤ Stop) → TakesPacket g caller moment item before now disk disk_n replies result
+    (before now : Working) (disk disk_n : D) (replies : List ℕ) (result : Result ⊤ Stop) → TakesPacket g (packet_of caller moment item) (with_disk before disk) (with_disk now disk_n) replies result
     → PutsAmongReads g (IsErrOf result stop.Disk) disk disk_n
 taken-puts g on caller moment item before now disk disk_n replies result takes =
     puts-among-then g on ⊥ (IsErrOf result stop.Disk) disk takes.disk_then disk_n (λ never. never) (puts-among-reads g (IsTrue takes.fails) ⊥ disk takes.disk_then (λ never. never) takes.reads)

@@ -20,8 +20,9 @@ use Rattle.ftl0_session.specs.Uploads.Failures.{Failure, failed_reads, failed_wr
 use Rattle.ftl0_session.specs.Downloads.Needs.{IsDueIn}
 use Rattle.disk_model.specs.declared.halt.Halt.{Halt as Stop}
 use Rattle.disk_model.specs.declared.halt.Halt.TheVariants as stop
-use Rattle.ftl0_session.specs.SessionState.{state_in}
+use Rattle.ftl0_session.specs.SessionState.{state_in, working_on}
 use Rattle.ftl0_session.specs.Table.{State, due_at, next_due, tells_failed_read}
+use Rattle.ftl0_session.specs.Uploads.SessionState.{with_disk}
 use Rattle.ftl0_server.specs.declared.connection.fate.Fate.{Fate}
 use Rattle.ftl0_server.specs.declared.connection.fate.Fate.TheVariants.{Stays, Ends}
 use Rattle.ftl0_server.specs.Connection.ConnectionState.{ConnectionState, Hears, HearsBy, IsAfter}
@@ -141,8 +142,8 @@ module _ {D : Type 0} (g : Ghosts D) (lasts : (disk : D) → g.lasts disk disk) 
     whole failures = queued (store_in store) failures (event failures)
 
     -- the connection goes on
-    pub hears-going : (mid now : ConnectionState) → HearsParts g w left event store store_m lists_n disk disk_m mid (Stays, Ok tt) → store_n ≡ store_m → now.octets ≡ mid.octets
-        → QueuesDue g store_m disk_m disk_n mid now → Hears g w (λ failures. progressed left (whole failures)) store store_n lists_n disk disk_n now (Stays, Ok tt)
+    pub hears-going : (mid now : ConnectionState) → HearsParts g w left event (with_disk store disk) (working_on store_m lists_n disk_m) mid (Stays, Ok tt) → store_n ≡ store_m → now.octets ≡ mid.octets
+        → QueuesDue g store_m disk_m disk_n mid now → Hears g w (λ failures. progressed left (whole failures)) (with_disk store disk) (working_on store_n lists_n disk_n) now (Stays, Ok tt)
     hears-going mid now heard same octets queues =
         let h = heard.hears.by in
         let settled = heard.settled refl in
@@ -183,25 +184,25 @@ module _ {D : Type 0} (g : Ghosts D) (lasts : (disk : D) → g.lasts disk disk) 
       stopped failures is = queued-over (store_in store) failures (event failures) is
 
       by-stopped : (fate : Fate) (result : Result ⊤ Stop) → IsStop (fate, result)
-          → HearsBy g w (λ writes. progressed left (event (writes ++ failed_reads parts))) store store_n lists_n disk disk_n now fate result
-          → HearsBy g w (λ writes. progressed left (whole (writes ++ failed_reads parts))) store store_n lists_n disk disk_n now fate result
+          → HearsBy g w (λ writes. progressed left (event (writes ++ failed_reads parts))) (with_disk store disk) (working_on store_n lists_n disk_n) now fate result
+          → HearsBy g w (λ writes. progressed left (whole (writes ++ failed_reads parts))) (with_disk store disk) (working_on store_n lists_n disk_n) now fate result
       by-stopped Stays (Ok tt) stops h = absurd (stops refl)
       by-stopped Ends (Ok tt) stops h =
           let P : Progress → Type 0 = λ p. (p.halt ≡ goes_on) × IsAfter w store_n lists_n now (progressed left p) Ends × DoesAmongReads g ⊥ p.missed store store_n disk disk_n p.done in
           subst P (sym (stopped ([] ++ failed_reads parts) h.1.1.0)) h
       by-stopped fate (Err stop.Disk) stops h =
           let failures : List Failure = failed_write h.0 ++ failed_reads parts in
-          let P : Progress → Type 0 = λ p. HearsBy g w (λ writes. progressed left p) store store_n lists_n disk disk_n now fate (Err stop.Disk) in
+          let P : Progress → Type 0 = λ p. HearsBy g w (λ writes. progressed left p) (with_disk store disk) (working_on store_n lists_n disk_n) now fate (Err stop.Disk) in
           let at : P (whole failures) = subst P (sym (stopped failures (over failures h.1))) (h.0, h.1, h.2, h.3) in
           (h.0, at.1, at.2, at.3)
       by-stopped fate (Err stop.OutOfMemory) stops h =
           let failures : List Failure = failed_write h.0 ++ failed_reads parts in
-          let P : Progress → Type 0 = λ p. HearsBy g w (λ writes. progressed left p) store store_n lists_n disk disk_n now fate (Err stop.OutOfMemory) in
+          let P : Progress → Type 0 = λ p. HearsBy g w (λ writes. progressed left p) (with_disk store disk) (working_on store_n lists_n disk_n) now fate (Err stop.OutOfMemory) in
           let at : P (whole failures) = subst P (sym (stopped failures (over failures h.1))) (h.0, h.1, h.2, h.3) in
           (h.0, at.1, at.2, at.3)
 
-    pub hears-stop : (now : ConnectionState) (told : Fate × Result ⊤ Stop) → IsStop told → HearsParts g w left event store store_n lists_n disk disk_n now told
-        → Hears g w (λ failures. progressed left (whole failures)) store store_n lists_n disk disk_n now told
+    pub hears-stop : (now : ConnectionState) (told : Fate × Result ⊤ Stop) → IsStop told → HearsParts g w left event (with_disk store disk) (working_on store_n lists_n disk_n) now told
+        → Hears g w (λ failures. progressed left (whole failures)) (with_disk store disk) (working_on store_n lists_n disk_n) now told
     hears-stop now told stops heard =
         let failures : List Failure = [] ++ failed_reads heard.hears.parts in
         record {

@@ -21,15 +21,17 @@ use Rattle.file_store.specs.Walk.{KeepsState}
 use Rattle.file_store.proofs.Offered.{does-among, Does-none, puts-among, puts-among-same, puts-among-then, puts_none}
 use Rattle.file_store.specs.State.{StandsOn, StoreState, store_in}
 use Rattle.ftl0_session.specs.Uploads.Others.{KeepsOtherCallers}
-use Rattle.ftl0_session.specs.Uploads.SessionState.{IsHeld, IsOnlyOut, NoOtherOut, SessionState as Uploading}
+use Rattle.ftl0_session.specs.Uploads.SessionState.{IsHeld, IsOnlyOut, NoOtherOut, SessionState as Uploading, with_disk}
 use Rattle.ftl0_session.specs.Downloads.Needs.{AreComplete, IsDueIn}
 use Rattle.disk_model.specs.declared.halt.Halt.{Halt as Stop}
 use Rattle.disk_model.specs.declared.halt.Halt.TheVariants as stop
 use Rattle.ftl0_session.specs.SessionState.{MayTake as SessionMayTake, SessionState, IsFit, caller_of, new_session}
+use Rattle.ftl0_session.specs.SessionState.{working_on}
 use Rattle.ftl0_server.specs.declared.connection.fate.Fate.{Fate}
 use Rattle.ftl0_server.specs.declared.connection.fate.Fate.TheVariants.{Stays}
-use Rattle.ftl0_server.specs.Connection.ConnectionState.{ConnectionState}
+use Rattle.ftl0_server.specs.Connection.ConnectionState.{ConnectionState, with_nothing_left}
 use Rattle.ftl0_server.specs.Connection.Feeding.{Feeds, FeedsAll, IsAmong, IsGoing, KeepsFit, LeavesFit, MayTake, TakesPackets, carrying}
+use Rattle.ftl0_server.specs.Connection.Feeding.{taking_some}
 use Rattle.ftl0_server.proofs.connection.HearsLemmas.{IsStop, takes-then}
 use Rattle.ftl0_server.proofs.connection.Invariants.{IsTaking}
 
@@ -69,7 +71,7 @@ module _ {D : Type 0} (g : Ghosts D) where
 
   -- nothing was taken
   pub fit-none : (store : StoreState) (disk : D) (lists : List CallerList) (link : Kept) (session : SessionState) → g.lasts disk disk → MayTake g store disk lists link session
-      → LeavesFit g store store lists disk disk link link session session (Stays, Ok tt)
+      → LeavesFit g (with_disk store disk) (working_on store lists disk) link link session session (Stays, Ok tt)
   fit-none store disk lists link session lasts may = record {
     puts = puts-among g (fine ≡ Err stop.Disk) disk disk (puts_none g disk (fine ≡ Err stop.Disk) no-fault lasts);
     kept = λ number e found complete. found;
@@ -83,7 +85,7 @@ module _ {D : Type 0} (g : Ghosts D) where
 
   -- a frame without packets was heard
   pub fit-heard : (store : StoreState) (disk : D) (lists : List CallerList) (link link_n : Kept) (session : SessionState) (fate : Fate) → g.lasts disk disk → SessionMayTake g store disk lists session
-      → (fate ≡ Stays → link_n.state ≡ Up) → SameStations link link_n → LeavesFit g store store lists disk disk link link_n session session (fate, Ok tt)
+      → (fate ≡ Stays → link_n.state ≡ Up) → SameStations link link_n → LeavesFit g (with_disk store disk) (working_on store lists disk) link link_n session session (fate, Ok tt)
   fit-heard store disk lists link link_n session fate lasts may up stations = record {
     puts = puts-among g (fine ≡ Err stop.Disk) disk disk (puts_none g disk (fine ≡ Err stop.Disk) no-fault lasts);
     kept = λ number e found complete. found;
@@ -99,9 +101,9 @@ module _ {D : Type 0} (g : Ghosts D) where
   pub fit-anew : (store store_n : StoreState) (disk : D) (lists : List CallerList) (link link_n : Kept) (session session_n : SessionState) → g.lasts disk disk → SessionMayTake g store disk lists session
       → store_in store_n ≡ store_in store → store_n.journal ≡ store.journal → session_n ≡ new_session (caller_of session) → NoOtherOut store_n (caller_of session) None
       → KeepsOtherCallers store store_n (caller_of session) → link_n.state ≡ Up → SameStations link link_n
-      → LeavesFit g store store_n lists disk disk link link_n session session_n (Stays, Ok tt)
+      → LeavesFit g (with_disk store disk) (working_on store_n lists disk) link link_n session session_n (Stays, Ok tt)
   fit-anew store store_n disk lists link link_n session session_n lasts may same journal anew only others up stations =
-      let P : SessionState → Type 0 = λ s. LeavesFit g store store_n lists disk disk link link_n session s (Stays, Ok tt) in
+      let P : SessionState → Type 0 = λ s. LeavesFit g (with_disk store disk) (working_on store_n lists disk) link link_n session s (Stays, Ok tt) in
       subst P (sym anew) (record {
         puts = puts-among g (fine ≡ Err stop.Disk) disk disk (puts_none g disk (fine ≡ Err stop.Disk) no-fault lasts);
         kept = λ number e found complete. ap (λ (s : Store). entry_of s number) same ∙ found;
@@ -136,15 +138,15 @@ module _ {D : Type 0} (g : Ghosts D) where
 
   -- what the next packet needs
   pub may-next : (store store_n : StoreState) (disk disk_n : D) (lists_n : List CallerList) (link link_n : Kept) (session session_n : SessionState)
-      → LeavesFit g store store_n lists_n disk disk_n link link_n session session_n (Stays, Ok tt) → MayTake g store_n disk_n lists_n link_n session_n
+      → LeavesFit g (with_disk store disk) (working_on store_n lists_n disk_n) link link_n session session_n (Stays, Ok tt) → MayTake g store_n disk_n lists_n link_n session_n
   may-next store store_n disk disk_n lists_n link link_n session session_n fit =
       record { up = fit.up refl; may = may-kept store_n disk_n lists_n session_n (fit.healthy no-fault) fit.fit }
 
   module _ (on : (first second third : D) → g.lasts first second → g.lasts second third → g.lasts first third) where
     -- one part, and then another
     pub fit-then : (a b c : StoreState) (d e f : D) (lists_m lists_n : List CallerList) (link link_m link_n : Kept) (session session_m session_n : SessionState) (told : Fate × Result ⊤ Stop)
-        → LeavesFit g a b lists_m d e link link_m session session_m (Stays, Ok tt) → LeavesFit g b c lists_n e f link_m link_n session_m session_n told
-        → LeavesFit g a c lists_n d f link link_n session session_n told
+        → LeavesFit g (with_disk a d) (working_on b lists_m e) link link_m session session_m (Stays, Ok tt) → LeavesFit g (with_disk b e) (working_on c lists_n f) link_m link_n session_m session_n told
+        → LeavesFit g (with_disk a d) (working_on c lists_n f) link link_n session session_n told
     fit-then a b c d e f lists_m lists_n link link_m link_n session session_m session_n told first second = record {
       puts = puts-among-then g on (fine ≡ Err stop.Disk) (told.1 ≡ Err stop.Disk) d e f no-fault first.puts second.puts;
       kept = complete-then (store_in a) (store_in b) (store_in c) first.kept second.kept;
@@ -158,9 +160,9 @@ module _ {D : Type 0} (g : Ghosts D) where
 
     -- packets, and then what is due behind them
     pub fit-queued : (a b c : StoreState) (d e f : D) (lists_n : List CallerList) (link : Kept) (session : SessionState) (mid now : ConnectionState)
-        → LeavesFit g a b lists_n d e link mid.link session mid.session (Stays, Ok tt) → KeepsFit g b c e f mid now → LeavesFit g a c lists_n d f link now.link session now.session (Stays, Ok tt)
+        → LeavesFit g (with_disk a d) (working_on b lists_n e) link mid.link session mid.session (Stays, Ok tt) → KeepsFit g b c e f mid now → LeavesFit g (with_disk a d) (working_on c lists_n f) link now.link session now.session (Stays, Ok tt)
     fit-queued a b c d e f lists_n link session mid now first second =
-        let P : StoreState → Type 0 = λ s. LeavesFit g a s lists_n d f link now.link session now.session (Stays, Ok tt) in
+        let P : StoreState → Type 0 = λ s. LeavesFit g (with_disk a d) (working_on s lists_n f) link now.link session now.session (Stays, Ok tt) in
         subst P (sym second.same) (record {
           puts = puts-among-same g ⊥ (fine ≡ Err stop.Disk) d f (λ never. absurd never) no-fault
               (puts-among-then g on ⊥ ⊥ d e f (λ never. never) (puts-among-same g (fine ≡ Err stop.Disk) ⊥ d e no-fault (λ never. absurd never) first.puts) second.puts);
@@ -183,7 +185,7 @@ module _ {D : Type 0} (g : Ghosts D) where
 
     module _ (moment : ℕ) (store : StoreState) (lists : List CallerList) (disk : D) (old : ConnectionState) where
       -- no packet was taken
-      pub taking-start : g.lasts disk disk → MayTake g store disk lists old.link old.session → IsTaking g moment old old store store lists lists disk disk
+      pub taking-start : g.lasts disk disk → MayTake g store disk lists old.link old.session → IsTaking g moment old old (working_on store lists disk) (working_on store lists disk)
       taking-start lasts may = record {
         feeds = record {
           items = [];
@@ -203,10 +205,10 @@ module _ {D : Type 0} (g : Ghosts D) where
 
       -- some packets, and then one
       module _ (mid now : ConnectionState) (store_m store_n : StoreState) (lists_m lists_n : List CallerList) (disk_m disk_n : D) (told : Fate × Result ⊤ Stop) (item : Item)
-          (h : IsTaking g moment old mid store store_m lists lists_m disk disk_m) (front : HasFront mid.octets now.octets (item ∷ []))
+          (h : IsTaking g moment old mid (working_on store lists disk) (working_on store_m lists_m disk_m)) (front : HasFront mid.octets now.octets (item ∷ []))
           (takes : (w : Window) (end : LinkEnd) (first : ℕ) → StandsFor w mid.link end
-          → TakesPackets g w moment mid.session store_m store_n lists_m lists_n end (item ∷ []) first disk_m disk_n now.link now.session told) where
-        feeds-one : Feeds g moment old now store store_n lists lists_n disk disk_n told
+          → TakesPackets g w (taking_some moment mid.session (working_on store_m lists_m disk_m) end (item ∷ []) first) (IsAmong first (length (item ∷ []))) (with_disk store_m disk_m) (working_on store_n lists_n disk_n) (with_nothing_left now.link now.session) told) where
+        feeds-one : Feeds g moment old now (working_on store lists disk) (working_on store_n lists_n disk_n) told
         feeds-one = record {
           items = h.feeds.items ++ item ∷ [];
           front = front-then old.octets mid.octets now.octets h.feeds.items (item ∷ []) h.feeds.front front;
@@ -215,21 +217,21 @@ module _ {D : Type 0} (g : Ghosts D) where
               (h.feeds.takes w end from stands) told (λ next there. takes w next (from + length h.feeds.items) there);
         }
 
-        module _ (fit : LeavesFit g store_m store_n lists_n disk_m disk_n mid.link now.link mid.session now.session told) where
-          pub fit-all : LeavesFit g store store_n lists_n disk disk_n old.link now.link old.session now.session told
+        module _ (fit : LeavesFit g (with_disk store_m disk_m) (working_on store_n lists_n disk_n) mid.link now.link mid.session now.session told) where
+          pub fit-all : LeavesFit g (with_disk store disk) (working_on store_n lists_n disk_n) old.link now.link old.session now.session told
           fit-all = fit-then store store_m store_n disk disk_m disk_n lists_m lists_n old.link mid.link now.link old.session mid.session now.session told h.fit fit
 
-          pub taking-next : IsGoing told → IsTaking g moment old now store store_n lists lists_n disk disk_n
+          pub taking-next : IsGoing told → IsTaking g moment old now (working_on store lists disk) (working_on store_n lists_n disk_n)
           taking-next going =
               let P : Fate × Result ⊤ Stop → Type 0 =
-              λ t. Feeds g moment old now store store_n lists lists_n disk disk_n t × LeavesFit g store store_n lists_n disk disk_n old.link now.link old.session now.session t in
+              λ t. Feeds g moment old now (working_on store lists disk) (working_on store_n lists_n disk_n) t × LeavesFit g (with_disk store disk) (working_on store_n lists_n disk_n) old.link now.link old.session now.session t in
               let at : P (Stays, Ok tt) = subst P going (feeds-one, fit-all) in
               record { feeds = at.0; fit = at.1 }
 
-        pub taking-stops : (rest : List ℕ) → IsStop told → FeedsAll g moment old (carrying now.link rest now.session) store store_n lists lists_n disk disk_n told
+        pub taking-stops : (rest : List ℕ) → IsStop told → FeedsAll g moment old (carrying now.link rest now.session) (working_on store lists disk) (working_on store_n lists_n disk_n) told
         taking-stops rest stops = record { left = now.octets; feeds = feeds-one; none = λ going. absurd (stops going); rest = λ going. absurd (stops going) }
 
       -- all were taken
-      pub taking-ends : (now : ConnectionState) (store_n : StoreState) (lists_n : List CallerList) (disk_n : D) (rest : List ℕ) → IsTaking g moment old now store store_n lists lists_n disk disk_n
-          → packets_of now.octets ≡ [] → rest_of now.octets ≡ rest → FeedsAll g moment old (carrying now.link rest now.session) store store_n lists lists_n disk disk_n (Stays, Ok tt)
+      pub taking-ends : (now : ConnectionState) (store_n : StoreState) (lists_n : List CallerList) (disk_n : D) (rest : List ℕ) → IsTaking g moment old now (working_on store lists disk) (working_on store_n lists_n disk_n)
+          → packets_of now.octets ≡ [] → rest_of now.octets ≡ rest → FeedsAll g moment old (carrying now.link rest now.session) (working_on store lists disk) (working_on store_n lists_n disk_n) (Stays, Ok tt)
       taking-ends now store_n lists_n disk_n rest h none behind = record { left = now.octets; feeds = h.feeds; none = λ going. none; rest = λ going. behind }

@@ -19,9 +19,11 @@ use Rattle.file_store.proofs.Offered.{among-parked, does-among, Does-none}
 use Rattle.ftl0_session.specs.declared.uploads.phase.Phase.{Phase}
 use Rattle.ftl0_session.specs.declared.uploads.phase.Phase.TheVariants as phase
 use Rattle.ftl0_session.specs.Uploads.Failures.{Failure}
-use Rattle.ftl0_session.specs.Uploads.SessionState.{Parks}
+use Rattle.ftl0_session.specs.Uploads.SessionState.{Parks, with_disk}
 use Rattle.disk_model.specs.declared.halt.Halt.{Halt as Stop}
 use Rattle.ftl0_session.specs.Table.{State}
+use Rattle.ftl0_session.specs.SessionState.{working_on}
+use Rattle.ftl0_session.specs.Run.{session_over}
 use Rattle.ftl0_server.specs.declared.connection.fate.Fate.{Fate}
 use Rattle.ftl0_server.specs.declared.connection.fate.Fate.TheVariants.{Stays, Ends}
 use Rattle.ftl0_server.specs.Connection.Connected.{Connected, beginning}
@@ -52,7 +54,7 @@ module _ {D : Type 0} (g : Ghosts D) (lasts : (disk : D) → g.lasts disk disk) 
   settled = record { before = All-nil (λ part. part < 0); later = λ more later. refl }
 
   -- the session goes on
-  pub parts-on : IsConnection w store_n connection (record { end = end; rest = left; state = state }) → HearsParts g w left none store store_n lists disk disk connection (Stays, Ok tt)
+  pub parts-on : IsConnection w store_n connection (record { end = end; rest = left; state = state }) → HearsParts g w left none (with_disk store disk) (working_on store_n lists disk) connection (Stays, Ok tt)
   parts-on is = record {
     hears = record { parts = []; by = (refl, (refl, (refl, is)), does-nothing); since = does-nothing.since };
     over = λ failures halts. absurd cc;
@@ -60,7 +62,7 @@ module _ {D : Type 0} (g : Ghosts D) (lasts : (disk : D) → g.lasts disk disk) 
   }
 
   -- the session is over
-  pub parts-over : StandsFor w connection.link end → HearsParts g w left (λ failures. record (resting end state lists 0) { over = true }) store store_n lists disk disk connection (Ends, Ok tt)
+  pub parts-over : StandsFor w connection.link end → HearsParts g w left (λ failures. record (resting end state lists 0) { over = true }) (with_disk store disk) (working_on store_n lists disk) connection (Ends, Ok tt)
   parts-over stands = record {
     hears = record { parts = []; by = (refl, (refl, (refl, stands)), does-nothing); since = does-nothing.since };
     over = λ failures halts. absurd cc;
@@ -71,31 +73,31 @@ module _ {D : Type 0} (g : Ghosts D) (w : Window) (moment : ℕ) (frame : FrameV
     (result : Fate × Result ⊤ Stop) where
   -- what the link told decides
   pub parts-told : (old : ConnectionState) (told : Heard) → Tells old.link (λ w end. heard_of w end frame) told → (c : Connected) → IsConnection w store old c
-      → HearsParts g w (rest_as told c frame.kind.information) (parts_as told moment (store_in store) lists c (after_frame w c.end frame) frame.kind.information) store store_n lists_n disk disk_n now result
-      → HearsParts g w (rest_of_frame w c frame) (parts_of_frame w moment (store_in store) lists c frame) store store_n lists_n disk disk_n now result
+      → HearsParts g w (rest_as told c frame.kind.information) (parts_as told moment (store_in store) lists c (after_frame w c.end frame) frame.kind.information) (with_disk store disk) (working_on store_n lists_n disk_n) now result
+      → HearsParts g w (rest_of_frame w c frame) (parts_of_frame w moment (store_in store) lists c frame) (with_disk store disk) (working_on store_n lists_n disk_n) now result
   parts-told old told tells c is h =
       let P : Heard → Type 0 =
-      λ t. HearsParts g w (rest_as t c frame.kind.information) (parts_as t moment (store_in store) lists c (after_frame w c.end frame) frame.kind.information) store store_n lists_n disk disk_n now result in
+      λ t. HearsParts g w (rest_as t c frame.kind.information) (parts_as t moment (store_in store) lists c (after_frame w c.end frame) frame.kind.information) (with_disk store disk) (working_on store_n lists_n disk_n) now result in
       subst P (tells w c.end is.link) h
 
   -- it told nothing that changes more than the end
   pub parts-quiet : (told : Heard) (c : Connected) (end : LinkEnd) (octets : List ℕ) → (told ≡ Nothing) ⊎ (told ≡ Opened)
-      → HearsParts g w c.rest (λ failures. resting end c.state lists 0) store store_n lists_n disk disk_n now result
-      → HearsParts g w (rest_as told c octets) (parts_as told moment (store_in store) lists c end octets) store store_n lists_n disk disk_n now result
+      → HearsParts g w c.rest (λ failures. resting end c.state lists 0) (with_disk store disk) (working_on store_n lists_n disk_n) now result
+      → HearsParts g w (rest_as told c octets) (parts_as told moment (store_in store) lists c end octets) (with_disk store disk) (working_on store_n lists_n disk_n) now result
   parts-quiet told c end octets (inl is) h =
-      let P : Heard → Type 0 = λ t. HearsParts g w (rest_as t c octets) (parts_as t moment (store_in store) lists c end octets) store store_n lists_n disk disk_n now result in
+      let P : Heard → Type 0 = λ t. HearsParts g w (rest_as t c octets) (parts_as t moment (store_in store) lists c end octets) (with_disk store disk) (working_on store_n lists_n disk_n) now result in
       subst P (sym is) h
   parts-quiet told c end octets (inr is) h =
-      let P : Heard → Type 0 = λ t. HearsParts g w (rest_as t c octets) (parts_as t moment (store_in store) lists c end octets) store store_n lists_n disk disk_n now result in
+      let P : Heard → Type 0 = λ t. HearsParts g w (rest_as t c octets) (parts_as t moment (store_in store) lists c end octets) (with_disk store disk) (working_on store_n lists_n disk_n) now result in
       subst P (sym is) h
 
   -- information was next in the stream
   pub parts-bytes : (c : Connected) (end : LinkEnd) (octets information : List ℕ) → end.peer ≡ c.end.peer → octets ≡ information
-      → HearsParts g w (rest_of (c.rest ++ octets)) (taking_octets moment (store_in store) lists (with_end c end) end octets) store store_n lists_n disk disk_n now result
-      → HearsParts g w (rest_of (c.rest ++ information)) (taking_octets moment (store_in store) lists c end information) store store_n lists_n disk disk_n now result
+      → HearsParts g w (rest_of (c.rest ++ octets)) (taking_octets moment (store_in store) lists (with_end c end) end octets) (with_disk store disk) (working_on store_n lists_n disk_n) now result
+      → HearsParts g w (rest_of (c.rest ++ information)) (taking_octets moment (store_in store) lists c end information) (with_disk store disk) (working_on store_n lists_n disk_n) now result
   parts-bytes c end octets information peer same h =
       let P : CallSign → List ℕ → Type 0 =
-      λ caller o. HearsParts g w (rest_of (c.rest ++ o)) (λ failures. taking caller moment (store_in store) lists c.state end (packets_of (c.rest ++ o)) failures 0) store store_n lists_n disk disk_n now result in
+      λ caller o. HearsParts g w (rest_of (c.rest ++ o)) (λ failures. taking caller moment (session_over (store_in store) lists c.state) end (packets_of (c.rest ++ o)) failures 0) (with_disk store disk) (working_on store_n lists_n disk_n) now result in
       subst (P c.end.peer) same (subst (λ (caller : CallSign). P caller octets) peer h)
 
 -- the peer of an end is that of the link that stands for it

@@ -20,13 +20,15 @@ use Rattle.file_store.proofs.Offered.{among-then, cuts-among-all, cuts-among-the
 use Rattle.ftl0_session.specs.Uploads.Failures.{Failure, failed_reads, failed_write, write_fails}
 use Rattle.disk_model.specs.declared.halt.Halt.{Halt as Stop}
 use Rattle.disk_model.specs.declared.halt.Halt.TheVariants as stop
-use Rattle.ftl0_session.specs.SessionState.{SessionState, caller_of, state_in}
+use Rattle.ftl0_session.specs.SessionState.{SessionState, caller_of, state_in, working_on}
 use Rattle.ftl0_session.specs.Table.{State}
+use Rattle.ftl0_session.specs.Uploads.SessionState.{with_disk}
+use Rattle.ftl0_session.specs.Run.{session_over}
 use Rattle.ftl0_server.specs.declared.connection.fate.Fate.{Fate}
 use Rattle.ftl0_server.specs.declared.connection.fate.Fate.TheVariants.{Stays, Ends}
 use Rattle.ftl0_server.specs.Connection.ConnectionState.{ConnectionState, HearsBy, IsAfter, with_nothing_left}
 use Rattle.ftl0_server.specs.Connection.ConnectionState.{with_reads}
-use Rattle.ftl0_server.specs.Connection.Feeding.{HearsParts, IsAmong, IsGoing, TakesPackets}
+use Rattle.ftl0_server.specs.Connection.Feeding.{HearsParts, IsAmong, IsGoing, TakesPackets, taking_some}
 use Rattle.ftl0_server.specs.Connection.Hearing.{Happened, progressed}
 use Rattle.ftl0_server.specs.Connection.Taking.{Halt, Progress, fails, goes_on, taking}
 use Rattle.ftl0_server.proofs.connection.FailureLemmas.{AreWrites, alike-first, alike-second, none-writes, one-writes}
@@ -71,7 +73,7 @@ module _ {D : Type 0} (g : Ghosts D) (on : (first second third : D) → g.lasts 
   BeginsWhole event = (part : ℕ) → IsFront ((event (failed_write part)).done ++ (event (failed_write part)).cut) (event []).done
 
   pub by-since : (event : List Failure → Happened) (store store_n : StoreState) (lists_n : List CallerList) (disk disk_n : D) (connection : ConnectionState) (fate : Fate) (result : Result ⊤ Stop)
-      → BeginsWhole event → HearsBy g w event store store_n lists_n disk disk_n connection fate result → Leaves g disk disk_n (λ _. MakesFirst (store_in store) (event []).done)
+      → BeginsWhole event → HearsBy g w event (with_disk store disk) (working_on store_n lists_n disk_n) connection fate result → Leaves g disk disk_n (λ _. MakesFirst (store_in store) (event []).done)
   by-since event store store_n lists_n disk disk_n connection fate (Ok done) begins h = h.2.since
   by-since event store store_n lists_n disk disk_n connection fate (Err stop.Disk) begins h =
       leaves-front g (store_in store) disk disk_n _ _ (begins h.0)
@@ -81,7 +83,7 @@ module _ {D : Type 0} (g : Ghosts D) (on : (first second third : D) → g.lasts 
 
   -- so it is of packets
   pub taking-whole : (left : List ℕ) (caller : CallSign) (moment : ℕ) (store : Store) (lists : List CallerList) (state : State) (end : LinkEnd) (items : List Item) (parts : List ℕ) (first : ℕ)
-      → BeginsWhole (with_reads (λ failures. progressed left (taking caller moment store lists state end items failures first)) parts)
+      → BeginsWhole (with_reads (λ failures. progressed left (taking caller moment (session_over store lists state) end items failures first)) parts)
   taking-whole left caller moment store lists state end items parts first part =
       taking-begins caller moment store lists state end items (failed_write part ++ failed_reads parts) ([] ++ failed_reads parts) first
       (λ n. (reads-among (failed_write part) parts n (one-writes part) ∙ sym (reads-among [] parts n none-writes), writes-none parts n))
@@ -90,14 +92,14 @@ module _ {D : Type 0} (g : Ghosts D) (on : (first second third : D) → g.lasts 
 
   module _ (moment : ℕ) (session session_m session_n : SessionState) (store store_m store_n : StoreState) (lists lists_m lists_n : List CallerList) (disk disk_m disk_n : D) (link_m link_n : Kept)
       (end : LinkEnd) (items others : List Item) (first : ℕ) (callers : caller_of session_m ≡ caller_of session)
-      (one : TakesPackets g w moment session store store_m lists lists_m end items first disk disk_m link_m session_m (Stays, Ok tt)) where
+      (one : TakesPackets g w (taking_some moment session (working_on store lists disk) end items first) (IsAmong first (length items)) (with_disk store disk) (working_on store_m lists_m disk_m) (with_nothing_left link_m session_m) (Stays, Ok tt)) where
     -- the parts behind them begin here
     abbrev next : ℕ
     next = first + length items
 
     -- what they made
     abbrev made : Progress
-    made = taking (caller_of session) moment (store_in store) lists (state_in store session) end items ([] ++ failed_reads one.parts) first
+    made = taking (caller_of session) moment (session_over (store_in store) lists (state_in store session)) end items ([] ++ failed_reads one.parts) first
 
     goes : going made ≡ true
     goes = going-on made one.by.1.1.0 one.by.0
@@ -109,20 +111,20 @@ module _ {D : Type 0} (g : Ghosts D) (on : (first second third : D) → g.lasts 
     before = All-weaker (IsAmong first (length items)) (λ part. part < next) (λ part among. among.1) one.parts one.among
 
     abbrev whole : List Failure → Progress
-    whole failures = taking (caller_of session) moment (store_in store) lists (state_in store session) end (items ++ others) failures first
+    whole failures = taking (caller_of session) moment (session_over (store_in store) lists (state_in store session)) end (items ++ others) failures first
 
     abbrev part_of : List Failure → Progress
-    part_of failures = taking (caller_of session_m) moment (store_in store_m) lists_m (state_in store_m session_m) made.end others failures next
+    part_of failures = taking (caller_of session_m) moment (session_over (store_in store_m) lists_m (state_in store_m session_m)) made.end others failures next
 
     -- the whole is what they made, and what the others make from there
     same : (writes : List Failure) (parts : List ℕ) → AreWrites writes → ((part : ℕ) → part < next → write_fails writes part ≡ false) → All (λ part. next ≤ part) parts
         → whole (writes ++ failed_reads (one.parts ++ parts)) ≡ behind made.missed made.done (part_of (writes ++ failed_reads parts))
     same writes parts are none later =
         let all : List Failure = writes ++ failed_reads (one.parts ++ parts) in
-        let these : taking (caller_of session) moment (store_in store) lists (state_in store session) end items all first ≡ made =
+        let these : taking (caller_of session) moment (session_over (store_in store) lists (state_in store session)) end items all first ≡ made =
         taking-alike (caller_of session) moment (store_in store) lists (state_in store session) end items all ([] ++ failed_reads one.parts) first
         (alike-first writes one.parts parts first next are none later) in
-        let from : CallSign → Store → List CallerList → State → ℕ → List Failure → Progress = λ caller s l state part failures. taking caller moment s l state made.end others failures part in
+        let from : CallSign → Store → List CallerList → State → ℕ → List Failure → Progress = λ caller s l state part failures. taking caller moment (session_over s l state) made.end others failures part in
         let stores : after_all (store_in store) made.done ≡ store_in store_m = sym (one.by.2.done (λ never. never)).0 in
         taking-on (caller_of session) moment (store_in store) lists (state_in store session) end items others all first (subst (λ (p : Progress). going p ≡ true) (sym these) goes)
         ∙ ap (λ (p : Progress). goes_from (caller_of session) moment all (store_in store) p others) these
@@ -136,8 +138,8 @@ module _ {D : Type 0} (g : Ghosts D) (on : (first second third : D) → g.lasts 
         (alike-second writes one.parts parts next (next + length others) are before))
 
     by-then : (parts : List ℕ) → All (λ part. next ≤ part) parts → (fate : Fate) (result : Result ⊤ Stop)
-        → HearsBy g w (λ writes. progressed [] (part_of (writes ++ failed_reads parts))) store_m store_n lists_n disk_m disk_n (with_nothing_left link_n session_n) fate result
-        → HearsBy g w (λ writes. progressed [] (whole (writes ++ failed_reads (one.parts ++ parts)))) store store_n lists_n disk disk_n (with_nothing_left link_n session_n) fate result
+        → HearsBy g w (λ writes. progressed [] (part_of (writes ++ failed_reads parts))) (with_disk store_m disk_m) (working_on store_n lists_n disk_n) (with_nothing_left link_n session_n) fate result
+        → HearsBy g w (λ writes. progressed [] (whole (writes ++ failed_reads (one.parts ++ parts)))) (with_disk store disk) (working_on store_n lists_n disk_n) (with_nothing_left link_n session_n) fate result
     by-then parts later fate (Ok done) h =
         let part : Progress = part_of ([] ++ failed_reads parts) in
         let P : Progress → Type 0 =
@@ -179,8 +181,8 @@ module _ {D : Type 0} (g : Ghosts D) (on : (first second third : D) → g.lasts 
 
     -- packets were taken, and then the others
     pub takes-then : (told : Fate × Result ⊤ Stop)
-        → ((at : LinkEnd) → StandsFor w link_m at → TakesPackets g w moment session_m store_m store_n lists_m lists_n at others next disk_m disk_n link_n session_n told)
-        → TakesPackets g w moment session store store_n lists lists_n end (items ++ others) first disk disk_n link_n session_n told
+        → ((at : LinkEnd) → StandsFor w link_m at → TakesPackets g w (taking_some moment session_m (working_on store_m lists_m disk_m) at others next) (IsAmong next (length others)) (with_disk store_m disk_m) (working_on store_n lists_n disk_n) (with_nothing_left link_n session_n) told)
+        → TakesPackets g w (taking_some moment session (working_on store lists disk) end (items ++ others) first) (IsAmong first (length (items ++ others))) (with_disk store disk) (working_on store_n lists_n disk_n) (with_nothing_left link_n session_n) told
     takes-then told more =
         let two = more made.end one.by.1.1.1.link in
         let sum : length (items ++ others) ≡ length items + length others = length-append items others in
@@ -199,18 +201,18 @@ module _ {D : Type 0} (g : Ghosts D) (on : (first second third : D) → g.lasts 
   module _ (moment : ℕ) (session : SessionState) (store store_n : StoreState) (lists lists_n : List CallerList) (disk disk_n : D) (now : ConnectionState) (end : LinkEnd) (items : List Item)
       (left : List ℕ) where
     abbrev of_items : List Failure → Progress
-    of_items failures = taking (caller_of session) moment (store_in store) lists (state_in store session) end items failures 0
+    of_items failures = taking (caller_of session) moment (session_over (store_in store) lists (state_in store session)) end items failures 0
 
     module _ (others : List Item) where
       abbrev of_all : List Failure → Progress
-      of_all failures = taking (caller_of session) moment (store_in store) lists (state_in store session) end (items ++ others) failures 0
+      of_all failures = taking (caller_of session) moment (session_over (store_in store) lists (state_in store session)) end (items ++ others) failures 0
 
       ended : (failures : List Failure) → going (of_items failures) ≡ false → of_all failures ≡ of_items failures
       ended failures stops = taking-ended (caller_of session) moment (store_in store) lists (state_in store session) end items others failures 0 stops
 
       by-ended : (parts : List ℕ) (fate : Fate) (result : Result ⊤ Stop) → IsStop (fate, result)
-          → HearsBy g w (λ writes. progressed [] (of_items (writes ++ failed_reads parts))) store store_n lists_n disk disk_n (with_nothing_left now.link now.session) fate result
-          → HearsBy g w (λ writes. progressed left (of_all (writes ++ failed_reads parts))) store store_n lists_n disk disk_n now fate result
+          → HearsBy g w (λ writes. progressed [] (of_items (writes ++ failed_reads parts))) (with_disk store disk) (working_on store_n lists_n disk_n) (with_nothing_left now.link now.session) fate result
+          → HearsBy g w (λ writes. progressed left (of_all (writes ++ failed_reads parts))) (with_disk store disk) (working_on store_n lists_n disk_n) now fate result
       by-ended parts Stays (Ok tt) stops h = absurd (stops refl)
       by-ended parts Ends (Ok tt) stops h =
           let failures : List Failure = [] ++ failed_reads parts in
@@ -234,8 +236,8 @@ module _ {D : Type 0} (g : Ghosts D) (on : (first second third : D) → g.lasts 
 
       -- whatever comes behind packets that stopped the connection isn't taken
       pub parts-stopped : (told : Fate × Result ⊤ Stop) → IsStop told
-          → TakesPackets g w moment session store store_n lists lists_n end items 0 disk disk_n now.link now.session told
-          → HearsParts g w left of_all store store_n lists_n disk disk_n now told
+          → TakesPackets g w (taking_some moment session (working_on store lists disk) end items 0) (IsAmong 0 (length items)) (with_disk store disk) (working_on store_n lists_n disk_n) (with_nothing_left now.link now.session) told
+          → HearsParts g w left of_all (with_disk store disk) (working_on store_n lists_n disk_n) now told
       parts-stopped told stops takes =
           let by = by-ended takes.parts told.0 told.1 stops takes.by in
           record {
@@ -252,8 +254,8 @@ module _ {D : Type 0} (g : Ghosts D) (on : (first second third : D) → g.lasts 
           }
 
     -- all packets were taken, and these octets are left
-    pub parts-whole : now.octets ≡ left → TakesPackets g w moment session store store_n lists lists_n end items 0 disk disk_n now.link now.session (Stays, Ok tt)
-        → HearsParts g w left of_items store store_n lists_n disk disk_n now (Stays, Ok tt)
+    pub parts-whole : now.octets ≡ left → TakesPackets g w (taking_some moment session (working_on store lists disk) end items 0) (IsAmong 0 (length items)) (with_disk store disk) (working_on store_n lists_n disk_n) (with_nothing_left now.link now.session) (Stays, Ok tt)
+        → HearsParts g w left of_items (with_disk store disk) (working_on store_n lists_n disk_n) now (Stays, Ok tt)
     parts-whole octets takes =
         let h = takes.by in
         let failures : List Failure = [] ++ failed_reads takes.parts in

@@ -14,6 +14,7 @@ use Rattle.file_store.specs.Store.{Store}
 use Rattle.file_store.proofs.Offered.{after_all-append}
 use Rattle.ftl0_session.specs.Uploads.Failures.{Failure, read_fails, write_fails}
 use Rattle.ftl0_session.specs.Table.{Row, State, row_at, session_row, failed_reads_told}
+use Rattle.ftl0_session.specs.Run.{session_over}
 use Rattle.ftl0_server.specs.Connection.Laws.{TakingLaw}
 use Rattle.ftl0_server.specs.Connection.Taking.{Halt, Progress, after_row, failing_at, fails, fits, giving_up, goes_on}
 use Rattle.ftl0_server.specs.Connection.Taking.{taking, taking_row}
@@ -52,13 +53,13 @@ by_tests end state lists part row failed enough later =
 module _ (caller : CallSign) (moment : ℕ) where
   -- what comes behind a row
   abbrev pub later_of : Store → LinkEnd → List Item → List Failure → ℕ → Row → Progress
-  later_of store end items failures part row = taking caller moment (after_all store row.commands) row.lists row.state (after_push end (texts row.replies)) items failures (suc part)
+  later_of store end items failures part row = taking caller moment (session_over (after_all store row.commands) row.lists row.state) (after_push end (texts row.replies)) items failures (suc part)
 
   -- ---- failures that are alike
 
   pub taking-alike : (store : Store) (lists : List CallerList) (state : State) (end : LinkEnd) (items : List Item) (some others : List Failure) (part : ℕ)
       → AreAlike part (part + length items) some others
-      → taking caller moment store lists state end items some part ≡ taking caller moment store lists state end items others part
+      → taking caller moment (session_over store lists state) end items some part ≡ taking caller moment (session_over store lists state) end items others part
   taking-alike store lists state end [] some others part alike = refl
   taking-alike store lists state end (item ∷ items) some others part alike =
       let here = alike part (omega arith) (omega arith) in
@@ -82,8 +83,8 @@ module _ (end : LinkEnd) (state : State) (lists : List CallerList) (part : ℕ) 
 module _ (caller : CallSign) (moment : ℕ) where
   -- whatever comes behind packets at which the taking stops isn't taken
   pub taking-ended : (store : Store) (lists : List CallerList) (state : State) (end : LinkEnd) (items others : List Item) (failures : List Failure) (part : ℕ)
-      → going (taking caller moment store lists state end items failures part) ≡ false
-      → taking caller moment store lists state end (items ++ others) failures part ≡ taking caller moment store lists state end items failures part
+      → going (taking caller moment (session_over store lists state) end items failures part) ≡ false
+      → taking caller moment (session_over store lists state) end (items ++ others) failures part ≡ taking caller moment (session_over store lists state) end items failures part
   taking-ended store lists state end [] others failures part stops = absurd cc
   taking-ended store lists state end (item ∷ items) others failures part stops =
       let row : Row = row_at caller moment store lists state item failures part in
@@ -116,7 +117,7 @@ module _ (end : LinkEnd) (state : State) (lists : List CallerList) (part : ℕ) 
 
 module _ (caller : CallSign) (moment : ℕ) where
   pub taking-failed : (store : Store) (lists : List CallerList) (state : State) (end : LinkEnd) (items : List Item) (failures : List Failure) (part : ℕ)
-      → IsOverAtFault (taking caller moment store lists state end items failures part)
+      → IsOverAtFault (taking caller moment (session_over store lists state) end items failures part)
   taking-failed store lists state end [] failures part halts = absurd cc
   taking-failed store lists state end (item ∷ items) failures part halts =
       let row : Row = row_at caller moment store lists state item failures part in
@@ -125,7 +126,7 @@ module _ (caller : CallSign) (moment : ℕ) where
       (write_fails failures part) (fits end (texts row.replies)) halts
 
   pub taking-fails : (store : Store) (lists : List CallerList) (state : State) (end : LinkEnd) (items : List Item) (failures : List Failure) (part : ℕ)
-      → (taking caller moment store lists state end items failures part).halt ≡ fails → FailsFrom part failures
+      → (taking caller moment (session_over store lists state) end items failures part).halt ≡ fails → FailsFrom part failures
   taking-fails store lists state end [] failures part halts = absurd cc
   taking-fails store lists state end (item ∷ items) failures part halts =
       let row : Row = row_at caller moment store lists state item failures part in
@@ -138,7 +139,7 @@ module _ (caller : CallSign) (moment : ℕ) where
 -- what packets make behind others after which it goes on
 abbrev pub goes_from : CallSign → ℕ → List Failure → Store → Progress → List Item → Progress
 goes_from caller moment failures store from others =
-    behind from.missed from.done (taking caller moment (after_all store from.done) from.lists from.state from.end others failures from.part)
+    behind from.missed from.done (taking caller moment (session_over (after_all store from.done) from.lists from.state) from.end others failures from.part)
 
 module _ (caller : CallSign) (moment : ℕ) (failures : List Failure) (store : Store) (end : LinkEnd) (state : State) (lists : List CallerList) (part : ℕ) (row : Row) (others : List Item)
     (later more : Progress) where
@@ -150,8 +151,8 @@ module _ (caller : CallSign) (moment : ℕ) (failures : List Failure) (store : S
       let at : after_all (after_all store row.commands) later.done ≡ after_all store (row.commands ++ later.done) = sym (after_all-append row.commands later.done store) in
       ap (after_row row) (each goes)
       ∙ behind-then (failed_reads_told row.replies) later.missed row.commands later.done
-      (taking caller moment (after_all (after_all store row.commands) later.done) later.lists later.state later.end others failures later.part)
-      ∙ ap (λ (s : Store). behind (failed_reads_told row.replies + later.missed) (row.commands ++ later.done) (taking caller moment s later.lists later.state later.end others failures later.part)) at
+      (taking caller moment (session_over (after_all (after_all store row.commands) later.done) later.lists later.state) later.end others failures later.part)
+      ∙ ap (λ (s : Store). behind (failed_reads_told row.replies + later.missed) (row.commands ++ later.done) (taking caller moment (session_over s later.lists later.state) later.end others failures later.part)) at
   on-by each false false goes = absurd cc
 
   part-by : (count : ℕ) → (going later ≡ true → later.part ≡ suc part + count) → (failed enough : Bool) → going (by_tests end state lists part row failed enough later) ≡ true
@@ -163,10 +164,10 @@ module _ (caller : CallSign) (moment : ℕ) (failures : List Failure) (store : S
 module _ (caller : CallSign) (moment : ℕ) where
   -- what comes behind packets after which it goes on is taken from there
   pub taking-on : (store : Store) (lists : List CallerList) (state : State) (end : LinkEnd) (items others : List Item) (failures : List Failure) (part : ℕ)
-      → going (taking caller moment store lists state end items failures part) ≡ true
-      → taking caller moment store lists state end (items ++ others) failures part
-      ≡ goes_from caller moment failures store (taking caller moment store lists state end items failures part) others
-  taking-on store lists state end [] others failures part goes = behind-none (taking caller moment store lists state end others failures part)
+      → going (taking caller moment (session_over store lists state) end items failures part) ≡ true
+      → taking caller moment (session_over store lists state) end (items ++ others) failures part
+      ≡ goes_from caller moment failures store (taking caller moment (session_over store lists state) end items failures part) others
+  taking-on store lists state end [] others failures part goes = behind-none (taking caller moment (session_over store lists state) end others failures part)
   taking-on store lists state end (item ∷ items) others failures part goes =
       let row : Row = row_at caller moment store lists state item failures part in
       on-by caller moment failures store end state lists part row others (later_of caller moment store end items failures part row) (later_of caller moment store end (items ++ others) failures part row)
@@ -175,7 +176,7 @@ module _ (caller : CallSign) (moment : ℕ) where
 
   -- each of the packets is a part
   pub taking-part : (store : Store) (lists : List CallerList) (state : State) (end : LinkEnd) (items : List Item) (failures : List Failure) (part : ℕ)
-      → going (taking caller moment store lists state end items failures part) ≡ true → (taking caller moment store lists state end items failures part).part ≡ part + length items
+      → going (taking caller moment (session_over store lists state) end items failures part) ≡ true → (taking caller moment (session_over store lists state) end items failures part).part ≡ part + length items
   taking-part store lists state end [] failures part goes = omega arith
   taking-part store lists state end (item ∷ items) failures part goes =
       let row : Row = row_at caller moment store lists state item failures part in
@@ -221,7 +222,7 @@ AreUnwritten some all = (part : ℕ) → (read_fails some part ≡ read_fails al
 
 module _ (caller : CallSign) (moment : ℕ) where
   pub taking-begins : (store : Store) (lists : List CallerList) (state : State) (end : LinkEnd) (items : List Item) (some all : List Failure) (part : ℕ) → AreUnwritten some all
-      → Begins (taking caller moment store lists state end items some part) (taking caller moment store lists state end items all part)
+      → Begins (taking caller moment (session_over store lists state) end items some part) (taking caller moment (session_over store lists state) end items all part)
   taking-begins store lists state end [] some all part are = ([], refl)
   taking-begins store lists state end (item ∷ items) some all part are =
       let row : Bool → Row = λ reads. session_row caller moment store lists state item reads in
@@ -244,15 +245,15 @@ module _ (end : LinkEnd) (state : State) (lists : List CallerList) (part : ℕ) 
   row-by false false none = front-same row.commands
 
 pub taking-law : TakingLaw
-taking-law caller moment store lists state end items item more failures goes not_over none =
-    let before : Progress = taking caller moment store lists state end items failures 0 in
-    let from : Store = after_all store before.done in
+taking-law caller moment session end items item more failures goes not_over none =
+    let before : Progress = taking caller moment session end items failures 0 in
+    let from : Store = after_all session.store before.done in
     let on : going before ≡ true = rw (not_over, goes) refl in
-    let all : taking caller moment store lists state end (items ++ item ∷ more) failures 0 ≡ goes_from caller moment failures store before (item ∷ more) =
-    taking-on caller moment store lists state end items (item ∷ more) failures 0 on in
-    let at : before.part ≡ length items = (let there = taking-part caller moment store lists state end items failures 0 on in omega arith) in
+    let all : taking caller moment session end (items ++ item ∷ more) failures 0 ≡ goes_from caller moment failures session.store before (item ∷ more) =
+    taking-on caller moment session.store session.lists session.state end items (item ∷ more) failures 0 on in
+    let at : before.part ≡ length items = (let there = taking-part caller moment session.store session.lists session.state end items failures 0 on in omega arith) in
     let row : Row = row_at caller moment from before.lists before.state item failures (length items) in
-    let P : ℕ → Type 0 = λ n. IsFront row.commands (taking caller moment from before.lists before.state before.end (item ∷ more) failures n).done in
+    let P : ℕ → Type 0 = λ n. IsFront row.commands (taking caller moment (session_over from before.lists before.state) before.end (item ∷ more) failures n).done in
     let one : P before.part =
     subst P (sym at)
     (row-by before.end before.state before.lists (length items) row (later_of caller moment from before.end more failures (length items) row)

@@ -44,8 +44,8 @@ IsRow None taken disk disk_now before now = (taken ≡ false) × (disk_now ≡ d
 IsRow (Some row) taken disk disk_now before now = (taken ≡ true) × (now ≡ made_by row)
 
 -- A packet with this row of downloading, for reads that fail or don't, is taken exactly where it has one. The disk is
--- as reads leave it, of which one failed or none; and what was made is the packet's row for that. Where a read failed it
--- has one, which tells of it by code 3.
+-- as reads leave it, of which one failed or none; and what was made is the packet's row for that. Where a read failed
+-- it has one, which tells of it by code 3.
 pub record TakesByRow {D : Type 0} (g : Ghosts D) (row : Bool → Option DownloadRow) (disk disk_now : D)
     (before now : Made) (taken : Bool) : Type 0 where
   pub fails : Bool

@@ -7,6 +7,7 @@ use Rattle.ftl0_server.specs.Connection.Feeding.{carrying}
 use Rattle.ftl0_server.proofs.connection.FeedLemmas.{fit-all, taking-next, taking-start, taking-stops}
 use Rattle.ftl0_server.proofs.connection.Invariants.{IsTaking}
 use Rattle.ftl0_server.proofs.connection.connection.take_packets.Goals as goal
+use Rattle.ftl0_session.specs.SessionState.{working_on}
 
 pub loop-left-init : goal.loop-left-init
 loop-left-init g c =
@@ -19,7 +20,7 @@ returns-then-not-goes_on-clause-feeds g c =
     let mid = λ (link : Kept). carrying link (octets_in c.loop-left.link ++ c.loop-left.piece.now) c.loop-left.session in
     let now = carrying c.answer-told.new.link.link (octets_in c.next_packet.new.self ++ c.in-Some.left.now) c.answer-told.new.session in
     let P : Kept → Type 0 =
-    λ k. IsTaking g.D.Disk c.args.moment old (mid k) c.args.store.now c.loop-left.store c.args.lists.now c.loop-left.lists c.args.disk.now c.loop-left.disk in
+    λ k. IsTaking g.D.Disk c.args.moment old (mid k) (working_on c.args.store.now c.args.lists.now c.args.disk.now) (working_on c.loop-left.store c.loop-left.lists c.loop-left.disk) in
     taking-stops g.D.Disk g.met.D.Disk.lasts_on c.args.moment c.args.store.now c.args.lists.now c.args.disk.now old (mid c.next_packet.new.self.link) now c.loop-left.store c.answer-told.new.store
     c.loop-left.lists c.answer-told.new.lists c.loop-left.disk c.answer-told.new.disk c.answer-told.result (read_item c.next_packet.new.self.reader)
     (subst P (sym c.in-Some.ensures.link) c.loop-left.invariant) c.in-Some.ensures.found.front c.answer-told.ensures.takes (octets_in c.answer-told.new.link)
@@ -31,7 +32,7 @@ returns-then-not-goes_on-clause-fit g c =
     let mid = λ (link : Kept). carrying link (octets_in c.loop-left.link ++ c.loop-left.piece.now) c.loop-left.session in
     let now = carrying c.answer-told.new.link.link (octets_in c.next_packet.new.self ++ c.in-Some.left.now) c.answer-told.new.session in
     let P : Kept → Type 0 =
-    λ k. IsTaking g.D.Disk c.args.moment old (mid k) c.args.store.now c.loop-left.store c.args.lists.now c.loop-left.lists c.args.disk.now c.loop-left.disk in
+    λ k. IsTaking g.D.Disk c.args.moment old (mid k) (working_on c.args.store.now c.args.lists.now c.args.disk.now) (working_on c.loop-left.store c.loop-left.lists c.loop-left.disk) in
     fit-all g.D.Disk g.met.D.Disk.lasts_on c.args.moment c.args.store.now c.args.lists.now c.args.disk.now old (mid c.next_packet.new.self.link) now c.loop-left.store c.answer-told.new.store
     c.loop-left.lists c.answer-told.new.lists c.loop-left.disk c.answer-told.new.disk c.answer-told.result (read_item c.next_packet.new.self.reader)
     (subst P (sym c.in-Some.ensures.link) c.loop-left.invariant) c.in-Some.ensures.found.front c.answer-told.ensures.takes c.answer-told.ensures.fit
@@ -42,10 +43,9 @@ loop-left-preserved g c =
     let mid = λ (link : Kept). carrying link (octets_in c.loop-left.link ++ c.loop-left.piece.now) c.loop-left.session in
     let now = carrying c.answer-told.new.link.link (octets_in c.next_packet.new.self ++ c.in-Some.left.now) c.answer-told.new.session in
     let P : Kept → Type 0 =
-    λ k. IsTaking g.D.Disk c.args.moment old (mid k) c.args.store.now c.loop-left.store c.args.lists.now c.loop-left.lists c.args.disk.now c.loop-left.disk in
+    λ k. IsTaking g.D.Disk c.args.moment old (mid k) (working_on c.args.store.now c.args.lists.now c.args.disk.now) (working_on c.loop-left.store c.loop-left.lists c.loop-left.disk) in
     let Q : List ℕ → Type 0 =
-    λ reader. IsTaking g.D.Disk c.args.moment old (carrying c.answer-told.new.link.link (under_way reader ++ c.in-Some.left.now) c.answer-told.new.session) c.args.store.now c.answer-told.new.store
-    c.args.lists.now c.answer-told.new.lists c.args.disk.now c.answer-told.new.disk in
+    λ reader. IsTaking g.D.Disk c.args.moment old (carrying c.answer-told.new.link.link (under_way reader ++ c.in-Some.left.now) c.answer-told.new.session) (working_on c.args.store.now c.args.lists.now c.args.disk.now) (working_on c.answer-told.new.store c.answer-told.new.lists c.answer-told.new.disk) in
     subst Q (sym c.answer-told.ensures.reader)
     (taking-next g.D.Disk g.met.D.Disk.lasts_on c.args.moment c.args.store.now c.args.lists.now c.args.disk.now old (mid c.next_packet.new.self.link) now c.loop-left.store c.answer-told.new.store
     c.loop-left.lists c.answer-told.new.lists c.loop-left.disk c.answer-told.new.disk c.answer-told.result (read_item c.next_packet.new.self.reader)

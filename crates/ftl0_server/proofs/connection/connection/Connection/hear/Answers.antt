@@ -11,6 +11,8 @@ use Rattle.ftl0_server.specs.Connection.Hearing.{hearing, parts_of_frame, rest_o
 use Rattle.ftl0_server.proofs.connection.DueLemmas.{hears-going, hears-stop}
 use Rattle.ftl0_server.proofs.connection.FeedLemmas.{fit-queued}
 use Rattle.ftl0_server.proofs.connection.connection.Connection.hear.Goals as goal
+use Rattle.ftl0_session.specs.Uploads.SessionState.{with_disk}
+use Rattle.ftl0_session.specs.SessionState.{working_on}
 
 pub returns-then-goes_on-clause-hears : goal.returns-then-goes_on-clause-hears
 returns-then-goes_on-clause-hears g c w d is =
@@ -18,11 +20,9 @@ returns-then-goes_on-clause-hears g c w d is =
     let going = c.goes_on.ensures.0 c.if-goes_on.true in
     let keeps = c.queue_due.ensures.keeps in
     let P : Fate × Result ⊤ Stop → Type 0 =
-    λ t. HearsParts g.D.Disk w (rest_of_frame w d frame) (parts_of_frame w c.args.moment (store_in c.args.store.now) c.args.lists.now d frame) c.args.store.now c.take_frame-told.new.store
-    c.take_frame-told.new.lists c.args.disk.now c.take_frame-told.new.disk c.take_frame-told.new.self t in
+    λ t. HearsParts g.D.Disk w (rest_of_frame w d frame) (parts_of_frame w c.args.moment (store_in c.args.store.now) c.args.lists.now d frame) (with_disk c.args.store.now c.args.disk.now) (working_on c.take_frame-told.new.store c.take_frame-told.new.lists c.take_frame-told.new.disk) c.take_frame-told.new.self t in
     let Q : Fate × Result ⊤ Stop → Type 0 =
-    λ t. Hears g.D.Disk w (hearing w c.args.moment (store_in c.args.store.now) c.args.lists.now d frame) c.args.store.now c.queue_due.new.store c.take_frame-told.new.lists c.args.disk.now
-    c.queue_due.new.disk c.queue_due.new.self t in
+    λ t. Hears g.D.Disk w (hearing w c.args.moment (store_in c.args.store.now) c.args.lists.now d frame) (with_disk c.args.store.now c.args.disk.now) (working_on c.queue_due.new.store c.take_frame-told.new.lists c.queue_due.new.disk) c.queue_due.new.self t in
     subst Q (sym going)
     (hears-going g.D.Disk g.met.D.Disk.lasts_same g.met.D.Disk.lasts_on w (rest_of_frame w d frame) (parts_of_frame w c.args.moment (store_in c.args.store.now) c.args.lists.now d frame) c.args.store.now
     c.take_frame-told.new.store c.queue_due.new.store c.take_frame-told.new.lists c.args.disk.now c.take_frame-told.new.disk c.queue_due.new.disk c.take_frame-told.new.self c.queue_due.new.self
@@ -32,11 +32,9 @@ pub returns-then-goes_on-clause-fit : goal.returns-then-goes_on-clause-fit
 returns-then-goes_on-clause-fit g c =
     let going = c.goes_on.ensures.0 c.if-goes_on.true in
     let P : Fate × Result ⊤ Stop → Type 0 =
-    λ t. LeavesFit g.D.Disk c.args.store.now c.take_frame-told.new.store c.take_frame-told.new.lists c.args.disk.now c.take_frame-told.new.disk c.args.self.now.link c.take_frame-told.new.self.link
-    c.args.self.now.session c.take_frame-told.new.self.session t in
+    λ t. LeavesFit g.D.Disk (with_disk c.args.store.now c.args.disk.now) (working_on c.take_frame-told.new.store c.take_frame-told.new.lists c.take_frame-told.new.disk) c.args.self.now.link c.take_frame-told.new.self.link c.args.self.now.session c.take_frame-told.new.self.session t in
     let Q : Fate × Result ⊤ Stop → Type 0 =
-    λ t. LeavesFit g.D.Disk c.args.store.now c.queue_due.new.store c.take_frame-told.new.lists c.args.disk.now c.queue_due.new.disk c.args.self.now.link c.queue_due.new.self.link c.args.self.now.session
-    c.queue_due.new.self.session t in
+    λ t. LeavesFit g.D.Disk (with_disk c.args.store.now c.args.disk.now) (working_on c.queue_due.new.store c.take_frame-told.new.lists c.queue_due.new.disk) c.args.self.now.link c.queue_due.new.self.link c.args.self.now.session c.queue_due.new.self.session t in
     subst Q (sym going)
     (fit-queued g.D.Disk g.met.D.Disk.lasts_on c.args.store.now c.take_frame-told.new.store c.queue_due.new.store c.args.disk.now c.take_frame-told.new.disk c.queue_due.new.disk
     c.take_frame-told.new.lists c.args.self.now.link c.args.self.now.session c.take_frame-told.new.self c.queue_due.new.self (subst P going c.take_frame-told.ensures.fit) c.queue_due.ensures.keeps)

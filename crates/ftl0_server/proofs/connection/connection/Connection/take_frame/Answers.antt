@@ -8,8 +8,9 @@ use Rattle.ax25_link.specs.Window.{Window}
 use Rattle.ftl0_packets.specs.Reading.{under_way}
 use Rattle.ftl0_session.specs.Lists.Lists.{has_left}
 use Rattle.file_store.specs.State.{store_in}
-use Rattle.ftl0_session.specs.SessionState.{MayTake as SessionMayTake, caller_of}
+use Rattle.ftl0_session.specs.SessionState.{MayTake as SessionMayTake, caller_of, working_on}
 use Rattle.ftl0_session.specs.Table.{command}
+use Rattle.ftl0_session.specs.Uploads.SessionState.{with_disk}
 use Rattle.ftl0_server.specs.declared.connection.fate.Fate.TheVariants.{Stays, Ends}
 use Rattle.ftl0_server.specs.Connection.Connected.{Connected, greeted}
 use Rattle.ftl0_server.specs.Connection.ConnectionState.{ConnectionState, IsConnection}
@@ -30,8 +31,7 @@ returns-in-Nothing-clause-hears g c =
     let now = connection_state (record { link = c.take.new.self; session = a.session }) in
     let P : ConnectionState → Type 0 =
     λ s. (w : Window) (d : Connected) → IsConnection w c.args.store.now s d
-    → HearsParts g.D.Disk w (rest_of_frame w d frame) (parts_of_frame w c.args.moment (store_in c.args.store.now) c.args.lists.now d frame) c.args.store.now c.args.store.now c.args.lists.now
-    c.args.disk.now c.args.disk.now now (Stays, Ok tt) in
+    → HearsParts g.D.Disk w (rest_of_frame w d frame) (parts_of_frame w c.args.moment (store_in c.args.store.now) c.args.lists.now d frame) (with_disk c.args.store.now c.args.disk.now) (working_on c.args.store.now c.args.lists.now c.args.disk.now) now (Stays, Ok tt) in
     subst P c.self.view_is (λ w d is.
     parts-told g.D.Disk w c.args.moment frame c.args.store.now c.args.store.now c.args.lists.now c.args.lists.now c.args.disk.now c.args.disk.now now (Stays, Ok tt) (connection_state a) c.take.result
     c.take.ensures.heard d is
@@ -46,7 +46,7 @@ returns-in-Nothing-clause-fit g c =
     let up = ap (λ (s : ConnectionState). s.link.state) c.self.view_is ∙ c.requires.up in
     let P : ConnectionState → Type 0 =
     λ s. SessionMayTake g.D.Disk c.args.store.now c.args.disk.now c.args.lists.now s.session
-    → LeavesFit g.D.Disk c.args.store.now c.args.store.now c.args.lists.now c.args.disk.now c.args.disk.now s.link c.take.new.self.link s.session a.session (Stays, Ok tt) in
+    → LeavesFit g.D.Disk (with_disk c.args.store.now c.args.disk.now) (working_on c.args.store.now c.args.lists.now c.args.disk.now) s.link c.take.new.self.link s.session a.session (Stays, Ok tt) in
     subst P c.self.view_is (λ may.
     fit-heard g.D.Disk c.args.store.now c.args.disk.now c.args.lists.now a.link.link c.take.new.self.link a.session Stays (g.met.D.Disk.lasts_same c.args.disk.now) may (λ stays.
     c.take.ensures.up up (λ reason closed. elim c.in-Nothing.is [
@@ -61,8 +61,7 @@ returns-in-Reopened-clause-hears g c =
     let parked = parks-same c.args.store.now c.begin_anew.new.store a.session.uploads.phase c.begin_anew.ensures.parks in
     let P : ConnectionState → Type 0 =
     λ s. (w : Window) (d : Connected) → IsConnection w c.args.store.now s d
-    → HearsParts g.D.Disk w (rest_of_frame w d frame) (parts_of_frame w c.args.moment (store_in c.args.store.now) c.args.lists.now d frame) c.args.store.now c.begin_anew.new.store c.args.lists.now
-    c.args.disk.now c.args.disk.now c.begin_anew.new.self (Stays, Ok tt) in
+    → HearsParts g.D.Disk w (rest_of_frame w d frame) (parts_of_frame w c.args.moment (store_in c.args.store.now) c.args.lists.now d frame) (with_disk c.args.store.now c.args.disk.now) (working_on c.begin_anew.new.store c.args.lists.now c.args.disk.now) c.begin_anew.new.self (Stays, Ok tt) in
     subst P c.self.view_is (λ w d is.
     parts-told g.D.Disk w c.args.moment frame c.args.store.now c.begin_anew.new.store c.args.lists.now c.args.lists.now c.args.disk.now c.args.disk.now c.begin_anew.new.self (Stays, Ok tt)
     (connection_state a) Reopened c.in-Reopened.ensures.heard d is
@@ -77,7 +76,7 @@ returns-in-Reopened-clause-fit g c =
     let parked = parks-same c.args.store.now c.begin_anew.new.store a.session.uploads.phase c.begin_anew.ensures.parks in
     let P : ConnectionState → Type 0 =
     λ s. SessionMayTake g.D.Disk c.args.store.now c.args.disk.now c.args.lists.now s.session
-    → LeavesFit g.D.Disk c.args.store.now c.begin_anew.new.store c.args.lists.now c.args.disk.now c.args.disk.now s.link c.begin_anew.new.self.link s.session c.begin_anew.new.self.session (Stays, Ok tt) in
+    → LeavesFit g.D.Disk (with_disk c.args.store.now c.args.disk.now) (working_on c.begin_anew.new.store c.args.lists.now c.args.disk.now) s.link c.begin_anew.new.self.link s.session c.begin_anew.new.self.session (Stays, Ok tt) in
     subst P c.self.view_is (λ may.
     fit-anew g.D.Disk c.args.store.now c.begin_anew.new.store c.args.disk.now c.args.lists.now a.link.link c.begin_anew.new.self.link a.session c.begin_anew.new.self.session
     (g.met.D.Disk.lasts_same c.args.disk.now) may parked.0 parked.1 c.begin_anew.ensures.session c.begin_anew.ensures.only c.begin_anew.ensures.others c.begin_anew.ensures.up
@@ -91,8 +90,7 @@ returns-in-Bytes-clause-hears g c =
     let now = connection_state (record { link = c.take_packets.new.link; session = c.take_packets.new.session }) in
     let P : ConnectionState → Type 0 =
     λ s. (w : Window) (d : Connected) → IsConnection w c.args.store.now s d
-    → HearsParts g.D.Disk w (rest_of_frame w d frame) (parts_of_frame w c.args.moment (store_in c.args.store.now) c.args.lists.now d frame) c.args.store.now c.take_packets.new.store
-    c.take_packets.new.lists c.args.disk.now c.take_packets.new.disk now c.take_packets.result in
+    → HearsParts g.D.Disk w (rest_of_frame w d frame) (parts_of_frame w c.args.moment (store_in c.args.store.now) c.args.lists.now d frame) (with_disk c.args.store.now c.args.disk.now) (working_on c.take_packets.new.store c.take_packets.new.lists c.take_packets.new.disk) now c.take_packets.result in
     subst P c.self.view_is (λ w d is.
     let end = after_frame w d.end frame in
     let stands = c.in-Bytes.ensures.after w d.end is.link in
@@ -110,8 +108,7 @@ returns-in-Bytes-clause-fit g c =
     let a = c.self.inside in
     let fit = c.take_packets.ensures.fit in
     let P : ConnectionState → Type 0 =
-    λ s. LeavesFit g.D.Disk c.args.store.now c.take_packets.new.store c.take_packets.new.lists c.args.disk.now c.take_packets.new.disk s.link c.take_packets.new.link.link s.session
-    c.take_packets.new.session c.take_packets.result in
+    λ s. LeavesFit g.D.Disk (with_disk c.args.store.now c.args.disk.now) (working_on c.take_packets.new.store c.take_packets.new.lists c.take_packets.new.disk) s.link c.take_packets.new.link.link s.session c.take_packets.new.session c.take_packets.result in
     subst P c.self.view_is (record {
       puts = fit.puts;
       kept = fit.kept;
@@ -130,8 +127,7 @@ returns-in-Closed-clause-hears g c =
     let now = connection_state (record { link = c.take.new.self; session = a.session }) in
     let P : ConnectionState → Type 0 =
     λ s. (w : Window) (d : Connected) → IsConnection w c.args.store.now s d
-    → HearsParts g.D.Disk w (rest_of_frame w d frame) (parts_of_frame w c.args.moment (store_in c.args.store.now) c.args.lists.now d frame) c.args.store.now c.args.store.now c.args.lists.now
-    c.args.disk.now c.args.disk.now now (Ends, Ok tt) in
+    → HearsParts g.D.Disk w (rest_of_frame w d frame) (parts_of_frame w c.args.moment (store_in c.args.store.now) c.args.lists.now d frame) (with_disk c.args.store.now c.args.disk.now) (working_on c.args.store.now c.args.lists.now c.args.disk.now) now (Ends, Ok tt) in
     subst P c.self.view_is (λ w d is.
     parts-told g.D.Disk w c.args.moment frame c.args.store.now c.args.store.now c.args.lists.now c.args.lists.now c.args.disk.now c.args.disk.now now (Ends, Ok tt) (connection_state a)
     (Closed c.in-Closed._why) c.in-Closed.ensures.heard d is
@@ -143,7 +139,7 @@ returns-in-Closed-clause-fit g c =
     let a = c.self.inside in
     let P : ConnectionState → Type 0 =
     λ s. SessionMayTake g.D.Disk c.args.store.now c.args.disk.now c.args.lists.now s.session
-    → LeavesFit g.D.Disk c.args.store.now c.args.store.now c.args.lists.now c.args.disk.now c.args.disk.now s.link c.take.new.self.link s.session a.session (Ends, Ok tt) in
+    → LeavesFit g.D.Disk (with_disk c.args.store.now c.args.disk.now) (working_on c.args.store.now c.args.lists.now c.args.disk.now) s.link c.take.new.self.link s.session a.session (Ends, Ok tt) in
     subst P c.self.view_is (λ may.
     fit-heard g.D.Disk c.args.store.now c.args.disk.now c.args.lists.now a.link.link c.take.new.self.link a.session Ends (g.met.D.Disk.lasts_same c.args.disk.now) may (λ stays. absurd cc)
     c.take.ensures.keeps.stations) c.requires.may
