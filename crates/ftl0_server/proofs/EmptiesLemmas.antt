@@ -15,7 +15,7 @@ use Rattle.ftl0_server.specs.declared.place.Place.{Place}
 use Rattle.ftl0_server.specs.Laws.{OneStepLaw, SlotFits, SlotsFit}
 use Rattle.ftl0_server.specs.Server.{Refused, Server, ServerSends, sends_by, sends_of_places, server_next, settled}
 use Rattle.ftl0_server.specs.ServerState.{AllPlaces, SendsAs, SendsFor, ServerState}
-use Rattle.ftl0_server.specs.ServerStep.{Empties}
+use Rattle.ftl0_server.specs.ServerStep.{Empties, stepped}
 use Rattle.ftl0_server.specs.Slots.{PlacesSend, Slot, SlotSends, connected, first_of, free, leaving, places_next}
 use Rattle.ftl0_server.specs.Slots.{slot_next, slot_sends}
 use Rattle.ftl0_server.proofs.AllPlaces.{never, sends-cases}
@@ -34,16 +34,17 @@ one_way server (f ∷ frames) (e ∷ others) last another h g =
     ((let both : f ∷ frames ≡ e ∷ others = ap (λ (x : FrameValue). x ∷ frames) first ∙ ap (λ (l : List FrameValue). e ∷ l) rest.0 in both), rest.1)
 
 pub one_step : OneStepLaw
-one_step old event failures done those_done cut those_cut missed that_missed halt that_halt frames those new that step other =
-    let same = one_way _ frames those step.last other.last step.sent other.sent in
-    record {
-      commands = step.done_is ∙ sym other.done_is;
-      cuts = step.cut_is ∙ sym other.cut_is;
-      misses = step.missed_is ∙ sym other.missed_is;
-      halts = step.halt_is ∙ sym other.halt_is;
-      sent = same.0;
-      server = step.new_is ∙ ap (λ (s : Server). settled s) same.1 ∙ sym other.new_is;
-    }
+one_step old event failures one other step that =
+    let same = one_way _ one.frames other.frames step.last that.last step.sent that.sent in
+    let all : stepped one.done one.cut one.missed one.halt one.frames one.new ≡ other =
+    rw (
+      step.done_is ∙ sym that.done_is,
+      step.cut_is ∙ sym that.cut_is,
+      step.missed_is ∙ sym that.missed_is,
+      step.halt_is ∙ sym that.halt_is,
+      same.0,
+      step.new_is ∙ ap (λ (s : Server). settled s) same.1 ∙ sym that.new_is,
+    ) refl in all
 
 -- ---- fewer frames are left
 

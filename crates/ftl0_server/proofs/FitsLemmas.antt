@@ -23,6 +23,7 @@ use Rattle.node.specs.Events.{NodeEvent, hears, ticks}
 use Rattle.ftl0_session.specs.Uploads.Failures.{Failure, write_fails}
 use Rattle.ftl0_packets.specs.Items.{texts}
 use Rattle.ftl0_session.specs.Table.{Row, State, fault_reply, greeting, row_at}
+use Rattle.ftl0_session.specs.Run.{session_over}
 use Rattle.ftl0_server.specs.Connection.Connected.{Connected, answering, caller_of}
 use Rattle.ftl0_server.specs.Connection.Hearing.{Happened, hearing, parts_as, parts_of_frame, ticking, with_end}
 use Rattle.ftl0_server.specs.Connection.Laws.{QueuedLaw}
@@ -32,7 +33,7 @@ use Rattle.ftl0_server.specs.Laws.{AreQueued, SlotFits, SlotsFit, SomeStepLaw}
 use Rattle.ftl0_server.specs.Server.{IsSilent, Refused, Server, ServerHappened, ServerSends, called_by, hearing_at}
 use Rattle.ftl0_server.specs.Server.{hearing_by, hearing_stranger, refusing, sends_by}
 use Rattle.ftl0_server.specs.Server.{sends_of_places, settled}
-use Rattle.ftl0_server.specs.ServerStep.{Empties, happening}
+use Rattle.ftl0_server.specs.ServerStep.{Empties, happening, stepped}
 use Rattle.ftl0_server.specs.Slots.{PlacesSend, Slot, SlotSends, all_freed, connected, first_empty, first_of, free}
 use Rattle.ftl0_server.specs.Slots.{freed, leaving, left_by, place_of}
 use Rattle.ftl0_server.specs.Slots.{places_next, slot_after, slot_next, slot_sends, slot_ticking}
@@ -89,12 +90,12 @@ module _ (w : Window) where
 
   -- after packets
   taking-fits : (caller : CallSign) (moment : ℕ) (store : Store) (lists : List CallerList) (state : State) (end : LinkEnd) (items : List Item)
-      (failures : List Failure) (part : ℕ) → IsEnd w end → IsEnd w (taking caller moment store lists state end items failures part).end
+      (failures : List Failure) (part : ℕ) → IsEnd w end → IsEnd w (taking caller moment (session_over store lists state) end items failures part).end
   taking-fits caller moment store lists state end [] failures part is = is
   taking-fits caller moment store lists state end (item ∷ items) failures part is =
       let row : Row = row_at caller moment store lists state item failures part in
       given-fits end state lists part row (write_fails failures part) (fits end (texts row.replies))
-      (taking caller moment (after_all store row.commands) row.lists row.state (after_push end (texts row.replies)) items failures (suc part)) is
+      (taking caller moment (session_over (after_all store row.commands) row.lists row.state) (after_push end (texts row.replies)) items failures (suc part)) is
       (taking-fits caller moment (after_all store row.commands) row.lists row.state (after_push end (texts row.replies)) items failures (suc part)
       (after_push-IsEnd w end (texts row.replies) is))
 
@@ -297,12 +298,7 @@ some_step law old event failures may =
     let due : IsAllQueued happened.after = happening-queued law old event failures may.queued in
     let all = emptied (server_left happened.after) happened.after fit (omega arith) in
     record {
-      done = happened.done;
-      cut = happened.cut;
-      missed = happened.missed;
-      halt = happened.halt;
-      frames = all.0;
-      new = settled all.1;
+      gives = stepped happened.done happened.cut happened.missed happened.halt all.0 (settled all.1);
       step =
           record {
             silent = may.silent;

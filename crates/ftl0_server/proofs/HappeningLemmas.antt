@@ -1,6 +1,6 @@
 -- What an event makes of a server: where no write and no sync fails no commands are cut off, and the store is the one
 -- after its commands.
-use Rattle.std.proofs.Common.{◌≡◌, ℕ, suc, ◌+◌, List, [], ◌∷◌, ◌++◌, Bool, true, false, Option, None, Some, refl, ap, sym, ◌∙◌, subst}
+use Rattle.std.proofs.Common.{◌≡◌, ℕ, suc, List, [], ◌∷◌, ◌++◌, Bool, true, false, Option, None, Some, refl, ap, sym, ◌∙◌, subst}
 use Rattle.std.specs.Prelude.{◌&&◌, if◌then◌else◌, slice_get}
 use Rattle.px_base.specs.CallSign.{CallSign}
 use Rattle.ax25_frames.specs.FrameText.{FrameValue}
@@ -15,6 +15,7 @@ use Rattle.ftl0_packets.specs.Reading.{packets_of}
 use Rattle.ftl0_session.specs.Lists.Lists.{CallerList}
 use Rattle.ftl0_session.specs.Uploads.Failures.{Failure, failed_reads}
 use Rattle.ftl0_session.specs.Table.{Row, State, row_at}
+use Rattle.ftl0_session.specs.Run.{session_over}
 use Rattle.ftl0_session.proofs.WorkingLemmas.{writes-unlisted}
 use Rattle.file_store.specs.Command.{after_all}
 use Rattle.file_store.specs.Store.{Store}
@@ -36,11 +37,11 @@ fit-uncut row false later otherwise h k = k
 
 module _ (parts : List ℕ) where
   taking-uncut : (caller : CallSign) (moment : ℕ) (store : Store) (lists : List CallerList) (state : State) (end : LinkEnd) (items : List Item) (part : ℕ)
-      → (taking caller moment store lists state end items (failed_reads parts) part).cut ≡ []
+      → (taking caller moment (session_over store lists state) end items (failed_reads parts) part).cut ≡ []
   taking-uncut caller moment store lists state end [] part = refl
   taking-uncut caller moment store lists state end (item ∷ items) part =
       let row : Row = row_at caller moment store lists state item (failed_reads parts) part in
-      let later : Progress = taking caller moment (after_all store row.commands) row.lists row.state (after_push end (texts row.replies)) items (failed_reads parts) (suc part) in
+      let later : Progress = taking caller moment (session_over (after_all store row.commands) row.lists row.state) (after_push end (texts row.replies)) items (failed_reads parts) (suc part) in
       subst (λ (b : Bool). (taking_row end state lists part b later row).cut ≡ []) (sym (writes-unlisted parts part))
       (fit-uncut row (fits end (texts row.replies)) later (giving_up end row part)
       (taking-uncut caller moment (after_all store row.commands) row.lists row.state (after_push end (texts row.replies)) items (suc part)) refl)

@@ -20,7 +20,8 @@ use Rattle.file_store.proofs.Offered.{does-among, Does-none}
 use Rattle.ftl0_session.specs.Uploads.Failures.{Failure, failed_write}
 use Rattle.ftl0_session.specs.Uploads.Session.{is_same_call}
 use Rattle.ftl0_session.proofs.uploads.UploadRows.{same_call-decides}
-use Rattle.ftl0_session.specs.SessionState.{caller_of}
+use Rattle.ftl0_session.specs.SessionState.{caller_of, working_on}
+use Rattle.ftl0_session.specs.Uploads.SessionState.{with_disk}
 use Rattle.disk_model.specs.declared.halt.Halt.{Halt as Stop}
 use Rattle.disk_model.specs.declared.halt.Halt.TheVariants as stop
 use Rattle.ftl0_server.specs.Connection.Connected.{Connected}
@@ -171,7 +172,7 @@ module _ {D : Type 0} (g : Ghosts D) (old new : ServerState) (server : Server) (
       }
 
   module _ (event : List Failure → Happened) where
-    heard-by : (result : Result ⊤ Stop) → PlaceHearsBy g server.window event old.store new.store new.lists disk disk_now p result
+    heard-by : (result : Result ⊤ Stop) → PlaceHearsBy g server.window event (with_disk old.store disk) (working_on new.store new.lists disk_now) p result
         → HearsBy g (λ failures. heard_at server place (event failures)) old new disk disk_now result
     heard-by (Ok done) by = (
       by.0,
@@ -196,7 +197,7 @@ module _ {D : Type 0} (g : Ghosts D) (old new : ServerState) (server : Server) (
 
   pub server-hears : (result : Result ⊤ Stop)
       → ((w : Window) (d : Connected) → IsPlace w old.store (Talking c) (connected d)
-      → PlaceHears g w (hearing w moment (store_in old.store) old.lists d frame) old.store new.store new.lists disk disk_now p result)
+      → PlaceHears g w (hearing w moment (store_in old.store) old.lists d frame) (with_disk old.store disk) (working_on new.store new.lists disk_now) p result)
       → Hears g (server_hearing server frame moment) old new disk disk_now result
   server-hears result hears =
       let slot = slot_is in

@@ -10,10 +10,10 @@ use Rattle.file_store.proofs.Offered.{among-parked, Does-moved}
 use Rattle.ftl0_session.specs.Lists.Lists.{CallerList}
 use Rattle.ftl0_session.specs.Uploads.Failures.{Failure, failed_write}
 use Rattle.ftl0_session.specs.Uploads.Others.{KeepsOtherCallers}
-use Rattle.ftl0_session.specs.Uploads.SessionState.{IsOnlyOut, NoOtherOut, Parks}
+use Rattle.ftl0_session.specs.Uploads.SessionState.{IsOnlyOut, NoOtherOut, Parks, with_disk}
 use Rattle.ftl0_session.specs.declared.uploads.phase.Phase.{Phase}
 use Rattle.ftl0_session.specs.declared.uploads.phase.Phase.TheVariants as phase
-use Rattle.ftl0_session.specs.SessionState.{caller_of}
+use Rattle.ftl0_session.specs.SessionState.{caller_of, working_on}
 use Rattle.disk_model.specs.declared.halt.Halt.{Halt as Stop}
 use Rattle.disk_model.specs.declared.halt.Halt.TheVariants as stop
 use Rattle.ftl0_server.specs.Connection.ConnectionState.{ConnectionState, HearsBy, IsConnection}
@@ -42,8 +42,8 @@ module _ {D : Type 0} (g : Ghosts D) (w : Window) (event : List Failure → Happ
       → SendsAs w (Leaving connection.link) (slot_after happened)
   left happened over stands = subst (λ (b : Bool). SendsAs w (Leaving connection.link) (left_by b happened.after)) (sym over) stands
 
-  pub heard-over : (result : Result ⊤ Stop) → HearsBy g w event store mid lists disk disk_now connection Ends result
-      → PlaceHearsBy g w event store now lists disk disk_now (Leaving connection.link) result
+  pub heard-over : (result : Result ⊤ Stop) → HearsBy g w event (with_disk store disk) (working_on mid lists disk_now) connection Ends result
+      → PlaceHearsBy g w event (with_disk store disk) (working_on now lists disk_now) (Leaving connection.link) result
   heard-over (Ok done) by = (
     by.0,
     by.1.0,
@@ -71,8 +71,8 @@ module _ {D : Type 0} (g : Ghosts D) (w : Window) (event : List Failure → Happ
   going happened over is =
       subst (λ (b : Bool). IsPlace w now (Talking connection) (left_by b happened.after)) (sym over) (is.link, record { rest = is.rest; state = is.state })
 
-  pub heard-going : (result : Result ⊤ Stop) → HearsBy g w event store now lists disk disk_now connection Stays result
-      → PlaceHearsBy g w event store now lists disk disk_now (Talking connection) result
+  pub heard-going : (result : Result ⊤ Stop) → HearsBy g w event (with_disk store disk) (working_on now lists disk_now) connection Stays result
+      → PlaceHearsBy g w event (with_disk store disk) (working_on now lists disk_now) (Talking connection) result
   heard-going (Ok done) by = (by.0, by.1.0, going (event []) by.1.1.0 by.1.1.1, by.2)
   heard-going (Err stop.Disk) by = (by.0, by.1, (going (event (failed_write by.0)) by.2.1.0 by.2.1.1).0, by.3)
   heard-going (Err stop.OutOfMemory) by = (by.0, by.1, by.3)

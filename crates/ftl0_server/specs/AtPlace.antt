@@ -5,16 +5,15 @@ use Rattle.ax25_frames.specs.FrameText.{FrameValue}
 use Rattle.ax25_link.specs.Kept.{Fits, IsFromPeer, SameStations, is_pending}
 use Rattle.ax25_link.specs.Window.{Window}
 use Rattle.ax25_link.specs.declared.state.LinkState.TheVariants.{Up}
-use Rattle.ftl0_session.specs.Lists.Lists.{CallerList}
 use Rattle.file_store.specs.Calls.{Leaves}
 use Rattle.file_store.specs.OnDisk.{MakesFirst}
 use Rattle.file_store.specs.State.{StoreState, store_in}
 use Rattle.file_store.specs.Working.{CutsOffAmongReads, DoesAmongReads}
 use Rattle.ftl0_session.specs.Uploads.Failures.{Failure, failed_write}
 use Rattle.ftl0_session.specs.Uploads.Others.{KeepsOtherCallers}
-use Rattle.ftl0_session.specs.Uploads.SessionState.{IsHeld, IsOnlyOut, NoOtherOut, Parks}
+use Rattle.ftl0_session.specs.Uploads.SessionState.{IsHeld, IsOnlyOut, NoOtherOut, Parks, WithDisk}
 use Rattle.ftl0_session.specs.Downloads.Needs.{IsDueIn}
-use Rattle.ftl0_session.specs.SessionState.{caller_of}
+use Rattle.ftl0_session.specs.SessionState.{WorkingOn, caller_of}
 use Rattle.disk_model.specs.declared.halt.Halt.{Halt as Stop}
 use Rattle.disk_model.specs.declared.halt.Halt.TheVariants as stop
 use Rattle.ftl0_server.specs.Connection.ConnectionState.{ConnectionState, with_reads}
@@ -83,29 +82,29 @@ Works before now (Leaving link) new = (now ≡ before) × (new ≡ Leaving link)
 -- What a frame that is heard at a place does, where `event` gives what it makes of the connection there by the writes
 -- and syncs that fail in it: as the connection's call says it, but that the place is the one that is left.
 abbrev pub PlaceHearsBy :
-    {D : Type 0} → Ghosts D → Window → (List Failure → Happened) → StoreState → StoreState → List CallerList → D → D
-    → Place → Result ⊤ Stop → Type 0
-PlaceHearsBy g w event store store_now lists_now disk disk_now place (Ok done) =
-    ((event []).halt ≡ goes_on) × (lists_now ≡ (event []).lists) × IsPlace w store_now place (slot_after (event []))
-    × DoesAmongReads g ⊥ (event []).missed store store_now disk disk_now (event []).done
-PlaceHearsBy g w event store store_now lists_now disk disk_now place (Err stop.Disk) =
+    {D : Type 0} → Ghosts D → Window → (List Failure → Happened) → WithDisk StoreState D → WorkingOn D → Place
+    → Result ⊤ Stop → Type 0
+PlaceHearsBy g w event before now place (Ok done) =
+    ((event []).halt ≡ goes_on) × (now.lists ≡ (event []).lists) × IsPlace w now.store place (slot_after (event []))
+    × DoesAmongReads g ⊥ (event []).missed before.it now.store before.disk now.disk (event []).done
+PlaceHearsBy g w event before now place (Err stop.Disk) =
     (part : ℕ) × ((event (failed_write part)).halt ≡ fails) × SendsAs w place (slot_after (event (failed_write part)))
-    × CutsOffAmongReads g ⊤ (event (failed_write part)).missed store store_now disk disk_now
+    × CutsOffAmongReads g ⊤ (event (failed_write part)).missed before.it now.store before.disk now.disk
     (event (failed_write part)).done (event (failed_write part)).cut
-PlaceHearsBy g w event store store_now lists_now disk disk_now place (Err stop.OutOfMemory) =
+PlaceHearsBy g w event before now place (Err stop.OutOfMemory) =
     (part : ℕ) × ((event (failed_write part)).halt ≡ fails)
-    × DoesAmongReads g ⊥ (event (failed_write part)).missed store store_now disk disk_now
+    × DoesAmongReads g ⊥ (event (failed_write part)).missed before.it now.store before.disk now.disk
     (event (failed_write part)).done
 
 -- A frame was heard at a place, of which this is what it makes of the connection there by the failures of the disk;
 -- reads failed at these parts of it. Since it came each image stands for the store after the first of the commands that
 -- it has where no write and no sync fails, for some number of them.
 pub record PlaceHears {D : Type 0} (g : Ghosts D) (w : Window) (event : List Failure → Happened)
-    (store store_now : StoreState) (lists_now : List CallerList) (disk disk_now : D) (place : Place)
-    (result : Result ⊤ Stop) : Type 0 where
+    (before : WithDisk StoreState D) (now : WorkingOn D) (place : Place) (result : Result ⊤ Stop) : Type 0 where
   pub parts : List ℕ
-  pub by : PlaceHearsBy g w (with_reads event parts) store store_now lists_now disk disk_now place result
-  pub since : Leaves g disk disk_now (λ _. MakesFirst (store_in store) (with_reads event parts []).done)
+  pub by : PlaceHearsBy g w (with_reads event parts) before now place result
+  pub since :
+      Leaves g before.disk now.disk (λ _. MakesFirst (store_in before.it) (with_reads event parts []).done)
 
 -- whatever end the place's link stands for, it is one that frames can bring about
 abbrev pub PlaceFits : Place → Type 0

@@ -1,36 +1,20 @@
 -- Laws of a server's steps.
-use Rattle.std.specs.Prelude.{◌≡◌, ℕ, List, [], ◌∷◌, ⊤}
-use Rattle.ax25_frames.specs.FrameText.{FrameValue}
+use Rattle.std.specs.Prelude.{◌≡◌, List, [], ◌∷◌, ⊤}
 use Rattle.ax25_link.specs.Ends.{IsEnd}
 use Rattle.ax25_link.specs.Window.{Window}
-use Rattle.file_store.specs.Command.{Command}
 use Rattle.file_store.specs.Store.{Store}
 use Rattle.ftl0_session.specs.Uploads.Failures.{Failure}
 use Rattle.ftl0_server.specs.Connection.Laws.{IsQueued}
-use Rattle.ftl0_server.specs.Connection.Taking.{Halt}
 use Rattle.node.specs.Events.{NodeEvent}
 use Rattle.ftl0_server.specs.Server.{IsSilent, Server}
-use Rattle.ftl0_server.specs.ServerStep.{ServerStep}
+use Rattle.ftl0_server.specs.ServerStep.{ServerStep, Stepped}
 use Rattle.ftl0_server.specs.Slots.{Slot, connected, free, leaving}
-
--- what a step gives
-pub record SameStep (done those_done cut those_cut : List Command) (missed that_missed : ℕ) (halt that_halt : Halt)
-    (frames those : List FrameValue) (new that : Server) : Type 0 where
-  pub commands : done ≡ those_done
-  pub cuts : cut ≡ those_cut
-  pub misses : missed ≡ that_missed
-  pub halts : halt ≡ that_halt
-  pub sent : frames ≡ those
-  pub server : new ≡ that
 
 -- With these failures an event has at most one step, whether they list reads or not.
 abbrev pub OneStepLaw : Type 0
 OneStepLaw =
-    (old : Server) (event : NodeEvent) (failures : List Failure) (done those_done cut those_cut : List Command)
-    (missed that_missed : ℕ) (halt that_halt : Halt) (frames those : List FrameValue) (new that : Server)
-    → ServerStep old event failures done cut missed halt frames new
-    → ServerStep old event failures those_done those_cut that_missed that_halt those that
-    → SameStep done those_done cut those_cut missed that_missed halt that_halt frames those new that
+    (old : Server) (event : NodeEvent) (failures : List Failure) (one other : Stepped)
+    → ServerStep old event failures one → ServerStep old event failures other → one ≡ other
 
 -- the end at this place, if there is one, is such as frames and ticks bring about
 abbrev pub SlotFits : Window → Slot → Type 0
@@ -61,14 +45,9 @@ pub record MayStep (server : Server) : Type 0 where
 
 -- A step of the server for this event with these failures, after which it may step again.
 pub record HasStep (old : Server) (event : NodeEvent) (failures : List Failure) : Type 0 where
-  pub done : List Command
-  pub cut : List Command
-  pub missed : ℕ
-  pub halt : Halt
-  pub frames : List FrameValue
-  pub new : Server
-  pub step : ServerStep old event failures done cut missed halt frames new
-  pub may_step : MayStep new
+  pub gives : Stepped
+  pub step : ServerStep old event failures gives
+  pub may_step : MayStep gives.new
 
 -- With any failures an event has a step.
 abbrev pub SomeStepLaw : Type 0

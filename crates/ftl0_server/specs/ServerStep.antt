@@ -21,17 +21,30 @@ abbrev pub happening : Server → NodeEvent → List Failure → ServerHappened
 happening server (hears frame moment) failures = server_hearing server frame moment failures
 happening server (ticks moment) failures = becoming (server_ticking server)
 
--- Nothing is to be sent by the server as it was. The event comes, with these failures of the disk. These commands are
--- done, and, where the disk failed, in one of those; so many parts told that a read failed; these frames are sent;
--- and this is the server then, or, where it stops, its places.
-pub record ServerStep
-    (old : Server) (event : NodeEvent) (failures : List Failure) (done cut : List Command) (missed : ℕ)
-    (halt : Halt) (frames : List FrameValue) (new : Server) : Type 0 where
+-- What a step gives: the commands that are done, and, where the disk failed, those in one of which it did; how many
+-- parts told that a read failed; why no more was taken; the frames that are sent; and the server then, or, where it
+-- stops, its places.
+pub record Stepped : Type 0 where
+  pub done : List Command
+  pub cut : List Command
+  pub missed : ℕ
+  pub halt : Halt
+  pub frames : List FrameValue
+  pub new : Server
+
+-- by its parts
+abbrev pub stepped : List Command → List Command → ℕ → Halt → List FrameValue → Server → Stepped
+stepped done cut missed halt frames new =
+    record { done = done; cut = cut; missed = missed; halt = halt; frames = frames; new = new }
+
+-- Nothing is to be sent by the server as it was. The event comes, with these failures of the disk, and this is what it
+-- gives.
+pub record ServerStep (old : Server) (event : NodeEvent) (failures : List Failure) (gives : Stepped) : Type 0 where
   pub silent : IsSilent old
-  pub done_is : done ≡ (happening old event failures).done
-  pub cut_is : cut ≡ (happening old event failures).cut
-  pub missed_is : missed ≡ (happening old event failures).missed
-  pub halt_is : halt ≡ (happening old event failures).halt
+  pub done_is : gives.done ≡ (happening old event failures).done
+  pub cut_is : gives.cut ≡ (happening old event failures).cut
+  pub missed_is : gives.missed ≡ (happening old event failures).missed
+  pub halt_is : gives.halt ≡ (happening old event failures).halt
   pub last : Server
-  pub sent : Empties (happening old event failures).after frames last
-  pub new_is : new ≡ settled last
+  pub sent : Empties (happening old event failures).after gives.frames last
+  pub new_is : gives.new ≡ settled last

@@ -6,14 +6,14 @@ use Rattle.node.specs.Events.{NodeEvent}
 use Rattle.ftl0_session.specs.Uploads.Failures.{failed_reads}
 use Rattle.ftl0_server.specs.Connection.Taking.{goes_on}
 use Rattle.ftl0_server.specs.Server.{Server}
-use Rattle.ftl0_server.specs.ServerStep.{ServerStep, happening}
+use Rattle.ftl0_server.specs.ServerStep.{ServerStep, happening, stepped}
 
 -- The server takes an event at which no write and no sync fails: it sends these frames and does these commands. Reads
 -- fail at some parts of the event, or at none, and so many parts tell of one.
 pub record TakesEvent (server : Server) (event : NodeEvent) (sent : List FrameValue) (done : List Command)
     (told : ℕ) (next : Server) : Type 0 where
   pub parts : List ℕ
-  pub step : ServerStep server event (failed_reads parts) done [] told goes_on sent next
+  pub step : ServerStep server event (failed_reads parts) (stepped done [] told goes_on sent next)
 
 -- Over these events, at none of which it stops, the server comes from one to another, says these frames and does these
 -- commands; so many parts of them tell that a read failed.

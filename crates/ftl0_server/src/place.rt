@@ -7,6 +7,8 @@ ghost use Rattle.file_store.specs.EntriesKept.{KeepsComplete};
 ghost use Rattle.file_store.specs.State.{StandsOn, store_in};
 ghost use Rattle.file_store.specs.Working.{PutsAmongReads};
 ghost use Rattle.ftl0_session.specs.Downloads.Needs.{AreComplete};
+ghost use Rattle.ftl0_session.specs.Uploads.SessionState.{with_disk};
+ghost use Rattle.ftl0_session.specs.SessionState.{working_on};
 ghost use Rattle.ftl0_server.specs.Connection.Connected.{Connected};
 ghost use Rattle.ftl0_server.specs.Connection.Hearing.{hearing};
 ghost use Rattle.ftl0_server.specs.AtPlace.{HasEnded, HasLeft, IsPlace, MayEnd, MayHear, MayLeave, MayTick, PlaceFits};
@@ -113,7 +115,7 @@ impl Place {
         requires complete { AreComplete (store_in store.old) lists.old }
         ensures hears { (w : Window) (c : Connected) → IsPlace w store.old self.old (connected c) →
             PlaceHears D.Disk w (hearing w moment (store_in store.old) lists.old c (value_of frame.now))
-            store.old store.new lists.new disk.old disk.new self.new result }
+            (with_disk store.old disk.old) (working_on store.new lists.new disk.new) self.new result }
         ensures puts { PutsAmongReads D.Disk (IsErrOf result Halt.Disk) disk.old disk.new }
         ensures kept { KeepsComplete (store_in store.old) (store_in store.new) }
         ensures works { Works store.old store.new self.old self.new }

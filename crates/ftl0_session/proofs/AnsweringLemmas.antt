@@ -10,14 +10,14 @@ use Rattle.file_store.specs.State.{StoreState, store_in}
 use Rattle.file_store.specs.Store.{Store}
 use Rattle.ftl0_session.specs.declared.uploads.phase.Phase.{Phase}
 use Rattle.ftl0_session.specs.declared.uploads.phase.Phase.TheVariants as phase
-use Rattle.ftl0_session.specs.Answering.{IsAnswering, SendsSome, SendsTo, Session, met_with, octets_left}
+use Rattle.ftl0_session.specs.Answering.{IsAnswering, SendsSome, SendsTo, met_with, octets_left}
 use Rattle.ftl0_session.specs.Lists.Lists.{CallerList}
 use Rattle.ftl0_session.specs.Uploads.Events.{Event as Heard}
 use Rattle.ftl0_session.specs.Downloads.Needs.{IsDueIn}
 use Rattle.ftl0_session.specs.Downloads.Sending.{is_due, is_read, octets_due, state_after, state_at_end}
 use Rattle.ftl0_session.specs.Downloads.Sending as due
 use Rattle.ftl0_session.specs.Downloads.Table.{DownloadState, listing, ready, sending, waiting}
-use Rattle.ftl0_session.specs.Run.{RunsOver, Sends, event_row}
+use Rattle.ftl0_session.specs.Run.{RunsOver, Sends, Session, event_row, session_over}
 use Rattle.ftl0_session.specs.SessionState.{SessionState, state_in}
 use Rattle.ftl0_session.specs.Table.{DuePacket, Row, State, session_row, download_part, due_at, in_session, next_due, state_by}
 use Rattle.ftl0_session.specs.Uploads.Failures.{Failure, failed_reads, read_fails}
@@ -136,7 +136,7 @@ module _ (caller : CallSign) (start : Session) (event : Heard) where
 
     -- all of it
     pub answer-all : (now : Store) → now ≡ after_all start.store commands → ((fails : Bool) → next_due now state fails ≡ None)
-        → RunsOver caller start.store start.lists start.state (met_with event h.parts ∷ []) said commands now lists state
+        → RunsOver caller start (met_with event h.parts ∷ []) said commands (session_over now lists state)
     answer-all now is none =
         let store : now ≡ then_is = is ∙ ap (after_all start.store) h.commands_are in (
           h.row,

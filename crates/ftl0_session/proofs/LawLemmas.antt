@@ -2,14 +2,15 @@
 use Rattle.std.proofs.Common.{◌++◌, refl, ap, ◌∙◌, sym, subst}
 use Rattle.std.specs.Prelude.{Ok}
 use Rattle.ftl0_packets.specs.Layout.{data_end}
+use Rattle.ftl0_session.specs.Uploads.Laws.{kept}
 use Rattle.ftl0_session.specs.Uploads.Session as upload
 use Rattle.ftl0_session.proofs.uploads.AckLemmas.{acknowledged_stands as upload_stands}
 use Rattle.ftl0_session.proofs.uploads.UploadRows.{row-granted as upload_granted}
 use Rattle.ftl0_session.proofs.uploads.Uploads.{acknowledged as upload_acknowledged, resumed as upload_resumed}
 use Rattle.ftl0_session.specs.Downloads.Table.{ready}
 use Rattle.ftl0_session.specs.Laws.{Acknowledges, AcknowledgedLaw, AcknowledgedStandsLaw, GrantedLaw, ResumedLaw}
-use Rattle.ftl0_session.specs.Laws.{UploadsLaw}
-use Rattle.ftl0_session.specs.Table.{Row, by_upload, state_by}
+use Rattle.ftl0_session.specs.Laws.{StandsAcknowledged, UploadsLaw}
+use Rattle.ftl0_session.specs.Table.{Row, state_by}
 use Rattle.ftl0_session.proofs.RowLemmas.{row-upload, upload-free}
 
 pub uploads : UploadsLaw
@@ -40,10 +41,6 @@ acknowledged caller moment store lists number entry held rest fails under_way al
 pub acknowledged_stands : AcknowledgedStandsLaw
 acknowledged_stands caller start store lists fails commands moment number entry held rest is whole =
     let given = upload_stands caller start store commands moment number entry held rest is whole in
-    record {
-      row = by_upload lists given.row;
-      is_row = uploads caller moment store lists (upload.receiving number rest) (Ok data_end) fails given.row given.is_row;
-      replies = given.replies;
-      some = given.some;
-      stands = given.stands;
-    }
+    subst (λ (row : Row). StandsAcknowledged row start commands number (kept entry (held ++ rest) moment))
+    (sym (uploads caller moment store lists (upload.receiving number rest) (Ok data_end) fails given.row given.is_row))
+    (record { replies = given.replies; some = given.some; stands = given.stands })

@@ -5,7 +5,7 @@ use Rattle.ftl0_packets.specs.Layout.{PacketValue}
 use Rattle.ftl0_session.specs.Lists.Lists.{CallerList}
 use Rattle.file_store.specs.Command.{Command, after_all}
 use Rattle.file_store.specs.Store.{Store}
-use Rattle.ftl0_session.specs.Run.{Event as MetEvent, RunsOver, event_row}
+use Rattle.ftl0_session.specs.Run.{Event as MetEvent, RunsOver, event_row, session_over}
 use Rattle.ftl0_session.specs.RunLaws.{ComesTo, RunsLaw}
 use Rattle.ftl0_session.specs.Table.{Row, State}
 use Rattle.ftl0_session.proofs.RunLemmas.{commands}
@@ -14,7 +14,7 @@ use Rattle.ftl0_session.proofs.RunLemmas.{commands}
 comes-to :
     (caller : CallSign) (store : Store) (lists : List CallerList) (state : State) (earlier : List MetEvent) (next : MetEvent) (later : List MetEvent) (said : List PacketValue) (commands : List Command)
     (now : Store) (lists_n : List CallerList) (last : State)
-    → RunsOver caller store lists state (earlier ++ next ∷ later) said commands now lists_n last → ComesTo caller store lists state earlier next commands
+    → RunsOver caller (session_over store lists state) (earlier ++ next ∷ later) said commands (session_over now lists_n last) → ComesTo caller store lists state earlier next commands
 comes-to caller store lists state [] next later said commands now lists_n last h = record {
   said = [];
   before = [];
@@ -45,8 +45,8 @@ module _ (caller : CallSign) where
   pub runs-trans :
       (store : Store) (lists : List CallerList) (state : State) (events : List MetEvent) (said : List PacketValue) (commands : List Command) (mid : Store) (lists_m : List CallerList) (between : State)
       (others : List MetEvent) (more : List PacketValue) (further : List Command) (now : Store) (lists_n : List CallerList) (next : State)
-      → RunsOver caller store lists state events said commands mid lists_m between → RunsOver caller mid lists_m between others more further now lists_n next
-      → RunsOver caller store lists state (events ++ others) (said ++ more) (commands ++ further) now lists_n next
+      → RunsOver caller (session_over store lists state) events said commands (session_over mid lists_m between) → RunsOver caller (session_over mid lists_m between) others more further (session_over now lists_n next)
+      → RunsOver caller (session_over store lists state) (events ++ others) (said ++ more) (commands ++ further) (session_over now lists_n next)
   runs-trans store lists state [] said commands mid lists_m between others more further now lists_n next h k = rw (h.0, h.1, sym h.2, sym h.3, sym h.4) k
   runs-trans store lists state (e ∷ events) said commands mid lists_m between others more further now lists_n next h k = (
     h.0,

@@ -7,7 +7,7 @@ use Rattle.ftl0_session.specs.Uploads.Run.{commands_of, on_row, replies_to, stat
 use Rattle.ftl0_session.specs.Uploads.Session as upload
 use Rattle.ftl0_session.proofs.uploads.Rows.{row-some}
 use Rattle.ftl0_session.specs.Downloads.Table.{ready}
-use Rattle.ftl0_session.specs.Run.{CommandsLaw, RunsOver, UploadRunLaw, as_event, event_row}
+use Rattle.ftl0_session.specs.Run.{CommandsLaw, RunsOver, UploadRunLaw, as_event, event_row, session_over}
 use Rattle.ftl0_session.specs.Table.{by_upload, due_at, state_by}
 use Rattle.ftl0_session.proofs.RowLemmas.{row-upload, upload-free}
 
@@ -44,8 +44,7 @@ upload_run caller store lists part (event ∷ events) all =
     ap (λ (o : Option upload.Row). on_row o store (λ r. store_after caller (after_all store r.commands) r.state events)) has.1 in
     let state_is : state_after caller store part (event ∷ events) ≡ state_after caller (after_all store row.commands) row.state events =
     ap (λ (o : Option upload.Row). on_row o part (λ r. state_after caller (after_all store r.commands) r.state events)) has.1 in
-    let P : Store → upload.State → Type 0 = λ s p. RunsOver caller (after_all store row.commands) lists (state_by row.state ready) (map as_event events)
-    (replies_to caller (after_all store row.commands) row.state events) (commands_of caller (after_all store row.commands) row.state events) s lists (state_by p ready) in
+    let P : Store → upload.State → Type 0 = λ s p. RunsOver caller (session_over (after_all store row.commands) lists (state_by row.state ready)) (map as_event events) (replies_to caller (after_all store row.commands) row.state events) (commands_of caller (after_all store row.commands) row.state events) (session_over s lists (state_by p ready)) in
     let first = subst (λ (s : Store). P s (state_after caller (after_all store row.commands) row.state events)) (sym store_is) later in
     let all_of = subst (λ (p : upload.State). P (store_after caller store part (event ∷ events)) p) (sym state_is) first in (
       by_upload lists row,

@@ -19,13 +19,14 @@ use Rattle.ftl0_session.specs.Uploads.SessionState.{SessionState as Uploading, s
 use Rattle.ftl0_session.proofs.uploads.Rows.{others-same}
 use Rattle.ftl0_session.specs.Downloads.Needs.{AreComplete, IsDueIn}
 use Rattle.ftl0_session.specs.Downloads.Table.{DownloadRow, DownloadState}
-use Rattle.ftl0_session.specs.Downloads.Taking.{IsRow, Made, made, made_by}
+use Rattle.ftl0_session.specs.Downloads.Taking.{IsRow, Made, TakesByRow, made, made_by}
 use Rattle.disk_model.specs.declared.halt.Halt.{Halt}
 use Rattle.disk_model.specs.declared.halt.Halt.TheVariants as stop
-use Rattle.ftl0_session.specs.SessionState.{DoesOne, MayTake, SessionState, caller_of, session_of, state_in}
+use Rattle.ftl0_session.specs.SessionState.{DoesOne, MayTake, SessionState, caller_of, session_of, state_in, working_on}
 use Rattle.ftl0_session.specs.Table.{Row, by_download, download_row, downloading, error_by, error_row, state_by}
 use Rattle.ftl0_session.specs.Table.{upload_row}
-use Rattle.ftl0_session.specs.Taking.{Taken, TakesDownload, row_over, working}
+use Rattle.ftl0_session.specs.Taking.{Taken, download_row_of, row_over, working}
+use Rattle.ftl0_session.specs.Uploads.Events.{packet_of}
 use Rattle.ftl0_session.proofs.RowLemmas.{download-command, row-download, row-error}
 
 -- the answer that all was done
@@ -64,7 +65,7 @@ module _ {D : Type 0} (g : Ghosts D) where
   still : (moment : ℕ) (item : Item) (old new : SessionState) (store : StoreState) (lists lists_now : List CallerList) (disk disk_now : D) (replies : List ℕ) (fails : Bool) (row : Row)
       → row_over (caller_of old) moment (working old store lists) item fails ≡ row → row.commands ≡ [] → lists_now ≡ row.lists → state_in store new ≡ row.state → replies ≡ texts row.replies
       → (fails ≡ true → row.replies ≡ dl_error_resp 3 ∷ []) → Reads g (IsTrue fails) disk disk_now → new.uploads ≡ old.uploads → MayTake g store disk_now lists_now new → g.lasts disk_now disk_now
-      → Taken g moment item old new store store lists lists_now disk disk_now replies answered
+      → Taken g (packet_of (caller_of old) moment item) old new (working_on store lists disk) (working_on store lists_now disk_now) replies answered
   still moment item old new store lists lists_now disk disk_now replies fails row is none lists_are state text told reads same may lasts =
       let fine : ¬ IsErrOf answered stop.Disk = λ e. cc e in
       let commands : (row_over (caller_of old) moment (working old store lists) item fails).commands ≡ [] = ap (λ (r : Row). r.commands) is ∙ none in
@@ -102,8 +103,8 @@ module _ {D : Type 0} (g : Ghosts D) where
       (none : upload_row uploads.caller moment (store_in store) (state_in store (session_of uploads part)) item ≡ None)
       (may : MayTake g store disk_now lists_now (session_of uploads part_now)) (lasts : g.lasts disk_now disk_now) where
     -- the packet's row of downloading
-    pub taken-download : (replies : List ℕ) → TakesDownload g item uploads part part_now store lists lists_now disk disk_now replies true
-        → Taken g moment item (session_of uploads part) (session_of uploads part_now) store store lists lists_now disk disk_now replies answered
+    pub taken-download : (replies : List ℕ) → TakesByRow g (download_row_of (session_of uploads part) store lists item) disk disk_now (made part lists []) (made part_now lists_now replies) true
+        → Taken g (packet_of uploads.caller moment item) (session_of uploads part) (session_of uploads part_now) (working_on store lists disk) (working_on store lists_now disk_now) replies answered
     taken-download replies takes =
         let has = row-taken (download_row uploads.caller (store_in store) lists (state_in store (session_of uploads part)) item takes.fails) disk disk_now
         (made part lists []) (made part_now lists_now replies) takes.is_row in
@@ -118,8 +119,8 @@ module _ {D : Type 0} (g : Ghosts D) where
 
     -- error 1
     pub taken-error : (given replies : List ℕ) (of_uploading : Bool) → of_uploading ≡ is_upload_kind (kind_of_item item) → replies ≡ packet_text (error_by of_uploading)
-        → TakesDownload g item uploads part part_now store lists lists_now disk disk_now given false
-        → Taken g moment item (session_of uploads part) (session_of uploads part_now) store store lists lists_now disk disk_now replies answered
+        → TakesByRow g (download_row_of (session_of uploads part) store lists item) disk disk_now (made part lists []) (made part_now lists_now given) false
+        → Taken g (packet_of uploads.caller moment item) (session_of uploads part) (session_of uploads part_now) (working_on store lists disk) (working_on store lists_now disk_now) replies answered
     taken-error given replies of_uploading kind text takes =
         let none_of = row-passed (download_row uploads.caller (store_in store) lists (state_in store (session_of uploads part)) item takes.fails) disk disk_now
         (made part lists []) (made part_now lists_now given) takes.is_row in

@@ -7,7 +7,7 @@ use Rattle.ftl0_packets.specs.Items.{kind_of_item, texts}
 use Rattle.ftl0_packets.specs.Layout.{Item}
 use Rattle.ftl0_session.specs.Lists.Lists.{CallerList}
 use Rattle.file_store.specs.Calls.{ChangesReads, Puts}
-use Rattle.file_store.proofs.Offered.{at_told, puts_same, reads-none, reads_none}
+use Rattle.file_store.proofs.Offered.{at_told, reads-none, reads_none}
 use Rattle.file_store.specs.Command.{Command, DoesAll}
 use Rattle.file_store.specs.EntriesKept.{KeepsComplete}
 use Rattle.file_store.specs.OnDisk.{Does}
@@ -22,9 +22,10 @@ use Rattle.ftl0_session.proofs.uploads.Rows.{row-some}
 use Rattle.ftl0_session.specs.Downloads.Needs.{AreComplete}
 use Rattle.ftl0_session.specs.Downloads.Table.{ready}
 use Rattle.disk_model.specs.declared.halt.Halt.TheVariants as stop
-use Rattle.ftl0_session.specs.SessionState.{session_of}
+use Rattle.ftl0_session.specs.SessionState.{session_of, working_on}
 use Rattle.ftl0_session.specs.Table.{Row, State, by_upload, state_by, takes_memory}
 use Rattle.ftl0_session.specs.Taking.{Answers, PutsRow, Taken, Working, row_over, working}
+use Rattle.ftl0_session.specs.Uploads.Events.{packet_of}
 use Rattle.ftl0_session.proofs.RowLemmas.{row-upload, upload-free, upload_part-free}
 
 -- what a session works on, by its parts
@@ -49,7 +50,7 @@ module _ {D : Type 0} (g : Ghosts D) (moment : ℕ) (item : Item) (uploads uploa
   row-is given is fails =
       row-upload uploads.caller moment (store_in store) lists (state_by part ready) item fails given (upload-free uploads.caller moment (store_in store) part item ∙ is)
 
-  answers-by : (given : Result ⊤ Halt) → UploadAnswers uploads.caller moment store part item store_now (state_of store_now uploads_now.phase) replies given
+  answers-by : (given : Result ⊤ Halt) → UploadAnswers (packet_of uploads.caller moment item) store part store_now (state_of store_now uploads_now.phase) replies given
       → Answers before item (row false) now replies given
   answers-by (Ok done) said =
       let is = row-is said.0 said.1 false in (
@@ -71,8 +72,8 @@ module _ {D : Type 0} (g : Ghosts D) (moment : ℕ) (item : Item) (uploads uploa
         said.3.2,
       )
 
-  on_disk-by : (given : Result ⊤ Halt) → UploadAnswers uploads.caller moment store part item store_now (state_of store_now uploads_now.phase) replies given
-      → UploadPuts g store store_now disk disk_now (row_of uploads.caller moment store part item) given → PutsRow g store store_now disk disk_now (row false) given
+  on_disk-by : (given : Result ⊤ Halt) → UploadAnswers (packet_of uploads.caller moment item) store part store_now (state_of store_now uploads_now.phase) replies given
+      → UploadPuts g store store_now disk disk_now (row_of (packet_of uploads.caller moment item) store part) given → PutsRow g store store_now disk disk_now (row false) given
   on_disk-by (Ok done) said puts =
       subst (λ (cs : List Command). Does g ⊥ store store_now disk disk_now cs) (sym (ap (λ (r : Row). r.commands) (row-is said.0 said.1 false)))
       (at_told (λ (r : upload.Row). Does g ⊥ store store_now disk disk_now r.commands) said.0 said.1 puts)
@@ -82,13 +83,13 @@ module _ {D : Type 0} (g : Ghosts D) (moment : ℕ) (item : Item) (uploads uploa
   on_disk-by (Err stop.OutOfMemory) said puts = puts
 
   pub taken-upload : (given : Result ⊤ Halt) → is_upload_kind (kind_of_item item) ≡ true
-      → UploadAnswers uploads.caller moment store part item store_now (state_of store_now uploads_now.phase) replies given
-      → UploadPuts g store store_now disk disk_now (row_of uploads.caller moment store part item) given
-      → LeavesDisk disk disk_now (row_of uploads.caller moment store part item) → Puts g (IsErrOf given stop.Disk) disk disk_now
+      → UploadAnswers (packet_of uploads.caller moment item) store part store_now (state_of store_now uploads_now.phase) replies given
+      → UploadPuts g store store_now disk disk_now (row_of (packet_of uploads.caller moment item) store part) given
+      → LeavesDisk disk disk_now (row_of (packet_of uploads.caller moment item) store part) → Puts g (IsErrOf given stop.Disk) disk disk_now
       → (IsErrOf given stop.Disk → store_now.journal.failed ≡ true) → KeepsComplete (store_in store) (store_in store_now) → KeepsOtherCallers store store_now uploads.caller
       → uploads_now.caller ≡ uploads.caller → (¬ IsErrOf given stop.Disk → store_now.journal.failed ≡ false) → StandsOn g store_now disk_now
       → IsHeld store_now uploads_now → IsOnlyOut store_now uploads_now → AreComplete (store_in store_now) lists → g.lasts disk disk
-      → Taken g moment item (session_of uploads ready) (session_of uploads_now ready) store store_now lists lists disk disk_now replies given
+      → Taken g (packet_of uploads.caller moment item) (session_of uploads ready) (session_of uploads_now ready) (working_on store lists disk) (working_on store_now lists disk_now) replies given
   taken-upload given kind said on_disk untouched puts failed kept others caller healthy stands held only complete lasts =
       let has = row-some uploads.caller moment (store_in store) part item kind in
       let same : has.0.commands ≡ [] → disk_now ≡ disk = at_told (λ (r : upload.Row). r.commands ≡ [] → disk_now ≡ disk) has.0 has.1 untouched in

@@ -23,6 +23,9 @@ use Rattle.ftl0_session.specs.Filling.{IsDue, PutsDue}
 use Rattle.ftl0_session.specs.Table.{DuePacket, Row, State, download_part, due_at, in_session, next_due, row_at}
 use Rattle.ftl0_session.specs.Table.{failed_reads_told, tells_failed_read}
 use Rattle.ftl0_session.specs.Taking.{TakesPacket, Working, row_over}
+use Rattle.ftl0_session.specs.Downloads.Filling.{filled}
+use Rattle.ftl0_session.specs.Uploads.Events.{packet_of}
+use Rattle.ftl0_session.specs.Uploads.SessionState.{with_disk}
 use Rattle.ftl0_session.proofs.FaultLemmas.{due_codes, fault_codes}
 
 -- ---- a read that failed is told, and no other
@@ -50,14 +53,14 @@ told-append (x ∷ xs) ys =
 module _ {D : Type 0} (g : Ghosts D) (on : (first second third : D) → g.lasts first second → g.lasts second third → g.lasts first third)
     (caller : CallSign) (moment : ℕ) (item : Item) (before now : Working) (disk disk_now : D) (replies : List ℕ) (healthy : before.store.journal.failed ≡ false) (stands : StandsOn g before.store disk) where
   -- its reads
-  first : (result : Result ⊤ Halt) (takes : TakesPacket g caller moment item before now disk disk_now replies result)
+  first : (result : Result ⊤ Halt) (takes : TakesPacket g (packet_of caller moment item) (with_disk before disk) (with_disk now disk_now) replies result)
       → DoesAmongReads g ⊥ (failed_reads_told (row_over caller moment before item takes.fails).replies) before.store before.store disk takes.disk_then []
   first result takes =
       among-same g ⊥ ⊥ (one_if takes.fails) (failed_reads_told (row_over caller moment before item takes.fails).replies) before.store before.store disk takes.disk_then [] (λ p. p) (λ p. p)
       (sym (told-is caller moment item before takes.fails takes.told)) (reads-only g takes.fails before.store disk takes.disk_then takes.reads healthy stands)
 
   -- its row's commands are done
-  pub taken-among : (done : ⊤) (takes : TakesPacket g caller moment item before now disk disk_now replies (Ok done))
+  pub taken-among : (done : ⊤) (takes : TakesPacket g (packet_of caller moment item) (with_disk before disk) (with_disk now disk_now) replies (Ok done))
       → DoesAmongReads g ⊥ (failed_reads_told (row_over caller moment before item takes.fails).replies) before.store now.store disk disk_now (row_over caller moment before item takes.fails).commands
   taken-among done takes =
       let row : Row = row_over caller moment before item takes.fails in
@@ -67,14 +70,14 @@ module _ {D : Type 0} (g : Ghosts D) (on : (first second third : D) → g.lasts 
       (does-among g ⊥ before.store now.store takes.disk_then disk_now row.commands takes.on_disk))
 
   -- the disk failed in one of them
-  pub taken-cut : (takes : TakesPacket g caller moment item before now disk disk_now replies (Err stop.Disk))
+  pub taken-cut : (takes : TakesPacket g (packet_of caller moment item) (with_disk before disk) (with_disk now disk_now) replies (Err stop.Disk))
       → CutsOffAmongReads g ⊤ (failed_reads_told (row_over caller moment before item takes.fails).replies) before.store now.store disk disk_now [] (row_over caller moment before item takes.fails).commands
   taken-cut takes =
       let row : Row = row_over caller moment before item takes.fails in
       cuts-among-cut g ⊤ (failed_reads_told row.replies) before.store before.store now.store disk takes.disk_then disk_now [] row.commands (first (Err stop.Disk) takes) takes.on_disk
 
   -- there was no memory
-  pub taken-none : (takes : TakesPacket g caller moment item before now disk disk_now replies (Err stop.OutOfMemory))
+  pub taken-none : (takes : TakesPacket g (packet_of caller moment item) (with_disk before disk) (with_disk now disk_now) replies (Err stop.OutOfMemory))
       → (now.store ≡ before.store) × DoesAmongReads g ⊥ (failed_reads_told (row_over caller moment before item takes.fails).replies) before.store before.store disk disk_now []
   taken-none takes = (
     ap (λ (w : Working). w.store) takes.answers.1,
@@ -113,7 +116,7 @@ pub record Sent {D : Type 0} (g : Ghosts D) (files : StoreState) (disk disk_now 
   pub does : DoesAmongReads g ⊥ (one_if (tells_failed_read next.packet)) files files disk disk_now []
 
 module _ {D : Type 0} (g : Ghosts D) (files : StoreState) (disk disk_now : D) (state state_now : State) (out out_now : List ℕ) where
-  pub due-among : (puts : PutsDue g (store_in files) disk disk_now state state_now out out_now true) → files.journal.failed ≡ false → StandsOn g files disk
+  pub due-among : (puts : PutsDue g (store_in files) (filled disk state out) (filled disk_now state_now out_now) true) → files.journal.failed ≡ false → StandsOn g files disk
       → Sent g files disk disk_now state state_now out_now puts.fails
   due-among puts healthy stands =
       let has = due-put (next_due (store_in files) state puts.fails) disk disk_now state state_now out out_now puts.is_due in
@@ -130,7 +133,7 @@ module _ {D : Type 0} (g : Ghosts D) (files : StoreState) (disk disk_now : D) (s
       }
 
   -- nothing was due, whether a read fails or none does
-  pub due-none : PutsDue g (store_in files) disk disk_now state state_now out out_now false
+  pub due-none : PutsDue g (store_in files) (filled disk state out) (filled disk_now state_now out_now) false
       → ((fails : Bool) → next_due (store_in files) state fails ≡ None) × (disk_now ≡ disk) × (state_now ≡ state) × (out_now ≡ out)
   due-none puts =
       let none = due-not (next_due (store_in files) state puts.fails) disk disk_now state state_now out out_now puts.is_due in

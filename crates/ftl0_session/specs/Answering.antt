@@ -9,14 +9,8 @@ use Rattle.ftl0_session.specs.Uploads.Events.{Event as Heard}
 use Rattle.ftl0_session.specs.Uploads.Failures.{Failure, failed_reads, read_fails}
 use Rattle.ftl0_session.specs.Downloads.Sending.{is_due, octets_due}
 use Rattle.ftl0_session.specs.Downloads.Table.{DownloadState}
-use Rattle.ftl0_session.specs.Run.{Event, event_row}
+use Rattle.ftl0_session.specs.Run.{Event, Session, event_row}
 use Rattle.ftl0_session.specs.Table.{Row, State, due_at}
-
--- a session between two packets: the store, the lists of all callers, and its state
-pub record Session : Type 0 where
-  pub store : Store
-  pub lists : List CallerList
-  pub state : State
 
 -- an event at some of whose parts reads failed
 abbrev pub met_with : Heard → List ℕ → Event

@@ -13,7 +13,7 @@ use Rattle.ftl0_session.specs.Downloads.Sending.{is_due, octets_due, state_at_en
 use Rattle.ftl0_session.specs.Downloads.Table.{DownloadRow, DownloadState, asked_file, download_row, file_of}
 use Rattle.ftl0_session.specs.Downloads.Table.{listed_files}
 use Rattle.ftl0_session.specs.Downloads.Table.{lists_after, octets_in, short_octets}
-use Rattle.ftl0_session.specs.Run.{Event, RunsOver, Sends}
+use Rattle.ftl0_session.specs.Run.{Event, RunsOver, Sends, session_over}
 use Rattle.ftl0_session.specs.Table.{State, by_download, command, downloading, session_row, waiting}
 
 -- Each row of downloading is a row of the whole table, in the state in which nothing is done of uploading, whether a
@@ -46,7 +46,8 @@ pub record SaysAll (caller : CallSign) (store : Store) (lists : List CallerList)
     (lists_now : List CallerList) (next : State) : Type 0 where
   pub pieces : List (List ℕ)
   pub runs :
-      RunsOver caller store lists command (event ∷ []) (map data_part pieces ++ data_end ∷ []) [] store lists_now next
+      RunsOver caller (session_over store lists command) (event ∷ []) (map data_part pieces ++ data_end ∷ []) []
+      (session_over store lists_now next)
   pub all : flat_map (λ piece. piece) pieces ≡ octets
 
 -- A complete file that is asked for from an offset on, up to its length, is sent exactly from there to its end: the

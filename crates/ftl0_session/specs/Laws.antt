@@ -62,28 +62,27 @@ AcknowledgedLaw =
     → Acknowledges store lists number entry (held ++ rest) moment
     (session_row caller moment store lists (receiving number rest) (Ok data_end) fails)
 
--- Over the store that these commands come to, DATA_END's row has commands and replies UL_ACK_RESP. In each image that
--- stands for the store after at least these commands and the row's, whatever commands come behind them, the file's
--- entry is complete with the octets that came, stamped.
-pub record StandsAcknowledged (caller : CallSign) (start store : Store) (lists : List CallerList) (fails : Bool)
-    (commands : List Command) (moment number : ℕ) (entry : Entry) (file rest : List ℕ) : Type 0 where
-  pub row : Row
-  pub is_row : session_row caller moment store lists (receiving number rest) (Ok data_end) fails ≡ row
+-- The row comes behind these commands, has commands and replies UL_ACK_RESP. In each image that stands for the store
+-- after at least these commands and the row's, whatever commands come behind them, this is the entry of the number.
+pub record StandsAcknowledged (row : Row) (start : Store) (commands : List Command) (number : ℕ) (entry : Entry) :
+    Type 0 where
   pub replies : row.replies ≡ ul_ack_resp ∷ []
   pub some : 1 ≤ length row.commands
   pub stands :
       (others : List Command) (least most : ℕ) (image : List ℕ)
       → AreAllowed start (commands ++ (row.commands ++ others)) → length commands + length row.commands ≤ least
       → MakesBetween least most start (commands ++ (row.commands ++ others)) image
-      → HasEntry number (kept entry file moment) image
+      → HasEntry number entry image
 
--- So it is whatever the commands before were, of this session or of others.
+-- DATA_END's row over the store that these commands come to is so, whatever they were, of this session or of others:
+-- the file's entry is then complete with the octets that came, stamped.
 abbrev pub AcknowledgedStandsLaw : Type 0
 AcknowledgedStandsLaw =
     (caller : CallSign) (start store : Store) (lists : List CallerList) (fails : Bool) (commands : List Command)
     (moment number : ℕ) (entry : Entry) (held rest : List ℕ) → store ≡ after_all start commands
     → IsWhole store number entry held rest
-    → StandsAcknowledged caller start store lists fails commands moment number entry (held ++ rest) rest
+    → StandsAcknowledged (session_row caller moment store lists (receiving number rest) (Ok data_end) fails) start
+    commands number (kept entry (held ++ rest) moment)
 
 -- Where no read fails the row tells of none, and it never replies UL_ERROR_RESP 3 or UL_NAK_RESP 3.
 pub record KeepsFaultCodes (row : Bool → Row) : Type 0 where

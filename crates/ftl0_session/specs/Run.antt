@@ -21,6 +21,16 @@ pub record Event : Type 0 where
   pub packet : Item
   pub failures : List Failure
 
+-- a session between two packets: the store, the lists of all callers, and its state
+pub record Session : Type 0 where
+  pub store : Store
+  pub lists : List CallerList
+  pub state : State
+
+-- by its parts
+abbrev pub session_over : Store → List CallerList → State → Session
+session_over store lists state = record { store = store; lists = lists; state = state }
+
 -- the row of an event's packet
 abbrev pub event_row : CallSign → Store → List CallerList → State → Event → Row
 event_row caller store lists state event =
@@ -36,24 +46,24 @@ Sends store state failures part (packet ∷ packets) now =
 
 -- Over these events, of whose failures the reads alone count, the session comes from one store, lists and state
 -- to another: it says these packets, all that is due right behind each packet's replies, and does these commands.
-abbrev pub RunsOver :
-    CallSign → Store → List CallerList → State → List Event → List PacketValue → List Command → Store
-    → List CallerList → State → Type 0
-RunsOver caller store lists state [] said commands now lists_now next =
-    (said ≡ []) × (commands ≡ []) × (now ≡ store) × (lists_now ≡ lists) × (next ≡ state)
-RunsOver caller store lists state (event ∷ events) said commands now lists_now next =
+abbrev pub RunsOver : CallSign → Session → List Event → List PacketValue → List Command → Session → Type 0
+RunsOver caller before [] said commands now =
+    (said ≡ []) × (commands ≡ []) × (now.store ≡ before.store) × (now.lists ≡ before.lists)
+    × (now.state ≡ before.state)
+RunsOver caller before (event ∷ events) said commands now =
     (row : Row) × (sent : List PacketValue) × (state_then : State) × (more : List PacketValue) × (others : List Command)
-    × (event_row caller store lists state event ≡ row)
-    × Sends (after_all store row.commands) row.state event.failures 1 sent state_then
+    × (event_row caller before.store before.lists before.state event ≡ row)
+    × Sends (after_all before.store row.commands) row.state event.failures 1 sent state_then
     × (said ≡ row.replies ++ (sent ++ more)) × (commands ≡ row.commands ++ others)
-    × RunsOver caller (after_all store row.commands) row.lists state_then events more others now lists_now next
+    × RunsOver caller (session_over (after_all before.store row.commands) row.lists state_then) events more others now
 
 -- the store that a session comes to is the one after its commands
 abbrev pub CommandsLaw : Type 0
 CommandsLaw =
     (caller : CallSign) (store : Store) (lists : List CallerList) (state : State) (events : List Event)
     (said : List PacketValue) (commands : List Command) (now : Store) (lists_now : List CallerList) (next : State)
-    → RunsOver caller store lists state events said commands now lists_now next → now ≡ after_all store commands
+    → RunsOver caller (session_over store lists state) events said commands (session_over now lists_now next)
+    → now ≡ after_all store commands
 
 -- what was heard of an event: its packet and its moment, whatever failed
 abbrev pub heard_of : Event → UploadEvent
@@ -73,6 +83,6 @@ abbrev pub UploadRunLaw : Type 0
 UploadRunLaw =
     (caller : CallSign) (store : Store) (lists : List CallerList) (part : upload.State) (events : List UploadEvent)
     → AreUploads events
-    → RunsOver caller store lists (state_by part ready) (map as_event events) (replies_to caller store part events)
-    (commands_of caller store part events) (store_after caller store part events) lists
-    (state_by (state_after caller store part events) ready)
+    → RunsOver caller (session_over store lists (state_by part ready)) (map as_event events)
+    (replies_to caller store part events) (commands_of caller store part events)
+    (session_over (store_after caller store part events) lists (state_by (state_after caller store part events) ready))

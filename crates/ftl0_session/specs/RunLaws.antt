@@ -5,7 +5,7 @@ use Rattle.ftl0_packets.specs.Layout.{PacketValue}
 use Rattle.ftl0_session.specs.Lists.Lists.{CallerList}
 use Rattle.file_store.specs.Command.{Command, after_all}
 use Rattle.file_store.specs.Store.{Store}
-use Rattle.ftl0_session.specs.Run.{Event, RunsOver, event_row}
+use Rattle.ftl0_session.specs.Run.{Event, RunsOver, event_row, session_over}
 use Rattle.ftl0_session.specs.Table.{State}
 
 -- A session that did these commands came to this event behind the earlier ones, over a store and lists and in a state.
@@ -17,7 +17,9 @@ pub record ComesTo (caller : CallSign) (start : Store) (lists : List CallerList)
   pub store_then : Store
   pub lists_then : List CallerList
   pub state_then : State
-  pub runs : RunsOver caller start lists state earlier said before store_then lists_then state_then
+  pub runs :
+      RunsOver caller (session_over start lists state) earlier said before
+      (session_over store_then lists_then state_then)
   pub others : List Command
   pub commands_are :
       commands ≡ before ++ ((event_row caller store_then lists_then state_then next).commands ++ others)
@@ -28,10 +30,12 @@ pub record RunsLaw : Type 0 where
   pub store :
       (caller : CallSign) (start : Store) (lists : List CallerList) (state : State) (events : List Event)
       (said : List PacketValue) (commands : List Command) (now : Store) (lists_now : List CallerList) (next : State)
-      → RunsOver caller start lists state events said commands now lists_now next → now ≡ after_all start commands
+      → RunsOver caller (session_over start lists state) events said commands (session_over now lists_now next)
+      → now ≡ after_all start commands
   pub comes_to :
       (caller : CallSign) (start : Store) (lists : List CallerList) (state : State) (earlier : List Event)
       (next : Event) (later : List Event) (said : List PacketValue) (commands : List Command) (now : Store)
       (lists_now : List CallerList) (last : State)
-      → RunsOver caller start lists state (earlier ++ next ∷ later) said commands now lists_now last
+      → RunsOver caller (session_over start lists state) (earlier ++ next ∷ later) said commands
+      (session_over now lists_now last)
       → ComesTo caller start lists state earlier next commands

@@ -28,6 +28,16 @@ new_session caller = session_of (upload.new_session caller) ready
 abbrev pub caller_of : SessionState → CallSign
 caller_of session = session.uploads.caller
 
+-- what all sessions of a server work on: the store, the lists of all callers, and the disk
+pub record WorkingOn (D : Type 0) : Type 0 where
+  pub store : StoreState
+  pub lists : List CallerList
+  pub disk : D
+
+-- by its parts
+abbrev pub working_on : {D : Type 0} → StoreState → List CallerList → D → WorkingOn D
+working_on store lists disk = record { store = store; lists = lists; disk = disk }
+
 -- the state of the table that it is in: the octets that wait to be held are the store's to tell
 abbrev pub state_in : StoreState → SessionState → State
 state_in store session = state_by (upload.state_of store session.uploads.phase) session.downloads

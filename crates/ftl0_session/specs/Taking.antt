@@ -1,5 +1,5 @@
 -- How the code's session answers a packet, and what that does to the disk.
-use Rattle.std.specs.Prelude.{◌≡◌, ℕ, List, [], ◌∷◌, Bool, true, false, IsSomeAnd, IsTrue, ⊤, Result, Ok, Err, IsErrOf}
+use Rattle.std.specs.Prelude.{◌≡◌, ℕ, List, [], ◌∷◌, Bool, true, false, Option, IsTrue, ⊤, Result, Ok, Err, IsErrOf}
 use Rattle.px_base.specs.CallSign.{CallSign}
 use Rattle.disk_model.specs.declared.disk.Disk.{Ghosts}
 use Rattle.ftl0_packets.specs.Items.{texts}
@@ -11,13 +11,13 @@ use Rattle.file_store.specs.Calls.{ChangesReads, Puts, Reads}
 use Rattle.file_store.specs.OnDisk.{Does}
 use Rattle.file_store.specs.State.{StandsOn, StoreState, store_in}
 use Rattle.disk_model.specs.declared.halt.Halt.{Halt}
+use Rattle.ftl0_session.specs.Uploads.Events.{CallerPacket}
 use Rattle.ftl0_session.specs.Uploads.Others.{KeepsOtherCallers}
-use Rattle.ftl0_session.specs.Uploads.SessionState.{IsHeld, IsOnlyOut, SessionState as Uploading}
+use Rattle.ftl0_session.specs.Uploads.SessionState.{IsHeld, IsOnlyOut, WithDisk, with_disk}
 use Rattle.ftl0_session.specs.Downloads.Needs.{AreComplete, IsDueIn}
-use Rattle.ftl0_session.specs.Downloads.Table.{DownloadState}
-use Rattle.ftl0_session.specs.Downloads.Taking.{IsRow, made}
+use Rattle.ftl0_session.specs.Downloads.Table.{DownloadRow}
 use Rattle.disk_model.specs.declared.halt.Halt.TheVariants as stop
-use Rattle.ftl0_session.specs.SessionState.{SessionState, caller_of, session_of, state_in}
+use Rattle.ftl0_session.specs.SessionState.{SessionState, WorkingOn, caller_of, state_in}
 use Rattle.ftl0_session.specs.Table.{Row, State, command, download_row, fault_reply, session_row, takes_memory}
 
 -- what a session takes a packet over, and what it leaves for the next one: the store, the lists of all callers, its
@@ -35,6 +35,10 @@ working session store lists = record { store = store; lists = lists; state = sta
 abbrev pub row_over : CallSign → ℕ → Working → Item → Bool → Row
 row_over caller moment before item fails =
     session_row caller moment (store_in before.store) before.lists before.state item fails
+
+-- the same of a caller's packet
+abbrev pub row_for : CallerPacket → Working → Bool → Row
+row_for packet before fails = row_over packet.caller packet.moment before packet.item fails
 
 -- what the row gives is the store, the lists, the state and the replies now; the condition of each of its commands held
 -- in turn
@@ -64,53 +68,41 @@ PutsRow g before now disk disk_now row (Err stop.OutOfMemory) = disk_now ≡ dis
 
 -- A session takes a packet, malformed or not. First the disk is read, and a read failed or none did; the answer is the
 -- packet's row for that, which tells of a read that failed by code 3. Then the row's commands are done.
-pub record TakesPacket {D : Type 0} (g : Ghosts D) (caller : CallSign) (moment : ℕ) (item : Item)
-    (before now : Working) (disk disk_now : D) (replies : List ℕ) (result : Result ⊤ Halt) : Type 0 where
+pub record TakesPacket {D : Type 0} (g : Ghosts D) (packet : CallerPacket) (before now : WithDisk Working D)
+    (replies : List ℕ) (result : Result ⊤ Halt) : Type 0 where
   pub fails : Bool
-  pub told : fails ≡ true → (row_over caller moment before item fails).replies ≡ dl_error_resp 3 ∷ []
-  pub answers : Answers before item (row_over caller moment before item fails) now replies result
+  pub told : fails ≡ true → (row_for packet before.it fails).replies ≡ dl_error_resp 3 ∷ []
+  pub answers : Answers before.it packet.item (row_for packet before.it fails) now.it replies result
   pub disk_then : D
-  pub reads : Reads g (IsTrue fails) disk disk_then
-  pub on_disk :
-      PutsRow g before.store now.store disk_then disk_now (row_over caller moment before item fails) result
-  pub puts : Puts g (IsErrOf result stop.Disk) disk_then disk_now
+  pub reads : Reads g (IsTrue fails) before.disk disk_then
+  pub on_disk : PutsRow g before.it.store now.it.store disk_then now.disk (row_for packet before.it fails) result
+  pub puts : Puts g (IsErrOf result stop.Disk) disk_then now.disk
 
 -- a packet whose row has no command, whether a read fails or none does, leaves the disk as reads do
 abbrev pub ReadsAlone : {D : Type 0} → Ghosts D → (Bool → Row) → D → D → Type 0
 ReadsAlone g row disk disk_now = (fails : Bool) → (row fails).commands ≡ [] → ChangesReads g disk disk_now
 
--- What a packet does to a session, to the store, the lists and the disk, and what it keeps.
-pub record Taken {D : Type 0} (g : Ghosts D) (moment : ℕ) (item : Item) (old new : SessionState)
-    (store store_now : StoreState) (lists lists_now : List CallerList) (disk disk_now : D) (replies : List ℕ)
-    (result : Result ⊤ Halt) : Type 0 where
-  pub takes :
-      TakesPacket g (caller_of old) moment item (working old store lists) (working new store_now lists_now) disk
-      disk_now replies result
-  pub untouched : ReadsAlone g (row_over (caller_of old) moment (working old store lists) item) disk disk_now
-  pub failed : IsErrOf result stop.Disk → store_now.journal.failed ≡ true
-  pub kept : KeepsComplete (store_in store) (store_in store_now)
-  pub others : KeepsOtherCallers store store_now (caller_of old)
-  pub caller : caller_of new ≡ caller_of old
-  pub healthy : ¬ IsErrOf result stop.Disk → store_now.journal.failed ≡ false
-  pub stands_on : StandsOn g store_now disk_now
-  pub held : IsHeld store_now new.uploads
-  pub only : IsOnlyOut store_now new.uploads
-  pub due : IsDueIn (store_in store_now) new.downloads
-  pub complete : AreComplete (store_in store_now) lists_now
+-- a session at work, with its disk
+abbrev pub at_work : {D : Type 0} → SessionState → WorkingOn D → WithDisk Working D
+at_work session on = with_disk (working session on.store on.lists) on.disk
 
--- A packet has a row of downloading, and that was made; or it has none, was not taken, and nothing changed. The disk
--- was read, and a read failed or none did. Where one failed the packet has a row, which tells of it by code 3.
-pub record TakesDownload {D : Type 0} (g : Ghosts D) (item : Item) (uploads : Uploading)
-    (downloads downloads_now : DownloadState) (store : StoreState) (lists lists_now : List CallerList)
-    (disk disk_now : D) (replies : List ℕ) (taken : Bool) : Type 0 where
-  pub fails : Bool
-  pub reads : Reads g (IsTrue fails) disk disk_now
-  pub told :
-      fails ≡ true
-      → IsSomeAnd
-      (download_row uploads.caller (store_in store) lists (state_in store (session_of uploads downloads)) item fails)
-      (λ row. row.replies ≡ dl_error_resp 3 ∷ [])
-  pub is_row :
-      IsRow
-      (download_row uploads.caller (store_in store) lists (state_in store (session_of uploads downloads)) item fails) taken
-      disk disk_now (made downloads lists []) (made downloads_now lists_now replies)
+-- What a packet of its caller does to a session, to the store, the lists and the disk, and what it keeps.
+pub record Taken {D : Type 0} (g : Ghosts D) (packet : CallerPacket) (old new : SessionState)
+    (before now : WorkingOn D) (replies : List ℕ) (result : Result ⊤ Halt) : Type 0 where
+  pub takes : TakesPacket g packet (at_work old before) (at_work new now) replies result
+  pub untouched : ReadsAlone g (row_for packet (working old before.store before.lists)) before.disk now.disk
+  pub failed : IsErrOf result stop.Disk → now.store.journal.failed ≡ true
+  pub kept : KeepsComplete (store_in before.store) (store_in now.store)
+  pub others : KeepsOtherCallers before.store now.store packet.caller
+  pub caller : caller_of new ≡ packet.caller
+  pub healthy : ¬ IsErrOf result stop.Disk → now.store.journal.failed ≡ false
+  pub stands_on : StandsOn g now.store now.disk
+  pub held : IsHeld now.store new.uploads
+  pub only : IsOnlyOut now.store new.uploads
+  pub due : IsDueIn (store_in now.store) new.downloads
+  pub complete : AreComplete (store_in now.store) now.lists
+
+-- the packet's row of downloading, if it has one: not while a file is received, and not where it is malformed
+abbrev pub download_row_of : SessionState → StoreState → List CallerList → Item → Bool → Option DownloadRow
+download_row_of session store lists item fails =
+    download_row (caller_of session) (store_in store) lists (state_in store session) item fails

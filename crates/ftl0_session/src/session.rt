@@ -9,14 +9,18 @@ ghost use Rattle.file_store.specs.EntriesKept.{KeepsComplete};
 ghost use Rattle.file_store.specs.State.{StandsOn, store_in};
 ghost use Rattle.ftl0_session.specs.Uploads.Others.{KeepsOtherCallers};
 ghost use Rattle.ftl0_session.specs.Uploads.Session.{is_upload_kind};
-ghost use Rattle.ftl0_session.specs.Uploads.SessionState.{IsHeld, IsOnlyOut, NoOtherOut, Parks};
+ghost use Rattle.ftl0_session.specs.Uploads.SessionState.{IsHeld, IsOnlyOut, NoOtherOut, Parks, with_disk};
 ghost use Rattle.ftl0_session.specs.Downloads.Needs.{AreComplete, IsDueIn};
 ghost use Rattle.ftl0_session.specs.Downloads.Table.{ready};
 ghost use Rattle.ftl0_session.specs.Filling.{PutsDue};
 ghost use Rattle.ftl0_session.specs.SessionState.{DoesOne, MayTake, caller_of, new_session, session_of, state_in};
+ghost use Rattle.ftl0_session.specs.SessionState.{working_on};
 ghost use Rattle.ftl0_session.specs.Table.{error_by, flags, greeting};
-ghost use Rattle.ftl0_session.specs.Taking.{ReadsAlone, Taken, TakesDownload, TakesPacket, row_over};
+ghost use Rattle.ftl0_session.specs.Taking.{ReadsAlone, Taken, TakesPacket, download_row_of, row_over};
 ghost use Rattle.ftl0_session.specs.Taking.{working};
+ghost use Rattle.ftl0_session.specs.Downloads.Filling.{filled};
+ghost use Rattle.ftl0_session.specs.Uploads.Events.{packet_of};
+ghost use Rattle.ftl0_session.specs.Downloads.Taking.{TakesByRow, made};
 
 use crate::downloads::Downloads;
 use crate::downloads::laws::stays_law;
@@ -85,8 +89,9 @@ impl Session {
     /// commands are on the disk before its replies are given. A read that fails gives the row for that, and the session
     /// goes on. Takes memory, before it writes to the disk.
     ///
-    /// `Disk`: the upload is spent, and the store has failed. Some of the packet's octets may be held, and its file begun,
-    /// complete or gone. `OutOfMemory`: the packet gave nothing; session, store, lists and disk are as they were.
+    /// `Disk`: the upload is spent, and the store has failed. Some of the packet's octets may be held, and its file
+    /// begun, complete or gone. `OutOfMemory`: the packet gave nothing; session, store, lists and disk are as they
+    /// were.
     pub fn take<D: Disk>(
         &mut self,
         disk: &mut D,
@@ -106,9 +111,9 @@ impl Session {
 
         // The answer is the packet's row for the reads that were made, and the row's commands are on the disk; or the
         // disk failed in one of them.
-        ensures takes { TakesPacket D.Disk (caller_of self.old) moment (item_of packet.entry)
-            (working self.old store.old lists.old) (working self.new store.new lists.new) disk.old disk.new
-            replies.new.items result }
+        ensures takes { TakesPacket D.Disk (packet_of (caller_of self.old) moment (item_of packet.entry))
+            (with_disk (working self.old store.old lists.old) disk.old)
+            (with_disk (working self.new store.new lists.new) disk.new) replies.new.items result }
         ensures untouched { ReadsAlone D.Disk
             (row_over (caller_of self.old) moment (working self.old store.old lists.old) (item_of packet.entry))
             disk.old disk.new }
@@ -149,8 +154,8 @@ impl Session {
         requires healthy { store.old.journal.failed ≡ false }
         requires stands_on { StandsOn D.Disk store.old disk.old }
         requires due { IsDueIn (store_in store.old) self.old.downloads }
-        ensures puts { PutsDue D.Disk (store_in store.old) disk.old disk.new (state_in store.old self.old)
-            (state_in store.new self.new) out.old.items out.new.items result }
+        ensures puts { PutsDue D.Disk (store_in store.old) (filled disk.old (state_in store.old self.old) out.old.items)
+            (filled disk.new (state_in store.new self.new) out.new.items) result }
         ensures uploads { self.new.uploads ≡ self.old.uploads }
         ensures store { store.new ≡ store.old }
         ensures stands_on { StandsOn D.Disk store.new disk.new }
@@ -197,9 +202,9 @@ fn take_packet<D: Disk>(
     requires empty { replies.old.items ≡ [] }
     requires may { MayTake D.Disk store.old disk.old lists.old (session_of uploads.old downloads.old) }
     requires one { DoesOne uploads.old.phase downloads.old }
-    ensures taken { Taken D.Disk moment (item_of packet.entry) (session_of uploads.old downloads.old)
-        (session_of uploads.new downloads.new) store.old store.new lists.old lists.new disk.old disk.new
-        replies.new.items result }
+    ensures taken { Taken D.Disk (packet_of uploads.old.caller moment (item_of packet.entry))
+        (session_of uploads.old downloads.old) (session_of uploads.new downloads.new)
+        (working_on store.old lists.old disk.old) (working_on store.new lists.new disk.new) replies.new.items result }
     ensures one { DoesOne uploads.new.phase downloads.new }
 {
     let of_uploading = is_of_uploading(&packet);
@@ -232,8 +237,9 @@ fn take_upload<D: Disk>(
     requires empty { replies.old.items ≡ [] }
     requires may { MayTake D.Disk store.old disk.old lists.now (session_of uploads.old ready) }
     requires kind { is_upload_kind (kind_of_item (item_of packet)) ≡ true }
-    ensures { Taken D.Disk moment (item_of packet.entry) (session_of uploads.old ready) (session_of uploads.new ready)
-        store.old store.new lists.now lists.now disk.old disk.new replies.new.items result }
+    ensures { Taken D.Disk (packet_of uploads.old.caller moment (item_of packet.entry)) (session_of uploads.old ready)
+        (session_of uploads.new ready) (working_on store.old lists.now disk.old)
+        (working_on store.new lists.now disk.new) replies.new.items result }
 {
     // While the store keeps its complete files, so do the lists.
     stays_law();
@@ -256,9 +262,9 @@ fn take_other<D: Disk>(
     requires one { DoesOne uploads.now.phase downloads.old }
     requires kind { of_uploading ≡ is_upload_kind (kind_of_item (item_of packet)) }
     requires other { of_uploading ≡ true → downloads.old ≢ ready }
-    ensures taken { (moment : ℕ) → Taken D.Disk moment (item_of packet.entry) (session_of uploads.now downloads.old)
-        (session_of uploads.now downloads.new) store.old store.new lists.old lists.new disk.old disk.new
-        replies.new.items (Ok tt) }
+    ensures taken { (moment : ℕ) → Taken D.Disk (packet_of uploads.now.caller moment (item_of packet.entry))
+        (session_of uploads.now downloads.old) (session_of uploads.now downloads.new)
+        (working_on store.old lists.old disk.old) (working_on store.new lists.new disk.new) replies.new.items (Ok tt) }
     ensures one { DoesOne uploads.now.phase downloads.new }
 {
     if take_download(uploads, downloads, disk, packet, store, lists, replies) {
@@ -279,8 +285,9 @@ fn take_download<D: Disk>(
 ) -> bool
     requires empty { replies.old.items ≡ [] }
     requires may { MayTake D.Disk store.old disk.old lists.old (session_of uploads.now downloads.old) }
-    ensures takes { TakesDownload D.Disk (item_of packet.entry) uploads.now downloads.old downloads.new store.old
-        lists.old lists.new disk.old disk.new replies.new.items result }
+    ensures takes { TakesByRow D.Disk (download_row_of (session_of uploads.now downloads.old) store.old lists.old
+        (item_of packet.entry)) disk.old disk.new (made downloads.old lists.old [])
+        (made downloads.new lists.new replies.new.items) result }
     ensures store { store.new ≡ store.old }
     ensures stands_on { StandsOn D.Disk store.new disk.new }
     ensures due { IsDueIn (store_in store.new) downloads.new }

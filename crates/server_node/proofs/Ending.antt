@@ -11,7 +11,9 @@ use Rattle.file_store.specs.Records.{store_form, store_magic}
 use Rattle.file_store.specs.Store.{Store}
 use Rattle.file_store.specs.Working.{PutsAmongReads, CutsOffAmongReads}
 use Rattle.file_store.proofs.Offered.{told_weaker, cuts-among-all, cuts-among-puts, cuts-among-same, own-number}
+use Rattle.ftl0_packets.specs.Layout.{data_end}
 use Rattle.ftl0_session.specs.Laws.{AcknowledgedStandsLaw}
+use Rattle.ftl0_session.specs.Table.{Row, receiving, session_row}
 use Rattle.server_node.specs.OnDisk.{NodeRuns}
 use Rattle.server_node.specs.Sessions.Laws.{AcknowledgedSinceLaw}
 use Rattle.server_node.specs.declared.stop.NodeStop.{NodeStop}
@@ -92,17 +94,18 @@ pub acknowledged_since : {D : Type 0} (g : Ghosts D) → AcknowledgedStandsLaw �
 acknowledged_since g law = record {
   since = λ result start done cut disk disk_n stands file is whole.
       let before : List Command = file.before in
+      let row : Row = session_row file.caller file.moment file.store file.lists (receiving file.number file.rest) (Ok data_end) file.fails in
       let ack = law file.caller start file.store file.lists file.fails before file.moment file.number file.entry file.held file.rest is whole in
       record {
-        row = ack.row;
-        is_row = ack.is_row;
+        row = row;
+        is_row = refl;
         replies = ack.replies;
         since = λ others parts.
-            let all : done ++ cut ≡ before ++ (ack.row.commands ++ (others ++ cut)) =
-            ap (λ (cs : List Command). cs ++ cut) parts ∙ append_assoc before (ack.row.commands ++ others) cut ∙ ap (λ (cs : List Command). before ++ cs) (append_assoc ack.row.commands others cut) in
-            let count : ℕ = length before + length ack.row.commands in
+            let all : done ++ cut ≡ before ++ (row.commands ++ (others ++ cut)) =
+            ap (λ (cs : List Command). cs ++ cut) parts ∙ append_assoc before (row.commands ++ others) cut ∙ ap (λ (cs : List Command). before ++ cs) (append_assoc row.commands others cut) in
+            let count : ℕ = length before + length row.commands in
             let some : 1 ≤ count = omega (arith, ack.some) in
-            let most : count ≤ length done = omega (arith, ap length parts, length-append before (ack.row.commands ++ others), length-append ack.row.commands others) in
+            let most : count ≤ length done = omega (arith, ap length parts, length-append before (row.commands ++ others), length-append row.commands others) in
             told_weaker (g.content disk) _ _ (λ octets told stay image left.
             ack.stands (others ++ cut) count (length (done ++ cut)) image (subst (λ (cs : List Command). AreAllowed start cs) all stands.allowed) (omega arith)
             (subst (λ (cs : List Command). MakesBetween count (length (done ++ cut)) start cs image) all (stay count some most image left)))

@@ -8,11 +8,8 @@ use Rattle.disk_model.specs.declared.disk.Disk.{Ghosts}
 use Rattle.ax25_link.specs.Ends.{free_octets}
 use Rattle.ax25_link.specs.Kept.{Kept, StandsFor}
 use Rattle.ax25_link.specs.Window.{Window}
-use Rattle.ftl0_session.specs.Lists.Lists.{CallerList}
-use Rattle.file_store.specs.Command.{Command, after_all}
+use Rattle.file_store.specs.Command.{after_all}
 use Rattle.file_store.specs.Store.{Store}
-use Rattle.file_store.specs.Calls.{Leaves}
-use Rattle.file_store.specs.OnDisk.{MakesFirst}
 use Rattle.file_store.specs.State.{StandsOn, StoreState, store_in}
 use Rattle.file_store.specs.Working.{DoesAmongReads, one_if}
 use Rattle.file_store.proofs.Offered.{among-at, among-same, among-then, does-among, Does-none, puts-among-then}
@@ -20,15 +17,16 @@ use Rattle.ftl0_session.specs.Uploads.Failures.{Failure, failed_reads, failed_wr
 use Rattle.ftl0_session.specs.Downloads.Needs.{IsDueIn}
 use Rattle.disk_model.specs.declared.halt.Halt.{Halt as Stop}
 use Rattle.disk_model.specs.declared.halt.Halt.TheVariants as stop
-use Rattle.ftl0_session.specs.SessionState.{state_in}
+use Rattle.ftl0_session.specs.SessionState.{WorkingOn, state_in}
 use Rattle.ftl0_session.specs.Table.{State, due_at, next_due, tells_failed_read}
+use Rattle.ftl0_session.specs.Uploads.SessionState.{WithDisk}
 use Rattle.ftl0_server.specs.declared.connection.fate.Fate.{Fate}
 use Rattle.ftl0_server.specs.declared.connection.fate.Fate.TheVariants.{Stays, Ends}
-use Rattle.ftl0_server.specs.Connection.ConnectionState.{ConnectionState, Hears, HearsBy, IsAfter}
+use Rattle.ftl0_server.specs.Connection.ConnectionState.{ConnectionState, Hears, HearsBy}
 use Rattle.ftl0_server.specs.Connection.Feeding.{AreFree, HearsParts, IsNothingDue, KeepsFit, Queued, QueuesDue}
 use Rattle.ftl0_server.specs.Connection.Feeding.{QueuesPacket}
 use Rattle.ftl0_server.specs.Connection.Hearing.{progressed}
-use Rattle.ftl0_server.specs.Connection.Taking.{Progress, after_due, enough_free, fails, goes_on, queued}
+use Rattle.ftl0_server.specs.Connection.Taking.{Progress, after_due, enough_free, fails, queued}
 use Rattle.ftl0_server.specs.Connection.Taking.{queuing}
 use Rattle.ftl0_server.proofs.connection.FailureLemmas.{All-at, among-at as among-one, among-first, among-second}
 use Rattle.ftl0_server.proofs.connection.FailureLemmas.{at_part, none-writes, reads-among}
@@ -135,78 +133,69 @@ module _ {D : Type 0} (g : Ghosts D) (lasts : (disk : D) → g.lasts disk disk) 
 
   -- ---- a frame
 
-  module _ (w : Window) (left : List ℕ) (event : List Failure → Progress) (store store_m store_n : StoreState) (lists_n : List CallerList) (disk disk_m disk_n : D) where
+  module _ (w : Window) (left : List ℕ) (event : List Failure → Progress) (before : WithDisk StoreState D) where
     -- with what is due behind it
     abbrev whole : List Failure → Progress
-    whole failures = queued (store_in store) failures (event failures)
+    whole failures = queued (store_in before.it) failures (event failures)
 
     -- the connection goes on
-    pub hears-going : (mid now : ConnectionState) → HearsParts g w left event store store_m lists_n disk disk_m mid (Stays, Ok tt) → store_n ≡ store_m → now.octets ≡ mid.octets
-        → QueuesDue g store_m disk_m disk_n mid now → Hears g w (λ failures. progressed left (whole failures)) store store_n lists_n disk disk_n now (Stays, Ok tt)
-    hears-going mid now heard same octets queues =
+    pub hears-going : (between now : WorkingOn D) (mid new : ConnectionState) → HearsParts g w left event before between mid (Stays, Ok tt) → now.store ≡ between.store → now.lists ≡ between.lists
+        → new.octets ≡ mid.octets → QueuesDue g between.store between.disk now.disk mid new → Hears g w (λ failures. progressed left (whole failures)) before now new (Stays, Ok tt)
+    hears-going between now mid new heard same lists octets queues =
         let h = heard.hears.by in
         let settled = heard.settled refl in
         let made : Progress = event ([] ++ failed_reads heard.hears.parts) in
         let is = h.1.1.1 in
-        let q : Queued g w store_m disk_m disk_n now made = queues w made is.link is.state in
+        let q : Queued g w between.store between.disk now.disk new made = queues w made is.link is.state in
         let all : List Failure = [] ++ failed_reads (heard.hears.parts ++ q.parts) in
-        let stores : after_all (store_in store) made.done ≡ store_in store_m = sym (h.2.done (λ never. never)).0 in
+        let stores : after_all (store_in before.it) made.done ≡ store_in between.store = sym (h.2.done (λ never. never)).0 in
         let alike : (part : ℕ) → made.part ≤ part → read_fails all part ≡ read_fails (failed_reads q.parts) part =
         λ part later.
         reads-among [] (heard.hears.parts ++ q.parts) part none-writes ∙ among-second made.part part heard.hears.parts q.parts settled.before later ∙ sym (reads-among [] q.parts part none-writes) in
         let now_is : whole all ≡ q.now =
-        ap (queued (store_in store) all) (settled.later q.parts q.behind) ∙ queued-on (store_in store) all made h.1.1.0
-        ∙ ap (λ (s : Store). queuing (free_octets made.end) s all made) stores ∙ queuing-alike (store_in store_m) all (free_octets made.end) (failed_reads q.parts) made alike ∙ sym q.is_now in
-        let rest : KeepsRest made q.now =
-        subst (λ (p : Progress). KeepsRest made p) (sym q.is_now) (queuing-keeps (store_in store_m) (failed_reads q.parts) (free_octets made.end) made) in
-        let joined : DoesAmongReads g ⊥ (made.missed + q.missed) store store_m disk disk_n (made.done ++ []) =
-        among-then g on ⊥ ⊥ made.missed q.missed store store_m store_m disk disk_m disk_n made.done [] (λ never. never) h.2 q.reads in
-        let does : DoesAmongReads g ⊥ q.now.missed store store_n disk disk_n q.now.done =
-        subst (λ (s : StoreState). DoesAmongReads g ⊥ q.now.missed store s disk disk_n q.now.done) (sym same)
-        (among-at g ⊥ q.now.missed store store_m disk disk_n (made.done ++ []) q.now.done (append-nil made.done ∙ sym rest.done)
-        (among-same g ⊥ ⊥ (made.missed + q.missed) q.now.missed store store_m disk disk_n (made.done ++ []) (λ never. never) (λ never. never) (sym q.missed_is) joined)) in
-        let P : Progress → Type 0 = λ p. (p.halt ≡ goes_on) × IsAfter w store_n lists_n now (progressed left p) Stays × DoesAmongReads g ⊥ p.missed store store_n disk disk_n p.done in
-        let by : P (whole all) =
-        subst P (sym now_is) (
+        ap (queued (store_in before.it) all) (settled.later q.parts q.behind) ∙ queued-on (store_in before.it) all made h.1.1.0
+        ∙ ap (λ (s : Store). queuing (free_octets made.end) s all made) stores ∙ queuing-alike (store_in between.store) all (free_octets made.end) (failed_reads q.parts) made alike ∙ sym q.is_now in
+        let rest : KeepsRest made q.now = rw q.is_now (queuing-keeps (store_in between.store) (failed_reads q.parts) (free_octets made.end) made) in
+        let joined : DoesAmongReads g ⊥ (made.missed + q.missed) before.it between.store before.disk now.disk (made.done ++ []) =
+        among-then g on ⊥ ⊥ made.missed q.missed before.it between.store between.store before.disk between.disk now.disk made.done [] (λ never. never) h.2 q.reads in
+        let does : DoesAmongReads g ⊥ q.now.missed before.it now.store before.disk now.disk q.now.done =
+        rw same
+        (among-at g ⊥ q.now.missed before.it between.store before.disk now.disk (made.done ++ []) q.now.done (append-nil made.done ∙ sym rest.done)
+        (among-same g ⊥ ⊥ (made.missed + q.missed) q.now.missed before.it between.store before.disk now.disk (made.done ++ []) (λ never. never) (λ never. never) (sym q.missed_is) joined)) in
+        let by =
+        subst (λ p. HearsBy g w (λ writes. progressed left p) before now new Stays (Ok tt)) (sym now_is) (
           rest.halt ∙ h.0,
           (
-            h.1.0 ∙ sym rest.lists,
-            (rest.over ∙ h.1.1.0, record { link = q.link; rest = octets ∙ is.rest; state = ap (λ (s : StoreState). state_in s now.session) same ∙ q.state }),
+            lists ∙ h.1.0 ∙ sym rest.lists,
+            (rest.over ∙ h.1.1.0, record { link = q.link; rest = octets ∙ is.rest; state = ap (λ (s : StoreState). state_in s new.session) same ∙ q.state }),
           ),
           does,
         ) in
         record { parts = heard.hears.parts ++ q.parts; by = by; since = by.2.since }
 
     -- it stopped, and nothing is queued
-    module _ (now : ConnectionState) (over : (failures : List Failure) → (event failures).halt ≡ fails → (event failures).over ≡ true) (parts : List ℕ) where
+    module _ (now : WorkingOn D) (new : ConnectionState) (over : (failures : List Failure) → (event failures).halt ≡ fails → (event failures).over ≡ true) (parts : List ℕ) where
       stopped : (failures : List Failure) → (event failures).over ≡ true → whole failures ≡ event failures
-      stopped failures is = queued-over (store_in store) failures (event failures) is
+      stopped failures is = queued-over (store_in before.it) failures (event failures) is
 
-      by-stopped : (fate : Fate) (result : Result ⊤ Stop) → IsStop (fate, result)
-          → HearsBy g w (λ writes. progressed left (event (writes ++ failed_reads parts))) store store_n lists_n disk disk_n now fate result
-          → HearsBy g w (λ writes. progressed left (whole (writes ++ failed_reads parts))) store store_n lists_n disk disk_n now fate result
+      abbrev By : Fate → Result ⊤ Stop → Progress → Type 0
+      By fate result p = HearsBy g w (λ writes. progressed left p) before now new fate result
+
+      by-stopped : (fate : Fate) (result : Result ⊤ Stop) → IsStop (fate, result) → HearsBy g w (λ writes. progressed left (event (writes ++ failed_reads parts))) before now new fate result
+          → HearsBy g w (λ writes. progressed left (whole (writes ++ failed_reads parts))) before now new fate result
       by-stopped Stays (Ok tt) stops h = absurd (stops refl)
-      by-stopped Ends (Ok tt) stops h =
-          let P : Progress → Type 0 = λ p. (p.halt ≡ goes_on) × IsAfter w store_n lists_n now (progressed left p) Ends × DoesAmongReads g ⊥ p.missed store store_n disk disk_n p.done in
-          subst P (sym (stopped ([] ++ failed_reads parts) h.1.1.0)) h
+      by-stopped Ends (Ok tt) stops h = subst (By Ends (Ok tt)) (sym (stopped ([] ++ failed_reads parts) h.1.1.0)) h
       by-stopped fate (Err stop.Disk) stops h =
-          let failures : List Failure = failed_write h.0 ++ failed_reads parts in
-          let P : Progress → Type 0 = λ p. HearsBy g w (λ writes. progressed left p) store store_n lists_n disk disk_n now fate (Err stop.Disk) in
-          let at : P (whole failures) = subst P (sym (stopped failures (over failures h.1))) (h.0, h.1, h.2, h.3) in
+          let at = subst (By fate (Err stop.Disk)) (sym (stopped (failed_write h.0 ++ failed_reads parts) (over (failed_write h.0 ++ failed_reads parts) h.1))) (h.0, h.1, h.2, h.3) in
           (h.0, at.1, at.2, at.3)
       by-stopped fate (Err stop.OutOfMemory) stops h =
-          let failures : List Failure = failed_write h.0 ++ failed_reads parts in
-          let P : Progress → Type 0 = λ p. HearsBy g w (λ writes. progressed left p) store store_n lists_n disk disk_n now fate (Err stop.OutOfMemory) in
-          let at : P (whole failures) = subst P (sym (stopped failures (over failures h.1))) (h.0, h.1, h.2, h.3) in
+          let at = subst (By fate (Err stop.OutOfMemory)) (sym (stopped (failed_write h.0 ++ failed_reads parts) (over (failed_write h.0 ++ failed_reads parts) h.1))) (h.0, h.1, h.2, h.3) in
           (h.0, at.1, at.2, at.3)
 
-    pub hears-stop : (now : ConnectionState) (told : Fate × Result ⊤ Stop) → IsStop told → HearsParts g w left event store store_n lists_n disk disk_n now told
-        → Hears g w (λ failures. progressed left (whole failures)) store store_n lists_n disk disk_n now told
-    hears-stop now told stops heard =
-        let failures : List Failure = [] ++ failed_reads heard.hears.parts in
-        record {
-          parts = heard.hears.parts;
-          by = by-stopped now heard.over heard.hears.parts told.0 told.1 stops heard.hears.by;
-          since =
-              subst (λ (commands : List Command). Leaves g disk disk_n (λ _. MakesFirst (store_in store) commands)) (sym (queued-keeps (store_in store) failures (event failures)).done) heard.hears.since;
-        }
+    pub hears-stop : (now : WorkingOn D) (new : ConnectionState) (told : Fate × Result ⊤ Stop) → IsStop told → HearsParts g w left event before now new told
+        → Hears g w (λ failures. progressed left (whole failures)) before now new told
+    hears-stop now new told stops heard = record {
+      parts = heard.hears.parts;
+      by = by-stopped now new heard.over heard.hears.parts told.0 told.1 stops heard.hears.by;
+      since = rw (queued-keeps (store_in before.it) ([] ++ failed_reads heard.hears.parts) (event ([] ++ failed_reads heard.hears.parts))).done heard.hears.since;
+    }

@@ -5,9 +5,7 @@ use Rattle.std.proofs.lemmas.List.Elements.{All-nil}
 use Rattle.px_base.specs.CallSign.{CallSign}
 use Rattle.disk_model.specs.declared.disk.Disk.{Ghosts}
 use Rattle.ax25_link.specs.declared.state.LinkState.TheVariants.{Up}
-use Rattle.ax25_link.specs.Ends.{LinkEnd}
-use Rattle.ax25_link.specs.Kept.{Kept, SameStations, StandsFor}
-use Rattle.ax25_link.specs.Window.{Window}
+use Rattle.ax25_link.specs.Kept.{Kept, SameStations}
 use Rattle.ftl0_packets.specs.Layout.{Item}
 use Rattle.ftl0_packets.specs.Reading.{packets_of, rest_of}
 use Rattle.ftl0_session.specs.Lists.Lists.{CallerList}
@@ -21,15 +19,17 @@ use Rattle.file_store.specs.Walk.{KeepsState}
 use Rattle.file_store.proofs.Offered.{does-among, Does-none, puts-among, puts-among-same, puts-among-then, puts_none}
 use Rattle.file_store.specs.State.{StandsOn, StoreState, store_in}
 use Rattle.ftl0_session.specs.Uploads.Others.{KeepsOtherCallers}
-use Rattle.ftl0_session.specs.Uploads.SessionState.{IsHeld, IsOnlyOut, NoOtherOut, SessionState as Uploading}
+use Rattle.ftl0_session.specs.Uploads.SessionState.{NoOtherOut, SessionState as Uploading, WithDisk}
+use Rattle.ftl0_session.specs.Uploads.SessionState.{with_disk}
 use Rattle.ftl0_session.specs.Downloads.Needs.{AreComplete, IsDueIn}
 use Rattle.disk_model.specs.declared.halt.Halt.{Halt as Stop}
 use Rattle.disk_model.specs.declared.halt.Halt.TheVariants as stop
 use Rattle.ftl0_session.specs.SessionState.{MayTake as SessionMayTake, SessionState, IsFit, caller_of, new_session}
+use Rattle.ftl0_session.specs.SessionState.{WorkingOn, working_on}
 use Rattle.ftl0_server.specs.declared.connection.fate.Fate.{Fate}
 use Rattle.ftl0_server.specs.declared.connection.fate.Fate.TheVariants.{Stays}
 use Rattle.ftl0_server.specs.Connection.ConnectionState.{ConnectionState}
-use Rattle.ftl0_server.specs.Connection.Feeding.{Feeds, FeedsAll, IsAmong, IsGoing, KeepsFit, LeavesFit, MayTake, TakesPackets, carrying}
+use Rattle.ftl0_server.specs.Connection.Feeding.{Feeds, FeedsAll, IsAmong, IsGoing, KeepsFit, LeavesFit, MayTake, TakesSome, carrying}
 use Rattle.ftl0_server.proofs.connection.HearsLemmas.{IsStop, takes-then}
 use Rattle.ftl0_server.proofs.connection.Invariants.{IsTaking}
 
@@ -67,53 +67,38 @@ module _ {D : Type 0} (g : Ghosts D) where
   may-kept store disk lists session healthy fit =
       record { healthy = healthy; stands_on = fit.stands_on; held = fit.held; only = fit.only; due = fit.due; complete = fit.complete }
 
-  -- nothing was taken
-  pub fit-none : (store : StoreState) (disk : D) (lists : List CallerList) (link : Kept) (session : SessionState) → g.lasts disk disk → MayTake g store disk lists link session
-      → LeavesFit g store store lists disk disk link link session session (Stays, Ok tt)
-  fit-none store disk lists link session lasts may = record {
-    puts = puts-among g (fine ≡ Err stop.Disk) disk disk (puts_none g disk (fine ≡ Err stop.Disk) no-fault lasts);
-    kept = λ number e found complete. found;
-    others = others-same store (caller_of session);
-    healthy = λ fine. may.may.healthy;
-    fit = fit-kept store disk lists session may.may;
-    up = λ stays. may.up;
-    caller = refl;
-    stations = stations-same link;
-  }
-
   -- a frame without packets was heard
-  pub fit-heard : (store : StoreState) (disk : D) (lists : List CallerList) (link link_n : Kept) (session : SessionState) (fate : Fate) → g.lasts disk disk → SessionMayTake g store disk lists session
-      → (fate ≡ Stays → link_n.state ≡ Up) → SameStations link link_n → LeavesFit g store store lists disk disk link link_n session session (fate, Ok tt)
-  fit-heard store disk lists link link_n session fate lasts may up stations = record {
-    puts = puts-among g (fine ≡ Err stop.Disk) disk disk (puts_none g disk (fine ≡ Err stop.Disk) no-fault lasts);
+  pub fit-heard : (on : WorkingOn D) (link link_n : Kept) (session : SessionState) (fate : Fate) → g.lasts on.disk on.disk → SessionMayTake g on.store on.disk on.lists session
+      → (fate ≡ Stays → link_n.state ≡ Up) → SameStations link link_n → LeavesFit g (with_disk on.store on.disk) on link link_n session session (fate, Ok tt)
+  fit-heard on link link_n session fate lasts may up stations = record {
+    puts = puts-among g (fine ≡ Err stop.Disk) on.disk on.disk (puts_none g on.disk (fine ≡ Err stop.Disk) no-fault lasts);
     kept = λ number e found complete. found;
-    others = others-same store (caller_of session);
+    others = others-same on.store (caller_of session);
     healthy = λ fine. may.healthy;
-    fit = fit-kept store disk lists session may;
+    fit = fit-kept on.store on.disk on.lists session may;
     up = up;
     caller = refl;
     stations = stations;
   }
 
   -- a session began anew, over a store that has only given up the upload of the one before
-  pub fit-anew : (store store_n : StoreState) (disk : D) (lists : List CallerList) (link link_n : Kept) (session session_n : SessionState) → g.lasts disk disk → SessionMayTake g store disk lists session
-      → store_in store_n ≡ store_in store → store_n.journal ≡ store.journal → session_n ≡ new_session (caller_of session) → NoOtherOut store_n (caller_of session) None
-      → KeepsOtherCallers store store_n (caller_of session) → link_n.state ≡ Up → SameStations link link_n
-      → LeavesFit g store store_n lists disk disk link link_n session session_n (Stays, Ok tt)
-  fit-anew store store_n disk lists link link_n session session_n lasts may same journal anew only others up stations =
-      let P : SessionState → Type 0 = λ s. LeavesFit g store store_n lists disk disk link link_n session s (Stays, Ok tt) in
-      subst P (sym anew) (record {
-        puts = puts-among g (fine ≡ Err stop.Disk) disk disk (puts_none g disk (fine ≡ Err stop.Disk) no-fault lasts);
+  pub fit-anew : (on : WorkingOn D) (store_n : StoreState) (link link_n : Kept) (session session_n : SessionState) → g.lasts on.disk on.disk → SessionMayTake g on.store on.disk on.lists session
+      → store_in store_n ≡ store_in on.store → store_n.journal ≡ on.store.journal → session_n ≡ new_session (caller_of session) → NoOtherOut store_n (caller_of session) None
+      → KeepsOtherCallers on.store store_n (caller_of session) → link_n.state ≡ Up → SameStations link link_n
+      → LeavesFit g (with_disk on.store on.disk) (working_on store_n on.lists on.disk) link link_n session session_n (Stays, Ok tt)
+  fit-anew on store_n link link_n session session_n lasts may same journal anew only others up stations =
+      rw anew (record {
+        puts = puts-among g (fine ≡ Err stop.Disk) on.disk on.disk (puts_none g on.disk (fine ≡ Err stop.Disk) no-fault lasts);
         kept = λ number e found complete. ap (λ (s : Store). entry_of s number) same ∙ found;
         others = others;
         healthy = λ fine. ap (λ (p : Position). p.failed) journal ∙ may.healthy;
         fit = record {
-          stands_on = subst (λ (p : Position). KeepsState empty_store store_step g p (store_in store_n) disk) (sym journal)
-              (subst (λ (s : Store). KeepsState empty_store store_step g store.journal s disk) (sym same) may.stands_on);
+          stands_on = subst (λ (p : Position). KeepsState empty_store store_step g p (store_in store_n) on.disk) (sym journal)
+              (subst (λ (s : Store). KeepsState empty_store store_step g on.store.journal s on.disk) (sym same) may.stands_on);
           held = tt;
           only = only;
           due = tt;
-          complete = subst (λ (s : Store). AreComplete s lists) (sym same) may.complete;
+          complete = subst (λ (s : Store). AreComplete s on.lists) (sym same) may.complete;
         };
         up = λ stays. up;
         caller = refl;
@@ -135,20 +120,20 @@ module _ {D : Type 0} (g : Ghosts D) where
   }
 
   -- what the next packet needs
-  pub may-next : (store store_n : StoreState) (disk disk_n : D) (lists_n : List CallerList) (link link_n : Kept) (session session_n : SessionState)
-      → LeavesFit g store store_n lists_n disk disk_n link link_n session session_n (Stays, Ok tt) → MayTake g store_n disk_n lists_n link_n session_n
-  may-next store store_n disk disk_n lists_n link link_n session session_n fit =
-      record { up = fit.up refl; may = may-kept store_n disk_n lists_n session_n (fit.healthy no-fault) fit.fit }
+  pub may-next : (before : WithDisk StoreState D) (now : WorkingOn D) (link link_n : Kept) (session session_n : SessionState) → LeavesFit g before now link link_n session session_n (Stays, Ok tt)
+      → MayTake g now.store now.disk now.lists link_n session_n
+  may-next before now link link_n session session_n fit =
+      record { up = fit.up refl; may = may-kept now.store now.disk now.lists session_n (fit.healthy no-fault) fit.fit }
 
   module _ (on : (first second third : D) → g.lasts first second → g.lasts second third → g.lasts first third) where
     -- one part, and then another
-    pub fit-then : (a b c : StoreState) (d e f : D) (lists_m lists_n : List CallerList) (link link_m link_n : Kept) (session session_m session_n : SessionState) (told : Fate × Result ⊤ Stop)
-        → LeavesFit g a b lists_m d e link link_m session session_m (Stays, Ok tt) → LeavesFit g b c lists_n e f link_m link_n session_m session_n told
-        → LeavesFit g a c lists_n d f link link_n session session_n told
-    fit-then a b c d e f lists_m lists_n link link_m link_n session session_m session_n told first second = record {
-      puts = puts-among-then g on (fine ≡ Err stop.Disk) (told.1 ≡ Err stop.Disk) d e f no-fault first.puts second.puts;
-      kept = complete-then (store_in a) (store_in b) (store_in c) first.kept second.kept;
-      others = others-then a b c (caller_of session) first.others (subst (λ (call : CallSign). KeepsOtherCallers b c call) first.caller second.others);
+    pub fit-then : (before : WithDisk StoreState D) (between now : WorkingOn D) (link link_m link_n : Kept) (session session_m session_n : SessionState) (told : Fate × Result ⊤ Stop)
+        → LeavesFit g before between link link_m session session_m (Stays, Ok tt) → LeavesFit g (with_disk between.store between.disk) now link_m link_n session_m session_n told
+        → LeavesFit g before now link link_n session session_n told
+    fit-then before between now link link_m link_n session session_m session_n told first second = record {
+      puts = puts-among-then g on (fine ≡ Err stop.Disk) (told.1 ≡ Err stop.Disk) before.disk between.disk now.disk no-fault first.puts second.puts;
+      kept = complete-then (store_in before.it) (store_in between.store) (store_in now.store) first.kept second.kept;
+      others = others-then before.it between.store now.store (caller_of session) first.others (rw first.caller at second.others);
       healthy = second.healthy;
       fit = second.fit;
       up = second.up;
@@ -157,33 +142,26 @@ module _ {D : Type 0} (g : Ghosts D) where
     }
 
     -- packets, and then what is due behind them
-    pub fit-queued : (a b c : StoreState) (d e f : D) (lists_n : List CallerList) (link : Kept) (session : SessionState) (mid now : ConnectionState)
-        → LeavesFit g a b lists_n d e link mid.link session mid.session (Stays, Ok tt) → KeepsFit g b c e f mid now → LeavesFit g a c lists_n d f link now.link session now.session (Stays, Ok tt)
-    fit-queued a b c d e f lists_n link session mid now first second =
-        let P : StoreState → Type 0 = λ s. LeavesFit g a s lists_n d f link now.link session now.session (Stays, Ok tt) in
-        subst P (sym second.same) (record {
-          puts = puts-among-same g ⊥ (fine ≡ Err stop.Disk) d f (λ never. absurd never) no-fault
-              (puts-among-then g on ⊥ ⊥ d e f (λ never. never) (puts-among-same g (fine ≡ Err stop.Disk) ⊥ d e no-fault (λ never. absurd never) first.puts) second.puts);
-          kept = first.kept;
-          others = first.others;
-          healthy = first.healthy;
-          fit = record {
-            stands_on = second.stands_on;
-            held = subst (λ (u : Uploading). IsHeld b u) (sym second.uploads) first.fit.held;
-            only = subst (λ (u : Uploading). IsOnlyOut b u) (sym second.uploads) first.fit.only;
-            due = second.due;
-            complete = first.fit.complete;
-          };
-          up = λ stays. second.up;
-          caller = ap (λ (u : Uploading). u.caller) second.uploads ∙ first.caller;
-          stations = stations-then link mid.link now.link first.stations second.stations;
-        })
+    pub fit-queued : (before : WithDisk StoreState D) (between now : WorkingOn D) (link : Kept) (session : SessionState) (mid new : ConnectionState) → now.lists ≡ between.lists
+        → LeavesFit g before between link mid.link session mid.session (Stays, Ok tt) → KeepsFit g between.store now.store between.disk now.disk mid new
+        → LeavesFit g before now link new.link session new.session (Stays, Ok tt)
+    fit-queued before between now link session mid new lists first second = record {
+      puts = puts-among-same g ⊥ (fine ≡ Err stop.Disk) before.disk now.disk (λ never. absurd never) no-fault
+          (puts-among-then g on ⊥ ⊥ before.disk between.disk now.disk (λ never. never) (puts-among-same g (fine ≡ Err stop.Disk) ⊥ before.disk between.disk no-fault (λ never. absurd never) first.puts) second.puts);
+      kept = rw second.same first.kept;
+      others = rw second.same first.others;
+      healthy = rw second.same first.healthy;
+      fit = rw (second.same, lists, second.uploads) (record { stands_on = second.stands_on; held = first.fit.held; only = first.fit.only; due = second.due; complete = first.fit.complete });
+      up = λ stays. second.up;
+      caller = ap (λ (u : Uploading). u.caller) second.uploads ∙ first.caller;
+      stations = stations-then link mid.link new.link first.stations second.stations;
+    }
 
     -- ---- octets
 
-    module _ (moment : ℕ) (store : StoreState) (lists : List CallerList) (disk : D) (old : ConnectionState) where
+    module _ (moment : ℕ) (before : WorkingOn D) (old : ConnectionState) where
       -- no packet was taken
-      pub taking-start : g.lasts disk disk → MayTake g store disk lists old.link old.session → IsTaking g moment old old store store lists lists disk disk
+      pub taking-start : g.lasts before.disk before.disk → MayTake g before.store before.disk before.lists old.link old.session → IsTaking g moment old old before before
       taking-start lasts may = record {
         feeds = record {
           items = [];
@@ -194,42 +172,36 @@ module _ {D : Type 0} (g : Ghosts D) where
             by = (
               refl,
               (refl, (refl, record { link = stands; rest = refl; state = refl })),
-              does-among g ⊥ store store disk disk [] (Does-none g ⊥ store disk (λ never. never) may.may.stands_on may.may.healthy lasts),
+              does-among g ⊥ before.store before.store before.disk before.disk [] (Does-none g ⊥ before.store before.disk (λ never. never) may.may.stands_on may.may.healthy lasts),
             );
           };
         };
-        fit = fit-none store disk lists old.link old.session lasts may;
+        fit = fit-heard before old.link old.link old.session Stays lasts may.may (λ stays. may.up) (stations-same old.link);
       }
 
       -- some packets, and then one
-      module _ (mid now : ConnectionState) (store_m store_n : StoreState) (lists_m lists_n : List CallerList) (disk_m disk_n : D) (told : Fate × Result ⊤ Stop) (item : Item)
-          (h : IsTaking g moment old mid store store_m lists lists_m disk disk_m) (front : HasFront mid.octets now.octets (item ∷ []))
-          (takes : (w : Window) (end : LinkEnd) (first : ℕ) → StandsFor w mid.link end
-          → TakesPackets g w moment mid.session store_m store_n lists_m lists_n end (item ∷ []) first disk_m disk_n now.link now.session told) where
-        feeds-one : Feeds g moment old now store store_n lists lists_n disk disk_n told
+      module _ (mid new : ConnectionState) (between now : WorkingOn D) (told : Fate × Result ⊤ Stop) (item : Item) (h : IsTaking g moment old mid before between)
+          (front : HasFront mid.octets new.octets (item ∷ [])) (takes : TakesSome g moment mid between (item ∷ []) now new told) where
+        feeds-one : Feeds g moment old new before now told
         feeds-one = record {
           items = h.feeds.items ++ item ∷ [];
-          front = front-then old.octets mid.octets now.octets h.feeds.items (item ∷ []) h.feeds.front front;
+          front = front-then old.octets mid.octets new.octets h.feeds.items (item ∷ []) h.feeds.front front;
           takes = λ w end from stands.
-              takes-then g on w moment old.session mid.session now.session store store_m store_n lists lists_m lists_n disk disk_m disk_n mid.link now.link end h.feeds.items (item ∷ []) from h.fit.caller
-              (h.feeds.takes w end from stands) told (λ next there. takes w next (from + length h.feeds.items) there);
+              takes-then g on w moment old mid new before between now end h.feeds.items (item ∷ []) from h.fit.caller (h.feeds.takes w end from stands) told
+              (λ next there. takes w next (from + length h.feeds.items) there);
         }
 
-        module _ (fit : LeavesFit g store_m store_n lists_n disk_m disk_n mid.link now.link mid.session now.session told) where
-          pub fit-all : LeavesFit g store store_n lists_n disk disk_n old.link now.link old.session now.session told
-          fit-all = fit-then store store_m store_n disk disk_m disk_n lists_m lists_n old.link mid.link now.link old.session mid.session now.session told h.fit fit
+        module _ (fit : LeavesFit g (with_disk between.store between.disk) now mid.link new.link mid.session new.session told) where
+          pub fit-all : LeavesFit g (with_disk before.store before.disk) now old.link new.link old.session new.session told
+          fit-all = fit-then (with_disk before.store before.disk) between now old.link mid.link new.link old.session mid.session new.session told h.fit fit
 
-          pub taking-next : IsGoing told → IsTaking g moment old now store store_n lists lists_n disk disk_n
-          taking-next going =
-              let P : Fate × Result ⊤ Stop → Type 0 =
-              λ t. Feeds g moment old now store store_n lists lists_n disk disk_n t × LeavesFit g store store_n lists_n disk disk_n old.link now.link old.session now.session t in
-              let at : P (Stays, Ok tt) = subst P going (feeds-one, fit-all) in
-              record { feeds = at.0; fit = at.1 }
+          pub taking-next : IsGoing told → IsTaking g moment old new before now
+          taking-next going = record { feeds = rw going at feeds-one; fit = rw going at fit-all }
 
-        pub taking-stops : (rest : List ℕ) → IsStop told → FeedsAll g moment old (carrying now.link rest now.session) store store_n lists lists_n disk disk_n told
-        taking-stops rest stops = record { left = now.octets; feeds = feeds-one; none = λ going. absurd (stops going); rest = λ going. absurd (stops going) }
+        pub taking-stops : (rest : List ℕ) → IsStop told → FeedsAll g moment old (carrying new.link rest new.session) before now told
+        taking-stops rest stops = record { left = new.octets; feeds = feeds-one; none = λ going. absurd (stops going); rest = λ going. absurd (stops going) }
 
       -- all were taken
-      pub taking-ends : (now : ConnectionState) (store_n : StoreState) (lists_n : List CallerList) (disk_n : D) (rest : List ℕ) → IsTaking g moment old now store store_n lists lists_n disk disk_n
-          → packets_of now.octets ≡ [] → rest_of now.octets ≡ rest → FeedsAll g moment old (carrying now.link rest now.session) store store_n lists lists_n disk disk_n (Stays, Ok tt)
-      taking-ends now store_n lists_n disk_n rest h none behind = record { left = now.octets; feeds = h.feeds; none = λ going. none; rest = λ going. behind }
+      pub taking-ends : (new : ConnectionState) (now : WorkingOn D) (rest : List ℕ) → IsTaking g moment old new before now → packets_of new.octets ≡ [] → rest_of new.octets ≡ rest
+          → FeedsAll g moment old (carrying new.link rest new.session) before now (Stays, Ok tt)
+      taking-ends new now rest h none behind = record { left = new.octets; feeds = h.feeds; none = λ going. none; rest = λ going. behind }

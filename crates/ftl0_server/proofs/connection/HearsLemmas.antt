@@ -6,10 +6,9 @@ use Rattle.std.proofs.lemmas.List.Elements.{All-append, All-weaker}
 use Rattle.px_base.specs.CallSign.{CallSign}
 use Rattle.disk_model.specs.declared.disk.Disk.{Ghosts}
 use Rattle.ax25_link.specs.Ends.{LinkEnd}
-use Rattle.ax25_link.specs.Kept.{Kept, StandsFor}
+use Rattle.ax25_link.specs.Kept.{StandsFor}
 use Rattle.ax25_link.specs.Window.{Window}
 use Rattle.ftl0_packets.specs.Layout.{Item}
-use Rattle.ftl0_session.specs.Lists.Lists.{CallerList}
 use Rattle.file_store.specs.Calls.{Leaves}
 use Rattle.file_store.specs.Command.{Command, after_all}
 use Rattle.file_store.specs.Store.{Store}
@@ -20,18 +19,19 @@ use Rattle.file_store.proofs.Offered.{among-then, cuts-among-all, cuts-among-the
 use Rattle.ftl0_session.specs.Uploads.Failures.{Failure, failed_reads, failed_write, write_fails}
 use Rattle.disk_model.specs.declared.halt.Halt.{Halt as Stop}
 use Rattle.disk_model.specs.declared.halt.Halt.TheVariants as stop
-use Rattle.ftl0_session.specs.SessionState.{SessionState, caller_of, state_in}
-use Rattle.ftl0_session.specs.Table.{State}
+use Rattle.ftl0_session.specs.SessionState.{SessionState, WorkingOn, caller_of}
+use Rattle.ftl0_session.specs.Uploads.SessionState.{WithDisk, with_disk}
+use Rattle.ftl0_session.specs.Run.{Session}
 use Rattle.ftl0_server.specs.declared.connection.fate.Fate.{Fate}
 use Rattle.ftl0_server.specs.declared.connection.fate.Fate.TheVariants.{Stays, Ends}
 use Rattle.ftl0_server.specs.Connection.ConnectionState.{ConnectionState, HearsBy, IsAfter, with_nothing_left}
 use Rattle.ftl0_server.specs.Connection.ConnectionState.{with_reads}
-use Rattle.ftl0_server.specs.Connection.Feeding.{HearsParts, IsAmong, IsGoing, TakesPackets}
+use Rattle.ftl0_server.specs.Connection.Feeding.{HearsParts, IsAmong, IsGoing, TakesPackets, session_on, taking_some}
 use Rattle.ftl0_server.specs.Connection.Hearing.{Happened, progressed}
 use Rattle.ftl0_server.specs.Connection.Taking.{Halt, Progress, fails, goes_on, taking}
 use Rattle.ftl0_server.proofs.connection.FailureLemmas.{AreWrites, alike-first, alike-second, none-writes, one-writes}
 use Rattle.ftl0_server.proofs.connection.FailureLemmas.{other-part, reads-among, same-part, writes-none}
-use Rattle.ftl0_server.proofs.connection.TakingLemmas.{IsFront, behind, front-part, goes_from, going, is_going}
+use Rattle.ftl0_server.proofs.connection.TakingLemmas.{IsFront, behind, front-part, goes_from, going, is_going, on_from}
 use Rattle.ftl0_server.proofs.connection.TakingLemmas.{taking-alike, taking-begins, taking-ended, taking-failed}
 use Rattle.ftl0_server.proofs.connection.TakingLemmas.{taking-fails, taking-on, taking-part}
 
@@ -70,117 +70,115 @@ module _ {D : Type 0} (g : Ghosts D) (on : (first second third : D) → g.lasts 
   abbrev pub BeginsWhole : (List Failure → Happened) → Type 0
   BeginsWhole event = (part : ℕ) → IsFront ((event (failed_write part)).done ++ (event (failed_write part)).cut) (event []).done
 
-  pub by-since : (event : List Failure → Happened) (store store_n : StoreState) (lists_n : List CallerList) (disk disk_n : D) (connection : ConnectionState) (fate : Fate) (result : Result ⊤ Stop)
-      → BeginsWhole event → HearsBy g w event store store_n lists_n disk disk_n connection fate result → Leaves g disk disk_n (λ _. MakesFirst (store_in store) (event []).done)
-  by-since event store store_n lists_n disk disk_n connection fate (Ok done) begins h = h.2.since
-  by-since event store store_n lists_n disk disk_n connection fate (Err stop.Disk) begins h =
-      leaves-front g (store_in store) disk disk_n _ _ (begins h.0)
-      (cuts-among-all g on ⊤ (event (failed_write h.0)).missed store store_n disk disk_n (event (failed_write h.0)).done (event (failed_write h.0)).cut h.3).since
-  by-since event store store_n lists_n disk disk_n connection fate (Err stop.OutOfMemory) begins h =
-      leaves-front g (store_in store) disk disk_n _ _ (front-part (event (failed_write h.0)).done (event (failed_write h.0)).cut (event []).done (begins h.0)) h.3.since
+  pub by-since : (event : List Failure → Happened) (before : WithDisk StoreState D) (now : WorkingOn D) (connection : ConnectionState) (fate : Fate) (result : Result ⊤ Stop)
+      → BeginsWhole event → HearsBy g w event before now connection fate result → Leaves g before.disk now.disk (λ _. MakesFirst (store_in before.it) (event []).done)
+  by-since event before now connection fate (Ok done) begins h = h.2.since
+  by-since event before now connection fate (Err stop.Disk) begins h =
+      leaves-front g (store_in before.it) before.disk now.disk _ _ (begins h.0)
+      (cuts-among-all g on ⊤ (event (failed_write h.0)).missed before.it now.store before.disk now.disk (event (failed_write h.0)).done (event (failed_write h.0)).cut h.3).since
+  by-since event before now connection fate (Err stop.OutOfMemory) begins h =
+      leaves-front g (store_in before.it) before.disk now.disk _ _ (front-part (event (failed_write h.0)).done (event (failed_write h.0)).cut (event []).done (begins h.0)) h.3.since
 
   -- so it is of packets
-  pub taking-whole : (left : List ℕ) (caller : CallSign) (moment : ℕ) (store : Store) (lists : List CallerList) (state : State) (end : LinkEnd) (items : List Item) (parts : List ℕ) (first : ℕ)
-      → BeginsWhole (with_reads (λ failures. progressed left (taking caller moment store lists state end items failures first)) parts)
-  taking-whole left caller moment store lists state end items parts first part =
-      taking-begins caller moment store lists state end items (failed_write part ++ failed_reads parts) ([] ++ failed_reads parts) first
+  pub taking-whole : (left : List ℕ) (caller : CallSign) (moment : ℕ) (session : Session) (end : LinkEnd) (items : List Item) (parts : List ℕ) (first : ℕ)
+      → BeginsWhole (with_reads (λ failures. progressed left (taking caller moment session end items failures first)) parts)
+  taking-whole left caller moment session end items parts first part =
+      taking-begins caller moment session end items (failed_write part ++ failed_reads parts) ([] ++ failed_reads parts) first
       (λ n. (reads-among (failed_write part) parts n (one-writes part) ∙ sym (reads-among [] parts n none-writes), writes-none parts n))
 
   -- ---- packets, and then others
 
-  module _ (moment : ℕ) (session session_m session_n : SessionState) (store store_m store_n : StoreState) (lists lists_m lists_n : List CallerList) (disk disk_m disk_n : D) (link_m link_n : Kept)
-      (end : LinkEnd) (items others : List Item) (first : ℕ) (callers : caller_of session_m ≡ caller_of session)
-      (one : TakesPackets g w moment session store store_m lists lists_m end items first disk disk_m link_m session_m (Stays, Ok tt)) where
+  module _ (moment : ℕ) (old mid new : ConnectionState) (before between now : WorkingOn D) (end : LinkEnd) (items others : List Item) (first : ℕ) (callers : caller_of mid.session ≡ caller_of old.session)
+      (one : TakesPackets g w (taking_some moment old.session before end items first) (IsAmong first (length items)) (with_disk before.store before.disk) between (with_nothing_left mid.link mid.session) (Stays, Ok tt)) where
     -- the parts behind them begin here
     abbrev next : ℕ
     next = first + length items
 
     -- what they made
     abbrev made : Progress
-    made = taking (caller_of session) moment (store_in store) lists (state_in store session) end items ([] ++ failed_reads one.parts) first
+    made = taking (caller_of old.session) moment (session_on old.session before) end items ([] ++ failed_reads one.parts) first
 
     goes : going made ≡ true
     goes = going-on made one.by.1.1.0 one.by.0
 
     number : made.part ≡ next
-    number = taking-part (caller_of session) moment (store_in store) lists (state_in store session) end items ([] ++ failed_reads one.parts) first goes
+    number = taking-part (caller_of old.session) moment (session_on old.session before) end items ([] ++ failed_reads one.parts) first goes
 
-    before : All (λ part. part < next) one.parts
-    before = All-weaker (IsAmong first (length items)) (λ part. part < next) (λ part among. among.1) one.parts one.among
+    ahead : All (λ part. part < next) one.parts
+    ahead = All-weaker (IsAmong first (length items)) (λ part. part < next) (λ part among. among.1) one.parts one.among
 
     abbrev whole : List Failure → Progress
-    whole failures = taking (caller_of session) moment (store_in store) lists (state_in store session) end (items ++ others) failures first
+    whole failures = taking (caller_of old.session) moment (session_on old.session before) end (items ++ others) failures first
 
     abbrev part_of : List Failure → Progress
-    part_of failures = taking (caller_of session_m) moment (store_in store_m) lists_m (state_in store_m session_m) made.end others failures next
+    part_of failures = taking (caller_of mid.session) moment (session_on mid.session between) made.end others failures next
 
     -- the whole is what they made, and what the others make from there
     same : (writes : List Failure) (parts : List ℕ) → AreWrites writes → ((part : ℕ) → part < next → write_fails writes part ≡ false) → All (λ part. next ≤ part) parts
         → whole (writes ++ failed_reads (one.parts ++ parts)) ≡ behind made.missed made.done (part_of (writes ++ failed_reads parts))
     same writes parts are none later =
         let all : List Failure = writes ++ failed_reads (one.parts ++ parts) in
-        let these : taking (caller_of session) moment (store_in store) lists (state_in store session) end items all first ≡ made =
-        taking-alike (caller_of session) moment (store_in store) lists (state_in store session) end items all ([] ++ failed_reads one.parts) first
+        let these : taking (caller_of old.session) moment (session_on old.session before) end items all first ≡ made =
+        taking-alike (caller_of old.session) moment (session_on old.session before) end items all ([] ++ failed_reads one.parts) first
         (alike-first writes one.parts parts first next are none later) in
-        let from : CallSign → Store → List CallerList → State → ℕ → List Failure → Progress = λ caller s l state part failures. taking caller moment s l state made.end others failures part in
-        let stores : after_all (store_in store) made.done ≡ store_in store_m = sym (one.by.2.done (λ never. never)).0 in
-        taking-on (caller_of session) moment (store_in store) lists (state_in store session) end items others all first (subst (λ (p : Progress). going p ≡ true) (sym these) goes)
-        ∙ ap (λ (p : Progress). goes_from (caller_of session) moment all (store_in store) p others) these
+        let from : CallSign → Session → ℕ → Progress = λ caller session part. taking caller moment session made.end others all part in
+        let stores : after_all (store_in before.store) made.done ≡ store_in between.store = sym (one.by.2.done (λ never. never)).0 in
+        let here : on_from (store_in before.store) made ≡ session_on mid.session between = rw (stores, sym one.by.1.0, sym one.by.1.1.1.state) refl in
+        taking-on (caller_of old.session) moment (session_on old.session before) end items others all first (subst (λ (p : Progress). going p ≡ true) (sym these) goes)
+        ∙ ap (λ (p : Progress). goes_from (caller_of old.session) moment all (store_in before.store) p others) these
         ∙ ap (behind made.missed made.done) (
-        ap (λ (n : ℕ). from (caller_of session) (after_all (store_in store) made.done) made.lists made.state n all) number
-        ∙ ap (λ (s : Store). from (caller_of session) s made.lists made.state next all) stores
-        ∙ ap (λ (l : List CallerList). from (caller_of session) (store_in store_m) l made.state next all) (sym one.by.1.0)
-        ∙ ap (λ (s : State). from (caller_of session) (store_in store_m) lists_m s next all) (sym one.by.1.1.1.state)
-        ∙ ap (λ (c : CallSign). from c (store_in store_m) lists_m (state_in store_m session_m) next all) (sym callers)
-        ∙ taking-alike (caller_of session_m) moment (store_in store_m) lists_m (state_in store_m session_m) made.end others all (writes ++ failed_reads parts) next
-        (alike-second writes one.parts parts next (next + length others) are before))
+        ap (λ (n : ℕ). from (caller_of old.session) (on_from (store_in before.store) made) n) number
+        ∙ ap (λ (session : Session). from (caller_of old.session) session next) here
+        ∙ ap (λ (caller : CallSign). from caller (session_on mid.session between) next) (sym callers)
+        ∙ taking-alike (caller_of mid.session) moment (session_on mid.session between) made.end others all (writes ++ failed_reads parts) next
+        (alike-second writes one.parts parts next (next + length others) are ahead))
 
     by-then : (parts : List ℕ) → All (λ part. next ≤ part) parts → (fate : Fate) (result : Result ⊤ Stop)
-        → HearsBy g w (λ writes. progressed [] (part_of (writes ++ failed_reads parts))) store_m store_n lists_n disk_m disk_n (with_nothing_left link_n session_n) fate result
-        → HearsBy g w (λ writes. progressed [] (whole (writes ++ failed_reads (one.parts ++ parts)))) store store_n lists_n disk disk_n (with_nothing_left link_n session_n) fate result
+        → HearsBy g w (λ writes. progressed [] (part_of (writes ++ failed_reads parts))) (with_disk between.store between.disk) now (with_nothing_left new.link new.session) fate result
+        → HearsBy g w (λ writes. progressed [] (whole (writes ++ failed_reads (one.parts ++ parts)))) (with_disk before.store before.disk) now (with_nothing_left new.link new.session) fate result
     by-then parts later fate (Ok done) h =
         let part : Progress = part_of ([] ++ failed_reads parts) in
         let P : Progress → Type 0 =
-        λ p. (p.halt ≡ goes_on) × IsAfter w store_n lists_n (with_nothing_left link_n session_n) (progressed [] p) fate × DoesAmongReads g ⊥ p.missed store store_n disk disk_n p.done in
+        λ p. (p.halt ≡ goes_on) × IsAfter w now.store now.lists (with_nothing_left new.link new.session) (progressed [] p) fate × DoesAmongReads g ⊥ p.missed before.store now.store before.disk now.disk p.done in
         subst P (sym (same [] parts none-writes (λ n low. refl) later)) (
           h.0,
           h.1,
-          among-then g on ⊥ ⊥ made.missed part.missed store store_m store_n disk disk_m disk_n made.done part.done (λ never. never) one.by.2 h.2,
+          among-then g on ⊥ ⊥ made.missed part.missed before.store between.store now.store before.disk between.disk now.disk made.done part.done (λ never. never) one.by.2 h.2,
         )
     by-then parts later fate (Err stop.Disk) h =
         let failures : List Failure = failed_write h.0 ++ failed_reads parts in
         let part : Progress = part_of failures in
-        let there = taking-fails (caller_of session_m) moment (store_in store_m) lists_m (state_in store_m session_m) made.end others failures next h.1 in
+        let there = taking-fails (caller_of mid.session) moment (session_on mid.session between) made.end others failures next h.1 in
         let is : h.0 ≡ there.0 = same-part h.0 there.0 parts there.2 in
         let none : (n : ℕ) → n < next → write_fails (failed_write h.0) n ≡ false = λ n low. other-part h.0 n (λ here. (let at : next ≤ there.0 = there.1 in omega (arith, is, here))) in
         let P : Progress → Type 0 =
-        λ p. (p.halt ≡ fails) × IsAfter w store_n lists_n (with_nothing_left link_n session_n) (progressed [] p) fate × CutsOffAmongReads g ⊤ p.missed store store_n disk disk_n p.done p.cut in
+        λ p. (p.halt ≡ fails) × IsAfter w now.store now.lists (with_nothing_left new.link new.session) (progressed [] p) fate × CutsOffAmongReads g ⊤ p.missed before.store now.store before.disk now.disk p.done p.cut in
         let at : P (whole (failed_write h.0 ++ failed_reads (one.parts ++ parts))) =
         subst P (sym (same (failed_write h.0) parts (one-writes h.0) none later)) (
           h.1,
           h.2,
-          cuts-among-then g on ⊤ made.missed part.missed store store_m store_n disk disk_m disk_n made.done part.done part.cut one.by.2 h.3,
+          cuts-among-then g on ⊤ made.missed part.missed before.store between.store now.store before.disk between.disk now.disk made.done part.done part.cut one.by.2 h.3,
         ) in
         (h.0, at.0, at.1, at.2)
     by-then parts later fate (Err stop.OutOfMemory) h =
         let failures : List Failure = failed_write h.0 ++ failed_reads parts in
         let part : Progress = part_of failures in
-        let there = taking-fails (caller_of session_m) moment (store_in store_m) lists_m (state_in store_m session_m) made.end others failures next h.1 in
+        let there = taking-fails (caller_of mid.session) moment (session_on mid.session between) made.end others failures next h.1 in
         let is : h.0 ≡ there.0 = same-part h.0 there.0 parts there.2 in
         let none : (n : ℕ) → n < next → write_fails (failed_write h.0) n ≡ false = λ n low. other-part h.0 n (λ here. (let at : next ≤ there.0 = there.1 in omega (arith, is, here))) in
-        let P : Progress → Type 0 = λ p. (p.halt ≡ fails) × (fate ≡ Stays) × DoesAmongReads g ⊥ p.missed store store_n disk disk_n p.done in
+        let P : Progress → Type 0 = λ p. (p.halt ≡ fails) × (fate ≡ Stays) × DoesAmongReads g ⊥ p.missed before.store now.store before.disk now.disk p.done in
         let at : P (whole (failed_write h.0 ++ failed_reads (one.parts ++ parts))) =
         subst P (sym (same (failed_write h.0) parts (one-writes h.0) none later)) (
           h.1,
           h.2,
-          among-then g on ⊥ ⊥ made.missed part.missed store store_m store_n disk disk_m disk_n made.done part.done (λ never. never) one.by.2 h.3,
+          among-then g on ⊥ ⊥ made.missed part.missed before.store between.store now.store before.disk between.disk now.disk made.done part.done (λ never. never) one.by.2 h.3,
         ) in
         (h.0, at.0, at.1, at.2)
 
     -- packets were taken, and then the others
     pub takes-then : (told : Fate × Result ⊤ Stop)
-        → ((at : LinkEnd) → StandsFor w link_m at → TakesPackets g w moment session_m store_m store_n lists_m lists_n at others next disk_m disk_n link_n session_n told)
-        → TakesPackets g w moment session store store_n lists lists_n end (items ++ others) first disk disk_n link_n session_n told
+        → ((at : LinkEnd) → StandsFor w mid.link at → TakesPackets g w (taking_some moment mid.session between at others next) (IsAmong next (length others)) (with_disk between.store between.disk) now (with_nothing_left new.link new.session) told)
+        → TakesPackets g w (taking_some moment old.session before end (items ++ others) first) (IsAmong first (length (items ++ others))) (with_disk before.store before.disk) now (with_nothing_left new.link new.session) told
     takes-then told more =
         let two = more made.end one.by.1.1.1.link in
         let sum : length (items ++ others) ≡ length items + length others = length-append items others in
@@ -196,46 +194,45 @@ module _ {D : Type 0} (g : Ghosts D) (on : (first second third : D) → g.lasts 
 
   -- ---- a stop
 
-  module _ (moment : ℕ) (session : SessionState) (store store_n : StoreState) (lists lists_n : List CallerList) (disk disk_n : D) (now : ConnectionState) (end : LinkEnd) (items : List Item)
-      (left : List ℕ) where
+  module _ (moment : ℕ) (session : SessionState) (before now : WorkingOn D) (new : ConnectionState) (end : LinkEnd) (items : List Item) (left : List ℕ) where
     abbrev of_items : List Failure → Progress
-    of_items failures = taking (caller_of session) moment (store_in store) lists (state_in store session) end items failures 0
+    of_items failures = taking (caller_of session) moment (session_on session before) end items failures 0
 
     module _ (others : List Item) where
       abbrev of_all : List Failure → Progress
-      of_all failures = taking (caller_of session) moment (store_in store) lists (state_in store session) end (items ++ others) failures 0
+      of_all failures = taking (caller_of session) moment (session_on session before) end (items ++ others) failures 0
 
       ended : (failures : List Failure) → going (of_items failures) ≡ false → of_all failures ≡ of_items failures
-      ended failures stops = taking-ended (caller_of session) moment (store_in store) lists (state_in store session) end items others failures 0 stops
+      ended failures stops = taking-ended (caller_of session) moment (session_on session before) end items others failures 0 stops
 
       by-ended : (parts : List ℕ) (fate : Fate) (result : Result ⊤ Stop) → IsStop (fate, result)
-          → HearsBy g w (λ writes. progressed [] (of_items (writes ++ failed_reads parts))) store store_n lists_n disk disk_n (with_nothing_left now.link now.session) fate result
-          → HearsBy g w (λ writes. progressed left (of_all (writes ++ failed_reads parts))) store store_n lists_n disk disk_n now fate result
+          → HearsBy g w (λ writes. progressed [] (of_items (writes ++ failed_reads parts))) (with_disk before.store before.disk) now (with_nothing_left new.link new.session) fate result
+          → HearsBy g w (λ writes. progressed left (of_all (writes ++ failed_reads parts))) (with_disk before.store before.disk) now new fate result
       by-ended parts Stays (Ok tt) stops h = absurd (stops refl)
       by-ended parts Ends (Ok tt) stops h =
           let failures : List Failure = [] ++ failed_reads parts in
-          let P : Progress → Type 0 = λ p. (p.halt ≡ goes_on) × IsAfter w store_n lists_n now (progressed left p) Ends × DoesAmongReads g ⊥ p.missed store store_n disk disk_n p.done in
+          let P : Progress → Type 0 = λ p. (p.halt ≡ goes_on) × IsAfter w now.store now.lists new (progressed left p) Ends × DoesAmongReads g ⊥ p.missed before.store now.store before.disk now.disk p.done in
           subst P (sym (ended failures (going-over (of_items failures) h.1.1.0))) (h.0, h.1, h.2)
       by-ended parts Stays (Err stop.Disk) stops h =
           let failures : List Failure = failed_write h.0 ++ failed_reads parts in
           absurd (
-          let over : (of_items failures).over ≡ true = taking-failed (caller_of session) moment (store_in store) lists (state_in store session) end items failures 0 h.1 in
+          let over : (of_items failures).over ≡ true = taking-failed (caller_of session) moment (session_on session before) end items failures 0 h.1 in
           let not_over : (of_items failures).over ≡ false = h.2.1.0 in cc)
       by-ended parts Ends (Err stop.Disk) stops h =
           let failures : List Failure = failed_write h.0 ++ failed_reads parts in
-          let P : Progress → Type 0 = λ p. (p.halt ≡ fails) × IsAfter w store_n lists_n now (progressed left p) Ends × CutsOffAmongReads g ⊤ p.missed store store_n disk disk_n p.done p.cut in
+          let P : Progress → Type 0 = λ p. (p.halt ≡ fails) × IsAfter w now.store now.lists new (progressed left p) Ends × CutsOffAmongReads g ⊤ p.missed before.store now.store before.disk now.disk p.done p.cut in
           let at : P (of_all failures) = subst P (sym (ended failures (going-halted (of_items failures) fails refl h.1))) (h.1, h.2, h.3) in
           (h.0, at.0, at.1, at.2)
       by-ended parts fate (Err stop.OutOfMemory) stops h =
           let failures : List Failure = failed_write h.0 ++ failed_reads parts in
-          let P : Progress → Type 0 = λ p. (p.halt ≡ fails) × (fate ≡ Stays) × DoesAmongReads g ⊥ p.missed store store_n disk disk_n p.done in
+          let P : Progress → Type 0 = λ p. (p.halt ≡ fails) × (fate ≡ Stays) × DoesAmongReads g ⊥ p.missed before.store now.store before.disk now.disk p.done in
           let at : P (of_all failures) = subst P (sym (ended failures (going-halted (of_items failures) fails refl h.1))) (h.1, h.2, h.3) in
           (h.0, at.0, at.1, at.2)
 
       -- whatever comes behind packets that stopped the connection isn't taken
       pub parts-stopped : (told : Fate × Result ⊤ Stop) → IsStop told
-          → TakesPackets g w moment session store store_n lists lists_n end items 0 disk disk_n now.link now.session told
-          → HearsParts g w left of_all store store_n lists_n disk disk_n now told
+          → TakesPackets g w (taking_some moment session before end items 0) (IsAmong 0 (length items)) (with_disk before.store before.disk) now (with_nothing_left new.link new.session) told
+          → HearsParts g w left of_all (with_disk before.store before.disk) now new told
       parts-stopped told stops takes =
           let by = by-ended takes.parts told.0 told.1 stops takes.by in
           record {
@@ -244,21 +241,21 @@ module _ {D : Type 0} (g : Ghosts D) (on : (first second third : D) → g.lasts 
                   parts = takes.parts;
                   by = by;
                   since =
-                      by-since (with_reads (λ failures. progressed left (of_all failures)) takes.parts) store store_n lists_n disk disk_n now told.0 told.1
-                      (taking-whole left (caller_of session) moment (store_in store) lists (state_in store session) end (items ++ others) takes.parts 0) by;
+                      by-since (with_reads (λ failures. progressed left (of_all failures)) takes.parts) (with_disk before.store before.disk) now new told.0 told.1
+                      (taking-whole left (caller_of session) moment (session_on session before) end (items ++ others) takes.parts 0) by;
                 };
-            over = λ failures. taking-failed (caller_of session) moment (store_in store) lists (state_in store session) end (items ++ others) failures 0;
+            over = λ failures. taking-failed (caller_of session) moment (session_on session before) end (items ++ others) failures 0;
             settled = λ goes. absurd (stops goes);
           }
 
     -- all packets were taken, and these octets are left
-    pub parts-whole : now.octets ≡ left → TakesPackets g w moment session store store_n lists lists_n end items 0 disk disk_n now.link now.session (Stays, Ok tt)
-        → HearsParts g w left of_items store store_n lists_n disk disk_n now (Stays, Ok tt)
+    pub parts-whole : new.octets ≡ left → TakesPackets g w (taking_some moment session before end items 0) (IsAmong 0 (length items)) (with_disk before.store before.disk) now (with_nothing_left new.link new.session) (Stays, Ok tt)
+        → HearsParts g w left of_items (with_disk before.store before.disk) now new (Stays, Ok tt)
     parts-whole octets takes =
         let h = takes.by in
         let failures : List Failure = [] ++ failed_reads takes.parts in
         let number : (of_items failures).part ≡ length items =
-        (let there = taking-part (caller_of session) moment (store_in store) lists (state_in store session) end items failures 0 (going-on (of_items failures) h.1.1.0 h.0) in omega arith) in
+        (let there = taking-part (caller_of session) moment (session_on session before) end items failures 0 (going-on (of_items failures) h.1.1.0 h.0) in omega arith) in
         record {
           hears =
               record {
@@ -266,12 +263,12 @@ module _ {D : Type 0} (g : Ghosts D) (on : (first second third : D) → g.lasts 
                 by = (h.0, (h.1.0, (h.1.1.0, record { link = h.1.1.1.link; rest = octets; state = h.1.1.1.state })), h.2);
                 since = h.2.since;
               };
-          over = λ writes. taking-failed (caller_of session) moment (store_in store) lists (state_in store session) end items writes 0;
+          over = λ writes. taking-failed (caller_of session) moment (session_on session before) end items writes 0;
           settled = λ goes. record {
             before =
                 All-weaker (IsAmong 0 (length items)) (λ part. part < (of_items failures).part) (λ part among. omega (arith, among.1, number)) takes.parts takes.among;
             later = λ more later.
-                taking-alike (caller_of session) moment (store_in store) lists (state_in store session) end items ([] ++ failed_reads (takes.parts ++ more)) failures 0
+                taking-alike (caller_of session) moment (session_on session before) end items ([] ++ failed_reads (takes.parts ++ more)) failures 0
                 (λ n low high. alike-first [] takes.parts more 0 (length items) none-writes (λ m before. refl)
                 (All-weaker (λ part. (of_items failures).part ≤ part) (λ part. length items ≤ part) (λ part behind. omega (arith, behind, number)) more later) n low (omega (arith, high)));
           };

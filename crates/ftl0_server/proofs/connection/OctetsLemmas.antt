@@ -1,5 +1,5 @@
 -- What the packets of the octets of a frame make of a connection.
-use Rattle.std.proofs.Common.{◌≡◌, ◌⊎◌, inl, inr, ℕ, List, ◌++◌, Ok, Err, refl, ap, sym, ◌∙◌, subst}
+use Rattle.std.proofs.Common.{◌≡◌, ◌⊎◌, inl, inr, ℕ, List, ◌++◌, refl, ap, sym, ◌∙◌, subst, Ok, Err}
 use Rattle.std.specs.Prelude.{Result, ⊤}
 use Rattle.px_base.specs.CallSign.{CallSign}
 use Rattle.disk_model.specs.declared.disk.Disk.{Ghosts}
@@ -8,19 +8,18 @@ use Rattle.ax25_link.specs.Window.{Window}
 use Rattle.ftl0_packets.specs.Layout.{Item}
 use Rattle.ftl0_packets.specs.Reading.{packets_of, rest_of}
 use Rattle.packet_link.proofs.Fronts.{front-whole}
-use Rattle.ftl0_session.specs.Lists.Lists.{CallerList}
-use Rattle.file_store.specs.State.{StoreState, store_in}
-use Rattle.ftl0_session.specs.Uploads.Failures.{Failure}
+use Rattle.file_store.specs.State.{store_in}
 use Rattle.disk_model.specs.declared.halt.Halt.{Halt as Stop}
-use Rattle.ftl0_session.specs.SessionState.{caller_of, state_in}
+use Rattle.ftl0_session.specs.SessionState.{WorkingOn, caller_of, state_in}
 use Rattle.ftl0_session.specs.Table.{State}
+use Rattle.ftl0_session.specs.Uploads.SessionState.{with_disk}
+use Rattle.ftl0_session.specs.Run.{session_over}
 use Rattle.ftl0_server.specs.declared.connection.fate.Fate.{Fate}
 use Rattle.ftl0_server.specs.declared.connection.fate.Fate.TheVariants.{Stays, Ends}
 use Rattle.ftl0_server.specs.Connection.Connected.{Connected}
 use Rattle.ftl0_server.specs.Connection.ConnectionState.{ConnectionState, IsConnection}
-use Rattle.ftl0_server.specs.Connection.Feeding.{FeedsAll, HearsParts, IsGoing, TakesPackets, carrying}
-use Rattle.ftl0_server.specs.Connection.Hearing.{taking_octets}
-use Rattle.ftl0_server.specs.Connection.Taking.{Progress, taking}
+use Rattle.ftl0_server.specs.Connection.Feeding.{FeedsAll, HearsParts, IsGoing, carrying}
+use Rattle.ftl0_server.specs.Connection.Taking.{taking}
 use Rattle.ftl0_server.proofs.connection.HearsLemmas.{IsStop, parts-stopped, parts-whole}
 
 -- the connection goes on, or it stops
@@ -29,58 +28,34 @@ going-or (Stays, Ok done) = inl refl
 going-or (Stays, Err why) = inr (λ going. (let same : Err why ≡ Ok tt = ap (λ (t : Fate × Result ⊤ Stop). t.1) going in cc same))
 going-or (Ends, result) = inr (λ going. (let same : Ends ≡ Stays = ap (λ (t : Fate × Result ⊤ Stop). t.0) going in cc same))
 
-module _ {D : Type 0} (g : Ghosts D) (on : (first second third : D) → g.lasts first second → g.lasts second third → g.lasts first third) (moment : ℕ) (old now : ConnectionState) (octets : List ℕ)
-    (store store_n : StoreState) (lists lists_n : List CallerList) (disk disk_n : D) (told : Fate × Result ⊤ Stop) (peer : old.link.peer ≡ caller_of old.session) (w : Window) (c : Connected)
-    (is : IsConnection w store old c) where
-  -- what packets make of this caller's session in this state
-  abbrev taking_items : CallSign → State → List Item → List Failure → Progress
-  taking_items caller state items failures = taking caller moment (store_in store) lists state c.end items failures 0
-
-  -- what was heard of these octets where these waited
-  abbrev Heard : CallSign → State → List ℕ → Type 0
-  Heard caller state waiting =
-      HearsParts g w (rest_of (waiting ++ octets)) (taking_items caller state (packets_of (waiting ++ octets))) store store_n lists_n disk disk_n now told
-
-  -- The connection of the definitions is that of the session's caller.
-  at-caller : caller_of old.session ≡ c.end.peer
-  at-caller = sym peer ∙ ap (λ (k : Kept). k.peer) is.link.kept
+module _ {D : Type 0} (g : Ghosts D) (on : (first second third : D) → g.lasts first second → g.lasts second third → g.lasts first third) (moment : ℕ) (old new : ConnectionState) (octets : List ℕ)
+    (before now : WorkingOn D) (told : Fate × Result ⊤ Stop) (peer : old.link.peer ≡ caller_of old.session) (w : Window) (c : Connected) (is : IsConnection w before.store old c) where
+  -- what was heard, where these packets of these octets came, and others waited before
+  abbrev Heard : CallSign → State → List ℕ → List Item → Type 0
+  Heard caller state waiting items =
+      HearsParts g w (rest_of (waiting ++ octets)) (λ failures. taking caller moment (session_over (store_in before.store) before.lists state) c.end items failures 0)
+      (with_disk before.store before.disk) now new told
 
   -- by the octets, the state and the caller of the definitions' connection
-  at-connected : Heard (caller_of old.session) (state_in store old.session) old.octets → Heard c.end.peer c.state c.rest
+  at-connected : Heard (caller_of old.session) (state_in before.store old.session) old.octets (packets_of (old.octets ++ octets)) → Heard c.end.peer c.state c.rest (packets_of (c.rest ++ octets))
   at-connected h =
-      subst (λ (waiting : List ℕ). Heard c.end.peer c.state waiting) is.rest
-      (subst (λ (state : State). Heard c.end.peer state old.octets) is.state (subst (λ (caller : CallSign). Heard caller (state_in store old.session) old.octets) at-caller h))
+      let P : CallSign → State → List ℕ → Type 0 = λ caller state waiting. Heard caller state waiting (packets_of (waiting ++ octets)) in
+      subst (λ (waiting : List ℕ). P c.end.peer c.state waiting) is.rest
+      (subst (λ (state : State). P c.end.peer state old.octets) is.state
+      (subst (λ (caller : CallSign). P caller (state_in before.store old.session) old.octets) (sym peer ∙ ap (λ (k : Kept). k.peer) is.link.kept) h))
 
-  module _ (h : FeedsAll g moment (carrying old.link (old.octets ++ octets) old.session) now store store_n lists lists_n disk disk_n told) where
-    -- the same of these packets
-    abbrev Made : List Item → Fate × Result ⊤ Stop → Type 0
-    Made items result =
-        HearsParts g w (rest_of (old.octets ++ octets)) (taking_items (caller_of old.session) (state_in store old.session) items) store store_n lists_n disk disk_n now result
-
-    -- they stopped at a packet
-    hears-stopped : IsStop told → HearsParts g w (rest_of (c.rest ++ octets)) (taking_octets moment (store_in store) lists c c.end octets) store store_n lists_n disk disk_n now told
-    hears-stopped stops =
-        at-connected
-        (subst (λ (items : List Item). Made items told) (sym h.feeds.front.packets)
-        (parts-stopped g on w moment old.session store store_n lists lists_n disk disk_n now c.end h.feeds.items (rest_of (old.octets ++ octets)) (packets_of h.left) told stops
-        (h.feeds.takes w c.end 0 is.link)))
-
-    -- all were taken
-    hears-whole : IsGoing told → HearsParts g w (rest_of (c.rest ++ octets)) (taking_octets moment (store_in store) lists c c.end octets) store store_n lists_n disk disk_n now told
-    hears-whole going =
-        let whole = front-whole (old.octets ++ octets) h.left now.octets h.feeds.items h.feeds.front (h.none going) (h.rest going) in
-        let Takes : Fate × Result ⊤ Stop → Type 0 =
-        λ t. TakesPackets g w moment old.session store store_n lists lists_n c.end h.feeds.items 0 disk disk_n now.link now.session t in
-        at-connected
-        (subst (λ (items : List Item). Made items told) whole.0
-        (subst (λ (t : Fate × Result ⊤ Stop). Made h.feeds.items t) (sym going)
-        (parts-whole g on w moment old.session store store_n lists lists_n disk disk_n now c.end h.feeds.items (rest_of (old.octets ++ octets)) whole.1
-        (subst Takes going (h.feeds.takes w c.end 0 is.link)))))
-
-    -- they stopped, or all were taken
-    pub hears-all : HearsParts g w (rest_of (c.rest ++ octets)) (taking_octets moment (store_in store) lists c c.end octets) store store_n lists_n disk disk_n now told
-    hears-all =
-        elim (going-or told) [
-          | inl going ↦ hears-whole going
-          | inr stops ↦ hears-stopped stops
-        ]
+  -- they stopped at a packet, or all were taken
+  pub hears-all : FeedsAll g moment (carrying old.link (old.octets ++ octets) old.session) new before now told → Heard c.end.peer c.state c.rest (packets_of (c.rest ++ octets))
+  hears-all h =
+      let P : List Item → Type 0 = λ items. Heard (caller_of old.session) (state_in before.store old.session) old.octets items in
+      elim (going-or told) [
+        | inl going ↦
+            let whole = front-whole (old.octets ++ octets) h.left new.octets h.feeds.items h.feeds.front (h.none going) (h.rest going) in
+            at-connected
+            (subst P whole.0
+            (rw going (parts-whole g on w moment old.session before now new c.end h.feeds.items (rest_of (old.octets ++ octets)) whole.1 (rw going at h.feeds.takes w c.end 0 is.link))))
+        | inr stops ↦
+            at-connected
+            (subst P (sym h.feeds.front.packets)
+            (parts-stopped g on w moment old.session before now new c.end h.feeds.items (rest_of (old.octets ++ octets)) (packets_of h.left) told stops (h.feeds.takes w c.end 0 is.link)))
+      ]

@@ -8,12 +8,12 @@ use Rattle.ax25_link.specs.Calls.{after_push}
 use Rattle.ax25_link.specs.Ends.{LinkEnd}
 use Rattle.ftl0_packets.specs.Layout.{Item}
 use Rattle.ftl0_packets.specs.Items.{texts}
-use Rattle.ftl0_session.specs.Lists.Lists.{CallerList}
 use Rattle.file_store.specs.Command.{Command, after_all}
 use Rattle.file_store.specs.Store.{Store}
 use Rattle.file_store.proofs.Offered.{after_all-append}
 use Rattle.ftl0_session.specs.Uploads.Failures.{Failure, read_fails, write_fails}
-use Rattle.ftl0_session.specs.Table.{Row, State, row_at, session_row, failed_reads_told}
+use Rattle.ftl0_session.specs.Table.{Row, row_at, session_row, failed_reads_told}
+use Rattle.ftl0_session.specs.Run.{Session, session_over}
 use Rattle.ftl0_server.specs.Connection.Laws.{TakingLaw}
 use Rattle.ftl0_server.specs.Connection.Taking.{Halt, Progress, after_row, failing_at, fails, fits, giving_up, goes_on}
 use Rattle.ftl0_server.specs.Connection.Taking.{taking, taking_row}
@@ -43,60 +43,67 @@ behind-then first second some others progress =
     ∙ ap (λ (done : List Command). record progress { missed = (first + second) + progress.missed; done = done }) (sym (append_assoc some others progress.done))
 
 -- what a packet's row makes, by whether a write fails and whether its replies fit, where this comes behind it
-abbrev pub by_tests : LinkEnd → State → List CallerList → ℕ → Row → Bool → Bool → Progress → Progress
-by_tests end state lists part row failed enough later =
-    if failed then failing_at end state lists row part
+abbrev pub by_tests : Session → LinkEnd → ℕ → Row → Bool → Bool → Progress → Progress
+by_tests session end part row failed enough later =
+    if failed then failing_at end session.state session.lists row part
     else if enough then after_row row later
     else giving_up end row part
 
+-- the session behind a row
+abbrev pub behind_row : Session → Row → Session
+behind_row session row = session_over (after_all session.store row.commands) row.lists row.state
+
 module _ (caller : CallSign) (moment : ℕ) where
+  -- the row of a packet that is the event's part of this number
+  abbrev pub row_in : Session → Item → List Failure → ℕ → Row
+  row_in session item failures part = row_at caller moment session.store session.lists session.state item failures part
+
   -- what comes behind a row
-  abbrev pub later_of : Store → LinkEnd → List Item → List Failure → ℕ → Row → Progress
-  later_of store end items failures part row = taking caller moment (after_all store row.commands) row.lists row.state (after_push end (texts row.replies)) items failures (suc part)
+  abbrev pub later_of : Session → LinkEnd → List Item → List Failure → ℕ → Row → Progress
+  later_of session end items failures part row = taking caller moment (behind_row session row) (after_push end (texts row.replies)) items failures (suc part)
 
   -- ---- failures that are alike
 
-  pub taking-alike : (store : Store) (lists : List CallerList) (state : State) (end : LinkEnd) (items : List Item) (some others : List Failure) (part : ℕ)
+  pub taking-alike : (session : Session) (end : LinkEnd) (items : List Item) (some others : List Failure) (part : ℕ)
       → AreAlike part (part + length items) some others
-      → taking caller moment store lists state end items some part ≡ taking caller moment store lists state end items others part
-  taking-alike store lists state end [] some others part alike = refl
-  taking-alike store lists state end (item ∷ items) some others part alike =
+      → taking caller moment session end items some part ≡ taking caller moment session end items others part
+  taking-alike session end [] some others part alike = refl
+  taking-alike session end (item ∷ items) some others part alike =
       let here = alike part (omega arith) (omega arith) in
-      let row : Bool → Row = λ reads. session_row caller moment store lists state item reads in
+      let row : Bool → Row = λ reads. session_row caller moment session.store session.lists session.state item reads in
       let whole : Bool → Bool → List Failure → Progress =
-      λ reads writes failures. taking_row end state lists part writes (later_of store end items failures part (row reads)) (row reads) in
+      λ reads writes failures. taking_row end session.state session.lists part writes (later_of session end items failures part (row reads)) (row reads) in
       ap (λ (b : Bool). whole b (write_fails some part) some) here.0 ∙ ap (λ (b : Bool). whole (read_fails others part) b some) here.1
-      ∙ ap (λ (later : Progress). taking_row end state lists part (write_fails others part) later (row (read_fails others part)))
-      (taking-alike (after_all store (row (read_fails others part)).commands) (row (read_fails others part)).lists (row (read_fails others part)).state
-      (after_push end (texts (row (read_fails others part)).replies)) items some others (suc part) (λ n low high. alike n (omega arith) (omega arith)))
+      ∙ ap (λ (later : Progress). taking_row end session.state session.lists part (write_fails others part) later (row (read_fails others part)))
+      (taking-alike (behind_row session (row (read_fails others part))) (after_push end (texts (row (read_fails others part)).replies)) items some others (suc part) (λ n low high. alike n (omega arith) (omega arith)))
 
 -- ---- packets at which the taking stops
 
-module _ (end : LinkEnd) (state : State) (lists : List CallerList) (part : ℕ) (row : Row) (later more : Progress) (each : going later ≡ false → more ≡ later) where
-  ended-by : (failed enough : Bool) → going (by_tests end state lists part row failed enough later) ≡ false
-      → by_tests end state lists part row failed enough more ≡ by_tests end state lists part row failed enough later
+module _ (session : Session) (end : LinkEnd) (part : ℕ) (row : Row) (later more : Progress) (each : going later ≡ false → more ≡ later) where
+  ended-by : (failed enough : Bool) → going (by_tests session end part row failed enough later) ≡ false
+      → by_tests session end part row failed enough more ≡ by_tests session end part row failed enough later
   ended-by true enough stops = refl
   ended-by false true stops = ap (after_row row) (each stops)
   ended-by false false stops = refl
 
 module _ (caller : CallSign) (moment : ℕ) where
   -- whatever comes behind packets at which the taking stops isn't taken
-  pub taking-ended : (store : Store) (lists : List CallerList) (state : State) (end : LinkEnd) (items others : List Item) (failures : List Failure) (part : ℕ)
-      → going (taking caller moment store lists state end items failures part) ≡ false
-      → taking caller moment store lists state end (items ++ others) failures part ≡ taking caller moment store lists state end items failures part
-  taking-ended store lists state end [] others failures part stops = absurd cc
-  taking-ended store lists state end (item ∷ items) others failures part stops =
-      let row : Row = row_at caller moment store lists state item failures part in
-      ended-by end state lists part row (later_of caller moment store end items failures part row) (later_of caller moment store end (items ++ others) failures part row)
-      (taking-ended (after_all store row.commands) row.lists row.state (after_push end (texts row.replies)) items others failures (suc part))
+  pub taking-ended : (session : Session) (end : LinkEnd) (items others : List Item) (failures : List Failure) (part : ℕ)
+      → going (taking caller moment session end items failures part) ≡ false
+      → taking caller moment session end (items ++ others) failures part ≡ taking caller moment session end items failures part
+  taking-ended session end [] others failures part stops = absurd cc
+  taking-ended session end (item ∷ items) others failures part stops =
+      let row : Row = row_in caller moment session item failures part in
+      ended-by session end part row (later_of caller moment session end items failures part row) (later_of caller moment session end (items ++ others) failures part row)
+      (taking-ended (behind_row session row) (after_push end (texts row.replies)) items others failures (suc part))
       (write_fails failures part) (fits end (texts row.replies)) stops
 
 -- where the disk failed the session is over
 abbrev pub IsOverAtFault : Progress → Type 0
 IsOverAtFault progress = progress.halt ≡ fails → progress.over ≡ true
 
-module _ (end : LinkEnd) (state : State) (lists : List CallerList) (part : ℕ) (row : Row) (later : Progress) (each : IsOverAtFault later) where
-  over-by : (failed enough : Bool) → IsOverAtFault (by_tests end state lists part row failed enough later)
+module _ (session : Session) (end : LinkEnd) (part : ℕ) (row : Row) (later : Progress) (each : IsOverAtFault later) where
+  over-by : (failed enough : Bool) → IsOverAtFault (by_tests session end part row failed enough later)
   over-by true enough halts = refl
   over-by false true halts = each halts
   over-by false false halts = refl
@@ -108,79 +115,82 @@ FailsFrom part failures = (n : ℕ) × (part ≤ n) × (write_fails failures n �
 fails-later : (part : ℕ) (failures : List Failure) → FailsFrom (suc part) failures → FailsFrom part failures
 fails-later part failures h = (h.0, omega (arith, h.1), h.2)
 
-module _ (end : LinkEnd) (state : State) (lists : List CallerList) (part : ℕ) (failures : List Failure) (row : Row) (later : Progress) (each : later.halt ≡ fails → FailsFrom (suc part) failures) where
-  fails-by : (failed enough : Bool) → write_fails failures part ≡ failed → (by_tests end state lists part row failed enough later).halt ≡ fails → FailsFrom part failures
+module _ (session : Session) (end : LinkEnd) (part : ℕ) (failures : List Failure) (row : Row) (later : Progress) (each : later.halt ≡ fails → FailsFrom (suc part) failures) where
+  fails-by : (failed enough : Bool) → write_fails failures part ≡ failed → (by_tests session end part row failed enough later).halt ≡ fails → FailsFrom part failures
   fails-by true enough is halts = (part, omega arith, is)
   fails-by false true is halts = fails-later part failures (each halts)
   fails-by false false is halts = absurd cc
 
 module _ (caller : CallSign) (moment : ℕ) where
-  pub taking-failed : (store : Store) (lists : List CallerList) (state : State) (end : LinkEnd) (items : List Item) (failures : List Failure) (part : ℕ)
-      → IsOverAtFault (taking caller moment store lists state end items failures part)
-  taking-failed store lists state end [] failures part halts = absurd cc
-  taking-failed store lists state end (item ∷ items) failures part halts =
-      let row : Row = row_at caller moment store lists state item failures part in
-      over-by end state lists part row (later_of caller moment store end items failures part row)
-      (taking-failed (after_all store row.commands) row.lists row.state (after_push end (texts row.replies)) items failures (suc part))
+  pub taking-failed : (session : Session) (end : LinkEnd) (items : List Item) (failures : List Failure) (part : ℕ)
+      → IsOverAtFault (taking caller moment session end items failures part)
+  taking-failed session end [] failures part halts = absurd cc
+  taking-failed session end (item ∷ items) failures part halts =
+      let row : Row = row_in caller moment session item failures part in
+      over-by session end part row (later_of caller moment session end items failures part row)
+      (taking-failed (behind_row session row) (after_push end (texts row.replies)) items failures (suc part))
       (write_fails failures part) (fits end (texts row.replies)) halts
 
-  pub taking-fails : (store : Store) (lists : List CallerList) (state : State) (end : LinkEnd) (items : List Item) (failures : List Failure) (part : ℕ)
-      → (taking caller moment store lists state end items failures part).halt ≡ fails → FailsFrom part failures
-  taking-fails store lists state end [] failures part halts = absurd cc
-  taking-fails store lists state end (item ∷ items) failures part halts =
-      let row : Row = row_at caller moment store lists state item failures part in
-      fails-by end state lists part failures row (later_of caller moment store end items failures part row)
-      (taking-fails (after_all store row.commands) row.lists row.state (after_push end (texts row.replies)) items failures (suc part))
+  pub taking-fails : (session : Session) (end : LinkEnd) (items : List Item) (failures : List Failure) (part : ℕ)
+      → (taking caller moment session end items failures part).halt ≡ fails → FailsFrom part failures
+  taking-fails session end [] failures part halts = absurd cc
+  taking-fails session end (item ∷ items) failures part halts =
+      let row : Row = row_in caller moment session item failures part in
+      fails-by session end part failures row (later_of caller moment session end items failures part row)
+      (taking-fails (behind_row session row) (after_push end (texts row.replies)) items failures (suc part))
       (write_fails failures part) (fits end (texts row.replies)) refl halts
 
 -- ---- packets after which it goes on
 
--- what packets make behind others after which it goes on
+-- where it goes on behind others, and what packets make there
+abbrev pub on_from : Store → Progress → Session
+on_from store from = session_over (after_all store from.done) from.lists from.state
+
 abbrev pub goes_from : CallSign → ℕ → List Failure → Store → Progress → List Item → Progress
 goes_from caller moment failures store from others =
-    behind from.missed from.done (taking caller moment (after_all store from.done) from.lists from.state from.end others failures from.part)
+    behind from.missed from.done (taking caller moment (on_from store from) from.end others failures from.part)
 
-module _ (caller : CallSign) (moment : ℕ) (failures : List Failure) (store : Store) (end : LinkEnd) (state : State) (lists : List CallerList) (part : ℕ) (row : Row) (others : List Item)
+module _ (caller : CallSign) (moment : ℕ) (failures : List Failure) (session : Session) (end : LinkEnd) (part : ℕ) (row : Row) (others : List Item)
     (later more : Progress) where
-  on-by : (going later ≡ true → more ≡ goes_from caller moment failures (after_all store row.commands) later others)
-      → (failed enough : Bool) → going (by_tests end state lists part row failed enough later) ≡ true
-      → by_tests end state lists part row failed enough more ≡ goes_from caller moment failures store (by_tests end state lists part row failed enough later) others
+  on-by : (going later ≡ true → more ≡ goes_from caller moment failures (after_all session.store row.commands) later others)
+      → (failed enough : Bool) → going (by_tests session end part row failed enough later) ≡ true
+      → by_tests session end part row failed enough more ≡ goes_from caller moment failures session.store (by_tests session end part row failed enough later) others
   on-by each true enough goes = absurd cc
   on-by each false true goes =
-      let at : after_all (after_all store row.commands) later.done ≡ after_all store (row.commands ++ later.done) = sym (after_all-append row.commands later.done store) in
+      let at : after_all (after_all session.store row.commands) later.done ≡ after_all session.store (row.commands ++ later.done) = sym (after_all-append row.commands later.done session.store) in
       ap (after_row row) (each goes)
       ∙ behind-then (failed_reads_told row.replies) later.missed row.commands later.done
-      (taking caller moment (after_all (after_all store row.commands) later.done) later.lists later.state later.end others failures later.part)
-      ∙ ap (λ (s : Store). behind (failed_reads_told row.replies + later.missed) (row.commands ++ later.done) (taking caller moment s later.lists later.state later.end others failures later.part)) at
+      (taking caller moment (on_from (after_all session.store row.commands) later) later.end others failures later.part)
+      ∙ ap (λ (s : Store). behind (failed_reads_told row.replies + later.missed) (row.commands ++ later.done) (taking caller moment (session_over s later.lists later.state) later.end others failures later.part)) at
   on-by each false false goes = absurd cc
 
-  part-by : (count : ℕ) → (going later ≡ true → later.part ≡ suc part + count) → (failed enough : Bool) → going (by_tests end state lists part row failed enough later) ≡ true
-      → (by_tests end state lists part row failed enough later).part ≡ part + suc count
+  part-by : (count : ℕ) → (going later ≡ true → later.part ≡ suc part + count) → (failed enough : Bool) → going (by_tests session end part row failed enough later) ≡ true
+      → (by_tests session end part row failed enough later).part ≡ part + suc count
   part-by count each true enough goes = absurd cc
   part-by count each false true goes = let there = each goes in omega arith
   part-by count each false false goes = absurd cc
 
 module _ (caller : CallSign) (moment : ℕ) where
   -- what comes behind packets after which it goes on is taken from there
-  pub taking-on : (store : Store) (lists : List CallerList) (state : State) (end : LinkEnd) (items others : List Item) (failures : List Failure) (part : ℕ)
-      → going (taking caller moment store lists state end items failures part) ≡ true
-      → taking caller moment store lists state end (items ++ others) failures part
-      ≡ goes_from caller moment failures store (taking caller moment store lists state end items failures part) others
-  taking-on store lists state end [] others failures part goes = behind-none (taking caller moment store lists state end others failures part)
-  taking-on store lists state end (item ∷ items) others failures part goes =
-      let row : Row = row_at caller moment store lists state item failures part in
-      on-by caller moment failures store end state lists part row others (later_of caller moment store end items failures part row) (later_of caller moment store end (items ++ others) failures part row)
-      (taking-on (after_all store row.commands) row.lists row.state (after_push end (texts row.replies)) items others failures (suc part))
+  pub taking-on : (session : Session) (end : LinkEnd) (items others : List Item) (failures : List Failure) (part : ℕ)
+      → going (taking caller moment session end items failures part) ≡ true
+      → taking caller moment session end (items ++ others) failures part
+      ≡ goes_from caller moment failures session.store (taking caller moment session end items failures part) others
+  taking-on session end [] others failures part goes = behind-none (taking caller moment session end others failures part)
+  taking-on session end (item ∷ items) others failures part goes =
+      let row : Row = row_in caller moment session item failures part in
+      on-by caller moment failures session end part row others (later_of caller moment session end items failures part row) (later_of caller moment session end (items ++ others) failures part row)
+      (taking-on (behind_row session row) (after_push end (texts row.replies)) items others failures (suc part))
       (write_fails failures part) (fits end (texts row.replies)) goes
 
   -- each of the packets is a part
-  pub taking-part : (store : Store) (lists : List CallerList) (state : State) (end : LinkEnd) (items : List Item) (failures : List Failure) (part : ℕ)
-      → going (taking caller moment store lists state end items failures part) ≡ true → (taking caller moment store lists state end items failures part).part ≡ part + length items
-  taking-part store lists state end [] failures part goes = omega arith
-  taking-part store lists state end (item ∷ items) failures part goes =
-      let row : Row = row_at caller moment store lists state item failures part in
-      part-by caller moment failures store end state lists part row items (later_of caller moment store end items failures part row) (later_of caller moment store end items failures part row)
-      (length items) (taking-part (after_all store row.commands) row.lists row.state (after_push end (texts row.replies)) items failures (suc part))
+  pub taking-part : (session : Session) (end : LinkEnd) (items : List Item) (failures : List Failure) (part : ℕ)
+      → going (taking caller moment session end items failures part) ≡ true → (taking caller moment session end items failures part).part ≡ part + length items
+  taking-part session end [] failures part goes = omega arith
+  taking-part session end (item ∷ items) failures part goes =
+      let row : Row = row_in caller moment session item failures part in
+      part-by caller moment failures session end part row items (later_of caller moment session end items failures part row) (later_of caller moment session end items failures part row)
+      (length items) (taking-part (behind_row session row) (after_push end (texts row.replies)) items failures (suc part))
       (write_fails failures part) (fits end (texts row.replies)) goes
 
 -- ---- what is done is a front of what is done where no write fails
@@ -207,8 +217,8 @@ begun progress = progress.done ++ progress.cut
 abbrev pub Begins : Progress → Progress → Type 0
 Begins some all = IsFront (begun some) all.done
 
-module _ (end : LinkEnd) (state : State) (lists : List CallerList) (part : ℕ) (row : Row) (some all : Progress) (each : Begins some all) where
-  begins-by : (failed enough : Bool) → Begins (by_tests end state lists part row failed enough some) (by_tests end state lists part row false enough all)
+module _ (session : Session) (end : LinkEnd) (part : ℕ) (row : Row) (some all : Progress) (each : Begins some all) where
+  begins-by : (failed enough : Bool) → Begins (by_tests session end part row failed enough some) (by_tests session end part row false enough all)
   begins-by true true = (all.done, refl)
   begins-by true false = front-same row.commands
   begins-by false true =
@@ -220,41 +230,41 @@ abbrev pub AreUnwritten : List Failure → List Failure → Type 0
 AreUnwritten some all = (part : ℕ) → (read_fails some part ≡ read_fails all part) × (write_fails all part ≡ false)
 
 module _ (caller : CallSign) (moment : ℕ) where
-  pub taking-begins : (store : Store) (lists : List CallerList) (state : State) (end : LinkEnd) (items : List Item) (some all : List Failure) (part : ℕ) → AreUnwritten some all
-      → Begins (taking caller moment store lists state end items some part) (taking caller moment store lists state end items all part)
-  taking-begins store lists state end [] some all part are = ([], refl)
-  taking-begins store lists state end (item ∷ items) some all part are =
-      let row : Bool → Row = λ reads. session_row caller moment store lists state item reads in
+  pub taking-begins : (session : Session) (end : LinkEnd) (items : List Item) (some all : List Failure) (part : ℕ) → AreUnwritten some all
+      → Begins (taking caller moment session end items some part) (taking caller moment session end items all part)
+  taking-begins session end [] some all part are = ([], refl)
+  taking-begins session end (item ∷ items) some all part are =
+      let row : Bool → Row = λ reads. session_row caller moment session.store session.lists session.state item reads in
       let of_all : Row = row (read_fails all part) in
       let whole : Bool → Bool → Type 0 =
-      λ reads writes. Begins (taking_row end state lists part (write_fails some part) (later_of caller moment store end items some part (row reads)) (row reads))
-      (taking_row end state lists part writes (later_of caller moment store end items all part of_all) of_all) in
+      λ reads writes. Begins (taking_row end session.state session.lists part (write_fails some part) (later_of caller moment session end items some part (row reads)) (row reads))
+      (taking_row end session.state session.lists part writes (later_of caller moment session end items all part of_all) of_all) in
       subst (λ (b : Bool). whole b (write_fails all part)) (sym (are part).0)
       (subst (λ (b : Bool). whole (read_fails all part) b) (sym (are part).1)
-      (begins-by end state lists part of_all (later_of caller moment store end items some part of_all) (later_of caller moment store end items all part of_all)
-      (taking-begins (after_all store of_all.commands) of_all.lists of_all.state (after_push end (texts of_all.replies)) items some all (suc part) are)
+      (begins-by session end part of_all (later_of caller moment session end items some part of_all) (later_of caller moment session end items all part of_all)
+      (taking-begins (behind_row session of_all) (after_push end (texts of_all.replies)) items some all (suc part) are)
       (write_fails some part) (fits end (texts of_all.replies))))
 
 -- ---- the row of one packet among others
 
-module _ (end : LinkEnd) (state : State) (lists : List CallerList) (part : ℕ) (row : Row) (later : Progress) where
-  row-by : (failed enough : Bool) → failed ≡ false → IsFront row.commands (by_tests end state lists part row failed enough later).done
+module _ (session : Session) (end : LinkEnd) (part : ℕ) (row : Row) (later : Progress) where
+  row-by : (failed enough : Bool) → failed ≡ false → IsFront row.commands (by_tests session end part row failed enough later).done
   row-by true enough none = absurd cc
   row-by false true none = (later.done, refl)
   row-by false false none = front-same row.commands
 
 pub taking-law : TakingLaw
-taking-law caller moment store lists state end items item more failures goes not_over none =
-    let before : Progress = taking caller moment store lists state end items failures 0 in
-    let from : Store = after_all store before.done in
+taking-law caller moment session end items item more failures goes not_over none =
+    let before : Progress = taking caller moment session end items failures 0 in
+    let now : Session = on_from session.store before in
     let on : going before ≡ true = rw (not_over, goes) refl in
-    let all : taking caller moment store lists state end (items ++ item ∷ more) failures 0 ≡ goes_from caller moment failures store before (item ∷ more) =
-    taking-on caller moment store lists state end items (item ∷ more) failures 0 on in
-    let at : before.part ≡ length items = (let there = taking-part caller moment store lists state end items failures 0 on in omega arith) in
-    let row : Row = row_at caller moment from before.lists before.state item failures (length items) in
-    let P : ℕ → Type 0 = λ n. IsFront row.commands (taking caller moment from before.lists before.state before.end (item ∷ more) failures n).done in
+    let all : taking caller moment session end (items ++ item ∷ more) failures 0 ≡ goes_from caller moment failures session.store before (item ∷ more) =
+    taking-on caller moment session end items (item ∷ more) failures 0 on in
+    let at : before.part ≡ length items = (let there = taking-part caller moment session end items failures 0 on in omega arith) in
+    let row : Row = row_in caller moment now item failures (length items) in
+    let P : ℕ → Type 0 = λ n. IsFront row.commands (taking caller moment now before.end (item ∷ more) failures n).done in
     let one : P before.part =
     subst P (sym at)
-    (row-by before.end before.state before.lists (length items) row (later_of caller moment from before.end more failures (length items) row)
+    (row-by now before.end (length items) row (later_of caller moment now before.end more failures (length items) row)
     (write_fails failures (length items)) (fits before.end (texts row.replies)) none) in
     record { others = one.0; done_is = ap (λ (p : Progress). p.done) all ∙ ap (λ (commands : List Command). before.done ++ commands) one.1 }

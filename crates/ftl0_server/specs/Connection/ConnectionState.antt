@@ -11,7 +11,8 @@ use Rattle.file_store.specs.Working.{CutsOffAmongReads, DoesAmongReads}
 use Rattle.ftl0_session.specs.Uploads.Failures.{Failure, failed_reads, failed_write}
 use Rattle.disk_model.specs.declared.halt.Halt.{Halt as Stop}
 use Rattle.disk_model.specs.declared.halt.Halt.TheVariants as stop
-use Rattle.ftl0_session.specs.SessionState.{SessionState, state_in}
+use Rattle.ftl0_session.specs.SessionState.{SessionState, WorkingOn, state_in}
+use Rattle.ftl0_session.specs.Uploads.SessionState.{WithDisk}
 use Rattle.ftl0_server.specs.declared.connection.fate.Fate.{Fate}
 use Rattle.ftl0_server.specs.declared.connection.fate.Fate.TheVariants.{Stays, Ends}
 use Rattle.ftl0_server.specs.Connection.Connected.{Connected}
@@ -49,21 +50,22 @@ IsAfter w store lists connection happened fate =
 -- fail in it. Where all was taken none failed, and its commands are done. Where the disk failed, at a write or a sync
 -- of some packet and nowhere else, the commands before it are done, and it failed in one of that packet's; the replies
 -- before it and code 3 are left to be sent. Where there was no memory for some packet, the commands of the packets
--- before it are done, and its own aren't begun. The count of failed reads rose by at least as many as the parts told of.
+-- before it are done, and its own aren't begun. The count of failed reads rose by at least as many as the parts told
+-- of.
 abbrev pub HearsBy :
-    {D : Type 0} → Ghosts D → Window → (List Failure → Happened) → StoreState → StoreState → List CallerList → D → D
-    → ConnectionState → Fate → Result ⊤ Stop → Type 0
-HearsBy g w event store store_now lists_now disk disk_now connection fate (Ok done) =
-    ((event []).halt ≡ goes_on) × IsAfter w store_now lists_now connection (event []) fate
-    × DoesAmongReads g ⊥ (event []).missed store store_now disk disk_now (event []).done
-HearsBy g w event store store_now lists_now disk disk_now connection fate (Err stop.Disk) =
+    {D : Type 0} → Ghosts D → Window → (List Failure → Happened) → WithDisk StoreState D → WorkingOn D → ConnectionState
+    → Fate → Result ⊤ Stop → Type 0
+HearsBy g w event before now connection fate (Ok done) =
+    ((event []).halt ≡ goes_on) × IsAfter w now.store now.lists connection (event []) fate
+    × DoesAmongReads g ⊥ (event []).missed before.it now.store before.disk now.disk (event []).done
+HearsBy g w event before now connection fate (Err stop.Disk) =
     (part : ℕ) × ((event (failed_write part)).halt ≡ fails)
-    × IsAfter w store_now lists_now connection (event (failed_write part)) fate
-    × CutsOffAmongReads g ⊤ (event (failed_write part)).missed store store_now disk disk_now
+    × IsAfter w now.store now.lists connection (event (failed_write part)) fate
+    × CutsOffAmongReads g ⊤ (event (failed_write part)).missed before.it now.store before.disk now.disk
     (event (failed_write part)).done (event (failed_write part)).cut
-HearsBy g w event store store_now lists_now disk disk_now connection fate (Err stop.OutOfMemory) =
+HearsBy g w event before now connection fate (Err stop.OutOfMemory) =
     (part : ℕ) × ((event (failed_write part)).halt ≡ fails) × (fate ≡ Stays)
-    × DoesAmongReads g ⊥ (event (failed_write part)).missed store store_now disk disk_now
+    × DoesAmongReads g ⊥ (event (failed_write part)).missed before.it now.store before.disk now.disk
     (event (failed_write part)).done
 
 -- what an event makes by the writes and syncs that fail in it, where reads fail at these parts
@@ -74,12 +76,12 @@ with_reads event parts writes = event (writes ++ failed_reads parts)
 -- these parts of it. Since it came each image stands for the store after the first of the commands that it has where no
 -- write and no sync fails, for some number of them.
 pub record Hears {D : Type 0} (g : Ghosts D) (w : Window) (event : List Failure → Happened)
-    (store store_now : StoreState) (lists_now : List CallerList) (disk disk_now : D) (connection : ConnectionState)
+    (before : WithDisk StoreState D) (now : WorkingOn D) (connection : ConnectionState)
     (heard : Fate × Result ⊤ Stop) : Type 0 where
   pub parts : List ℕ
-  pub by :
-      HearsBy g w (with_reads event parts) store store_now lists_now disk disk_now connection heard.0 heard.1
-  pub since : Leaves g disk disk_now (λ _. MakesFirst (store_in store) (with_reads event parts []).done)
+  pub by : HearsBy g w (with_reads event parts) before now connection heard.0 heard.1
+  pub since :
+      Leaves g before.disk now.disk (λ _. MakesFirst (store_in before.it) (with_reads event parts []).done)
 
 -- the connection of this link and session, with no octets left
 abbrev pub with_nothing_left : Kept → SessionState → ConnectionState

@@ -14,7 +14,6 @@ use Rattle.ftl0_packets.specs.Reading.{packets_of, rest_of}
 use Rattle.packet_link.specs.PacketLink.{HasFront}
 use Rattle.packet_link.specs.Queuing.{enough_free}
 use Rattle.file_store.specs.EntriesKept.{KeepsComplete}
-use Rattle.file_store.specs.Store.{Store}
 use Rattle.ftl0_session.specs.Lists.Lists.{CallerList}
 use Rattle.file_store.specs.State.{StandsOn, StoreState, store_in}
 use Rattle.file_store.specs.Working.{DoesAmongReads, PutsAmongReads, one_if}
@@ -23,8 +22,11 @@ use Rattle.ftl0_session.specs.Uploads.Others.{KeepsOtherCallers}
 use Rattle.ftl0_session.specs.Downloads.Needs.{IsDueIn}
 use Rattle.disk_model.specs.declared.halt.Halt.{Halt as Stop}
 use Rattle.disk_model.specs.declared.halt.Halt.TheVariants as stop
-use Rattle.ftl0_session.specs.SessionState.{MayTake as SessionMayTake, SessionState, IsFit, caller_of, state_in}
-use Rattle.ftl0_session.specs.Table.{DuePacket, State, next_due, tells_failed_read}
+use Rattle.ftl0_session.specs.Uploads.SessionState.{WithDisk, with_disk}
+use Rattle.ftl0_session.specs.Run.{Session, session_over}
+use Rattle.ftl0_session.specs.SessionState.{MayTake as SessionMayTake, SessionState, IsFit, WorkingOn, caller_of}
+use Rattle.ftl0_session.specs.SessionState.{state_in}
+use Rattle.ftl0_session.specs.Table.{DuePacket, next_due, tells_failed_read}
 use Rattle.ftl0_server.specs.declared.connection.fate.Fate.{Fate}
 use Rattle.ftl0_server.specs.declared.connection.fate.Fate.TheVariants.{Stays}
 use Rattle.ftl0_server.specs.Connection.ConnectionState.{ConnectionState, Hears, HearsBy}
@@ -40,14 +42,13 @@ pub record MayTake {D : Type 0} (g : Ghosts D) (store : StoreState) (disk : D) (
   pub may : SessionMayTake g store disk lists session
 
 -- What packets leave of a link, a session, the store, the lists and the disk, whatever they were.
-pub record LeavesFit {D : Type 0} (g : Ghosts D) (store store_now : StoreState) (lists_now : List CallerList)
-    (disk disk_now : D) (link link_now : Kept) (session session_now : SessionState) (told : Fate × Result ⊤ Stop)
-    : Type 0 where
-  pub puts : PutsAmongReads g (IsErrOf told.1 stop.Disk) disk disk_now
-  pub kept : KeepsComplete (store_in store) (store_in store_now)
-  pub others : KeepsOtherCallers store store_now (caller_of session)
-  pub healthy : ¬ IsErrOf told.1 stop.Disk → store_now.journal.failed ≡ false
-  pub fit : IsFit g store_now disk_now lists_now session_now
+pub record LeavesFit {D : Type 0} (g : Ghosts D) (before : WithDisk StoreState D) (now : WorkingOn D)
+    (link link_now : Kept) (session session_now : SessionState) (told : Fate × Result ⊤ Stop) : Type 0 where
+  pub puts : PutsAmongReads g (IsErrOf told.1 stop.Disk) before.disk now.disk
+  pub kept : KeepsComplete (store_in before.it) (store_in now.store)
+  pub others : KeepsOtherCallers before.it now.store (caller_of session)
+  pub healthy : ¬ IsErrOf told.1 stop.Disk → now.store.journal.failed ≡ false
+  pub fit : IsFit g now.store now.disk now.lists session_now
   pub up : told.0 ≡ Stays → link_now.state ≡ Up
   pub caller : caller_of session_now ≡ caller_of session
   pub stations : SameStations link link_now
@@ -64,45 +65,49 @@ carrying link octets session = record { link = link; octets = octets; session = 
 abbrev pub IsAmong : ℕ → ℕ → ℕ → Type 0
 IsAmong first count part = (first ≤ part) × (part < first + count)
 
+-- the session over these, as the definitions have it
+abbrev pub session_on : {D : Type 0} → SessionState → WorkingOn D → Session
+session_on session on = session_over (store_in on.store) on.lists (state_in on.store session)
+
 -- what these packets make of a connection with this session, where the first of them is the event's part of this number
 abbrev pub taking_some :
-    ℕ → SessionState → State → Store → List CallerList → LinkEnd → List Item → ℕ → List Failure → Happened
-taking_some moment session state store lists end items first failures =
-    progressed [] (taking (caller_of session) moment store lists state end items failures first)
+    {D : Type 0} → ℕ → SessionState → WorkingOn D → LinkEnd → List Item → ℕ → List Failure → Happened
+taking_some moment session on end items first failures =
+    progressed [] (taking (caller_of session) moment (session_on session on) end items failures first)
 
--- Packets were taken as the parts of an event from this one on, and reads failed at these of them.
-pub record TakesPackets {D : Type 0} (g : Ghosts D) (w : Window) (moment : ℕ) (session : SessionState)
-    (store store_now : StoreState) (lists lists_now : List CallerList) (end : LinkEnd) (items : List Item) (first : ℕ)
-    (disk disk_now : D) (link_now : Kept) (session_now : SessionState) (told : Fate × Result ⊤ Stop)
-    : Type 0 where
+-- Packets of which this is what they make were taken, and reads failed at these of their parts.
+pub record TakesPackets {D : Type 0} (g : Ghosts D) (w : Window) (event : List Failure → Happened)
+    (IsPart : ℕ → Type 0) (before : WithDisk StoreState D) (now : WorkingOn D) (connection : ConnectionState)
+    (told : Fate × Result ⊤ Stop) : Type 0 where
   pub parts : List ℕ
-  pub among : All (IsAmong first (length items)) parts
-  pub by :
-      HearsBy g w
-      (with_reads (taking_some moment session (state_in store session) (store_in store) lists end items first) parts)
-      store store_now lists_now disk disk_now (with_nothing_left link_now session_now) told.0 told.1
+  pub among : All IsPart parts
+  pub by : HearsBy g w (with_reads event parts) before now connection told.0 told.1
+
+-- So these packets of a connection were, whichever end its link stands for, and whichever part the first of them is.
+abbrev pub TakesSome :
+    {D : Type 0} → Ghosts D → ℕ → ConnectionState → WorkingOn D → List Item → WorkingOn D → ConnectionState
+    → (Fate × Result ⊤ Stop) → Type 0
+TakesSome g moment old before items now new told =
+    (w : Window) (end : LinkEnd) (first : ℕ) → StandsFor w old.link end
+    → TakesPackets g w (taking_some moment old.session before end items first) (IsAmong first (length items))
+    (with_disk before.store before.disk) now (with_nothing_left new.link new.session) told
 
 -- Packets at the front of the octets were taken, up to one that stops the connection, if one does: the rest are those
 -- of the octets that are left now.
-pub record Feeds {D : Type 0} (g : Ghosts D) (moment : ℕ) (before now : ConnectionState) (store store_now : StoreState)
-    (lists lists_now : List CallerList) (disk disk_now : D) (told : Fate × Result ⊤ Stop) : Type 0 where
+pub record Feeds {D : Type 0} (g : Ghosts D) (moment : ℕ) (old new : ConnectionState) (before now : WorkingOn D)
+    (told : Fate × Result ⊤ Stop) : Type 0 where
   pub items : List Item
-  pub front : HasFront before.octets now.octets items
-  pub takes :
-      (w : Window) (end : LinkEnd) (first : ℕ) → StandsFor w before.link end
-      → TakesPackets g w moment before.session store store_now lists lists_now end items first disk disk_now now.link
-      now.session told
+  pub front : HasFront old.octets new.octets items
+  pub takes : TakesSome g moment old before items now new told
 
 -- The packets of the octets were taken, up to one that stops the connection, if one does: if none does all of them, and
 -- the octets now are the rest.
-pub record FeedsAll {D : Type 0} (g : Ghosts D) (moment : ℕ) (before now : ConnectionState)
-    (store store_now : StoreState) (lists lists_now : List CallerList) (disk disk_now : D)
+pub record FeedsAll {D : Type 0} (g : Ghosts D) (moment : ℕ) (old new : ConnectionState) (before now : WorkingOn D)
     (told : Fate × Result ⊤ Stop) : Type 0 where
   pub left : List ℕ
-  pub feeds :
-      Feeds g moment before (carrying now.link left now.session) store store_now lists lists_now disk disk_now told
+  pub feeds : Feeds g moment old (carrying new.link left new.session) before now told
   pub none : IsGoing told → packets_of left ≡ []
-  pub rest : IsGoing told → rest_of left ≡ now.octets
+  pub rest : IsGoing told → rest_of left ≡ new.octets
 
 -- The parts at which reads failed are parts of the event, and whatever reads fail at later parts changes nothing of it.
 pub record IsSettled (event : List Failure → Progress) (parts : List ℕ) : Type 0 where
@@ -114,10 +119,9 @@ pub record IsSettled (event : List Failure → Progress) (parts : List ℕ) : Ty
 -- A frame was heard, of which this event is what its packets make, and these octets were left; what is due behind them
 -- isn't queued yet. Where a write or a sync fails the session is over.
 pub record HearsParts {D : Type 0} (g : Ghosts D) (w : Window) (left : List ℕ) (event : List Failure → Progress)
-    (store store_now : StoreState) (lists_now : List CallerList) (disk disk_now : D) (connection : ConnectionState)
+    (before : WithDisk StoreState D) (now : WorkingOn D) (connection : ConnectionState)
     (told : Fate × Result ⊤ Stop) : Type 0 where
-  pub hears :
-      Hears g w (λ failures. progressed left (event failures)) store store_now lists_now disk disk_now connection told
+  pub hears : Hears g w (λ failures. progressed left (event failures)) before now connection told
   pub over : (failures : List Failure) → (event failures).halt ≡ fails → (event failures).over ≡ true
   pub settled : IsGoing told → IsSettled event hears.parts
 
@@ -150,7 +154,8 @@ QueuesNext g store disk disk_now old new false =
     × (IsNothingDue store old.session ⊎ AreFree old.link (λ free. free < enough_free))
 
 -- Behind these parts of an event, at which the session goes on, what is due was queued: reads failed at these later
--- parts, and the count of failed reads rose by at least as many as the packets tell of, and not where they tell of none.
+-- parts, and the count of failed reads rose by at least as many as the packets tell of, and not where they tell of
+-- none.
 pub record Queued {D : Type 0} (g : Ghosts D) (w : Window) (store : StoreState) (disk disk_now : D)
     (new : ConnectionState) (progress : Progress) : Type 0 where
   pub parts : List ℕ

@@ -12,6 +12,7 @@ use Rattle.ftl0_packets.specs.Reading.{packets_of, rest_of}
 use Rattle.ftl0_session.specs.Lists.Lists.{CallerList, has_left}
 use Rattle.file_store.specs.Command.{Command}
 use Rattle.file_store.specs.Store.{Store}
+use Rattle.ftl0_session.specs.Run.{session_over}
 use Rattle.ftl0_session.specs.Uploads.Failures.{Failure}
 use Rattle.ftl0_session.specs.Table.{command}
 use Rattle.ftl0_server.specs.Connection.Connected.{Connected, caller_of, greeted}
@@ -50,7 +51,7 @@ progressed left progress =
 -- the event from 0 on.
 abbrev pub taking_octets : ℕ → Store → List CallerList → Connected → LinkEnd → List ℕ → List Failure → Progress
 taking_octets moment store lists c end octets failures =
-    taking (caller_of c) moment store lists c.state end (packets_of (c.rest ++ octets)) failures 0
+    taking (caller_of c) moment (session_over store lists c.state) end (packets_of (c.rest ++ octets)) failures 0
 
 -- What the parts of a frame make of a connection whose end is this one after it, by what the link tells: a further SABM
 -- ends the session and begins a new one, information that is next brings packets, and the session is over where the

@@ -11,6 +11,7 @@ use Rattle.ftl0_session.specs.Lists.Lists.{CallerList}
 use Rattle.file_store.specs.Command.{Command, after_all}
 use Rattle.file_store.specs.Store.{Store}
 use Rattle.file_store.specs.Working.{one_if}
+use Rattle.ftl0_session.specs.Run.{Session, session_over}
 use Rattle.ftl0_session.specs.Uploads.Failures.{Failure, write_fails}
 use Rattle.ftl0_session.specs.Table.{DuePacket, Row, State, command, due_at, fault_reply, row_at, failed_reads_told}
 use Rattle.ftl0_session.specs.Table.{tells_failed_read}
@@ -105,14 +106,13 @@ taking_row end state lists part failed later row =
 -- whose replies the link is given up, or one for which these failures list a write or a sync. The first of them is the
 -- event's part of this number, and each other one the next part. A part for which they list a read has the row for
 -- that.
-abbrev pub taking :
-    CallSign → ℕ → Store → List CallerList → State → LinkEnd → List Item → List Failure → ℕ → Progress
-taking caller moment store lists state end [] failures part = resting end state lists part
-taking caller moment store lists state end (item ∷ items) failures part =
-    let row : Row = row_at caller moment store lists state item failures part in
-    taking_row end state lists part (write_fails failures part)
-    (taking caller moment (after_all store row.commands) row.lists row.state (after_push end (texts row.replies)) items
-    failures (suc part))
+abbrev pub taking : CallSign → ℕ → Session → LinkEnd → List Item → List Failure → ℕ → Progress
+taking caller moment session end [] failures part = resting end session.state session.lists part
+taking caller moment session end (item ∷ items) failures part =
+    let row : Row = row_at caller moment session.store session.lists session.state item failures part in
+    taking_row end session.state session.lists part (write_fails failures part)
+    (taking caller moment (session_over (after_all session.store row.commands) row.lists row.state)
+    (after_push end (texts row.replies)) items failures (suc part))
     row
 
 -- a packet that is due was queued

@@ -1,9 +1,8 @@
 //! One caller's connection.
 
-ghost use Rattle.std.specs.Prelude.{◌≡◌, ◌<◌, ◌↔◌, ℕ, [], ◌∷◌, ◌++◌, false, true, not};
+ghost use Rattle.std.specs.Prelude.{◌≡◌, ◌<◌, ◌↔◌, [], ◌∷◌, ◌++◌, false, true, not};
 ghost use Rattle.std.specs.Prelude.{IfOk, IsTrue, None};
 ghost use Rattle.ax25_frames.specs.Values.{value_of};
-ghost use Rattle.ax25_link.specs.Ends.{LinkEnd};
 ghost use Rattle.ax25_link.specs.Kept.{Fits, HasStations, IsFromPeer, SameStations, StandsFor, Steps};
 ghost use Rattle.ax25_link.specs.Kept.{Tells, is_pending};
 ghost use Rattle.ax25_link.specs.declared.state.LinkState.{LinkState};
@@ -12,16 +11,16 @@ ghost use Rattle.ftl0_packets.specs.Reading.{is_whole, read_item};
 ghost use Rattle.ftl0_session.specs.Lists.Lists.{has_left};
 ghost use Rattle.file_store.specs.State.{StandsOn, StoreState, store_in};
 ghost use Rattle.ftl0_session.specs.Uploads.Others.{KeepsOtherCallers};
-ghost use Rattle.ftl0_session.specs.Uploads.SessionState.{IsHeld, IsOnlyOut, NoOtherOut, Parks};
+ghost use Rattle.ftl0_session.specs.Uploads.SessionState.{IsHeld, IsOnlyOut, NoOtherOut, Parks, with_disk};
 ghost use Rattle.ftl0_session.specs.Downloads.Needs.{IsDueIn};
-ghost use Rattle.ftl0_session.specs.SessionState.{MayTake as SessionMayTake, caller_of, new_session};
+ghost use Rattle.ftl0_session.specs.SessionState.{MayTake as SessionMayTake, caller_of, new_session, working_on};
 ghost use Rattle.ftl0_server.specs.Connection.Connected.{Connected, answering, beginning, greeted};
 ghost use Rattle.ftl0_server.specs.Connection.ConnectionState.{ConnectionState as Carried, Hears, IsConnection};
-ghost use Rattle.ftl0_server.specs.Connection.ConnectionState.{StandsAfter};
+ghost use Rattle.ftl0_server.specs.Connection.ConnectionState.{StandsAfter, with_nothing_left};
 ghost use Rattle.ftl0_server.specs.Connection.ConnectionState.{is_over};
 ghost use Rattle.ftl0_server.specs.Connection.Feeding.{FeedsAll, HearsParts, IsGoing, KeepsFit, LeavesFit, MayTake};
-ghost use Rattle.ftl0_server.specs.Connection.Feeding.{QueuesDue};
-ghost use Rattle.ftl0_server.specs.Connection.Feeding.{QueuesNext, TakesPackets, carrying};
+ghost use Rattle.ftl0_server.specs.Connection.Feeding.{QueuesDue, TakesSome};
+ghost use Rattle.ftl0_server.specs.Connection.Feeding.{QueuesNext, carrying};
 ghost use Rattle.ftl0_server.specs.Connection.Hearing.{hearing, parts_of_frame, rest_of_frame, ticking};
 ghost use Rattle.ftl0_server.specs.Connection.Taking.{replied};
 ghost use Rattle.packet_link.specs.PacketLink.{GivesFrame, KeepsReader, octets_in};
@@ -114,11 +113,11 @@ impl Connection {
         // Of whichever connection it stands for, it is what the frame makes of that, or the server stops.
         ensures hears { (w : Window) (c : Connected) → IsConnection w store.old self.old c →
             Hears D.Disk w (hearing w moment (store_in store.old) lists.old c (value_of frame.now))
-            store.old store.new lists.new disk.old disk.new self.new result }
+            (with_disk store.old disk.old) (working_on store.new lists.new disk.new) self.new result }
 
         // What the next event needs.
-        ensures fit { LeavesFit D.Disk store.old store.new lists.new disk.old disk.new self.old.link self.new.link
-            self.old.session self.new.session result }
+        ensures fit { LeavesFit D.Disk (with_disk store.old disk.old) (working_on store.new lists.new disk.new)
+            self.old.link self.new.link self.old.session self.new.session result }
     {
         let told = self.take_frame(disk, store, lists, frame, moment);
         if goes_on(&told) {
@@ -206,9 +205,9 @@ impl Connection {
         ensures hears { (w : Window) (c : Connected) → IsConnection w store.old self.old c →
             HearsParts D.Disk w (rest_of_frame w c (value_of frame.now))
             (parts_of_frame w moment (store_in store.old) lists.old c (value_of frame.now))
-            store.old store.new lists.new disk.old disk.new self.new result }
-        ensures fit { LeavesFit D.Disk store.old store.new lists.new disk.old disk.new self.old.link self.new.link
-            self.old.session self.new.session result }
+            (with_disk store.old disk.old) (working_on store.new lists.new disk.new) self.new result }
+        ensures fit { LeavesFit D.Disk (with_disk store.old disk.old) (working_on store.new lists.new disk.new)
+            self.old.link self.new.link self.old.session self.new.session result }
     {
         match self.link.take(frame) {
             Heard::Nothing | Heard::Opened => (Fate::Stays, Ok(())),
@@ -295,10 +294,10 @@ fn take_packets<D: Disk>(
 ) -> Told
     requires { MayTake D.Disk store.old disk.old lists.old link.old.link session.old }
     ensures feeds { FeedsAll D.Disk moment (carrying link.old.link (octets_in link.old ++ octets.now) session.old)
-        (carrying link.new.link (octets_in link.new) session.new) store.old store.new lists.old lists.new disk.old
-        disk.new result }
-    ensures fit { LeavesFit D.Disk store.old store.new lists.new disk.old disk.new link.old.link link.new.link
-        session.old session.new result }
+        (carrying link.new.link (octets_in link.new) session.new) (working_on store.old lists.old disk.old)
+        (working_on store.new lists.new disk.new) result }
+    ensures fit { LeavesFit D.Disk (with_disk store.old disk.old) (working_on store.new lists.new disk.new)
+        link.old.link link.new.link session.old session.new result }
 {
     let mut piece = octets;
     while let Some(left) = link.next_packet(piece) {
@@ -323,11 +322,11 @@ fn answer<D: Disk>(
 ) -> Told
     requires whole { IsTrue (is_whole link.old.reader) }
     requires may { MayTake D.Disk store.old disk.old lists.old link.old.link session.old }
-    ensures takes { (w : Window) (end : LinkEnd) (first : ℕ) → StandsFor w link.old.link end →
-        TakesPackets D.Disk w moment session.old store.old store.new lists.old lists.new end
-        (read_item link.old.reader ∷ []) first disk.old disk.new link.new.link session.new result }
-    ensures fit { LeavesFit D.Disk store.old store.new lists.new disk.old disk.new link.old.link link.new.link
-        session.old session.new result }
+    ensures takes { TakesSome D.Disk moment (with_nothing_left link.old.link session.old)
+        (working_on store.old lists.old disk.old) (read_item link.old.reader ∷ [])
+        (working_on store.new lists.new disk.new) (with_nothing_left link.new.link session.new) result }
+    ensures fit { LeavesFit D.Disk (with_disk store.old disk.old) (working_on store.new lists.new disk.new)
+        link.old.link link.new.link session.old session.new result }
     ensures reader { link.new.reader ≡ link.old.reader }
 {
     let mut replies = Replies::new();

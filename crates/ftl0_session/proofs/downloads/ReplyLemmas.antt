@@ -13,9 +13,9 @@ use Rattle.selection.specs.declared.fault.SelFault.{SelFault}
 use Rattle.ftl0_session.specs.Lists.Lists.{CallerList}
 use Rattle.file_store.specs.Store.{Store}
 use Rattle.ftl0_session.specs.Downloads.Table.{DownloadRow, DownloadState, Due, asked_file, asked_row, command_row}
-use Rattle.ftl0_session.specs.Downloads.Table.{directory_row, download_cmd_row, download_row, ended_row, file_of}
+use Rattle.ftl0_session.specs.Downloads.Table.{download_row, ended_row, file_of}
 use Rattle.ftl0_session.specs.Downloads.Table.{file_row, files_row, has_file, listed_files, listing, long_due, ready}
-use Rattle.ftl0_session.specs.Downloads.Table.{refused_row, reply_sending, reply_waiting, select_row, sending}
+use Rattle.ftl0_session.specs.Downloads.Table.{refused_row, reply_sending, reply_waiting, sending}
 use Rattle.ftl0_session.specs.Downloads.Table.{short_due, tree_row, waiting}
 
 -- Where a read fails or none does: what holds of no reply, of each refusal but with code 3, of that one where a read

@@ -17,7 +17,7 @@ use Rattle.file_store.specs.Store.{Store}
 use Rattle.ftl0_session.specs.Downloads.Table.{DownloadRow, DownloadState, Due, command_row, directory_row}
 use Rattle.ftl0_session.specs.Downloads.Table.{download_cmd_row, download_row, ended_row, listing, long_due, ready}
 use Rattle.ftl0_session.specs.Downloads.Table.{reply_sending, reply_waiting, select_row, sending, short_due, waiting}
-use Rattle.ftl0_session.specs.Downloads.Taking.{IsRow, Made, MakesRow, TakesPacket, made, made_by}
+use Rattle.ftl0_session.specs.Downloads.Taking.{IsRow, Made, MakesRow, TakesByRow, made, made_by}
 
 -- a packet without a row in Ready
 pub no_row : (caller : CallSign) (store : Store) (lists : List CallerList) (p : Packet) (fails : Bool)
@@ -86,7 +86,7 @@ row_in_listing caller store lists state dues p is = rw is refl
 module _ {D : Type 0} (g : Ghosts D) (caller : CallSign) (store : Store) (lists : List CallerList) (state : DownloadState) (p : PacketValue) (disk : D) (same : g.lasts disk disk) where
   -- it has this row, for reads that failed or didn't
   pub taken_reading : (disk_now : D) (now : Made) (row : Bool → DownloadRow) → ((fails : Bool) → download_row caller store lists state p fails ≡ Some (row fails))
-      → MakesRow g disk disk_now row now → TakesPacket g caller p store disk disk_now (made state lists []) now true
+      → MakesRow g disk disk_now row now → TakesByRow g (download_row caller store lists state p) disk disk_now (made state lists []) now true
   taken_reading disk_now now row is makes = record {
     fails = makes.fails;
     reads = makes.reads;
@@ -96,7 +96,7 @@ module _ {D : Type 0} (g : Ghosts D) (caller : CallSign) (store : Store) (lists 
 
   -- it has this row, and nothing is read
   pub taken_alone : (now : Made) (row : DownloadRow) → download_row caller store lists state p false ≡ Some row → now ≡ made_by row
-      → TakesPacket g caller p store disk disk (made state lists []) now true
+      → TakesByRow g (download_row caller store lists state p) disk disk (made state lists []) now true
   taken_alone now row is makes = record {
     fails = false;
     reads = reads_none g disk (false ≡ true) (λ e. cc e) same;
@@ -105,7 +105,7 @@ module _ {D : Type 0} (g : Ghosts D) (caller : CallSign) (store : Store) (lists 
   }
 
   -- it has none
-  pub not_taken : download_row caller store lists state p false ≡ None → TakesPacket g caller p store disk disk (made state lists []) (made state lists []) false
+  pub not_taken : download_row caller store lists state p false ≡ None → TakesByRow g (download_row caller store lists state p) disk disk (made state lists []) (made state lists []) false
   not_taken is = record {
     fails = false;
     reads = reads_none g disk (false ≡ true) (λ e. cc e) same;
@@ -118,14 +118,14 @@ module _ {D : Type 0} (g : Ghosts D) (caller : CallSign) (store : Store) (lists 
       → download_row caller store lists state p false ≡ option_map (ended_row lists) (option_map value_of reply) → replies_before ≡ []
       → IfNone reply ((result ≡ false) × (now ≡ state) × (replies ≡ replies_before))
       → IfSome reply (λ packet. (result ≡ true) × (now ≡ ready) × (replies ≡ packet_text (value_of packet)))
-      → TakesPacket g caller p store disk disk (made state lists []) (made now lists replies) result
+      → TakesByRow g (download_row caller store lists state p) disk disk (made state lists []) (made now lists replies) result
   ended_by None now replies_before replies result is empty none some =
-      let P : Bool → DownloadState → List ℕ → Type 0 = λ r n l. TakesPacket g caller p store disk disk (made state lists []) (made n lists l) r in
+      let P : Bool → DownloadState → List ℕ → Type 0 = λ r n l. TakesByRow g (download_row caller store lists state p) disk disk (made state lists []) (made n lists l) r in
       subst (λ (r : Bool). P r now replies) (sym none.0)
       (subst (λ (n : DownloadState). P false n replies) (sym none.1)
       (subst (λ (l : List ℕ). P false state l) (sym (none.2 ∙ empty)) (not_taken is)))
   ended_by (Some packet) now replies_before replies result is empty none some =
-      let P : Bool → DownloadState → List ℕ → Type 0 = λ r n l. TakesPacket g caller p store disk disk (made state lists []) (made n lists l) r in
+      let P : Bool → DownloadState → List ℕ → Type 0 = λ r n l. TakesByRow g (download_row caller store lists state p) disk disk (made state lists []) (made n lists l) r in
       subst (λ (r : Bool). P r now replies) (sym some.0)
       (subst (λ (n : DownloadState). P true n replies) (sym some.1)
       (taken_alone (made ready lists replies) (ended_row lists (value_of packet)) is

@@ -16,6 +16,8 @@ use Rattle.disk_model.specs.declared.halt.Halt.{Halt}
 use Rattle.disk_model.specs.declared.halt.Halt.TheVariants as stop
 use Rattle.ftl0_session.specs.Uploads.Session.{Row, State, session_row}
 use Rattle.ftl0_session.specs.Uploads.Taking.{Answered, AnsweredAlone, Answers, DoesRow, LeavesDisk, PutsRow, row_of}
+use Rattle.ftl0_session.specs.Uploads.Events.{packet_of}
+use Rattle.ftl0_session.specs.Uploads.SessionState.{with_disk}
 
 -- the answer that is this stop
 abbrev stopped : Halt → Result ⊤ Halt
@@ -36,13 +38,13 @@ module _ {D : Type 0} (g : Ghosts D) where
   -- by its row
   pub does-row : (caller : CallSign) (moment : ℕ) (state : State) (item : Item) (before now : StoreState) (disk disk_now : D) (P Q : Type 0) (row : Row)
       → session_row caller moment (store_in before) state item ≡ Some row → (P → Q) → (Q → P) → Does g P before now disk disk_now row.commands
-      → DoesRow g Q before now disk disk_now (row_of caller moment before state item)
+      → DoesRow g Q before now disk disk_now (row_of (packet_of caller moment item) before state)
   does-row caller moment state item before now disk disk_now P Q row is there back does =
       subst (λ (o : Option Row). IfSome o (λ r. Does g Q before now disk disk_now r.commands)) (sym is) (Does-same g P Q before now disk disk_now row.commands there back does)
 
   on_disk-alone : (caller : CallSign) (moment : ℕ) (state : State) (item : Item) (before now : StoreState) (disk : D) (result : Result ⊤ Halt)
       → ¬ IsErrOf result stop.Disk → IfSome (session_row caller moment (store_in before) state item) (λ row. row.commands ≡ [])
-      → Does g ⊥ before now disk disk [] → PutsRow g before now disk disk (row_of caller moment before state item) result
+      → Does g ⊥ before now disk disk [] → PutsRow g before now disk disk (row_of (packet_of caller moment item) before state) result
   on_disk-alone caller moment state item before now disk (Ok done) no_fault none does =
       told_weaker (session_row caller moment (store_in before) state item) _ _ (λ row is no_commands. subst (λ (cs : List Command). Does g ⊥ before now disk disk cs) (sym no_commands) does) none
   on_disk-alone caller moment state item before now disk (Err stop.Disk) no_fault none does = absurd (no_fault refl)
@@ -50,8 +52,8 @@ module _ {D : Type 0} (g : Ghosts D) where
 
   -- a packet that leaves the disk alone
   pub answered-alone : (caller : CallSign) (moment : ℕ) (state : State) (item : Item) (before now : StoreState) (disk : D) (replies : List ℕ) (taken : Phase × Result ⊤ Halt)
-      → before.journal.failed ≡ false → StandsOn g before disk → g.lasts disk disk → AnsweredAlone caller moment state item before now replies taken
-      → Answered g caller moment state item before now disk disk replies taken
+      → before.journal.failed ≡ false → StandsOn g before disk → g.lasts disk disk → AnsweredAlone (packet_of caller moment item) state before now replies taken
+      → Answered g (packet_of caller moment item) state (with_disk before disk) (with_disk now disk) replies taken
   answered-alone caller moment state item before now disk replies taken healthy stands lasts alone = record {
     answers = alone.answers;
     on_disk =
@@ -66,8 +68,8 @@ module _ {D : Type 0} (g : Ghosts D) where
 
   -- What stands after a packet, whatever the answer.
   module _ (caller : CallSign) (moment : ℕ) (state : State) (item : Item) (before now : StoreState) (disk disk_now : D) (next : State) (replies : List ℕ) where
-    pub after-puts : (result : Result ⊤ Halt) → g.lasts disk disk → Answers caller moment before state item now next replies result
-        → PutsRow g before now disk disk_now (row_of caller moment before state item) result → Puts g (IsErrOf result stop.Disk) disk disk_now
+    pub after-puts : (result : Result ⊤ Halt) → g.lasts disk disk → Answers (packet_of caller moment item) before state now next replies result
+        → PutsRow g before now disk disk_now (row_of (packet_of caller moment item) before state) result → Puts g (IsErrOf result stop.Disk) disk disk_now
     after-puts (Ok done) lasts answers on_disk =
         puts_same g disk disk_now ⊥ _ (λ never. absurd never) (λ e. cc e) (at_told (λ row. Does g ⊥ before now disk disk_now row.commands) answers.0 answers.1 on_disk).puts
     after-puts (Err stop.Disk) lasts answers on_disk =
@@ -76,20 +78,20 @@ module _ {D : Type 0} (g : Ghosts D) where
         let fine : ¬ IsErrOf (stopped stop.OutOfMemory) stop.Disk = λ e. cc e in
         subst (λ (d : D). Puts g (IsErrOf (stopped stop.OutOfMemory) stop.Disk) disk d) (sym on_disk) (puts_none g disk (IsErrOf (stopped stop.OutOfMemory) stop.Disk) fine lasts)
 
-    pub after-failed : (result : Result ⊤ Halt) → Answers caller moment before state item now next replies result
-        → PutsRow g before now disk disk_now (row_of caller moment before state item) result → IsErrOf result stop.Disk → now.journal.failed ≡ true
+    pub after-failed : (result : Result ⊤ Halt) → Answers (packet_of caller moment item) before state now next replies result
+        → PutsRow g before now disk disk_now (row_of (packet_of caller moment item) before state) result → IsErrOf result stop.Disk → now.journal.failed ≡ true
     after-failed (Ok done) answers on_disk e = absurd (cc e)
     after-failed (Err stop.Disk) answers on_disk e = ((at_told (λ row. Does g ⊤ before now disk disk_now row.commands) answers.0 answers.1 on_disk).cut tt).failed
     after-failed (Err stop.OutOfMemory) answers on_disk e = absurd (cc e)
 
-    pub after-healthy : (result : Result ⊤ Halt) → before.journal.failed ≡ false → Answers caller moment before state item now next replies result
-        → PutsRow g before now disk disk_now (row_of caller moment before state item) result → ¬ IsErrOf result stop.Disk → now.journal.failed ≡ false
+    pub after-healthy : (result : Result ⊤ Halt) → before.journal.failed ≡ false → Answers (packet_of caller moment item) before state now next replies result
+        → PutsRow g before now disk disk_now (row_of (packet_of caller moment item) before state) result → ¬ IsErrOf result stop.Disk → now.journal.failed ≡ false
     after-healthy (Ok done) healthy answers on_disk fine = ((at_told (λ row. Does g ⊥ before now disk disk_now row.commands) answers.0 answers.1 on_disk).done (λ never. never)).1
     after-healthy (Err stop.Disk) healthy answers on_disk fine = absurd (fine refl)
     after-healthy (Err stop.OutOfMemory) healthy answers on_disk fine = ap (λ (s : StoreState). s.journal.failed) answers.3.0 ∙ healthy
 
-    pub after-stands : (result : Result ⊤ Halt) → StandsOn g before disk → Answers caller moment before state item now next replies result
-        → PutsRow g before now disk disk_now (row_of caller moment before state item) result → StandsOn g now disk_now
+    pub after-stands : (result : Result ⊤ Halt) → StandsOn g before disk → Answers (packet_of caller moment item) before state now next replies result
+        → PutsRow g before now disk disk_now (row_of (packet_of caller moment item) before state) result → StandsOn g now disk_now
     after-stands (Ok done) stands answers on_disk = (at_told (λ row. Does g ⊥ before now disk disk_now row.commands) answers.0 answers.1 on_disk).stands_on
     after-stands (Err stop.Disk) stands answers on_disk = (at_told (λ row. Does g ⊤ before now disk disk_now row.commands) answers.0 answers.1 on_disk).stands_on
     after-stands (Err stop.OutOfMemory) stands answers on_disk =

@@ -19,6 +19,7 @@ use Rattle.ftl0_packets.specs.Items.{texts}
 use Rattle.ftl0_session.specs.Uploads.Session.{Row, aborting, command, session_row, taken_row, whole_row}
 use Rattle.ftl0_session.specs.Uploads.SessionState.{NoOtherOut, PhaseIsHeld, number_of, receiving_of, state_of}
 use Rattle.ftl0_session.specs.Uploads.Taking.{AnsweredAlone}
+use Rattle.ftl0_session.specs.Uploads.Events.{packet_of}
 use Rattle.ftl0_session.proofs.uploads.DoesLemmas.{some-at_end}
 use Rattle.ftl0_session.proofs.uploads.OtherLemmas.{AreOf, Touches, are-append, are-last_grow, are-take, only-none}
 use Rattle.ftl0_session.proofs.uploads.OtherLemmas.{others-kept, touches-all, touches-same}
@@ -75,7 +76,7 @@ module _ (caller : CallSign) (before : StoreState) (up : Upload) (holds : Holds 
   pub parked : (moment : ℕ) (item : Item) (now : StoreState) (next : Phase) (row : Row) (replies : List ℕ)
       → session_row caller moment (store_in before) (receiving_of before up) item ≡ Some row → row.commands ≡ [] → state_of now next ≡ row.state → replies ≡ texts row.replies
       → number_of next ≡ None → PhaseIsHeld now caller next → up.caller ≡ caller → ChangesRest before.files now.files up.number None → now.journal ≡ before.journal
-      → KeepsOthers before now up.number → NoOtherOut before caller (Some up.number) → AnsweredAlone caller moment (receiving_of before up) item before now replies (next, Ok tt)
+      → KeepsOthers before now up.number → NoOtherOut before caller (Some up.number) → AnsweredAlone (packet_of caller moment item) (receiving_of before up) before now replies (next, Ok tt)
   parked moment item now next row replies is none at text no_upload held by changes journal uploads only =
       let touches = touches-same up.number (store_in before) (store_in now) changes.store in
       record {

@@ -19,6 +19,7 @@ use Rattle.ftl0_session.specs.Uploads.Session.{Row, State, aborting, command, er
 use Rattle.ftl0_session.specs.Uploads.Session.{refused_row, session_row, silent_row}
 use Rattle.ftl0_session.specs.Uploads.SessionState.{NoOtherOut, PhaseIsHeld, number_of, state_of}
 use Rattle.ftl0_session.specs.Uploads.Taking.{Answers, AnsweredAlone}
+use Rattle.ftl0_session.specs.Uploads.Events.{packet_of}
 
 -- ---- which packets have a row
 
@@ -123,8 +124,8 @@ none-at row o is none = subst (λ (p : Option Row). IfSome p (λ r. r.commands �
 -- A packet whose row has no commands, and that leaves the store as it was.
 module _ (caller : CallSign) (moment : ℕ) (state : State) (item : Item) (store : StoreState) where
   pub alone-row : (next : Phase) (row : Row) (replies : List ℕ) → session_row caller moment (store_in store) state item ≡ Some row → row.commands ≡ []
-      → Answers caller moment store state item store (state_of store next) replies (Ok tt) → PhaseIsHeld store caller next → NoOtherOut store caller (number_of next)
-      → AnsweredAlone caller moment state item store store replies (next, Ok tt)
+      → Answers (packet_of caller moment item) store state store (state_of store next) replies (Ok tt) → PhaseIsHeld store caller next → NoOtherOut store caller (number_of next)
+      → AnsweredAlone (packet_of caller moment item) state store store replies (next, Ok tt)
   alone-row next row replies is none answers held only = record {
     answers = answers;
     no_fault = λ same. cc same;
@@ -139,15 +140,15 @@ module _ (caller : CallSign) (moment : ℕ) (state : State) (item : Item) (store
   -- one that is refused with a code
   pub alone-refused : (here : Phase) (code : ℕ) (replies : List ℕ) (taken : Phase × Result ⊤ Halt) → session_row caller moment (store_in store) state item ≡ Some (refused_row state code)
       → state_of store here ≡ state → taken ≡ (here, Ok tt) → replies ≡ texts (ul_error_resp code ∷ []) → PhaseIsHeld store caller here → NoOtherOut store caller (number_of here)
-      → AnsweredAlone caller moment state item store store replies taken
+      → AnsweredAlone (packet_of caller moment item) state store store replies taken
   alone-refused here code replies taken row at is text held only =
-      subst (λ (t : Phase × Result ⊤ Halt). AnsweredAlone caller moment state item store store replies t) (sym is)
+      subst (λ (t : Phase × Result ⊤ Halt). AnsweredAlone (packet_of caller moment item) state store store replies t) (sym is)
       (alone-row here (refused_row state code) replies row refl (refused_row state code, row, ((tt, refl), at, text)) held only)
 
 -- An UPLOAD_CMD that is refused, over a store that stays.
 pub upload-refused : (caller : CallSign) (moment : ℕ) (item : Item) (before now : StoreState) (code : ℕ) (replies : List ℕ) (taken : Phase × Result ⊤ Halt)
     → session_row caller moment (store_in before) command item ≡ Some (refused_row command code) → now ≡ before → taken ≡ (phase.Command, Ok tt) → replies ≡ texts (ul_error_resp code ∷ [])
-    → NoOtherOut before caller None → AnsweredAlone caller moment command item before now replies taken
+    → NoOtherOut before caller None → AnsweredAlone (packet_of caller moment item) command before now replies taken
 upload-refused caller moment item before now code replies taken row same is text only =
-    subst (λ (s : StoreState). AnsweredAlone caller moment command item before s replies taken) (sym same)
+    subst (λ (s : StoreState). AnsweredAlone (packet_of caller moment item) command before s replies taken) (sym same)
     (alone-refused caller moment command item before phase.Command code replies taken row refl is text tt only)

@@ -15,11 +15,22 @@ IsDue None put disk disk_now state state_now out out_now =
 IsDue (Some due) put disk disk_now state state_now out out_now =
     (put ≡ true) × (state_now ≡ due.state) × (out_now ≡ packet_text due.packet)
 
+-- what is filled: the disk that is read, the state of what sends, and the octets that are put
+pub record Filled (D S : Type 0) : Type 0 where
+  pub disk : D
+  pub state : S
+  pub out : List ℕ
+
+-- by its parts
+abbrev pub filled : {D S : Type 0} → D → S → List ℕ → Filled D S
+filled disk state out = record { disk = disk; state = state; out = out }
+
 -- A packet is put exactly where one is due. The disk is as reads leave it, of which one failed or none; and what was
 -- put is what is due for that, code 3 where a read failed.
-pub record PutsDue {D : Type 0} (g : Ghosts D) (store : Store) (disk disk_now : D) (state state_now : DownloadState)
-    (out out_now : List ℕ) (put : Bool) : Type 0 where
+pub record PutsDue {D : Type 0} (g : Ghosts D) (store : Store) (before now : Filled D DownloadState) (put : Bool) :
+    Type 0 where
   pub fails : Bool
-  pub reads : Reads g (IsTrue fails) disk disk_now
-  pub told : fails ≡ true → IfSome (next_due store state fails) (λ due. due.packet ≡ dl_error_resp 3)
-  pub is_due : IsDue (next_due store state fails) put disk disk_now state state_now out out_now
+  pub reads : Reads g (IsTrue fails) before.disk now.disk
+  pub told : fails ≡ true → IfSome (next_due store before.state fails) (λ due. due.packet ≡ dl_error_resp 3)
+  pub is_due :
+      IsDue (next_due store before.state fails) put before.disk now.disk before.state now.state before.out now.out

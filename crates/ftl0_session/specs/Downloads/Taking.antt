@@ -3,7 +3,7 @@ use Rattle.std.specs.Prelude.{◌≡◌, List, ℕ, [], ◌∷◌, flat_map, Boo
 use Rattle.std.specs.Prelude.{Result, Ok, Err}
 use Rattle.px_base.specs.CallSign.{CallSign}
 use Rattle.disk_model.specs.declared.disk.Disk.{Ghosts}
-use Rattle.ftl0_packets.specs.Layout.{PacketValue, dl_error_resp, packet_text}
+use Rattle.ftl0_packets.specs.Layout.{dl_error_resp, packet_text}
 use Rattle.ftl0_session.specs.Lists.Lists.{CallerList}
 use Rattle.file_store.specs.Calls.{Reads}
 use Rattle.file_store.specs.Store.{Store}
@@ -11,7 +11,7 @@ use Rattle.selection.specs.Layout.{Tree}
 use Rattle.ftl0_session.specs.declared.downloads.downloads.Form.{Form}
 use Rattle.ftl0_session.specs.declared.downloads.downloads.Form.TheVariants as form
 use Rattle.ftl0_session.specs.declared.downloads.span.Span.{Span}
-use Rattle.ftl0_session.specs.Downloads.Table.{DownloadRow, DownloadState, Due, download_row, lists_after, long_due}
+use Rattle.ftl0_session.specs.Downloads.Table.{DownloadRow, DownloadState, Due, lists_after, long_due}
 use Rattle.ftl0_session.specs.Downloads.Table.{refused_row}
 use Rattle.ftl0_session.specs.Downloads.Table.{select_row, sending, short_due, tree_row}
 
@@ -43,18 +43,15 @@ abbrev pub IsRow : {D : Type 0} → Option DownloadRow → Bool → D → D → 
 IsRow None taken disk disk_now before now = (taken ≡ false) × (disk_now ≡ disk) × (now ≡ before)
 IsRow (Some row) taken disk disk_now before now = (taken ≡ true) × (now ≡ made_by row)
 
--- A packet is taken exactly where it has a row. The disk is as reads leave it, of which one failed or none; and what
--- was made is the packet's row for that. Where a read failed it has one, which tells of it by code 3.
-pub record TakesPacket {D : Type 0} (g : Ghosts D) (caller : CallSign) (packet : PacketValue) (store : Store)
-    (disk disk_now : D) (before now : Made) (taken : Bool) : Type 0 where
+-- A packet with this row of downloading, for reads that fail or don't, is taken exactly where it has one. The disk is
+-- as reads leave it, of which one failed or none; and what was made is the packet's row for that. Where a read failed
+-- it has one, which tells of it by code 3.
+pub record TakesByRow {D : Type 0} (g : Ghosts D) (row : Bool → Option DownloadRow) (disk disk_now : D)
+    (before now : Made) (taken : Bool) : Type 0 where
   pub fails : Bool
   pub reads : Reads g (IsTrue fails) disk disk_now
-  pub told :
-      fails ≡ true
-      → IsSomeAnd (download_row caller store before.lists before.state packet fails)
-      (λ row. row.replies ≡ dl_error_resp 3 ∷ [])
-  pub is_row :
-      IsRow (download_row caller store before.lists before.state packet fails) taken disk disk_now before now
+  pub told : fails ≡ true → IsSomeAnd (row fails) (λ given. given.replies ≡ dl_error_resp 3 ∷ [])
+  pub is_row : IsRow (row fails) taken disk disk_now before now
 
 -- what a directory command of this form lists
 abbrev pub due_by : Form → Store → List ℕ → List Due

@@ -1,7 +1,6 @@
 -- What a packet of uploading asks of the session.
 use Rattle.std.specs.Prelude.{◌≡◌, ℕ, List, true, None, Result, Ok, IsErr, ⊤}
 use Rattle.px_base.specs.CallSign.{CallSign}
-use Rattle.disk_model.specs.declared.disk.Disk.{Ghosts}
 use Rattle.ftl0_packets.specs.Layout.{Item, data_end, data_part, upload_cmd}
 use Rattle.file_store.specs.State.{StoreState}
 use Rattle.ftl0_session.specs.declared.uploads.asked.Asked.{Asked}
@@ -9,9 +8,10 @@ use Rattle.ftl0_session.specs.declared.uploads.asked.Asked.TheVariants as asked
 use Rattle.ftl0_session.specs.declared.uploads.phase.Phase.{Phase}
 use Rattle.disk_model.specs.declared.halt.Halt.{Halt}
 use Rattle.ftl0_packets.specs.Items.{kind_of_item}
-use Rattle.ftl0_session.specs.Uploads.Session.{State, aborting, is_upload_kind}
+use Rattle.ftl0_session.specs.Uploads.Events.{packet_of}
+use Rattle.ftl0_session.specs.Uploads.Session.{aborting, is_upload_kind}
 use Rattle.ftl0_session.specs.Uploads.SessionState.{NoOtherOut}
-use Rattle.ftl0_session.specs.Uploads.Taking.{Answered, AnsweredAlone}
+use Rattle.ftl0_session.specs.Uploads.Taking.{AnsweredAlone}
 
 -- this is what the packet asks, which is of uploading
 abbrev pub IsAsked : Item → Asked → Type 0
@@ -20,15 +20,12 @@ IsAsked item (asked.Part octets) = item ≡ Ok (data_part octets.now)
 IsAsked item asked.End = item ≡ Ok data_end
 IsAsked item asked.Malformed = IsErr item × (is_upload_kind (kind_of_item item) ≡ true)
 
--- what each packet that asks this gives in a state
-abbrev pub AnswersAsked :
-    {D : Type 0} → Ghosts D → CallSign → ℕ → State → Asked → StoreState → StoreState → D → D → List ℕ
-    → (Phase × Result ⊤ Halt) → Type 0
-AnswersAsked g caller moment state what before now disk disk_now replies taken =
-    (item : Item) → IsAsked item what → Answered g caller moment state item before now disk disk_now replies taken
+-- so each packet that asks this is answered
+abbrev pub AnswersAsked : Asked → (Item → Type 0) → Type 0
+AnswersAsked what IsAnswered = (item : Item) → IsAsked item what → IsAnswered item
 
 -- In Aborting, whoever the caller is and whatever the store, which stays.
 abbrev pub AnswersAborting : Asked → List ℕ → (Phase × Result ⊤ Halt) → Type 0
 AnswersAborting what replies taken =
     (caller : CallSign) (moment : ℕ) (store : StoreState) (item : Item) → NoOtherOut store caller None
-    → IsAsked item what → AnsweredAlone caller moment aborting item store store replies taken
+    → IsAsked item what → AnsweredAlone (packet_of caller moment item) aborting store store replies taken

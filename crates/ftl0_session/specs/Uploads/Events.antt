@@ -1,5 +1,6 @@
 -- The events of a session over an air: the packets that its turns bring, each with its moment.
 use Rattle.std.specs.Prelude.{◌≡◌, ℕ, List, [], ◌∷◌, ◌++◌, map}
+use Rattle.px_base.specs.CallSign.{CallSign}
 use Rattle.px_base.specs.Polling.{octets_of_turn}
 use Rattle.px_base.specs.declared.air.Turn.{Turn}
 use Rattle.ftl0_packets.specs.Layout.{Item}
@@ -9,6 +10,16 @@ use Rattle.ftl0_packets.specs.Stream.{Stream}
 pub record Event : Type 0 where
   pub moment : ℕ
   pub packet : Item
+
+-- a packet of this caller, malformed or not, and the moment in which it is taken
+pub record CallerPacket : Type 0 where
+  pub caller : CallSign
+  pub moment : ℕ
+  pub item : Item
+
+-- by its parts
+abbrev pub packet_of : CallSign → ℕ → Item → CallerPacket
+packet_of caller moment item = record { caller = caller; moment = moment; item = item }
 
 -- these packets, all at this moment
 abbrev pub at_moment : ℕ → List Item → List Event

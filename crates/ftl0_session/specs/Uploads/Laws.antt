@@ -1,7 +1,7 @@
 -- Laws of the session's table: which packets have a row, what is granted, what goes on, what is acknowledged, and that
 -- this stands.
 use Rattle.std.specs.Prelude.{◌≡◌, ◌≢◌, ℕ, ◌+◌, ◌≤◌, List, [], ◌∷◌, ◌++◌, length, true}
-use Rattle.std.specs.Prelude.{None, Some, IfSome, is_some, Ok}
+use Rattle.std.specs.Prelude.{Option, None, Some, IfSome, is_some, Ok}
 use Rattle.std.specs.List.{AllByRecursion}
 use Rattle.px_base.specs.CallSign.{CallSign, IsCall}
 use Rattle.px_base.specs.Octets.{IsOctets}
@@ -81,24 +81,26 @@ abbrev pub HasEntry : ℕ → Entry → List ℕ → Type 0
 HasEntry number entry image =
     (files : Store) × StandsFor image files × (entry_of files number ≡ Some entry)
 
--- Over the store that these commands come to, DATA_END's row has commands and replies UL_ACK_RESP. In each image that
--- stands for the store after at least these commands and the row's, whatever commands come behind them, the file's
--- entry is complete with the octets that came, stamped.
-pub record StandsAcknowledged (caller : CallSign) (start store : Store) (commands : List Command) (moment number : ℕ)
-    (entry : Entry) (file rest : List ℕ) : Type 0 where
+-- There is a row, which comes behind these commands, has commands and replies UL_ACK_RESP. In each image that stands
+-- for the store after at least these commands and the row's, whatever commands come behind them, this is the entry of
+-- the number.
+pub record StandsAcknowledged (given : Option Row) (start : Store) (commands : List Command) (number : ℕ)
+    (entry : Entry) : Type 0 where
   pub row : Row
-  pub is_row : session_row caller moment store (receiving number rest) (Ok data_end) ≡ Some row
+  pub is_row : given ≡ Some row
   pub replies : row.replies ≡ ul_ack_resp ∷ []
   pub some : 1 ≤ length row.commands
   pub stands :
       (others : List Command) (least most : ℕ) (image : List ℕ)
       → AreAllowed start (commands ++ (row.commands ++ others)) → length commands + length row.commands ≤ least
       → MakesBetween least most start (commands ++ (row.commands ++ others)) image
-      → HasEntry number (kept entry file moment) image
+      → HasEntry number entry image
 
--- So it is whatever the commands before were, of this session or of others.
+-- DATA_END's row over the store that these commands come to is so, whatever they were, of this session or of others:
+-- the file's entry is then complete with the octets that came, stamped.
 abbrev pub AcknowledgedStandsLaw : Type 0
 AcknowledgedStandsLaw =
     (caller : CallSign) (start store : Store) (commands : List Command) (moment number : ℕ) (entry : Entry)
     (held rest : List ℕ) → store ≡ after_all start commands → IsWhole store number entry held rest
-    → StandsAcknowledged caller start store commands moment number entry (held ++ rest) rest
+    → StandsAcknowledged (session_row caller moment store (receiving number rest) (Ok data_end)) start commands number
+    (kept entry (held ++ rest) moment)

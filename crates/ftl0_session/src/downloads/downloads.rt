@@ -11,16 +11,16 @@ ghost use Rattle.file_store.specs.Calls.{Reads};
 ghost use Rattle.file_store.specs.State.{StandsOn, store_in};
 ghost use Rattle.selection.specs.Values.{tree_of};
 ghost use Rattle.ftl0_session.specs.Lists.Lists.{left_of};
-ghost use Rattle.ftl0_session.specs.Downloads.Filling.{PutsDue};
+ghost use Rattle.ftl0_session.specs.Downloads.Filling.{PutsDue, filled};
 ghost use Rattle.ftl0_session.specs.Downloads.Needs.{AreComplete, AreFiles, IsDueIn, LiesIn};
 ghost use Rattle.ftl0_session.specs.Downloads.Sending.{is_due as is_due_in, is_read, most_data, octets_due};
 ghost use Rattle.ftl0_session.specs.Downloads.Sending.{state_after, state_at_end};
 ghost use Rattle.ftl0_session.specs.Downloads.Table.{asked_file, directory_row, download_cmd_row, file_of, has_file};
-ghost use Rattle.ftl0_session.specs.Downloads.Table.{listed_files};
+ghost use Rattle.ftl0_session.specs.Downloads.Table.{download_row, listed_files};
 ghost use Rattle.ftl0_session.specs.Downloads.Table.{listing, lists_after, ready, reply_sending, reply_waiting};
 ghost use Rattle.ftl0_session.specs.Downloads.Table.{select_row};
-ghost use Rattle.ftl0_session.specs.Downloads.Taking.{MakesRow, SelectsBy, SelectsNone, TakesPacket, answer_row};
-ghost use Rattle.ftl0_session.specs.Downloads.Taking.{due_by};
+ghost use Rattle.ftl0_session.specs.Downloads.Taking.{MakesRow, SelectsBy, SelectsNone, answer_row};
+ghost use Rattle.ftl0_session.specs.Downloads.Taking.{TakesByRow, due_by};
 ghost use Rattle.ftl0_session.specs.Downloads.Taking.{made, made_by};
 
 use crate::downloads::directory::{ShortForms, read_short_forms, read_spans_of_headers};
@@ -147,8 +147,9 @@ impl Downloads {
         requires complete { AreComplete (store_in store.old) lists.old }
 
         // The answer is the packet's row, if it has one.
-        ensures takes { TakesPacket D.Disk caller (value_of packet.now) (store_in store.old) disk.old disk.new
-            (made self.old lists.old []) (made self.new lists.new replies.new.items) result }
+        ensures takes { TakesByRow D.Disk (download_row caller (store_in store.old) lists.old self.old
+            (value_of packet.now)) disk.old disk.new (made self.old lists.old [])
+            (made self.new lists.new replies.new.items) result }
         ensures store { store.new ≡ store.old }
 
         // What the next call needs.
@@ -176,8 +177,8 @@ impl Downloads {
         requires healthy { store.old.journal.failed ≡ false }
         requires stands_on { StandsOn D.Disk store.old disk.old }
         requires due { IsDueIn (store_in store.old) self.old }
-        ensures puts { PutsDue D.Disk (store_in store.old) disk.old disk.new self.old self.new
-            out.old.items out.new.items result }
+        ensures puts { PutsDue D.Disk (store_in store.old) (filled disk.old self.old out.old.items)
+            (filled disk.new self.new out.new.items) result }
         ensures store { store.new ≡ store.old }
         ensures stands_on { StandsOn D.Disk store.new disk.new }
         ensures due { IsDueIn (store_in store.new) self.new }
@@ -269,8 +270,9 @@ impl Downloads {
         requires stands_on { StandsOn D.Disk store.old disk.old }
         requires ready { self.old ≡ ready }
         requires complete { AreComplete (store_in store.old) lists.old }
-        ensures takes { TakesPacket D.Disk caller (value_of packet.now) (store_in store.old) disk.old disk.new
-            (made self.old lists.old []) (made self.new lists.new replies.new.items) result }
+        ensures takes { TakesByRow D.Disk (download_row caller (store_in store.old) lists.old self.old
+            (value_of packet.now)) disk.old disk.new (made self.old lists.old [])
+            (made self.new lists.new replies.new.items) result }
         ensures store { store.new ≡ store.old }
         ensures stands_on { StandsOn D.Disk store.new disk.new }
         ensures due { IsDueIn (store_in store.new) self.new }

@@ -11,12 +11,13 @@ ghost use Rattle.file_store.specs.State.{StandsOn, store_in};
 ghost use Rattle.ftl0_session.specs.Uploads.Asked.{AnswersAborting, AnswersAsked};
 ghost use Rattle.ftl0_session.specs.Uploads.Others.{KeepsOtherCallers};
 ghost use Rattle.ftl0_session.specs.Uploads.Session.{command as in_command, is_upload_kind};
-ghost use Rattle.ftl0_session.specs.Uploads.SessionState.{IsHeld, IsOnlyOut, IsReady, NoOtherOut, Parks};
+ghost use Rattle.ftl0_session.specs.Uploads.SessionState.{IsHeld, IsOnlyOut, IsReady, NoOtherOut, Parks, with_disk};
 ghost use Rattle.ftl0_session.specs.Uploads.SessionState.{new_session, receiving_of, state_of};
-ghost use Rattle.ftl0_session.specs.Uploads.Taking.{Answered, AnsweredAlone, AnswersRefusal, LeavesDisk, PutsPacket};
-ghost use Rattle.ftl0_session.specs.Uploads.Taking.{TakesPacket, row_for};
+ghost use Rattle.ftl0_session.specs.Uploads.Taking.{Answered, AnsweredAlone, AnswersRefusal, LeavesDisk};
+ghost use Rattle.ftl0_session.specs.Uploads.Taking.{PutsRow, TakesPacket, row_for};
 ghost use Rattle.ftl0_session.specs.declared.uploads.phase.Phase.TheVariants.{Command as command_phase};
 ghost use Rattle.ftl0_session.specs.declared.uploads.phase.Phase.TheVariants.{Receiving as receiving_phase};
+ghost use Rattle.ftl0_session.specs.Uploads.Events.{packet_of};
 
 use crate::uploads::Phase;
 use crate::uploads::asked::Asked;
@@ -116,7 +117,8 @@ impl Session {
 
         // The answer is the packet's row, and the row's commands are on the disk; or the disk failed in one of them.
         ensures takes { TakesPacket moment self.old store.old packet.entry self.new store.new replies.new.items result }
-        ensures on_disk { PutsPacket D.Disk moment self.old store.old disk.old packet.entry store.new disk.new result }
+        ensures on_disk { PutsRow D.Disk store.old store.new disk.old disk.new
+            (row_for moment self.old store.old packet.entry) result }
         ensures untouched { LeavesDisk disk.old disk.new (row_for moment self.old store.old packet.entry) }
         ensures puts { Puts D.Disk (IsErrOf result Halt.Disk) disk.old disk.new }
         ensures failed { IsErrOf result Halt.Disk → store.new.journal.failed ≡ true }
@@ -178,8 +180,9 @@ impl Session {
         requires empty { replies.old.items ≡ [] }
         requires ready { IsReady D.Disk store.old disk.old self.old.caller phase }
         ensures session { self.new ≡ self.old }
-        ensures answered { AnswersAsked D.Disk self.old.caller moment (state_of store.old phase) asked.entry
-            store.old store.new disk.old disk.new replies.new.items result }
+        ensures answered { AnswersAsked asked.entry
+            (λ item. Answered D.Disk (packet_of self.old.caller moment item) (state_of store.old phase)
+            (with_disk store.old disk.old) (with_disk store.new disk.new) replies.new.items result) }
     {
         match phase {
             Phase::Command => take_command(disk, self.caller, asked, moment, store, replies),
@@ -201,8 +204,9 @@ impl Session {
         requires empty { replies.old.items ≡ [] }
         requires ready { IsReady D.Disk store.old disk.old self.old.caller (receiving_phase up) }
         ensures session { self.new ≡ self.old }
-        ensures answered { AnswersAsked D.Disk self.old.caller moment (receiving_of store.old up) asked.entry
-            store.old store.new disk.old disk.new replies.new.items result }
+        ensures answered { AnswersAsked asked.entry
+            (λ item. Answered D.Disk (packet_of self.old.caller moment item) (receiving_of store.old up)
+            (with_disk store.old disk.old) (with_disk store.new disk.new) replies.new.items result) }
     {
         match asked {
             Asked::Part(octets) => take_data(disk, self.caller, up, octets, store, replies),
@@ -223,8 +227,8 @@ impl Session {
         requires empty { replies.old.items ≡ [] }
         requires ready { IsReady D.Disk store.old disk.old self.old.caller (receiving_phase up) }
         ensures session { self.new ≡ self.old }
-        ensures answered { Answered D.Disk self.old.caller moment (receiving_of store.old up) (Ok data_end)
-            store.old store.new disk.old disk.new replies.new.items result }
+        ensures answered { Answered D.Disk (packet_of self.old.caller moment (Ok data_end)) (receiving_of store.old up)
+            (with_disk store.old disk.old) (with_disk store.new disk.new) replies.new.items result }
     {
         match store.seal(disk, up, moment) {
             Ok(receipt) => {
@@ -260,8 +264,8 @@ fn take_command<D: Disk>(
 ) -> Taken
     requires empty { replies.old.items ≡ [] }
     requires ready { IsReady D.Disk store.old disk.old caller command_phase }
-    ensures { AnswersAsked D.Disk caller moment in_command asked.entry
-        store.old store.new disk.old disk.new replies.new.items result }
+    ensures { AnswersAsked asked.entry (λ item. Answered D.Disk (packet_of caller moment item) in_command
+        (with_disk store.old disk.old) (with_disk store.new disk.new) replies.new.items result) }
 {
     match asked {
         Asked::Upload { number: 0, length } => begin(disk, caller, length, moment, store, replies),
@@ -281,8 +285,8 @@ fn begin<D: Disk>(
 ) -> Taken
     requires empty { replies.old.items ≡ [] }
     requires ready { IsReady D.Disk store.old disk.old caller command_phase }
-    ensures { Answered D.Disk caller moment in_command (Ok (upload_cmd 0 length))
-        store.old store.new disk.old disk.new replies.new.items result }
+    ensures { Answered D.Disk (packet_of caller moment (Ok (upload_cmd 0 length))) in_command
+        (with_disk store.old disk.old) (with_disk store.new disk.new) replies.new.items result }
 {
     // No entry has the number that comes next.
     state_law(store);
@@ -330,7 +334,7 @@ fn resume(
     requires healthy { store.old.journal.failed ≡ false }
     requires only { NoOtherOut store.old caller None }
     requires number { number ≢ 0 }
-    ensures { (moment : ℕ) → AnsweredAlone caller moment in_command (Ok (upload_cmd number length))
+    ensures { (moment : ℕ) → AnsweredAlone (packet_of caller moment (Ok (upload_cmd number length))) in_command
         store.old store.new replies.new.items result }
 {
     match store.resume(number, caller, length) {
@@ -374,8 +378,9 @@ fn take_data<D: Disk>(
 ) -> Taken
     requires empty { replies.old.items ≡ [] }
     requires ready { IsReady D.Disk store.old disk.old caller (receiving_phase up) }
-    ensures { (moment : ℕ) → Answered D.Disk caller moment (receiving_of store.old up) (Ok (data_part octets.entry.now))
-        store.old store.new disk.old disk.new replies.new.items result }
+    ensures { (moment : ℕ) → Answered D.Disk (packet_of caller moment (Ok (data_part octets.entry.now)))
+        (receiving_of store.old up) (with_disk store.old disk.old) (with_disk store.new disk.new) replies.new.items
+        result }
 {
     match store.append(disk, up, octets) {
         Ok(up) => (Phase::Receiving(up), Ok(())),

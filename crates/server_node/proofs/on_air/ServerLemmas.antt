@@ -19,7 +19,7 @@ use Rattle.ftl0_server.specs.Connection.ConnectionState.{with_reads}
 use Rattle.ftl0_server.specs.Calls.{HandsOut, HandsOutNext, Hears, HearsBy}
 use Rattle.ftl0_server.specs.Server.{IsSilent, Server, ServerHappened, ServerSends, server_next, settled}
 use Rattle.ftl0_server.specs.ServerState.{IsServer, SendsFor, ServerState, server_pending}
-use Rattle.ftl0_server.specs.ServerStep.{Empties, ServerStep, happening}
+use Rattle.ftl0_server.specs.ServerStep.{Empties, ServerStep, happening, stepped}
 use Rattle.ftl0_server.specs.Serving.{TakesEvent}
 use Rattle.ftl0_server.proofs.Offered.{empties-silent, serves-append, serves-one, silent-settled, uncut}
 use Rattle.server_node.specs.Sessions.Running.{IsSaid}
@@ -124,7 +124,7 @@ module _ {D : Type 0} (g : Ghosts D) (lasts : (disk : D) → g.lasts disk disk) 
         → IsSaid unsaid (text_of frames) text → HaltsOn g server old (event ∷ []) node_stop.Disk unsaid text new
     event-failed by frames last sent text unsaid said =
         let failed : ServerHappened = failing server event by.0 parts in
-        let step : ServerStep server event (failed_write by.0 ++ failed_reads parts) failed.done failed.cut failed.missed fails frames (settled last) =
+        let step : ServerStep server event (failed_write by.0 ++ failed_reads parts) (stepped failed.done failed.cut failed.missed fails frames (settled last)) =
         record { silent = serving.silent; done_is = refl; cut_is = refl; missed_is = refl; halt_is = sym by.1; last = last; sent = sent; new_is = refl } in
         stopped node_stop.Disk unsaid text failed.done failed.cut failed.missed (by.0, parts, frames, settled last, step, said)
         (cuts-among-same g ⊤ (node_stop.Disk ≡ node_stop.Disk) failed.missed failed.missed old.it.server.store new.it.server.store old.disk new.disk failed.done failed.cut (λ _. refl) (λ _. tt) refl

@@ -4,9 +4,9 @@ use Rattle.std.specs.List.{AllByRecursion}
 use Rattle.px_base.specs.CallSign.{CallSign}
 use Rattle.disk_model.specs.declared.disk.Disk.{Ghosts}
 use Rattle.file_store.specs.State.{store_in, StoreState}
-use Rattle.ftl0_session.specs.Uploads.Events.{Event, at_moment}
+use Rattle.ftl0_session.specs.Uploads.Events.{Event, at_moment, packet_of}
 use Rattle.ftl0_session.specs.Answering.{IsAnswering, met_with, octets_left}
-use Rattle.ftl0_session.specs.Run.{Event as MetEvent, RunsOver, heard_of}
+use Rattle.ftl0_session.specs.Run.{Event as MetEvent, RunsOver, heard_of, session_over}
 use Rattle.ftl0_session.specs.Table.{next_due, Row, State, download_part, failed_reads_told, tells_failed_read}
 use Rattle.node.specs.Course.{AtDisk, IsLawful, GaveAll, GivesNext, OwesSome, at, stop_at_put, stop_of}
 use Rattle.node.specs.Inputs.{Input, IsInput, octets_at, octets_in}
@@ -31,11 +31,12 @@ use Rattle.ftl0_packets.specs.Layout.{PacketValue, packet_text, Item, PacketText
 use Rattle.file_store.specs.Command.{Command}
 use Rattle.file_store.specs.Working.{CutsOffAmongReads, DoesAmongReads, one_if}
 use Rattle.file_store.proofs.Offered.{among-at, among-same, among-store, among-then, cuts-among-none, cuts-among-same}
-use Rattle.ftl0_session.specs.Uploads.SessionState.{IsHeld, IsOnlyOut}
+use Rattle.ftl0_session.specs.Uploads.SessionState.{IsHeld, IsOnlyOut, with_disk}
 use Rattle.ftl0_session.specs.Downloads.Needs.{AreComplete, IsDueIn}
 use Rattle.ftl0_session.specs.Filling.{PutsDue}
 use Rattle.ftl0_session.specs.SessionState.{SessionState, state_in}
 use Rattle.ftl0_session.specs.Taking.{row_over, TakesPacket, Working}
+use Rattle.ftl0_session.specs.Downloads.Filling.{filled as filled_with}
 use Rattle.ftl0_session.proofs.WorkingLemmas.{Sent, due-among, told-append, taken-among, taken-cut, taken-none}
 use Rattle.disk_model.specs.declared.halt.Halt.{Halt}
 use Rattle.server_node.specs.Sessions.Server.{IsServer, server_state}
@@ -282,7 +283,7 @@ module _ {D : Type 0} (g : Ghosts D) (lasts : (disk : D) → g.lasts disk disk) 
   )
     where
       ran : (events : List Event) (met : List MetEvent) → map heard_of met ≡ events
-          → RunsOver start.it.caller (store_in start.it.store) start.it.lists start.it.state met h.said h.commands (store_in now.it.store) now.it.lists now.it.state
+          → RunsOver start.it.caller (session_over (store_in start.it.store) start.it.lists start.it.state) met h.said h.commands (session_over (store_in now.it.store) now.it.lists now.it.state)
           → RunsOn g (session_steps start.it.caller) (session_at start) (session_at now) events (texts h.said)
       ran events met heard runs =
           record { done = h.commands; missed = failed_reads_told h.said; goes = record { met = met; heard = heard; said = h.said; text_is = refl; missed_is = refl; runs = runs }; does = h.does }
@@ -340,7 +341,7 @@ module _ {D : Type 0} (g : Ghosts D) (lasts : (disk : D) → g.lasts disk disk) 
 
   -- ---- a packet that is due
 
-  module _ (going : a.halted ≡ false) (disk_n : D) (state_n : State) (out out_n : List ℕ) (puts : PutsDue g (store_in a.store) disk disk_n a.state state_n out out_n true) where
+  module _ (going : a.halted ≡ false) (disk_n : D) (state_n : State) (out out_n : List ℕ) (puts : PutsDue g (store_in a.store) (filled_with disk a.state out) (filled_with disk_n state_n out_n) true) where
     abbrev given : List ℕ → AtDisk ServerState D
     given replies = at (record a { state = state_n; replies = replies }) disk_n
 
@@ -460,7 +461,7 @@ module _ {D : Type 0} (g : Ghosts D) (lasts : (disk : D) → g.lasts disk disk) 
 
     module _ (now : Working) (disk_n : D) (replies : List ℕ) where
       abbrev Takes : Result ⊤ Halt → Type 0
-      Takes result = TakesPacket g a.caller moment item before now disk disk_n replies result
+      Takes result = TakesPacket g (packet_of a.caller moment item) (with_disk before disk) (with_disk now disk_n) replies result
 
       -- the server behind it
       abbrev server_n : CallSign → Bool → ServerState

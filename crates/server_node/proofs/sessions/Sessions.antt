@@ -13,6 +13,7 @@ use Rattle.file_store.specs.Store.{Store}
 use Rattle.file_store.specs.Working.{CutsOffAmongReads}
 use Rattle.file_store.proofs.Offered.{cuts-among-none}
 use Rattle.ftl0_session.specs.Uploads.Events.{Brings, Event}
+use Rattle.ftl0_session.specs.Run.{Session}
 use Rattle.node.specs.Course.{AtDisk, at}
 use Rattle.node.specs.Inputs.{Input, inputs_of, octets_in}
 use Rattle.node.specs.Lent.{Seen, lent}
@@ -30,7 +31,6 @@ use Rattle.server_node.specs.Steps.{Made, StopsBehind, StopsOn, Steps, made}
 use Rattle.server_node.specs.Stops.{HasAirCause, served_by, stop_of_node}
 use Rattle.server_node.specs.Sessions.Course.{GoesOver, HaltsOver, session_at, session_course}
 use Rattle.server_node.specs.Sessions.Packets.{events_behind, events_to, waiting_behind}
-use Rattle.ftl0_session.specs.Answering.{Session}
 use Rattle.server_node.specs.Sessions.Running.{first_session, session_steps}
 use Rattle.server_node.specs.Sessions.ServerState.{ServerState, new_server}
 use Rattle.server_node.specs.Sessions.SessionRan.{IsGreeted, IsUngreeted, SessionRan, login_text}

@@ -1,6 +1,6 @@
 -- How a server goes on over the events of its node: which frames it says, and which commands of the store it does, up
 -- to a stop.
-use Rattle.std.specs.Prelude.{◌≡◌, ◌≢◌, ◌⊎◌, ℕ, ◌+◌, List, [], ◌++◌, flat_map, Bool}
+use Rattle.std.specs.Prelude.{◌≡◌, ◌≢◌, ◌⊎◌, ℕ, List, [], ◌++◌, flat_map, Bool}
 use Rattle.px_base.specs.Octets.{IsFront}
 use Rattle.kiss.specs.KissText.{kiss_text}
 use Rattle.ax25_frames.specs.FrameText.{FrameValue, canonical}
@@ -11,7 +11,7 @@ use Rattle.node.specs.declared.stop.NodeStop.TheVariants as node_stop
 use Rattle.ftl0_server.specs.Failures.{failed_reads, failed_write}
 use Rattle.ftl0_server.specs.Connection.Taking.{fails}
 use Rattle.ftl0_server.specs.Server.{Server, ServerHappened}
-use Rattle.ftl0_server.specs.ServerStep.{ServerStep, happening}
+use Rattle.ftl0_server.specs.ServerStep.{ServerStep, happening, stepped}
 use Rattle.ftl0_server.specs.Serving.{ServesOver, TakesEvent}
 use Rattle.server_node.specs.Sessions.Running.{IsSaid}
 use Rattle.server_node.specs.Steps.{Made, Steps}
@@ -41,7 +41,8 @@ StopsAt node_stop.AirWrite unsaid server event all cut =
     × (frames ≢ []) × IsFront all.text (text_of frames) × (cut ≡ [])
 StopsAt node_stop.Disk unsaid server event all cut =
     (part : ℕ) × (parts : List ℕ) × (frames : List FrameValue) × (next : Server)
-    × ServerStep server event (failed_write part ++ failed_reads parts) all.done cut all.missed fails frames next
+    × ServerStep server event (failed_write part ++ failed_reads parts)
+    (stepped all.done cut all.missed fails frames next)
     × IsSaid unsaid (text_of frames) all.text
 StopsAt node_stop.OutOfMemory unsaid server event all cut =
     (((all.done ≡ []) × (all.missed ≡ 0)) ⊎ ((part : ℕ) × (parts : List ℕ)

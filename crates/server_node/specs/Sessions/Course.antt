@@ -10,8 +10,8 @@ use Rattle.file_store.specs.Command.{Command}
 use Rattle.file_store.specs.State.{StoreState, store_in}
 use Rattle.file_store.specs.Working.{CutsOffAmongReads, DoesAmongReads}
 use Rattle.ftl0_session.specs.Uploads.Events.{Event}
-use Rattle.ftl0_session.specs.Run.{Event as MetEvent, event_row}
-use Rattle.ftl0_session.specs.Answering.{IsAnswering, Session, met_with, octets_left}
+use Rattle.ftl0_session.specs.Run.{Event as MetEvent, Session, event_row}
+use Rattle.ftl0_session.specs.Answering.{IsAnswering, met_with, octets_left}
 use Rattle.ftl0_session.specs.Table.{Row, State, download_part, failed_reads_told, fault_reply, next_due}
 use Rattle.ftl0_session.specs.Table.{takes_memory}
 use Rattle.node.specs.Course.{AtDisk, Course, at}

@@ -7,8 +7,8 @@ use Rattle.ftl0_packets.specs.Layout.{PacketValue}
 use Rattle.file_store.specs.Command.{Command, after_all}
 use Rattle.file_store.specs.Store.{Store}
 use Rattle.ftl0_session.specs.Uploads.Events.{Event}
-use Rattle.ftl0_session.specs.Answering.{SendsSome, Session}
-use Rattle.ftl0_session.specs.Run.{Event as MetEvent, RunsOver, event_row, heard_of}
+use Rattle.ftl0_session.specs.Answering.{SendsSome}
+use Rattle.ftl0_session.specs.Run.{Event as MetEvent, RunsOver, Session, event_row, heard_of}
 use Rattle.ftl0_session.specs.Table.{Row, command, failed_reads_told, fault_reply, takes_memory}
 use Rattle.node.specs.declared.stop.NodeStop.{NodeStop as Stop}
 use Rattle.node.specs.declared.stop.NodeStop.TheVariants as node_stop
@@ -49,7 +49,7 @@ pub record RunsAs (caller : CallSign) (start : Session) (events : List Event) (a
   pub said : List PacketValue
   pub text_is : all.text ≡ texts said
   pub missed_is : all.missed ≡ failed_reads_told said
-  pub runs : RunsOver caller start.store start.lists start.state met said all.done now.store now.lists now.state
+  pub runs : RunsOver caller start met said all.done now
 
 -- The session stopped at this event, at some parts of which reads failed, or at none.
 pub record StopsAs (caller : CallSign) (why : Stop) (unsaid : Bool) (now : Session) (event : Event) (all : Made)

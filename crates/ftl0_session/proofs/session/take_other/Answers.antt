@@ -1,10 +1,5 @@
 -- A packet that isn't of uploading, or comes while something is done of downloading: its row of downloading, or error 1.
-use Rattle.std.proofs.Common.{Bool, sym, subst}
-use Rattle.std.specs.Prelude.{Ok}
 use Rattle.ftl0_packets.specs.Values.{item_of}
-use Rattle.file_store.specs.State.{StoreState}
-use Rattle.ftl0_session.specs.SessionState.{session_of}
-use Rattle.ftl0_session.specs.Taking.{Taken, TakesDownload}
 use Rattle.ftl0_session.proofs.RowLemmas.{upload-other}
 use Rattle.ftl0_session.proofs.TakenLemmas.{may-still, taken-download, taken-error}
 use Rattle.ftl0_session.proofs.session.take_other.Goals as goal
@@ -15,14 +10,9 @@ returns-then-take_download-clause-taken g c moment =
     c.requires.kind c.requires.other in
     let may = may-still g.D.Disk c.args.uploads.now c.args.downloads.now c.take_download.new.downloads c.args.store.now c.take_download.new.store c.args.lists.now c.take_download.new.lists
     c.args.disk.now c.take_download.new.disk c.take_download.ensures.store c.requires.may c.take_download.ensures.stands_on c.take_download.ensures.due c.take_download.ensures.complete in
-    let Takes : Bool → Type 0 = λ taken. TakesDownload g.D.Disk (item_of c.args.packet) c.args.uploads.now c.args.downloads.now c.take_download.new.downloads c.args.store.now c.args.lists.now
-    c.take_download.new.lists c.args.disk.now c.take_download.new.disk c.take_download.new.replies.items taken in
-    let takes = subst Takes c.if-take_download.true c.take_download.ensures.takes in
-    let P : StoreState → Type 0 = λ s. Taken g.D.Disk moment (item_of c.args.packet) (session_of c.args.uploads.now c.args.downloads.now) (session_of c.args.uploads.now c.take_download.new.downloads)
-    c.args.store.now s c.args.lists.now c.take_download.new.lists c.args.disk.now c.take_download.new.disk c.take_download.new.replies.items (Ok tt) in
-    subst P (sym c.take_download.ensures.store)
+    rw c.take_download.ensures.store
     (taken-download g.D.Disk moment (item_of c.args.packet) c.args.uploads.now c.args.downloads.now c.take_download.new.downloads c.args.store.now c.args.lists.now c.take_download.new.lists c.args.disk.now
-    c.take_download.new.disk none may (g.met.D.Disk.lasts_same c.take_download.new.disk) c.take_download.new.replies.items takes)
+    c.take_download.new.disk none may (g.met.D.Disk.lasts_same c.take_download.new.disk) c.take_download.new.replies.items (rw c.if-take_download.true at c.take_download.ensures.takes))
 
 pub returns-clause-taken : goal.returns-clause-taken
 returns-clause-taken g c moment =
@@ -30,12 +20,7 @@ returns-clause-taken g c moment =
     c.requires.kind c.requires.other in
     let may = may-still g.D.Disk c.args.uploads.now c.args.downloads.now c.take_download.new.downloads c.args.store.now c.take_download.new.store c.args.lists.now c.take_download.new.lists
     c.args.disk.now c.take_download.new.disk c.take_download.ensures.store c.requires.may c.take_download.ensures.stands_on c.take_download.ensures.due c.take_download.ensures.complete in
-    let Takes : Bool → Type 0 = λ taken. TakesDownload g.D.Disk (item_of c.args.packet) c.args.uploads.now c.args.downloads.now c.take_download.new.downloads c.args.store.now c.args.lists.now
-    c.take_download.new.lists c.args.disk.now c.take_download.new.disk c.take_download.new.replies.items taken in
-    let takes = subst Takes c.if-take_download.false c.take_download.ensures.takes in
-    let P : StoreState → Type 0 = λ s. Taken g.D.Disk moment (item_of c.args.packet) (session_of c.args.uploads.now c.args.downloads.now) (session_of c.args.uploads.now c.take_download.new.downloads)
-    c.args.store.now s c.args.lists.now c.take_download.new.lists c.args.disk.now c.take_download.new.disk c.refuse.new.replies.items (Ok tt) in
-    subst P (sym c.take_download.ensures.store)
+    rw c.take_download.ensures.store
     (taken-error g.D.Disk moment (item_of c.args.packet) c.args.uploads.now c.args.downloads.now c.take_download.new.downloads c.args.store.now c.args.lists.now c.take_download.new.lists c.args.disk.now
     c.take_download.new.disk none may (g.met.D.Disk.lasts_same c.take_download.new.disk) c.take_download.new.replies.items c.refuse.new.replies.items c.args.of_uploading
-    c.requires.kind c.refuse.ensures takes)
+    c.requires.kind c.refuse.ensures (rw c.if-take_download.false at c.take_download.ensures.takes))

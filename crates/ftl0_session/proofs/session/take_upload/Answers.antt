@@ -1,12 +1,6 @@
 -- A packet of uploading is answered by its row of it.
-use Rattle.std.proofs.Common.{sym, subst}
-use Rattle.std.specs.Prelude.{⊤, Result}
 use Rattle.ftl0_packets.specs.Values.{item_of}
 use Rattle.file_store.specs.State.{store_in}
-use Rattle.ftl0_session.specs.Downloads.Table.{ready}
-use Rattle.disk_model.specs.declared.halt.Halt.{Halt}
-use Rattle.ftl0_session.specs.SessionState.{session_of}
-use Rattle.ftl0_session.specs.Taking.{Taken}
 use Rattle.ftl0_session.proofs.UploadLemmas.{taken-upload}
 use Rattle.ftl0_session.proofs.session.take_upload.Goals as goal
 

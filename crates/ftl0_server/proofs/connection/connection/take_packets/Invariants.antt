@@ -4,11 +4,11 @@ use Rattle.packet_link.specs.PacketLink.{octets_in}
 use Rattle.ftl0_server.specs.Connection.Feeding.{carrying}
 use Rattle.ftl0_server.proofs.connection.Invariants.{IsTaking}
 use Rattle.ftl0_server.proofs.connection.connection.take_packets.Given as goal
+use Rattle.ftl0_session.specs.SessionState.{working_on}
 
 abbrev pub invariant-loop-left : goal.invariant-loop-left
 invariant-loop-left g l =
-    IsTaking g.D.Disk l.fn.moment (carrying l.fn.link.link (octets_in l.fn.link ++ l.fn.octets) l.fn.session) (carrying l.link.link (octets_in l.link ++ l.piece) l.session) l.fn.store l.store l.fn.lists
-    l.lists l.fn.disk l.disk
+    IsTaking g.D.Disk l.fn.moment (carrying l.fn.link.link (octets_in l.fn.link ++ l.fn.octets) l.fn.session) (carrying l.link.link (octets_in l.link ++ l.piece) l.session) (working_on l.fn.store l.fn.lists l.fn.disk) (working_on l.store l.lists l.disk)
 
 abbrev pub decreases-loop-left : goal.decreases-loop-left
 decreases-loop-left g l = length l.piece

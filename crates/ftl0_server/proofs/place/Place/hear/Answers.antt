@@ -7,6 +7,8 @@ use Rattle.ax25_frames.specs.Values.{value_of}
 use Rattle.file_store.specs.Store.{Store}
 use Rattle.file_store.specs.State.{store_in}
 use Rattle.ftl0_session.specs.Downloads.Needs.{AreComplete}
+use Rattle.ftl0_session.specs.Uploads.SessionState.{with_disk}
+use Rattle.ftl0_session.specs.SessionState.{working_on}
 use Rattle.ftl0_server.proofs.PlaceLemmas.{heard-going, heard-over, parks-journal, parks-store, works-over}
 use Rattle.ftl0_server.proofs.place.Place.hear.Goals as goal
 
@@ -16,7 +18,7 @@ returns-in-Ends-clause-hears g c = λ w connected is.
     let heard = c.hear-fate.ensures.hears w connected (record { link = talks.0; rest = talks.1.rest; state = talks.1.state }) in
     let event = with_reads (hearing w c.args.moment (store_in c.args.store.now) c.args.lists.now connected (value_of c.args.frame.now)) heard.parts in
     let ends =
-    subst (λ (f : Fate). HearsBy g.D.Disk w event c.args.store.now c.hear-fate.new.store c.hear-fate.new.lists c.args.disk.now c.hear-fate.new.disk c.hear-fate.new.self f c.hear-fate.result.1)
+    subst (λ (f : Fate). HearsBy g.D.Disk w event (with_disk c.args.store.now c.args.disk.now) (working_on c.hear-fate.new.store c.hear-fate.new.lists c.hear-fate.new.disk) c.hear-fate.new.self f c.hear-fate.result.1)
     c.in-Ends.is heard.by in
     let parks = c.leave.ensures.0.parks in
     rw c.leave.ensures.1
@@ -46,7 +48,7 @@ returns-in_default-clause-hears g c = λ w connected is.
     let heard = c.hear-fate.ensures.hears w connected (record { link = talks.0; rest = talks.1.rest; state = talks.1.state }) in
     let event = with_reads (hearing w c.args.moment (store_in c.args.store.now) c.args.lists.now connected (value_of c.args.frame.now)) heard.parts in
     let stays =
-    subst (λ (f : Fate). HearsBy g.D.Disk w event c.args.store.now c.hear-fate.new.store c.hear-fate.new.lists c.args.disk.now c.hear-fate.new.disk c.hear-fate.new.self f c.hear-fate.result.1)
+    subst (λ (f : Fate). HearsBy g.D.Disk w event (with_disk c.args.store.now c.args.disk.now) (working_on c.hear-fate.new.store c.hear-fate.new.lists c.hear-fate.new.disk) c.hear-fate.new.self f c.hear-fate.result.1)
     c.in_default.is heard.by in
     record {
       parts = heard.parts;

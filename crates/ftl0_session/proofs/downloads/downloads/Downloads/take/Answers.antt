@@ -4,7 +4,7 @@ use Rattle.ftl0_packets.specs.Values.{value_of}
 use Rattle.file_store.specs.State.{store_in}
 use Rattle.ftl0_session.specs.Downloads.Spans.{due_of}
 use Rattle.ftl0_session.specs.Downloads.Table.{download_row, ended_row, kept, sending, waiting}
-use Rattle.ftl0_session.specs.Downloads.Taking.{TakesPacket, made}
+use Rattle.ftl0_session.specs.Downloads.Taking.{TakesByRow, made}
 use Rattle.ftl0_session.specs.Downloads.View.{state_of}
 use Rattle.ftl0_session.specs.declared.downloads.downloads.Phase.{Phase}
 use Rattle.ftl0_session.proofs.downloads.TakeLemmas.{ended_by, not_taken, row_in_listing, row_in_sending}
@@ -56,5 +56,5 @@ returns-in-ListingShort-clause-takes g c =
           row_in_listing c.args.caller store lists self (map due_of inside.headers.items) p
           (sym c.self.view_is ∙ ap (λ (f : Phase). state_of f inside.short_forms.items inside.sent inside.headers.items) is)
     ] in
-    subst (λ (l : List ℕ). TakesPacket g.D.Disk c.args.caller p store c.args.disk.now c.args.disk.now (made self lists []) (made self lists l) false) (sym c.requires.empty)
+    subst (λ (l : List ℕ). TakesByRow g.D.Disk (download_row c.args.caller store lists self p) c.args.disk.now c.args.disk.now (made self lists []) (made self lists l) false) (sym c.requires.empty)
     (not_taken g.D.Disk c.args.caller store lists self p c.args.disk.now (g.met.D.Disk.lasts_same c.args.disk.now) row)

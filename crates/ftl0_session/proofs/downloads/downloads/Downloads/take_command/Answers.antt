@@ -3,8 +3,8 @@ use Rattle.ftl0_packets.specs.Values.{value_of}
 use Rattle.file_store.specs.State.{store_in}
 use Rattle.ftl0_session.specs.Downloads.Needs.{IsDueIn}
 use Rattle.ftl0_session.specs.Downloads.Table.{DownloadState, command_row, directory_row, download_cmd_row, long_due}
-use Rattle.ftl0_session.specs.Downloads.Table.{ready, select_row, short_due}
-use Rattle.ftl0_session.specs.Downloads.Taking.{TakesPacket, made}
+use Rattle.ftl0_session.specs.Downloads.Table.{download_row, ready, select_row, short_due}
+use Rattle.ftl0_session.specs.Downloads.Taking.{TakesByRow, made}
 use Rattle.ftl0_session.proofs.downloads.TakeLemmas.{download-is, long-is, no_row, not_taken, row_in_ready, select-is}
 use Rattle.ftl0_session.proofs.downloads.TakeLemmas.{short-is, taken_alone, taken_reading}
 use Rattle.ftl0_session.proofs.downloads.downloads.Downloads.take_command.Goals as goal
@@ -17,7 +17,7 @@ returns-in_default g c =
     let self = c.args.self.now in
     let p = value_of c.args.packet.now in record {
       takes =
-          subst (λ l. TakesPacket g.D.Disk caller p store c.args.disk.now c.args.disk.now (made self lists []) (made self lists l) false) (sym c.requires.empty)
+          subst (λ l. TakesByRow g.D.Disk (download_row caller store lists self p) c.args.disk.now c.args.disk.now (made self lists []) (made self lists l) false) (sym c.requires.empty)
           (not_taken g.D.Disk caller store lists self p c.args.disk.now (g.met.D.Disk.lasts_same c.args.disk.now)
           (row_in_ready caller store lists self p false c.requires.ready
           ∙ no_row caller store lists c.args.packet.now false c.in_default.not-DownloadCmd c.in_default.not-DirShortCmd c.in_default.not-DirLongCmd c.in_default.not-SelectCmd));
@@ -79,7 +79,7 @@ returns-in-SelectCmd-clause-takes g c =
     let self = c.args.self.now in
     let p = value_of c.args.packet.now in
     let tokens = c.in-SelectCmd.tokens.now in
-    subst (λ (s : DownloadState). TakesPacket g.D.Disk caller p store c.args.disk.now c.select.new.disk (made self lists []) (made s c.select.new.lists c.select.new.replies.items) true) (sym c.requires.ready)
+    subst (λ (s : DownloadState). TakesByRow g.D.Disk (download_row caller store lists self p) c.args.disk.now c.select.new.disk (made self lists []) (made s c.select.new.lists c.select.new.replies.items) true) (sym c.requires.ready)
     (taken_reading g.D.Disk caller store lists self p c.args.disk.now (g.met.D.Disk.lasts_same c.args.disk.now)
     c.select.new.disk (made ready c.select.new.lists c.select.new.replies.items) (select_row caller store lists tokens)
     (λ fails. row_in_ready caller store lists self p fails c.requires.ready ∙ ap (λ v. command_row caller store lists (value_of v) fails) c.in-SelectCmd.is

@@ -3,8 +3,9 @@ use Rattle.std.proofs.Common.{◌≡◌, ap, ap₂, sym, ◌∙◌, subst}
 use Rattle.px_base.specs.CallSign.{CallSign}
 use Rattle.ftl0_packets.specs.Values.{item_of}
 use Rattle.ftl0_session.specs.declared.uploads.phase.Phase.{Phase}
-use Rattle.ftl0_session.specs.Uploads.SessionState.{IsHeld, IsOnlyOut, SessionState, state_of}
+use Rattle.ftl0_session.specs.Uploads.SessionState.{IsHeld, IsOnlyOut, SessionState, state_of, with_disk}
 use Rattle.ftl0_session.specs.Uploads.Taking.{Answered, TakesPacket}
+use Rattle.ftl0_session.specs.Uploads.Events.{packet_of}
 use Rattle.ftl0_session.proofs.uploads.DoesLemmas.{after-failed, after-healthy, after-puts, after-stands}
 use Rattle.ftl0_session.proofs.uploads.session.Session.take.Goals as goal
 
@@ -18,7 +19,7 @@ returns g c =
     let phase : c.replace-phase.result ≡ c.args.self.now.phase = c.replace-phase.ensures.value ∙ ap (λ (s : SessionState). s.phase) c.self.view_is in
     let by : c.self.inside.caller ≡ c.args.self.now.caller = ap (λ (s : SessionState). s.caller) c.self.view_is in
     let here = c.take_asked-phase.ensures.answered (item_of c.args.packet) c.of-asked.ensures in
-    let P : CallSign → Phase → Type 0 = λ caller p. Answered g.D.Disk caller c.args.moment (state_of c.args.store.now p) (item_of c.args.packet) c.args.store.now c.take_asked-phase.new.store c.args.disk.now c.take_asked-phase.new.disk c.take_asked-phase.new.replies.items c.take_asked-phase.result in
+    let P : CallSign → Phase → Type 0 = λ caller p. Answered g.D.Disk (packet_of caller c.args.moment (item_of c.args.packet)) (state_of c.args.store.now p) (with_disk c.args.store.now c.args.disk.now) (with_disk c.take_asked-phase.new.store c.take_asked-phase.new.disk) c.take_asked-phase.new.replies.items c.take_asked-phase.result in
     let all = subst (λ (p : Phase). P c.args.self.now.caller p) phase (subst (λ (caller : CallSign). P caller c.replace-phase.result) by here) in
     let caller : c.self-2.inside.caller ≡ c.args.self.now.caller = ap (λ (s : SessionState). s.caller) c.self-2.view_is ∙ (ap (λ (s : SessionState). s.caller) c.take_asked-phase.ensures.session ∙ by) in
     let lasts = g.met.D.Disk.lasts_same c.args.disk.now in

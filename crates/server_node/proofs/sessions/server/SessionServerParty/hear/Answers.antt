@@ -1,14 +1,12 @@
 -- A whole packet is taken, and less than one waits.
-use Rattle.std.proofs.Common.{ap, ◌∙◌, take, sym, subst, Result}
-use Rattle.std.specs.Prelude.{⊤}
+use Rattle.std.proofs.Common.{ap, ◌∙◌, take, sym, subst}
 use Rattle.disk_model.proofs.Writes.{octets_from_fits}
 use Rattle.ftl0_packets.specs.Reading.{under_way}
 use Rattle.ftl0_packets.specs.Values.{item_of}
 use Rattle.ftl0_packets.proofs.OctetLemmas.{IsOctets-append, IsOctets-take}
 use Rattle.px_base.specs.Octets.{IsOctets}
 use Rattle.ftl0_session.specs.SessionState.{caller_of}
-use Rattle.ftl0_session.specs.Taking.{TakesPacket, working}
-use Rattle.disk_model.specs.declared.halt.Halt.{Halt}
+use Rattle.ftl0_session.specs.Taking.{working}
 use Rattle.server_node.specs.Sessions.ServerState.{ServerState}
 use Rattle.server_node.proofs.sessions.CourseLemmas.{owes-last, owes-more, owes-taken}
 use Rattle.ftl0_packets.proofs.SplitLemmas.{octets_under_way, under-way-less}
@@ -50,8 +48,7 @@ returns-in_default-answer-clause-takes g c =
     owes-taken g.D.Disk g.met.D.Disk.lasts_same g.met.D.Disk.lasts_on c.args.moment c.self.inside _ c.self.view_is c.args.disk.now c.requires.fit c.self.invariant
     piece (octets_from_fits piece c.type_inv.piece) c.feed-taken.result.0 c.feed-taken.new.self c.feed-taken.ensures.octets (item_of c.packet.result) c.packet.ensures.text (c.feed-taken.ensures.readable.0 c.in-Whole.is)
     now new.disk new.replies.items (caller_of new.self) c.self.inside.halted c.take-answer.ensures.caller (ap (λ (s : ServerState). s.halted) c.self.view_is ∙ c.requires.fit.goes_on)
-    (subst (λ (r : Result ⊤ Halt). TakesPacket g.D.Disk (caller_of c.self.inside.session) c.args.moment (item_of c.packet.result) (working c.self.inside.session c.self.inside.store c.self.inside.lists) now c.args.disk.now new.disk new.replies.items r)
-    c.in_default-answer.is c.take-answer.ensures.takes)
+    (rw c.in_default-answer.is at c.take-answer.ensures.takes)
 
 pub returns-in-Err-clause-halts : goal.returns-in-Err-clause-halts
 returns-in-Err-clause-halts g c =
@@ -62,6 +59,5 @@ returns-in-Err-clause-halts g c =
     let owes = owes-last g.D.Disk g.met.D.Disk.lasts_same g.met.D.Disk.lasts_on c.args.moment c.self.inside _ c.self.view_is c.args.disk.now c.requires.fit c.self.invariant
     piece (octets_from_fits piece c.type_inv.piece) taken c.feed-taken.new.self c.feed-taken.ensures.octets (item_of c.packet.result) c.packet.ensures.text (c.feed-taken.ensures.readable.0 c.in-Whole.is)
     now new.disk new.replies.items (caller_of new.self) c.in-Err.why
-    (subst (λ (r : Result ⊤ Halt). TakesPacket g.D.Disk (caller_of c.self.inside.session) c.args.moment (item_of c.packet.result) (working c.self.inside.session c.self.inside.store c.self.inside.lists) now c.args.disk.now new.disk new.replies.items r)
-    c.in-Err.is c.take-answer.ensures.takes) in
+    (rw c.in-Err.is at c.take-answer.ensures.takes) in
     (taken, owes)

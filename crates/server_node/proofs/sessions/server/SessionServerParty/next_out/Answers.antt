@@ -1,7 +1,5 @@
 -- The replies are given first, and then what is due.
-use Rattle.std.proofs.Common.{List, ℕ, [], ◌<◌, Bool, refl, ap, sym, ◌∙◌, subst}
-use Rattle.file_store.specs.State.{store_in}
-use Rattle.ftl0_session.specs.Filling.{PutsDue}
+use Rattle.std.proofs.Common.{List, ℕ, [], ◌<◌, refl, ap, sym, ◌∙◌, subst}
 use Rattle.ftl0_session.specs.SessionState.{caller_of, state_in}
 use Rattle.ftl0_session.proofs.WorkingLemmas.{due-none}
 use Rattle.node.specs.Course.{GaveAll, GivesNext, OwesSome, at}
@@ -42,7 +40,7 @@ returns-then-not-fill-clause-all g c is =
     let state = state_in store c.fill.new.self in
     let caller = caller_of c.fill.new.self in
     let none = due-none g.D.Disk a.store disk c.fill.new.disk a.state state c.new-packet.result.items c.fill.new.out.items
-    (subst (λ (b : Bool). PutsDue g.D.Disk (store_in a.store) disk c.fill.new.disk a.state state c.new-packet.result.items c.fill.new.out.items b) c.if-not-fill.true c.fill.ensures.puts) in
+    (rw c.if-not-fill.true at c.fill.ensures.puts) in
     let gave = gave-all g.D.Disk g.met.D.Disk.lasts_same g.met.D.Disk.lasts_on a disk (is-nil a.replies (sym c.is_empty.ensures ∙ c.if-not-is_empty.false)) none.0 c.if-self.false in
     let at_disk = subst (λ d. GaveAll (session_course g.D.Disk) (at a disk) (at a d)) (sym none.1) gave in
     let same = filled a caller store state (ap (λ u. u.caller) c.fill.ensures.uploads) c.fill.ensures.store ∙ ap (λ s. record a { state = s }) none.2 in
@@ -56,7 +54,7 @@ returns-clause-next g c is =
     let store = c.fill.new.store in
     let state = state_in store c.fill.new.self in
     let caller = caller_of c.fill.new.self in
-    let puts = subst (λ (b : Bool). PutsDue g.D.Disk (store_in a.store) disk c.fill.new.disk a.state state c.new-packet.result.items c.fill.new.out.items b) c.if-not-fill.false c.fill.ensures.puts in
+    let puts = rw c.if-not-fill.false at c.fill.ensures.puts in
     let gives = gives-due g.D.Disk g.met.D.Disk.lasts_same g.met.D.Disk.lasts_on a disk c.if-self.false c.fill.new.disk state
     c.new-packet.result.items c.fill.new.out.items puts (is-nil a.replies (sym c.is_empty.ensures ∙ c.if-not-is_empty.false)) in
     let at_text = subst (λ (t : List ℕ). GivesNext (session_course g.D.Disk) (at a disk) t (at (record a { state = state }) c.fill.new.disk)) (sym ((c.put_in-2).ensures ∙ (c.deref-2).ensures.0)) gives in
@@ -71,7 +69,7 @@ returns-clause-fewer g c is =
     let store = c.fill.new.store in
     let state = state_in store c.fill.new.self in
     let caller = caller_of c.fill.new.self in
-    let puts = subst (λ (b : Bool). PutsDue g.D.Disk (store_in a.store) disk c.fill.new.disk a.state state c.new-packet.result.items c.fill.new.out.items b) c.if-not-fill.false c.fill.ensures.puts in
+    let puts = rw c.if-not-fill.false at c.fill.ensures.puts in
     let up = owes-up g.D.Disk g.met.D.Disk.lasts_same g.met.D.Disk.lasts_on a disk c.if-self.false
     (subst (λ (s : ServerState). OwesSome (session_course g.D.Disk) (at s disk)) (sym c.self.view_is) c.requires.owes) in
     let less = less-left g.D.Disk g.met.D.Disk.lasts_same g.met.D.Disk.lasts_on a disk c.if-self.false c.fill.new.disk state
