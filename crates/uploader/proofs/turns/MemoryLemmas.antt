@@ -10,11 +10,11 @@ use Rattle.ax25_link.specs.declared.state.LinkState.TheVariants.{Down}
 use Rattle.ax25_link.specs.declared.state.Why.{Why}
 use Rattle.ax25_link.specs.Rows.{after_frame, heard_of}
 use Rattle.client_notes.specs.Notes.{Lists, is_same_call}
-use Rattle.client_notes.specs.State.{NotesState}
 use Rattle.ftl0_client.specs.Layout.{Item}
 use Rattle.ftl0_client.specs.Ending.{Ending}
 use Rattle.disk_model.specs.declared.halt.Halt.{Halt}
 use Rattle.ftl0_client.specs.Table.{JobState}
+use Rattle.ftl0_client.specs.Taking.{WithNotes}
 use Rattle.ftl0_client.specs.Attempt.Attempted as attempted
 use Rattle.ftl0_client.specs.Attempt.Attempted.{Attempted}
 use Rattle.ftl0_client.specs.Attempt.AttemptState.{AttemptState, StopsAmong}
@@ -64,11 +64,11 @@ module _ (client : Client) (frame : FrameValue) (told : IsToldDownOf client.atte
   not-down before item behind parts (Some why) is = absurd (some-packet before item behind parts (told_a why is))
 
   -- the client was at work
-  pub stopped-working : {D : Type 0} (g : Ghosts D) (notes notes_n : NotesState) (disk disk_n : D) (attempt : AttemptState) (why : Halt)
-      → StopsAmong g start (packets_heard client.window a frame) notes notes_n disk disk_n attempt why → outcome_by client.attempt ≡ outcome.Working
-  stopped-working g notes notes_n disk disk_n attempt why h =
+  pub stopped-working : {D : Type 0} (g : Ghosts D) (old new : WithNotes AttemptState D) (why : Halt) → StopsAmong g start (packets_heard client.window a frame) old new why
+      → outcome_by client.attempt ≡ outcome.Working
+  stopped-working g old new why h =
       ap outcome_by is_attempt
-      ∙ ap (λ (e : Option Ending). outcome_as (attempted.outcome_by e a.down)) (no-ending notes.lists h.before h.stops.no_outcome a.job.ending refl)
+      ∙ ap (λ (e : Option Ending). outcome_as (attempted.outcome_by e a.down)) (no-ending old.notes.lists h.before h.stops.no_outcome a.job.ending refl)
       ∙ ap (λ (d : Option Why). outcome_as (attempted.outcome_by None d)) (not-down h.before h.item h.behind h.is_part a.down refl)
 
   -- and is so still
@@ -79,11 +79,11 @@ module _ (client : Client) (frame : FrameValue) (told : IsToldDownOf client.atte
   told-down Bytes b octets before item behind parts = refl
   told-down (Closed why) b octets before item behind parts = absurd (no-split before item behind parts)
 
-  pub still-working : {D : Type 0} (g : Ghosts D) (notes notes_n : NotesState) (disk disk_n : D) (attempt : AttemptState) (why : Halt)
-      → StopsAmong g start (packets_heard client.window a frame) notes notes_n disk disk_n attempt why → outcome_as (attempted.outcome_by attempt.job.ending attempt.down) ≡ outcome.Working
-  still-working g notes notes_n disk disk_n attempt why h =
-      let ending : attempt.job.ending ≡ None = ap (λ (j : JobState). j.ending) h.stops.same ∙ h.stops.no_outcome in
-      let down : attempt.down ≡ None =
+  pub still-working : {D : Type 0} (g : Ghosts D) (old new : WithNotes AttemptState D) (why : Halt) → StopsAmong g start (packets_heard client.window a frame) old new why
+      → outcome_as (attempted.outcome_by new.state.job.ending new.state.down) ≡ outcome.Working
+  still-working g old new why h =
+      let ending : new.state.job.ending ≡ None = ap (λ (j : JobState). j.ending) h.stops.same ∙ h.stops.no_outcome in
+      let down : new.state.down ≡ None =
       h.down ∙ told-down (heard_of client.window a.end frame) (with_end a (after_frame client.window a.end frame)) frame.kind.information h.before h.item h.behind h.is_part
       ∙ not-down h.before h.item h.behind h.is_part a.down refl in
-      ap (λ (e : Option Ending). outcome_as (attempted.outcome_by e attempt.down)) ending ∙ ap (λ (d : Option Why). outcome_as (attempted.outcome_by None d)) down
+      ap (λ (e : Option Ending). outcome_as (attempted.outcome_by e new.state.down)) ending ∙ ap (λ (d : Option Why). outcome_as (attempted.outcome_by None d)) down
