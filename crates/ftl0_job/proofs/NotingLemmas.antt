@@ -101,20 +101,6 @@ module _ {D : Type 0} (g : Ghosts D) where
   noted-err T U old new disk disk_now commands stop.Disk noted = noted
   noted-err T U old new disk disk_now commands stop.OutOfMemory noted = noted
 
-  module _ {S : Type 0} (row : Row S) (before now : S) (notes notes_now : NotesState) (disk disk_now : D) (replies : List ℕ) where
-    -- a row whose commands are done
-    pub takes-done : {T : Type 0} (x : T) (commands : List NotesCommand) (ending : Option Ending) → row.commands ≡ commands → HasNoted {T = T} g notes notes_now disk disk_now commands (Ok x) → Gives row now replies ending
-        → TakesRow g row (with_notes before notes disk) (with_notes now notes_now disk_now) replies (Ok ending)
-    takes-done x commands ending is noted gives = record { answers = gives; noted = subst (λ (cs : List NotesCommand). DoesSeveral g ⊥ notes notes_now disk disk_now cs) (sym is) noted }
-
-    -- a stop in one of them
-    pub takes-stopped : (T : Type 0) (why : Halt) (commands : List NotesCommand) → row.commands ≡ commands → now ≡ before → replies ≡ [] → HasNoted {T = T} g notes notes_now disk disk_now commands (Err why)
-        → TakesRow g row (with_notes before notes disk) (with_notes now notes_now disk_now) replies (Err why)
-    takes-stopped T why commands is same none noted = record {
-      answers = (same, none);
-      noted = noted-err T (Option Ending) notes notes_now disk disk_now row.commands why (subst (λ (cs : List NotesCommand). HasNoted {T = T} g notes notes_now disk disk_now cs (Err why)) (sym is) noted);
-    }
-
   -- a row without commands
   pub takes-still : {S : Type 0} (row : Row S) (before now : S) (notes : NotesState) (disk : D) (replies : List ℕ) (ending : Option Ending) → row.commands ≡ [] → notes.journal.failed ≡ false
       → StandsOn g notes disk → g.lasts disk disk → Gives row now replies ending → TakesRow g row (with_notes before notes disk) (with_notes now notes disk) replies (Ok ending)

@@ -26,10 +26,10 @@ returns-in_err-self-inside-clause-takes g c =
     let is = ending-none c.self.inside.ending test in
     let why = c.in_err-self-inside.field-0.0 in
     let stops : c.from_residual.result ≡ Err why = search rules in
-    let P : JobState → Type 0 = λ j. TakesPacket g.D.Disk (item_of c.args.packet) (with_notes j c.args.notes.now c.args.disk.now) (with_notes now c.take_item.new.notes c.take_item.new.disk) c.take_item.new.replies.items c.from_residual.result in
-    let Q : Result ⊤ Halt → Type 0 = λ r. TakesPacket g.D.Disk (item_of c.args.packet) (with_notes job c.args.notes.now c.args.disk.now) (with_notes now c.take_item.new.notes c.take_item.new.disk) c.take_item.new.replies.items r in
-    subst P c.self.view_is
-    (subst Q (sym stops)
+    let P : JobState → Result ⊤ Halt → Type 0 = λ j r. TakesPacket g.D.Disk (item_of c.args.packet) (with_notes j c.args.notes.now c.args.disk.now)
+    (with_notes now c.take_item.new.notes c.take_item.new.disk) c.take_item.new.replies.items r in
+    subst (λ (j : JobState). P j c.from_residual.result) c.self.view_is
+    (subst (P job) (sym stops)
     (takes-stop g.D.Disk (item_of c.args.packet) job c.take_item.new.self c.args.notes.now c.take_item.new.notes c.args.disk.now c.take_item.new.disk c.take_item.new.replies.items is why
     c.in_err-self-inside.ensures.takes c.in_err-self-inside.ensures.stops))
 
