@@ -3,11 +3,11 @@ use Rattle.std.specs.Prelude.{◌≡◌, ℕ, List, true, false, Bool, Option, N
 use Rattle.disk_model.specs.declared.disk.Disk.{Ghosts}
 use Rattle.ax25_frames.specs.FrameText.{FrameText, FrameValue, canonical}
 use Rattle.ax25_link.specs.Kept.{SameStations}
-use Rattle.ax25_link.specs.Window.{Window}
 use Rattle.client_notes.specs.Calls.{Leaves}
 use Rattle.client_notes.specs.Notes.{Lists}
 use Rattle.client_notes.specs.Several.{DoesSeveral, MakesFirst}
 use Rattle.disk_model.specs.declared.halt.Halt.{Halt}
+use Rattle.ftl0_job.specs.Taking.{with_notes}
 use Rattle.ftl0_client.specs.Attempt.Attempted.{Attempted}
 use Rattle.ftl0_client.specs.Attempt.AttemptState.{AttemptState, StopsAmong}
 use Rattle.ftl0_client.specs.Attempt.Hearing.{after_hearing, packets_heard}
@@ -19,13 +19,17 @@ abbrev pub Becomes : ClientState → ClientState → (Client → Client) → Typ
 Becomes old new made = (client : Client) → IsClient old client → IsClient new (made client)
 
 -- Its attempt, which is there, stopped at a packet of this frame.
-abbrev pub StopsBy :
-    {D : Type 0} → Ghosts D → Window → FrameValue → Option Attempted → ClientState → ClientState → D → D → Halt
-    → Type 0
-StopsBy g w frame None old new disk disk_now why = ⊥
-StopsBy g w frame (Some a) old new disk disk_now why =
-    (attempt : AttemptState) × (new.attempt ≡ Some attempt)
-    × StopsAmong g (after_hearing w a frame) (packets_heard w a frame) old.notes new.notes disk disk_now attempt why
+pub record StopsBy {D : Type 0} (g : Ghosts D) (client : Client) (frame : FrameValue) (old new : ClientState)
+    (disk disk_now : D) (why : Halt) : Type 0 where
+  pub a : Attempted
+  pub hears : attempt_for client frame ≡ Some a
+  pub was : AttemptState
+  pub is_was : old.attempt ≡ Some was
+  pub attempt : AttemptState
+  pub is_attempt : new.attempt ≡ Some attempt
+  pub stops :
+      StopsAmong g (after_hearing client.window a frame) (packets_heard client.window a frame)
+      (with_notes was old.notes disk) (with_notes attempt new.notes disk_now) why
 
 -- What a frame does: the client is what it makes of it, and its commands are done; or the attempt that hears it stopped
 -- at one of its packets, because the disk failed or there was no memory.
@@ -34,8 +38,7 @@ abbrev pub HearsBy :
 HearsBy g client frame old new disk disk_now (Ok done) =
     IsClient new (client_hearing client frame).after
     × DoesSeveral g ⊥ old.notes new.notes disk disk_now (client_hearing client frame).noted
-HearsBy g client frame old new disk disk_now (Err why) =
-    StopsBy g client.window frame (attempt_for client frame) old new disk disk_now why
+HearsBy g client frame old new disk disk_now (Err why) = StopsBy g client frame old new disk disk_now why
 
 -- This frame was heard by a client that stands for this one. Since it came each image stands for the notes after the
 -- first of the commands that the event has where nothing stops it, for some number of them.

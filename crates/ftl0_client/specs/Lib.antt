@@ -14,6 +14,7 @@ pub use Rattle.ftl0_job.specs.JobState
 pub use Rattle.ftl0_job.specs.Laws as JobLaws
 pub use Rattle.ftl0_job.specs.Short
 pub use Rattle.ftl0_job.specs.Table
+pub use Rattle.ftl0_job.specs.Taking
 pub use Rattle.ftl0_job.specs.Upload
 pub use Rattle.ftl0_job.specs.declared.ending.Ending
 pub use Rattle.ftl0_job.specs.declared.work.Work

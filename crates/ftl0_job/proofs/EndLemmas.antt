@@ -23,7 +23,7 @@ use Rattle.ftl0_job.specs.Download.{Download, data_end_row, in_phase, last_got, 
 use Rattle.ftl0_job.specs.JobState.{HasGot}
 use Rattle.ftl0_job.specs.Noting.{HasNoted}
 use Rattle.ftl0_job.specs.Row.{Row, later}
-use Rattle.ftl0_job.specs.Taking.{TakesRow}
+use Rattle.ftl0_job.specs.Taking.{TakesRow, with_notes}
 use Rattle.ftl0_job.proofs.BlockLemmas.{is-before}
 use Rattle.ftl0_job.proofs.NotingLemmas.{noted-err}
 
@@ -78,10 +78,10 @@ module _ {D : Type 0} (g : Ghosts D) (on : (first second third : D) → g.lasts 
 
     -- the rest isn't noted
     pub end-stopped : (T : Type 0) (why : Halt) (replies : List ℕ) → replies ≡ [] → HasNoted {T = T} g old mid disk disk_mid (last_got at.server at.number at.rest) (Err why)
-        → TakesRow g (data_end_row (got_of old.lists at.server at.number) at) at at old mid disk disk_mid replies (Err why)
+        → TakesRow g (data_end_row (got_of old.lists at.server at.number) at) (with_notes at old disk) (with_notes at mid disk_mid) replies (Err why)
     end-stopped T why replies none noted = by (fault_code (got_of old.lists at.server at.number ++ at.rest))
       where
-        by : (o : Option ℕ) → TakesRow g (whole_row at o) at at old mid disk disk_mid replies (Err why)
+        by : (o : Option ℕ) → TakesRow g (whole_row at o) (with_notes at old disk) (with_notes at mid disk_mid) replies (Err why)
         by None = record { answers = (refl, none); noted = noted-err g T (Option Ending) old mid disk disk_mid (last_got at.server at.number at.rest) why noted }
         by (Some code) = record {
           answers = (refl, none);
@@ -99,17 +99,17 @@ module _ {D : Type 0} (g : Ghosts D) (on : (first second third : D) → g.lasts 
 
       -- it has no fault
       pub end-good : (replies : List ℕ) → None ≡ fault_code (got_of mid.lists at.server at.number) → replies ≡ packet_text dl_ack_cmd
-          → TakesRow g (data_end_row (got_of old.lists at.server at.number) at) at (in_phase (with_rest at []) phase.Done) old mid disk disk_mid replies (Ok None)
+          → TakesRow g (data_end_row (got_of old.lists at.server at.number) at) (with_notes at old disk) (with_notes (in_phase (with_rest at []) phase.Done) mid disk_mid) replies (Ok None)
       end-good replies is text =
-          subst (λ (r : Row Download). TakesRow g r at (in_phase (with_rest at []) phase.Done) old mid disk disk_mid replies (Ok None)) (sym (whole-is None is))
+          subst (λ (r : Row Download). TakesRow g r (with_notes at old disk) (with_notes (in_phase (with_rest at []) phase.Done) mid disk_mid) replies (Ok None)) (sym (whole-is None is))
           (record { answers = (refl, text, refl); noted = first })
 
       module _ (new : NotesState) (disk_now : D) (code : ℕ) (is : Some code ≡ fault_code (got_of mid.lists at.server at.number)) where
         -- it has one, and is given up
         pub end-bad : (replies : List ℕ) → DoesSeveral g ⊥ mid new disk_mid disk_now (forgot at.server at.number ∷ []) → replies ≡ packet_text dl_nak_cmd
-            → TakesRow g (data_end_row (got_of old.lists at.server at.number) at) at (with_rest at []) old new disk disk_now replies (Ok (Some (later (outcome.BadFile code))))
+            → TakesRow g (data_end_row (got_of old.lists at.server at.number) at) (with_notes at old disk) (with_notes (with_rest at []) new disk_now) replies (Ok (Some (later (outcome.BadFile code))))
         end-bad replies second text =
-            subst (λ (r : Row Download). TakesRow g r at (with_rest at []) old new disk disk_now replies (Ok (Some (later (outcome.BadFile code))))) (sym (whole-is (Some code) is))
+            subst (λ (r : Row Download). TakesRow g r (with_notes at old disk) (with_notes (with_rest at []) new disk_now) replies (Ok (Some (later (outcome.BadFile code))))) (sym (whole-is (Some code) is))
             (record {
               answers = (refl, text, refl);
               noted =
@@ -118,9 +118,9 @@ module _ {D : Type 0} (g : Ghosts D) (on : (first second third : D) → g.lasts 
 
         -- that isn't noted
         pub end-bad-stopped : (T : Type 0) (why : Halt) (replies : List ℕ) → replies ≡ [] → HasNoted {T = T} g mid new disk_mid disk_now (forgot at.server at.number ∷ []) (Err why)
-            → TakesRow g (data_end_row (got_of old.lists at.server at.number) at) at at old new disk disk_now replies (Err why)
+            → TakesRow g (data_end_row (got_of old.lists at.server at.number) at) (with_notes at old disk) (with_notes at new disk_now) replies (Err why)
         end-bad-stopped T why replies none noted =
-            subst (λ (r : Row Download). TakesRow g r at at old new disk disk_now replies (Err why)) (sym (whole-is (Some code) is))
+            subst (λ (r : Row Download). TakesRow g r (with_notes at old disk) (with_notes at new disk_now) replies (Err why)) (sym (whole-is (Some code) is))
             (record {
               answers = (refl, none);
               noted =

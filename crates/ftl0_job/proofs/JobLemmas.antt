@@ -17,7 +17,7 @@ use Rattle.ftl0_job.specs.JobState.{GoBy, GoWith}
 use Rattle.ftl0_job.specs.Noting.{HasNoted}
 use Rattle.ftl0_job.specs.Row.{Row}
 use Rattle.ftl0_job.specs.Table.{JobState, item_row, job_row, row_of}
-use Rattle.ftl0_job.specs.Taking.{Gives, StopsAt, TakesPacket, TakesRow}
+use Rattle.ftl0_job.specs.Taking.{Gives, StopsAt, TakesPacket, TakesRow, with_notes}
 use Rattle.ftl0_job.proofs.NotingLemmas.{none-by, noted-err}
 use Rattle.ftl0_job.proofs.RowLemmas.{directory-silent, job-ended, job-in}
 use Rattle.ftl0_job.proofs.StaysLemmas.{stays-item}
@@ -26,7 +26,7 @@ module _ {D : Type 0} (g : Ghosts D) where
   -- a list has no commands of the notes
   pub takes-list : (before now : Directory) (packet : PacketValue) (notes : NotesState) (disk : D) (replies : List ℕ) (ending : Option Ending) → notes.journal.failed ≡ false → StandsOn g notes disk
       → g.lasts disk disk → Gives (directory_row before packet) now replies ending
-      → TakesRow g (row_of work.Directory (directory_row before packet)) (work.Directory before) (work.Directory now) notes notes disk disk replies (Ok ending)
+      → TakesRow g (row_of work.Directory (directory_row before packet)) (with_notes (work.Directory before) notes disk) (with_notes (work.Directory now) notes disk) replies (Ok ending)
   takes-list before now packet notes disk replies ending healthy stands lasts gives = record {
     answers = (ap work.Directory gives.0, gives.1, gives.2);
     noted = none-by g notes disk (directory_row before packet).commands (directory-silent before packet) healthy stands lasts;
@@ -34,7 +34,7 @@ module _ {D : Type 0} (g : Ghosts D) where
 
   -- a packet after the outcome
   pub takes-ended : (item : Item) (job : JobState) (ending : Ending) (notes : NotesState) (disk : D) (replies : List ℕ) → job.ending ≡ Some ending → replies ≡ [] → notes.journal.failed ≡ false
-      → StandsOn g notes disk → g.lasts disk disk → TakesPacket g item job job notes notes disk disk replies (Ok tt)
+      → StandsOn g notes disk → g.lasts disk disk → TakesPacket g item (with_notes job notes disk) (with_notes job notes disk) replies (Ok tt)
   takes-ended item job ending notes disk replies is none healthy stands lasts =
       let row = job-ended notes.lists job item ending is in
       record {
@@ -45,8 +45,8 @@ module _ {D : Type 0} (g : Ghosts D) where
 
   module _ (item : Item) (job : JobState) (doing : Work) (notes notes_now : NotesState) (disk disk_now : D) (replies : List ℕ) (is : job.ending ≡ None) where
     -- what is done took it
-    pub takes-item : (ending : Option Ending) → TakesRow g (item_row notes.lists job.work item) job.work doing notes notes_now disk disk_now replies (Ok ending)
-        → TakesPacket g item job (record { work = doing; ending = ending }) notes notes_now disk disk_now replies (Ok tt)
+    pub takes-item : (ending : Option Ending) → TakesRow g (item_row notes.lists job.work item) (with_notes job.work notes disk) (with_notes doing notes_now disk_now) replies (Ok ending)
+        → TakesPacket g item (with_notes job notes disk) (with_notes (record { work = doing; ending = ending }) notes_now disk_now) replies (Ok tt)
     takes-item ending takes =
         let row = job-in notes.lists job item is in
         record {
@@ -56,8 +56,8 @@ module _ {D : Type 0} (g : Ghosts D) where
         }
 
     -- or stopped
-    pub takes-stop : (why : Halt) → TakesRow g (item_row notes.lists job.work item) job.work doing notes notes_now disk disk_now replies (Err why) → StopsAt {T = Option Ending} job.work (Err why)
-        → TakesPacket g item job (record { work = doing; ending = job.ending }) notes notes_now disk disk_now replies (Err why)
+    pub takes-stop : (why : Halt) → TakesRow g (item_row notes.lists job.work item) (with_notes job.work notes disk) (with_notes doing notes_now disk_now) replies (Err why) → StopsAt {T = Option Ending} job.work (Err why)
+        → TakesPacket g item (with_notes job notes disk) (with_notes (record { work = doing; ending = job.ending }) notes_now disk_now) replies (Err why)
     takes-stop why takes stops =
         let row = job-in notes.lists job item is in
         record {
@@ -72,7 +72,7 @@ module _ {D : Type 0} (g : Ghosts D) where
         stops-err at stop.OutOfMemory stops = stops
 
     -- the notes go with what is done then
-    pub goes-on : (ending : Option Ending) → GoWith notes.lists job.work → TakesRow g (item_row notes.lists job.work item) job.work doing notes notes_now disk disk_now replies (Ok ending)
+    pub goes-on : (ending : Option Ending) → GoWith notes.lists job.work → TakesRow g (item_row notes.lists job.work item) (with_notes job.work notes disk) (with_notes doing notes_now disk_now) replies (Ok ending)
         → GoBy ending notes_now.lists doing
     goes-on ending goes takes =
         let gives = takes.answers in

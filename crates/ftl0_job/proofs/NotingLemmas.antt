@@ -20,7 +20,7 @@ use Rattle.disk_model.specs.declared.halt.Halt.TheVariants as stop
 use Rattle.ftl0_job.specs.JobState.{HasTask, number_in}
 use Rattle.ftl0_job.specs.Noting.{HasNoted, IsAnswer, IsAnswerOf, IsOfNoting}
 use Rattle.ftl0_job.specs.Row.{Row}
-use Rattle.ftl0_job.specs.Taking.{Gives, TakesRow}
+use Rattle.ftl0_job.specs.Taking.{Gives, TakesRow, with_notes}
 use Rattle.ftl0_job.specs.Upload.{Upload}
 
 -- the answers by name
@@ -101,23 +101,9 @@ module _ {D : Type 0} (g : Ghosts D) where
   noted-err T U old new disk disk_now commands stop.Disk noted = noted
   noted-err T U old new disk disk_now commands stop.OutOfMemory noted = noted
 
-  module _ {S : Type 0} (row : Row S) (before now : S) (notes notes_now : NotesState) (disk disk_now : D) (replies : List ℕ) where
-    -- a row whose commands are done
-    pub takes-done : {T : Type 0} (x : T) (commands : List NotesCommand) (ending : Option Ending) → row.commands ≡ commands → HasNoted {T = T} g notes notes_now disk disk_now commands (Ok x) → Gives row now replies ending
-        → TakesRow g row before now notes notes_now disk disk_now replies (Ok ending)
-    takes-done x commands ending is noted gives = record { answers = gives; noted = subst (λ (cs : List NotesCommand). DoesSeveral g ⊥ notes notes_now disk disk_now cs) (sym is) noted }
-
-    -- a stop in one of them
-    pub takes-stopped : (T : Type 0) (why : Halt) (commands : List NotesCommand) → row.commands ≡ commands → now ≡ before → replies ≡ [] → HasNoted {T = T} g notes notes_now disk disk_now commands (Err why)
-        → TakesRow g row before now notes notes_now disk disk_now replies (Err why)
-    takes-stopped T why commands is same none noted = record {
-      answers = (same, none);
-      noted = noted-err T (Option Ending) notes notes_now disk disk_now row.commands why (subst (λ (cs : List NotesCommand). HasNoted {T = T} g notes notes_now disk disk_now cs (Err why)) (sym is) noted);
-    }
-
   -- a row without commands
   pub takes-still : {S : Type 0} (row : Row S) (before now : S) (notes : NotesState) (disk : D) (replies : List ℕ) (ending : Option Ending) → row.commands ≡ [] → notes.journal.failed ≡ false
-      → StandsOn g notes disk → g.lasts disk disk → Gives row now replies ending → TakesRow g row before now notes notes disk disk replies (Ok ending)
+      → StandsOn g notes disk → g.lasts disk disk → Gives row now replies ending → TakesRow g row (with_notes before notes disk) (with_notes now notes disk) replies (Ok ending)
   takes-still row before now notes disk replies ending none healthy stands lasts gives = record { answers = gives; noted = none-by notes disk row.commands none healthy stands lasts }
 
 -- ---- what may be noted of an upload's task

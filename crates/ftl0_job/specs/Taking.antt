@@ -17,6 +17,15 @@ use Rattle.ftl0_job.specs.Table.{JobState, job_row, takes_memory}
 abbrev pub Gives : {S : Type 0} → Row S → S → List ℕ → Option Ending → Type 0
 Gives row now replies ending = (now ≡ row.state) × (replies ≡ texts row.replies) × (ending ≡ row.ending)
 
+-- a state, the notes beside it, and the disk that they stand on
+pub record WithNotes (S D : Type 0) : Type 0 where
+  pub state : S
+  pub notes : NotesState
+  pub disk : D
+
+abbrev pub with_notes : {S D : Type 0} → S → NotesState → D → WithNotes S D
+with_notes state notes disk = record { state = state; notes = notes; disk = disk }
+
 -- A packet with this row was answered as the row says; or the disk failed in one of the row's commands, or there was no
 -- memory, and then the state is as it was, and nothing is replied.
 abbrev pub Answers : {S : Type 0} → Row S → S → S → List ℕ → Result (Option Ending) Halt → Type 0
@@ -24,10 +33,10 @@ Answers row before now replies (Ok ending) = Gives row now replies ending
 Answers row before now replies (Err why) = (now ≡ before) × (replies ≡ [])
 
 -- What a packet with this row does: its answer, and what the row's commands do to the notes and their disk.
-pub record TakesRow {D S : Type 0} (g : Ghosts D) (row : Row S) (before now : S) (notes notes_now : NotesState)
-    (disk disk_now : D) (replies : List ℕ) (result : Result (Option Ending) Halt) : Type 0 where
-  pub answers : Answers row before now replies result
-  pub noted : HasNoted g notes notes_now disk disk_now row.commands result
+pub record TakesRow {D S : Type 0} (g : Ghosts D) (row : Row S) (before now : WithNotes S D) (replies : List ℕ)
+    (result : Result (Option Ending) Halt) : Type 0 where
+  pub answers : Answers row before.state now.state replies result
+  pub noted : HasNoted g before.notes now.notes before.disk now.disk row.commands result
 
 -- the same of what makes no commands and may find no memory
 abbrev pub AnswersAlone : {S : Type 0} → Row S → S → S → List ℕ → Result (Option Ending) OutOfMemory → Type 0
@@ -45,9 +54,13 @@ StopsAt doing (Ok done) = ⊤
 StopsAt doing (Err stop.Disk) = ⊤
 StopsAt doing (Err stop.OutOfMemory) = IsTrue (takes_memory doing)
 
+-- the row of a packet over the notes beside a job
+abbrev pub row_over : {D : Type 0} → WithNotes JobState D → Item → Row Work
+row_over before item = job_row before.notes.lists before.state item
+
 -- A job takes a packet, malformed or not: its row of the table.
-pub record TakesPacket {D : Type 0} (g : Ghosts D) (item : Item) (before now : JobState) (notes notes_now : NotesState)
-    (disk disk_now : D) (replies : List ℕ) (result : Result ⊤ Halt) : Type 0 where
-  pub answers : JobAnswers (job_row notes.lists before item) before now replies result
-  pub noted : HasNoted g notes notes_now disk disk_now (job_row notes.lists before item).commands result
-  pub stops : StopsAt before.work result
+pub record TakesPacket {D : Type 0} (g : Ghosts D) (item : Item) (before now : WithNotes JobState D)
+    (replies : List ℕ) (result : Result ⊤ Halt) : Type 0 where
+  pub answers : JobAnswers (row_over before item) before.state now.state replies result
+  pub noted : HasNoted g before.notes now.notes before.disk now.disk (row_over before item).commands result
+  pub stops : StopsAt before.state.work result

@@ -9,7 +9,7 @@ ghost use Rattle.ftl0_job.specs.Download.{data_end_row, data_row, done_row, down
 ghost use Rattle.ftl0_job.specs.Download.{login_row, new_download, unnoted, whole_gots};
 ghost use Rattle.ftl0_job.specs.JobState.{FitsBehind, HasGot};
 ghost use Rattle.ftl0_job.specs.Noting.{HasNoted};
-ghost use Rattle.ftl0_job.specs.Taking.{Answers, TakesRow};
+ghost use Rattle.ftl0_job.specs.Taking.{Answers, TakesRow, with_notes};
 
 use crate::ending::strange;
 use crate::noting::{note_forgot, note_got};
@@ -81,7 +81,7 @@ impl Download {
         requires got { HasGot notes.old.lists self.old }
         ensures { TakesRow D.Disk
             (download_row (got_of notes.old.lists self.old.server self.old.number) self.old (value_of packet.now))
-            self.old self.new notes.old notes.new disk.old disk.new replies.new.items result }
+            (with_notes self.old notes.old disk.old) (with_notes self.new notes.new disk.new) replies.new.items result }
     {
         match self.phase {
             DownloadPhase::Login => Ok(self.take_login(packet, notes, replies)),
@@ -130,7 +130,7 @@ impl Download {
         requires got { HasGot notes.old.lists self.old }
         ensures { TakesRow D.Disk
             (fetching_row (got_of notes.old.lists self.old.server self.old.number) self.old (value_of packet.now))
-            self.old self.new notes.old notes.new disk.old disk.new replies.new.items result }
+            (with_notes self.old notes.old disk.old) (with_notes self.new notes.new disk.new) replies.new.items result }
     {
         match *packet {
             Packet::DataPart(octets) => self.take_data(disk, octets, notes),
@@ -151,7 +151,7 @@ impl Download {
         requires stands_on { StandsOn D.Disk notes.old disk.old }
         ensures { TakesRow D.Disk
             (data_row (got_of notes.old.lists self.old.server self.old.number) self.old octets.now)
-            self.old self.new notes.old notes.new disk.old disk.new [] result }
+            (with_notes self.old notes.old disk.old) (with_notes self.new notes.new disk.new) [] result }
     {
         let held = notes.got_len(self.server, self.number) as usize;
         if held + self.rest.len() + octets.len() > LONGEST_FILE as usize {
@@ -174,7 +174,7 @@ impl Download {
         requires got { HasGot notes.old.lists self.old }
         ensures { TakesRow D.Disk
             (data_end_row (got_of notes.old.lists self.old.server self.old.number) self.old)
-            self.old self.new notes.old notes.new disk.old disk.new replies.new.items result }
+            (with_notes self.old notes.old disk.old) (with_notes self.new notes.new disk.new) replies.new.items result }
     {
         note_rest(disk, notes, self.server, self.number, &self.rest)?;
         let Some(code) = fault_in(notes.got_octets(self.server, self.number)) else {
@@ -198,8 +198,8 @@ impl Download {
     ) -> Result<Option<Ending>, Halt>
         requires healthy { notes.old.journal.failed ≡ false }
         requires stands_on { StandsOn D.Disk notes.old disk.old }
-        ensures { TakesRow D.Disk (error_row self.now code) self.now self.now notes.old notes.new disk.old disk.new []
-            result }
+        ensures { TakesRow D.Disk (error_row self.now code)
+            (with_notes self.now notes.old disk.old) (with_notes self.now notes.new disk.new) [] result }
     {
         if code == BAD_CONTINUE {
             note_forgot(disk, notes, self.server, self.number)?;

@@ -13,7 +13,7 @@ ghost use Rattle.ftl0_job.specs.Due.{PutsDue, next_due};
 ghost use Rattle.ftl0_job.specs.JobState.{NotesGoWith};
 ghost use Rattle.ftl0_job.specs.Row.{at_once};
 ghost use Rattle.ftl0_job.specs.Table.{listing_of, new_job};
-ghost use Rattle.ftl0_job.specs.Taking.{TakesPacket};
+ghost use Rattle.ftl0_job.specs.Taking.{TakesPacket, with_notes};
 ghost use Rattle.ftl0_job.specs.Upload.{new_upload};
 
 use crate::directory::Directory;
@@ -105,8 +105,8 @@ impl Job {
         requires notes_are { NotesGoWith notes.old.lists self.old }
 
         // The answer is the packet's row, and the row's commands are on the disk; or a stop.
-        ensures takes { TakesPacket D.Disk (item_of packet.entry) self.old self.new notes.old notes.new disk.old disk.new
-            replies.new.items result }
+        ensures takes { TakesPacket D.Disk (item_of packet.entry)
+            (with_notes self.old notes.old disk.old) (with_notes self.new notes.new disk.new) replies.new.items result }
 
         // What the next packet needs.
         ensures healthy { OnOk result (notes.new.journal.failed ≡ false) }

@@ -8,7 +8,7 @@ ghost use Rattle.ftl0_job.specs.Due.{PutsDue, most_data, upload_due};
 ghost use Rattle.ftl0_job.specs.JobState.{HasTask};
 ghost use Rattle.ftl0_job.specs.Noting.{HasNoted};
 ghost use Rattle.ftl0_job.specs.Row.{at_once as ending_at_once};
-ghost use Rattle.ftl0_job.specs.Taking.{Answers, TakesRow};
+ghost use Rattle.ftl0_job.specs.Taking.{Answers, TakesRow, with_notes};
 ghost use Rattle.ftl0_job.specs.Upload.{ack_row, error_row, go_resp_row, go_row, login_row};
 ghost use Rattle.ftl0_job.specs.Upload.{is_new as is_new_upload, may_go as may_be_sent, new_upload, number_commands, sending_row, upload_row};
 
@@ -79,8 +79,8 @@ impl Upload {
         requires healthy { notes.old.journal.failed ≡ false }
         requires stands_on { StandsOn D.Disk notes.old disk.old }
         requires task { HasTask notes.old.lists self.old }
-        ensures takes { TakesRow D.Disk (upload_row self.old (value_of packet.now)) self.old self.new notes.old notes.new
-            disk.old disk.new replies.new.items result }
+        ensures takes { TakesRow D.Disk (upload_row self.old (value_of packet.now))
+            (with_notes self.old notes.old disk.old) (with_notes self.new notes.new disk.new) replies.new.items result }
         ensures memory { ¬ IsErrOf result Halt.OutOfMemory }
     {
         match self.phase {
@@ -120,8 +120,8 @@ impl Upload {
         requires stands_on { StandsOn D.Disk notes.old disk.old }
         requires task { HasTask notes.old.lists self.old }
         requires go { self.old.phase ≡ UploadPhase.Go }
-        ensures takes { TakesRow D.Disk (go_row self.old (value_of packet.now)) self.old self.new notes.old notes.new
-            disk.old disk.new [] result }
+        ensures takes { TakesRow D.Disk (go_row self.old (value_of packet.now))
+            (with_notes self.old notes.old disk.old) (with_notes self.new notes.new disk.new) [] result }
         ensures memory { ¬ IsErrOf result Halt.OutOfMemory }
     {
         match *packet {
@@ -143,8 +143,8 @@ impl Upload {
         requires stands_on { StandsOn D.Disk notes.old disk.old }
         requires task { HasTask notes.old.lists self.old }
         requires go { self.old.phase ≡ UploadPhase.Go }
-        ensures takes { TakesRow D.Disk (go_resp_row self.old number offset) self.old self.new notes.old notes.new
-            disk.old disk.new [] result }
+        ensures takes { TakesRow D.Disk (go_resp_row self.old number offset)
+            (with_notes self.old notes.old disk.old) (with_notes self.new notes.new disk.new) [] result }
         ensures memory { ¬ IsErrOf result Halt.OutOfMemory }
     {
         if !self.may_go(number, offset) {
@@ -203,8 +203,8 @@ impl Upload {
         requires stands_on { StandsOn D.Disk notes.old disk.old }
         requires task { HasTask notes.old.lists self.now }
         requires go { self.now.phase ≡ UploadPhase.Go }
-        ensures takes { TakesRow D.Disk (error_row self.now code) self.now self.now notes.old notes.new
-            disk.old disk.new [] result }
+        ensures takes { TakesRow D.Disk (error_row self.now code)
+            (with_notes self.now notes.old disk.old) (with_notes self.now notes.new disk.new) [] result }
         ensures memory { ¬ IsErrOf result Halt.OutOfMemory }
     {
         if !self.is_new() && code == FILE_COMPLETE {
@@ -227,8 +227,8 @@ impl Upload {
         requires healthy { notes.old.journal.failed ≡ false }
         requires stands_on { StandsOn D.Disk notes.old disk.old }
         requires task { HasTask notes.old.lists self.now }
-        ensures takes { TakesRow D.Disk (sending_row self.now (value_of packet.now)) self.now self.now notes.old notes.new
-            disk.old disk.new replies.new.items result }
+        ensures takes { TakesRow D.Disk (sending_row self.now (value_of packet.now))
+            (with_notes self.now notes.old disk.old) (with_notes self.now notes.new disk.new) replies.new.items result }
         ensures memory { ¬ IsErrOf result Halt.OutOfMemory }
     {
         let Packet::UlNakResp(code) = *packet else {
@@ -252,8 +252,8 @@ impl Upload {
         requires task { HasTask notes.old.lists self.now }
         requires ack { self.now.phase ≡ UploadPhase.Ack number }
         requires some { 1 ≤ number }
-        ensures takes { TakesRow D.Disk (ack_row self.now number (value_of packet.now)) self.now self.now
-            notes.old notes.new disk.old disk.new [] result }
+        ensures takes { TakesRow D.Disk (ack_row self.now number (value_of packet.now))
+            (with_notes self.now notes.old disk.old) (with_notes self.now notes.new disk.new) [] result }
         ensures memory { ¬ IsErrOf result Halt.OutOfMemory }
     {
         match *packet {

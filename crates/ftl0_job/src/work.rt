@@ -6,7 +6,7 @@ ghost use Rattle.client_notes.specs.State.{StandsOn};
 ghost use Rattle.ftl0_job.specs.Due.{PutsDue, work_due};
 ghost use Rattle.ftl0_job.specs.JobState.{GoWith};
 ghost use Rattle.ftl0_job.specs.Table.{item_row, listing_of, packet_row};
-ghost use Rattle.ftl0_job.specs.Taking.{StopsAt, TakesRow};
+ghost use Rattle.ftl0_job.specs.Taking.{StopsAt, TakesRow, with_notes};
 
 use crate::directory::Directory;
 use crate::download::Download;
@@ -42,8 +42,8 @@ impl Work {
         requires healthy { notes.old.journal.failed ≡ false }
         requires stands_on { StandsOn D.Disk notes.old disk.old }
         requires notes_are { GoWith notes.old.lists self.old }
-        ensures takes { TakesRow D.Disk (item_row notes.old.lists self.old (item_of packet.entry)) self.old self.new
-            notes.old notes.new disk.old disk.new replies.new.items result }
+        ensures takes { TakesRow D.Disk (item_row notes.old.lists self.old (item_of packet.entry))
+            (with_notes self.old notes.old disk.old) (with_notes self.new notes.new disk.new) replies.new.items result }
         ensures stops { StopsAt self.old result }
     {
         match packet {
@@ -64,8 +64,8 @@ impl Work {
         requires healthy { notes.old.journal.failed ≡ false }
         requires stands_on { StandsOn D.Disk notes.old disk.old }
         requires notes_are { GoWith notes.old.lists self.old }
-        ensures takes { TakesRow D.Disk (packet_row notes.old.lists self.old (value_of packet.now)) self.old self.new
-            notes.old notes.new disk.old disk.new replies.new.items result }
+        ensures takes { TakesRow D.Disk (packet_row notes.old.lists self.old (value_of packet.now))
+            (with_notes self.old notes.old disk.old) (with_notes self.new notes.new disk.new) replies.new.items result }
         ensures stops { StopsAt self.old result }
     {
         match self {

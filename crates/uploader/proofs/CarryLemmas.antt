@@ -3,7 +3,7 @@ use Rattle.std.proofs.Common.{◌≡◌, ℕ, Bool, true, false, List, [], ◌++
 use Rattle.std.specs.Prelude.{◌≢◌, Result, Ok, Err, IfErr, IsErrOf}
 use Rattle.client_notes.specs.Calls.{Runs}
 use Rattle.client_notes.specs.Walk.{state}
-use Rattle.client_notes.proofs.Offered.{images-here, Several-none, Several-then, told_weaker}
+use Rattle.client_notes.proofs.Offered.{images-here, Several-none, Several-then, told_weaker, command_runs, none_moves, runs_same, stands_through}
 use Rattle.client_notes.specs.Command.{NotesCommand}
 use Rattle.client_notes.specs.Laws.{after_all}
 use Rattle.client_notes.specs.Notes.{Lists}
@@ -22,18 +22,16 @@ use Rattle.ftl0_client.specs.ClientState.{ClientState, listing_in}
 use Rattle.ftl0_client.specs.Going.{Promises}
 use Rattle.ftl0_client.specs.declared.outcome.Outcome.{Outcome}
 use Rattle.ftl0_client.specs.declared.outcome.Outcome.TheVariants as outcome
-use Rattle.client_notes.specs.Through.{CutsOff}
+use Rattle.client_notes.specs.Through.{CutsOff, StandsThrough}
 use Rattle.uploader.specs.Turns.Carried.{CarriesOut, CountsWhere, EndsOver, Run, asked_first, before_last}
 use Rattle.uploader.specs.declared.stop.SendStop.{SendStop}
 use Rattle.uploader.specs.declared.stop.SendStop.TheVariants as stop
 use Rattle.uploader.specs.declared.terms.ClientTerms.{ClientTerms}
 use Rattle.uploader.specs.Carried.{Carries, asked_of, client_from}
 use Rattle.uploader.specs.Causes.{HasAirCause, HasCauses, is_before_outcome}
-use Rattle.client_notes.specs.Through.{StandsThrough}
 use Rattle.uploader.specs.OnDisk.{RefusesNotes}
 use Rattle.uploader.specs.Ready.{IsReady}
 use Rattle.uploader.specs.Stops.{answer_of, stop_of_node, stop_of_turns}
-use Rattle.client_notes.proofs.Offered.{command_runs, none_moves, runs_same, stands_through}
 
 -- ---- the stops of a command
 

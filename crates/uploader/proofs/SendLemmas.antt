@@ -44,8 +44,7 @@ use Rattle.uploader.specs.Sending.{EndsAtStart, IsLastAcked, IsTaskFor, IsUnstar
 use Rattle.uploader.specs.Stops.{stop_of_start}
 use Rattle.uploader.proofs.CarryLemmas.{HasCarried, carries, causes, causes-err, causes-ok, causes-still, images-at-end, never, of_answer, of_turns, outcome-fine, recovered_exactly}
 use Rattle.uploader.proofs.OutcomeLemmas.{acked-in, never-bad, upload-reached}
-use Rattle.client_notes.proofs.Offered.{command_runs, none_moves, stands_through}
-use Rattle.client_notes.proofs.Offered.{acked-last, begun-fresh, begun-kept, not-failed, of_task}
+use Rattle.client_notes.proofs.Offered.{command_runs, none_moves, stands_through, acked-last, begun-fresh, begun-kept, not-failed, of_task}
 use Rattle.uploader.proofs.StartLemmas.{cut_of, refused-start}
 
 -- nothing is called

@@ -13,7 +13,7 @@ use Rattle.ftl0_job.specs.declared.ending.Ending.{Ending}
 use Rattle.ftl0_job.specs.declared.work.Work.{Work}
 use Rattle.ftl0_job.specs.Row.{Row}
 use Rattle.ftl0_job.specs.Table.{JobState, job_after, job_row}
-use Rattle.ftl0_job.specs.Taking.{TakesPacket}
+use Rattle.ftl0_job.specs.Taking.{TakesPacket, with_notes}
 use Rattle.ftl0_client.specs.Attempt.Attempted.{Attempted}
 use Rattle.ftl0_client.specs.Attempt.AttemptState.{Working}
 use Rattle.ftl0_client.specs.Attempt.Feeding.{Made, RepliesAndParts, Takes}
@@ -21,7 +21,7 @@ use Rattle.ftl0_client.specs.Attempt.Taking.{after_noting, quietly, taking_by}
 
 module _ {D : Type 0} (g : Ghosts D) (item : Item) (before now : Working D) (job_m : JobState) (kind : ℕ) (text replies : List ℕ)
     (is_kind : kind ≡ kind_of_item item) (is_text : text ≡ replies) where
-  made-answered : (w : Window) (a : Attempted) → a.job.ending ≡ None → TakesPacket g item a.job job_m before.notes now.notes before.disk now.disk replies (Ok tt)
+  made-answered : (w : Window) (a : Attempted) → a.job.ending ≡ None → TakesPacket g item (with_notes a.job before.notes before.disk) (with_notes job_m now.notes now.disk) replies (Ok tt)
       → RepliesAndParts kind text job_m now.job w a.end now.link
       → Made g w (after_noting (taking_by a.job.ending before.notes.lists a item).noted (quietly (taking_by a.job.ending before.notes.lists a item).after)) before now
   made-answered w a none takes replied =
@@ -41,8 +41,8 @@ module _ {D : Type 0} (g : Ghosts D) (item : Item) (before now : Working D) (job
       })
 
   -- a packet was taken, and its replies queued or lost
-  pub takes-answered : before.job.ending ≡ None → TakesPacket g item before.job job_m before.notes now.notes before.disk now.disk replies (Ok tt)
+  pub takes-answered : before.job.ending ≡ None → TakesPacket g item (with_notes before.job before.notes before.disk) (with_notes job_m now.notes now.disk) replies (Ok tt)
       → ((w : Window) (end : LinkEnd) → StandsFor w before.link end → RepliesAndParts kind text job_m now.job w end now.link) → Takes g (item ∷ []) before now
   takes-answered none takes replied w a stands same =
       made-answered w a (subst (λ (j : JobState). j.ending ≡ None) same none)
-      (subst (λ (j : JobState). TakesPacket g item j job_m before.notes now.notes before.disk now.disk replies (Ok tt)) same takes) (replied w a.end stands)
+      (subst (λ (j : JobState). TakesPacket g item (with_notes j before.notes before.disk) (with_notes job_m now.notes now.disk) replies (Ok tt)) same takes) (replied w a.end stands)

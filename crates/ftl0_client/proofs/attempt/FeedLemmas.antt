@@ -10,10 +10,10 @@ use Rattle.packet_link.specs.PacketLink.{HasFront}
 use Rattle.packet_link.proofs.Fronts.{front-none, front-then, front-whole, stations-same, stations-then}
 use Rattle.client_notes.specs.Laws.{after_all}
 use Rattle.client_notes.specs.Notes.{Lists}
-use Rattle.client_notes.specs.State.{NotesState}
 use Rattle.client_notes.proofs.Offered.{Several-none, Several-then}
 use Rattle.disk_model.specs.declared.halt.Halt.{Halt}
 use Rattle.ftl0_job.specs.Table.{JobState}
+use Rattle.ftl0_job.specs.Taking.{WithNotes, with_notes}
 use Rattle.ftl0_client.specs.Attempt.Attempted.{Attempted}
 use Rattle.ftl0_client.specs.Attempt.AttemptState.{AttemptState, HearsBy, IsAttempt, LeavesFit, StopsAtPacket, Working, working}
 use Rattle.ftl0_client.specs.Attempt.Feeding.{Made, MayAnswer, StopsAmongOctets, StopsHere, Takes, TakesOctetsBy}
@@ -91,23 +91,28 @@ module _ {D : Type 0} (g : Ghosts D) where
 
   -- ---- the octets of a frame
 
-  module _ (w : Window) (old now : AttemptState) (a : Attempted) (is : IsAttempt w old a) (octets : List ℕ) (notes notes_n : NotesState) (disk disk_n : D) (down : now.down ≡ old.down) where
-    abbrev start : Attempted
-    start = accepting a octets
+  module _ (w : Window) (was : AttemptState) (before now : WithNotes AttemptState D) (a : Attempted) (is : IsAttempt w before.state a) (octets : List ℕ) (down : now.state.down ≡ before.state.down)
+      (result : Result ⊤ Halt) where
+    abbrev start : List ℕ → Attempted
+    start waiting = accepting (record a { rest = waiting }) octets
 
     abbrev Heard : List ℕ → Result ⊤ Halt → Type 0
-    Heard waiting result =
-        HearsBy g w (taking notes.lists (accepting (record a { rest = waiting }) octets) (packets_of (waiting ++ octets))) (accepting (record a { rest = waiting }) octets) (packets_of (waiting ++ octets))
-        notes notes_n disk disk_n now result
+    Heard waiting told =
+        HearsBy g w (taking before.notes.lists (start waiting) (packets_of (waiting ++ octets))) (start waiting) (packets_of (waiting ++ octets)) (with_notes was before.notes before.disk) now told
 
-    heard-octets : (result : Result ⊤ Halt) → TakesOctetsBy g (old.octets ++ octets) now.octets (working old.link old.job notes disk) (working now.link now.job notes_n disk_n) result → Heard old.octets result
+    abbrev Took : Result ⊤ Halt → Type 0
+    Took told =
+        TakesOctetsBy g (before.state.octets ++ octets) now.state.octets (working before.state.link before.state.job before.notes before.disk)
+        (working now.state.link now.state.job now.notes now.disk) told
+
+    heard-octets : (told : Result ⊤ Halt) → Took told → Heard before.state.octets told
     heard-octets (Ok done) h =
-        let begun : Attempted = accepting (record a { rest = old.octets }) octets in
+        let begun : Attempted = start before.state.octets in
         let made = h.0 w begun is.link is.job in
-        let keeps = taking-keeps notes.lists begun (packets_of (old.octets ++ octets)) in
+        let keeps = taking-keeps before.notes.lists begun (packets_of (before.state.octets ++ octets)) in
         (record { link = made.link; rest = h.1 ∙ sym keeps.rest; job = made.job; down = down ∙ is.down ∙ sym keeps.down }, made.noted)
     heard-octets (Err why) h =
-        let made = h.takes w (accepting (record a { rest = old.octets }) octets) is.link is.job in
+        let made = h.takes w (start before.state.octets) is.link is.job in
         record {
           before = h.items;
           item = h.item;
@@ -116,10 +121,10 @@ module _ {D : Type 0} (g : Ghosts D) where
           notes_then = h.between.notes;
           disk_then = h.between.disk;
           done = made.noted;
-          stops = subst (λ (j : JobState). StopsAtPacket g h.item j now.job h.between.notes notes_n h.between.disk disk_n why) made.job h.stops;
+          stops =
+              subst (λ (j : JobState). StopsAtPacket g h.item (with_notes j h.between.notes h.between.disk) (with_notes now.state.job now.notes now.disk) why) made.job h.stops;
           down = down ∙ is.down;
         }
 
-    pub hears-octets : (result : Result ⊤ Halt) → TakesOctetsBy g (old.octets ++ octets) now.octets (working old.link old.job notes disk) (working now.link now.job notes_n disk_n) result
-        → HearsBy g w (taking notes.lists start (packets_of (a.rest ++ octets))) start (packets_of (a.rest ++ octets)) notes notes_n disk disk_n now result
-    hears-octets result h = subst (λ (waiting : List ℕ). Heard waiting result) is.rest (heard-octets result h)
+    pub hears-octets : Took result → Heard a.rest result
+    hears-octets h = subst (λ (waiting : List ℕ). Heard waiting result) is.rest (heard-octets result h)

@@ -21,6 +21,7 @@ use Rattle.disk_model.specs.declared.halt.Halt.{Halt}
 use Rattle.disk_model.specs.declared.halt.Halt.TheVariants as stop
 use Rattle.ftl0_job.specs.Noting.{HasNoted}
 use Rattle.ftl0_job.specs.Table.{job_row}
+use Rattle.ftl0_job.specs.Taking.{WithNotes}
 use Rattle.ftl0_client.specs.Attempt.Attempted.{Attempted}
 use Rattle.ftl0_client.specs.Attempt.AttemptState.{AttemptState, HearsBy, IsAttempt, PutsBy, StopsAmong}
 use Rattle.ftl0_client.specs.Attempt.Hearing.{after_hearing, after_told, packets_heard, packets_told, with_end}
@@ -58,37 +59,36 @@ module _ {D : Type 0} (g : Ghosts D) where
     noted-puts stop.Disk noted = puts_same g disk disk_n ⊤ _ (λ all. refl) (λ e. tt) (puts_on g on disk disk_m disk_n ⊥ ⊤ (λ never. never) first.puts noted.puts)
     noted-puts stop.OutOfMemory noted = puts_same g disk disk_n ⊥ _ (λ never. absurd never) (λ e. cc e) (puts_on g on disk disk_m disk_n ⊥ ⊥ (λ never. never) first.puts noted.2.puts)
 
-  module _ (on : (first second third : D) → g.lasts first second → g.lasts second third → g.lasts first third) (a : Attempted) (items : List Item) (notes notes_n : NotesState) (disk disk_n : D)
-      (attempt : AttemptState) where
-    stopped-since : (why : Halt) → StopsAmong g a items notes notes_n disk disk_n attempt why → Leaves g disk disk_n (λ _. MakesFirst notes.lists (taking notes.lists a items).noted)
+  module _ (on : (first second third : D) → g.lasts first second → g.lasts second third → g.lasts first third) (a : Attempted) (items : List Item) (before now : WithNotes AttemptState D) where
+    stopped-since : (why : Halt) → StopsAmong g a items before now why → Leaves g before.disk now.disk (λ _. MakesFirst before.notes.lists (taking before.notes.lists a items).noted)
     stopped-since why h =
-        let p : Happened = taking notes.lists a h.before in
-        let at : h.notes_then.lists ≡ after_all notes.lists p.noted = (h.done.done (λ never. never)).0 in
-        let front = noted-front notes.lists a h.before h.item h.behind h.stops.no_outcome in
-        let all : (taking notes.lists a items).noted ≡ p.noted ++ ((job_row h.notes_then.lists p.after.job h.item).commands ++ front.0) =
-        ap (λ (some : List Item). (taking notes.lists a some).noted) h.is_part ∙ front.1
+        let p : Happened = taking before.notes.lists a h.before in
+        let at : h.notes_then.lists ≡ after_all before.notes.lists p.noted = (h.done.done (λ never. never)).0 in
+        let front = noted-front before.notes.lists a h.before h.item h.behind h.stops.no_outcome in
+        let all : (taking before.notes.lists a items).noted ≡ p.noted ++ ((job_row h.notes_then.lists p.after.job h.item).commands ++ front.0) =
+        ap (λ (some : List Item). (taking before.notes.lists a some).noted) h.is_part ∙ front.1
         ∙ ap (λ (l : Lists). p.noted ++ ((job_row l p.after.job h.item).commands ++ front.0)) (sym at) in
-        subst (λ (cs : List NotesCommand). Leaves g disk disk_n (λ _. MakesFirst notes.lists cs)) (sym all)
-        (noted-since on notes h.notes_then notes_n disk h.disk_then disk_n p.noted (job_row h.notes_then.lists p.after.job h.item).commands h.done front.0 why h.stops.noted)
+        subst (λ (cs : List NotesCommand). Leaves g before.disk now.disk (λ _. MakesFirst before.notes.lists cs)) (sym all)
+        (noted-since on before.notes h.notes_then now.notes before.disk h.disk_then now.disk p.noted (job_row h.notes_then.lists p.after.job h.item).commands h.done front.0 why h.stops.noted)
 
-    pub hears-since : (w : Window) (event : Happened) (result : Result ⊤ Halt) → event.noted ≡ (taking notes.lists a items).noted → HearsBy g w event a items notes notes_n disk disk_n attempt result
-        → Leaves g disk disk_n (λ _. MakesFirst notes.lists event.noted)
+    pub hears-since : (w : Window) (event : Happened) (result : Result ⊤ Halt) → event.noted ≡ (taking before.notes.lists a items).noted → HearsBy g w event a items before now result
+        → Leaves g before.disk now.disk (λ _. MakesFirst before.notes.lists event.noted)
     hears-since w event (Ok done) same h = h.1.since
-    hears-since w event (Err why) same h = subst (λ (cs : List NotesCommand). Leaves g disk disk_n (λ _. MakesFirst notes.lists cs)) (sym same) (stopped-since why h)
+    hears-since w event (Err why) same h = subst (λ (cs : List NotesCommand). Leaves g before.disk now.disk (λ _. MakesFirst before.notes.lists cs)) (sym same) (stopped-since why h)
 
-    pub hears-puts : (w : Window) (event : Happened) (result : Result ⊤ Halt) → HearsBy g w event a items notes notes_n disk disk_n attempt result → PutsBy g disk disk_n result
-    hears-puts w event (Ok done) h = puts_same g disk disk_n ⊥ _ (λ never. absurd never) (λ e. cc e) h.1.puts
+    pub hears-puts : (w : Window) (event : Happened) (result : Result ⊤ Halt) → HearsBy g w event a items before now result → PutsBy g before.disk now.disk result
+    hears-puts w event (Ok done) h = puts_same g before.disk now.disk ⊥ _ (λ never. absurd never) (λ e. cc e) h.1.puts
     hears-puts w event (Err why) h =
-        noted-puts on notes h.notes_then notes_n disk h.disk_then disk_n (taking notes.lists a h.before).noted
-        (job_row h.notes_then.lists (taking notes.lists a h.before).after.job h.item).commands h.done why h.stops.noted
+        noted-puts on before.notes h.notes_then now.notes before.disk h.disk_then now.disk (taking before.notes.lists a h.before).noted
+        (job_row h.notes_then.lists (taking before.notes.lists a h.before).after.job h.item).commands h.done why h.stops.noted
 
   -- what the link told decides
-  pub hears-told : (w : Window) (frame : FrameValue) (notes notes_n : NotesState) (disk disk_n : D) (old now : AttemptState) (told : Heard) (result : Result ⊤ Halt)
-      → Tells old.link (λ w end. heard_of w end frame) told → (a : Attempted) → IsAttempt w old a
-      → HearsBy g w (taking notes.lists (after_told told (with_end a (after_frame w a.end frame)) frame.kind.information) (packets_told told a frame.kind.information))
-      (after_told told (with_end a (after_frame w a.end frame)) frame.kind.information) (packets_told told a frame.kind.information) notes notes_n disk disk_n now result
-      → HearsBy g w (taking notes.lists (after_hearing w a frame) (packets_heard w a frame)) (after_hearing w a frame) (packets_heard w a frame) notes notes_n disk disk_n now result
-  hears-told w frame notes notes_n disk disk_n old now told result tells a is h =
-      subst (λ (t : Heard). HearsBy g w (taking notes.lists (after_told t (with_end a (after_frame w a.end frame)) frame.kind.information) (packets_told t a frame.kind.information))
-      (after_told t (with_end a (after_frame w a.end frame)) frame.kind.information) (packets_told t a frame.kind.information) notes notes_n disk disk_n now result)
+  pub hears-told : (w : Window) (frame : FrameValue) (before now : WithNotes AttemptState D) (told : Heard) (result : Result ⊤ Halt) → Tells before.state.link (λ w end. heard_of w end frame) told
+      → (a : Attempted) → IsAttempt w before.state a
+      → HearsBy g w (taking before.notes.lists (after_told told (with_end a (after_frame w a.end frame)) frame.kind.information) (packets_told told a frame.kind.information))
+      (after_told told (with_end a (after_frame w a.end frame)) frame.kind.information) (packets_told told a frame.kind.information) before now result
+      → HearsBy g w (taking before.notes.lists (after_hearing w a frame) (packets_heard w a frame)) (after_hearing w a frame) (packets_heard w a frame) before now result
+  hears-told w frame before now told result tells a is h =
+      subst (λ (t : Heard). HearsBy g w (taking before.notes.lists (after_told t (with_end a (after_frame w a.end frame)) frame.kind.information) (packets_told t a frame.kind.information))
+      (after_told t (with_end a (after_frame w a.end frame)) frame.kind.information) (packets_told t a frame.kind.information) before now result)
       (tells w a.end is.link) h

@@ -15,8 +15,8 @@ use Rattle.disk_model.specs.declared.halt.Halt.{Halt}
 use Rattle.disk_model.specs.declared.halt.Halt.TheVariants as stop
 use Rattle.ftl0_job.specs.JobState.{MayTake}
 use Rattle.ftl0_job.specs.Noting.{HasNoted}
-use Rattle.ftl0_job.specs.Table.{JobState, job_row}
-use Rattle.ftl0_job.specs.Taking.{StopsAt}
+use Rattle.ftl0_job.specs.Table.{JobState}
+use Rattle.ftl0_job.specs.Taking.{StopsAt, WithNotes, row_over, with_notes}
 use Rattle.ftl0_client.specs.Attempt.Attempted.{Attempted}
 use Rattle.ftl0_client.specs.Attempt.Hearing.{after_hearing, hearing, packets_heard}
 use Rattle.ftl0_client.specs.Attempt.Taking.{Happened, taking}
@@ -50,48 +50,48 @@ is_closed link = is_down link.state && not (is_pending link)
 
 -- A packet was to be taken by a job without an outcome. The disk failed in one of its row's commands; or there was no
 -- memory for one of them, or none for the octets of a list, and the commands before are done. The job is as it was.
-pub record StopsAtPacket {D : Type 0} (g : Ghosts D) (item : Item) (job job_now : JobState)
-    (notes notes_now : NotesState) (disk disk_now : D) (why : Halt) : Type 0 where
-  pub no_outcome : job.ending ≡ None
-  pub same : job_now ≡ job
-  pub noted : HasNoted {T = ⊤} g notes notes_now disk disk_now (job_row notes.lists job item).commands (Err why)
-  pub memory : StopsAt {T = ⊤} job.work (Err why)
+pub record StopsAtPacket {D : Type 0} (g : Ghosts D) (item : Item) (before now : WithNotes JobState D) (why : Halt) :
+    Type 0 where
+  pub no_outcome : before.state.ending ≡ None
+  pub same : now.state ≡ before.state
+  pub noted :
+      HasNoted {T = ⊤} g before.notes now.notes before.disk now.disk (row_over before item).commands (Err why)
+  pub memory : StopsAt {T = ⊤} before.state.work (Err why)
 
 -- Of these packets of an event those before one were taken, from this attempt on, and their commands are done. At that
 -- one it stopped, over the notes then.
-pub record StopsAmong {D : Type 0} (g : Ghosts D) (a : Attempted) (items : List Item) (notes notes_now : NotesState)
-    (disk disk_now : D) (attempt : AttemptState) (why : Halt) : Type 0 where
+pub record StopsAmong {D : Type 0} (g : Ghosts D) (a : Attempted) (items : List Item)
+    (old new : WithNotes AttemptState D) (why : Halt) : Type 0 where
   pub before : List Item
   pub item : Item
   pub behind : List Item
   pub is_part : items ≡ before ++ item ∷ behind
   pub notes_then : NotesState
   pub disk_then : D
-  pub done : DoesSeveral g ⊥ notes notes_then disk disk_then (taking notes.lists a before).noted
+  pub done : DoesSeveral g ⊥ old.notes notes_then old.disk disk_then (taking old.notes.lists a before).noted
   pub stops :
-      StopsAtPacket g item (taking notes.lists a before).after.job attempt.job notes_then notes_now disk_then disk_now
-      why
-  pub down : attempt.down ≡ a.down
+      StopsAtPacket g item (with_notes (taking old.notes.lists a before).after.job notes_then disk_then)
+      (with_notes new.state.job new.notes new.disk) why
+  pub down : new.state.down ≡ a.down
 
 -- What an event that makes this, by packets that are taken from this attempt on, does: all of it, and its commands are
 -- done; or it stops at one of the packets.
 abbrev pub HearsBy :
-    {D : Type 0} → Ghosts D → Window → Happened → Attempted → List Item → NotesState → NotesState → D → D
-    → AttemptState → Result ⊤ Halt → Type 0
-HearsBy g w event a items notes notes_now disk disk_now attempt (Ok done) =
-    IsAttempt w attempt event.after × DoesSeveral g ⊥ notes notes_now disk disk_now event.noted
-HearsBy g w event a items notes notes_now disk disk_now attempt (Err why) =
-    StopsAmong g a items notes notes_now disk disk_now attempt why
+    {D : Type 0} → Ghosts D → Window → Happened → Attempted → List Item → WithNotes AttemptState D
+    → WithNotes AttemptState D → Result ⊤ Halt → Type 0
+HearsBy g w event a items before now (Ok done) =
+    IsAttempt w now.state event.after × DoesSeveral g ⊥ before.notes now.notes before.disk now.disk event.noted
+HearsBy g w event a items before now (Err why) = StopsAmong g a items before now why
 
 -- This frame was heard by an attempt that stands for this one. Since it came each image stands for the notes after the
 -- first of the commands that the event has where nothing stops it, for some number of them.
 pub record Hears {D : Type 0} (g : Ghosts D) (w : Window) (a : Attempted) (frame : FrameValue)
-    (notes notes_now : NotesState) (disk disk_now : D) (attempt : AttemptState) (result : Result ⊤ Halt)
-    : Type 0 where
+    (before now : WithNotes AttemptState D) (result : Result ⊤ Halt) : Type 0 where
   pub by :
-      HearsBy g w (hearing w notes.lists a frame) (after_hearing w a frame) (packets_heard w a frame) notes notes_now
-      disk disk_now attempt result
-  pub since : Leaves g disk disk_now (λ _. MakesFirst notes.lists (hearing w notes.lists a frame).noted)
+      HearsBy g w (hearing w before.notes.lists a frame) (after_hearing w a frame) (packets_heard w a frame) before now
+      result
+  pub since :
+      Leaves g before.disk now.disk (λ _. MakesFirst before.notes.lists (hearing w before.notes.lists a frame).noted)
 
 -- what takes packets: a link and a job, over notes on a disk
 pub record Working (D : Type 0) : Type 0 where

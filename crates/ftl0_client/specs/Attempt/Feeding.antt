@@ -17,6 +17,7 @@ use Rattle.disk_model.specs.declared.halt.Halt.{Halt}
 use Rattle.ftl0_job.specs.Due.{DuePacket, next_due}
 use Rattle.ftl0_job.specs.JobState.{MayTake, NotesGoWith}
 use Rattle.ftl0_job.specs.Table.{JobState}
+use Rattle.ftl0_job.specs.Taking.{with_notes}
 use Rattle.ftl0_client.specs.Attempt.Attempted.{Attempted}
 use Rattle.ftl0_client.specs.Attempt.AttemptState.{AttemptState, StopsAtPacket, Working}
 use Rattle.ftl0_client.specs.Attempt.Taking.{Happened, after_replies, parting, replied, taking}
@@ -52,7 +53,7 @@ Takes g items before now =
 -- the job stopped at this packet
 abbrev pub StopsHere : {D : Type 0} → Ghosts D → Item → Working D → Working D → Halt → Type 0
 StopsHere g item before now why =
-    StopsAtPacket g item before.job now.job before.notes now.notes before.disk now.disk why
+    StopsAtPacket g item (with_notes before.job before.notes before.disk) (with_notes now.job now.notes now.disk) why
 
 -- one packet was taken, or the job stopped at it
 abbrev pub AnswersPacket : {D : Type 0} → Ghosts D → Item → Working D → Working D → Result ⊤ Halt → Type 0

@@ -16,6 +16,7 @@ ghost use Rattle.ftl0_client.specs.Calls.{SameJob};
 ghost use Rattle.client_notes.specs.Notes.{Lists};
 ghost use Rattle.ftl0_job.specs.JobState.{MayTake, NotesGoWith};
 ghost use Rattle.ftl0_job.specs.Table.{listing_of};
+ghost use Rattle.ftl0_job.specs.Taking.{with_notes};
 ghost use Rattle.ftl0_client.specs.Attempt.Attempted.{Attempted, calling, outcome_by};
 ghost use Rattle.ftl0_client.specs.Attempt.AttemptState.{AttemptState as Carried};
 ghost use Rattle.ftl0_client.specs.Attempt.AttemptState.{Becomes, Hears, HearsBy, IsAttempt, IsSomeAttempt, LeavesFit};
@@ -109,7 +110,8 @@ impl Attempt {
 
         // Of whichever attempt it stands for, it is what the frame makes of that; or it stopped at one of the packets.
         ensures hears { (w : Window) (a : Attempted) → IsAttempt w self.old a →
-            Hears D.Disk w a (value_of frame.now) notes.old notes.new disk.old disk.new self.new result }
+            Hears D.Disk w a (value_of frame.now)
+            (with_notes self.old notes.old disk.old) (with_notes self.new notes.new disk.new) result }
         ensures puts { PutsBy D.Disk disk.old disk.new result }
 
         // What the next event needs.
@@ -211,7 +213,7 @@ impl Attempt {
             HearsBy D.Disk w
             (taking notes.old.lists (after_hearing w a (value_of frame.now)) (packets_heard w a (value_of frame.now)))
             (after_hearing w a (value_of frame.now)) (packets_heard w a (value_of frame.now))
-            notes.old notes.new disk.old disk.new self.new result }
+            (with_notes self.old notes.old disk.old) (with_notes self.new notes.new disk.new) result }
         ensures puts { PutsBy D.Disk disk.old disk.new result }
         ensures fit { LeavesFit D.Disk (working self.old.link self.old.job notes.old disk.old)
             (working self.new.link self.new.job notes.new disk.new) result }

@@ -6,20 +6,18 @@ use Rattle.disk_model.specs.declared.disk.Disk.{Ghosts}
 use Rattle.ax25_frames.specs.FrameText.{FrameValue}
 use Rattle.ax25_link.specs.declared.state.Heard.{Heard}
 use Rattle.ax25_link.specs.declared.state.Heard.TheVariants.{Bytes, Closed, Nothing, Opened, Reopened}
-use Rattle.ax25_link.specs.declared.state.LinkState.TheVariants.{Down}
 use Rattle.ax25_link.specs.declared.state.Why.{Why}
 use Rattle.ax25_link.specs.Rows.{after_frame, heard_of}
 use Rattle.client_notes.specs.Notes.{Lists, is_same_call}
-use Rattle.client_notes.specs.State.{NotesState}
 use Rattle.ftl0_client.specs.Layout.{Item}
 use Rattle.ftl0_client.specs.Ending.{Ending}
 use Rattle.disk_model.specs.declared.halt.Halt.{Halt}
 use Rattle.ftl0_client.specs.Table.{JobState}
+use Rattle.ftl0_client.specs.Taking.{WithNotes}
 use Rattle.ftl0_client.specs.Attempt.Attempted as attempted
 use Rattle.ftl0_client.specs.Attempt.Attempted.{Attempted}
 use Rattle.ftl0_client.specs.Attempt.AttemptState.{AttemptState, StopsAmong}
 use Rattle.ftl0_client.specs.Attempt.Hearing.{after_hearing, after_told, packets_heard, packets_told, with_end}
-use Rattle.ftl0_client.specs.Attempt.Laws.{IsToldDown}
 use Rattle.ftl0_client.specs.Attempt.Taking.{Happened, taking}
 use Rattle.ftl0_client.proofs.attempt.DownLemmas.{still-silent}
 use Rattle.ftl0_client.proofs.attempt.EndedLemmas.{taking-ended, told-job}
@@ -42,9 +40,6 @@ module _ (client : Client) (frame : FrameValue) (told : IsToldDownOf client.atte
   is_attempt =
       cond_both (is_same_call frame.src client.server) client.attempt None (λ (o : Option Attempted). o ≡ Some a → client.attempt ≡ Some a) (λ same is. is) (λ other is. absurd (cc is)) hears_it
 
-  told_a : IsToldDown a
-  told_a = subst (λ (o : Option Attempted). IsToldDownOf o) is_attempt told
-
   -- the packets keep an outcome, so there was none before them
   no-ending : (lists : Lists) (before : List Item) → (taking lists start before).after.job.ending ≡ None → (e : Option Ending) → a.job.ending ≡ e → a.job.ending ≡ None
   no-ending lists before none None is = is
@@ -55,20 +50,18 @@ module _ (client : Client) (frame : FrameValue) (told : IsToldDownOf client.atte
       absurd (cc (sym none ∙ kept))
 
   -- a link that is down brings no packet
-  some-packet : (before : List Item) (item : Item) (behind : List Item) → packets_heard client.window a frame ≡ before ++ item ∷ behind → a.end.state ≡ Down → ⊥
-  some-packet before item behind parts down =
-      no-split before item behind (sym (ap (λ (t : Heard). packets_told t a frame.kind.information) (still-silent client.window a.end frame down)) ∙ parts)
-
   not-down : (before : List Item) (item : Item) (behind : List Item) → packets_heard client.window a frame ≡ before ++ item ∷ behind → (d : Option Why) → a.down ≡ d → a.down ≡ None
   not-down before item behind parts None is = is
-  not-down before item behind parts (Some why) is = absurd (some-packet before item behind parts (told_a why is))
+  not-down before item behind parts (Some why) is =
+      let silent = still-silent client.window a.end frame (subst (λ (o : Option Attempted). IsToldDownOf o) is_attempt told why is) in
+      absurd (no-split before item behind (sym (ap (λ (t : Heard). packets_told t a frame.kind.information) silent) ∙ parts))
 
   -- the client was at work
-  pub stopped-working : {D : Type 0} (g : Ghosts D) (notes notes_n : NotesState) (disk disk_n : D) (attempt : AttemptState) (why : Halt)
-      → StopsAmong g start (packets_heard client.window a frame) notes notes_n disk disk_n attempt why → outcome_by client.attempt ≡ outcome.Working
-  stopped-working g notes notes_n disk disk_n attempt why h =
+  pub stopped-working : {D : Type 0} (g : Ghosts D) (old new : WithNotes AttemptState D) (why : Halt) → StopsAmong g start (packets_heard client.window a frame) old new why
+      → outcome_by client.attempt ≡ outcome.Working
+  stopped-working g old new why h =
       ap outcome_by is_attempt
-      ∙ ap (λ (e : Option Ending). outcome_as (attempted.outcome_by e a.down)) (no-ending notes.lists h.before h.stops.no_outcome a.job.ending refl)
+      ∙ ap (λ (e : Option Ending). outcome_as (attempted.outcome_by e a.down)) (no-ending old.notes.lists h.before h.stops.no_outcome a.job.ending refl)
       ∙ ap (λ (d : Option Why). outcome_as (attempted.outcome_by None d)) (not-down h.before h.item h.behind h.is_part a.down refl)
 
   -- and is so still
@@ -79,11 +72,11 @@ module _ (client : Client) (frame : FrameValue) (told : IsToldDownOf client.atte
   told-down Bytes b octets before item behind parts = refl
   told-down (Closed why) b octets before item behind parts = absurd (no-split before item behind parts)
 
-  pub still-working : {D : Type 0} (g : Ghosts D) (notes notes_n : NotesState) (disk disk_n : D) (attempt : AttemptState) (why : Halt)
-      → StopsAmong g start (packets_heard client.window a frame) notes notes_n disk disk_n attempt why → outcome_as (attempted.outcome_by attempt.job.ending attempt.down) ≡ outcome.Working
-  still-working g notes notes_n disk disk_n attempt why h =
-      let ending : attempt.job.ending ≡ None = ap (λ (j : JobState). j.ending) h.stops.same ∙ h.stops.no_outcome in
-      let down : attempt.down ≡ None =
+  pub still-working : {D : Type 0} (g : Ghosts D) (old new : WithNotes AttemptState D) (why : Halt) → StopsAmong g start (packets_heard client.window a frame) old new why
+      → outcome_as (attempted.outcome_by new.state.job.ending new.state.down) ≡ outcome.Working
+  still-working g old new why h =
+      let down : new.state.down ≡ None =
       h.down ∙ told-down (heard_of client.window a.end frame) (with_end a (after_frame client.window a.end frame)) frame.kind.information h.before h.item h.behind h.is_part
       ∙ not-down h.before h.item h.behind h.is_part a.down refl in
-      ap (λ (e : Option Ending). outcome_as (attempted.outcome_by e attempt.down)) ending ∙ ap (λ (d : Option Why). outcome_as (attempted.outcome_by None d)) down
+      ap (λ (e : Option Ending). outcome_as (attempted.outcome_by e new.state.down)) (ap (λ (j : JobState). j.ending) h.stops.same ∙ h.stops.no_outcome)
+      ∙ ap (λ (d : Option Why). outcome_as (attempted.outcome_by None d)) down

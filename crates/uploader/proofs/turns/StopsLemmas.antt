@@ -1,14 +1,12 @@
 -- A frame at which the client halts.
 use Rattle.std.proofs.Common.{◌≡◌, ℕ, List, [], ◌∷◌, ◌++◌, length, take, Option, Err, refl, ap, sym, ◌∙◌, subst, append_assoc, arith, take-append-drop, drop}
-use Rattle.std.specs.Prelude.{None, Some, IsErrOf, ⊤}
+use Rattle.std.specs.Prelude.{Some, IsErrOf, ⊤}
 use Rattle.disk_model.specs.declared.disk.Disk.{Ghosts}
 use Rattle.ax25_frames.specs.FrameText.{FrameValue}
 use Rattle.client_notes.specs.Command.{NotesCommand}
-use Rattle.client_notes.specs.Laws.{after_all}
 use Rattle.client_notes.specs.Notes.{Lists}
 use Rattle.client_notes.specs.Several.{DoesSeveral}
 use Rattle.client_notes.specs.State.{NotesState}
-use Rattle.client_notes.proofs.Offered.{Several-same, Several-then}
 use Rattle.node.specs.declared.finished.Finished.{Finished}
 use Rattle.node.specs.Course.{AtDisk, stop_of}
 use Rattle.node.specs.Events as node
@@ -16,6 +14,7 @@ use Rattle.ftl0_client.specs.Layout.{Item}
 use Rattle.disk_model.specs.declared.halt.Halt.{Halt}
 use Rattle.disk_model.specs.declared.halt.Halt.TheVariants as halt
 use Rattle.ftl0_client.specs.Table.{job_row}
+use Rattle.ftl0_client.specs.Taking.{WithNotes, with_notes}
 use Rattle.ftl0_client.specs.Attempt.Attempted.{Attempted}
 use Rattle.ftl0_client.specs.Attempt.AttemptState.{AttemptState, StopsAmong}
 use Rattle.ftl0_client.specs.Attempt.Hearing.{after_hearing, packets_heard}
@@ -31,16 +30,11 @@ use Rattle.client_notes.specs.Through.{CutsOff}
 use Rattle.uploader.specs.Turns.Carrying.{StopsAt}
 use Rattle.uploader.specs.Turns.Course.{CameOf, IsFit, Past, StoppedAt, all_events, further}
 use Rattle.uploader.specs.declared.turns.station.ClientStation.{ClientStation}
-use Rattle.node.specs.declared.stop.NodeStop.{NodeStop}
 use Rattle.node.specs.declared.stop.NodeStop.TheVariants as stop
 use Rattle.uploader.proofs.turns.CourseLemmas.{asked-append, came-silent}
-use Rattle.client_notes.proofs.Offered.{cuts-none, cuts-then}
+use Rattle.client_notes.proofs.Offered.{cuts-none, cuts-then, Several-same, Several-then}
 use Rattle.uploader.proofs.turns.MemoryLemmas.{still-working, stopped-working}
 use Rattle.uploader.proofs.turns.PromiseLemmas.{nothing-asked}
-
--- how a stop of the client ends its turns
-abbrev stopping : Halt → NodeStop
-stopping why = stop_of why
 
 module _ {D : Type 0} (g : Ghosts D) (lasts : (disk : D) → g.lasts disk disk) (on : (first second third : D) → g.lasts first second → g.lasts second third → g.lasts first third) where
   some-cut : (P : Type 0) (old new : NotesState) (disk disk_n : D) (commands : List NotesCommand) → P → DoesSeveral g P old new disk disk_n commands → commands ≡ [] → ⊥
@@ -49,101 +43,81 @@ module _ {D : Type 0} (g : Ghosts D) (lasts : (disk : D) → g.lasts disk disk) 
       let empty : length commands ≡ 0 = ap (λ (cs : List NotesCommand). length cs) none in
       omega (arith, few, empty)
 
-  module _ (old new : NotesState) (disk disk_n : D) (frame : FrameValue) (client : Client) (lists_are : old.lists ≡ client.lists) (told : IsToldDownOf client.attempt) where
+  module _ (old new : WithNotes AttemptState D) (frame : FrameValue) (client : Client) (lists_are : old.notes.lists ≡ client.lists) (told : IsToldDownOf client.attempt) where
     -- what it stopped by, of this frame's commands
     abbrev Halted : Halt → Type 0
     Halted why =
-        (done : List NotesCommand) × (cut : List NotesCommand) × StopsAt (stopping why) client (hears frame) outcome.Working [] done cut
-        × CutsOff g (IsErrOf {T = Finished} (Err (stopping why)) stop.Disk) old new disk disk_n done cut
+        (done : List NotesCommand) × (cut : List NotesCommand) × StopsAt (stop_of why) client (hears frame) outcome.Working [] done cut
+        × CutsOff g (IsErrOf {T = Finished} (Err (stop_of why)) stop.Disk) old.notes new.notes old.disk new.disk done cut
 
-    module _ (a : Attempted) (hears_it : attempt_for client frame ≡ Some a) (attempt : AttemptState) where
+    module _ (a : Attempted) (hears_it : attempt_for client frame ≡ Some a) where
       abbrev start : Attempted
       start = after_hearing client.window a frame
 
       abbrev Among : Halt → Type 0
-      Among why = StopsAmong g start (packets_heard client.window a frame) old new disk disk_n attempt why
+      Among why = StopsAmong g start (packets_heard client.window a frame) old new why
 
       -- the commands of the packets before, those of this one, and those behind
       noted-all : (why : Halt) (h : Among why) → (more : List NotesCommand)
-          × ((client_hearing client frame).noted ≡ (taking old.lists start h.before).noted ++ ((job_row h.notes_then.lists (taking old.lists start h.before).after.job h.item).commands ++ more))
+          × ((client_hearing client frame).noted ≡ (taking old.notes.lists start h.before).noted ++ ((job_row h.notes_then.lists (taking old.notes.lists start h.before).after.job h.item).commands ++ more))
       noted-all why h =
-          let part = taking old.lists start h.before in
-          let then_is : h.notes_then.lists ≡ after_all old.lists part.noted = (h.done.done (λ never. never)).0 in
-          let front = noted-front old.lists start h.before h.item h.behind h.stops.no_outcome in
-          let row : Lists → List NotesCommand = λ l. (job_row l part.after.job h.item).commands in (
+          let part = taking old.notes.lists start h.before in
+          let front = noted-front old.notes.lists start h.before h.item h.behind h.stops.no_outcome in (
             front.0,
             ap (λ (o : Option Attempted). (hearing_by client frame o).noted) hears_it
                 ∙ ap (λ (l : Lists). (taking l start (packets_heard client.window a frame)).noted) (sym lists_are)
-                ∙ ap (λ (items : List Item). (taking old.lists start items).noted) h.is_part
+                ∙ ap (λ (items : List Item). (taking old.notes.lists start items).noted) h.is_part
                 ∙ front.1
-                ∙ ap (λ (l : Lists). part.noted ++ (row l ++ front.0)) (sym then_is),
+                ∙ ap (λ (l : Lists). part.noted ++ ((job_row l part.after.job h.item).commands ++ front.0)) (sym (h.done.done (λ never. never)).0),
           )
 
       halted-among : (why : Halt) → Among why → Halted why
       halted-among halt.Disk h =
-          let part = taking old.lists start h.before in
+          let part = taking old.notes.lists start h.before in
           let cut : List NotesCommand = (job_row h.notes_then.lists part.after.job h.item).commands in
           let all = noted-all halt.Disk h in (
             part.noted,
             cut,
-            (all.0, all.1, some-cut ⊤ h.notes_then new h.disk_then disk_n cut tt h.stops.noted, refl, refl),
+            (all.0, all.1, some-cut ⊤ h.notes_then new.notes h.disk_then new.disk cut tt h.stops.noted, refl, refl),
             record {
               notes_then = h.notes_then;
               disk_then = h.disk_then;
               first = h.done;
-              second = Several-same g ⊤ (IsErrOf {T = Finished} (Err stop.Disk) stop.Disk) h.notes_then new h.disk_then disk_n cut (λ _. refl) (λ _. tt) h.stops.noted;
+              second = Several-same g ⊤ (IsErrOf {T = Finished} (Err stop.Disk) stop.Disk) h.notes_then new.notes h.disk_then new.disk cut (λ _. refl) (λ _. tt) h.stops.noted;
             },
           )
       halted-among halt.OutOfMemory h =
-          let part = taking old.lists start h.before in
+          let part = taking old.notes.lists start h.before in
           let all_of : List NotesCommand = (job_row h.notes_then.lists part.after.job h.item).commands in
           let all = noted-all halt.OutOfMemory h in
-          let count : ℕ = h.stops.noted.0 in
-          let first : List NotesCommand = take count all_of in
-          let rest : List NotesCommand = drop count all_of ++ all.0 in
-          let does = Several-then g on ⊥ ⊥ old h.notes_then new disk h.disk_then disk_n part.noted first (λ never. never) h.done h.stops.noted.2 in (
+          let first : List NotesCommand = take h.stops.noted.0 all_of in
+          let behind : List NotesCommand = drop h.stops.noted.0 all_of in
+          let does = Several-then g on ⊥ ⊥ old.notes h.notes_then new.notes old.disk h.disk_then new.disk part.noted first (λ never. never) h.done h.stops.noted.2 in (
             part.noted ++ first,
             [],
             (
-              rest,
+              behind ++ all.0,
               all.1
-                  ∙ ap (λ (cs : List NotesCommand). part.noted ++ (cs ++ all.0)) (sym (take-append-drop count all_of))
-                  ∙ ap (λ (cs : List NotesCommand). part.noted ++ cs) (append_assoc first (drop count all_of) all.0)
-                  ∙ sym (append_assoc part.noted first rest),
-              stopped-working client frame told a hears_it g old new disk disk_n attempt halt.OutOfMemory h,
+                  ∙ ap (λ (cs : List NotesCommand). part.noted ++ (cs ++ all.0)) (sym (take-append-drop h.stops.noted.0 all_of))
+                  ∙ ap (λ (cs : List NotesCommand). part.noted ++ cs) (append_assoc first behind all.0)
+                  ∙ sym (append_assoc part.noted first (behind ++ all.0)),
+              stopped-working client frame told a hears_it g old new halt.OutOfMemory h,
               refl,
               refl,
               refl,
             ),
-            cuts-none g lasts (IsErrOf {T = Finished} (Err stop.OutOfMemory) stop.Disk) old new disk disk_n (part.noted ++ first) (λ e. cc e) does,
+            cuts-none g lasts (IsErrOf {T = Finished} (Err stop.OutOfMemory) stop.Disk) old.notes new.notes old.disk new.disk (part.noted ++ first) (λ e. cc e) does,
           )
 
-  -- the attempt that hears the frame stopped at one of its packets
-  halted-by : (old new : AtDisk ClientStation D) (frame : FrameValue) (client : Client) (lists_are : old.it.client.notes.lists ≡ client.lists) (told : IsToldDownOf client.attempt) (o : Option Attempted)
-      → attempt_for client frame ≡ o → (why : Halt) → StopsBy g client.window frame o old.it.client new.it.client old.disk new.disk why
-      → Halted old.it.client.notes new.it.client.notes old.disk new.disk frame client lists_are told why
-  halted-by old new frame client lists_are told None is why h = absurd h
-  halted-by old new frame client lists_are told (Some a) is why h =
-      halted-among old.it.client.notes new.it.client.notes old.disk new.disk frame client lists_are told a is h.0 why h.2
-
-  -- and nothing became of the job
-  working-on : (old new : AtDisk ClientStation D) (frame : FrameValue) (client : Client) (told : IsToldDownOf client.attempt) (o : Option Attempted) → attempt_for client frame ≡ o → (why : Halt)
-      → StopsBy g client.window frame o old.it.client new.it.client old.disk new.disk why → outcome_in new.it.client.attempt ≡ outcome.Working
-  working-on old new frame client told None is why h = absurd h
-  working-on old new frame client told (Some a) is why h =
-      ap outcome_in h.1 ∙ still-working client frame told a is g old.it.client.notes new.it.client.notes old.disk new.disk h.0 why h.2
-
   module _ (law : GoesLaw) (a b : AtDisk ClientStation D) (fit : IsFit g a) (frame : FrameValue) (moment : ℕ) (why : Halt) where
-    abbrev event : node.NodeEvent
-    event = node.hears frame moment
-
-    pub event-halted : (past : Past D) (h : CameOf g past a) → StopsBy g h.now.window frame (attempt_for h.now frame) a.it.client b.it.client a.disk b.disk why
-        → StoppedAt g (further past (event ∷ []) []) (stopping why) b
+    pub event-halted : (past : Past D) (h : CameOf g past a) → StopsBy g h.now frame a.it.client b.it.client a.disk b.disk why → StoppedAt g (further past (node.hears frame moment ∷ []) []) (stop_of why) b
     event-halted past h stops =
         let goes = came-silent g past a h fit.nothing.silent in
         let stands = (law past.base past.job _ h.frames h.commands h.now h.just h.go_with (nothing-asked past.events) goes).stands in
         let told : IsToldDownOf h.now.attempt = subst (λ (o : Option Attempted). IsToldDownOf o) (sym stands.is_attempt) stands.told_down in
-        let halted = halted-by a b frame h.now h.is.lists told (attempt_for h.now frame) refl why stops in
+        let old = with_notes stops.was a.it.client.notes a.disk in
+        let new = with_notes stops.attempt b.it.client.notes b.disk in
+        let halted = halted-among old new frame h.now h.is.lists told stops.a stops.hears why stops.stops in
         record {
           done = h.commands ++ halted.0;
           cut = halted.1;
@@ -155,7 +129,7 @@ module _ {D : Type 0} (g : Ghosts D) (lasts : (disk : D) → g.lasts disk disk) 
                       before = all_events past;
                       next = hears frame;
                       later = [];
-                      events_are = asked-append past (event ∷ []);
+                      events_are = asked-append past (node.hears frame moment ∷ []);
                       frames = h.frames;
                       commands = h.commands;
                       client_then = h.now;
@@ -170,8 +144,8 @@ module _ {D : Type 0} (g : Ghosts D) (lasts : (disk : D) → g.lasts disk disk) 
                 in_order = h.owes.in_order;
               };
           cuts =
-              cuts-then g on (IsErrOf {T = Finished} (Err (stopping why)) stop.Disk) past.client.notes a.it.client.notes b.it.client.notes past.disk a.disk b.disk h.commands halted.0 halted.1 h.does
+              cuts-then g on (IsErrOf {T = Finished} (Err (stop_of why)) stop.Disk) past.client.notes a.it.client.notes b.it.client.notes past.disk a.disk b.disk h.commands halted.0 halted.1 h.does
               halted.3;
-          tells = working-on a b frame h.now told (attempt_for h.now frame) refl why stops;
+          tells = ap outcome_in stops.is_attempt ∙ still-working h.now frame told stops.a stops.hears g old new why stops.stops;
           came = λ some. absurd (some refl);
         }

@@ -5,7 +5,7 @@ use Rattle.client_notes.specs.Notes.{got_of}
 use Rattle.ftl0_job.specs.declared.phases.DownloadPhase.TheVariants as phase
 use Rattle.ftl0_job.specs.Download.{Download, done_row, login_row}
 use Rattle.ftl0_job.specs.Row.{Row}
-use Rattle.ftl0_job.specs.Taking.{Gives, TakesRow}
+use Rattle.ftl0_job.specs.Taking.{Gives, TakesRow, with_notes}
 use Rattle.ftl0_job.proofs.NotingLemmas.{takes-still}
 use Rattle.ftl0_job.proofs.RowLemmas.{done-silent, download-in, fetch-silent}
 use Rattle.ftl0_job.proofs.download.Download.take.Goals as goal
@@ -16,7 +16,7 @@ returns-in-Login g c =
     let packet = value_of c.args.packet.now in
     let held = got_of c.args.notes.now.lists self.server self.number in
     let is = download-in held self packet phase.Login (ap (λ (d : Download). d.phase) (sym c.self.view_is) ∙ c.in-Login.is) in
-    subst (λ (r : Row Download). TakesRow g.D.Disk r self c.take_login.new.self c.args.notes.now c.args.notes.now c.args.disk.now c.args.disk.now c.take_login.new.replies.items (Ok c.take_login.result))
+    subst (λ (r : Row Download). TakesRow g.D.Disk r (with_notes self c.args.notes.now c.args.disk.now) (with_notes c.take_login.new.self c.args.notes.now c.args.disk.now) c.take_login.new.replies.items (Ok c.take_login.result))
     (sym is)
     (takes-still g.D.Disk (login_row held self packet) self c.take_login.new.self c.args.notes.now c.args.disk.now c.take_login.new.replies.items c.take_login.result (fetch-silent held self packet)
     c.requires.healthy c.requires.stands_on (g.met.D.Disk.lasts_same c.args.disk.now) c.take_login.ensures)
@@ -27,8 +27,7 @@ returns-in-Fetching g c =
     let packet = value_of c.args.packet.now in
     let held = got_of c.args.notes.now.lists self.server self.number in
     let is = download-in held self packet phase.Fetching (ap (λ (d : Download). d.phase) (sym c.self.view_is) ∙ c.in-Fetching.is) in
-    subst (λ (r : Row Download). TakesRow g.D.Disk r self c.take_fetching.new.self c.args.notes.now c.take_fetching.new.notes c.args.disk.now c.take_fetching.new.disk c.take_fetching.new.replies.items
-    c.take_fetching.result) (sym is) c.take_fetching.ensures
+    subst (λ (r : Row Download). TakesRow g.D.Disk r (with_notes self c.args.notes.now c.args.disk.now) (with_notes c.take_fetching.new.self c.take_fetching.new.notes c.take_fetching.new.disk) c.take_fetching.new.replies.items c.take_fetching.result) (sym is) c.take_fetching.ensures
 
 pub returns-in-Done : goal.returns-in-Done
 returns-in-Done g c =
@@ -37,6 +36,6 @@ returns-in-Done g c =
     let held = got_of c.args.notes.now.lists self.server self.number in
     let is = download-in held self packet phase.Done (ap (λ (d : Download). d.phase) (sym c.self.view_is) ∙ c.in-Done.is) in
     let gives = subst (λ (os : List ℕ). Gives (done_row self packet) self os c.take_done.result) (sym c.requires.empty) c.take_done.ensures in
-    subst (λ (r : Row Download). TakesRow g.D.Disk r self self c.args.notes.now c.args.notes.now c.args.disk.now c.args.disk.now c.args.replies.now.items (Ok c.take_done.result)) (sym is)
+    subst (λ (r : Row Download). TakesRow g.D.Disk r (with_notes self c.args.notes.now c.args.disk.now) (with_notes self c.args.notes.now c.args.disk.now) c.args.replies.now.items (Ok c.take_done.result)) (sym is)
     (takes-still g.D.Disk (done_row self packet) self self c.args.notes.now c.args.disk.now c.args.replies.now.items c.take_done.result (done-silent self packet)
     c.requires.healthy c.requires.stands_on (g.met.D.Disk.lasts_same c.args.disk.now) gives)

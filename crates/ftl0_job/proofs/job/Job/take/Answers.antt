@@ -6,7 +6,7 @@ use Rattle.ftl0_job.specs.declared.ending.Ending.{Ending}
 use Rattle.disk_model.specs.declared.halt.Halt.{Halt}
 use Rattle.ftl0_job.specs.JobState.{GoBy, GoWith, NotesGoWith}
 use Rattle.ftl0_job.specs.Table.{JobState}
-use Rattle.ftl0_job.specs.Taking.{TakesPacket}
+use Rattle.ftl0_job.specs.Taking.{TakesPacket, with_notes}
 use Rattle.ftl0_job.proofs.JobLemmas.{ending-none, ending-some, goes-on, takes-ended, takes-item, takes-stop}
 use Rattle.ftl0_job.proofs.job.Job.take.Goals as goal
 
@@ -26,11 +26,10 @@ returns-in_err-self-inside-clause-takes g c =
     let is = ending-none c.self.inside.ending test in
     let why = c.in_err-self-inside.field-0.0 in
     let stops : c.from_residual.result ≡ Err why = search rules in
-    let P : JobState → Type 0 = λ j. TakesPacket g.D.Disk (item_of c.args.packet) j now c.args.notes.now c.take_item.new.notes c.args.disk.now c.take_item.new.disk c.take_item.new.replies.items
-    c.from_residual.result in
-    let Q : Result ⊤ Halt → Type 0 = λ r. TakesPacket g.D.Disk (item_of c.args.packet) job now c.args.notes.now c.take_item.new.notes c.args.disk.now c.take_item.new.disk c.take_item.new.replies.items r in
-    subst P c.self.view_is
-    (subst Q (sym stops)
+    let P : JobState → Result ⊤ Halt → Type 0 = λ j r. TakesPacket g.D.Disk (item_of c.args.packet) (with_notes j c.args.notes.now c.args.disk.now)
+    (with_notes now c.take_item.new.notes c.take_item.new.disk) c.take_item.new.replies.items r in
+    subst (λ (j : JobState). P j c.from_residual.result) c.self.view_is
+    (subst (P job) (sym stops)
     (takes-stop g.D.Disk (item_of c.args.packet) job c.take_item.new.self c.args.notes.now c.take_item.new.notes c.args.disk.now c.take_item.new.disk c.take_item.new.replies.items is why
     c.in_err-self-inside.ensures.takes c.in_err-self-inside.ensures.stops))
 
@@ -40,7 +39,7 @@ returns-clause-takes g c =
     let now : JobState = record { work = c.take_item.new.self; ending = c.in_ok-self-inside.field-0 } in
     let test : is_some c.self.inside.ending ≡ false = search rules in
     let is = ending-none c.self.inside.ending test in
-    let P : JobState → Type 0 = λ j. TakesPacket g.D.Disk (item_of c.args.packet) j now c.args.notes.now c.take_item.new.notes c.args.disk.now c.take_item.new.disk c.take_item.new.replies.items (Ok tt) in
+    let P : JobState → Type 0 = λ j. TakesPacket g.D.Disk (item_of c.args.packet) (with_notes j c.args.notes.now c.args.disk.now) (with_notes now c.take_item.new.notes c.take_item.new.disk) c.take_item.new.replies.items (Ok tt) in
     subst P c.self.view_is
     (takes-item g.D.Disk (item_of c.args.packet) job c.take_item.new.self c.args.notes.now c.take_item.new.notes c.args.disk.now c.take_item.new.disk c.take_item.new.replies.items is
     c.in_ok-self-inside.field-0 c.in_ok-self-inside.ensures.takes)

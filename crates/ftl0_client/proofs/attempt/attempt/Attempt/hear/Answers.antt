@@ -3,6 +3,7 @@ use Rattle.std.proofs.Common.{◌≡◌, Err, rules, refl, sym, subst}
 use Rattle.std.specs.Prelude.{Result, ⊤}
 use Rattle.ax25_frames.specs.Values.{value_of}
 use Rattle.disk_model.specs.declared.halt.Halt.{Halt}
+use Rattle.ftl0_job.specs.Taking.{with_notes}
 use Rattle.ftl0_client.specs.Attempt.AttemptState.{Hears, PutsBy}
 use Rattle.ftl0_client.specs.Attempt.Hearing.{after_hearing, packets_heard}
 use Rattle.ftl0_client.specs.Attempt.Taking.{taking}
@@ -14,15 +15,15 @@ returns-in_err-take_frame-clause-hears g c w a is =
     let frame = value_of c.args.frame.now in
     let why = c.in_err-take_frame.field-0.0 in
     let stops : c.from_residual.result ≡ Err why = search rules in
-    let at_result : Result ⊤ Halt → Type 0 =
-    λ r. Hears g.D.Disk w a frame c.args.notes.now c.take_frame.new.notes c.args.disk.now c.take_frame.new.disk c.take_frame.new.self r in
+    let before = with_notes c.args.self.now c.args.notes.now c.args.disk.now in
+    let now = with_notes c.take_frame.new.self c.take_frame.new.notes c.take_frame.new.disk in
+    let at_result : Result ⊤ Halt → Type 0 = λ r. Hears g.D.Disk w a frame before now r in
     let by = c.in_err-take_frame.ensures.hears w a is in
     subst at_result (sym stops)
     (record {
       by = by;
       since =
-          hears-since g.D.Disk g.met.D.Disk.lasts_on (after_hearing w a frame) (packets_heard w a frame) c.args.notes.now c.take_frame.new.notes c.args.disk.now c.take_frame.new.disk
-          c.take_frame.new.self w (taking c.args.notes.now.lists (after_hearing w a frame) (packets_heard w a frame)) (Err why) refl by;
+          hears-since g.D.Disk g.met.D.Disk.lasts_on (after_hearing w a frame) (packets_heard w a frame) before now w (taking c.args.notes.now.lists (after_hearing w a frame) (packets_heard w a frame)) (Err why) refl by;
     })
 
 pub returns-in_err-take_frame-clause-puts : goal.returns-in_err-take_frame-clause-puts

@@ -5,6 +5,7 @@ use Rattle.ax25_link.specs.declared.state.Heard.TheVariants.{Bytes}
 use Rattle.ax25_link.specs.Rows.{after_frame}
 use Rattle.ax25_link.specs.Window.{Window}
 use Rattle.ftl0_packets.specs.Reading.{packets_of, under_way}
+use Rattle.ftl0_job.specs.Taking.{with_notes}
 use Rattle.ftl0_client.specs.Attempt.Attempted.{Attempted}
 use Rattle.ftl0_client.specs.Attempt.AttemptState.{AttemptState, HearsBy, IsAttempt, working}
 use Rattle.ftl0_client.specs.Attempt.Feeding.{TakesOctetsBy}
@@ -21,19 +22,21 @@ returns-in-Bytes-clause-hears g c =
     let frame = value_of c.args.frame.now in
     let mid = attempt_state (record { link = c.take.new.self; job = s.job; down = s.down }) in
     let now = attempt_state (record { link = c.take_packets.new.link; job = c.take_packets.new.job; down = s.down }) in
+    let at_first = λ (old : AttemptState). with_notes old c.args.notes.now c.args.disk.now in
+    let at_last = with_notes now c.take_packets.new.notes c.take_packets.new.disk in
     let same : c.information.result.now ≡ frame.kind.information = c.information.ensures (c.in-Bytes.ensures.bytes refl) in
     let takes =
     subst (λ (o : List ℕ). TakesOctetsBy g.D.Disk (mid.octets ++ o) now.octets (working mid.link mid.job c.args.notes.now c.args.disk.now)
     (working now.link now.job c.take_packets.new.notes c.take_packets.new.disk) c.take_packets.result) same c.take_packets.ensures.takes in
     let P : AttemptState → Type 0 =
     λ old. (w : Window) (a : Attempted) → IsAttempt w old a
-    → HearsBy g.D.Disk w (taking c.args.notes.now.lists (after_hearing w a frame) (packets_heard w a frame)) (after_hearing w a frame) (packets_heard w a frame) c.args.notes.now
-    c.take_packets.new.notes c.args.disk.now c.take_packets.new.disk now c.take_packets.result in
+    → HearsBy g.D.Disk w (taking c.args.notes.now.lists (after_hearing w a frame) (packets_heard w a frame)) (after_hearing w a frame) (packets_heard w a frame)
+    (at_first old) at_last c.take_packets.result in
     subst P c.self.view_is (λ w a is.
-    hears-told g.D.Disk w frame c.args.notes.now c.take_packets.new.notes c.args.disk.now c.take_packets.new.disk (attempt_state s) now Bytes c.take_packets.result c.in-Bytes.ensures.heard a is
-    (hears-octets g.D.Disk w mid now (with_end a (after_frame w a.end frame))
-    (record { link = c.in-Bytes.ensures.after w a.end is.link; rest = ap under_way c.in-Bytes.ensures.keeps.reader ∙ is.rest; job = is.job; down = is.down }) frame.kind.information c.args.notes.now
-    c.take_packets.new.notes c.args.disk.now c.take_packets.new.disk refl c.take_packets.result takes))
+    hears-told g.D.Disk w frame (at_first (attempt_state s)) at_last Bytes c.take_packets.result c.in-Bytes.ensures.heard a is
+    (hears-octets g.D.Disk w (attempt_state s) (at_first mid) at_last (with_end a (after_frame w a.end frame))
+    (record { link = c.in-Bytes.ensures.after w a.end is.link; rest = ap under_way c.in-Bytes.ensures.keeps.reader ∙ is.rest; job = is.job; down = is.down }) frame.kind.information refl
+    c.take_packets.result takes))
 
 pub returns-in-Bytes-clause-puts : goal.returns-in-Bytes-clause-puts
 returns-in-Bytes-clause-puts g c =
@@ -43,7 +46,8 @@ returns-in-Bytes-clause-puts g c =
     let now = attempt_state (record { link = c.take_packets.new.link; job = c.take_packets.new.job; down = s.down }) in
     let a : Attempted = record { end = some.end; rest = mid.octets; job = s.job; down = s.down } in
     let octets = c.information.result.now in
-    hears-puts g.D.Disk g.met.D.Disk.lasts_on (accepting a octets) (packets_of (a.rest ++ octets)) c.args.notes.now c.take_packets.new.notes c.args.disk.now c.take_packets.new.disk now some.w
+    let at_first = with_notes mid c.args.notes.now c.args.disk.now in
+    let at_last = with_notes now c.take_packets.new.notes c.take_packets.new.disk in
+    hears-puts g.D.Disk g.met.D.Disk.lasts_on (accepting a octets) (packets_of (a.rest ++ octets)) at_first at_last some.w
     (taking c.args.notes.now.lists (accepting a octets) (packets_of (a.rest ++ octets))) c.take_packets.result
-    (hears-octets g.D.Disk some.w mid now a (record { link = some.stands; rest = refl; job = refl; down = refl }) octets c.args.notes.now c.take_packets.new.notes c.args.disk.now
-    c.take_packets.new.disk refl c.take_packets.result c.take_packets.ensures.takes)
+    (hears-octets g.D.Disk some.w mid at_first at_last a (record { link = some.stands; rest = refl; job = refl; down = refl }) octets refl c.take_packets.result c.take_packets.ensures.takes)
