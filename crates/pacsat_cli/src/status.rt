@@ -43,7 +43,7 @@ pub enum RefusedBy {
         /// The code.
         code: u8,
     },
-    /// By the first fault of the file that is sent, or that came (PFH 1990).
+    /// By the first fault of the file that is sent, that came, or whose body is asked for (PFH 1990).
     Fault {
         /// The fault's code: 6, 7, 14, 15 or 16.
         code: u8,
