@@ -30,12 +30,8 @@ returns-in-Ok g c =
           c.go_on.ensures ∙ ap (λ (n : ℕ). texts (ul_go_resp n 0 ∷ [])) (c.number.ensures ∙ number),
         ),
       );
-      on_disk =
-          does-row g.D.Disk c.args.caller c.args.moment command (Ok (upload_cmd 0 c.args.length)) c.args.store.now c.begin.new.self c.args.disk.now c.begin.new.disk _ ⊥
-          (granted_row c.args.caller c.args.moment (store_in c.args.store.now).next c.args.length) row (λ e. absurd (true≢false (sym e))) (λ never. absurd never) does;
-      untouched =
-          touched c.args.disk.now c.begin.new.disk _ (granted_row c.args.caller c.args.moment (store_in c.args.store.now).next c.args.length) row
-          (some-at_front (begin (store_in c.args.store.now).next c.args.caller c.args.length c.args.moment) []);
+      on_disk = does-row g.D.Disk _ _ _ _ _ _ ⊥ _ row (λ e. absurd (true≢false (sym e))) (λ never. absurd never) does;
+      untouched = touched _ _ _ _ row (some-at_front (begin (store_in c.args.store.now).next c.args.caller c.args.length c.args.moment) []);
       held = (c.in-Ok.ensures.holds.0, ap (λ (u : Upload). u.caller) c.in-Ok.ensures.upload);
       only =
           subst (λ (n : ℕ). NoOtherOut c.begin.new.self c.args.caller (Some n)) (sym number)

@@ -15,8 +15,7 @@ use Rattle.ftl0_session.proofs.uploads.session.take_command.Goals as goal
 pub returns-in-Upload : goal.returns-in-Upload
 returns-in-Upload g c = λ item is.
     let same = rw c.in-Upload.is at is in
-    let P : Item → Type 0 = λ i. Answered g.D.Disk (packet_of c.args.caller c.args.moment i) command (with_disk c.args.store.now c.args.disk.now) (with_disk c.resume.new.store c.args.disk.now) c.resume.new.replies.items c.resume.result in
-    subst P (sym same)
+    rw same
     (answered-alone g.D.Disk c.args.caller c.args.moment command (Ok (upload_cmd c.in-Upload.number c.in-Upload.length)) c.args.store.now c.resume.new.store c.args.disk.now _ _
     c.requires.ready.healthy c.requires.ready.stands_on (g.met.D.Disk.lasts_same c.args.disk.now) (c.resume.ensures c.args.moment))
 
