@@ -1,12 +1,11 @@
 -- A new file: its row, or the answer to a refusal.
 use Rattle.std.proofs.Common.{◌≡◌, ℕ, [], ◌∷◌, refl, ap, sym, ◌∙◌, subst, Some, true≢false}
-use Rattle.ftl0_packets.specs.Layout.{ul_go_resp, upload_cmd}
-use Rattle.std.specs.Prelude.{Ok}
+use Rattle.ftl0_packets.specs.Layout.{ul_go_resp}
 use Rattle.file_store.specs.Command.{begin}
 use Rattle.file_store.specs.State.{store_in}
 use Rattle.file_store.specs.Upload.{Upload}
 use Rattle.ftl0_packets.specs.Items.{texts}
-use Rattle.ftl0_session.specs.Uploads.Session.{command, granted_row}
+use Rattle.ftl0_session.specs.Uploads.Session.{granted_row}
 use Rattle.ftl0_session.specs.Uploads.SessionState.{NoOtherOut}
 use Rattle.ftl0_session.proofs.uploads.BeginLemmas.{begin-refused, begun-only, begun-others}
 use Rattle.ftl0_session.proofs.uploads.DoesLemmas.{does-row, some-at_front, touched}

@@ -1,11 +1,7 @@
 -- What is asked in each phase, by what is asked in its state.
 use Rattle.std.proofs.Common.{ap, sym}
-use Rattle.px_base.specs.CallSign.{CallSign}
-use Rattle.ftl0_session.specs.Uploads.Asked.{AnswersAsked}
 use Rattle.ftl0_session.specs.Uploads.Session.{aborting}
-use Rattle.ftl0_session.specs.Uploads.SessionState.{SessionState, state_of, with_disk}
-use Rattle.ftl0_session.specs.Uploads.Events.{packet_of}
-use Rattle.ftl0_session.specs.Uploads.Taking.{Answered}
+use Rattle.ftl0_session.specs.Uploads.SessionState.{SessionState}
 use Rattle.ftl0_session.proofs.uploads.DoesLemmas.{answered-alone}
 use Rattle.ftl0_session.proofs.uploads.session.Session.take_asked.Goals as goal
 

@@ -1,14 +1,9 @@
 -- Each packet in Receiving, by its row.
-use Rattle.std.proofs.Common.{◌≡◌, refl, ap, sym, subst}
-use Rattle.std.specs.Prelude.{Ok}
-use Rattle.px_base.specs.CallSign.{CallSign}
-use Rattle.ftl0_packets.specs.Layout.{Item, data_part}
+use Rattle.std.proofs.Common.{refl, ap, sym}
 use Rattle.file_store.specs.State.{store_in}
 use Rattle.file_store.specs.Upload.{waiting}
 use Rattle.ftl0_session.specs.declared.uploads.phase.Phase.TheVariants as phase
-use Rattle.ftl0_session.specs.Uploads.SessionState.{SessionState, receiving_of, with_disk}
-use Rattle.ftl0_session.specs.Uploads.Taking.{Answered}
-use Rattle.ftl0_session.specs.Uploads.Events.{packet_of}
+use Rattle.ftl0_session.specs.Uploads.SessionState.{SessionState, receiving_of}
 use Rattle.ftl0_session.proofs.uploads.DoesLemmas.{answered-alone}
 use Rattle.ftl0_session.proofs.uploads.Rows.{alone-refused, error-receiving}
 use Rattle.ftl0_session.proofs.uploads.session.Session.take_receiving.Goals as goal
