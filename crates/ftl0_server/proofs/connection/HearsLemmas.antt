@@ -14,7 +14,6 @@ use Rattle.file_store.specs.Command.{Command, after_all}
 use Rattle.file_store.specs.Store.{Store}
 use Rattle.file_store.specs.OnDisk.{MakesFirst}
 use Rattle.file_store.specs.State.{StoreState, store_in}
-use Rattle.file_store.specs.Working.{CutsOffAmongReads, DoesAmongReads}
 use Rattle.file_store.proofs.Offered.{among-then, cuts-among-all, cuts-among-then, makes-first, makes-within, told_weaker, weaker}
 use Rattle.ftl0_session.specs.Uploads.Failures.{Failure, failed_reads, failed_write, write_fails}
 use Rattle.disk_model.specs.declared.halt.Halt.{Halt as Stop}
@@ -24,7 +23,7 @@ use Rattle.ftl0_session.specs.Uploads.SessionState.{WithDisk, with_disk}
 use Rattle.ftl0_session.specs.Run.{Session}
 use Rattle.ftl0_server.specs.declared.connection.fate.Fate.{Fate}
 use Rattle.ftl0_server.specs.declared.connection.fate.Fate.TheVariants.{Stays, Ends}
-use Rattle.ftl0_server.specs.Connection.ConnectionState.{ConnectionState, HearsBy, IsAfter, with_nothing_left}
+use Rattle.ftl0_server.specs.Connection.ConnectionState.{ConnectionState, HearsBy, with_nothing_left}
 use Rattle.ftl0_server.specs.Connection.ConnectionState.{with_reads}
 use Rattle.ftl0_server.specs.Connection.Feeding.{HearsParts, IsAmong, IsGoing, TakesPackets, session_on, taking_some}
 use Rattle.ftl0_server.specs.Connection.Hearing.{Happened, progressed}
@@ -133,47 +132,45 @@ module _ {D : Type 0} (g : Ghosts D) (on : (first second third : D) → g.lasts 
         ∙ taking-alike (caller_of mid.session) moment (session_on mid.session between) made.end others all (writes ++ failed_reads parts) next
         (alike-second writes one.parts parts next (next + length others) are ahead))
 
+    -- so it is where a write of the others fails
+    same-fault : (part : ℕ) (parts : List ℕ) → All (λ part. next ≤ part) parts → (part_of (failed_write part ++ failed_reads parts)).halt ≡ fails
+        → whole (failed_write part ++ failed_reads (one.parts ++ parts)) ≡ behind made.missed made.done (part_of (failed_write part ++ failed_reads parts))
+    same-fault part parts later halts =
+        let there = taking-fails (caller_of mid.session) moment (session_on mid.session between) made.end others (failed_write part ++ failed_reads parts) next halts in
+        let is : part ≡ there.0 = same-part part there.0 parts there.2 in
+        same (failed_write part) parts (one-writes part) (λ n low. other-part part n (λ here. (let at : next ≤ there.0 = there.1 in omega (arith, is, here)))) later
+
+    abbrev By : Fate → Result ⊤ Stop → Progress → Type 0
+    By fate result p = HearsBy g w (λ failures. progressed [] p) (with_disk before.store before.disk) now (with_nothing_left new.link new.session) fate result
+
     by-then : (parts : List ℕ) → All (λ part. next ≤ part) parts → (fate : Fate) (result : Result ⊤ Stop)
         → HearsBy g w (λ writes. progressed [] (part_of (writes ++ failed_reads parts))) (with_disk between.store between.disk) now (with_nothing_left new.link new.session) fate result
         → HearsBy g w (λ writes. progressed [] (whole (writes ++ failed_reads (one.parts ++ parts)))) (with_disk before.store before.disk) now (with_nothing_left new.link new.session) fate result
     by-then parts later fate (Ok done) h =
         let part : Progress = part_of ([] ++ failed_reads parts) in
-        let P : Progress → Type 0 =
-        λ p. (p.halt ≡ goes_on) × IsAfter w now.store now.lists (with_nothing_left new.link new.session) (progressed [] p) fate × DoesAmongReads g ⊥ p.missed before.store now.store before.disk now.disk p.done in
-        subst P (sym (same [] parts none-writes (λ n low. refl) later)) (
+        subst (By fate (Ok done)) (sym (same [] parts none-writes (λ n low. refl) later)) (
           h.0,
           h.1,
           among-then g on ⊥ ⊥ made.missed part.missed before.store between.store now.store before.disk between.disk now.disk made.done part.done (λ never. never) one.by.2 h.2,
         )
     by-then parts later fate (Err stop.Disk) h =
-        let failures : List Failure = failed_write h.0 ++ failed_reads parts in
-        let part : Progress = part_of failures in
-        let there = taking-fails (caller_of mid.session) moment (session_on mid.session between) made.end others failures next h.1 in
-        let is : h.0 ≡ there.0 = same-part h.0 there.0 parts there.2 in
-        let none : (n : ℕ) → n < next → write_fails (failed_write h.0) n ≡ false = λ n low. other-part h.0 n (λ here. (let at : next ≤ there.0 = there.1 in omega (arith, is, here))) in
-        let P : Progress → Type 0 =
-        λ p. (p.halt ≡ fails) × IsAfter w now.store now.lists (with_nothing_left new.link new.session) (progressed [] p) fate × CutsOffAmongReads g ⊤ p.missed before.store now.store before.disk now.disk p.done p.cut in
-        let at : P (whole (failed_write h.0 ++ failed_reads (one.parts ++ parts))) =
-        subst P (sym (same (failed_write h.0) parts (one-writes h.0) none later)) (
+        let part : Progress = part_of (failed_write h.0 ++ failed_reads parts) in
+        let at = subst (By fate (Err stop.Disk)) (sym (same-fault h.0 parts later h.1)) (
+          h.0,
           h.1,
           h.2,
           cuts-among-then g on ⊤ made.missed part.missed before.store between.store now.store before.disk between.disk now.disk made.done part.done part.cut one.by.2 h.3,
         ) in
-        (h.0, at.0, at.1, at.2)
+        (h.0, at.1, at.2, at.3)
     by-then parts later fate (Err stop.OutOfMemory) h =
-        let failures : List Failure = failed_write h.0 ++ failed_reads parts in
-        let part : Progress = part_of failures in
-        let there = taking-fails (caller_of mid.session) moment (session_on mid.session between) made.end others failures next h.1 in
-        let is : h.0 ≡ there.0 = same-part h.0 there.0 parts there.2 in
-        let none : (n : ℕ) → n < next → write_fails (failed_write h.0) n ≡ false = λ n low. other-part h.0 n (λ here. (let at : next ≤ there.0 = there.1 in omega (arith, is, here))) in
-        let P : Progress → Type 0 = λ p. (p.halt ≡ fails) × (fate ≡ Stays) × DoesAmongReads g ⊥ p.missed before.store now.store before.disk now.disk p.done in
-        let at : P (whole (failed_write h.0 ++ failed_reads (one.parts ++ parts))) =
-        subst P (sym (same (failed_write h.0) parts (one-writes h.0) none later)) (
+        let part : Progress = part_of (failed_write h.0 ++ failed_reads parts) in
+        let at = subst (By fate (Err stop.OutOfMemory)) (sym (same-fault h.0 parts later h.1)) (
+          h.0,
           h.1,
           h.2,
           among-then g on ⊥ ⊥ made.missed part.missed before.store between.store now.store before.disk between.disk now.disk made.done part.done (λ never. never) one.by.2 h.3,
         ) in
-        (h.0, at.0, at.1, at.2)
+        (h.0, at.1, at.2, at.3)
 
     -- packets were taken, and then the others
     pub takes-then : (told : Fate × Result ⊤ Stop)
@@ -205,29 +202,25 @@ module _ {D : Type 0} (g : Ghosts D) (on : (first second third : D) → g.lasts 
       ended : (failures : List Failure) → going (of_items failures) ≡ false → of_all failures ≡ of_items failures
       ended failures stops = taking-ended (caller_of session) moment (session_on session before) end items others failures 0 stops
 
+      abbrev To : Fate → Result ⊤ Stop → Progress → Type 0
+      To fate result p = HearsBy g w (λ failures. progressed left p) (with_disk before.store before.disk) now new fate result
+
       by-ended : (parts : List ℕ) (fate : Fate) (result : Result ⊤ Stop) → IsStop (fate, result)
           → HearsBy g w (λ writes. progressed [] (of_items (writes ++ failed_reads parts))) (with_disk before.store before.disk) now (with_nothing_left new.link new.session) fate result
           → HearsBy g w (λ writes. progressed left (of_all (writes ++ failed_reads parts))) (with_disk before.store before.disk) now new fate result
       by-ended parts Stays (Ok tt) stops h = absurd (stops refl)
-      by-ended parts Ends (Ok tt) stops h =
-          let failures : List Failure = [] ++ failed_reads parts in
-          let P : Progress → Type 0 = λ p. (p.halt ≡ goes_on) × IsAfter w now.store now.lists new (progressed left p) Ends × DoesAmongReads g ⊥ p.missed before.store now.store before.disk now.disk p.done in
-          subst P (sym (ended failures (going-over (of_items failures) h.1.1.0))) (h.0, h.1, h.2)
+      by-ended parts Ends (Ok tt) stops h = subst (To Ends (Ok tt)) (sym (ended ([] ++ failed_reads parts) (going-over (of_items ([] ++ failed_reads parts)) h.1.1.0))) (h.0, h.1, h.2)
       by-ended parts Stays (Err stop.Disk) stops h =
-          let failures : List Failure = failed_write h.0 ++ failed_reads parts in
-          absurd (
-          let over : (of_items failures).over ≡ true = taking-failed (caller_of session) moment (session_on session before) end items failures 0 h.1 in
-          let not_over : (of_items failures).over ≡ false = h.2.1.0 in cc)
+          let over = taking-failed (caller_of session) moment (session_on session before) end items (failed_write h.0 ++ failed_reads parts) 0 h.1 in
+          let not_over = h.2.1.0 in absurd cc
       by-ended parts Ends (Err stop.Disk) stops h =
           let failures : List Failure = failed_write h.0 ++ failed_reads parts in
-          let P : Progress → Type 0 = λ p. (p.halt ≡ fails) × IsAfter w now.store now.lists new (progressed left p) Ends × CutsOffAmongReads g ⊤ p.missed before.store now.store before.disk now.disk p.done p.cut in
-          let at : P (of_all failures) = subst P (sym (ended failures (going-halted (of_items failures) fails refl h.1))) (h.1, h.2, h.3) in
-          (h.0, at.0, at.1, at.2)
+          let at = subst (To Ends (Err stop.Disk)) (sym (ended failures (going-halted (of_items failures) fails refl h.1))) (h.0, h.1, h.2, h.3) in
+          (h.0, at.1, at.2, at.3)
       by-ended parts fate (Err stop.OutOfMemory) stops h =
           let failures : List Failure = failed_write h.0 ++ failed_reads parts in
-          let P : Progress → Type 0 = λ p. (p.halt ≡ fails) × (fate ≡ Stays) × DoesAmongReads g ⊥ p.missed before.store now.store before.disk now.disk p.done in
-          let at : P (of_all failures) = subst P (sym (ended failures (going-halted (of_items failures) fails refl h.1))) (h.1, h.2, h.3) in
-          (h.0, at.0, at.1, at.2)
+          let at = subst (To fate (Err stop.OutOfMemory)) (sym (ended failures (going-halted (of_items failures) fails refl h.1))) (h.0, h.1, h.2, h.3) in
+          (h.0, at.1, at.2, at.3)
 
       -- whatever comes behind packets that stopped the connection isn't taken
       pub parts-stopped : (told : Fate × Result ⊤ Stop) → IsStop told

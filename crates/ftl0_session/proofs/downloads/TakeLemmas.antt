@@ -1,12 +1,12 @@
 -- What is taken, by its row.
-use Rattle.std.proofs.Common.{◌≡◌, ℕ, List, [], ◌∷◌, Bool, true, false, Option, None, Some, refl, sym, ◌∙◌, ap, subst}
+use Rattle.std.proofs.Common.{◌≡◌, ℕ, List, [], Bool, true, false, Option, None, Some, refl, sym, ◌∙◌, ap}
 use Rattle.std.proofs.Common.{Bor}
 use Rattle.std.proofs.lemmas.List.{append-nil}
 use Rattle.px_base.specs.CallSign.{CallSign}
 use Rattle.disk_model.specs.declared.disk.Disk.{Ghosts}
-use Rattle.std.specs.Prelude.{IfNone, IfSome, IsSomeAnd}
+use Rattle.std.specs.Prelude.{IfNone, IfSome}
 use Rattle.std.specs.Option.{option_map}
-use Rattle.ftl0_packets.specs.Layout.{PacketValue, dir_long_cmd, dir_short_cmd, dl_error_resp, download_cmd}
+use Rattle.ftl0_packets.specs.Layout.{PacketValue, dir_long_cmd, dir_short_cmd, download_cmd}
 use Rattle.ftl0_packets.specs.Layout.{packet_text, select_cmd}
 use Rattle.ftl0_packets.specs.Values.{value_of}
 use Rattle.ftl0_packets.specs.declared.packet.Packet.{Packet}
@@ -17,7 +17,7 @@ use Rattle.file_store.specs.Store.{Store}
 use Rattle.ftl0_session.specs.Downloads.Table.{DownloadRow, DownloadState, Due, command_row, directory_row}
 use Rattle.ftl0_session.specs.Downloads.Table.{download_cmd_row, download_row, ended_row, listing, long_due, ready}
 use Rattle.ftl0_session.specs.Downloads.Table.{reply_sending, reply_waiting, select_row, sending, short_due, waiting}
-use Rattle.ftl0_session.specs.Downloads.Taking.{IsRow, Made, MakesRow, TakesByRow, made, made_by}
+use Rattle.ftl0_session.specs.Downloads.Taking.{Made, MakesRow, TakesByRow, made, made_by}
 
 -- a packet without a row in Ready
 pub no_row : (caller : CallSign) (store : Store) (lists : List CallerList) (p : Packet) (fails : Bool)
@@ -83,50 +83,42 @@ pub row_in_listing : (caller : CallSign) (store : Store) (lists : List CallerLis
 unfolding download_row
 row_in_listing caller store lists state dues p is = rw is refl
 
-module _ {D : Type 0} (g : Ghosts D) (caller : CallSign) (store : Store) (lists : List CallerList) (state : DownloadState) (p : PacketValue) (disk : D) (same : g.lasts disk disk) where
+module _ {D : Type 0} (g : Ghosts D) (row : Bool → Option DownloadRow) (before : Made) (disk : D) (same : g.lasts disk disk) where
   -- it has this row, for reads that failed or didn't
-  pub taken_reading : (disk_now : D) (now : Made) (row : Bool → DownloadRow) → ((fails : Bool) → download_row caller store lists state p fails ≡ Some (row fails))
-      → MakesRow g disk disk_now row now → TakesByRow g (download_row caller store lists state p) disk disk_now (made state lists []) now true
-  taken_reading disk_now now row is makes = record {
+  pub taken_reading : (disk_now : D) (now : Made) (given : Bool → DownloadRow) → ((fails : Bool) → row fails ≡ Some (given fails)) → MakesRow g disk disk_now given now
+      → TakesByRow g row disk disk_now before now true
+  taken_reading disk_now now given is makes = record {
     fails = makes.fails;
     reads = makes.reads;
-    told = λ failed. subst (λ (o : Option DownloadRow). IsSomeAnd o (λ r. r.replies ≡ dl_error_resp 3 ∷ [])) (sym (is makes.fails)) (makes.told failed);
-    is_row = subst (λ (o : Option DownloadRow). IsRow o true disk disk_now (made state lists []) now) (sym (is makes.fails)) (refl, makes.is_row);
+    told = λ failed. rw (is makes.fails) (makes.told failed);
+    is_row = rw (is makes.fails) (refl, makes.is_row);
   }
 
   -- it has this row, and nothing is read
-  pub taken_alone : (now : Made) (row : DownloadRow) → download_row caller store lists state p false ≡ Some row → now ≡ made_by row
-      → TakesByRow g (download_row caller store lists state p) disk disk (made state lists []) now true
-  taken_alone now row is makes = record {
+  pub taken_alone : (now : Made) (given : DownloadRow) → row false ≡ Some given → now ≡ made_by given → TakesByRow g row disk disk before now true
+  taken_alone now given is makes = record {
     fails = false;
     reads = reads_none g disk (false ≡ true) (λ e. cc e) same;
     told = λ failed. absurd (cc failed);
-    is_row = subst (λ (o : Option DownloadRow). IsRow o true disk disk (made state lists []) now) (sym is) (refl, makes);
+    is_row = rw is (refl, makes);
   }
 
   -- it has none
-  pub not_taken : download_row caller store lists state p false ≡ None → TakesByRow g (download_row caller store lists state p) disk disk (made state lists []) (made state lists []) false
+  pub not_taken : row false ≡ None → TakesByRow g row disk disk before before false
   not_taken is = record {
     fails = false;
     reads = reads_none g disk (false ≡ true) (λ e. cc e) same;
     told = λ failed. absurd (cc failed);
-    is_row = subst (λ (o : Option DownloadRow). IsRow o false disk disk (made state lists []) (made state lists [])) (sym is) (refl, refl, refl);
+    is_row = rw is (refl, refl, refl);
   }
 
-  -- a download ends by this reply, if there is one
-  pub ended_by : (reply : Option Packet) (now : DownloadState) (replies_before replies : List ℕ) (result : Bool)
-      → download_row caller store lists state p false ≡ option_map (ended_row lists) (option_map value_of reply) → replies_before ≡ []
-      → IfNone reply ((result ≡ false) × (now ≡ state) × (replies ≡ replies_before))
-      → IfSome reply (λ packet. (result ≡ true) × (now ≡ ready) × (replies ≡ packet_text (value_of packet)))
-      → TakesByRow g (download_row caller store lists state p) disk disk (made state lists []) (made now lists replies) result
-  ended_by None now replies_before replies result is empty none some =
-      let P : Bool → DownloadState → List ℕ → Type 0 = λ r n l. TakesByRow g (download_row caller store lists state p) disk disk (made state lists []) (made n lists l) r in
-      subst (λ (r : Bool). P r now replies) (sym none.0)
-      (subst (λ (n : DownloadState). P false n replies) (sym none.1)
-      (subst (λ (l : List ℕ). P false state l) (sym (none.2 ∙ empty)) (not_taken is)))
-  ended_by (Some packet) now replies_before replies result is empty none some =
-      let P : Bool → DownloadState → List ℕ → Type 0 = λ r n l. TakesByRow g (download_row caller store lists state p) disk disk (made state lists []) (made n lists l) r in
-      subst (λ (r : Bool). P r now replies) (sym some.0)
-      (subst (λ (n : DownloadState). P true n replies) (sym some.1)
-      (taken_alone (made ready lists replies) (ended_row lists (value_of packet)) is
-      (ap (λ (l : List ℕ). made ready lists l) (some.2 ∙ sym (append-nil (packet_text (value_of packet)))))))
+-- a download ends by this reply, if there is one
+pub ended_by : {D : Type 0} (g : Ghosts D) (row : Bool → Option DownloadRow) (lists : List CallerList) (state : DownloadState) (disk : D) → g.lasts disk disk → (reply : Option Packet) (now : DownloadState)
+    (replies_before replies : List ℕ) (result : Bool) → row false ≡ option_map (ended_row lists) (option_map value_of reply) → replies_before ≡ []
+    → IfNone reply ((result ≡ false) × (now ≡ state) × (replies ≡ replies_before)) → IfSome reply (λ packet. (result ≡ true) × (now ≡ ready) × (replies ≡ packet_text (value_of packet)))
+    → TakesByRow g row disk disk (made state lists []) (made now lists replies) result
+ended_by g row lists state disk same None now replies_before replies result is empty none some = rw (none.0, none.1, none.2 ∙ empty) (not_taken g row (made state lists []) disk same is)
+ended_by g row lists state disk same (Some packet) now replies_before replies result is empty none some =
+    rw (some.0, some.1)
+    (taken_alone g row (made state lists []) disk same (made ready lists replies) (ended_row lists (value_of packet)) is
+    (ap (λ (l : List ℕ). made ready lists l) (some.2 ∙ sym (append-nil (packet_text (value_of packet))))))

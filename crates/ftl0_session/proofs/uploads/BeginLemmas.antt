@@ -141,7 +141,7 @@ module _ {D : Type 0} (g : Ghosts D) (caller : CallSign) (moment len : ℕ) (bef
       subst (λ (r : Result ⊤ Halt). Gives-it now disk_now replies r) (sym answer.0)
       (record {
         answers = (granted_row caller moment (store_in before).next len, row, refl, answer.1);
-        on_disk = does-row g caller moment command (Ok (upload_cmd 0 len)) before now disk disk_now _ ⊤ (granted_row caller moment (store_in before).next len) row (λ failed. tt) (λ failed. refl) done;
+        on_disk = does-row g _ _ _ _ _ _ ⊤ _ row (λ failed. tt) (λ failed. refl) done;
         untouched = touched disk disk_now _ (granted_row caller moment (store_in before).next len) row (some-at_front (begin (store_in before).next caller len moment) []);
         held = tt;
         only = unbegun-only caller moment len before now is rests still ready.only;

@@ -1,5 +1,5 @@
 -- What a packet does to the store's disk.
-use Rattle.std.proofs.Common.{◌≡◌, ℕ, List, [], ◌∷◌, ◌++◌, refl, ap, sym, ◌∙◌, subst, Option, Some, IfSome, true, false}
+use Rattle.std.proofs.Common.{◌≡◌, ℕ, List, [], ◌∷◌, ◌++◌, refl, sym, subst, Option, Some, IfSome, true, false}
 use Rattle.std.specs.Prelude.{⊤, Result, Ok, Err, IsErrOf}
 use Rattle.px_base.specs.CallSign.{CallSign}
 use Rattle.disk_model.specs.declared.disk.Disk.{Ghosts}
@@ -16,8 +16,8 @@ use Rattle.disk_model.specs.declared.halt.Halt.{Halt}
 use Rattle.disk_model.specs.declared.halt.Halt.TheVariants as stop
 use Rattle.ftl0_session.specs.Uploads.Session.{Row, State, session_row}
 use Rattle.ftl0_session.specs.Uploads.Taking.{Answered, AnsweredAlone, Answers, DoesRow, LeavesDisk, PutsRow, row_of}
-use Rattle.ftl0_session.specs.Uploads.Events.{packet_of}
-use Rattle.ftl0_session.specs.Uploads.SessionState.{with_disk}
+use Rattle.ftl0_session.specs.Uploads.Events.{CallerPacket, packet_of}
+use Rattle.ftl0_session.specs.Uploads.SessionState.{WithDisk, with_disk}
 
 -- the answer that is this stop
 abbrev stopped : Halt → Result ⊤ Halt
@@ -36,11 +36,9 @@ module _ {D : Type 0} (g : Ghosts D) where
   does-at P before now disk disk_now these those same does = subst (λ (cs : List Command). Does g P before now disk disk_now cs) same does
 
   -- by its row
-  pub does-row : (caller : CallSign) (moment : ℕ) (state : State) (item : Item) (before now : StoreState) (disk disk_now : D) (P Q : Type 0) (row : Row)
-      → session_row caller moment (store_in before) state item ≡ Some row → (P → Q) → (Q → P) → Does g P before now disk disk_now row.commands
-      → DoesRow g Q before now disk disk_now (row_of (packet_of caller moment item) before state)
-  does-row caller moment state item before now disk disk_now P Q row is there back does =
-      subst (λ (o : Option Row). IfSome o (λ r. Does g Q before now disk disk_now r.commands)) (sym is) (Does-same g P Q before now disk disk_now row.commands there back does)
+  pub does-row : (o : Option Row) (before now : StoreState) (disk disk_now : D) (P Q : Type 0) (row : Row) → o ≡ Some row → (P → Q) → (Q → P) → Does g P before now disk disk_now row.commands
+      → DoesRow g Q before now disk disk_now o
+  does-row o before now disk disk_now P Q row is there back does = rw is (Does-same g P Q before now disk disk_now row.commands there back does)
 
   on_disk-alone : (caller : CallSign) (moment : ℕ) (state : State) (item : Item) (before now : StoreState) (disk : D) (result : Result ⊤ Halt)
       → ¬ IsErrOf result stop.Disk → IfSome (session_row caller moment (store_in before) state item) (λ row. row.commands ≡ [])
@@ -67,35 +65,19 @@ module _ {D : Type 0} (g : Ghosts D) where
   }
 
   -- What stands after a packet, whatever the answer.
-  module _ (caller : CallSign) (moment : ℕ) (state : State) (item : Item) (before now : StoreState) (disk disk_now : D) (next : State) (replies : List ℕ) where
-    pub after-puts : (result : Result ⊤ Halt) → g.lasts disk disk → Answers (packet_of caller moment item) before state now next replies result
-        → PutsRow g before now disk disk_now (row_of (packet_of caller moment item) before state) result → Puts g (IsErrOf result stop.Disk) disk disk_now
-    after-puts (Ok done) lasts answers on_disk =
-        puts_same g disk disk_now ⊥ _ (λ never. absurd never) (λ e. cc e) (at_told (λ row. Does g ⊥ before now disk disk_now row.commands) answers.0 answers.1 on_disk).puts
-    after-puts (Err stop.Disk) lasts answers on_disk =
-        puts_same g disk disk_now ⊤ _ (λ failed. refl) (λ failed. tt) (at_told (λ row. Does g ⊤ before now disk disk_now row.commands) answers.0 answers.1 on_disk).puts
-    after-puts (Err stop.OutOfMemory) lasts answers on_disk =
-        let fine : ¬ IsErrOf (stopped stop.OutOfMemory) stop.Disk = λ e. cc e in
-        subst (λ (d : D). Puts g (IsErrOf (stopped stop.OutOfMemory) stop.Disk) disk d) (sym on_disk) (puts_none g disk (IsErrOf (stopped stop.OutOfMemory) stop.Disk) fine lasts)
-
-    pub after-failed : (result : Result ⊤ Halt) → Answers (packet_of caller moment item) before state now next replies result
-        → PutsRow g before now disk disk_now (row_of (packet_of caller moment item) before state) result → IsErrOf result stop.Disk → now.journal.failed ≡ true
-    after-failed (Ok done) answers on_disk e = absurd (cc e)
-    after-failed (Err stop.Disk) answers on_disk e = ((at_told (λ row. Does g ⊤ before now disk disk_now row.commands) answers.0 answers.1 on_disk).cut tt).failed
-    after-failed (Err stop.OutOfMemory) answers on_disk e = absurd (cc e)
-
-    pub after-healthy : (result : Result ⊤ Halt) → before.journal.failed ≡ false → Answers (packet_of caller moment item) before state now next replies result
-        → PutsRow g before now disk disk_now (row_of (packet_of caller moment item) before state) result → ¬ IsErrOf result stop.Disk → now.journal.failed ≡ false
-    after-healthy (Ok done) healthy answers on_disk fine = ((at_told (λ row. Does g ⊥ before now disk disk_now row.commands) answers.0 answers.1 on_disk).done (λ never. never)).1
-    after-healthy (Err stop.Disk) healthy answers on_disk fine = absurd (fine refl)
-    after-healthy (Err stop.OutOfMemory) healthy answers on_disk fine = ap (λ (s : StoreState). s.journal.failed) answers.3.0 ∙ healthy
-
-    pub after-stands : (result : Result ⊤ Halt) → StandsOn g before disk → Answers (packet_of caller moment item) before state now next replies result
-        → PutsRow g before now disk disk_now (row_of (packet_of caller moment item) before state) result → StandsOn g now disk_now
-    after-stands (Ok done) stands answers on_disk = (at_told (λ row. Does g ⊥ before now disk disk_now row.commands) answers.0 answers.1 on_disk).stands_on
-    after-stands (Err stop.Disk) stands answers on_disk = (at_told (λ row. Does g ⊤ before now disk disk_now row.commands) answers.0 answers.1 on_disk).stands_on
-    after-stands (Err stop.OutOfMemory) stands answers on_disk =
-        subst (λ (s : StoreState). StandsOn g s disk_now) (sym answers.3.0) (subst (λ (d : D). StandsOn g before d) (sym on_disk) stands)
+  pub after-packet : (packet : CallerPacket) (state next : State) (before now : WithDisk StoreState D) (replies : List ℕ) (result : Result ⊤ Halt) → g.lasts before.disk before.disk
+      → before.it.journal.failed ≡ false → StandsOn g before.it before.disk → Answers packet before.it state now.it next replies result
+      → PutsRow g before.it now.it before.disk now.disk (row_of packet before.it state) result
+      → Puts g (IsErrOf result stop.Disk) before.disk now.disk × (IsErrOf result stop.Disk → now.it.journal.failed ≡ true)
+      × (¬ IsErrOf result stop.Disk → now.it.journal.failed ≡ false) × StandsOn g now.it now.disk
+  after-packet packet state next before now replies (Ok done) lasts healthy stands answers on_disk =
+      let does = at_told (λ row. Does g ⊥ before.it now.it before.disk now.disk row.commands) answers.0 answers.1 on_disk in
+      (puts_same g before.disk now.disk ⊥ _ (λ never. absurd never) (λ e. cc e) does.puts, λ e. absurd (cc e), λ fine. (does.done (λ never. never)).1, does.stands_on)
+  after-packet packet state next before now replies (Err stop.Disk) lasts healthy stands answers on_disk =
+      let does = at_told (λ row. Does g ⊤ before.it now.it before.disk now.disk row.commands) answers.0 answers.1 on_disk in
+      (puts_same g before.disk now.disk ⊤ _ (λ failed. refl) (λ failed. tt) does.puts, λ e. (does.cut tt).failed, λ fine. absurd (fine refl), does.stands_on)
+  after-packet packet state next before now replies (Err stop.OutOfMemory) lasts healthy stands answers on_disk =
+      rw (on_disk, answers.3.0) (puts_none g before.disk _ (λ e. cc e) lasts, λ e. absurd (cc e), λ fine. healthy, stands)
 
 -- a row with commands may touch the disk
 pub touched : {D : Type 0} (disk disk_now : D) (o : Option Row) (row : Row) → o ≡ Some row → (row.commands ≡ [] → ⊥) → LeavesDisk disk disk_now o

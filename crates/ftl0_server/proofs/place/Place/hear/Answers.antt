@@ -47,9 +47,7 @@ returns-in_default-clause-hears g c = λ w connected is.
     let talks = rw c.in-Talking.is at is in
     let heard = c.hear-fate.ensures.hears w connected (record { link = talks.0; rest = talks.1.rest; state = talks.1.state }) in
     let event = with_reads (hearing w c.args.moment (store_in c.args.store.now) c.args.lists.now connected (value_of c.args.frame.now)) heard.parts in
-    let stays =
-    subst (λ (f : Fate). HearsBy g.D.Disk w event (with_disk c.args.store.now c.args.disk.now) (working_on c.hear-fate.new.store c.hear-fate.new.lists c.hear-fate.new.disk) c.hear-fate.new.self f c.hear-fate.result.1)
-    c.in_default.is heard.by in
+    let stays = rw c.in_default.is at heard.by in
     record {
       parts = heard.parts;
       by = heard-going g.D.Disk w event c.args.store.now c.hear-fate.new.store c.hear-fate.new.lists c.args.disk.now c.hear-fate.new.disk c.hear-fate.new.self c.hear-fate.result.1 stays;

@@ -15,13 +15,13 @@ use Rattle.ftl0_server.proofs.server.Server.answer.Goals as goal
 
 pub returns-in_default-clause-heard : goal.returns-in_default-clause-heard
 returns-in_default-clause-heard c = λ server is.
-    let was = subst (λ (s : ServerState). IsServer s server) (sym c.self.view_is) is in
+    let was = rw (sym c.self.view_is) at is in
     subst (λ (o : Option ℕ). IsServer c.refuse.new.self (called_by server c.args.caller c.args.poll c.args.moment o))
     (c.in_default.ensures ∙ same-first_empty (server_state c.self.inside) server was) (c.refuse.ensures.refuses server is)
 
 pub returns-in-Ok-clause-heard : goal.returns-in-Ok-clause-heard
 returns-in-Ok-clause-heard c = λ server is.
-    let was = subst (λ (s : ServerState). IsServer s server) (sym c.self.view_is) is in
+    let was = rw (sym c.self.view_is) at is in
     let answered = c.in-Ok.ensures.connection c.args.self.now.store in
     let with_window =
     subst (λ (w : Window). IsConnection w c.args.self.now.store c.in-Ok.connection (answering c.self.inside.me c.args.caller c.args.poll c.args.moment (has_left c.self.inside.lists c.args.caller)))

@@ -1,15 +1,12 @@
 -- The frame is heard at the place of its sender's connection.
-use Rattle.std.proofs.Common.{◌≡◌, get_or, set, false, Some, refl, subst, sym, ◌∙◌}
-use Rattle.std.specs.List.{position}
+use Rattle.std.proofs.Common.{get_or, set, refl, ap, subst, sym, ◌∙◌}
 use Rattle.std.proofs.lemmas.Option.{slice_get-get_or}
 use Rattle.ax25_frames.specs.Values.{value_of}
 use Rattle.ax25_link.specs.Kept.{is_there}
-use Rattle.ftl0_server.specs.AtPlace.{IsPlace, Works}
-use Rattle.ftl0_server.specs.Calls.{Hears}
+use Rattle.ftl0_server.specs.AtPlace.{IsPlace}
 use Rattle.ftl0_server.specs.declared.place.Place.{Place}
 use Rattle.ftl0_server.specs.Kept.{server_state}
-use Rattle.ftl0_server.specs.Server.{server_hearing}
-use Rattle.ftl0_server.specs.ServerState.{IsServer, ServerState, any_pending, has_caller, server_pending}
+use Rattle.ftl0_server.specs.ServerState.{ServerState, any_pending, has_caller}
 use Rattle.ftl0_server.specs.Slots.{connected}
 use Rattle.ftl0_server.proofs.HearLemmas.{found-at, found-talks, found-within, may-hear, server-hears}
 use Rattle.ftl0_server.proofs.NextLemmas.{none_first}
@@ -18,17 +15,14 @@ use Rattle.ftl0_server.proofs.server.Server.hear_at.Goals as goal
 
 pub hear-requires-clause-may : goal.hear-requires-clause-may
 hear-requires-clause-may g c =
-    let found : position (has_caller (value_of c.args.frame.now).src) c.self.inside.places ≡ Some c.args.place =
-    subst (λ (s : ServerState). position (has_caller (value_of c.args.frame.now).src) s.places ≡ Some c.args.place) (sym c.self.view_is) c.requires.place in
-    let silent = subst (λ (s : ServerState). server_pending s ≡ false) (sym c.self.view_is) c.requires.silent in
-    let none = (none_first (is_there c.self.inside.stray) (any_pending c.self.inside.places) silent).1 in
+    let found = rw (sym c.self.view_is) at c.requires.place in
+    let none = (none_first (is_there c.self.inside.stray) (any_pending c.self.inside.places) (rw (sym c.self.view_is) at c.requires.silent)).1 in
     may-hear c.self.inside.me c.self.inside.k c.self.inside.store c.self.inside.places c.args.place c.index-places-place.result (value_of c.args.frame.now) found c.self.invariant.settled none
-    (record { dest = c.requires.frame.dest ∙ subst (λ (s : ServerState). s.me ≡ c.self.inside.me) c.self.view_is refl; via = c.requires.frame.via }) c.requires.numbers
+    (record { dest = c.requires.frame.dest ∙ sym (ap (λ (s : ServerState). s.me) c.self.view_is); via = c.requires.frame.via }) c.requires.numbers
 
 pub invariant_of-self : goal.invariant_of-self
 invariant_of-self g c =
-    let found : position (has_caller (value_of c.args.frame.now).src) c.self.inside.places ≡ Some c.args.place =
-    subst (λ (s : ServerState). position (has_caller (value_of c.args.frame.now).src) s.places ≡ Some c.args.place) (sym c.self.view_is) c.requires.place in
+    let found = rw (sym c.self.view_is) at c.requires.place in
     let within = found-within (has_caller (value_of c.args.frame.now).src) c.self.inside.places c.args.place found in
     record {
       settled =
@@ -40,16 +34,13 @@ invariant_of-self g c =
 
 pub returns-clause-hears : goal.returns-clause-hears
 returns-clause-hears g c = λ server is.
-    let old : ServerState = server_state c.self.inside in
-    let new : ServerState = record old { places = set c.self.inside.places c.args.place c.hear.new.self; store = c.hear.new.store; lists = c.hear.new.lists } in
-    let was = subst (λ (s : ServerState). IsServer s server) (sym c.self.view_is) is in
+    let new : ServerState = record (server_state c.self.inside) { places = set c.self.inside.places c.args.place c.hear.new.self; store = c.hear.new.store; lists = c.hear.new.lists } in
+    let was = rw (sym c.self.view_is) at is in
     let frame = value_of c.args.frame.now in
-    let found : position (has_caller (value_of c.args.frame.now).src) c.self.inside.places ≡ Some c.args.place =
-    subst (λ (s : ServerState). position (has_caller (value_of c.args.frame.now).src) s.places ≡ Some c.args.place) (sym c.self.view_is) c.requires.place in
+    let found = rw (sym c.self.view_is) at c.requires.place in
     let talks = found-talks frame.src c.self.inside.places c.args.place c.index-places-place.result found in
     let at = found-at frame.src c.self.inside.places c.args.place c.index-places-place.result talks.0 found talks.1 in
-    let heard : Hears g.D.Disk (server_hearing server (value_of c.args.frame.now) c.args.moment) (server_state c.self.inside) new c.args.disk.now c.hear.new.disk c.hear.result =
-    server-hears g.D.Disk (server_state c.self.inside) new server was c.self.invariant.settled (value_of c.args.frame.now) c.args.moment c.args.disk.now c.hear.new.disk c.args.place found talks.0 at
-    c.hear.new.self (subst (λ (p : Place). Works c.self.inside.store c.hear.new.store p c.hear.new.self) talks.1 c.hear.ensures.works) refl refl refl refl c.hear.result
-    (λ w d at_d. c.hear.ensures.hears w d (subst (λ (p : Place). IsPlace w c.self.inside.store p (connected d)) (sym talks.1) at_d)) in
-    subst (λ (s : ServerState). Hears g.D.Disk (server_hearing server (value_of c.args.frame.now) c.args.moment) s new c.args.disk.now c.hear.new.disk c.hear.result) c.self.view_is heard
+    rw (sym c.self.view_is)
+    (server-hears g.D.Disk (server_state c.self.inside) new server was c.self.invariant.settled frame c.args.moment c.args.disk.now c.hear.new.disk c.args.place found talks.0 at c.hear.new.self
+    (rw talks.1 at c.hear.ensures.works) refl refl refl refl c.hear.result
+    (λ w d at_d. c.hear.ensures.hears w d (subst (λ (p : Place). IsPlace w c.self.inside.store p (connected d)) (sym talks.1) at_d)))

@@ -1,11 +1,10 @@
 -- The DM to a station without a connection comes first, then the places' frames.
-use Rattle.std.proofs.Common.{◌≡◌, None, true, false, List, refl, sym, ◌∙◌, ap, subst}
-use Rattle.ftl0_server.specs.Calls.{HandsOut, SameButLinks}
+use Rattle.std.proofs.Common.{◌≡◌, None, false, List, refl, sym, ◌∙◌, ap, subst}
 use Rattle.ftl0_server.specs.declared.place.Place.{Place}
 use Rattle.ftl0_server.specs.declared.server.Server.TheInside.{Inside}
 use Rattle.ftl0_server.specs.Kept.{server_state}
-use Rattle.ftl0_server.specs.Server.{server_next, settled}
-use Rattle.ftl0_server.specs.ServerState.{IsServer, SendsFor, ServerState, any_pending}
+use Rattle.ftl0_server.specs.Server.{settled}
+use Rattle.ftl0_server.specs.ServerState.{IsServer, ServerState, any_pending}
 use Rattle.ftl0_server.proofs.NextLemmas.{same_places}
 use Rattle.ftl0_server.proofs.OutLemmas.{places-out-next, places-out-sends, settled-same, settles, stray-out}
 use Rattle.ftl0_server.proofs.server.Server.next_out.Goals as goal
@@ -16,7 +15,7 @@ as_state a places = record (server_state a) { places = places }
 
 pub returns-in-Some-clause-next : goal.returns-in-Some-clause-next
 returns-in-Some-clause-next c = λ server is.
-    let was = subst (λ (s : ServerState). IsServer s server) (sym c.self.view_is) is in
+    let was = rw (sym c.self.view_is) at is in
     let new : ServerState = record (server_state c.self.inside) { stray = None } in
     let stands : IsServer new (record server { stray = None }) = record {
       sends = record { me = was.sends.me; window = was.sends.window; stray = refl; links = was.sends.links };
@@ -24,14 +23,14 @@ returns-in-Some-clause-next c = λ server is.
       store = was.store;
       lists = was.lists;
     } in
-    subst (λ (s : ServerState). HandsOut IsServer (server_next server) s new c.args.out.now.items c.write.new.out.items true) c.self.view_is
+    rw (sym c.self.view_is)
     (stray-out IsServer (server_state c.self.inside) new server c.in-Some.stray c.args.out.now.items c.write.new.out.items was.sends.me was.sends.stray
     c.in-Some.is stands c.write.ensures.octets c.write.ensures.text)
 
 pub returns-in-Some-clause-same : goal.returns-in-Some-clause-same
 returns-in-Some-clause-same c =
     let new : ServerState = record (server_state c.self.inside) { stray = None } in
-    subst (λ (s : ServerState). SameButLinks s new) c.self.view_is
+    rw (sym c.self.view_is)
     (record { me = refl; k = refl; places = same_places c.self.inside.places; store = refl; lists = refl })
 
 pub invariant_of-self-in-None : goal.invariant_of-self-in-None
@@ -43,25 +42,25 @@ invariant_of-self-in-None c = record {
 
 pub returns-in-None-clause-sends : goal.returns-in-None-clause-sends
 returns-in-None-clause-sends c = λ server is.
-    let was = subst (λ (s : ServerState). SendsFor s server) (sym c.self.view_is) is in
+    let was = rw (sym c.self.view_is) at is in
     let new : ServerState = record (server_state c.self.inside) { places = c.next_of.new.places } in
-    subst (λ (s : ServerState). HandsOut SendsFor (server_next server) s new c.args.out.now.items c.next_of.new.out.items c.next_of.result) c.self.view_is
+    rw (sym c.self.view_is)
     (places-out-sends (server_state c.self.inside) new server c.args.out.now.items c.next_of.new.out.items c.next_of.result refl refl refl refl refl c.next_of.ensures.same
     (λ no. (ap (λ (ps : List Place). as_state c.self.inside ps) (c.next_of.ensures.none no).0, (c.next_of.ensures.none no).1))
     c.in-None.is was (c.next_of.ensures.gives server.window server.slots was.links))
 
 pub returns-in-None-clause-next : goal.returns-in-None-clause-next
 returns-in-None-clause-next c = λ server is.
-    let was = subst (λ (s : ServerState). IsServer s server) (sym c.self.view_is) is in
+    let was = rw (sym c.self.view_is) at is in
     let new : ServerState = record (server_state c.self.inside) { places = c.next_of.new.places } in
-    subst (λ (s : ServerState). HandsOut IsServer (server_next server) s new c.args.out.now.items c.next_of.new.out.items c.next_of.result) c.self.view_is
+    rw (sym c.self.view_is)
     (places-out-next (server_state c.self.inside) new server c.args.out.now.items c.next_of.new.out.items c.next_of.result refl refl refl refl refl c.next_of.ensures.same
     (λ no. (ap (λ (ps : List Place). as_state c.self.inside ps) (c.next_of.ensures.none no).0, (c.next_of.ensures.none no).1))
     c.in-None.is was (c.next_of.ensures.gives server.window server.slots was.sends.links))
 
 pub returns-in-None-clause-settles : goal.returns-in-None-clause-settles
 returns-in-None-clause-settles c = λ no server is.
-    let was = subst (λ (s : ServerState). IsServer s server) (sym c.self.view_is) is in
+    let was = rw (sym c.self.view_is) at is in
     let none : any_pending c.self.inside.places ≡ false = sym c.next_of.ensures.pending ∙ no in
     let same = ap (λ (ps : List Place). as_state c.self.inside ps) (c.next_of.ensures.none no).0 in
     subst (λ (s : ServerState). IsServer s (settled server)) (sym same) (settles (server_state c.self.inside) server none was)

@@ -1,13 +1,11 @@
 -- The place has no session, and no place has the caller.
-use Rattle.std.proofs.Common.{◌≡◌, get_or, None, Some, subst, sym, ◌∙◌, ap}
-use Rattle.std.specs.List.{position}
+use Rattle.std.proofs.Common.{get_or, sym, ◌∙◌, ap}
 use Rattle.std.proofs.lemmas.Option.{same_Some, slice_get-get_or}
 use Rattle.ftl0_session.specs.Uploads.SessionState.{number_of}
 use Rattle.ftl0_session.specs.SessionState.{SessionState, caller_of}
-use Rattle.ftl0_server.specs.Calls.{IsNew}
 use Rattle.ftl0_server.specs.declared.place.Place.TheVariants.{Talking}
 use Rattle.ftl0_server.specs.Kept.{server_state}
-use Rattle.ftl0_server.specs.ServerState.{ServerState, has_caller, is_empty_place}
+use Rattle.ftl0_server.specs.ServerState.{is_empty_place}
 use Rattle.ftl0_server.proofs.HearLemmas.{found-passes, found-within}
 use Rattle.ftl0_server.proofs.SeatLemmas.{empty-none, new-seated, nobody, settled-seat}
 use Rattle.ftl0_server.proofs.server.Server.seat.Goals as goal
@@ -15,18 +13,16 @@ use Rattle.ftl0_server.proofs.server.Server.seat.Goals as goal
 pub put-requires : goal.put-requires
 put-requires c =
     found-passes is_empty_place c.self.inside.places c.args.place c.index-places-place.result
-    (subst (λ (s : ServerState). position is_empty_place s.places ≡ Some c.args.place) (sym c.self.view_is) c.requires.empty)
+    (rw (sym c.self.view_is) at c.requires.empty)
 
 pub invariant_of-self : goal.invariant_of-self
 invariant_of-self c =
-    let found : position is_empty_place c.self.inside.places ≡ Some c.args.place =
-    subst (λ (s : ServerState). position is_empty_place s.places ≡ Some c.args.place) (sym c.self.view_is) c.requires.empty in
+    let found = rw (sym c.self.view_is) at c.requires.empty in
     let within = found-within is_empty_place c.self.inside.places c.args.place found in
     let at = slice_get-get_or c.self.inside.places c.args.place c.index-places-place.result within in
     let empty = found-passes is_empty_place c.self.inside.places c.args.place c.index-places-place.result found in
-    let stranger : position (has_caller (caller_of c.args.connection.session)) c.self.inside.places ≡ None =
-    subst (λ (s : ServerState). position (has_caller (caller_of c.args.connection.session)) s.places ≡ None) (sym c.self.view_is) c.requires.stranger in
-    let new = subst (λ (s : ServerState). IsNew s c.args.connection) (sym c.self.view_is) c.requires.new in
+    let stranger = rw (sym c.self.view_is) at c.requires.stranger in
+    let new = rw (sym c.self.view_is) at c.requires.new in
     let seated = settled-seat c.self.inside.me c.self.inside.k c.self.inside.store c.self.inside.places c.args.place c.args.connection within
     (λ e there. empty-none (get_or c.self.inside.places c.args.place c.index-places-place.result) empty e (same_Some (get_or c.self.inside.places c.args.place c.index-places-place.result) (Talking e) (sym at ∙ there)))
     c.self.invariant.settled (nobody (caller_of c.args.connection.session) c.self.inside.places stranger) (new-seated (server_state c.self.inside) c.args.connection new)

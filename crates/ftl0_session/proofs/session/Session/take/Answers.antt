@@ -1,15 +1,11 @@
 -- A session takes a packet as its parts do.
-use Rattle.std.proofs.Common.{sym, subst}
-use Rattle.ftl0_packets.specs.Values.{item_of}
-use Rattle.ftl0_session.specs.SessionState.{MayTake, SessionState, caller_of, session_of, working_on}
-use Rattle.ftl0_session.specs.Taking.{Taken}
-use Rattle.ftl0_session.specs.Uploads.Events.{packet_of}
+use Rattle.std.proofs.Common.{ap}
+use Rattle.ftl0_session.specs.SessionState.{caller_of}
 use Rattle.ftl0_session.proofs.session.Session.take.Goals as goal
 
 pub take_packet-requires-clause-may : goal.take_packet-requires-clause-may
 take_packet-requires-clause-may g c =
-    let P : SessionState → Type 0 = λ s. MayTake g.D.Disk c.args.store.now c.args.disk.now c.args.lists.now s in
-    subst P (sym c.self.view_is)
+    rw c.self.view_is
     (record {
       healthy = c.requires.healthy;
       stands_on = c.requires.stands_on;
@@ -21,8 +17,7 @@ take_packet-requires-clause-may g c =
 
 pub returns : goal.returns
 returns g c =
-    let P : SessionState → Type 0 = λ s. Taken g.D.Disk (packet_of (caller_of s) c.args.moment (item_of c.args.packet)) s (session_of c.take_packet.new.uploads c.take_packet.new.downloads) (working_on c.args.store.now c.args.lists.now c.args.disk.now) (working_on c.take_packet.new.store c.take_packet.new.lists c.take_packet.new.disk) c.take_packet.new.replies.items c.take_packet.result in
-    let all = subst P c.self.view_is c.take_packet.ensures.taken in
+    let all = rw (c.self.view_is, ap caller_of c.self.view_is) at c.take_packet.ensures.taken in
     record {
       takes = all.takes;
       untouched = all.untouched;

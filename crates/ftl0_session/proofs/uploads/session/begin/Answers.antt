@@ -1,12 +1,11 @@
 -- A new file: its row, or the answer to a refusal.
 use Rattle.std.proofs.Common.{◌≡◌, ℕ, [], ◌∷◌, refl, ap, sym, ◌∙◌, subst, Some, true≢false}
-use Rattle.ftl0_packets.specs.Layout.{ul_go_resp, upload_cmd}
-use Rattle.std.specs.Prelude.{Ok}
+use Rattle.ftl0_packets.specs.Layout.{ul_go_resp}
 use Rattle.file_store.specs.Command.{begin}
 use Rattle.file_store.specs.State.{store_in}
 use Rattle.file_store.specs.Upload.{Upload}
 use Rattle.ftl0_packets.specs.Items.{texts}
-use Rattle.ftl0_session.specs.Uploads.Session.{command, granted_row}
+use Rattle.ftl0_session.specs.Uploads.Session.{granted_row}
 use Rattle.ftl0_session.specs.Uploads.SessionState.{NoOtherOut}
 use Rattle.ftl0_session.proofs.uploads.BeginLemmas.{begin-refused, begun-only, begun-others}
 use Rattle.ftl0_session.proofs.uploads.DoesLemmas.{does-row, some-at_front, touched}
@@ -30,12 +29,8 @@ returns-in-Ok g c =
           c.go_on.ensures ∙ ap (λ (n : ℕ). texts (ul_go_resp n 0 ∷ [])) (c.number.ensures ∙ number),
         ),
       );
-      on_disk =
-          does-row g.D.Disk c.args.caller c.args.moment command (Ok (upload_cmd 0 c.args.length)) c.args.store.now c.begin.new.self c.args.disk.now c.begin.new.disk _ ⊥
-          (granted_row c.args.caller c.args.moment (store_in c.args.store.now).next c.args.length) row (λ e. absurd (true≢false (sym e))) (λ never. absurd never) does;
-      untouched =
-          touched c.args.disk.now c.begin.new.disk _ (granted_row c.args.caller c.args.moment (store_in c.args.store.now).next c.args.length) row
-          (some-at_front (begin (store_in c.args.store.now).next c.args.caller c.args.length c.args.moment) []);
+      on_disk = does-row g.D.Disk _ _ _ _ _ _ ⊥ _ row (λ e. absurd (true≢false (sym e))) (λ never. absurd never) does;
+      untouched = touched _ _ _ _ row (some-at_front (begin (store_in c.args.store.now).next c.args.caller c.args.length c.args.moment) []);
       held = (c.in-Ok.ensures.holds.0, ap (λ (u : Upload). u.caller) c.in-Ok.ensures.upload);
       only =
           subst (λ (n : ℕ). NoOtherOut c.begin.new.self c.args.caller (Some n)) (sym number)

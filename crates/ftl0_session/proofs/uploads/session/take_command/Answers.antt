@@ -1,13 +1,10 @@
 -- Each packet in Command, by its row.
-use Rattle.std.proofs.Common.{refl, sym, subst}
+use Rattle.std.proofs.Common.{refl}
 use Rattle.std.specs.Prelude.{Ok}
-use Rattle.ftl0_packets.specs.Layout.{Item, upload_cmd}
+use Rattle.ftl0_packets.specs.Layout.{upload_cmd}
 use Rattle.file_store.specs.State.{store_in}
 use Rattle.ftl0_session.specs.declared.uploads.phase.Phase.TheVariants as phase
 use Rattle.ftl0_session.specs.Uploads.Session.{command}
-use Rattle.ftl0_session.specs.Uploads.Taking.{Answered}
-use Rattle.ftl0_session.specs.Uploads.Events.{packet_of}
-use Rattle.ftl0_session.specs.Uploads.SessionState.{with_disk}
 use Rattle.ftl0_session.proofs.uploads.DoesLemmas.{answered-alone}
 use Rattle.ftl0_session.proofs.uploads.Rows.{alone-refused, error-command}
 use Rattle.ftl0_session.proofs.uploads.session.take_command.Goals as goal
@@ -15,8 +12,7 @@ use Rattle.ftl0_session.proofs.uploads.session.take_command.Goals as goal
 pub returns-in-Upload : goal.returns-in-Upload
 returns-in-Upload g c = λ item is.
     let same = rw c.in-Upload.is at is in
-    let P : Item → Type 0 = λ i. Answered g.D.Disk (packet_of c.args.caller c.args.moment i) command (with_disk c.args.store.now c.args.disk.now) (with_disk c.resume.new.store c.args.disk.now) c.resume.new.replies.items c.resume.result in
-    subst P (sym same)
+    rw same
     (answered-alone g.D.Disk c.args.caller c.args.moment command (Ok (upload_cmd c.in-Upload.number c.in-Upload.length)) c.args.store.now c.resume.new.store c.args.disk.now _ _
     c.requires.ready.healthy c.requires.ready.stands_on (g.met.D.Disk.lasts_same c.args.disk.now) (c.resume.ensures c.args.moment))
 

@@ -35,11 +35,8 @@ returns-in-Ok g c = λ moment.
           c.requires.empty,
         ),
       );
-      on_disk =
-          does-row g.D.Disk c.args.caller moment (receiving_of c.args.store.now c.args.up) (Ok (data_part c.args.octets.now)) c.args.store.now c.append.new.self c.args.disk.now c.append.new.disk _ ⊥
-          (taken_row c.args.up.number (with_bytes c.args.store.now c.args.up c.args.octets.now)) row (λ e. absurd (true≢false (sym e))) (λ never. absurd never) does;
-      untouched =
-          as-it-was c.args.disk.now c.append.new.disk _ (taken_row c.args.up.number (with_bytes c.args.store.now c.args.up c.args.octets.now)) row does.none;
+      on_disk = does-row g.D.Disk _ _ _ _ _ _ ⊥ _ row (λ e. absurd (true≢false (sym e))) (λ never. absurd never) does;
+      untouched = as-it-was _ _ _ _ row does.none;
       held = (c.in-Ok.ensures.holds, ap (λ (u : Upload). u.caller) c.in-Ok.ensures.upload ∙ c.requires.ready.held.1);
       only =
           subst (λ (n : ℕ). NoOtherOut c.append.new.self c.args.caller (Some n)) (sym number)
@@ -83,11 +80,8 @@ returns-in-Err-Disk g c = λ moment.
     (are-grows c.args.up.number _ (with_bytes c.args.store.now c.args.up c.args.octets.now)) cut.state in
     record {
       answers = (taken_row c.args.up.number (with_bytes c.args.store.now c.args.up c.args.octets.now), row, refl, c.write_packet-in-Err-Disk.ensures.text);
-      on_disk =
-          does-row g.D.Disk c.args.caller moment (receiving_of c.args.store.now c.args.up) (Ok (data_part c.args.octets.now)) c.args.store.now c.append.new.self c.args.disk.now c.append.new.disk _ ⊤
-          (taken_row c.args.up.number (with_bytes c.args.store.now c.args.up c.args.octets.now)) row (λ failed. tt) (λ failed. refl) does;
-      untouched =
-          as-it-was c.args.disk.now c.append.new.disk _ (taken_row c.args.up.number (with_bytes c.args.store.now c.args.up c.args.octets.now)) row does.none;
+      on_disk = does-row g.D.Disk _ _ _ _ _ _ ⊤ _ row (λ failed. tt) (λ failed. refl) does;
+      untouched = as-it-was _ _ _ _ row does.none;
       held = tt;
       only = only-none c.args.store.now c.append.new.self c.args.up.number c.args.caller touches c.in-Err-Disk.ensures.rests c.requires.ready.only (spent refl);
       others =
@@ -107,8 +101,7 @@ returns-in-Err-OutOfMemory g c = λ moment.
     (record {
       answers = (taken_row c.args.up.number (with_bytes c.args.store.now c.args.up c.args.octets.now), row, refl, (refl, refl, c.requires.empty));
       on_disk = refl;
-      untouched =
-          as-it-was c.args.disk.now c.args.disk.now _ (taken_row c.args.up.number (with_bytes c.args.store.now c.args.up c.args.octets.now)) row (λ none. refl);
+      untouched = as-it-was _ _ _ _ row (λ none. refl);
       held = c.requires.ready.held;
       only = c.requires.ready.only;
       others = others-same c.args.store.now c.args.caller;

@@ -1,7 +1,6 @@
 -- What is due is queued, packet by packet, up to where nothing is, or fewer octets are free.
-use Rattle.std.proofs.Common.{ap, ◌∙◌, subst, sym}
-use Rattle.file_store.specs.State.{StandsOn, StoreState}
-use Rattle.ftl0_server.specs.Connection.Feeding.{QueuesDue, QueuesPacket}
+use Rattle.std.proofs.Common.{ap, ◌∙◌, sym}
+use Rattle.file_store.specs.State.{StoreState}
 use Rattle.ftl0_server.proofs.connection.DueLemmas.{keeps-then, queues-none, queues-then}
 use Rattle.ftl0_server.proofs.connection.FeedLemmas.{keeps-none}
 use Rattle.ftl0_server.proofs.connection.connection.Connection.queue_due.Goals as goal
@@ -20,7 +19,7 @@ loop-preserved g c =
       rest = λ disk_n new queues.
           c.loop.invariant.rest disk_n new
           (queues-then g.D.Disk g.met.D.Disk.lasts_same g.met.D.Disk.lasts_on c.args.store.now c.loop.disk c.queue_next.new.disk disk_n c.loop.self c.queue_next.new.self new
-          (subst (λ (s : StoreState). QueuesPacket g.D.Disk s c.loop.disk c.queue_next.new.disk c.loop.self c.queue_next.new.self) keeps.same c.loop-test.ensures.next) queues);
+          (rw keeps.same at c.loop-test.ensures.next) queues);
       keeps =
           keeps-then g.D.Disk g.met.D.Disk.lasts_same g.met.D.Disk.lasts_on c.args.store.now c.loop.store c.queue_next.new.store c.args.disk.now c.loop.disk c.queue_next.new.disk c.args.self.now c.loop.self
           c.queue_next.new.self keeps c.queue_next.ensures.keeps;
@@ -30,8 +29,7 @@ pub returns-clause-queues : goal.returns-clause-queues
 returns-clause-queues g c =
     let keeps = c.loop.invariant.keeps in
     let next = c.loop-test.ensures.next in
-    let P : StoreState → Type 0 = λ s. QueuesDue g.D.Disk s c.loop.disk c.queue_next.new.disk c.loop.self c.queue_next.new.self in
-    c.loop.invariant.rest c.queue_next.new.disk c.queue_next.new.self
-    (subst P keeps.same
-    (queues-none g.D.Disk g.met.D.Disk.lasts_same g.met.D.Disk.lasts_on c.loop.store c.loop.disk c.queue_next.new.disk c.loop.self c.queue_next.new.self
-    (ap (λ (s : StoreState). s.journal.failed) keeps.same ∙ c.requires.healthy) (subst (λ (s : StoreState). StandsOn g.D.Disk s c.loop.disk) (sym keeps.same) keeps.stands_on) next.0 next.1 next.2 next.3))
+    let rest =
+    queues-none g.D.Disk g.met.D.Disk.lasts_same g.met.D.Disk.lasts_on c.loop.store c.loop.disk c.queue_next.new.disk c.loop.self c.queue_next.new.self
+    (ap (λ (s : StoreState). s.journal.failed) keeps.same ∙ c.requires.healthy) (rw (sym keeps.same) at keeps.stands_on) next.0 next.1 next.2 next.3 in
+    c.loop.invariant.rest c.queue_next.new.disk c.queue_next.new.self (rw keeps.same at rest)

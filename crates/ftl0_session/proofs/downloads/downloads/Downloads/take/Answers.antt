@@ -1,10 +1,9 @@
-use Rattle.std.proofs.Common.{◌≡◌, [], ◌∷◌, ℕ, List, map, drop, None, false, inl, inr, ap, ◌∙◌, sym, subst}
+use Rattle.std.proofs.Common.{◌≡◌, [], ◌∷◌, map, drop, None, false, inl, inr, ap, ◌∙◌, sym}
 use Rattle.std.specs.Option.{option_map}
 use Rattle.ftl0_packets.specs.Values.{value_of}
 use Rattle.file_store.specs.State.{store_in}
 use Rattle.ftl0_session.specs.Downloads.Spans.{due_of}
 use Rattle.ftl0_session.specs.Downloads.Table.{download_row, ended_row, kept, sending, waiting}
-use Rattle.ftl0_session.specs.Downloads.Taking.{TakesByRow, made}
 use Rattle.ftl0_session.specs.Downloads.View.{state_of}
 use Rattle.ftl0_session.specs.declared.downloads.downloads.Phase.{Phase}
 use Rattle.ftl0_session.proofs.downloads.TakeLemmas.{ended_by, not_taken, row_in_listing, row_in_sending}
@@ -13,48 +12,32 @@ use Rattle.ftl0_session.proofs.downloads.downloads.Downloads.take.Goals as goal
 
 pub returns-in-Sending-clause-takes : goal.returns-in-Sending-clause-takes
 returns-in-Sending-clause-takes g c =
-    let store = store_in c.args.store.now in
-    let lists = c.args.lists.now in
-    let self = c.args.self.now in
-    let p = value_of c.args.packet.now in
     let inside = c.self.inside in
     let span = c.in-Sending.field-0 in
-    let state : self ≡ sending span.number span.place span.last =
+    let state : c.args.self.now ≡ sending span.number span.place span.last =
     sym c.self.view_is ∙ ap (λ (f : Phase). state_of f inside.short_forms.items inside.sent inside.headers.items) c.in-Sending.is in
-    ended_by g.D.Disk c.args.caller store lists self p c.args.disk.now (g.met.D.Disk.lasts_same c.args.disk.now)
-    c.reply_in_sending.result c.end_by.new.self c.args.replies.now.items c.end_by.new.replies.items c.end_by.result
-    (row_in_sending c.args.caller store lists self span.number span.place span.last p state ∙ ap (option_map (ended_row lists)) (sym c.reply_in_sending.ensures.reply))
-    c.requires.empty c.end_by.ensures.none c.end_by.ensures.some
+    ended_by g.D.Disk _ c.args.lists.now c.args.self.now c.args.disk.now (g.met.D.Disk.lasts_same c.args.disk.now) c.reply_in_sending.result c.end_by.new.self c.args.replies.now.items c.end_by.new.replies.items
+    c.end_by.result (row_in_sending _ _ _ _ _ _ _ _ state ∙ ap (option_map (ended_row c.args.lists.now)) (sym c.reply_in_sending.ensures.reply)) c.requires.empty c.end_by.ensures.none c.end_by.ensures.some
 
 pub returns-in-Waiting-clause-takes : goal.returns-in-Waiting-clause-takes
 returns-in-Waiting-clause-takes g c =
-    let store = store_in c.args.store.now in
-    let lists = c.args.lists.now in
-    let self = c.args.self.now in
-    let p = value_of c.args.packet.now in
     let inside = c.self.inside in
-    let state : self ≡ waiting =
+    let ends = c.end_by-in-Waiting in
+    let state : c.args.self.now ≡ waiting =
     sym c.self.view_is ∙ ap (λ (f : Phase). state_of f inside.short_forms.items inside.sent inside.headers.items) c.in-Waiting.is in
-    ended_by g.D.Disk c.args.caller store lists self p c.args.disk.now (g.met.D.Disk.lasts_same c.args.disk.now)
-    c.reply_in_waiting.result c.end_by-in-Waiting.new.self c.args.replies.now.items c.end_by-in-Waiting.new.replies.items c.end_by-in-Waiting.result
-    (row_in_waiting c.args.caller store lists self p state ∙ ap (option_map (ended_row lists)) (sym c.reply_in_waiting.ensures.reply))
-    c.requires.empty c.end_by-in-Waiting.ensures.none c.end_by-in-Waiting.ensures.some
+    ended_by g.D.Disk _ c.args.lists.now c.args.self.now c.args.disk.now (g.met.D.Disk.lasts_same c.args.disk.now) c.reply_in_waiting.result ends.new.self c.args.replies.now.items ends.new.replies.items
+    ends.result (row_in_waiting _ _ _ _ _ state ∙ ap (option_map (ended_row c.args.lists.now)) (sym c.reply_in_waiting.ensures.reply)) c.requires.empty ends.ensures.none ends.ensures.some
 
 pub returns-in-ListingShort-clause-takes : goal.returns-in-ListingShort-clause-takes
 returns-in-ListingShort-clause-takes g c =
-    let store = store_in c.args.store.now in
-    let lists = c.args.lists.now in
-    let self = c.args.self.now in
-    let p = value_of c.args.packet.now in
     let inside = c.self.inside in
-    let row : download_row c.args.caller store lists self p false ≡ None =
+    let row : download_row c.args.caller (store_in c.args.store.now) c.args.lists.now c.args.self.now (value_of c.args.packet.now) false ≡ None =
     elim c.in-ListingShort.is [
       | inl is ↦
-          row_in_listing c.args.caller store lists self (kept (drop inside.sent inside.short_forms.items) ∷ []) p
+          row_in_listing _ _ _ _ (kept (drop inside.sent inside.short_forms.items) ∷ []) _
           (sym c.self.view_is ∙ ap (λ (f : Phase). state_of f inside.short_forms.items inside.sent inside.headers.items) is)
       | inr is ↦
-          row_in_listing c.args.caller store lists self (map due_of inside.headers.items) p
+          row_in_listing _ _ _ _ (map due_of inside.headers.items) _
           (sym c.self.view_is ∙ ap (λ (f : Phase). state_of f inside.short_forms.items inside.sent inside.headers.items) is)
     ] in
-    subst (λ (l : List ℕ). TakesByRow g.D.Disk (download_row c.args.caller store lists self p) c.args.disk.now c.args.disk.now (made self lists []) (made self lists l) false) (sym c.requires.empty)
-    (not_taken g.D.Disk c.args.caller store lists self p c.args.disk.now (g.met.D.Disk.lasts_same c.args.disk.now) row)
+    rw c.requires.empty (not_taken g.D.Disk _ _ c.args.disk.now (g.met.D.Disk.lasts_same c.args.disk.now) row)

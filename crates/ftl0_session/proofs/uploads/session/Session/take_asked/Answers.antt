@@ -1,19 +1,13 @@
 -- What is asked in each phase, by what is asked in its state.
-use Rattle.std.proofs.Common.{◌≡◌, ap, subst}
-use Rattle.px_base.specs.CallSign.{CallSign}
-use Rattle.ftl0_session.specs.Uploads.Asked.{AnswersAsked}
+use Rattle.std.proofs.Common.{ap, sym}
 use Rattle.ftl0_session.specs.Uploads.Session.{aborting}
-use Rattle.ftl0_session.specs.Uploads.SessionState.{SessionState, state_of, with_disk}
-use Rattle.ftl0_session.specs.Uploads.Events.{packet_of}
-use Rattle.ftl0_session.specs.Uploads.Taking.{Answered}
+use Rattle.ftl0_session.specs.Uploads.SessionState.{SessionState}
 use Rattle.ftl0_session.proofs.uploads.DoesLemmas.{answered-alone}
 use Rattle.ftl0_session.proofs.uploads.session.Session.take_asked.Goals as goal
 
 pub returns-in-Command-clause-answered : goal.returns-in-Command-clause-answered
 returns-in-Command-clause-answered g c =
-    let by : c.self.inside.caller ≡ c.args.self.now.caller = ap (λ (s : SessionState). s.caller) c.self.view_is in
-    let P : CallSign → Type 0 = λ caller. AnswersAsked c.args.asked (λ item. Answered g.D.Disk (packet_of caller c.args.moment item) (state_of c.args.store.now c.args.phase) (with_disk c.args.store.now c.args.disk.now) (with_disk c.take_command.new.store c.take_command.new.disk) c.take_command.new.replies.items c.take_command.result) in
-    subst P by (rw c.in-Command.is c.take_command.ensures)
+    rw (sym (ap (λ (s : SessionState). s.caller) c.self.view_is), c.in-Command.is) c.take_command.ensures
 
 pub returns-in-Receiving-clause-answered : goal.returns-in-Receiving-clause-answered
 returns-in-Receiving-clause-answered g c = rw c.in-Receiving.is c.take_receiving.ensures.answered

@@ -25,12 +25,8 @@ returns-in-Ok-clause-answered g c =
     (are-whole c.args.up.number c.args.moment (waiting c.args.store.now c.args.up) None) made in
     record {
       answers = (whole_row c.args.moment c.args.up.number (waiting c.args.store.now c.args.up) None, row, ((does.allowed, made), refl, c.ack.ensures.text));
-      on_disk =
-          does-row g.D.Disk c.args.self.now.caller c.args.moment (receiving_of c.args.store.now c.args.up) (Ok data_end) c.args.store.now c.seal.new.self c.args.disk.now c.seal.new.disk _ ⊥
-          (whole_row c.args.moment c.args.up.number (waiting c.args.store.now c.args.up) None) row (λ e. cc e) (λ never. absurd never) does;
-      untouched =
-          touched c.args.disk.now c.seal.new.disk _ (whole_row c.args.moment c.args.up.number (waiting c.args.store.now c.args.up) None) row
-          (whole-some c.args.moment c.args.up.number (waiting c.args.store.now c.args.up) None);
+      on_disk = does-row g.D.Disk _ _ _ _ _ _ ⊥ _ row (λ e. cc e) (λ never. absurd never) does;
+      untouched = touched _ _ _ _ row (whole-some c.args.moment c.args.up.number (waiting c.args.store.now c.args.up) None);
       held = tt;
       only = only-none c.args.store.now c.seal.new.self c.args.up.number c.args.self.now.caller touches c.in-Ok.ensures.rests c.requires.ready.only c.in-Ok.ensures.ended;
       others =
@@ -78,12 +74,8 @@ returns-in-Err-Header-clause-answered g c =
         row,
         ((does.allowed, made), refl, c.write_packet-in-Err-Header.ensures.text),
       );
-      on_disk =
-          does-row g.D.Disk c.args.self.now.caller c.args.moment (receiving_of c.args.store.now c.args.up) (Ok data_end) c.args.store.now c.seal.new.self c.args.disk.now c.seal.new.disk _ ⊥
-          (whole_row c.args.moment c.args.up.number (waiting c.args.store.now c.args.up) (Some c.in-Err-Header.code)) row (λ e. cc e) (λ never. absurd never) does;
-      untouched =
-          touched c.args.disk.now c.seal.new.disk _ (whole_row c.args.moment c.args.up.number (waiting c.args.store.now c.args.up) (Some c.in-Err-Header.code)) row
-          (whole-some c.args.moment c.args.up.number (waiting c.args.store.now c.args.up) (Some c.in-Err-Header.code));
+      on_disk = does-row g.D.Disk _ _ _ _ _ _ ⊥ _ row (λ e. cc e) (λ never. absurd never) does;
+      untouched = touched _ _ _ _ row (whole-some c.args.moment c.args.up.number (waiting c.args.store.now c.args.up) (Some c.in-Err-Header.code));
       held = tt;
       only = only-none c.args.store.now c.seal.new.self c.args.up.number c.args.self.now.caller touches c.in-Err-Header.ensures.rests c.requires.ready.only (spent refl);
       others =
@@ -111,12 +103,8 @@ returns-in-Err-Disk-clause-answered g c =
         refl,
         c.write_packet-in-Err-Disk.ensures.text,
       );
-      on_disk =
-          does-row g.D.Disk c.args.self.now.caller c.args.moment (receiving_of c.args.store.now c.args.up) (Ok data_end) c.args.store.now c.seal.new.self c.args.disk.now c.seal.new.disk _ ⊤
-          (whole_row c.args.moment c.args.up.number (waiting c.args.store.now c.args.up) (fault_code (octets_come c.args.store.now c.args.up))) row (λ failed. tt) (λ failed. refl) does;
-      untouched =
-          touched c.args.disk.now c.seal.new.disk _ (whole_row c.args.moment c.args.up.number (waiting c.args.store.now c.args.up) (fault_code (octets_come c.args.store.now c.args.up))) row
-          (whole-some c.args.moment c.args.up.number (waiting c.args.store.now c.args.up) (fault_code (octets_come c.args.store.now c.args.up)));
+      on_disk = does-row g.D.Disk _ _ _ _ _ _ ⊤ _ row (λ failed. tt) (λ failed. refl) does;
+      untouched = touched _ _ _ _ row (whole-some c.args.moment c.args.up.number (waiting c.args.store.now c.args.up) (fault_code (octets_come c.args.store.now c.args.up)));
       held = tt;
       only = only-none c.args.store.now c.seal.new.self c.args.up.number c.args.self.now.caller touches c.in-Err-Disk.ensures.rests c.requires.ready.only (spent refl);
       others =

@@ -1,14 +1,9 @@
 -- Each packet in Receiving, by its row.
-use Rattle.std.proofs.Common.{◌≡◌, refl, ap, sym, subst}
-use Rattle.std.specs.Prelude.{Ok}
-use Rattle.px_base.specs.CallSign.{CallSign}
-use Rattle.ftl0_packets.specs.Layout.{Item, data_part}
+use Rattle.std.proofs.Common.{refl, ap, sym}
 use Rattle.file_store.specs.State.{store_in}
 use Rattle.file_store.specs.Upload.{waiting}
 use Rattle.ftl0_session.specs.declared.uploads.phase.Phase.TheVariants as phase
-use Rattle.ftl0_session.specs.Uploads.SessionState.{SessionState, receiving_of, with_disk}
-use Rattle.ftl0_session.specs.Uploads.Taking.{Answered}
-use Rattle.ftl0_session.specs.Uploads.Events.{packet_of}
+use Rattle.ftl0_session.specs.Uploads.SessionState.{SessionState, receiving_of}
 use Rattle.ftl0_session.proofs.uploads.DoesLemmas.{answered-alone}
 use Rattle.ftl0_session.proofs.uploads.Rows.{alone-refused, error-receiving}
 use Rattle.ftl0_session.proofs.uploads.session.Session.take_receiving.Goals as goal
@@ -16,9 +11,7 @@ use Rattle.ftl0_session.proofs.uploads.session.Session.take_receiving.Goals as g
 pub returns-in-Part-clause-answered : goal.returns-in-Part-clause-answered
 returns-in-Part-clause-answered g c = λ item is.
     let same = rw c.in-Part.is at is in
-    let by : c.self.inside.caller ≡ c.args.self.now.caller = ap (λ (s : SessionState). s.caller) c.self.view_is in
-    let P : CallSign → Item → Type 0 = λ caller i. Answered g.D.Disk (packet_of caller c.args.moment i) (receiving_of c.args.store.now c.args.up) (with_disk c.args.store.now c.args.disk.now) (with_disk c.take_data.new.store c.take_data.new.disk) c.take_data.new.replies.items c.take_data.result in
-    subst (λ (i : Item). P c.args.self.now.caller i) (sym same) (subst (λ (caller : CallSign). P caller (Ok (data_part c.in-Part.octets.now))) by (c.take_data.ensures c.args.moment))
+    rw (same, sym (ap (λ (s : SessionState). s.caller) c.self.view_is)) (c.take_data.ensures c.args.moment)
 
 pub returns-in_default-clause-answered : goal.returns-in_default-clause-answered
 returns-in_default-clause-answered g c = λ item is.
