@@ -1,15 +1,13 @@
 -- What a call of the notes does, as a job says it.
-use Rattle.std.proofs.Common.{◌≡◌, ℕ, ◌≤◌, true, false, List, [], ◌∷◌, refl, sym, ◌∙◌, ap, subst, inl, inr, arith}
-use Rattle.std.specs.Prelude.{⊤, Option, Result, Ok, Err, IsErr, IsErrOf, IsTrue, ◌⊎◌, nat_lt}
-use Rattle.std.proofs.lemmas.Bool.Decides.{nat_tests}
+use Rattle.std.proofs.Common.{◌≡◌, ℕ, false, List, [], ◌∷◌, refl, sym, subst, inl, inr, arith}
+use Rattle.std.specs.Prelude.{⊤, Option, Result, Ok, Err, IsErr, IsTrue, ◌⊎◌}
 use Rattle.disk_model.specs.declared.disk.Disk.{Ghosts}
 use Rattle.file_journal.specs.declared.faults.JournalFault.{JournalFault}
 use Rattle.file_journal.specs.declared.faults.JournalFault.TheVariants as fault
 use Rattle.client_notes.specs.declared.refusals.NotesRefusal.{NotesRefusal}
 use Rattle.client_notes.specs.declared.refusals.NotesRefusal.TheVariants as refusal
 use Rattle.client_notes.specs.Answers.{Noting}
-use Rattle.client_notes.specs.Command.{NotesCommand, acked, is_allowed, is_going, is_numbered, is_unnumbered, numbered, passes, refused}
-use Rattle.client_notes.specs.Notes.{Lists, Task, task_of}
+use Rattle.client_notes.specs.Command.{NotesCommand}
 use Rattle.client_notes.specs.OnDisk.{Answers, Does, Untouched}
 use Rattle.client_notes.specs.Several.{DoesSeveral}
 use Rattle.client_notes.specs.State.{NotesState, StandsOn}
@@ -17,11 +15,9 @@ use Rattle.client_notes.proofs.Offered.{Several-none, Several-one, Several-same}
 use Rattle.ftl0_job.specs.declared.ending.Ending.{Ending}
 use Rattle.disk_model.specs.declared.halt.Halt.{Halt}
 use Rattle.disk_model.specs.declared.halt.Halt.TheVariants as stop
-use Rattle.ftl0_job.specs.JobState.{HasTask, number_in}
-use Rattle.ftl0_job.specs.Noting.{HasNoted, IsAnswer, IsAnswerOf, IsOfNoting}
+use Rattle.ftl0_job.specs.Noting.{HasNoted, IsAnswer, IsAnswerOf}
 use Rattle.ftl0_job.specs.Row.{Row}
 use Rattle.ftl0_job.specs.Taking.{Gives, TakesRow, with_notes}
-use Rattle.ftl0_job.specs.Upload.{Upload}
 
 -- the answers by name
 abbrev done : Result ⊤ Halt
@@ -45,16 +41,6 @@ module _ {D : Type 0} (g : Ghosts D) where
       subst (λ (r : Result ⊤ Halt). HasNoted g old new disk disk_now (command ∷ []) r) (sym is)
       (does-one (IsErr {T = ⊤} {E = JournalFault} (Err fault.Disk)) ⊤ old new disk disk_now command (λ e. tt) (λ e. refl) (answers.does (λ e. cc e)))
   answers-noted old new disk disk_now command (Err fault.Failed) result answers is = absurd is
-
-  -- it wasn't that the notes had failed
-  pub not-failed : (old new : NotesState) (disk disk_now : D) (command : NotesCommand) (answer : Result ⊤ JournalFault) → old.journal.failed ≡ false → Answers g old new disk disk_now command answer
-      → IsErrOf answer fault.Failed → ⊥
-  not-failed old new disk disk_now command answer healthy answers is = let failed = answers.failed.0 is in cc
-
-  pub no-memory : (answer : Result ⊤ JournalFault) (result : Result ⊤ Halt) → IsAnswer answer result → IsErrOf result stop.OutOfMemory → ⊥
-  no-memory (Ok x) result is e = cc
-  no-memory (Err fault.Disk) result is e = cc
-  no-memory (Err fault.Failed) result is e = absurd is
 
   -- no command
   pub noted-none : (notes : NotesState) (disk : D) → notes.journal.failed ≡ false → StandsOn g notes disk → g.lasts disk disk → DoesSeveral g ⊥ notes notes disk disk []
@@ -85,14 +71,6 @@ module _ {D : Type 0} (g : Ghosts D) where
   noting-noted old new disk disk_now command (Err refusal.Full) result healthy stands lasts noting is = absurd is
   noting-noted old new disk disk_now command (Err (refusal.Changed kept_length digest)) result healthy stands lasts noting is = absurd is
 
-  pub of-noting : (old new : NotesState) (disk disk_now : D) (command : NotesCommand) (answer : Result ⊤ NotesRefusal) → old.journal.failed ≡ false → Noting g old new disk disk_now command answer → IsOfNoting answer
-  of-noting old new disk disk_now command (Ok x) healthy noting = tt
-  of-noting old new disk disk_now command (Err refusal.Disk) healthy noting = tt
-  of-noting old new disk disk_now command (Err refusal.OutOfMemory) healthy noting = tt
-  of-noting old new disk disk_now command (Err refusal.Failed) healthy noting = let failed = noting.refused in cc
-  of-noting old new disk disk_now command (Err refusal.Full) healthy noting = noting.refused
-  of-noting old new disk disk_now command (Err (refusal.Changed kept_length digest)) healthy noting = noting.refused
-
   -- ---- a row
 
   -- the same stop, of another type of answers
@@ -105,24 +83,3 @@ module _ {D : Type 0} (g : Ghosts D) where
   pub takes-still : {S : Type 0} (row : Row S) (before now : S) (notes : NotesState) (disk : D) (replies : List ℕ) (ending : Option Ending) → row.commands ≡ [] → notes.journal.failed ≡ false
       → StandsOn g notes disk → g.lasts disk disk → Gives row now replies ending → TakesRow g row (with_notes before notes disk) (with_notes now notes disk) replies (Ok ending)
   takes-still row before now notes disk replies ending none healthy stands lasts gives = record { answers = gives; noted = none-by notes disk row.commands none healthy stands lasts }
-
--- ---- what may be noted of an upload's task
-
-module _ (lists : Lists) (at : Upload) (has : HasTask lists at) where
-  pub may-refuse : (code : ℕ) → IsTrue (is_allowed lists (refused at.task code))
-  may-refuse code = subst (λ (o : Option Task). IsTrue (passes (λ t. is_going t.progress) o)) (sym has.is_entry) (ap is_going has.going)
-
-  pub may-ack : 1 ≤ number_in at.phase at.known → IsTrue (is_allowed lists (acked at.task))
-  may-ack some =
-      let going : is_going has.entry.progress ≡ true = ap is_going has.going in
-      let same : has.entry.number ≡ number_in at.phase at.known = has.number in
-      let positive : nat_lt 0 has.entry.number ≡ true = grind (arith, nat_tests) in
-      subst (λ (o : Option Task). IsTrue (passes is_numbered o)) (sym has.is_entry) (rw (going, positive) refl)
-
-  pub may-number : (number : ℕ) → number_in at.phase at.known ≡ 0 → 1 ≤ number → IsTrue (is_allowed lists (numbered at.task number))
-  may-number number none some =
-      let going : is_going has.entry.progress ≡ true = ap is_going has.going in
-      let same : has.entry.number ≡ 0 = has.number ∙ none in
-      let positive : nat_lt 0 number ≡ true = grind (arith, nat_tests) in
-      let fresh : IsTrue (passes is_unnumbered (task_of lists at.task)) = subst (λ (o : Option Task). IsTrue (passes is_unnumbered o)) (sym has.is_entry) (rw (going, same) refl) in
-      rw (fresh, positive) refl

@@ -2,7 +2,7 @@
 use Rattle.std.proofs.Common.{◌≡◌, ℕ, suc, ◌+◌, ◌-◌, ◌*◌, ◌/◌, ◌<◌, ◌≤◌, List, [], ◌++◌, length, take, drop, refl, sym, ap, ◌∙◌, subst, arith, append_assoc, append-nil}
 use Rattle.std.specs.Prelude.{Option, Result, Ok, Err, OnErr}
 use Rattle.px_base.specs.Outside.{Gains, GainsPrefix}
-use Rattle.px_base.proofs.Told.{Gains-none, Gains-trans, GainsPrefix-after}
+use Rattle.px_base.proofs.Told.{Gains-trans, GainsPrefix-after}
 use Rattle.uploader.specs.Lines.{file_line, first_lines, short_len}
 
 -- the lines of so many headers: one, and the others
@@ -28,9 +28,6 @@ pub record IsShowing {O : Type 0} (shown : O → Option (List ℕ)) (faults : O 
   pub same_faults : faults now ≡ faults old
 
 module _ {O : Type 0} (shown : O → Option (List ℕ)) (faults : O → ℕ) (old : O) (all : List ℕ) where
-  pub showing-start : IsShowing shown faults old old all all
-  showing-start = record { text = []; gains = Gains-none (shown old); whole = refl; same_faults = refl }
-
   -- one line more
   pub showing-more : (mid now : O) (line later left : List ℕ) → IsShowing shown faults old mid all left → left ≡ line ++ later → Gains (shown mid) (shown now) line → faults now ≡ faults mid
       → IsShowing shown faults old now all later

@@ -5,9 +5,9 @@ use Rattle.disk_model.specs.declared.disk.Disk.{Ghosts}
 use Rattle.ax25_link.specs.declared.state.LinkState.TheVariants.{Up}
 use Rattle.ax25_link.specs.Window.{Window}
 use Rattle.ftl0_packets.specs.Layout.{Item}
-use Rattle.ftl0_packets.specs.Reading.{packets_of, rest_of}
+use Rattle.ftl0_packets.specs.Reading.{packets_of}
 use Rattle.packet_link.specs.PacketLink.{HasFront}
-use Rattle.packet_link.proofs.Fronts.{front-none, front-then, front-whole, stations-same, stations-then}
+use Rattle.packet_link.proofs.Fronts.{front-none, front-then, stations-same, stations-then}
 use Rattle.client_notes.specs.Laws.{after_all}
 use Rattle.client_notes.specs.Notes.{Lists}
 use Rattle.client_notes.proofs.Offered.{Several-none, Several-then}
@@ -82,12 +82,6 @@ module _ {D : Type 0} (g : Ghosts D) where
         takes = h.takes;
         stops = stops;
       }
-
-    pub taking-ends : (octets left rest : List ℕ) (before now : Working D) → IsTaking g octets left before now → packets_of left ≡ [] → rest_of left ≡ rest
-        → Takes g (packets_of octets) before now × (rest ≡ rest_of octets)
-    taking-ends octets left rest before now h none behind =
-        let whole = front-whole octets left rest h.items h.front none behind in
-        (subst (λ (items : List Item). Takes g items before now) whole.0 h.takes, whole.1)
 
   -- ---- the octets of a frame
 
