@@ -149,9 +149,8 @@ module _ {D : Type 0} (g : Ghosts D) (lasts : (disk : D) → g.lasts disk disk) 
         replies = stopped.replies;
         text_is = stopped.text_is;
         stops =
-            subst (λ (es : List Event). StopsOn g (session_steps a.it.caller) (session_at a) (at c.it.store c.disk) es why unsaid stopped.replies) (sym (events-append a.it.octets xs ys))
-            (stops-more (session_steps a.it.caller) (are_steps a.it.caller) why unsaid g (session_at a) (at c.it.store c.disk) (events_to a.it xs) (events_behind (waiting_behind a.it.octets xs) ys) stopped.replies
-            stopped.stops);
+            rw (events-append a.it.octets xs ys)
+            (stops-more (session_steps a.it.caller) (are_steps a.it.caller) why unsaid g (session_at a) (at c.it.store c.disk) (events_to a.it xs) (events_behind (waiting_behind a.it.octets xs) ys) _ stopped.stops);
       })
     ],
   )
