@@ -31,8 +31,7 @@ use Rattle.ftl0_server.specs.Connection.Taking.{Progress, after_row, failing_at,
 use Rattle.ftl0_server.specs.Connection.Taking.{giving_up, queued, queuing, taking}
 use Rattle.ftl0_server.specs.Laws.{AreQueued, SlotFits, SlotsFit, SomeStepLaw}
 use Rattle.ftl0_server.specs.Server.{IsSilent, Refused, Server, ServerHappened, ServerSends, called_by, hearing_at}
-use Rattle.ftl0_server.specs.Server.{hearing_by, hearing_stranger, refusing, sends_by}
-use Rattle.ftl0_server.specs.Server.{sends_of_places, settled}
+use Rattle.ftl0_server.specs.Server.{hearing_by, hearing_stranger, refusing, sends_by, sends_of_places, settled}
 use Rattle.ftl0_server.specs.ServerStep.{Empties, happening, stepped}
 use Rattle.ftl0_server.specs.Slots.{PlacesSend, Slot, SlotSends, all_freed, connected, first_empty, first_of, free}
 use Rattle.ftl0_server.specs.Slots.{freed, leaving, left_by, place_of}

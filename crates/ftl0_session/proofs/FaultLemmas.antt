@@ -8,8 +8,7 @@ use Rattle.px_base.specs.CallSign.{CallSign}
 use Rattle.pfh_items.specs.Faults.{fault_code}
 use Rattle.ftl0_packets.specs.Items.{kind_of_item}
 use Rattle.ftl0_packets.specs.Layout.{Item, PacketValue, data_end, data_part, dl_aborted_resp, dl_completed_resp}
-use Rattle.ftl0_packets.specs.Layout.{dl_error_resp, upload_cmd}
-use Rattle.ftl0_packets.specs.Layout.{select_resp}
+use Rattle.ftl0_packets.specs.Layout.{dl_error_resp, upload_cmd, select_resp}
 use Rattle.ftl0_session.specs.Lists.Lists.{CallerList}
 use Rattle.file_store.specs.Command.{can_begin, has_room, passes}
 use Rattle.file_store.specs.Info.{is_complete}

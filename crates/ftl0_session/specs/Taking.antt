@@ -36,9 +36,9 @@ abbrev pub row_over : CallSign → ℕ → Working → Item → Bool → Row
 row_over caller moment before item fails =
     session_row caller moment (store_in before.store) before.lists before.state item fails
 
--- the same of a caller's packet
-abbrev pub row_for : CallerPacket → Working → Bool → Row
-row_for packet before fails = row_over packet.caller packet.moment before packet.item fails
+-- the row of a caller's packet
+abbrev pub packet_row : CallerPacket → Working → Bool → Row
+packet_row packet before fails = row_over packet.caller packet.moment before packet.item fails
 
 -- what the row gives is the store, the lists, the state and the replies now; the condition of each of its commands held
 -- in turn
@@ -71,11 +71,11 @@ PutsRow g before now disk disk_now row (Err stop.OutOfMemory) = disk_now ≡ dis
 pub record TakesPacket {D : Type 0} (g : Ghosts D) (packet : CallerPacket) (before now : WithDisk Working D)
     (replies : List ℕ) (result : Result ⊤ Halt) : Type 0 where
   pub fails : Bool
-  pub told : fails ≡ true → (row_for packet before.it fails).replies ≡ dl_error_resp 3 ∷ []
-  pub answers : Answers before.it packet.item (row_for packet before.it fails) now.it replies result
+  pub told : fails ≡ true → (packet_row packet before.it fails).replies ≡ dl_error_resp 3 ∷ []
+  pub answers : Answers before.it packet.item (packet_row packet before.it fails) now.it replies result
   pub disk_then : D
   pub reads : Reads g (IsTrue fails) before.disk disk_then
-  pub on_disk : PutsRow g before.it.store now.it.store disk_then now.disk (row_for packet before.it fails) result
+  pub on_disk : PutsRow g before.it.store now.it.store disk_then now.disk (packet_row packet before.it fails) result
   pub puts : Puts g (IsErrOf result stop.Disk) disk_then now.disk
 
 -- a packet whose row has no command, whether a read fails or none does, leaves the disk as reads do
@@ -90,7 +90,7 @@ at_work session on = with_disk (working session on.store on.lists) on.disk
 pub record Taken {D : Type 0} (g : Ghosts D) (packet : CallerPacket) (old new : SessionState)
     (before now : WorkingOn D) (replies : List ℕ) (result : Result ⊤ Halt) : Type 0 where
   pub takes : TakesPacket g packet (at_work old before) (at_work new now) replies result
-  pub untouched : ReadsAlone g (row_for packet (working old before.store before.lists)) before.disk now.disk
+  pub untouched : ReadsAlone g (packet_row packet (working old before.store before.lists)) before.disk now.disk
   pub failed : IsErrOf result stop.Disk → now.store.journal.failed ≡ true
   pub kept : KeepsComplete (store_in before.store) (store_in now.store)
   pub others : KeepsOtherCallers before.store now.store packet.caller

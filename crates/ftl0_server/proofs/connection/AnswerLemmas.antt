@@ -19,7 +19,7 @@ use Rattle.disk_model.specs.declared.halt.Halt.{Halt as Stop}
 use Rattle.disk_model.specs.declared.halt.Halt.TheVariants as stop
 use Rattle.ftl0_session.specs.SessionState.{SessionState, WorkingOn, caller_of, state_in}
 use Rattle.ftl0_session.specs.Table.{Row, failed_reads_told}
-use Rattle.ftl0_session.specs.Taking.{TakesPacket, Working, at_work, row_for, working}
+use Rattle.ftl0_session.specs.Taking.{TakesPacket, Working, at_work, packet_row, working}
 use Rattle.ftl0_session.specs.Uploads.SessionState.{with_disk}
 use Rattle.ftl0_session.specs.Uploads.Events.{packet_of}
 use Rattle.ftl0_session.proofs.WorkingLemmas.{taken-among, taken-cut, taken-none}
@@ -38,7 +38,7 @@ module _ {D : Type 0} (g : Ghosts D) (on : (first second third : D) → g.lasts 
     (healthy : before.store.journal.failed ≡ false) (stands_on : StandsOn g before.store before.disk) where
   -- the packet's row, where a read fails or none does
   abbrev row_here : Bool → Row
-  row_here = row_for (packet_of (caller_of session) moment item) (working session before.store before.lists)
+  row_here = packet_row (packet_of (caller_of session) moment item) (working session before.store before.lists)
 
   -- what one packet makes with this row, where a write fails or none does
   abbrev one : Bool → Row → Progress

@@ -26,8 +26,7 @@ use Rattle.ftl0_server.specs.Connection.ConnectionState.{ConnectionState, Hears,
 use Rattle.ftl0_server.specs.Connection.Feeding.{AreFree, HearsParts, IsNothingDue, KeepsFit, Queued, QueuesDue}
 use Rattle.ftl0_server.specs.Connection.Feeding.{QueuesPacket}
 use Rattle.ftl0_server.specs.Connection.Hearing.{progressed}
-use Rattle.ftl0_server.specs.Connection.Taking.{Progress, after_due, enough_free, fails, queued}
-use Rattle.ftl0_server.specs.Connection.Taking.{queuing}
+use Rattle.ftl0_server.specs.Connection.Taking.{Progress, after_due, enough_free, fails, queued, queuing}
 use Rattle.ftl0_server.proofs.connection.FailureLemmas.{All-at, among-at as among-one, among-first, among-second}
 use Rattle.ftl0_server.proofs.connection.FailureLemmas.{at_part, none-writes, reads-among}
 use Rattle.packet_link.proofs.Fronts.{stations-then}

@@ -19,8 +19,7 @@ use Rattle.file_store.specs.Walk.{KeepsState}
 use Rattle.file_store.proofs.Offered.{does-among, Does-none, puts-among, puts-among-same, puts-among-then, puts_none}
 use Rattle.file_store.specs.State.{StandsOn, StoreState, store_in}
 use Rattle.ftl0_session.specs.Uploads.Others.{KeepsOtherCallers}
-use Rattle.ftl0_session.specs.Uploads.SessionState.{NoOtherOut, SessionState as Uploading, WithDisk}
-use Rattle.ftl0_session.specs.Uploads.SessionState.{with_disk}
+use Rattle.ftl0_session.specs.Uploads.SessionState.{NoOtherOut, SessionState as Uploading, WithDisk, with_disk}
 use Rattle.ftl0_session.specs.Downloads.Needs.{AreComplete, IsDueIn}
 use Rattle.disk_model.specs.declared.halt.Halt.{Halt as Stop}
 use Rattle.disk_model.specs.declared.halt.Halt.TheVariants as stop

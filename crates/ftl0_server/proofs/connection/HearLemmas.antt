@@ -28,8 +28,7 @@ use Rattle.ftl0_server.specs.declared.connection.fate.Fate.TheVariants.{Stays, E
 use Rattle.ftl0_server.specs.Connection.Connected.{Connected, beginning}
 use Rattle.ftl0_server.specs.Connection.ConnectionState.{ConnectionState, IsConnection}
 use Rattle.ftl0_server.specs.Connection.Feeding.{HearsParts}
-use Rattle.ftl0_server.specs.Connection.Hearing.{parts_as, rest_as}
-use Rattle.ftl0_server.specs.Connection.Hearing.{with_end}
+use Rattle.ftl0_server.specs.Connection.Hearing.{parts_as, rest_as, with_end}
 use Rattle.ftl0_server.specs.Connection.Taking.{resting, taking}
 
 -- the session's upload was given up, and the store and its journal are as they were

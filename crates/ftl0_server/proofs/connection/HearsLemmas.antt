@@ -23,8 +23,7 @@ use Rattle.ftl0_session.specs.Uploads.SessionState.{WithDisk, with_disk}
 use Rattle.ftl0_session.specs.Run.{Session}
 use Rattle.ftl0_server.specs.declared.connection.fate.Fate.{Fate}
 use Rattle.ftl0_server.specs.declared.connection.fate.Fate.TheVariants.{Stays, Ends}
-use Rattle.ftl0_server.specs.Connection.ConnectionState.{ConnectionState, HearsBy, with_nothing_left}
-use Rattle.ftl0_server.specs.Connection.ConnectionState.{with_reads}
+use Rattle.ftl0_server.specs.Connection.ConnectionState.{ConnectionState, HearsBy, with_nothing_left, with_reads}
 use Rattle.ftl0_server.specs.Connection.Feeding.{HearsParts, IsAmong, IsGoing, TakesPackets, session_on, taking_some}
 use Rattle.ftl0_server.specs.Connection.Hearing.{Happened, progressed}
 use Rattle.ftl0_server.specs.Connection.Taking.{Halt, Progress, fails, goes_on, taking}

@@ -75,7 +75,7 @@ abbrev pub taking_some :
 taking_some moment session on end items first failures =
     progressed [] (taking (caller_of session) moment (session_on session on) end items failures first)
 
--- Packets of which this is what they make were taken, and reads failed at these of their parts.
+-- Packets were taken, of which this event is what they make, and reads failed at these of their parts.
 pub record TakesPackets {D : Type 0} (g : Ghosts D) (w : Window) (event : List Failure → Happened)
     (IsPart : ℕ → Type 0) (before : WithDisk StoreState D) (now : WorkingOn D) (connection : ConnectionState)
     (told : Fate × Result ⊤ Stop) : Type 0 where
@@ -83,7 +83,7 @@ pub record TakesPackets {D : Type 0} (g : Ghosts D) (w : Window) (event : List F
   pub among : All IsPart parts
   pub by : HearsBy g w (with_reads event parts) before now connection told.0 told.1
 
--- So these packets of a connection were, whichever end its link stands for, and whichever part the first of them is.
+-- So these packets of a connection were taken, whichever end its link stands for, and whichever part the first is.
 abbrev pub TakesSome :
     {D : Type 0} → Ghosts D → ℕ → ConnectionState → WorkingOn D → List Item → WorkingOn D → ConnectionState
     → (Fate × Result ⊤ Stop) → Type 0

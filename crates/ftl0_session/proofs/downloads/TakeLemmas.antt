@@ -1,13 +1,11 @@
 -- What is taken, by its row.
-use Rattle.std.proofs.Common.{◌≡◌, ℕ, List, [], Bool, true, false, Option, None, Some, refl, sym, ◌∙◌, ap}
-use Rattle.std.proofs.Common.{Bor}
+use Rattle.std.proofs.Common.{◌≡◌, ℕ, List, [], Bool, true, false, Option, None, Some, refl, sym, ◌∙◌, ap, Bor}
 use Rattle.std.proofs.lemmas.List.{append-nil}
 use Rattle.px_base.specs.CallSign.{CallSign}
 use Rattle.disk_model.specs.declared.disk.Disk.{Ghosts}
 use Rattle.std.specs.Prelude.{IfNone, IfSome}
 use Rattle.std.specs.Option.{option_map}
-use Rattle.ftl0_packets.specs.Layout.{PacketValue, dir_long_cmd, dir_short_cmd, download_cmd}
-use Rattle.ftl0_packets.specs.Layout.{packet_text, select_cmd}
+use Rattle.ftl0_packets.specs.Layout.{PacketValue, dir_long_cmd, dir_short_cmd, download_cmd, packet_text, select_cmd}
 use Rattle.ftl0_packets.specs.Values.{value_of}
 use Rattle.ftl0_packets.specs.declared.packet.Packet.{Packet}
 use Rattle.ftl0_packets.specs.declared.packet.Packet.TheVariants as packet

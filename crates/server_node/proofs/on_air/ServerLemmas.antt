@@ -25,7 +25,7 @@ use Rattle.ftl0_server.proofs.Offered.{empties-silent, serves-append, serves-one
 use Rattle.server_node.specs.Sessions.Running.{IsSaid}
 use Rattle.server_node.specs.OnAir.Serving.{StopsAt, failing, server_steps, text_of}
 use Rattle.server_node.specs.OnAir.Station.{ComesOn, HaltsOn, IsServing, IsUp, OwesOver, OwesRest, StandsBy, WholeBy, server_course, serving_at, with_server}
-use Rattle.server_node.specs.Steps.{RunsOn, made, with_store, EndsOver, Made, StopsBehind}
+use Rattle.server_node.specs.Steps.{made, EndsOver, Made, StopsBehind}
 use Rattle.server_node.specs.declared.on_air.station.ServerStation.{ServerStation}
 use Rattle.std.proofs.lemmas.List.Concat.{flat_map-append}
 use Rattle.server_node.proofs.StepsLemmas.{AreSteps, runs-none, runs-on, stop-one, stops-more, stops-on, behind-all, cuts-all}
@@ -173,9 +173,7 @@ module _ {D : Type 0} (g : Ghosts D) (lasts : (disk : D) → g.lasts disk disk) 
   comes-none start self server up same serving = record {
     next = server;
     serving = serving;
-    runs =
-        subst (λ (store : StoreState). RunsOn g server_steps (serving_at server start) (with_store server store start.disk) [] []) (sym same)
-        (runs-none server_steps are_steps g server start.it.server.store start.disk up.healthy up.stands_on (lasts start.disk));
+    runs = rw same (runs-none server_steps are_steps g server start.it.server.store start.disk up.healthy up.stands_on (lasts start.disk));
   }
 
   pub goes-none : (start : AtDisk ServerStation D) → IsUp g start → (server_course g).goes start [] [] start
@@ -195,8 +193,7 @@ module _ {D : Type 0} (g : Ghosts D) (lasts : (disk : D) → g.lasts disk disk) 
       memory = up.memory;
       whole = λ frames last self sent same stands settles.
           let none = none-sent server frames last serving.silent sent in
-          subst (λ (t : List ℕ). ComesOn g server start [] t (with_server start self)) (ap text_of (sym none.0))
-          (comes-none start self server up same (record { is = subst (λ (s : Server). IsServer self s) none.1 stands; silent = serving.silent }));
+          rw none.0 (comes-none start self server up same (record { is = rw none.1 at stands; silent = serving.silent }));
       front = λ frames last self text sent same some. absurd (some (none-sent server frames last serving.silent sent).0);
     },
   )
@@ -298,7 +295,7 @@ module _ {D : Type 0} (g : Ghosts D) (lasts : (disk : D) → g.lasts disk disk) 
       gave-all start events None said h =
           let runs-on : (server_course g).goes start events said new = λ server serving.
           let rest = h.1 server serving in
-          rest-whole start events said server is None rest (subst (λ (s : ServerState). IsServer s rest.made) (sym (no-next start events said server is None rest).1) rest.stands) (settles rest.made rest.stands) in
+          rest-whole start events said server is None rest (rw (no-next start events said server is None rest).1 rest.stands) (settles rest.made rest.stands) in
           let runs = runs-on h.0.server h.0.serving in
           let same = (no-next start events said h.0.server is None (h.1 h.0.server h.0.serving)).1 in (
             runs-on,

@@ -5,9 +5,9 @@ use Rattle.px_base.specs.CallSign.{CallSign}
 use Rattle.disk_model.specs.declared.disk.Disk.{Ghosts}
 use Rattle.file_store.specs.State.{store_in, StoreState}
 use Rattle.ftl0_session.specs.Uploads.Events.{Event, at_moment, packet_of}
-use Rattle.ftl0_session.specs.Answering.{IsAnswering, met_with, octets_left}
+use Rattle.ftl0_session.specs.Answering.{IsAnswering, met_with}
 use Rattle.ftl0_session.specs.Run.{Event as MetEvent, RunsOver, heard_of, session_over}
-use Rattle.ftl0_session.specs.Table.{next_due, Row, State, download_part, failed_reads_told, tells_failed_read}
+use Rattle.ftl0_session.specs.Table.{next_due, Row, State, failed_reads_told, tells_failed_read}
 use Rattle.node.specs.Course.{AtDisk, IsLawful, GaveAll, GivesNext, OwesSome, at, stop_at_put, stop_of}
 use Rattle.node.specs.Inputs.{Input, IsInput, octets_at, octets_in}
 use Rattle.node.specs.declared.stop.NodeStop.{NodeStop as Stop}
@@ -15,7 +15,7 @@ use Rattle.node.proofs.InputLemmas.{are-octets, octets_in-at}
 use Rattle.server_node.specs.Sessions.Course.{GoesOver, HaltsOver, IsReady, session_course, IsUnderWay, IsAnswered, IsHalting, IsRowOf, IsStopped, IsUnsaidFirst, LastOf, Owes, OwesAll, most_left, session_at, session_in}
 use Rattle.server_node.specs.Sessions.Packets.{events_behind, events_to, waiting_behind}
 use Rattle.server_node.specs.Sessions.Running.{StopsAt, session_steps}
-use Rattle.server_node.specs.Steps.{RunsOn, StopsOn, StopsOver, made}
+use Rattle.server_node.specs.Steps.{RunsOn, StopsOn, made}
 use Rattle.server_node.specs.Sessions.ServerState.{IsUp, ServerState}
 use Rattle.server_node.proofs.sessions.PacketLemmas.{both-octets, events-append, events-then, hears-none, hears-then, events-of}
 use Rattle.std.proofs.lemmas.List.{map-append, nil_from_length}
@@ -118,9 +118,9 @@ module _ {D : Type 0} (g : Ghosts D) (lasts : (disk : D) → g.lasts disk disk) 
       replies = h.replies ++ k.replies;
       text_is = text-then k.replies k.text_is;
       runs =
-          subst (λ (es : List Event). RunsOn g (session_steps a.it.caller) (session_at a) (session_at c) es (h.replies ++ k.replies)) (sym (events-then a.it b.it xs h.hears ys))
+          rw (events-then a.it b.it xs h.hears ys)
           (runs-on (session_steps a.it.caller) (are_steps a.it.caller) g on (session_at a) (session_at b) (session_at c) (events_to a.it xs) (events_to b.it ys) h.replies k.replies h.runs
-          (subst (λ (call : CallSign). RunsOn g (session_steps call) (session_at b) (session_at c) (events_to b.it ys) k.replies) h.hears.caller k.runs));
+          (rw h.hears.caller at k.runs));
     }
 
     halts-behind : (why : Stop) (unsaid : Bool) → HaltsOver g b ys why unsaid more c → HaltsOver g a (xs ++ ys) why unsaid (text ++ more) c
@@ -132,9 +132,9 @@ module _ {D : Type 0} (g : Ghosts D) (lasts : (disk : D) → g.lasts disk disk) 
           replies = h.replies ++ stopped.replies;
           text_is = text-then stopped.replies stopped.text_is;
           stops =
-              subst (λ (es : List Event). StopsOn g (session_steps a.it.caller) (session_at a) (at c.it.store c.disk) es why unsaid (h.replies ++ stopped.replies)) (sym (events-then a.it b.it xs h.hears ys))
+              rw (events-then a.it b.it xs h.hears ys)
               (stops-on (session_steps a.it.caller) (are_steps a.it.caller) why unsaid g on (session_at a) (session_at b) (at c.it.store c.disk) (events_to a.it xs) (events_to b.it ys) h.replies stopped.replies h.runs
-              (subst (λ (call : CallSign). StopsOn g (session_steps call) (session_at b) (at c.it.store c.disk) (events_to b.it ys) why unsaid stopped.replies) h.hears.caller stopped.stops));
+              (rw h.hears.caller at stopped.stops));
         })
       ],
     )
@@ -149,9 +149,8 @@ module _ {D : Type 0} (g : Ghosts D) (lasts : (disk : D) → g.lasts disk disk) 
         replies = stopped.replies;
         text_is = stopped.text_is;
         stops =
-            subst (λ (es : List Event). StopsOn g (session_steps a.it.caller) (session_at a) (at c.it.store c.disk) es why unsaid stopped.replies) (sym (events-append a.it.octets xs ys))
-            (stops-more (session_steps a.it.caller) (are_steps a.it.caller) why unsaid g (session_at a) (at c.it.store c.disk) (events_to a.it xs) (events_behind (waiting_behind a.it.octets xs) ys) stopped.replies
-            stopped.stops);
+            rw (events-append a.it.octets xs ys)
+            (stops-more (session_steps a.it.caller) (are_steps a.it.caller) why unsaid g (session_at a) (at c.it.store c.disk) (events_to a.it xs) (events_behind (waiting_behind a.it.octets xs) ys) _ stopped.stops);
       })
     ],
   )
@@ -195,9 +194,9 @@ module _ {D : Type 0} (g : Ghosts D) (old : AtDisk ServerState D) (new : AtDisk 
     cut = cut;
     missed = missed;
     stops =
-        subst (λ (es : List Event). StopsOver (session_steps old.it.caller) (session_in old.it) es why unsaid (made text done missed) cut) (sym only)
+        rw only
         (stop-one (session_steps old.it.caller) (are_steps old.it.caller) why unsaid (session_in old.it) event (made text done missed) cut
-        (record { met = met_with event parts; heard = refl; stops = subst (λ (r : Row). StopsAt why unsaid (session_in old.it) (met_with event parts) r (made text done missed) cut) (sym is_row) stops }));
+        (record { met = met_with event parts; heard = refl; stops = rw is_row stops }));
     cuts = cuts;
     kept = kept;
   }
@@ -388,9 +387,7 @@ module _ {D : Type 0} (g : Ghosts D) (lasts : (disk : D) → g.lasts disk disk) 
     less-left session is due up =
         let p = due-among g a.store disk disk_n a.state state_n out out_n puts up.healthy up.stands_on in
         let less = smaller a.store session puts.fails p.next due (ap (λ s. next_due (store_in a.store) s puts.fails) (sym is) ∙ p.is_next) in
-        let at_state = subst (λ s. octets_left (store_in a.store) (download_part p.next.state) < octets_left (store_in a.store) (download_part s)) (sym is) less in
-        let at_next = subst (λ s. octets_left (store_in a.store) (download_part s) < octets_left (store_in a.store) (download_part a.state)) (sym p.state_is) at_state in
-        omega (arith, at_next)
+        let left = rw (sym is, sym p.state_is) at less in omega (arith, left)
 
     pub gives-due : a.replies ≡ [] → GivesNext (session_course g) now out_n (given a.replies)
     gives-due silent = subst (λ (r : List ℕ). GivesNext (session_course g) (replying r) out_n (given r)) (sym silent) (record { goes_on = goes; cut_off = cut })

@@ -30,7 +30,7 @@ use Rattle.server_node.specs.Served.{Run, TurnsBy}
 use Rattle.server_node.specs.Steps.{Made, StopsBehind, StopsOn, Steps, made}
 use Rattle.server_node.specs.Stops.{HasAirCause, served_by, stop_of_node}
 use Rattle.server_node.specs.Sessions.Course.{GoesOver, HaltsOver, session_at, session_course}
-use Rattle.server_node.specs.Sessions.Packets.{events_behind, events_to, waiting_behind}
+use Rattle.server_node.specs.Sessions.Packets.{events_to, waiting_behind}
 use Rattle.server_node.specs.Sessions.Running.{first_session, session_steps}
 use Rattle.server_node.specs.Sessions.ServerState.{ServerState, new_server}
 use Rattle.server_node.specs.Sessions.SessionRan.{IsGreeted, IsUngreeted, SessionRan, login_text}
@@ -131,11 +131,8 @@ module _ {A C D : Type 0} (seen : Seen D A C) (terms : SessionTerms) (first : �
       brings-at : (turns : List Turn) (front behind : List ℕ) (inputs : List Input) → took.all.moments ≡ front ++ behind → length front ≡ length turns → inputs ≡ inputs_of turns front → IsOctets (octets_in inputs)
           → Brings [] turns all_moments (events_to server inputs) (waiting_behind [] inputs)
       brings-at turns front behind inputs split same is are =
-          let here = brings-of turns front same (subst (λ (is : List Input). IsOctets (octets_in is)) is are) in
-          let of_inputs = subst (λ (is : List Input). Brings [] turns front (events_behind [] is) (waiting_behind [] is)) (sym is) here in
-          subst (λ (ms : List ℕ). Brings [] turns ms (events_to server inputs) (waiting_behind [] inputs))
-          (sym (moments.are ∙ ap (λ (ms : List ℕ). ms ++ moments.more) split ∙ append_assoc front behind moments.more))
-          (brings-more [] turns front (behind ++ moments.more) (events_to server inputs) (waiting_behind [] inputs) of_inputs)
+          rw (moments.are ∙ ap (λ (ms : List ℕ). ms ++ moments.more) split ∙ append_assoc front behind moments.more)
+          (brings-more [] turns front (behind ++ moments.more) (events_to server inputs) (waiting_behind [] inputs) (rw is (brings-of turns front same (rw is at are))))
 
       brings : IsOctets (octets_in took.all.events) → Brings [] took.all.turns all_moments events (waiting_behind [] took.all.events)
       brings are = brings-at took.all.turns took.all.moments [] took.all.events (sym (append-nil took.all.moments)) took.one_each took.brings are

@@ -17,9 +17,8 @@ returns-then-not-is_empty-clause-next g c is =
 
 pub returns-then-self-clause-all : goal.returns-then-self-clause-all
 returns-then-self-clause-all g c is =
-    let a = server_state c.self.inside in
     rw (sym c.self.view_is)
-    (gave-last g.D.Disk g.met.D.Disk.lasts_same g.met.D.Disk.lasts_on a c.args.disk.now (is-nil a.replies (sym c.is_empty.ensures ∙ c.if-not-is_empty.false)) c.if-self.true)
+    (gave-last g.D.Disk g.met.D.Disk.lasts_same g.met.D.Disk.lasts_on (server_state c.self.inside) c.args.disk.now (is-nil _ (sym c.is_empty.ensures ∙ c.if-not-is_empty.false)) c.if-self.true)
 
 pub invariant_of-self-then-not-fill : goal.invariant_of-self-then-not-fill
 invariant_of-self-then-not-fill g c = server-filled c.self.inside c.fill.new.store c.fill.new.self c.fill.ensures.store c.fill.ensures.uploads c.fill.ensures.due c.self.invariant
