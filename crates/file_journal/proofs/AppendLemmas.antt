@@ -285,34 +285,36 @@ module _ {D : Type 0} (g : Ghosts D) (journal : Position) (old : D) (ok : journa
           beside = (octets, is_image, subst (λ (l : List ℕ). Torn journal.place (5 + length entry.content) octets l) (sym put.1) torn);
         }
 
-    -- what it makes and leaves
-    module _ {U E : Type 0} (result : Result U E) (new : D) (text : List ℕ) (text_is : text ≡ record_text entry ++ 0 ∷ [])
-        (makes : Makes g result old new (OpensGate journal.place text) (IsPutting journal.place text (g.images old))) where
-      pub appends : OnOk result (HasContent (g.content old) (g.content new) (Appends journal entry))
-      appends = on_ok_weaker result (λ has. told_weaker (g.content old) _ _ (λ before told now.
-          let is_now : now.0 ≡ with_gate journal.place 1 (record_text entry ++ 0 ∷ []) before = now.2 ∙ ap (λ (l : List ℕ). with_gate journal.place 1 l before) text_is in
-          (now.0, now.1, record { octets = is_now; store = ap (journal_of journal.magic) is_now ∙ put_store before (all_end before told) })) has) makes.ok
+    -- what it makes and leaves, where the journal is seen so
+    module _ (seen : Position) (seen_is : seen ≡ journal) {U E : Type 0} (result : Result U E) (new : D) (text : List ℕ) (text_is : text ≡ record_text entry ++ 0 ∷ [])
+        (seen_makes : Makes g result old new (OpensGate seen.place text) (IsPutting seen.place text (g.images old))) where
+      makes : Makes g result old new (OpensGate journal.place (record_text entry ++ 0 ∷ [])) (IsPutting journal.place (record_text entry ++ 0 ∷ []) (g.images old))
+      makes = subst (λ (p : Position). Makes g result old new (OpensGate p.place (record_text entry ++ 0 ∷ [])) (IsPutting p.place (record_text entry ++ 0 ∷ []) (g.images old))) seen_is
+          (subst (λ (l : List ℕ). Makes g result old new (OpensGate seen.place l) (IsPutting seen.place l (g.images old))) text_is seen_makes)
 
-      pub stands_after : (place : ℕ) → place ≡ journal.place + 4 + length entry.content → IfSome (g.content new) IsOctets → OnOk result (StandsOn g (record journal { place = place }) new)
-      stands_after place is_place are = on_ok_both result (λ has rest. inr (if_told (g.content new) _ (λ now told_now.
-          let was = content_now _ _ (OpensGate journal.place text) now makes.puts.told has told_now in
+      pub appends : OnOk result (HasContent (g.content old) (g.content new) (Appends journal entry))
+      appends = on_ok_weaker result (λ has. told_weaker (g.content old) _ _ (λ before told now. (now.0, now.1, record { octets = now.2; store = ap (journal_of journal.magic) now.2 ∙ put_store before (all_end before told) })) has) makes.ok
+
+      pub stands_after : (place : ℕ) → place ≡ seen.place + 4 + length entry.content → IfSome (g.content new) IsOctets → OnOk result (StandsOn g (record seen { place = place }) new)
+      stands_after place is_place are = subst (λ (p : Position). OnOk result (StandsOn g (record p { place = place }) new)) (sym seen_is) (on_ok_both result (λ has rest. inr (if_told (g.content new) _ (λ now told_now.
+          let was = content_now _ _ (OpensGate journal.place (record_text entry ++ 0 ∷ [])) now makes.puts.told has told_now in
           let all = all_end was.0 was.1 in
           let entries = all.entries ++ entry ∷ [] in
-          let is_now : now ≡ with_gate journal.place 1 (record_text entry ++ 0 ∷ []) was.0 = was.2 ∙ ap (λ (l : List ℕ). with_gate journal.place 1 l was.0) text_is in
-          let ends = subst (λ (n : ℕ). Ends journal.magic journal.blocks entries n now) (sym is_place)
-          (subst (λ (l : List ℕ). Ends journal.magic journal.blocks entries (journal.place + 4 + length entry.content) l) (sym is_now) (gate_open _ _ _ _ was.0 all.content entry is)) in
+          let at_place : journal.place + 4 + length entry.content ≡ place = ap (λ (p : Position). p.place + 4 + length entry.content) (sym seen_is) ∙ sym is_place in
+          let ends = subst (λ (n : ℕ). Ends journal.magic journal.blocks entries n now) at_place
+          (subst (λ (l : List ℕ). Ends journal.magic journal.blocks entries (journal.place + 4 + length entry.content) l) (sym was.2) (gate_open _ _ _ _ was.0 all.content entry is)) in
           let at = ends_at (record journal { place = place }) entries now (at_told IsOctets now told_now are) ends in (
             entries,
             at.0,
             λ image here.
                 let same = at_told (Only (images_now g new)) now told_now rest image here in
                 (subst (λ (l : List ℕ). IsAt (record journal { place = place }) entries l) (sym same) at.0, ap (left_to_read (record journal { place = place })) same),
-          )))) makes.ok makes.quiet
+          )))) makes.ok makes.quiet)
 
       module _ (counts_now : (t : ℕ) (image : List ℕ) → t ≤ g.moment old → g.images old image → g.images_since old t image) (is_image : IfSome (g.content old) (g.images old)) where
         pub leaves : Leaves g old new (IsAppending journal entry (g.images old))
         leaves = told_weaker (g.content old) _ _ (λ before told left. weaker g.moment g.images_since old new _ _ (λ image put.
-            putting counts_now before told (at_told (g.images old) before told is_image) image (subst (λ (l : List ℕ). IsPutting journal.place l (g.images old) before image) text_is put)) left) makes.since
+            putting counts_now before told (at_told (g.images old) before told is_image) image put) left) makes.since
 
         pub any_moment : IfSome (g.content old) (λ before. LeavesSince (g.moment old) (g.images_since new) (λ image. IsBeforeOrAfter (journal_of journal.magic before) entry (journal_of journal.magic image)))
         any_moment = told_weaker (g.content old) _ _ (λ before told left image since. ⊎_elim
@@ -321,29 +323,3 @@ module _ {D : Type 0} (g : Ghosts D) (journal : Position) (old : D) (ok : journa
             inl (ends_store _ _ _ _ image (all.images image past) ∙ sym (ends_store _ _ _ _ before all.content)))
             (λ here. here.store)
             (left.each (g.moment old) image (omega arith) since)) leaves
-
--- The same of the journal as callers see it.
-module _ {D : Type 0} (g : Ghosts D) (old new : D) (journal self : Position) (view_is : journal ≡ self) (ok : journal.failed ≡ false) (ended : self.ended ≡ true) (stands : StandsOn g self old) where
-  end : journal.ended ≡ true
-  end = ap (λ (position : Position). position.ended) view_is ∙ ended
-
-  stands_inside : StandsOn g journal old
-  stands_inside = subst (λ (position : Position). StandsOn g position old) (sym view_is) stands
-
-  module _ (entry : Record) (is : IsRecord entry) {U E : Type 0} (result : Result U E) (text : List ℕ) (text_is : text ≡ record_text entry ++ 0 ∷ [])
-      (makes : Makes g result old new (OpensGate journal.place text) (IsPutting journal.place text (g.images old))) where
-    pub seen_appends : OnOk result (HasContent (g.content old) (g.content new) (Appends self entry))
-    seen_appends = subst (λ (position : Position). OnOk result (HasContent (g.content old) (g.content new) (Appends position entry))) view_is
-        (appends g journal old ok end stands_inside entry is result new text text_is makes)
-
-    pub seen_stands : (place : ℕ) → place ≡ journal.place + 4 + length entry.content → IfSome (g.content new) IsOctets → OnOk result (StandsOn g (record journal { place = place }) new)
-    seen_stands place is_place are = stands_after g journal old ok end stands_inside entry is result new text text_is makes place is_place are
-
-    module _ (counts_now : (t : ℕ) (image : List ℕ) → t ≤ g.moment old → g.images old image → g.images_since old t image) (is_image : IfSome (g.content old) (g.images old)) where
-      pub seen_leaves : Leaves g old new (IsAppending self entry (g.images old))
-      seen_leaves = subst (λ (position : Position). Leaves g old new (IsAppending position entry (g.images old))) view_is
-          (leaves g journal old ok end stands_inside entry is result new text text_is makes counts_now is_image)
-
-      pub seen_any_moment : IfSome (g.content old) (λ before. LeavesSince (g.moment old) (g.images_since new) (λ image. IsBeforeOrAfter (journal_of self.magic before) entry (journal_of self.magic image)))
-      seen_any_moment = subst (λ (position : Position). IfSome (g.content old) (λ before. LeavesSince (g.moment old) (g.images_since new) (λ image. IsBeforeOrAfter (journal_of position.magic before) entry (journal_of position.magic image)))) view_is
-          (any_moment g journal old ok end stands_inside entry is result new text text_is makes counts_now is_image)
