@@ -6,17 +6,16 @@ use Rattle.file_journal.specs.Calls.{EachImage, Leaves, Puts, TellsAlike, images
 use Rattle.file_journal.specs.Commands.{MakesBetween, MakesFirst, StayDone}
 use Rattle.file_journal.specs.Form.{Form, StandsFor, standing_of}
 use Rattle.file_journal.specs.Journal.{IsBeforeOrAfter, Standing, journal_of, store_of}
-use Rattle.file_journal.specs.Kept.{Does, IsBeside, KeptOn, StandsAt, by_fours, kept_on}
+use Rattle.file_journal.specs.Kept.{Does, KeptOn, StandsAt, by_fours, kept_on}
 use Rattle.file_journal.specs.Position.{Position, StandsOn, left_to_read}
 use Rattle.file_journal.specs.Records.{Reading, Record, with_records}
 use Rattle.file_journal.specs.Walk.{StandFor, stands_of, state}
 use Rattle.file_journal.specs.declared.faults.JournalFault.{JournalFault}
 use Rattle.file_journal.specs.declared.faults.JournalFault.TheVariants as fault
-use Rattle.file_journal.proofs.AppendLemmas.{AllEnd, Ends, all_end, ends_at, ends_kept, ends_store}
 use Rattle.file_journal.proofs.CommandLemmas.{makes_one, stay_none}
 use Rattle.file_journal.proofs.MomentLemmas.{weaker}
 use Rattle.file_journal.proofs.ToldLemmas.{at_told, if_told, told_before, told_weaker}
-use Rattle.file_journal.proofs.WalkLemmas.{failed_keeps, one_step, stands_keeps}
+use Rattle.file_journal.proofs.WalkLemmas.{failed_keeps, one_step}
 
 -- a fault of an append that isn't an earlier one is one of the disk
 pub is_disk : {T : Type 0} (e : JournalFault) → (IsErrOf {T = T} (Err e) fault.Failed → ⊥) → IsErrOf {T = T} (Err e) fault.Disk
@@ -63,50 +62,6 @@ module _ {S C : Type 0} (form : Form S C) where
         any_number (form.number at.now) at.journal.blocks at.journal.blocks there.0 (journal_of form.magic image) there.1
         ∙ ap (λ (l : List ℕ). stands_of form.fresh form.step at.journal.blocks (journal_of l image)) (sym stands.magic_is)
         ∙ at_told (λ (_ : List ℕ). (image : List ℕ) → images_now g at.disk image → StandFor form.fresh form.step at.journal at.now image) octets told (stands.keeps.images healthy) image here)
-
-    -- ---- what lies beside the journal
-
-    -- What is written behind the next gate, or is torn there, leaves the state kept.
-    pub stands_beside : (now : S) (journal : Position) (old new : D) → StandsAt g form (kept_on now journal old) → journal.failed ≡ false → TellsAlike (g.content old) (g.content new)
-        → IfSome (g.content old) (λ before. IfSome (g.content new) (IsBeside journal.place before) × ((image : List ℕ) → images_now g new image → IsBeside journal.place before image))
-        → StandsAt g form (kept_on now journal new)
-    stands_beside now journal old new stands healthy alike beside = record {
-      magic_is = stands.magic_is;
-      keeps = stands_keeps g form.fresh form.step journal now new
-          (inr (if_told (g.content new) _ (λ octets told.
-          let was = told_before (g.content old) (g.content new) octets alike told in
-          let here = ends_there octets told in
-          let at = ends_at journal (all was.0 was.1).entries octets (there octets told).are_octets here in (
-            (all was.0 was.1).entries,
-            at.0,
-            λ image is.
-                let lies = (at_told (λ (before : List ℕ). _) was.0 was.1 beside).1 image is in
-                let now_at = ends_at journal (all was.0 was.1).entries image lies.are_octets (ends_kept journal.magic journal.blocks (all was.0 was.1).entries journal.place was.0 (all was.0 was.1).content image lies.front lies.no_shorter) in
-                (now_at.0, now_at.1 ∙ sym at.1),
-          ))))
-          stands.keeps.ended
-          (λ fine. if_told (g.content new) _ (λ octets told.
-          let was = told_before (g.content old) (g.content new) octets alike told in
-          let entries = (all was.0 was.1).entries in
-          ap (stands_of form.fresh form.step journal.blocks)
-          (ends_store journal.magic journal.blocks entries journal.place octets (ends_there octets told)
-          ∙ sym (ends_store journal.magic journal.blocks entries journal.place was.0 (all was.0 was.1).content))
-          ∙ at_told (StandFor form.fresh form.step journal now) was.0 was.1 (stands.keeps.content healthy)));
-    }
-      where
-        all : (before : List ℕ) → g.content old ≡ Some before → AllEnd g journal old healthy (stands.keeps.ended healthy) stands.keeps.stands_on before
-        all before told = all_end g journal old healthy (stands.keeps.ended healthy) stands.keeps.stands_on before told
-
-        there : (octets : List ℕ) (told : g.content new ≡ Some octets) → IsBeside journal.place (told_before (g.content old) (g.content new) octets alike told).0 octets
-        there octets told =
-            let was = told_before (g.content old) (g.content new) octets alike told in
-            at_told (IsBeside journal.place was.0) octets told (at_told (λ (before : List ℕ). _) was.0 was.1 beside).0
-
-        ends_there : (octets : List ℕ) (told : g.content new ≡ Some octets)
-            → Ends journal.magic journal.blocks (all (told_before (g.content old) (g.content new) octets alike told).0 (told_before (g.content old) (g.content new) octets alike told).1).entries journal.place octets
-        ends_there octets told =
-            let was = told_before (g.content old) (g.content new) octets alike told in
-            ends_kept journal.magic journal.blocks (all was.0 was.1).entries journal.place was.0 (all was.0 was.1).content octets (there octets told).front (there octets told).no_shorter
 
     -- ---- one record
 

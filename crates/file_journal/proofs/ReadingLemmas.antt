@@ -1,13 +1,14 @@
 -- What is read from a gate on.
-use Rattle.std.proofs.Common.{◌≡◌, ◌≢◌, ◌⊎◌, min, inl, inr, ⊎_elim, ℕ, zero, suc, ◌+◌, ◌-◌, ◌*◌, ◌/◌, ◌%◌, ◌<◌, ◌≤◌, true, false, ◌==◌, nat_le, nat_lt, if◌then◌else◌, List, [], ◌∷◌, ◌++◌, length, get_or, take, drop, refl, sym, ◌∙◌, ap, ap₂, subst, arith, append_assoc, append-nil, length-append, length-drop, take-append-drop, drop-drop, get_or-drop, get_or-take, ne_eqb}
-use Rattle.std.proofs.lemmas.Bool.{cond-true, cond-false, cases_Bool, cases_eq, cases_lt, and_parts, and_from, and_left, and_right, leb-true, ltb-true, le-leb, lt-leb, lt-ltb, le-ltb, both_ways}
+use Rattle.std.proofs.Common.{◌≡◌, ◌≢◌, ◌↔◌, min, inl, inr, ⊎_elim, ℕ, zero, suc, ◌+◌, ◌-◌, ◌*◌, ◌/◌, ◌%◌, ◌<◌, ◌≤◌, true, false, ◌==◌, nat_le, nat_lt, if◌then◌else◌, List, [], ◌∷◌, ◌++◌, length, get_or, take, drop, refl, sym, ◌∙◌, ap, ap₂, subst, arith, append_assoc, append-nil, length-append, length-drop, take-append-drop, drop-drop, get_or-drop, get_or-take, ne_eqb}
+use Rattle.std.proofs.lemmas.Bool.{cond-true, cond-false, cases_Bool, cases_eq, cases_lt, and_parts, and_from, leb-true, ltb-true, le-leb, lt-ltb, both_ways}
+use Rattle.std.proofs.lemmas.Bool.Decides.{same_from_decides}
 use Rattle.std.proofs.lemmas.List.{take_at, drop_at, drop_more, drop_all, drop-take, length-take, length-take-le, take-take, take_all}
 use Rattle.std.proofs.lemmas.List.Elements.{All-take, All-drop, All-head, All-tail}
 use Rattle.std.specs.List.{AllByRecursion}
 use Rattle.px_base.specs.Numbers.{le16}
 use Rattle.px_base.specs.Octets.{IsOctets}
 use Rattle.file_journal.specs.Finding.{BeginsRecord}
-use Rattle.file_journal.specs.Records.{HasRecord, Record, IsRecord, record_text, records_text, StartsClosed, StartsCut, Reading, whole, broken, StandsFrom, record_len, starts_whole, record_in, with_record, with_records, reading_within, reading_from}
+use Rattle.file_journal.specs.Records.{HasRecord, Record, IsRecord, record_of, record_text, records_text, StartsClosed, StartsCut, Reading, whole, broken, StandsFrom, record_len, starts_whole, record_in, with_record, with_records, reading_within, reading_from}
 
 -- what is made of what follows a gate's record
 abbrev step_of : ℕ → ℕ → List ℕ → Reading → Reading
@@ -48,18 +49,20 @@ reading_broken place octets cut = reading_step place 1 octets ∙ cond-false (st
 pub reading_whole : (place : ℕ) (octets : List ℕ) → starts_whole octets ≡ true → reading_from place (1 ∷ octets) ≡ with_record (record_in octets) (reading_from (place + 1 + record_len octets) (drop (record_len octets) octets))
 reading_whole place octets is_whole = reading_step place 1 octets ∙ cond-true (starts_whole octets) _ _ is_whole
 
+-- what the test says
+whole_is : (octets : List ℕ) → (starts_whole octets ≡ true) ↔ ((le16 octets 1 ≤ 600) × (record_len octets < length octets))
+whole_is octets = (
+  λ w. let parts = and_parts (nat_le (le16 octets 1) 600) (nat_lt (record_len octets) (length octets)) w in (leb-true (le16 octets 1) 600 parts.0, ltb-true (record_len octets) (length octets) parts.1),
+  λ parts. and_from _ _ (le-leb (le16 octets 1) 600 parts.0) (lt-ltb (record_len octets) (length octets) parts.1),
+)
+
 -- A record's text, with a gate behind it, is read as that record.
 module _ (entry : Record) (is : IsRecord entry) (gate : ℕ) (later : List ℕ) where
   number : le16 (record_text entry ++ gate ∷ later) 1 ≡ length entry.content
   number = omega (arith, is.most)
 
-  text_length : length (record_text entry ++ gate ∷ later) ≡ 4 + length entry.content + length later
-  text_length = omega (arith, length-append entry.content (gate ∷ later))
-
   pub text_starts_whole : starts_whole (record_text entry ++ gate ∷ later) ≡ true
-  text_starts_whole =
-      and_from _ _ (le-leb (le16 (record_text entry ++ gate ∷ later) 1) 600 (omega (arith, number, is.most)))
-      (lt-ltb (record_len (record_text entry ++ gate ∷ later)) (length (record_text entry ++ gate ∷ later)) (omega (arith, number, text_length)))
+  text_starts_whole = (whole_is (record_text entry ++ gate ∷ later)).1 (omega (arith, number, is.most), omega (arith, number, length-append entry.content (gate ∷ later)))
 
   pub text_record_in : record_in (record_text entry ++ gate ∷ later) ≡ entry
   text_record_in =
@@ -78,12 +81,6 @@ module _ (entry : Record) (is : IsRecord entry) (gate : ℕ) (later : List ℕ) 
       ∙ ap₂ with_record text_record_in
       (ap₂ reading_from (let at : place + 1 + record_len (record_text entry ++ gate ∷ later) ≡ place + 4 + length entry.content = omega (arith, number) in at) text_rest)
 
--- what the test says
-pub whole_parts : (octets : List ℕ) → starts_whole octets ≡ true → (le16 octets 1 ≤ 600) × (record_len octets < length octets)
-whole_parts octets is_whole =
-    let parts = and_parts (nat_le (le16 octets 1) 600) (nat_lt (record_len octets) (length octets)) is_whole in
-    (leb-true (le16 octets 1) 600 parts.0, ltb-true (record_len octets) (length octets) parts.1)
-
 -- the text of a record of this kind and content
 three_octets : (kind low high n : ℕ) (content : List ℕ) → low < 256 → high < 256 → length content ≡ low + 256 * high
     → kind ∷ low ∷ high ∷ content ≡ record_text (record { kind = kind; content = content })
@@ -94,13 +91,13 @@ three_octets kind low high n content hl hh is =
 
 -- Octets that begin with a whole record and a gate are its text and what follows.
 pub whole_text : (octets : List ℕ) → IsOctets octets → starts_whole octets ≡ true → (gate : ℕ) × (later : List ℕ) × IsRecord (record_in octets) × (octets ≡ record_text (record_in octets) ++ gate ∷ later)
-whole_text [] are is_whole = absurd (let parts = whole_parts [] is_whole in omega (arith, parts.1))
-whole_text (a ∷ []) are is_whole = absurd (let parts = whole_parts (a ∷ []) is_whole in omega (arith, parts.1))
-whole_text (a ∷ b ∷ []) are is_whole = absurd (let parts = whole_parts (a ∷ b ∷ []) is_whole in omega (arith, parts.1))
+whole_text [] are is_whole = absurd (let parts = (whole_is []).0 is_whole in omega (arith, parts.1))
+whole_text (a ∷ []) are is_whole = absurd (let parts = (whole_is (a ∷ [])).0 is_whole in omega (arith, parts.1))
+whole_text (a ∷ b ∷ []) are is_whole = absurd (let parts = (whole_is (a ∷ b ∷ [])).0 is_whole in omega (arith, parts.1))
 whole_text (kind ∷ low ∷ high ∷ rest) are is_whole =
     let P : ℕ → Type 0 = λ octet. octet < 256 in
     let n = low + 256 * high in
-    let parts = whole_parts (kind ∷ low ∷ high ∷ rest) is_whole in
+    let parts = (whole_is (kind ∷ low ∷ high ∷ rest)).0 is_whole in
     let most : n ≤ 600 = omega (arith, parts.0) in
     let long : n < length rest = omega (arith, parts.1) in
     let size : length (take n rest) ≡ n = length-take-le n rest (omega (arith, long)) in
@@ -252,23 +249,17 @@ module _ (place : ℕ) (octets : List ℕ) where
 
   -- a record of this kind and length
   pub read_one : (kind n : ℕ) → place < length octets → get_or octets place 0 ≡ 1 → kind ≡ get_or (drop (place + 1) octets) 0 0 → n ≡ le16 (drop (place + 1) octets) 1 → n ≤ 600 → place + 4 + n < length octets
-      → reading_from place (drop place octets) ≡ with_record (record { kind = kind; content = take n (drop (place + 4) octets) }) (reading_from (place + 4 + n) (drop (place + 4 + n) octets))
+      → reading_from place (drop place octets) ≡ with_record (record_of kind (take n (drop (place + 4) octets))) (reading_from (place + 4 + n) (drop (place + 4 + n) octets))
   read_one kind n there is_open is_kind is_number most long =
       let rest = drop (place + 1) octets in
       let size : length rest ≡ length octets - (place + 1) = length-drop (place + 1) octets in
-      let is_whole : starts_whole rest ≡ true =
-      and_from _ _ (le-leb (le16 rest 1) 600 (omega (arith, is_number, most))) (lt-ltb (record_len rest) (length rest) (omega (arith, is_number, long, size))) in
+      let is_whole : starts_whole rest ≡ true = (whole_is rest).1 (omega (arith, is_number, most), omega (arith, is_number, long, size)) in
       let at : place + 1 + record_len rest ≡ place + 4 + n = omega (arith, is_number) in
       let content : drop 3 rest ≡ drop (place + 4) octets = drop-drop 3 (place + 1) octets ∙ ap (λ (i : ℕ). drop i octets) (let same : place + 1 + 3 ≡ place + 4 = omega arith in same) in
       let next : drop (record_len rest) rest ≡ drop (place + 4 + n) octets = drop-drop (record_len rest) (place + 1) octets ∙ ap (λ (i : ℕ). drop i octets) at in
-      let entry : record_in rest ≡ record { kind = kind; content = take n (drop (place + 4) octets) } =
-      ap₂ (λ (k : ℕ) (l : List ℕ). let r : Record = record { kind = k; content = l } in r) (sym is_kind) (ap₂ (λ (i : ℕ) (l : List ℕ). take i l) (sym is_number) content) in
+      let entry : record_in rest ≡ record_of kind (take n (drop (place + 4) octets)) =
+      ap₂ record_of (sym is_kind) (ap₂ (λ (i : ℕ) (l : List ℕ). take i l) (sym is_number) content) in
       ap (reading_from place) (at_gate there is_open) ∙ reading_whole place rest is_whole ∙ ap₂ with_record entry (ap₂ reading_from at next)
-
--- no whole record where its content is too long, or it and a gate aren't there
-pub not_whole : (octets : List ℕ) → (600 < le16 octets 1) ⊎ (length octets ≤ record_len octets) → starts_whole octets ≡ false
-not_whole octets (inl long) = and_left (nat_le (le16 octets 1) 600) (nat_lt (record_len octets) (length octets)) (lt-leb (le16 octets 1) 600 long)
-not_whole octets (inr short) = and_right (nat_le (le16 octets 1) 600) (nat_lt (record_len octets) (length octets)) (le-ltb (record_len octets) (length octets) short)
 
 -- whether a record with a gate behind it stands at the front is seen in 604 octets
 starts_whole-front : (octets : List ℕ) (n : ℕ) → n ≡ min 604 (length octets) → starts_whole (take n octets) ≡ starts_whole octets
@@ -278,20 +269,10 @@ starts_whole-front octets n is = elim (cases_lt (length octets) 604) [
       let at : (i : ℕ) → i < 604 → get_or (take n octets) i 0 ≡ get_or octets i 0 = λ i lt. get_or-take n octets i 0 (omega (arith, is)) in
       let number : le16 (take n octets) 1 ≡ le16 octets 1 = omega (arith, at 1 (omega arith), at 2 (omega arith)) in
       let size : length (take n octets) ≡ 604 = omega (arith, length-take n octets, is) in
-      elim (cases_Bool (starts_whole octets)) [
-        | inl is_whole ↦
-            let parts = whole_parts octets is_whole in
-            and_from _ _ (le-leb (le16 (take n octets) 1) 600 (omega (arith, number, parts.0)))
-            (lt-ltb (record_len (take n octets)) (length (take n octets)) (omega (arith, number, parts.0, size)))
-            ∙ sym is_whole
-        | inr cut ↦ elim (cases_Bool (starts_whole (take n octets))) [
-          | inl is_whole ↦
-              let parts = whole_parts (take n octets) is_whole in
-              absurd (both_ways (starts_whole octets) cut
-              (and_from _ _ (le-leb (le16 octets 1) 600 (omega (arith, number, parts.0))) (lt-ltb (record_len octets) (length octets) (omega (arith, number, parts.0, many)))))
-          | inr none ↦ none ∙ sym cut
-        ]
-      ]
+      same_from_decides {P = starts_whole octets ≡ true} (starts_whole (take n octets)) (starts_whole octets) (
+        λ w. let parts = (whole_is (take n octets)).0 w in (whole_is octets).1 (omega (arith, number, parts.0), omega (arith, number, parts.0, many)),
+        λ w. let parts = (whole_is octets).0 w in (whole_is (take n octets)).1 (omega (arith, number, parts.0), omega (arith, number, parts.0, size)),
+      ) (λ w. w, λ w. w)
 ]
 
 -- What is read from a gate on, in which the record is seen.
@@ -348,18 +329,18 @@ module _ (place count : ℕ) (octets front : List ℕ) (there : place < length o
 
 -- a reading that begins with a record isn't one without, and begins with no other
 pub no_record : (entry : Record) (reading : Reading) → with_record entry reading ≡ whole [] → ⊥
-no_record entry (whole entries) is = cc is
-no_record entry (broken entries at) is = cc is
+no_record entry (whole entries) is = cc
+no_record entry (broken entries at) is = cc
 
-pub no_record_broken : (entry : Record) (reading : Reading) (at : ℕ) → with_record entry reading ≡ broken [] at → ⊥
-no_record_broken entry (whole entries) at is = cc is
-no_record_broken entry (broken entries where_) at is = cc is
+no_record_broken : (entry : Record) (reading : Reading) (at : ℕ) → with_record entry reading ≡ broken [] at → ⊥
+no_record_broken entry (whole entries) at is = cc
+no_record_broken entry (broken entries where_) at is = cc
 
-pub same_record : (a b : Record) (x y : Reading) → with_record a x ≡ with_record b y → (a ≡ b) × (x ≡ y)
-same_record a b (whole x) (whole y) is = (cc is, cc is)
-same_record a b (whole x) (broken y at) is = absurd (cc is)
-same_record a b (broken x at) (whole y) is = absurd (cc is)
-same_record a b (broken x at) (broken y where_) is = (cc is, cc is)
+same_record : (a b : Record) (x y : Reading) → with_record a x ≡ with_record b y → (a ≡ b) × (x ≡ y)
+same_record a b (whole x) (whole y) is = (cc, cc)
+same_record a b (whole x) (broken y at) is = (cc, cc)
+same_record a b (broken x at) (whole y) is = (cc, cc)
+same_record a b (broken x at) (broken y where_) is = (cc, cc)
 
 -- Where a record is read, what is behind it is read there.
 pub read_on : (place : ℕ) (octets : List ℕ) (entry : Record) (next : Reading) → reading_from place (drop place octets) ≡ with_record entry next
@@ -370,23 +351,16 @@ read_on place octets entry next is = elim (cases_lt place (length octets)) [
     | inr shut ↦ absurd (no_record entry next (sym is ∙ read_closed place octets there shut))
     | inl is_open ↦ elim (cases_Bool (starts_whole (drop (place + 1) octets))) [
       | inr cut ↦ absurd (no_record_broken entry next place (sym is ∙ read_cut place octets there is_open cut))
-      | inl is_whole ↦ on place octets entry next there is_open is_whole is
+      | inl is_whole ↦
+          let rest = drop (place + 1) octets in
+          let n = le16 rest 1 in
+          let parts = (whole_is rest).0 is_whole in
+          let long : place + 4 + n < length octets = omega (arith, parts.1, length-drop (place + 1) octets) in
+          let same : (record_of (get_or rest 0 0) (take n (drop (place + 4) octets)) ≡ entry) × (reading_from (place + 4 + n) (drop (place + 4 + n) octets) ≡ next) =
+          same_record _ entry _ next (sym (read_one place octets (get_or rest 0 0) n there is_open refl refl parts.0 long) ∙ is) in
+          let number : n ≡ length entry.content =
+          sym (length-take-le n (drop (place + 4) octets) (omega (arith, long, length-drop (place + 4) octets))) ∙ ap (λ (e : Record). length e.content) same.0 in
+          (omega (arith, long, number), ap (λ (i : ℕ). reading_from (place + 4 + i) (drop (place + 4 + i) octets)) (sym number) ∙ same.1)
     ]
   ]
 ]
-  where
-    on : (place : ℕ) (octets : List ℕ) (entry : Record) (next : Reading) → place < length octets → get_or octets place 0 ≡ 1 → starts_whole (drop (place + 1) octets) ≡ true
-        → reading_from place (drop place octets) ≡ with_record entry next
-        → (place + 4 + length entry.content < length octets) × (reading_from (place + 4 + length entry.content) (drop (place + 4 + length entry.content) octets) ≡ next)
-    on place octets entry next there is_open is_whole is =
-        let rest = drop (place + 1) octets in
-        let n = le16 rest 1 in
-        let parts = whole_parts rest is_whole in
-        let size : length rest ≡ length octets - (place + 1) = length-drop (place + 1) octets in
-        let long : place + 4 + n < length octets = omega (arith, parts.1, size) in
-        let here : Record = record { kind = get_or rest 0 0; content = take n (drop (place + 4) octets) } in
-        let same : (here ≡ entry) × (reading_from (place + 4 + n) (drop (place + 4 + n) octets) ≡ next) =
-        same_record here entry _ next (sym (read_one place octets (get_or rest 0 0) n there is_open refl refl parts.0 long) ∙ is) in
-        let number : n ≡ length entry.content =
-        sym (length-take-le n (drop (place + 4) octets) (omega (arith, long, length-drop (place + 4) octets))) ∙ ap (λ (e : Record). length e.content) same.0 in
-        (omega (arith, long, number), ap (λ (i : ℕ). reading_from (place + 4 + i) (drop (place + 4 + i) octets)) (sym number) ∙ same.1)

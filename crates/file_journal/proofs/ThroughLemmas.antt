@@ -1,18 +1,17 @@
 -- What stands on the disk from the recovery of a state on, through commands.
-use Rattle.std.proofs.Common.{◌≡◌, inr, ⊎_elim, ℕ, ◌+◌, List, ◌++◌, length, Some, IfSome, refl, ◌∙◌, ap, subst, arith}
-use Rattle.px_base.specs.Outside.{Rose}
+use Rattle.std.proofs.Common.{◌≡◌, ⊎_elim, ℕ, ◌+◌, List, ◌++◌, length, Some, IfSome, refl, ◌∙◌, ap, subst, arith}
 use Rattle.disk_model.specs.declared.disk.Disk.{Ghosts}
 use Rattle.file_journal.specs.AmongReads.{CountsSome, PutsAmongReads}
-use Rattle.file_journal.specs.Calls.{EachImage, Leaves, Puts, Runs, TellsAlike}
+use Rattle.file_journal.specs.Calls.{EachImage, Leaves, Runs, TellsAlike}
 use Rattle.file_journal.specs.Commands.{MakesFirst, after_all}
 use Rattle.file_journal.specs.Form.{Form, StandsFor, TellsItsNumber, standing_of}
 use Rattle.file_journal.specs.Kept.{Course, DoesByFours, KeptOn}
 use Rattle.file_journal.specs.Position.{Position}
 use Rattle.file_journal.specs.Recovery.{IsSyncedFirst}
 use Rattle.file_journal.specs.Restoring.{StandsAlike}
-use Rattle.file_journal.specs.Through.{CountsWrites, IsInterrupted, StandsThrough}
+use Rattle.file_journal.specs.Through.{IsInterrupted, StandsThrough}
 use Rattle.file_journal.specs.Walk.{state}
-use Rattle.file_journal.proofs.CallLemmas.{counts_on, stops_on}
+use Rattle.file_journal.proofs.CallLemmas.{counts_on}
 use Rattle.file_journal.proofs.CommandLemmas.{makes_none}
 use Rattle.file_journal.proofs.DoesLemmas.{cut_least}
 use Rattle.file_journal.proofs.KeptLemmas.{images_here}
@@ -94,23 +93,7 @@ module _ {D S C : Type 0} (g : Ghosts D) (form : Form S C) (own : TellsItsNumber
 
 module _ {D : Type 0} (g : Ghosts D) (on : (first second third : D) → g.lasts first second → g.lasts second third → g.lasts first third) (P failed : Type 0) (old mid new : D) (fine : ¬ P)
     (first : Runs g P old mid) where
-  -- writes and syncs behind a recovery
-  pub runs_puts : Puts g failed mid new → Runs g failed old new
-  runs_puts second =
-      let same = first.faults.same fine in
-      record {
-        told = alike_on _ _ _ first.told second.told;
-        faults = record {
-          reads = omega (arith, same.0, second.reads);
-          writes = omega (arith, same.1, second.faults.no_less);
-          rose = λ stopped. inr (subst (λ (n : ℕ). Rose n (g.write_faults new)) same.1 (second.faults.rose stopped));
-          same = λ still. (second.reads ∙ same.0, second.faults.same still ∙ same.1);
-        };
-        stops = stops_on g on old mid new first.lasts same.0 same.1 second.stops;
-        lasts = on old mid new first.lasts second.lasts;
-      }
-
-  -- and with reads among them
+  -- writes and syncs behind a recovery, with reads among them
   pub runs_among : PutsAmongReads g failed mid new → PutsAmongReads g failed old new
   runs_among second =
       let same = first.faults.same fine in
@@ -130,9 +113,3 @@ module _ {D : Type 0} (g : Ghosts D) (on : (first second third : D) → g.lasts 
   -- no more reads that failed are told of than were counted
   pub runs_missed : (missed : ℕ) → CountsSome (g.read_faults mid) (g.read_faults new) missed → CountsSome (g.read_faults old) (g.read_faults new) missed
   runs_missed missed second = subst (λ (n : ℕ). CountsSome n (g.read_faults new) missed) (first.faults.same fine).0 second
-
-  -- writes and syncs alone leave the count of failed reads as it was
-  pub counts_writes : Puts g failed mid new → CountsWrites g failed old new
-  counts_writes second =
-      let same = first.faults.same fine in
-      record { reads = second.reads ∙ same.0; writes = counts_on _ _ _ failed same.1 second.faults }
