@@ -1,7 +1,6 @@
 -- What commands do to a state that is kept where reads come among them.
 use Rattle.std.proofs.Common.{◌≡◌, ◌⊎◌, inl, inr, ⊎_elim, ℕ, ◌+◌, ◌<◌, ◌≤◌, Bool, true, false, nat_le, List, [], ◌++◌, Option, IfSome, refl, sym, ◌∙◌, subst, arith}
 use Rattle.std.proofs.lemmas.Bool.Decides.{leb_tells}
-use Rattle.disk_model.specs.Moments.{TimePasses}
 use Rattle.disk_model.specs.declared.disk.Disk.{Ghosts}
 use Rattle.file_journal.specs.AmongReads.{CountsSome, DoesAmongReads, PutsAmongReads, among_reads, one_if}
 use Rattle.file_journal.specs.Calls.{ChangesReads, CountsFault, Puts, Reads}
@@ -10,16 +9,12 @@ use Rattle.file_journal.specs.Form.{Form}
 use Rattle.file_journal.specs.Kept.{Does, IsKept, KeptOn, alone, kept_on}
 use Rattle.file_journal.specs.Position.{Position, StandsOn}
 use Rattle.file_journal.specs.Walk.{ImagesStandFor, StandFor}
-use Rattle.file_journal.proofs.CallLemmas.{counts_on, counts_same, reads_now}
+use Rattle.file_journal.proofs.CallLemmas.{changes_none, changes_on, counts_none, counts_on, still, counts_same, reads_now}
 use Rattle.file_journal.proofs.DoesLemmas.{fours_course, fours_none, fours_then}
 use Rattle.file_journal.proofs.MomentLemmas.{reads}
 use Rattle.file_journal.proofs.ToldLemmas.{alike_on, alike_same, at_told, if_told}
 
 -- ---- a count of failed reads
-
--- nothing counted, where nothing is said to have failed
-counts_still : (before now : ℕ) (P : Type 0) → ¬ P → now ≡ before → CountsFault before now P
-counts_still before now P fine same = record { no_less = omega (arith, same); rose = λ failed. absurd (fine failed); same = λ still. same }
 
 -- none failed
 pub some_still : (before now : ℕ) → now ≡ before → CountsSome before now 0
@@ -54,30 +49,7 @@ some_then before mid now first second one other = record {
     by (inr last) second_rose = inr (omega (arith, last, other.no_less))
 
 module _ {D : Type 0} (g : Ghosts D) where
-  -- ---- one run of reads and another
-
-  pub changes_none : (disk : D) → ChangesReads g disk disk
-  changes_none disk = record {
-    same_content = refl;
-    same_images = λ image. (λ now. now, λ was. was);
-    same_moment = refl;
-    same_past = λ t image. (λ now. now, λ was. was);
-    same_write_faults = refl;
-  }
-
-  pub changes_on : (old mid new : D) → ChangesReads g old mid → ChangesReads g mid new → ChangesReads g old new
-  changes_on old mid new first second = record {
-    same_content = second.same_content ∙ first.same_content;
-    same_images = λ image. (λ now. (first.same_images image).0 ((second.same_images image).0 now), λ was. (second.same_images image).1 ((first.same_images image).1 was));
-    same_moment = second.same_moment ∙ first.same_moment;
-    same_past = λ t image. (λ now. (first.same_past t image).0 ((second.same_past t image).0 now), λ was. (second.same_past t image).1 ((first.same_past t image).1 was));
-    same_write_faults = second.same_write_faults ∙ first.same_write_faults;
-  }
-
   -- ---- writes and syncs, with reads among them
-
-  still : (disk : D) → TimePasses g.moment g.images g.images_since disk disk
-  still disk = record { later = omega arith; nothing_else = λ t image le since. inl since; keeps = λ t image le past. past }
 
   pub puts_among : (P : Type 0) (old new : D) → Puts g P old new → PutsAmongReads g P old new
   puts_among P old new puts = record {
@@ -98,8 +70,8 @@ module _ {D : Type 0} (g : Ghosts D) where
   puts_among_reads P Q old new fine run = record {
     told = alike_same _ _ run.only.same_content;
     reads = run.faults.no_less;
-    faults = counts_still _ _ Q fine run.only.same_write_faults;
-    stops = record { last = new; lasts = run.lasts; writes = run.only.same_write_faults; since = inl (omega arith, still new) };
+    faults = counts_on _ _ _ Q run.only.same_write_faults (counts_none _ Q fine);
+    stops = record { last = new; lasts = run.lasts; writes = run.only.same_write_faults; since = inl (omega arith, still g new) };
     lasts = run.lasts;
   }
 
@@ -155,7 +127,7 @@ module _ {D : Type 0} (g : Ghosts D) where
     -- commands alone
     pub among_does : (P : Type 0) (commands : List C) (old new : KeptOn D S) → Does g form P commands old new → DoesAmongReads g form P 0 commands old new
     among_does P commands old new does =
-        fours_course g form (alone g P) (among_reads g P 0) P P commands old new (λ p. p) (λ p. p) (λ same. subst (λ (d : D). ChangesReads g old.disk d) (sym same) (changes_none old.disk))
+        fours_course g form (alone g P) (among_reads g P 0) P P commands old new (λ p. p) (λ p. p) (λ same. subst (λ (d : D). ChangesReads g old.disk d) (sym same) (changes_none g old.disk))
         (puts_among P old.disk new.disk) (λ _. some_still _ _ does.puts.reads) does
 
     pub among_same : (P Q : Type 0) (missed other : ℕ) (commands : List C) (old new : KeptOn D S) → (P → Q) → (Q → P) → missed ≡ other → DoesAmongReads g form P missed commands old new
@@ -169,4 +141,4 @@ module _ {D : Type 0} (g : Ghosts D) where
         → DoesAmongReads g form P missed a old mid → DoesAmongReads g form Q other b mid new → DoesAmongReads g form Q (missed + other) (a ++ b) old new
     among_then on P Q missed other a b old mid new fine first second =
         fours_then g form (among_reads g P missed) (among_reads g Q other) (among_reads g Q (missed + other)) P Q a b old mid new fine first.puts.told first second
-        (changes_on old.disk mid.disk new.disk) (puts_among_then on P Q old.disk mid.disk new.disk fine first.puts second.puts) (some_then _ _ _ missed other first.reads second.reads)
+        (changes_on g old.disk mid.disk new.disk) (puts_among_then on P Q old.disk mid.disk new.disk fine first.puts second.puts) (some_then _ _ _ missed other first.reads second.reads)

@@ -1,5 +1,5 @@
 -- What a record put behind the last gate makes of a store, and what a crash leaves of it.
-use Rattle.std.proofs.Common.{◌≡◌, ◌≢◌, inl, inr, ⊎_elim, ℕ, ◌+◌, ◌<◌, ◌≤◌, true, false, List, [], ◌∷◌, ◌++◌, length, get_or, take, drop, Some, IfSome, Result, OnOk, sym, ◌∙◌, ap, subst, arith, append_assoc, append-nil, length-append, length-drop, take-append-drop, take-take, true≢false}
+use Rattle.std.proofs.Common.{◌≡◌, ◌≢◌, inl, inr, ⊎_elim, ℕ, ◌+◌, ◌<◌, ◌≤◌, true, false, List, [], ◌∷◌, ◌++◌, length, get_or, take, drop, Some, IfSome, Result, OnOk, sym, ◌∙◌, ap, subst, arith, append_assoc, append-nil, length-append, length-drop, take-append-drop, take-take}
 use Rattle.std.proofs.lemmas.Bool.{cases_eq}
 use Rattle.std.proofs.lemmas.List.{take-append-le, take_at, drop_at, length-take-le}
 use Rattle.std.proofs.lemmas.List.Elements.{All-drop, All-from_get_or}
@@ -19,8 +19,8 @@ use Rattle.file_journal.proofs.CallLemmas.{on_ok_both}
 use Rattle.file_journal.proofs.JournalLemmas.{same_header, of_full, store_parts}
 use Rattle.file_journal.proofs.MomentLemmas.{weaker}
 use Rattle.file_journal.proofs.OctetLemmas.{kept_back, torn_front, torn_wider}
-use Rattle.file_journal.proofs.PositionLemmas.{records_text-append, length-records_text-push, records-push}
-use Rattle.file_journal.proofs.ReadingLemmas.{stands_from_read, reading_records, reading_closed, with_records-whole}
+use Rattle.file_journal.proofs.PositionLemmas.{among_records, records_text-append, length-records_text-push, records-push}
+use Rattle.file_journal.proofs.ReadingLemmas.{stands_from_read, reading_records, reading_closed, all_whole}
 use Rattle.file_journal.proofs.ToldLemmas.{at_told, content_now, if_told, told_weaker}
 
 -- the store's records end at a gate at this place, which isn't open
@@ -35,9 +35,6 @@ pub record Ends (magic : List ℕ) (blocks : ℕ) (entries : List Record) (place
   pub is_place : place ≡ 16 + length (records_text entries)
   pub split : octets ≡ (header ++ records_text entries) ++ gate ∷ rest
   pub shut : gate ≢ 1
-
-all_whole : (entries : List Record) → with_records entries (whole []) ≡ whole entries
-all_whole entries = with_records-whole entries [] ∙ ap whole (append-nil entries)
 
 -- A journal that has read its end stands there.
 ends_from : (journal : Position) (passed : List Record) (octets : List ℕ) → journal.ended ≡ true → IsAt journal passed octets → Ends journal.magic journal.blocks passed journal.place octets
@@ -186,13 +183,9 @@ module _ {D : Type 0} (g : Ghosts D) (journal : Position) (old : D) (ok : journa
     pub images : (image : List ℕ) → images_now g old image → Ends journal.magic journal.blocks entries journal.place image
 
   pub all_end : (octets : List ℕ) → g.content old ≡ Some octets → AllEnd octets
-  all_end octets told = go stands
-    where
-      go : StandsOn g journal old → AllEnd octets
-      go (inl failed) = absurd (true≢false (sym failed ∙ ok))
-      go (inr holds) =
-          let at = at_told _ octets told holds in
-          record { entries = at.0; content = ends_from journal at.0 octets end at.1; images = λ image here. ends_from journal at.0 image end (at.2 image here).0 }
+  all_end octets told =
+      let at = at_told _ octets told (among_records journal (g.content old) (images_now g old) ok stands) in
+      record { entries = at.0; content = ends_from journal at.0 octets end at.1; images = λ image here. ends_from journal at.0 image end (at.2 image here).0 }
 
   pub gate_there : IfSome (g.content old) (λ octets. journal.place < length octets)
   gate_there = if_told (g.content old) _ (λ octets told. ends_there _ _ _ _ octets (all_end octets told).content)

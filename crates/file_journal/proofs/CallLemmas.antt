@@ -30,8 +30,21 @@ pub counts_on : (before mid now : ℕ) (P : Type 0) → mid ≡ before → Count
 counts_on before mid now P same counts = subst (λ (n : ℕ). CountsFault n now P) same counts
 
 module _ {D : Type 0} (g : Ghosts D) where
-  still : (disk : D) → TimePasses g.moment g.images g.images_since disk disk
+  pub still : (disk : D) → TimePasses g.moment g.images g.images_since disk disk
   still disk = record { later = omega arith; nothing_else = λ t image le since. inl since; keeps = λ t image le past. past }
+
+  -- reads change nothing, one run of them and another
+  pub changes_none : (disk : D) → ChangesReads g disk disk
+  changes_none disk = record { same_content = refl; same_images = λ image. (λ now. now, λ was. was); same_moment = refl; same_past = λ t image. (λ now. now, λ was. was); same_write_faults = refl }
+
+  pub changes_on : (old mid new : D) → ChangesReads g old mid → ChangesReads g mid new → ChangesReads g old new
+  changes_on old mid new first second = record {
+    same_content = second.same_content ∙ first.same_content;
+    same_images = λ image. (λ now. (first.same_images image).0 ((second.same_images image).0 now), λ was. (second.same_images image).1 ((first.same_images image).1 was));
+    same_moment = second.same_moment ∙ first.same_moment;
+    same_past = λ t image. (λ now. (first.same_past t image).0 ((second.same_past t image).0 now), λ was. (second.same_past t image).1 ((first.same_past t image).1 was));
+    same_write_faults = second.same_write_faults ∙ first.same_write_faults;
+  }
 
   -- no call
   pub stops_none : (disk : D) → g.lasts disk disk → StopsAtFault g disk disk
@@ -69,13 +82,7 @@ module _ {D : Type 0} (g : Ghosts D) where
 
     pub reads_on : (old mid new : D) (P Q : Type 0) → ¬ P → Reads g P old mid → Reads g Q mid new → Reads g Q old new
     reads_on old mid new P Q fine first second = record {
-      only = record {
-        same_content = second.only.same_content ∙ first.only.same_content;
-        same_images = λ image. (λ now. (first.only.same_images image).0 ((second.only.same_images image).0 now), λ was. (second.only.same_images image).1 ((first.only.same_images image).1 was));
-        same_moment = second.only.same_moment ∙ first.only.same_moment;
-        same_past = λ t image. (λ now. (first.only.same_past t image).0 ((second.only.same_past t image).0 now), λ was. (second.only.same_past t image).1 ((first.only.same_past t image).1 was));
-        same_write_faults = second.only.same_write_faults ∙ first.only.same_write_faults;
-      };
+      only = changes_on old mid new first.only second.only;
       faults = counts_on _ _ _ Q (first.faults.same fine) second.faults;
       lasts = on old mid new first.lasts second.lasts;
     }
@@ -166,11 +173,7 @@ module _ {D : Type 0} (g : Ghosts D) where
 
   -- no call, and reads that failed exactly where they are said to
   pub reads_none : (disk : D) (P : Type 0) → ¬ P → g.lasts disk disk → Reads g P disk disk
-  reads_none disk P fine same = record {
-    only = record { same_content = refl; same_images = λ image. (λ now. now, λ was. was); same_moment = refl; same_past = λ t image. (λ now. now, λ was. was); same_write_faults = refl };
-    faults = counts_none _ P fine;
-    lasts = same;
-  }
+  reads_none disk P fine same = record { only = changes_none disk; faults = counts_none _ P fine; lasts = same }
 
   pub reads_same : (old new : D) (P Q : Type 0) → (P → Q) → (Q → P) → Reads g P old new → Reads g Q old new
   reads_same old new P Q there back run = record { only = run.only; faults = counts_same _ _ P Q there back run.faults; lasts = run.lasts }

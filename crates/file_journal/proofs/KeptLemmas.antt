@@ -1,19 +1,20 @@
 -- What a state that a journal keeps stands for, and what putting one record does to it.
-use Rattle.std.proofs.Common.{◌≡◌, ◌⊎◌, inl, inr, ⊎_elim, ℕ, ◌+◌, ◌*◌, ◌≤◌, true, false, true≢false, List, [], ◌∷◌, Some, IfSome, Err, IsErrOf, refl, sym, ◌∙◌, ap, subst, arith}
+use Rattle.std.proofs.Common.{◌≡◌, ◌⊎◌, inl, inr, ⊎_elim, ℕ, ◌+◌, ◌*◌, ◌≤◌, true, false, List, [], ◌∷◌, Some, IfSome, Err, IsErrOf, refl, sym, ◌∙◌, ap, subst, arith}
 use Rattle.disk_model.specs.declared.disk.Disk.{Ghosts}
 use Rattle.file_journal.specs.Appending.{LeavesAppending, LeavesBeforeOrAfter}
 use Rattle.file_journal.specs.Calls.{EachImage, Leaves, Puts, TellsAlike, images_now}
 use Rattle.file_journal.specs.Commands.{MakesBetween, MakesFirst, StayDone}
 use Rattle.file_journal.specs.Form.{Form, StandsFor, standing_of}
-use Rattle.file_journal.specs.Journal.{IsBeforeOrAfter, Standing, journal_of, store_of}
+use Rattle.file_journal.specs.Journal.{IsBeforeOrAfter, journal_of}
 use Rattle.file_journal.specs.Kept.{Does, KeptOn, StandsAt, by_fours, kept_on}
-use Rattle.file_journal.specs.Position.{Position, StandsOn, left_to_read}
-use Rattle.file_journal.specs.Records.{Reading, Record, with_records}
-use Rattle.file_journal.specs.Walk.{StandFor, stands_of, state}
+use Rattle.file_journal.specs.Position.{IsAt, Position, StandsOn}
+use Rattle.file_journal.specs.Records.{Record}
+use Rattle.file_journal.specs.Walk.{ImagesStandFor, StandFor, stands_of, state}
 use Rattle.file_journal.specs.declared.faults.JournalFault.{JournalFault}
 use Rattle.file_journal.specs.declared.faults.JournalFault.TheVariants as fault
 use Rattle.file_journal.proofs.CommandLemmas.{makes_one, stay_none}
 use Rattle.file_journal.proofs.MomentLemmas.{weaker}
+use Rattle.file_journal.proofs.PositionLemmas.{among_records}
 use Rattle.file_journal.proofs.ToldLemmas.{at_told, if_told, told_before, told_weaker}
 use Rattle.file_journal.proofs.WalkLemmas.{failed_keeps, one_step}
 
@@ -23,45 +24,26 @@ is_disk fault.Disk none = refl
 is_disk fault.Failed none = absurd (none refl)
 
 module _ {S C : Type 0} (form : Form S C) where
-  -- a store that has its block number stands for the same whatever other one octets without one are read with
-  any_number : (blocks other number : ℕ) (reading : Reading) (standing : Standing) → standing ≡ store_of number reading
-      → stands_of form.fresh form.step blocks standing ≡ stands_of form.fresh form.step other standing
-  any_number blocks other number reading standing is =
-      ap (stands_of form.fresh form.step blocks) is ∙ sym (ap (stands_of form.fresh form.step other) is)
+  -- The store that a journal stands on has its block number: it stands for the same whatever other one octets without one
+  -- are read with.
+  any_number : (blocks : ℕ) (journal : Position) (now : S) (passed : List Record) (octets : List ℕ) → journal.magic ≡ form.magic → IsAt journal passed octets → StandFor form.fresh form.step journal now octets
+      → standing_of form blocks octets ≡ state now
+  any_number blocks journal now passed octets magic_is at stands =
+      ap (λ (l : List ℕ). stands_of form.fresh form.step blocks (journal_of l octets)) (sym magic_is)
+      ∙ ap (stands_of form.fresh form.step blocks) at.records ∙ sym (ap (stands_of form.fresh form.step journal.blocks) at.records) ∙ stands
 
   module _ {D : Type 0} (g : Ghosts D) where
-    -- the content's and each image's store has its number
-    numbered : (at : KeptOn D S) → StandsAt g form at → at.journal.failed ≡ false
-        → IfSome (g.content at.disk) (λ octets. ((reading : Reading) × (journal_of form.magic octets ≡ store_of at.journal.blocks reading))
-        × ((image : List ℕ) → images_now g at.disk image → (reading : Reading) × (journal_of form.magic image ≡ store_of at.journal.blocks reading)))
-    numbered at stands healthy = by stands.keeps.stands_on
-      where
-        by : StandsOn g at.journal at.disk
-            → IfSome (g.content at.disk) (λ octets. ((reading : Reading) × (journal_of form.magic octets ≡ store_of at.journal.blocks reading))
-            × ((image : List ℕ) → images_now g at.disk image → (reading : Reading) × (journal_of form.magic image ≡ store_of at.journal.blocks reading)))
-        by (inl failed) = absurd (true≢false (sym failed ∙ healthy))
-        by (inr on) = told_weaker (g.content at.disk) _ _ (λ octets told is. (
-          (with_records is.0 (left_to_read at.journal octets), ap (λ (l : List ℕ). journal_of l octets) (sym stands.magic_is) ∙ is.1.records),
-          λ image here.
-              let there = is.2 image here in
-              (with_records is.0 (left_to_read at.journal image), ap (λ (l : List ℕ). journal_of l image) (sym stands.magic_is) ∙ there.0.records),
-        )) on
-
-    -- What a state that is kept has on its disk stands for it, whatever number octets without one are read with.
+    -- What a state that is kept has on its disk stands for it.
     content_here : (blocks : ℕ) (at : KeptOn D S) → StandsAt g form at → at.journal.failed ≡ false → IfSome (g.content at.disk) (λ octets. standing_of form blocks octets ≡ state at.now)
     content_here blocks at stands healthy = if_told (g.content at.disk) _ (λ octets told.
-        let has = at_told (λ (octets : List ℕ). _) octets told (numbered at stands healthy) in
-        any_number blocks at.journal.blocks at.journal.blocks has.0.0 (journal_of form.magic octets) has.0.1
-        ∙ ap (λ (l : List ℕ). stands_of form.fresh form.step at.journal.blocks (journal_of l octets)) (sym stands.magic_is)
-        ∙ at_told (StandFor form.fresh form.step at.journal at.now) octets told (stands.keeps.content healthy))
+        let on = at_told _ octets told (among_records at.journal (g.content at.disk) (images_now g at.disk) healthy stands.keeps.stands_on) in
+        any_number blocks at.journal at.now on.0 octets stands.magic_is on.1 (at_told (StandFor form.fresh form.step at.journal at.now) octets told (stands.keeps.content healthy)))
 
     pub images_here : (at : KeptOn D S) → StandsAt g form at → at.journal.failed ≡ false → EachImage g at.disk (StandsFor form at.now)
     images_here at stands healthy = if_told (g.content at.disk) _ (λ octets told image here.
-        let has = at_told (λ (octets : List ℕ). _) octets told (numbered at stands healthy) in
-        let there = has.1 image here in
-        any_number (form.number at.now) at.journal.blocks at.journal.blocks there.0 (journal_of form.magic image) there.1
-        ∙ ap (λ (l : List ℕ). stands_of form.fresh form.step at.journal.blocks (journal_of l image)) (sym stands.magic_is)
-        ∙ at_told (λ (_ : List ℕ). (image : List ℕ) → images_now g at.disk image → StandFor form.fresh form.step at.journal at.now image) octets told (stands.keeps.images healthy) image here)
+        let on = at_told _ octets told (among_records at.journal (g.content at.disk) (images_now g at.disk) healthy stands.keeps.stands_on) in
+        any_number (form.number at.now) at.journal at.now on.0 image stands.magic_is (on.2 image here).0
+        (at_told (λ (_ : List ℕ). ImagesStandFor form.fresh form.step g at.journal at.now at.disk) octets told (stands.keeps.images healthy) image here))
 
     -- ---- one record
 

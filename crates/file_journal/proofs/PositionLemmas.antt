@@ -1,5 +1,5 @@
 -- The journal's place among the records.
-use Rattle.std.proofs.Common.{◌≡◌, inl, inr, ℕ, ◌+◌, List, [], ◌∷◌, ◌++◌, length, Option, IfSome, refl, sym, ◌∙◌, ap, arith, append_assoc, length-append}
+use Rattle.std.proofs.Common.{◌≡◌, inl, inr, ℕ, ◌+◌, false, List, [], ◌∷◌, ◌++◌, length, Option, IfSome, refl, sym, ◌∙◌, ap, arith, append_assoc, length-append}
 use Rattle.std.specs.List.{AllByRecursion}
 use Rattle.file_journal.specs.Records.{Record, IsRecord, record_text, records_text, Reading, with_record, with_records, reading_at}
 use Rattle.file_journal.specs.Journal.{store_of}
@@ -58,6 +58,12 @@ module _ (journal : Position) (place : ℕ) (entry : Record) (is_place : place �
             let moved_there = moved_at at.0 image _ there.0 (there.1 ∙ here) in
             (moved_there.0, moved_there.1),
       )))
+
+-- a journal that hasn't failed stands among the records
+pub among_records : (journal : Position) (content : Option (List ℕ)) (images : List ℕ → Type 0) → journal.failed ≡ false → StandsAmong journal content images
+    → IfSome content (λ octets. (passed : List Record) × IsAt journal passed octets × ((image : List ℕ) → images image → IsAt journal passed image × (left_to_read journal image ≡ left_to_read journal octets)))
+among_records journal content images fine (inl failed) = absurd (cc (sym failed ∙ fine))
+among_records journal content images fine (inr stands) = stands
 
 -- each is a record, and so is one more
 pub records-push : (entries : List Record) (entry : Record) → AllByRecursion IsRecord entries → IsRecord entry → AllByRecursion IsRecord (entries ++ entry ∷ [])

@@ -1,5 +1,5 @@
 -- What is read from a gate on.
-use Rattle.std.proofs.Common.{◌≡◌, ◌≢◌, ◌↔◌, min, inl, inr, ⊎_elim, ℕ, zero, suc, ◌+◌, ◌-◌, ◌*◌, ◌/◌, ◌%◌, ◌<◌, ◌≤◌, true, false, ◌==◌, nat_le, nat_lt, if◌then◌else◌, List, [], ◌∷◌, ◌++◌, length, get_or, take, drop, refl, sym, ◌∙◌, ap, ap₂, subst, arith, append_assoc, append-nil, length-append, length-drop, take-append-drop, drop-drop, get_or-drop, get_or-take, ne_eqb}
+use Rattle.std.proofs.Common.{◌≡◌, ◌≢◌, ◌↔◌, min, inl, inr, ⊎_elim, ℕ, zero, suc, ◌+◌, ◌-◌, ◌*◌, ◌/◌, ◌%◌, ◌<◌, ◌≤◌, true, false, ◌==◌, nat_le, nat_lt, if◌then◌else◌, List, [], ◌∷◌, ◌++◌, length, get_or, take, drop, refl, sym, ◌∙◌, ap, ap₂, subst, arith, append_assoc, length-append, length-drop, take-append-drop, drop-drop, get_or-drop, get_or-take, ne_eqb}
 use Rattle.std.proofs.lemmas.Bool.{cond-true, cond-false, cases_Bool, cases_eq, cases_lt, and_parts, and_from, leb-true, ltb-true, le-leb, lt-ltb, both_ways}
 use Rattle.std.proofs.lemmas.Bool.Decides.{same_from_decides}
 use Rattle.std.proofs.lemmas.List.{take_at, drop_at, drop_more, drop_all, drop-take, length-take, length-take-le, take-take, take_all}
@@ -124,13 +124,14 @@ pub text_cut : (octets : List ℕ) → starts_whole octets ≡ false → StartsC
 text_cut octets none entry gate later is same =
     both_ways (starts_whole octets) none (ap starts_whole same ∙ text_starts_whole entry is gate later)
 
-pub with_records-whole : (entries others : List Record) → with_records entries (whole others) ≡ whole (entries ++ others)
-with_records-whole [] others = refl
-with_records-whole (entry ∷ entries) others = ap (with_record entry) (with_records-whole entries others)
+-- records alone, and what ends them
+pub all_whole : (entries : List Record) → with_records entries (whole []) ≡ whole entries
+all_whole [] = refl
+all_whole (entry ∷ entries) = ap (with_record entry) (all_whole entries)
 
-pub with_records-broken : (entries others : List Record) (at : ℕ) → with_records entries (broken others at) ≡ broken (entries ++ others) at
-with_records-broken [] others at = refl
-with_records-broken (entry ∷ entries) others at = ap (with_record entry) (with_records-broken entries others at)
+pub all_broken : (entries : List Record) (at : ℕ) → with_records entries (broken [] at) ≡ broken entries at
+all_broken [] at = refl
+all_broken (entry ∷ entries) at = ap (with_record entry) (all_broken entries at)
 
 -- one record before octets that begin with a gate
 pub reading_more : (entry : Record) (place : ℕ) (next : List ℕ) → IsRecord entry → 0 < length next
@@ -166,14 +167,13 @@ read_from_stands place octets (whole entries) are stands = closed_end stands.0 s
     closed_end (gate ∷ later) is shut =
         sym (ap (reading_from place) is ∙ reading_records entries place gate later stands.1
         ∙ ap (with_records entries) (reading_closed (place + length (records_text entries)) gate later shut)
-        ∙ with_records-whole entries [] ∙ ap whole (append-nil entries))
+        ∙ all_whole entries)
 read_from_stands place octets (broken entries at) are stands =
     let rest = stands.0 in
     let cut = cut_text rest (are_behind (records_text entries ++ 1 ∷ []) rest octets (stands.2 ∙ sym (append_assoc (records_text entries) (1 ∷ []) rest)) are) stands.3 in
     sym (ap (reading_from place) stands.2 ∙ reading_records entries place 1 rest stands.1
     ∙ ap (with_records entries) (reading_broken (place + length (records_text entries)) rest cut)
-    ∙ with_records-broken entries [] (place + length (records_text entries))
-    ∙ ap₂ broken (append-nil entries) (sym stands.4))
+    ∙ all_broken entries (place + length (records_text entries)) ∙ ap (broken entries) (sym stands.4))
 
 -- one record more in front
 stands_more : (entry : Record) (place after : ℕ) (octets next : List ℕ) (reading : Reading) → IsRecord entry → octets ≡ record_text entry ++ next

@@ -27,8 +27,7 @@ use Rattle.file_journal.specs.declared.faults.ReadFault.{ReadFault}
 use Rattle.file_journal.specs.declared.faults.ReadFault.TheVariants as read
 use Rattle.file_journal.specs.declared.faults.StoreFault.{StoreFault}
 use Rattle.file_journal.specs.declared.faults.StoreFault.TheVariants as fault
-use Rattle.file_journal.proofs.AmongLemmas.{changes_none}
-use Rattle.file_journal.proofs.CallLemmas.{reads_now, stops_on, stops_reads}
+use Rattle.file_journal.proofs.CallLemmas.{changes_none, reads_now, stops_on, stops_reads}
 use Rattle.file_journal.proofs.MomentLemmas.{joined, reads, weaker}
 use Rattle.file_journal.proofs.ToldLemmas.{alike_on, alike_same, at_told, if_told, told_before, told_weaker}
 use Rattle.file_journal.proofs.WalkLemmas.{for_recovering, read_keeps, recovered_walk}

@@ -1,20 +1,13 @@
 -- What is read comes to what the walk over it gives, and to nothing else.
-use Rattle.std.proofs.Common.{◌≡◌, ◌⊎◌, inl, inr, ℕ, ◌+◌, List, [], ◌∷◌, length, Option, None, Some, refl, sym, ◌∙◌, ap, subst, arith, append-nil, length-append}
+use Rattle.std.proofs.Common.{◌≡◌, ◌⊎◌, inl, inr, ℕ, ◌+◌, List, [], ◌∷◌, length, Option, None, Some, refl, sym, ◌∙◌, ap, subst, arith, length-append}
 use Rattle.file_journal.specs.Journal as journal
 use Rattle.file_journal.specs.Journal.{Standing}
 use Rattle.file_journal.specs.Laws.{ComesTo, IsOneWalk, IsRefusedAt}
 use Rattle.file_journal.specs.Ledger.{Takes}
 use Rattle.file_journal.specs.Records.{Reading, Record, broken, records_text, whole, with_record, with_records}
 use Rattle.file_journal.specs.Walk.{Stands, damaged_at, no_store, stands_of, state, walk}
-use Rattle.file_journal.proofs.ReadingLemmas.{with_records-broken, with_records-whole}
+use Rattle.file_journal.proofs.ReadingLemmas.{all_broken, all_whole}
 use Rattle.file_journal.proofs.WalkLemmas.{walk_on, walk_on_all, walk_refused}
-
--- a reading is its records and what ends it
-all_whole : (entries : List Record) → with_records entries (whole []) ≡ whole entries
-all_whole entries = with_records-whole entries [] ∙ ap whole (append-nil entries)
-
-all_broken : (entries : List Record) (at : ℕ) → with_records entries (broken [] at) ≡ broken entries at
-all_broken entries at = with_records-broken entries [] at ∙ ap (λ (l : List Record). broken l at) (append-nil entries)
 
 module _ {S : Type 0} (step : S → Record → Option S) where
   -- what is read comes to nothing else

@@ -1,5 +1,6 @@
 -- What a walk over records comes to, and how appends and recoveries keep what octets stand for.
-use Rattle.std.proofs.Common.{◌≡◌, ◌↔◌, inl, inr, ℕ, ◌+◌, true, false, true≢false, List, [], ◌∷◌, ◌++◌, length, Bool, Option, None, Some, IfSome, Result, Ok, Err, IsErrOf, OnOk, refl, sym, ◌∙◌, ap, ap₂, arith, length-append}
+use Rattle.std.proofs.Common.{◌≡◌, ◌↔◌, inl, inr, ℕ, ◌+◌, true, false, List, [], ◌∷◌, ◌++◌, length, Option, None, Some, IfSome, Result, Ok, Err, IsErrOf, OnOk, refl, sym, ◌∙◌, ap, ap₂, arith, length-append}
+use Rattle.std.proofs.lemmas.Bool.{false_from_ne_true}
 use Rattle.disk_model.specs.declared.disk.Disk.{Ghosts}
 use Rattle.file_journal.specs.Appending.{Appends}
 use Rattle.file_journal.specs.Calls.{ChangesReads, TakesStep, TellsAlike, images_now}
@@ -12,6 +13,7 @@ use Rattle.file_journal.specs.Recovery.{IsRecovered, IsRecovering, Recovers}
 use Rattle.file_journal.specs.Walk.{IsOneStep, KeepsState, StandAsBefore, StandFor, Stands, StandsForSame, damaged_at, number_or, on_from, stands_for, stands_of, state, walk, walk_left, walk_over}
 use Rattle.file_journal.specs.declared.faults.JournalFault.{JournalFault}
 use Rattle.file_journal.specs.declared.faults.JournalFault.TheVariants as fault
+use Rattle.file_journal.proofs.PositionLemmas.{among_records}
 use Rattle.file_journal.proofs.ToldLemmas.{at_told, content_now, if_told}
 
 -- What comes of a gate is what comes of each state behind it.
@@ -25,20 +27,20 @@ on_none place None f now each is = cc is
 on_none place (Some t) f now each is = each t is
 
 module _ {S : Type 0} (step : S → Record → Option S) where
-  -- a record in front, which is allowed
+  -- a record in front
+  walk_front : (before : S) (place : ℕ) (entry : Record) (reading : Reading)
+      → walk step before place (with_record entry reading) ≡ on_from place (step before entry) (λ t. walk step t (place + 4 + length entry.content) reading)
+  walk_front before place entry (whole entries) = refl
+  walk_front before place entry (broken entries at) = refl
+
+  -- one which is allowed
   pub walk_on : (before after : S) (place : ℕ) (entry : Record) (reading : Reading) → step before entry ≡ Some after
       → walk step before place (with_record entry reading) ≡ walk step after (place + 4 + length entry.content) reading
-  walk_on before after place entry (whole entries) allowed =
-      ap (λ (o : Option S). on_from place o (λ t. walk_over step (λ s. state s) t (place + 4 + length entry.content) entries)) allowed
-  walk_on before after place entry (broken entries at) allowed =
-      ap (λ (o : Option S). on_from place o (λ t. walk_over step (λ s. damaged_at at) t (place + 4 + length entry.content) entries)) allowed
+  walk_on before after place entry reading allowed = walk_front before place entry reading ∙ ap (λ (o : Option S). on_from place o (λ t. walk step t (place + 4 + length entry.content) reading)) allowed
 
   -- and one that isn't
   pub walk_refused : (before : S) (place : ℕ) (entry : Record) (reading : Reading) → step before entry ≡ None → walk step before place (with_record entry reading) ≡ damaged_at place
-  walk_refused before place entry (whole entries) refused =
-      ap (λ (o : Option S). on_from place o (λ t. walk_over step (λ s. state s) t (place + 4 + length entry.content) entries)) refused
-  walk_refused before place entry (broken entries at) refused =
-      ap (λ (o : Option S). on_from place o (λ t. walk_over step (λ s. damaged_at at) t (place + 4 + length entry.content) entries)) refused
+  walk_refused before place entry reading refused = walk_front before place entry reading ∙ ap (λ (o : Option S). on_from place o (λ t. walk step t (place + 4 + length entry.content) reading)) refused
 
   -- records in front, each of which is allowed
   pub walk_on_all : (entries : List Record) (before after : S) (place : ℕ) (reading : Reading) → Takes step before entries after
@@ -114,19 +116,10 @@ module _ {D S : Type 0} (g : Ghosts D) (fresh : ℕ → S) (step : S → Record 
   pub failed_keeps : (position : Position) (now : S) (disk : D) → position.failed ≡ true → StandsOn g position disk → KeepsState fresh step g position now disk
   failed_keeps position now disk failed stands = record {
     stands_on = stands;
-    ended = λ fine. absurd (true≢false (sym failed ∙ fine));
-    content = λ fine. absurd (true≢false (sym failed ∙ fine));
-    images = λ fine. absurd (true≢false (sym failed ∙ fine));
+    ended = λ fine. cc;
+    content = λ fine. absurd (cc (sym failed ∙ fine));
+    images = λ fine. absurd (cc (sym failed ∙ fine));
   }
-
-  -- each image is the content's store
-  same_images : (position : Position) (disk : D) → position.failed ≡ false → StandsOn g position disk
-      → IfSome (g.content disk) (λ octets. (image : List ℕ) → images_now g disk image → journal_of position.magic image ≡ journal_of position.magic octets)
-  same_images position disk fine (inl failed) = absurd (true≢false (sym failed ∙ fine))
-  same_images position disk fine (inr stands) = if_told (g.content disk) _ (λ octets told image here.
-      let at = at_told _ octets told stands in
-      let there = at.2 image here in
-      there.0.records ∙ ap (λ (r : Reading). store_of position.blocks (with_records at.0 r)) there.1 ∙ sym at.1.records)
 
   -- one that stands on its disk and has read its end keeps what the content stands for
   pub stands_keeps : (position : Position) (now : S) (disk : D) → StandsOn g position disk → (position.failed ≡ false → position.ended ≡ true)
@@ -136,7 +129,9 @@ module _ {D S : Type 0} (g : Ghosts D) (fresh : ℕ → S) (step : S → Record 
     ended = ended;
     content = content;
     images = λ fine. if_told (g.content disk) _ (λ octets told image here.
-        ap (stands_of fresh step position.blocks) (at_told _ octets told (same_images position disk fine stands) image here)
+        let at = at_told _ octets told (among_records position (g.content disk) (images_now g disk) fine stands) in
+        let there = at.2 image here in
+        ap (stands_of fresh step position.blocks) (there.0.records ∙ ap (λ (r : Reading). store_of position.blocks (with_records at.0 r)) there.1 ∙ sym at.1.records)
         ∙ at_told (StandFor fresh step position now) octets told (content fine));
   }
 
@@ -168,13 +163,9 @@ module _ {D S : Type 0} (g : Ghosts D) (fresh : ℕ → S) (step : S → Record 
         → OnOk result (KeepsState fresh step g after t new)
     append_keeps (Err e) stands same ok failed alike = tt
     append_keeps (Ok x) stands same ok failed alike =
-        let healthy : position.failed ≡ false = not_failed position.failed refl in
+        let healthy : position.failed ≡ false = false_from_ne_true position.failed (λ is. cc (failed.1 is)) in
         stands_keeps after t new stands (λ fine. ap (λ (p : Position). p.ended) same ∙ keeps.ended healthy)
         (λ fine. if_told (g.content new) _ (λ octets told.
         let was = content_now _ _ (Appends position entry) octets alike ok told in
         let is = at_told (StandFor fresh step position s) was.0 was.1 (keeps.content healthy) in
         ap (λ (p : Position). stands_for fresh step p.magic p.blocks octets) same ∙ for_next was.0 octets is was.2.store))
-      where
-        not_failed : (b : Bool) → position.failed ≡ b → position.failed ≡ false
-        not_failed true is = absurd (cc (failed.1 is))
-        not_failed false is = is
