@@ -1,27 +1,23 @@
 -- What a state that a journal keeps stands for, and what putting one record does to it.
-use Rattle.std.proofs.Common.{◌≡◌, ◌⊎◌, inl, inr, ⊎_elim, ℕ, ◌+◌, ◌*◌, ◌≤◌, true, false, List, [], ◌∷◌, Some, IfSome, Err, IsErrOf, refl, sym, ◌∙◌, ap, subst, arith}
+use Rattle.std.proofs.Common.{◌≡◌, ◌⊎◌, ◌↔◌, inl, inr, ⊎_elim, ℕ, ◌+◌, ◌*◌, ◌≤◌, true, false, List, [], ◌∷◌, Some, IfSome, Ok, Err, IsErr, IsErrOf, refl, sym, ◌∙◌, ap, subst, arith}
 use Rattle.disk_model.specs.declared.disk.Disk.{Ghosts}
-use Rattle.file_journal.specs.Appending.{LeavesAppending, LeavesBeforeOrAfter}
-use Rattle.file_journal.specs.Calls.{EachImage, Leaves, Puts, TellsAlike, images_now}
-use Rattle.file_journal.specs.Commands.{MakesBetween, MakesFirst, StayDone}
+use Rattle.file_journal.specs.Appending.{Appends, LeavesAppending, LeavesBeforeOrAfter}
+use Rattle.file_journal.specs.Calls.{EachImage, Leaves, Puts, TakesStep, TellsAlike, images_now}
+use Rattle.file_journal.specs.Commands.{MakesFirst, StayDone}
 use Rattle.file_journal.specs.Form.{Form, StandsFor, standing_of}
 use Rattle.file_journal.specs.Journal.{IsBeforeOrAfter, journal_of}
-use Rattle.file_journal.specs.Kept.{Does, KeptOn, StandsAt, by_fours, kept_on}
+use Rattle.file_journal.specs.Kept.{AnswersPut, Does, IsCut, IsKept, KeptOn, StandsAt, by_fours, kept_on}
 use Rattle.file_journal.specs.Position.{IsAt, Position, StandsOn}
 use Rattle.file_journal.specs.Records.{Record}
 use Rattle.file_journal.specs.Walk.{ImagesStandFor, StandFor, stands_of, state}
 use Rattle.file_journal.specs.declared.faults.JournalFault.{JournalFault}
 use Rattle.file_journal.specs.declared.faults.JournalFault.TheVariants as fault
+use Rattle.file_journal.proofs.CallLemmas.{puts_same}
 use Rattle.file_journal.proofs.CommandLemmas.{makes_one, stay_none}
 use Rattle.file_journal.proofs.MomentLemmas.{weaker}
 use Rattle.file_journal.proofs.PositionLemmas.{among_records}
 use Rattle.file_journal.proofs.ToldLemmas.{at_told, if_told, told_before, told_weaker}
-use Rattle.file_journal.proofs.WalkLemmas.{failed_keeps, one_step}
-
--- a fault of an append that isn't an earlier one is one of the disk
-pub is_disk : {T : Type 0} (e : JournalFault) → (IsErrOf {T = T} (Err e) fault.Failed → ⊥) → IsErrOf {T = T} (Err e) fault.Disk
-is_disk fault.Disk none = refl
-is_disk fault.Failed none = absurd (none refl)
+use Rattle.file_journal.proofs.WalkLemmas.{append_keeps, failed_keeps, one_step}
 
 module _ {S C : Type 0} (form : Form S C) where
   -- The store that a journal stands on has its block number: it stands for the same whatever other one octets without one
@@ -57,84 +53,87 @@ module _ {S C : Type 0} (form : Form S C) where
       -- what stands for the records from before, with the new one or without
       either : (before image : List ℕ) → g.content old ≡ Some before → IsBeforeOrAfter (journal_of journal.magic before) entry (journal_of journal.magic image) → StandsFor form now image ⊎ StandsFor form next image
       either before image told_old left =
-          let is : (blocks : ℕ) → stands_of form.fresh form.step blocks (journal_of journal.magic before) ≡ state now = λ blocks.
-          ap (λ (l : List ℕ). stands_of form.fresh form.step blocks (journal_of l before)) stands.magic_is
-          ∙ at_told (λ (octets : List ℕ). standing_of form blocks octets ≡ state now) before told_old (content_here blocks (kept_on now journal old) stands healthy) in
-          let of_magic : (blocks : ℕ) → stands_of form.fresh form.step blocks (journal_of form.magic image) ≡ stands_of form.fresh form.step blocks (journal_of journal.magic image) = λ blocks.
-          ap (λ (l : List ℕ). stands_of form.fresh form.step blocks (journal_of l image)) (sym stands.magic_is) in
+          let is : (blocks : ℕ) → standing_of form blocks before ≡ state now = λ blocks.
+          at_told (λ (octets : List ℕ). standing_of form blocks octets ≡ state now) before told_old (content_here blocks (kept_on now journal old) stands healthy) in
           ⊎_elim
-          (λ same. let blocks = form.number now in inl (of_magic blocks ∙ ap (stands_of form.fresh form.step blocks) same ∙ is blocks))
-          (λ made.
-          let blocks = form.number next in
-          inr (of_magic blocks ∙ ap (stands_of form.fresh form.step blocks) made ∙ one_step form.step form.fresh blocks (journal_of journal.magic before) now next entry (is blocks) steps))
-          left
+          (λ same. inl (ap (stands_of form.fresh form.step (form.number now)) same ∙ is (form.number now)))
+          (λ made. inr (ap (stands_of form.fresh form.step (form.number next)) made ∙ one_step form.step form.fresh (form.number next) (journal_of form.magic before) now next entry (is (form.number next)) steps))
+          (subst (λ (m : List ℕ). IsBeforeOrAfter (journal_of m before) entry (journal_of m image)) stands.magic_is left)
 
       leaves : Leaves g old new (λ _. MakesFirst form now (command ∷ []))
       leaves = told_weaker (g.content old) _ _ (λ before told_old left.
           weaker g.moment g.images_since old new _ (MakesFirst form now (command ∷ [])) (λ image here. makes_one form now command image (either before image told_old here.store)) left) since
 
-      -- it is done
-      module _ (calls : IfSome (g.content old) (λ _. g.moment new ≡ g.moment old + 4)) (fine : after.failed ≡ false) (stands_now : StandsAt g form (kept_on next after new)) where
-        stay_one : IfSome (g.content old) (λ _. StayDone g form (by_fours (g.moment old)) 1 now (command ∷ []) new)
-        stay_one = if_told (g.content old) _ (λ before told_old count some most image left.
-            let there = told_before (g.content new) (g.content old) before (told.1, told.0) told_old in
-            let done : g.moment new ≡ g.moment old + 4 = at_told (λ (_ : List ℕ). g.moment new ≡ g.moment old + 4) before told_old calls in
-            let one : g.moment old + 4 * count ≡ g.moment new = omega (arith, done, some, most) in
-            let each = at_told (λ (_ : List ℕ). (image : List ℕ) → images_now g new image → StandsFor form next image) there.0 there.1 (images_here (kept_on next after new) stands_now fine) in
-            (1, omega (arith, most), omega arith, each image (subst (λ (t : ℕ). g.images_since new t image) one left)))
+      -- what is done, by what comes of it where the disk failed and where it didn't
+      does_put : (P : Type 0) (state_now : S) → IsKept g form (kept_on state_now after new) → Puts g P old new
+          → (¬ P → IfSome (g.content old) (λ _. g.moment new ≡ g.moment old + 4) × IfSome (g.content old) (λ _. StayDone g form (by_fours (g.moment old)) 1 now (command ∷ []) new) × (state_now ≡ next) × (after.failed ≡ false))
+          → (P → IsCut g form (by_fours (g.moment old)) (command ∷ []) (kept_on now journal old) (kept_on state_now after new)) → Does g form P (command ∷ []) (kept_on now journal old) (kept_on state_now after new)
+      does_put P state_now keeps puts done cut = record {
+        healthy = healthy;
+        stands_on = keeps;
+        allowed = (allowed, tt);
+        since = leaves;
+        stay = λ still. (done still).1;
+        calls = λ still. told_weaker (g.content old) _ _ (λ before told_old is. omega (arith, is)) (done still).0;
+        at_most = omega (arith, at_most);
+        none = λ empty. absurd (cc empty);
+        puts = puts;
+        reads = tt;
+        done = λ still. ((done still).2, (done still).3);
+        cut = cut;
+        journal = moved;
+      }
 
-        pub does_one : (P : Type 0) → ¬ P → Puts g P old new → Does g form P (command ∷ []) (kept_on now journal old) (kept_on next after new)
-        does_one P good puts = record {
-          healthy = healthy;
-          stands_on = stands_now.keeps;
-          allowed = (allowed, tt);
-          since = leaves;
-          stay = λ still. stay_one;
-          calls = λ still. told_weaker (g.content old) _ _ (λ before told_old is. omega (arith, is)) calls;
-          at_most = omega (arith, at_most);
-          none = λ empty. absurd (cc empty);
-          puts = puts;
-          reads = tt;
-          done = λ still. (refl, fine);
-          cut = λ failed. absurd (good failed);
-          journal = moved;
-        }
+      -- it is done
+      pub answers_done : {T : Type 0} (x : T) (P : Type 0) → ¬ P → Puts g P old new → IfSome (g.content old) (λ _. g.moment new ≡ g.moment old + 4) → after.failed ≡ false → StandsOn g after new
+          → TakesStep g old new (Appends journal entry) → AnswersPut g form command (kept_on now journal old) (kept_on next after new) (Ok x)
+      answers_done {T} x P good puts calls fine stands_on ok =
+          let stands_now : StandsAt g form (kept_on next after new) = record {
+            magic_is = ap (λ (p : Position). p.magic) moved ∙ stands.magic_is;
+            keeps = append_keeps g form.fresh form.step old new journal after now next entry stands.keeps steps healthy stands_on moved ok told;
+          } in
+          record {
+            failed = (λ was. absurd (cc was), λ before. absurd (cc (sym healthy ∙ before)));
+            untouched = λ was. absurd (cc was);
+            does = λ _. does_put (IsErr {E = JournalFault} (Ok x)) next stands_now.keeps (puts_same g old new _ _ (λ bad. absurd (good bad)) (λ bad. absurd (cc bad)) puts)
+                (λ still. (
+                  calls,
+                  if_told (g.content old) _ (λ before told_old count some most image left.
+                      let there = told_before (g.content new) (g.content old) before (told.1, told.0) told_old in
+                      let done : g.moment new ≡ g.moment old + 4 = at_told (λ (_ : List ℕ). g.moment new ≡ g.moment old + 4) before told_old calls in
+                      let one : g.moment old + 4 * count ≡ g.moment new = omega (arith, done, some, most) in
+                      let each = at_told (λ (_ : List ℕ). (image : List ℕ) → images_now g new image → StandsFor form next image) there.0 there.1 (images_here (kept_on next after new) stands_now fine) in
+                      (1, omega (arith, most), omega arith, each image (subst (λ (t : ℕ). g.images_since new t image) one left))),
+                  refl,
+                  fine,
+                ))
+                (λ bad. absurd (cc bad));
+            stands_at = stands_now;
+          }
 
       -- or the disk failed in it
-      module _ (earlier : (disk : D) (t u : ℕ) (image : List ℕ) → t ≤ u → g.images_since disk u image → g.images_since disk t image)
-          (any_moment : LeavesBeforeOrAfter g journal entry old new) (failed : after.failed ≡ true) (stands_on : StandsOn g after new) where
-        images_cut : EachImage g new (MakesBetween form 0 1 now (command ∷ []))
-        images_cut = if_told (g.content new) _ (λ octets told_new image here.
-            let was = told_before (g.content old) (g.content new) octets told told_new in
-            let later = at_told (λ (_ : List ℕ). _) was.0 was.1 since in
-            makes_one form now command image
-            (either was.0 image was.1 (at_told (λ (_ : List ℕ). _) was.0 was.1 (any_moment healthy) image (earlier new (g.moment old) (g.moment new) image later.later here))))
-
-        pub stands_cut : StandsAt g form (kept_on now after new)
-        stands_cut = record { magic_is = ap (λ (p : Position). p.magic) moved ∙ stands.magic_is; keeps = failed_keeps g form.fresh form.step after now new failed stands_on }
-
-        pub does_cut : (P : Type 0) → P → Puts g P old new → Does g form P (command ∷ []) (kept_on now journal old) (kept_on now after new)
-        does_cut P bad puts = record {
-          healthy = healthy;
-          stands_on = stands_cut.keeps;
-          allowed = (allowed, tt);
-          since = leaves;
-          stay = λ still. absurd (still bad);
-          calls = λ still. absurd (still bad);
-          at_most = omega (arith, at_most);
-          none = λ empty. absurd (cc empty);
-          puts = puts;
-          reads = tt;
-          done = λ still. absurd (still bad);
-          cut = λ again. record {
-            count = 0;
-            fewer = omega arith;
-            state = refl;
-            failed = failed;
-            images = images_cut;
-            stay = if_told (g.content old) _ (λ before told_old. stay_none form g (by_fours (g.moment old)) now (command ∷ []) new);
-            calls = told_weaker (g.content old) _ _ (λ before told_old left. omega (arith, left.later)) since;
-            at_most = if_told (g.content old) _ (λ before told_old. omega (arith, at_most));
-          };
-          journal = moved;
-        }
+      pub answers_cut : ((disk : D) (t u : ℕ) (image : List ℕ) → t ≤ u → g.images_since disk u image → g.images_since disk t image) → LeavesBeforeOrAfter g journal entry old new → after.failed ≡ true → StandsOn g after new
+          → {T : Type 0} (e : JournalFault) → IsErrOf {T = T} (Err e) fault.Failed ↔ (journal.failed ≡ true) → Puts g (IsErrOf {T = T} (Err e) fault.Disk) old new
+          → AnswersPut {T = T} g form command (kept_on now journal old) (kept_on now after new) (Err e)
+      answers_cut earlier any_moment failed stands_on fault.Failed is puts = absurd (cc (sym healthy ∙ is.0 refl))
+      answers_cut earlier any_moment failed stands_on {T} fault.Disk is puts =
+          let stands_cut : StandsAt g form (kept_on now after new) = record { magic_is = ap (λ (p : Position). p.magic) moved ∙ stands.magic_is; keeps = failed_keeps g form.fresh form.step after now new failed stands_on } in
+          record {
+            failed = (λ was. absurd (cc was), λ before. absurd (cc (sym healthy ∙ before)));
+            untouched = λ was. absurd (cc was);
+            does = λ _. does_put (IsErr {T = T} (Err fault.Disk)) now stands_cut.keeps (puts_same g old new _ _ (λ _. refl) (λ _. refl) puts) (λ still. absurd (still refl)) (λ again. record {
+              count = 0;
+              fewer = omega arith;
+              state = refl;
+              failed = failed;
+              images = if_told (g.content new) _ (λ octets told_new image here.
+                  let was = told_before (g.content old) (g.content new) octets told told_new in
+                  let later = at_told (λ (_ : List ℕ). _) was.0 was.1 since in
+                  makes_one form now command image
+                  (either was.0 image was.1 (at_told (λ (_ : List ℕ). _) was.0 was.1 (any_moment healthy) image (earlier new (g.moment old) (g.moment new) image later.later here))));
+              stay = if_told (g.content old) _ (λ before told_old. stay_none form g (by_fours (g.moment old)) now (command ∷ []) new);
+              calls = told_weaker (g.content old) _ _ (λ before told_old left. omega (arith, left.later)) since;
+              at_most = if_told (g.content old) _ (λ before told_old. omega (arith, at_most));
+            });
+            stands_at = stands_cut;
+          }

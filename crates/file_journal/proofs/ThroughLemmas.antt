@@ -1,15 +1,15 @@
 -- What stands on the disk from the recovery of a state on, through commands.
-use Rattle.std.proofs.Common.{◌≡◌, ⊎_elim, ℕ, ◌+◌, List, ◌++◌, length, Some, IfSome, refl, ◌∙◌, ap, subst, arith}
+use Rattle.std.proofs.Common.{◌≡◌, ⊎_elim, ℕ, ◌+◌, List, ◌++◌, Some, IfSome, refl, ◌∙◌, ap, subst, arith}
 use Rattle.disk_model.specs.declared.disk.Disk.{Ghosts}
 use Rattle.file_journal.specs.AmongReads.{CountsSome, PutsAmongReads}
 use Rattle.file_journal.specs.Calls.{EachImage, Leaves, Runs, TellsAlike}
-use Rattle.file_journal.specs.Commands.{MakesFirst, after_all}
+use Rattle.file_journal.specs.Commands.{MakesFirst}
 use Rattle.file_journal.specs.Form.{Form, StandsFor, TellsItsNumber, standing_of}
 use Rattle.file_journal.specs.Kept.{Course, DoesByFours, KeptOn}
 use Rattle.file_journal.specs.Position.{Position}
 use Rattle.file_journal.specs.Recovery.{IsSyncedFirst}
 use Rattle.file_journal.specs.Restoring.{StandsAlike}
-use Rattle.file_journal.specs.Through.{IsInterrupted, StandsThrough}
+use Rattle.file_journal.specs.Through.{StandsThrough}
 use Rattle.file_journal.specs.Walk.{state}
 use Rattle.file_journal.proofs.CallLemmas.{counts_on}
 use Rattle.file_journal.proofs.CommandLemmas.{makes_none}
@@ -38,26 +38,6 @@ module _ {D S C : Type 0} (g : Ghosts D) (form : Form S C) (own : TellsItsNumber
   since_told : (P : Type 0) → IfSome (g.content start.disk) (λ _. P) → IfSome (g.content disk) (λ _. P)
   since_told P is = if_told (g.content disk) _ (λ before told. let there = later_told before told in at_told (λ (_ : List ℕ). P) there.0 there.1 is)
 
-  interrupted_here : failed → IsInterrupted g form start.now (done ++ cut) (length done) (g.moment start.disk) disk new.disk
-  interrupted_here stopped =
-      let both = cut_least g form first_course second_course course ⊥ failed done cut start between new (λ never. never) between_alike first second (second.cut stopped) in
-      record {
-        count = both.0.count;
-        no_less = both.1;
-        fewer = both.0.fewer;
-        images = both.0.images;
-        stay = since_told _ both.0.stay;
-        calls = since_told _ both.0.calls;
-        at_most = since_told _ both.0.at_most;
-      }
-
-  -- where the disk didn't fail
-  done_here : ¬ failed → EachImage g new.disk (StandsFor form (after_all form.after start.now (done ++ cut)))
-  done_here fine =
-      let made = all.done fine in
-      subst (λ (s : S). EachImage g new.disk (StandsFor form s)) made.0
-      (images_here form g new (record { magic_is = ap (λ (p : Position). p.magic) all.journal ∙ magic_is; keeps = all.stands_on }) made.1)
-
   pub stands_through : (stands : StandsThrough g form failed start.now done cut disk new.disk) × (stands.ready ≡ g.moment start.disk)
   stands_through = (
     record {
@@ -83,8 +63,21 @@ module _ {D S C : Type 0} (g : Ghosts D) (form : Form S C) (own : TellsItsNumber
       after_sync = told_weaker (g.content disk) _ _ (λ before told synced. synced.later) since_sync;
       stay = λ fine. since_told _ (all.stay fine);
       calls = λ fine. since_told _ (all.calls fine);
-      all_done = done_here;
-      interrupted = interrupted_here;
+      all_done = λ fine.
+          let made = all.done fine in
+          subst (λ (s : S). EachImage g new.disk (StandsFor form s)) made.0
+          (images_here form g new (record { magic_is = ap (λ (p : Position). p.magic) all.journal ∙ magic_is; keeps = all.stands_on }) made.1);
+      interrupted = λ stopped.
+          let both = cut_least g form first_course second_course course ⊥ failed done cut start between new (λ never. never) between_alike first second (second.cut stopped) in
+          record {
+            count = both.0.count;
+            no_less = both.1;
+            fewer = both.0.fewer;
+            images = both.0.images;
+            stay = since_told _ both.0.stay;
+            calls = since_told _ both.0.calls;
+            at_most = since_told _ both.0.at_most;
+          };
     },
     refl,
   )

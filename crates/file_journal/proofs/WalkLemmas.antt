@@ -1,6 +1,5 @@
 -- What a walk over records comes to, and how appends and recoveries keep what octets stand for.
-use Rattle.std.proofs.Common.{◌≡◌, ◌↔◌, inl, inr, ℕ, ◌+◌, true, false, List, [], ◌∷◌, ◌++◌, length, Option, None, Some, IfSome, Result, Ok, Err, IsErrOf, OnOk, refl, sym, ◌∙◌, ap, ap₂, arith, length-append}
-use Rattle.std.proofs.lemmas.Bool.{false_from_ne_true}
+use Rattle.std.proofs.Common.{◌≡◌, inl, inr, ℕ, ◌+◌, true, false, List, [], ◌∷◌, ◌++◌, length, Option, None, Some, IfSome, refl, sym, ◌∙◌, ap, ap₂, arith, length-append}
 use Rattle.disk_model.specs.declared.disk.Disk.{Ghosts}
 use Rattle.file_journal.specs.Appending.{Appends}
 use Rattle.file_journal.specs.Calls.{ChangesReads, TakesStep, TellsAlike, images_now}
@@ -11,8 +10,6 @@ use Rattle.file_journal.specs.Position.{Position, StandsOn, left_to_read}
 use Rattle.file_journal.specs.Records.{Reading, Record, broken, records_text, whole, with_end, with_record, with_records}
 use Rattle.file_journal.specs.Recovery.{IsRecovered, IsRecovering, Recovers}
 use Rattle.file_journal.specs.Walk.{IsOneStep, KeepsState, StandAsBefore, StandFor, Stands, StandsForSame, damaged_at, number_or, on_from, stands_for, stands_of, state, walk, walk_left, walk_over}
-use Rattle.file_journal.specs.declared.faults.JournalFault.{JournalFault}
-use Rattle.file_journal.specs.declared.faults.JournalFault.TheVariants as fault
 use Rattle.file_journal.proofs.PositionLemmas.{among_records}
 use Rattle.file_journal.proofs.ToldLemmas.{at_told, content_now, if_told}
 
@@ -154,18 +151,11 @@ module _ {D S : Type 0} (g : Ghosts D) (fresh : ℕ → S) (step : S → Record 
 
   -- An append of a record that the state allows.
   module _ (old new : D) (position after : Position) (s t : S) (entry : Record) (keeps : KeepsState fresh step g position s old) (allowed : step s entry ≡ Some t) where
-    for_next : (octets now : List ℕ) → StandFor fresh step position s octets → journal_of position.magic now ≡ with_last (journal_of position.magic octets) entry → StandFor fresh step position t now
-    for_next octets now is made =
-        ap (stands_of fresh step position.blocks) made ∙ one_step step fresh position.blocks (journal_of position.magic octets) s t entry is allowed
-
-    pub append_keeps : {T : Type 0} (result : Result T JournalFault) → StandsOn g after new → after ≡ record position { place = after.place; failed = after.failed }
-        → OnOk result (TakesStep g old new (Appends position entry)) → IsErrOf result fault.Failed ↔ (position.failed ≡ true) → TellsAlike (g.content old) (g.content new)
-        → OnOk result (KeepsState fresh step g after t new)
-    append_keeps (Err e) stands same ok failed alike = tt
-    append_keeps (Ok x) stands same ok failed alike =
-        let healthy : position.failed ≡ false = false_from_ne_true position.failed (λ is. cc (failed.1 is)) in
+    pub append_keeps : position.failed ≡ false → StandsOn g after new → after ≡ record position { place = after.place; failed = after.failed } → TakesStep g old new (Appends position entry)
+        → TellsAlike (g.content old) (g.content new) → KeepsState fresh step g after t new
+    append_keeps healthy stands same ok alike =
         stands_keeps after t new stands (λ fine. ap (λ (p : Position). p.ended) same ∙ keeps.ended healthy)
         (λ fine. if_told (g.content new) _ (λ octets told.
         let was = content_now _ _ (Appends position entry) octets alike ok told in
-        let is = at_told (StandFor fresh step position s) was.0 was.1 (keeps.content healthy) in
-        ap (λ (p : Position). stands_for fresh step p.magic p.blocks octets) same ∙ for_next was.0 octets is was.2.store))
+        ap (λ (p : Position). stands_for fresh step p.magic p.blocks octets) same ∙ ap (stands_of fresh step position.blocks) was.2.store
+        ∙ one_step step fresh position.blocks (journal_of position.magic was.0) s t entry (at_told (StandFor fresh step position s) was.0 was.1 (keeps.content healthy)) allowed))
