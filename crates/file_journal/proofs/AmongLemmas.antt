@@ -1,9 +1,8 @@
 -- What commands do to a state that is kept where reads come among them.
-use Rattle.std.proofs.Common.{◌≡◌, ◌⊎◌, inl, inr, ⊎_elim, ℕ, ◌+◌, ◌<◌, ◌≤◌, Bool, true, false, nat_le, List, [], ◌++◌, Option, IfSome, refl, sym, ◌∙◌, subst, arith}
-use Rattle.std.proofs.lemmas.Bool.Decides.{leb_tells}
+use Rattle.std.proofs.Common.{◌≡◌, ◌⊎◌, inl, inr, ⊎_elim, ℕ, ◌+◌, ◌<◌, ◌≤◌, Bool, true, false, List, [], ◌++◌, Option, IfSome, refl, sym, ◌∙◌, subst, arith}
 use Rattle.disk_model.specs.declared.disk.Disk.{Ghosts}
 use Rattle.file_journal.specs.AmongReads.{CountsSome, DoesAmongReads, PutsAmongReads, among_reads, one_if}
-use Rattle.file_journal.specs.Calls.{ChangesReads, CountsFault, Puts, Reads}
+use Rattle.file_journal.specs.Calls.{ChangesReads, CountsFault, Puts, Reads, TellsAlike}
 use Rattle.file_journal.specs.Commands.{MakesFirst}
 use Rattle.file_journal.specs.Form.{Form}
 use Rattle.file_journal.specs.Kept.{Does, IsKept, KeptOn, alone, kept_on}
@@ -22,31 +21,25 @@ some_still before now same = record { no_less = omega (arith, same); rose = inl 
 
 -- one run, of which a call failed or none did
 pub some_one : (before now : ℕ) (failed : Bool) → CountsFault before now (failed ≡ true) → CountsSome before now (one_if failed)
-some_one before now true counts = record {
-  no_less = counts.no_less;
-  rose =
-      ⊎_elim (λ (last : (nat_le 18446744073709551615 before ≡ true) × (18446744073709551615 ≤ before)). inr (omega (arith, counts.no_less, last.1)))
-      (λ (small : (nat_le 18446744073709551615 before ≡ false) × (before < 18446744073709551615)).
-      let rose : before < now = counts.rose refl small.1 in inl (omega (arith, rose))) (leb_tells 18446744073709551615 before);
-  same = λ none. absurd (cc none);
-}
+some_one before now true counts =
+    let rose : before < 18446744073709551615 → before < now = counts.rose refl in
+    record { no_less = counts.no_less; rose = rises before now counts.no_less rose; same = λ none. absurd (cc none) }
+  where
+    rises : (before now : ℕ) → before ≤ now → (before < 18446744073709551615 → before < now) → (before + 1 ≤ now) ⊎ (18446744073709551615 ≤ now)
+    rises before now le rose = grind arith
 some_one before now false counts = some_still before now (counts.same (λ e. cc e))
 
 -- one run and then another
 pub some_then : (before mid now first second : ℕ) → CountsSome before mid first → CountsSome mid now second → CountsSome before now (first + second)
-some_then before mid now first second one other = record {
-  no_less = omega (arith, one.no_less, other.no_less);
-  rose = by one.rose other.rose;
-  same = λ none.
-      let same_mid : mid ≡ before = one.same (omega (arith, none)) in
-      let same_now : now ≡ mid = other.same (omega (arith, none)) in
-      omega (arith, same_mid, same_now);
-}
-  where
-    by : (before + first ≤ mid) ⊎ (18446744073709551615 ≤ mid) → (mid + second ≤ now) ⊎ (18446744073709551615 ≤ now) → (before + (first + second) ≤ now) ⊎ (18446744073709551615 ≤ now)
-    by (inl a) (inl b) = inl (omega (arith, a, b))
-    by (inl a) (inr last) = inr last
-    by (inr last) second_rose = inr (omega (arith, last, other.no_less))
+some_then before mid now first second one other =
+    let one_rose = one.rose in
+    let other_rose = other.rose in
+    let later = other.no_less in
+    record {
+      no_less = omega (arith, one.no_less, other.no_less);
+      rose = grind arith;
+      same = λ none. other.same (omega (arith, none)) ∙ one.same (omega (arith, none));
+    }
 
 module _ {D : Type 0} (g : Ghosts D) where
   -- ---- writes and syncs, with reads among them
@@ -84,20 +77,20 @@ module _ {D : Type 0} (g : Ghosts D) where
     lasts = puts.lasts;
   }
 
+  -- behind calls of which no write and no sync failed
+  pub among_on : ((first second third : D) → g.lasts first second → g.lasts second third → g.lasts first third) → (Q : Type 0) (old mid new : D) → g.lasts old mid → TellsAlike (g.content old) (g.content mid)
+      → g.read_faults old ≤ g.read_faults mid → g.write_faults mid ≡ g.write_faults old → PutsAmongReads g Q mid new → PutsAmongReads g Q old new
+  among_on on Q old mid new lasts told reads writes second = record {
+    told = alike_on _ _ _ told second.told;
+    reads = omega (arith, reads, second.reads);
+    faults = counts_on _ _ _ Q writes second.faults;
+    stops = record { last = second.stops.last; lasts = on old mid second.stops.last lasts second.stops.lasts; writes = second.stops.writes ∙ writes; since = second.stops.since };
+    lasts = on old mid new lasts second.lasts;
+  }
+
   pub puts_among_then : ((first second third : D) → g.lasts first second → g.lasts second third → g.lasts first third) → (P Q : Type 0) (old mid new : D) → ¬ P
       → PutsAmongReads g P old mid → PutsAmongReads g Q mid new → PutsAmongReads g Q old new
-  puts_among_then on P Q old mid new fine first second = record {
-    told = alike_on _ _ _ first.told second.told;
-    reads = omega (arith, first.reads, second.reads);
-    faults = counts_on _ _ _ Q (first.faults.same fine) second.faults;
-    stops = record {
-      last = second.stops.last;
-      lasts = on old mid second.stops.last first.lasts second.stops.lasts;
-      writes = second.stops.writes ∙ first.faults.same fine;
-      since = second.stops.since;
-    };
-    lasts = on old mid new first.lasts second.lasts;
-  }
+  puts_among_then on P Q old mid new fine first second = among_on on Q old mid new first.lasts first.told first.reads (first.faults.same fine) second
 
   module _ {S C : Type 0} (form : Form S C) where
     -- what is kept stays so through reads

@@ -1,5 +1,5 @@
 -- The recovery of a state that is kept.
-use Rattle.std.proofs.Common.{◌≡◌, inl, inr, ⊎_elim, ℕ, ◌+◌, ◌<◌, ◌≤◌, Bool, true, false, not, nat_le, nat_lt, List, [], length, take, drop, Option, None, Some, IfSome, Result, Ok, Err, IsErrOf, refl, sym, ◌∙◌, ap, subst, arith}
+use Rattle.std.proofs.Common.{◌≡◌, ◌↔◌, inl, inr, ⊎_elim, ℕ, ◌+◌, ◌<◌, ◌≤◌, Bool, true, false, not, nat_le, nat_lt, List, [], length, take, drop, Option, None, Some, IfSome, Result, Ok, Err, IsErrOf, refl, sym, ◌∙◌, ap, subst, arith}
 use Rattle.std.specs.Prelude.{if◌then◌else◌}
 use Rattle.std.specs.Str.{bytes_eq}
 use Rattle.std.proofs.lemmas.Bool.{cases_lt, lt-ltb}
@@ -148,27 +148,14 @@ recovery_disk (recovery.NotAStore found) is = cc
 recovery_disk (recovery.Damaged at) is = cc
 recovery_disk recovery.Disk is = refl
 
-read_disk : {U T : Type 0} (reading : Result U ReadFault) (result : Result T StoreFault) → IsAnswerOf reading result → (IsErrOf reading read.Disk → IsErrOf result fault.Disk) × (IsErrOf result fault.Disk → IsErrOf reading read.Disk)
-read_disk (Ok x) result is = (λ disk. cc, λ disk. cc (is.1))
-read_disk (Err (read.Damaged at)) result is = (λ disk. cc, λ disk. cc)
-read_disk (Err read.Disk) result is = (λ disk. is, λ disk. refl)
-read_disk (Err read.OutOfMemory) result is = (λ disk. cc, λ disk. cc)
-
-read_memory : {U T : Type 0} (reading : Result U ReadFault) (result : Result T StoreFault) → IsAnswerOf reading result → IsErrOf reading read.OutOfMemory → IsErrOf result fault.OutOfMemory
-read_memory (Ok x) result is memory = cc
-read_memory (Err e) result is memory = let same : e ≡ read.OutOfMemory = cc in is ∙ ap (λ (e : ReadFault). Err (fault_of_read e)) same
-
-read_damage : {U T : Type 0} (reading : Result U ReadFault) (result : Result T StoreFault) (at : ℕ) → IsAnswerOf reading result → IsErrOf result (fault.Damaged at) → IsErrOf reading (read.Damaged at)
-read_damage (Ok x) result at is damage = cc (is.1)
-read_damage (Err (read.Damaged place)) result at is damage = cc
-read_damage (Err read.Disk) result at is damage = cc
-read_damage (Err read.OutOfMemory) result at is damage = cc
-
-read_no_store : {U T : Type 0} (reading : Result U ReadFault) (result : Result T StoreFault) (found : List ℕ) → IsAnswerOf reading result → ¬ IsErrOf result (fault.NotAStore found)
-read_no_store (Ok x) result found is foreign = cc (is.1)
-read_no_store (Err (read.Damaged place)) result found is foreign = cc
-read_no_store (Err read.Disk) result found is foreign = cc
-read_no_store (Err read.OutOfMemory) result found is foreign = cc
+-- what the answer of a recovery tells of its reading's
+reads_fault : {U T : Type 0} (reading : Result U ReadFault) (result : Result T StoreFault) → IsAnswerOf reading result
+    → (IsErrOf reading read.Disk ↔ IsErrOf result fault.Disk) × (IsErrOf reading read.OutOfMemory → IsErrOf result fault.OutOfMemory)
+    × ((at : ℕ) → IsErrOf result (fault.Damaged at) → IsErrOf reading (read.Damaged at)) × ((found : List ℕ) → ¬ IsErrOf result (fault.NotAStore found))
+reads_fault (Ok x) result is = let answer = is.1 in ((λ was. cc, λ was. cc), λ was. cc, λ at was. cc, λ found was. cc)
+reads_fault (Err (read.Damaged place)) result is = ((λ was. cc, λ was. cc), λ was. cc, λ at was. cc, λ found was. cc)
+reads_fault (Err read.Disk) result is = ((λ was. cc, λ was. cc), λ was. cc, λ at was. cc, λ found was. cc)
+reads_fault (Err read.OutOfMemory) result is = ((λ was. cc, λ was. cc), λ was. cc, λ at was. cc, λ found was. cc)
 
 -- ---- what is answered
 
@@ -233,19 +220,19 @@ module _ {D S C : Type 0} (g : Ghosts D) (form : Form S C) (blocks : ℕ) where
       → Leaves g old mid (IsRecovering form.magic blocks) → recovering.LeavesSinceSync g (Ok first) old mid (IsRecovering form.magic blocks)
       → AnswersAll form.step first start now (g.content mid) reading → Reads g (IsErrOf reading read.Disk) mid new → AnswersRecovery g form blocks result old new
   answers_read on same old mid new first start now reading result is fresh recovered refuses runs since_start since_sync all run =
-      let disk = read_disk reading result is in
+      let faults = reads_fault reading result is in
       let fine : ¬ IsErrOf (Ok first) recovery.Disk = λ failed. cc in
       record {
         refuses = λ healthy room. if_told (g.content old) _ (λ before told.
             let left = left_to_read old mid new first start recovered fine runs fresh run before told in
             answered_read form blocks before result reading first start now left.0 left.3
-            (at_told _ left.0 left.1 (all (λ was. healthy (disk.0 was)) (λ was. room (read_memory reading result is was)))) is healthy room);
-        untouched = λ found was. absurd (read_no_store reading result found is was);
+            (at_told _ left.0 left.1 (all (λ was. healthy (faults.0.0 was)) (λ was. room (faults.1 was)))) is healthy room);
+        untouched = λ found was. absurd (faults.3 found was);
         untouched_damage = λ at was.
-            let damage = read_damage reading result at is was in
+            let damage = faults.2 at was in
             damage_leaves old mid new first start recovered fine runs fresh run at (told_weaker (g.content old) _ _ (λ before told refuses bad. cc ((refuses.damaged 8).1 (refl, bad))) (refuses fine))
             (told_weaker (g.content mid) _ _ (λ octets told applies. (applies.damaged at).0 damage) (all (λ disk. cc (disk, damage)) (λ memory. cc (memory, damage))));
-        runs = runs_read g on same _ _ _ old mid new fine disk.0 disk.1 runs run;
+        runs = runs_read g on same _ _ _ old mid new fine faults.0.0 faults.0.1 runs run;
         since_start = told_weaker (g.content old) _ _ (λ before told left.
             joined g.moment g.images_since old mid new (StandsAlike form blocks before) left (reads g.moment g.images_since mid new (StandsAlike form blocks before) run.only.same_moment run.only.same_past))
             (leaves_alike form blocks g old mid new since_start);

@@ -11,12 +11,12 @@ use Rattle.file_journal.specs.Recovery.{IsSyncedFirst}
 use Rattle.file_journal.specs.Restoring.{StandsAlike}
 use Rattle.file_journal.specs.Through.{StandsThrough}
 use Rattle.file_journal.specs.Walk.{state}
-use Rattle.file_journal.proofs.CallLemmas.{counts_on}
+use Rattle.file_journal.proofs.AmongLemmas.{among_on}
 use Rattle.file_journal.proofs.CommandLemmas.{makes_none}
 use Rattle.file_journal.proofs.DoesLemmas.{cut_least}
 use Rattle.file_journal.proofs.KeptLemmas.{images_here}
 use Rattle.file_journal.proofs.MomentLemmas.{joined, weaker}
-use Rattle.file_journal.proofs.ToldLemmas.{alike_on, at_told, if_told, told_before, told_weaker}
+use Rattle.file_journal.proofs.ToldLemmas.{at_told, if_told, told_before, told_weaker}
 
 -- A recovery that gave a state, and then commands, of which the disk may have cut off the last: all of them together, and
 -- the two parts.
@@ -88,20 +88,7 @@ module _ {D : Type 0} (g : Ghosts D) (on : (first second third : D) → g.lasts 
     (first : Runs g P old mid) where
   -- writes and syncs behind a recovery, with reads among them
   pub runs_among : PutsAmongReads g failed mid new → PutsAmongReads g failed old new
-  runs_among second =
-      let same = first.faults.same fine in
-      record {
-        told = alike_on _ _ _ first.told second.told;
-        reads = omega (arith, same.0, second.reads);
-        faults = counts_on _ _ _ failed same.1 second.faults;
-        stops = record {
-          last = second.stops.last;
-          lasts = on old mid second.stops.last first.lasts second.stops.lasts;
-          writes = second.stops.writes ∙ same.1;
-          since = second.stops.since;
-        };
-        lasts = on old mid new first.lasts second.lasts;
-      }
+  runs_among second = let same = first.faults.same fine in among_on g on failed old mid new first.lasts first.told (omega (arith, same.0)) same.1 second
 
   -- no more reads that failed are told of than were counted
   pub runs_missed : (missed : ℕ) → CountsSome (g.read_faults mid) (g.read_faults new) missed → CountsSome (g.read_faults old) (g.read_faults new) missed
