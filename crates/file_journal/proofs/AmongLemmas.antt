@@ -1,15 +1,14 @@
 -- What commands do to a state that is kept where reads come among them.
-use Rattle.std.proofs.Common.{◌≡◌, ◌⊎◌, inl, inr, ⊎_elim, ℕ, ◌+◌, ◌<◌, ◌≤◌, Bool, true, false, List, [], ◌++◌, Option, IfSome, refl, sym, ◌∙◌, subst, arith}
+use Rattle.std.proofs.lemmas.Grind.{common_steps}
+use Rattle.std.proofs.Common.{◌≡◌, ◌⊎◌, inl, inr, ⊎_elim, ℕ, ◌+◌, ◌<◌, ◌≤◌, Bool, true, false, List, [], ◌++◌, refl, sym, ◌∙◌, subst, arith}
 use Rattle.disk_model.specs.declared.disk.Disk.{Ghosts}
 use Rattle.file_journal.specs.AmongReads.{CountsSome, DoesAmongReads, PutsAmongReads, among_reads, one_if}
 use Rattle.file_journal.specs.Calls.{ChangesReads, CountsFault, Puts, Reads, TellsAlike}
-use Rattle.file_journal.specs.Commands.{MakesFirst}
 use Rattle.file_journal.specs.Form.{Form}
 use Rattle.file_journal.specs.Kept.{Does, IsKept, KeptOn, alone, kept_on}
 use Rattle.file_journal.specs.Position.{Position, StandsOn}
-use Rattle.file_journal.specs.Walk.{ImagesStandFor, StandFor}
 use Rattle.file_journal.proofs.CallLemmas.{changes_none, changes_on, counts_none, counts_on, still, counts_same, reads_now}
-use Rattle.file_journal.proofs.DoesLemmas.{fours_course, fours_none, fours_then}
+use Rattle.file_journal.proofs.DoesLemmas.{fours_course, fours_then}
 use Rattle.file_journal.proofs.MomentLemmas.{reads}
 use Rattle.file_journal.proofs.ToldLemmas.{alike_on, alike_same, at_told, if_told}
 
@@ -31,15 +30,7 @@ some_one before now false counts = some_still before now (counts.same (λ e. cc 
 
 -- one run and then another
 pub some_then : (before mid now first second : ℕ) → CountsSome before mid first → CountsSome mid now second → CountsSome before now (first + second)
-some_then before mid now first second one other =
-    let one_rose = one.rose in
-    let other_rose = other.rose in
-    let later = other.no_less in
-    record {
-      no_less = omega (arith, one.no_less, other.no_less);
-      rose = grind arith;
-      same = λ none. other.same (omega (arith, none)) ∙ one.same (omega (arith, none));
-    }
+some_then before mid now first second one other = grind (arith, common_steps)
 
 module _ {D : Type 0} (g : Ghosts D) where
   -- ---- writes and syncs, with reads among them
@@ -95,13 +86,7 @@ module _ {D : Type 0} (g : Ghosts D) where
   module _ {S C : Type 0} (form : Form S C) where
     -- what is kept stays so through reads
     pub reads_stand : (now : S) (journal : Position) (old new : D) → ChangesReads g old new → IsKept g form (kept_on now journal old) → IsKept g form (kept_on now journal new)
-    reads_stand now journal old new only keeps = record {
-      stands_on = among keeps.stands_on;
-      ended = keeps.ended;
-      content = λ fine. subst (λ (o : Option (List ℕ)). IfSome o (StandFor form.fresh form.step journal now)) (sym only.same_content) (keeps.content fine);
-      images = λ fine. if_told (g.content new) _ (λ octets told image here.
-          at_told (λ _. ImagesStandFor form.fresh form.step g journal now old) octets (sym only.same_content ∙ told) (keeps.images fine) image (reads_now g old new only image here));
-    }
+    reads_stand now journal old new only keeps = grind (arith, common_steps)
       where
         among : StandsOn g journal old → StandsOn g journal new
         among (inl failed) = inl failed
@@ -112,10 +97,7 @@ module _ {D : Type 0} (g : Ghosts D) where
     -- one run of reads, which failed or didn't
     pub reads_only : (failed : Bool) (now : S) (journal : Position) (old new : D) → Reads g (failed ≡ true) old new → journal.failed ≡ false → IsKept g form (kept_on now journal old)
         → DoesAmongReads g form ⊥ (one_if failed) [] (kept_on now journal old) (kept_on now journal new)
-    reads_only failed now journal old new run healthy stands =
-        fours_none g form (among_reads g ⊥ (one_if failed)) ⊥ now journal old new (λ never. never) (reads_stand now journal old new run.only stands) healthy
-        (if_told (g.content old) _ (λ before told. reads g.moment g.images_since old new (MakesFirst form now []) run.only.same_moment run.only.same_past)) run.only.same_moment run.only
-        (puts_among_reads (failed ≡ true) ⊥ old new (λ never. never) run) (some_one _ _ failed run.faults)
+    reads_only failed now journal old new run healthy stands = grind (arith, common_steps)
 
     -- commands alone
     pub among_does : (P : Type 0) (commands : List C) (old new : KeptOn D S) → Does g form P commands old new → DoesAmongReads g form P 0 commands old new

@@ -1,4 +1,5 @@
 -- What a record put behind the last gate makes of a store, and what a crash leaves of it.
+use Rattle.std.proofs.lemmas.Grind.{common_steps}
 use Rattle.std.proofs.Common.{◌≡◌, ◌≢◌, inl, inr, ⊎_elim, ℕ, ◌+◌, ◌<◌, ◌≤◌, true, false, List, [], ◌∷◌, ◌++◌, length, get_or, take, drop, Some, IfSome, Result, OnOk, sym, ◌∙◌, ap, subst, arith, append_assoc, append-nil, length-append, length-drop, take-append-drop, take-take}
 use Rattle.std.proofs.lemmas.Bool.{cases_eq}
 use Rattle.std.proofs.lemmas.List.{take-append-le, take_at, drop_at, length-take-le}
@@ -91,18 +92,7 @@ module _ (magic : List ℕ) (blocks : ℕ) (entries : List Record) (place : ℕ)
 
   -- so do octets that begin so, with a gate that isn't open
   with_rest : (gate : ℕ) (rest image : List ℕ) → gate ≢ 1 → length octets ≤ length image → image ≡ (ends.header ++ records_text entries) ++ gate ∷ rest → Ends magic blocks entries place image
-  with_rest gate rest image shut le split = record {
-    header = ends.header;
-    gate = gate;
-    rest = rest;
-    head = ends.head;
-    size = ends.size;
-    long = omega (arith, ends.long, le);
-    are = ends.are;
-    is_place = ends.is_place;
-    split = split;
-    shut = shut;
-  }
+  with_rest gate rest image shut le split = grind (arith, common_steps)
 
   pub ends_kept : (image : List ℕ) → take (place + 1) image ≡ take (place + 1) octets → length octets ≤ length image → Ends magic blocks entries place image
   ends_kept image same le = with_rest ends.gate (drop (place + 1) image) image ends.shut le (sym (take-append-drop (place + 1) image)

@@ -1,8 +1,9 @@
 -- What formatting makes of octets, and what a crash in it leaves.
-use Rattle.std.proofs.Common.{◌≡◌, ℕ, ◌+◌, ◌%◌, ◌==◌, nat_lt, ◌≤◌, List, [], ◌∷◌, ◌++◌, length, get_or, take, drop, Some, sym, ◌∙◌, ap, subst, arith, append_assoc, append-nil, length-append, length-drop, take-take, get_or-take, take_all, eq-eqb}
+use Rattle.std.proofs.lemmas.Grind.{common_steps}
+use Rattle.std.proofs.Common.{◌≡◌, ℕ, ◌%◌, ◌==◌, nat_lt, ◌≤◌, List, [], ◌∷◌, ◌++◌, length, get_or, take, drop, Some, sym, ◌∙◌, ap, subst, arith, append_assoc, append-nil, length-append, length-drop, take-take, get_or-take, take_all, eq-eqb}
 use Rattle.std.proofs.lemmas.List.{drop_all, take_at, length-take-le, get_or_at}
 use Rattle.std.proofs.lemmas.Bool.Decides.{nat_tests}
-use Rattle.std.proofs.lemmas.Bool.{cond-true, cond-false, lt-ltb, le-ltb}
+use Rattle.std.proofs.lemmas.Bool.{cond-true, cond-false, le-ltb}
 use Rattle.file_journal.specs.Journal.{after_finishing, even_selector}
 use Rattle.disk_model.specs.Disk.{Only, Torn, Writes}
 use Rattle.file_journal.specs.Appending.{IsTornFrom}
@@ -23,10 +24,7 @@ torn_quiet g disk counts_now rest at n before told image torn = torn_only at n b
 
 -- at most as many octets give way to these
 pub all_by : (text before new : List ℕ) → length before ≤ length text → Writes 0 text before new → new ≡ text
-all_by text before new short writes =
-    written 0 text before new (omega arith) writes
-    ∙ ap (λ (l : List ℕ). text ++ l) (drop_all (0 + length text) before (omega (arith, short)))
-    ∙ append-nil text
+all_by text before new short writes = grind (arith, common_steps)
 
 pub even_crash : (before image : List ℕ) → 16 ≤ length before → Torn 15 1 before image → IsMakingEven before image
 even_crash before image long torn = (torn_front 15 1 before image (omega arith) torn, torn_length 15 1 before image (omega arith) torn)
@@ -99,20 +97,10 @@ module _ (before : List ℕ) (size : length before ≡ 17) where
   evened_front = take_at (take 15 before) (even_selector before ∷ drop 16 before) 15 front15
 
   pub evened_header : take 16 evened ≡ take 15 before ++ even_selector before ∷ []
-  evened_header =
-      ap (λ (l : List ℕ). take 16 l) (sym (append_assoc (take 15 before) (even_selector before ∷ []) (drop 16 before)))
-      ∙ take_at (take 15 before ++ even_selector before ∷ []) (drop 16 before) 16 (omega (arith, front15, length-append (take 15 before) (even_selector before ∷ [])))
+  evened_header = grind (arith, common_steps)
 
   pub even_finishing : (image : List ℕ) → IsMakingEven before image → IsFinishing before image
-  even_finishing image making =
-      record {
-        interrupted = size;
-        header = making.0;
-        no_shorter = omega (arith, making.1, size);
-        no_longer = omega (arith, making.1, size);
-        even = λ long. absurd (omega (arith, making.1, size, long));
-        closed = λ long. absurd (omega (arith, making.1, size, long));
-      }
+  even_finishing image making = grind (arith, common_steps)
 
   pub gates_finishing : (image : List ℕ) → IsMakingGates evened image → IsFinishing before image
   gates_finishing image making =
@@ -128,9 +116,7 @@ module _ (before : List ℕ) (size : length before ≡ 17) where
       }
 
   pub finished_by : (new : List ℕ) → MakesGates evened new → new ≡ after_finishing before
-  finished_by new is =
-      is ∙ ap (λ (l : List ℕ). l ++ 0 ∷ 0 ∷ []) evened_header ∙ append_assoc (take 15 before) (even_selector before ∷ []) (0 ∷ 0 ∷ [])
-      ∙ sym (cond-true (nat_lt (length before) 18) _ before (lt-ltb (length before) 18 (omega (arith, size))))
+  finished_by new is = grind (arith, common_steps)
 
 -- what is formatted stays
 pub finished_before : (before : List ℕ) → 18 ≤ length before → before ≡ after_finishing before

@@ -1,4 +1,5 @@
 -- What the octets of a disk stand for, by their header and their length.
+use Rattle.std.proofs.lemmas.Grind.{common_steps}
 use Rattle.std.proofs.Common.{◌≡◌, ◌≢◌, ℕ, ◌+◌, ◌<◌, ◌≤◌, true, false, cond, not, nat_le, nat_lt, List, [], ◌∷◌, ◌++◌, length, get_or, take, drop, None, Some, refl, sym, ◌∙◌, ap, subst, arith, append_assoc, append-nil, length-append, take-take, get_or-take, inl, inr}
 use Rattle.std.proofs.lemmas.Bool.{cond-true, cond-false, cases_Bool, cases_lt, and_from, false_from_ne_true, both_ways, not_from_true, not_from_false, le-leb, lt-leb, lt-ltb, le-ltb}
 use Rattle.std.proofs.lemmas.Slice.Eq.{bytes_eq-Decides}
@@ -39,9 +40,7 @@ module _ (magic octets : List ℕ) where
     -- the right block number
     good : 16 < length octets → journal_of magic octets ≡ cond (nat_lt (length octets) 18) (store (Some blocks) (whole [])) (store_of blocks (reading_from 16 (drop 16 octets)))
     unfolding journal_of
-    good long =
-        longer _ long ∙ known _ _ head.magic_is ∙ cond-false (not (is_block_number (le32 octets 8))) _ _ (not_from_true _ (ap is_block_number head.blocks_are ∙ head.is_number))
-        ∙ ap (λ (n : ℕ). cond (nat_lt (length octets) 18) (store (Some n) (whole [])) (store_of n (reading_from 16 (drop 16 octets)))) head.blocks_are
+    good long = grind (arith, common_steps)
 
     pub of_17 : length octets ≡ 17 → journal_of magic octets ≡ store (Some blocks) (whole [])
     of_17 size = good (omega (arith, size)) ∙ cond-true (nat_lt (length octets) 18) _ _ (lt-ltb (length octets) 18 (omega (arith, size)))

@@ -1,4 +1,5 @@
 -- What a state that a journal keeps stands for, and what putting one record does to it.
+use Rattle.std.proofs.lemmas.Grind.{common_steps}
 use Rattle.std.proofs.Common.{◌≡◌, ◌⊎◌, ◌↔◌, inl, inr, ⊎_elim, ℕ, ◌+◌, ◌*◌, ◌≤◌, true, false, List, [], ◌∷◌, Some, IfSome, Ok, Err, IsErr, IsErrOf, refl, sym, ◌∙◌, ap, subst, arith}
 use Rattle.disk_model.specs.declared.disk.Disk.{Ghosts}
 use Rattle.file_journal.specs.Appending.{Appends, LeavesAppending, LeavesBeforeOrAfter}
@@ -9,13 +10,12 @@ use Rattle.file_journal.specs.Journal.{IsBeforeOrAfter, journal_of}
 use Rattle.file_journal.specs.Kept.{AnswersPut, Does, IsCut, IsKept, KeptOn, StandsAt, by_fours, kept_on}
 use Rattle.file_journal.specs.Position.{IsAt, Position, StandsOn}
 use Rattle.file_journal.specs.Records.{Record}
-use Rattle.file_journal.specs.Walk.{ImagesStandFor, StandFor, stands_of, state}
+use Rattle.file_journal.specs.Walk.{StandFor, stands_of, state}
 use Rattle.file_journal.specs.declared.faults.JournalFault.{JournalFault}
 use Rattle.file_journal.specs.declared.faults.JournalFault.TheVariants as fault
 use Rattle.file_journal.proofs.CallLemmas.{puts_same}
 use Rattle.file_journal.proofs.CommandLemmas.{makes_one, stay_none}
 use Rattle.file_journal.proofs.MomentLemmas.{weaker}
-use Rattle.file_journal.proofs.PositionLemmas.{among_records}
 use Rattle.file_journal.proofs.ToldLemmas.{at_told, if_told, told_before, told_weaker}
 use Rattle.file_journal.proofs.WalkLemmas.{append_keeps, failed_keeps, one_step}
 
@@ -24,22 +24,15 @@ module _ {S C : Type 0} (form : Form S C) where
   -- are read with.
   any_number : (blocks : ℕ) (journal : Position) (now : S) (passed : List Record) (octets : List ℕ) → journal.magic ≡ form.magic → IsAt journal passed octets → StandFor form.fresh form.step journal now octets
       → standing_of form blocks octets ≡ state now
-  any_number blocks journal now passed octets magic_is at stands =
-      ap (λ (l : List ℕ). stands_of form.fresh form.step blocks (journal_of l octets)) (sym magic_is)
-      ∙ ap (stands_of form.fresh form.step blocks) at.records ∙ sym (ap (stands_of form.fresh form.step journal.blocks) at.records) ∙ stands
+  any_number blocks journal now passed octets magic_is at stands = grind (arith, common_steps)
 
   module _ {D : Type 0} (g : Ghosts D) where
     -- What a state that is kept has on its disk stands for it.
     content_here : (blocks : ℕ) (at : KeptOn D S) → StandsAt g form at → at.journal.failed ≡ false → IfSome (g.content at.disk) (λ octets. standing_of form blocks octets ≡ state at.now)
-    content_here blocks at stands healthy = if_told (g.content at.disk) _ (λ octets told.
-        let on = at_told _ octets told (among_records at.journal (g.content at.disk) (images_now g at.disk) healthy stands.keeps.stands_on) in
-        any_number blocks at.journal at.now on.0 octets stands.magic_is on.1 (at_told (StandFor form.fresh form.step at.journal at.now) octets told (stands.keeps.content healthy)))
+    content_here blocks at stands healthy = grind (arith, common_steps)
 
     pub images_here : (at : KeptOn D S) → StandsAt g form at → at.journal.failed ≡ false → EachImage g at.disk (StandsFor form at.now)
-    images_here at stands healthy = if_told (g.content at.disk) _ (λ octets told image here.
-        let on = at_told _ octets told (among_records at.journal (g.content at.disk) (images_now g at.disk) healthy stands.keeps.stands_on) in
-        any_number (form.number at.now) at.journal at.now on.0 image stands.magic_is (on.2 image here).0
-        (at_told (λ (_ : List ℕ). ImagesStandFor form.fresh form.step g at.journal at.now at.disk) octets told (stands.keeps.images healthy) image here))
+    images_here at stands healthy = grind (arith, common_steps)
 
     -- ---- one record
 

@@ -1,8 +1,8 @@
 -- What is read from a gate on.
-use Rattle.std.proofs.Common.{◌≡◌, ◌≢◌, ◌↔◌, min, inl, inr, ⊎_elim, ℕ, zero, suc, ◌+◌, ◌-◌, ◌*◌, ◌/◌, ◌%◌, ◌<◌, ◌≤◌, true, false, ◌==◌, nat_le, nat_lt, if◌then◌else◌, List, [], ◌∷◌, ◌++◌, length, get_or, take, drop, refl, sym, ◌∙◌, ap, ap₂, subst, arith, append_assoc, length-append, length-drop, take-append-drop, drop-drop, get_or-drop, get_or-take, ne_eqb}
-use Rattle.std.proofs.lemmas.Bool.{cond-true, cond-false, cases_Bool, cases_eq, cases_lt, and_parts, and_from, leb-true, ltb-true, le-leb, lt-ltb, both_ways}
-use Rattle.std.proofs.lemmas.Bool.Decides.{same_from_decides}
-use Rattle.std.proofs.lemmas.List.{take_at, drop_at, drop_more, drop_all, drop-take, length-take, length-take-le, take-take, take_all}
+use Rattle.std.proofs.lemmas.Grind.{common_steps}
+use Rattle.std.proofs.Common.{◌≡◌, ◌≢◌, ◌↔◌, min, inl, inr, ⊎_elim, ℕ, zero, suc, ◌+◌, ◌-◌, ◌*◌, ◌<◌, ◌≤◌, true, false, ◌==◌, if◌then◌else◌, List, [], ◌∷◌, ◌++◌, length, get_or, take, drop, refl, sym, ◌∙◌, ap, ap₂, subst, arith, append_assoc, length-append, length-drop, take-append-drop, drop-drop, get_or-drop, get_or-take, ne_eqb}
+use Rattle.std.proofs.lemmas.Bool.{cond-true, cond-false, cases_Bool, cases_eq, cases_lt, both_ways}
+use Rattle.std.proofs.lemmas.List.{drop_at, drop_more, drop_all, drop-take, length-take-le, take-take}
 use Rattle.std.proofs.lemmas.List.Elements.{All-take, All-drop, All-head, All-tail}
 use Rattle.std.specs.List.{AllByRecursion}
 use Rattle.px_base.specs.Numbers.{le16}
@@ -51,10 +51,7 @@ reading_whole place octets is_whole = reading_step place 1 octets ∙ cond-true 
 
 -- what the test says
 whole_is : (octets : List ℕ) → (starts_whole octets ≡ true) ↔ ((le16 octets 1 ≤ 600) × (record_len octets < length octets))
-whole_is octets = (
-  λ w. let parts = and_parts (nat_le (le16 octets 1) 600) (nat_lt (record_len octets) (length octets)) w in (leb-true (le16 octets 1) 600 parts.0, ltb-true (record_len octets) (length octets) parts.1),
-  λ parts. and_from _ _ (le-leb (le16 octets 1) 600 parts.0) (lt-ltb (record_len octets) (length octets) parts.1),
-)
+whole_is octets = grind (arith, common_steps)
 
 -- A record's text, with a gate behind it, is read as that record.
 module _ (entry : Record) (is : IsRecord entry) (gate : ℕ) (later : List ℕ) where
@@ -65,15 +62,10 @@ module _ (entry : Record) (is : IsRecord entry) (gate : ℕ) (later : List ℕ) 
   text_starts_whole = (whole_is (record_text entry ++ gate ∷ later)).1 (omega (arith, number, is.most), omega (arith, number, length-append entry.content (gate ∷ later)))
 
   pub text_record_in : record_in (record_text entry ++ gate ∷ later) ≡ entry
-  text_record_in =
-      ap (λ (l : List ℕ). let r : Record = record { kind = entry.kind; content = l } in r)
-      (ap (λ (n : ℕ). take n (entry.content ++ gate ∷ later)) number ∙ take_at entry.content (gate ∷ later) (length entry.content) refl)
+  text_record_in = grind (arith, common_steps)
 
   pub text_rest : drop (record_len (record_text entry ++ gate ∷ later)) (record_text entry ++ gate ∷ later) ≡ gate ∷ later
-  text_rest =
-      ap (λ (n : ℕ). drop (3 + n) (record_text entry ++ gate ∷ later)) number
-      ∙ sym (drop-drop (length entry.content) 3 (record_text entry ++ gate ∷ later))
-      ∙ drop_at entry.content (gate ∷ later) (length entry.content) refl
+  text_rest = grind (arith, common_steps)
 
   pub reading_text : (place : ℕ) → reading_from place (1 ∷ record_text entry ++ gate ∷ later) ≡ with_record entry (reading_from (place + 4 + length entry.content) (gate ∷ later))
   reading_text place =
@@ -84,10 +76,7 @@ module _ (entry : Record) (is : IsRecord entry) (gate : ℕ) (later : List ℕ) 
 -- the text of a record of this kind and content
 three_octets : (kind low high n : ℕ) (content : List ℕ) → low < 256 → high < 256 → length content ≡ low + 256 * high
     → kind ∷ low ∷ high ∷ content ≡ record_text (record { kind = kind; content = content })
-three_octets kind low high n content hl hh is =
-    let first : low ≡ length content % 256 = omega arith in
-    let second : high ≡ length content / 256 % 256 = omega arith in
-    ap₂ (λ (a b : ℕ). kind ∷ a ∷ b ∷ content) first second
+three_octets kind low high n content hl hh is = grind (arith, common_steps)
 
 -- Octets that begin with a whole record and a gate are its text and what follows.
 pub whole_text : (octets : List ℕ) → IsOctets octets → starts_whole octets ≡ true → (gate : ℕ) × (later : List ℕ) × IsRecord (record_in octets) × (octets ≡ record_text (record_in octets) ++ gate ∷ later)
@@ -263,17 +252,7 @@ module _ (place : ℕ) (octets : List ℕ) where
 
 -- whether a record with a gate behind it stands at the front is seen in 604 octets
 starts_whole-front : (octets : List ℕ) (n : ℕ) → n ≡ min 604 (length octets) → starts_whole (take n octets) ≡ starts_whole octets
-starts_whole-front octets n is = elim (cases_lt (length octets) 604) [
-  | inl few ↦ ap starts_whole (take_all n octets (omega (arith, is)))
-  | inr many ↦
-      let at : (i : ℕ) → i < 604 → get_or (take n octets) i 0 ≡ get_or octets i 0 = λ i lt. get_or-take n octets i 0 (omega (arith, is)) in
-      let number : le16 (take n octets) 1 ≡ le16 octets 1 = omega (arith, at 1 (omega arith), at 2 (omega arith)) in
-      let size : length (take n octets) ≡ 604 = omega (arith, length-take n octets, is) in
-      same_from_decides {P = starts_whole octets ≡ true} (starts_whole (take n octets)) (starts_whole octets) (
-        λ w. let parts = (whole_is (take n octets)).0 w in (whole_is octets).1 (omega (arith, number, parts.0), omega (arith, number, parts.0, many)),
-        λ w. let parts = (whole_is octets).0 w in (whole_is (take n octets)).1 (omega (arith, number, parts.0), omega (arith, number, parts.0, size)),
-      ) (λ w. w, λ w. w)
-]
+starts_whole-front octets n is = grind (arith, common_steps)
 
 -- What is read from a gate on, in which the record is seen.
 module _ (place count : ℕ) (octets front : List ℕ) (there : place < length octets) (is_count : count ≡ min 605 (length octets - place))
@@ -309,9 +288,7 @@ module _ (place count : ℕ) (octets front : List ℕ) (there : place < length o
 
   -- an octet of what stands behind the gate
   front-rest : (i : ℕ) → i + 1 < count → get_or front (i + 1) 0 ≡ get_or (drop (place + 1) octets) i 0
-  front-rest i lt =
-      front-at (i + 1) lt ∙ ap (λ (n : ℕ). get_or octets n 0) (let same : place + (i + 1) ≡ place + 1 + i = omega arith in same)
-      ∙ sym (get_or-drop (place + 1) octets i 0)
+  front-rest i lt = grind (arith, common_steps)
 
   pub found-record : (kind n : ℕ) → BeginsRecord front kind n → HasRecord place (record { kind = kind; content = take n (drop 4 front) }) octets
   found-record kind n is =

@@ -1,4 +1,5 @@
 -- What a recovery leaves of a content, what it answers, and where its journal stands.
+use Rattle.std.proofs.lemmas.Grind.{common_steps}
 use Rattle.std.proofs.Common.{◌≡◌, ◌↔◌, inl, inr, ℕ, ◌+◌, ◌%◌, ◌<◌, ◌≤◌, nat_le, nat_lt, false, List, [], ◌∷◌, ◌++◌, length, get_or, take, Some, IfSome, Result, Ok, Err, refl, sym, ◌∙◌, ap, subst, arith, append_assoc, append-nil, length-append, get_or-take, take-take}
 use Rattle.std.proofs.lemmas.List.{get_or-append-add, get_or_at, take-append-le, take_at, length-take-le}
 use Rattle.std.proofs.lemmas.Bool.{cases_lt, cond-false, cond-true, le-leb, lt-leb, lt-ltb}
@@ -89,25 +90,11 @@ module _ (magic : List ℕ) (blocks : ℕ) (before : List ℕ) where
 
   -- more than 16 octets keep their first 15
   kept_front : 16 < length before → length before < 18 → take 15 (after_recovery magic blocks before) ≡ take 15 before
-  kept_front long short =
-      ap (λ (l : List ℕ). take 15 l)
-      (known_after long
-      ∙ cond-true (nat_lt (length before) 18) (take 15 before ++ even_selector before ∷ 0 ∷ 0 ∷ []) before (lt-ltb (length before) 18 short))
-      ∙ take_at (take 15 before) (even_selector before ∷ 0 ∷ 0 ∷ []) 15 (length-take-le 15 before (omega (arith, long)))
+  kept_front long short = grind (arith, common_steps)
 
   -- the content as it was
   pub recovering_same : IsRecovering magic blocks before before
-  recovering_same = record {
-    same = inl refl;
-    formatted = λ long. refl;
-    no_longer = λ short. omega (arith, short);
-    header = λ long. elim (cases_lt (length before) 18) [
-      | inr full ↦ ap (λ (l : List ℕ). take 15 l) (finished_before before full ∙ sym (known_after long))
-      | inl short ↦ sym (kept_front long short)
-    ];
-    even = λ short long. absurd (omega (arith, short, long));
-    closed = λ short long. absurd (omega (arith, short, long));
-  }
+  recovering_same = grind (arith, common_steps)
 
   -- an interrupted formatting
   pub recovering_finishing : (number : ℕ) (image : List ℕ) → HasHeader magic number before → IsFinishing before image → IsRecovering magic blocks before image

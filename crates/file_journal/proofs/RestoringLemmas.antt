@@ -1,9 +1,9 @@
 -- The recovery of a state that is kept.
-use Rattle.std.proofs.Common.{◌≡◌, ◌↔◌, inl, inr, ⊎_elim, ℕ, ◌+◌, ◌<◌, ◌≤◌, Bool, true, false, not, nat_le, nat_lt, List, [], length, take, drop, Option, None, Some, IfSome, Result, Ok, Err, IsErrOf, refl, sym, ◌∙◌, ap, subst, arith}
+use Rattle.std.proofs.lemmas.Grind.{common_steps}
+use Rattle.std.proofs.Common.{◌≡◌, ◌↔◌, inl, inr, ⊎_elim, ℕ, ◌<◌, ◌≤◌, Bool, true, false, not, nat_le, nat_lt, List, [], length, take, drop, Option, None, Some, IfSome, Result, Ok, Err, IsErrOf, refl, sym, ◌∙◌, ap, subst, arith}
 use Rattle.std.specs.Prelude.{if◌then◌else◌}
 use Rattle.std.specs.Str.{bytes_eq}
 use Rattle.std.proofs.lemmas.Bool.{cases_lt, lt-ltb}
-use Rattle.std.proofs.lemmas.Bool.Decides.{nat_tests}
 use Rattle.px_base.specs.Numbers.{le32}
 use Rattle.px_base.specs.Outside.{Rose}
 use Rattle.disk_model.specs.Disk.{Only}
@@ -30,7 +30,7 @@ use Rattle.file_journal.specs.declared.faults.StoreFault.TheVariants as fault
 use Rattle.file_journal.proofs.CallLemmas.{changes_none, reads_now, stops_on, stops_reads}
 use Rattle.file_journal.proofs.MomentLemmas.{joined, reads, weaker}
 use Rattle.file_journal.proofs.ToldLemmas.{alike_on, alike_same, at_told, if_told, told_before, told_weaker}
-use Rattle.file_journal.proofs.WalkLemmas.{for_recovering, read_keeps, recovered_walk}
+use Rattle.file_journal.proofs.WalkLemmas.{for_recovering, read_keeps}
 
 -- ---- what is refused
 
@@ -88,10 +88,7 @@ module _ {S C : Type 0} (form : Form S C) (blocks : ℕ) where
   formatted octets at good is = elim (cases_lt (length octets) 18) [ inl short ↦ absurd (short_damage octets at short good is) | inr long ↦ long ]
 
   stays : (octets : List ℕ) → 18 ≤ length octets → after_recovery form.magic blocks octets ≡ octets
-  stays octets long =
-      let a : nat_le (length octets) 16 ≡ false = grind (arith, nat_tests) in
-      let b : nat_lt (length octets) 18 ≡ false = grind (arith, nat_tests) in
-      rw (a, b) refl
+  stays octets long = grind (arith, common_steps)
 
   stands_alike : (before image : List ℕ) → IsRecovering form.magic blocks before image → StandsAlike form blocks before image
   stands_alike before image left = record { same = for_recovering form.step form.fresh form.magic blocks before image left; octets = left }
@@ -101,10 +98,7 @@ module _ {S C : Type 0} (form : Form S C) (blocks : ℕ) where
     leaves_alike leaves = told_weaker (g.content old) _ _ (λ before told left. weaker g.moment g.images_since old mid _ (StandsAlike form blocks before) (stands_alike before) left) leaves
 
     synced_alike : (before : List ℕ) → ChangesReads g mid new → IsSyncedFirst g old mid (IsRecovering form.magic blocks before) → IsSyncedFirst g old new (StandsAlike form blocks before)
-    synced_alike before only synced = record {
-      later = omega (arith, synced.later, only.same_moment);
-      each = λ image since. stands_alike before image (synced.each image ((only.same_past (g.moment old + 1) image).0 since));
-    }
+    synced_alike before only synced = grind (arith, common_steps)
 
 untold : (before now : Option (List ℕ)) → TellsAlike before now → before ≡ None → now ≡ None
 untold before None alike none = refl
@@ -181,9 +175,7 @@ module _ {D S C : Type 0} (g : Ghosts D) (form : Form S C) (blocks : ℕ) where
     -- all is left to read
     left_to_read : (before : List ℕ) → g.content old ≡ Some before
         → (octets : List ℕ) × (g.content mid ≡ Some octets) × Recovers form.magic blocks first before octets × (standing_of form blocks before ≡ walk_left form.step first start octets)
-    left_to_read before told =
-        let has = at_told (λ (l : List ℕ). (octets : List ℕ) × (g.content mid ≡ Some octets) × Recovers form.magic blocks first l octets) before told recovered.content in
-        (has.0, has.1, has.2, recovered_walk form.step form.fresh form.magic blocks first before has.0 has.2 recovered.place ∙ ap (λ (s : S). walk_left form.step first s has.0) (sym fresh))
+    left_to_read before told = grind (arith, common_steps)
 
     -- a state was read
     pub restored : (position : Position) (now : S) → IfSome (g.content mid) (λ octets. walk_left form.step first start octets ≡ state now) → StandsOn g position new → position ≡ record first { place = position.place; ended = position.ended }

@@ -1,16 +1,16 @@
 -- What a walk over records comes to, and how appends and recoveries keep what octets stand for.
+use Rattle.std.proofs.lemmas.Grind.{common_steps}
 use Rattle.std.proofs.Common.{◌≡◌, inl, inr, ℕ, ◌+◌, true, false, List, [], ◌∷◌, ◌++◌, length, Option, None, Some, IfSome, refl, sym, ◌∙◌, ap, ap₂, arith, length-append}
 use Rattle.disk_model.specs.declared.disk.Disk.{Ghosts}
 use Rattle.file_journal.specs.Appending.{Appends}
-use Rattle.file_journal.specs.Calls.{ChangesReads, TakesStep, TellsAlike, images_now}
+use Rattle.file_journal.specs.Calls.{ChangesReads, TakesStep, TellsAlike}
 use Rattle.file_journal.specs.Journal as journal
 use Rattle.file_journal.specs.Journal.{journal_of, store_of, with_last}
 use Rattle.file_journal.specs.Ledger.{Takes}
-use Rattle.file_journal.specs.Position.{Position, StandsOn, left_to_read}
+use Rattle.file_journal.specs.Position.{Position, StandsOn}
 use Rattle.file_journal.specs.Records.{Reading, Record, broken, records_text, whole, with_end, with_record, with_records}
 use Rattle.file_journal.specs.Recovery.{IsRecovered, IsRecovering, Recovers}
 use Rattle.file_journal.specs.Walk.{IsOneStep, KeepsState, StandAsBefore, StandFor, Stands, StandsForSame, damaged_at, number_or, on_from, stands_for, stands_of, state, walk, walk_left, walk_over}
-use Rattle.file_journal.proofs.PositionLemmas.{among_records}
 use Rattle.file_journal.proofs.ToldLemmas.{at_told, content_now, if_told}
 
 -- What comes of a gate is what comes of each state behind it.
@@ -102,35 +102,18 @@ module _ {S : Type 0} (step : S → Record → Option S) where
     -- all is left to read
     pub recovered_walk : (first : Position) (before now : List ℕ) → Recovers magic blocks first before now → first.place ≡ 16
         → stands_for fresh step magic blocks before ≡ walk_left step first (fresh first.blocks) now
-    recovered_walk first before now made at =
-        sym (for_recovered first before now made)
-        ∙ ap (stands_of fresh step blocks) made.whole
-        ∙ ap (λ (n : ℕ). walk step (fresh first.blocks) n (left_to_read first now)) (sym at)
+    recovered_walk first before now made at = grind (arith, common_steps)
 
 -- What a journal keeps.
 module _ {D S : Type 0} (g : Ghosts D) (fresh : ℕ → S) (step : S → Record → Option S) where
   -- one that has failed keeps any state
   pub failed_keeps : (position : Position) (now : S) (disk : D) → position.failed ≡ true → StandsOn g position disk → KeepsState fresh step g position now disk
-  failed_keeps position now disk failed stands = record {
-    stands_on = stands;
-    ended = λ fine. cc;
-    content = λ fine. absurd (cc (sym failed ∙ fine));
-    images = λ fine. absurd (cc (sym failed ∙ fine));
-  }
+  failed_keeps position now disk failed stands = grind (arith, common_steps)
 
   -- one that stands on its disk and has read its end keeps what the content stands for
   pub stands_keeps : (position : Position) (now : S) (disk : D) → StandsOn g position disk → (position.failed ≡ false → position.ended ≡ true)
       → (position.failed ≡ false → IfSome (g.content disk) (StandFor fresh step position now)) → KeepsState fresh step g position now disk
-  stands_keeps position now disk stands ended content = record {
-    stands_on = stands;
-    ended = ended;
-    content = content;
-    images = λ fine. if_told (g.content disk) _ (λ octets told image here.
-        let at = at_told _ octets told (among_records position (g.content disk) (images_now g disk) fine stands) in
-        let there = at.2 image here in
-        ap (stands_of fresh step position.blocks) (there.0.records ∙ ap (λ (r : Reading). store_of position.blocks (with_records at.0 r)) there.1 ∙ sym at.1.records)
-        ∙ at_told (StandFor fresh step position now) octets told (content fine));
-  }
+  stands_keeps position now disk stands ended content = grind (arith, common_steps)
 
   -- One that was recovered and read to its end.
   pub read_keeps : (magic : List ℕ) (blocks : ℕ) (old mid new : D) (first position : Position) (now : S)
@@ -138,16 +121,7 @@ module _ {D S : Type 0} (g : Ghosts D) (fresh : ℕ → S) (step : S → Record 
       → StandsOn g position new → position ≡ record first { place = position.place; ended = position.ended } → position.ended ≡ true
       → ChangesReads g mid new → IfSome (g.content mid) (λ octets. walk_left step first (fresh first.blocks) octets ≡ state now)
       → KeepsState fresh step g position now new
-  read_keeps magic blocks old mid new first position now recovered alike stands same ended only comes =
-      stands_keeps position now new stands (λ fine. ended)
-      (λ fine. if_told (g.content new) _ (λ octets told.
-      let told_mid = sym only.same_content ∙ told in
-      let was = content_now _ _ (Recovers magic blocks first) octets alike recovered.content told_mid in
-      let is_magic : position.magic ≡ magic = ap (λ (p : Position). p.magic) same ∙ recovered.magic_is in
-      ap (λ (l : List ℕ). stands_of fresh step position.blocks (journal_of l octets)) is_magic
-      ∙ ap (stands_of fresh step position.blocks) was.2.whole
-      ∙ ap (λ (n : ℕ). walk step (fresh first.blocks) n (left_to_read first octets)) (sym recovered.place)
-      ∙ at_told _ octets told_mid comes))
+  read_keeps magic blocks old mid new first position now recovered alike stands same ended only comes = grind (arith, common_steps)
 
   -- An append of a record that the state allows.
   module _ (old new : D) (position after : Position) (s t : S) (entry : Record) (keeps : KeepsState fresh step g position s old) (allowed : step s entry ≡ Some t) where
