@@ -1,6 +1,6 @@
 -- What a record put behind the last gate makes of a store, and what a crash leaves of it.
 use Rattle.std.proofs.lemmas.Grind.{common_steps}
-use Rattle.std.proofs.Common.{◌≡◌, ◌≢◌, inl, inr, ⊎_elim, ℕ, ◌+◌, ◌<◌, ◌≤◌, true, false, List, [], ◌∷◌, ◌++◌, length, get_or, take, drop, Some, IfSome, Result, OnOk, sym, ◌∙◌, ap, subst, arith, append_assoc, append-nil, length-append, length-drop, take-append-drop, take-take}
+use Rattle.std.proofs.Common.{◌≡◌, ◌≢◌, inl, inr, ℕ, ◌+◌, ◌<◌, ◌≤◌, true, false, List, [], ◌∷◌, ◌++◌, length, get_or, take, drop, Some, IfSome, Result, OnOk, sym, ◌∙◌, ap, subst, arith, append_assoc, append-nil, length-append, length-drop, take-append-drop, take-take}
 use Rattle.std.proofs.lemmas.Bool.{cases_eq}
 use Rattle.std.proofs.lemmas.List.{take-append-le, take_at, drop_at, length-take-le}
 use Rattle.std.proofs.lemmas.List.Elements.{All-drop, All-from_get_or}
@@ -246,9 +246,4 @@ module _ {D : Type 0} (g : Ghosts D) (journal : Position) (old : D) (ok : journa
             putting counts_now before told (at_told (g.images old) before told is_image) image put) left) makes.since
 
         pub any_moment : IfSome (g.content old) (λ before. LeavesSince (g.moment old) (g.images_since new) (λ image. IsBeforeOrAfter (journal_of journal.magic before) entry (journal_of journal.magic image)))
-        any_moment = told_weaker (g.content old) _ _ (λ before told left image since. ⊎_elim
-            (λ past.
-            let all = all_end before told in
-            inl (ends_store _ _ _ _ image (all.images image past) ∙ sym (ends_store _ _ _ _ before all.content)))
-            (λ here. here.store)
-            (left.each (g.moment old) image (omega arith) since)) leaves
+        any_moment = grind (arith, common_steps, all_end, ends_store, leaves)

@@ -1,6 +1,6 @@
 -- What a state that a journal keeps stands for, and what putting one record does to it.
 use Rattle.std.proofs.lemmas.Grind.{common_steps}
-use Rattle.std.proofs.Common.{◌≡◌, ◌⊎◌, ◌↔◌, inl, inr, ⊎_elim, ℕ, ◌+◌, ◌*◌, ◌≤◌, true, false, List, [], ◌∷◌, Some, IfSome, Ok, Err, IsErr, IsErrOf, refl, sym, ◌∙◌, ap, subst, arith}
+use Rattle.std.proofs.Common.{◌≡◌, ◌⊎◌, ◌↔◌, ℕ, ◌+◌, ◌*◌, ◌≤◌, true, false, List, [], ◌∷◌, Some, IfSome, Ok, Err, IsErr, IsErrOf, refl, sym, ◌∙◌, ap, subst, arith}
 use Rattle.disk_model.specs.declared.disk.Disk.{Ghosts}
 use Rattle.file_journal.specs.Appending.{Appends, LeavesAppending, LeavesBeforeOrAfter}
 use Rattle.file_journal.specs.Calls.{EachImage, Leaves, Puts, TakesStep, TellsAlike, images_now}
@@ -10,7 +10,7 @@ use Rattle.file_journal.specs.Journal.{IsBeforeOrAfter, journal_of}
 use Rattle.file_journal.specs.Kept.{AnswersPut, Does, IsCut, IsKept, KeptOn, StandsAt, by_fours, kept_on}
 use Rattle.file_journal.specs.Position.{IsAt, Position, StandsOn}
 use Rattle.file_journal.specs.Records.{Record}
-use Rattle.file_journal.specs.Walk.{StandFor, stands_of, state}
+use Rattle.file_journal.specs.Walk.{StandFor, state}
 use Rattle.file_journal.specs.declared.faults.JournalFault.{JournalFault}
 use Rattle.file_journal.specs.declared.faults.JournalFault.TheVariants as fault
 use Rattle.file_journal.proofs.CallLemmas.{puts_same}
@@ -45,13 +45,7 @@ module _ {S C : Type 0} (form : Form S C) where
 
       -- what stands for the records from before, with the new one or without
       either : (before image : List ℕ) → g.content old ≡ Some before → IsBeforeOrAfter (journal_of journal.magic before) entry (journal_of journal.magic image) → StandsFor form now image ⊎ StandsFor form next image
-      either before image told_old left =
-          let is : (blocks : ℕ) → standing_of form blocks before ≡ state now = λ blocks.
-          at_told (λ (octets : List ℕ). standing_of form blocks octets ≡ state now) before told_old (content_here blocks (kept_on now journal old) stands healthy) in
-          ⊎_elim
-          (λ same. inl (ap (stands_of form.fresh form.step (form.number now)) same ∙ is (form.number now)))
-          (λ made. inr (ap (stands_of form.fresh form.step (form.number next)) made ∙ one_step form.step form.fresh (form.number next) (journal_of form.magic before) now next entry (is (form.number next)) steps))
-          (subst (λ (m : List ℕ). IsBeforeOrAfter (journal_of m before) entry (journal_of m image)) stands.magic_is left)
+      either before image told_old left = grind (arith, common_steps, content_here, one_step)
 
       leaves : Leaves g old new (λ _. MakesFirst form now (command ∷ []))
       leaves = told_weaker (g.content old) _ _ (λ before told_old left.

@@ -19,11 +19,7 @@ take_front at whole old new le same = sym (take-take at whole new le) ∙ same
 
 -- a write inside or at the end
 pub written : (at : ℕ) (text old new : List ℕ) → at ≤ length old → Writes at text old new → new ≡ take at old ++ text ++ drop (at + length text) old
-written at text old new le writes =
-    three_parts at (length text) new
-    ∙ ap (λ (l : List ℕ). l ++ take (length text) (drop at new) ++ drop (at + length text) new) (take_front at (length old) old new le writes.before)
-    ∙ ap (λ (l : List ℕ). take at old ++ l ++ drop (at + length text) new) writes.there
-    ∙ ap (λ (l : List ℕ). take at old ++ text ++ l) writes.after
+written at text old new le writes = grind (arith, common_steps, three_parts, take_front)
 
 -- the octets before a torn write stay
 pub torn_front : (at n : ℕ) (old new : List ℕ) → at ≤ length old → Torn at n old new → take at new ≡ take at old

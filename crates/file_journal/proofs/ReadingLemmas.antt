@@ -1,6 +1,6 @@
 -- What is read from a gate on.
 use Rattle.std.proofs.lemmas.Grind.{common_steps}
-use Rattle.std.proofs.Common.{◌≡◌, ◌≢◌, ◌↔◌, min, inl, inr, ⊎_elim, ℕ, zero, suc, ◌+◌, ◌-◌, ◌*◌, ◌<◌, ◌≤◌, true, false, ◌==◌, if◌then◌else◌, List, [], ◌∷◌, ◌++◌, length, get_or, take, drop, refl, sym, ◌∙◌, ap, ap₂, subst, arith, append_assoc, length-append, length-drop, take-append-drop, drop-drop, get_or-drop, get_or-take, ne_eqb}
+use Rattle.std.proofs.Common.{◌≡◌, ◌≢◌, ◌↔◌, min, inl, inr, ⊎_elim, ℕ, zero, suc, ◌+◌, ◌-◌, ◌*◌, ◌<◌, ◌≤◌, true, false, ◌==◌, if◌then◌else◌, List, [], ◌∷◌, ◌++◌, length, get_or, take, drop, refl, sym, ◌∙◌, ap, subst, arith, append_assoc, length-append, length-drop, take-append-drop, drop-drop, get_or-drop, get_or-take, ne_eqb}
 use Rattle.std.proofs.lemmas.Bool.{cond-true, cond-false, cases_Bool, cases_eq, cases_lt, both_ways}
 use Rattle.std.proofs.lemmas.List.{drop_at, drop_more, drop_all, drop-take, length-take-le, take-take}
 use Rattle.std.proofs.lemmas.List.Elements.{All-take, All-drop, All-head, All-tail}
@@ -31,10 +31,7 @@ enough (suc n) (suc m) place (gate ∷ octets) hn hm =
 
 pub reading_step : (place gate : ℕ) (octets : List ℕ) → reading_from place (gate ∷ octets) ≡ step_of place gate octets (reading_from (place + 1 + record_len octets) (drop (record_len octets) octets))
 unfolding reading_from reading_within
-reading_step place gate octets =
-    ap (step_of place gate octets)
-    (enough (length octets) (length (drop (record_len octets) octets)) (place + 1 + record_len octets) (drop (record_len octets) octets)
-    (omega (arith, length-drop (record_len octets) octets)) (omega arith))
+reading_step place gate octets = grind (arith, common_steps, enough, length-drop)
 
 pub reading_none : (place : ℕ) → reading_from place [] ≡ broken [] place
 unfolding reading_from reading_within
@@ -68,10 +65,7 @@ module _ (entry : Record) (is : IsRecord entry) (gate : ℕ) (later : List ℕ) 
   text_rest = grind (arith, common_steps)
 
   pub reading_text : (place : ℕ) → reading_from place (1 ∷ record_text entry ++ gate ∷ later) ≡ with_record entry (reading_from (place + 4 + length entry.content) (gate ∷ later))
-  reading_text place =
-      reading_whole place (record_text entry ++ gate ∷ later) text_starts_whole
-      ∙ ap₂ with_record text_record_in
-      (ap₂ reading_from (let at : place + 1 + record_len (record_text entry ++ gate ∷ later) ≡ place + 4 + length entry.content = omega (arith, number) in at) text_rest)
+  reading_text place = grind (arith, common_steps, reading_whole, text_starts_whole, text_record_in, number, text_rest)
 
 -- the text of a record of this kind and content
 three_octets : (kind low high n : ℕ) (content : List ℕ) → low < 256 → high < 256 → length content ≡ low + 256 * high
@@ -203,14 +197,10 @@ module _ (most place : ℕ) (octets : List ℕ) (le : length octets ≤ most) (a
       (stands_more entry place after octets (drop (record_len octets) octets) _ text.2 (text.3 ∙ ap (λ (l : List ℕ). record_text entry ++ l) (sym next)) at stands)
 
   behind_cut : starts_whole octets ≡ false → StandsFrom place (1 ∷ octets) (reading_from place (1 ∷ octets))
-  behind_cut none =
-      subst (λ (r : Reading). StandsFrom place (1 ∷ octets) r) (sym (reading_broken place octets none))
-      (octets, tt, refl, text_cut octets none, omega arith)
+  behind_cut none = grind (arith, common_steps, reading_broken, text_cut)
 
   opened : (gate : ℕ) → gate ≡ 1 → StandsFrom place (gate ∷ octets) (reading_from place (gate ∷ octets))
-  opened gate is_open =
-      subst (λ (n : ℕ). StandsFrom place (n ∷ octets) (reading_from place (n ∷ octets))) (sym is_open)
-      (⊎_elim behind_whole behind_cut (cases_Bool (starts_whole octets)))
+  opened gate is_open = grind (arith, common_steps, behind_whole, behind_cut)
 
 -- What is read is what octets stand for.
 pub stands_from_read : (most : ℕ) → StandsBelow most
@@ -239,16 +229,7 @@ module _ (place : ℕ) (octets : List ℕ) where
   -- a record of this kind and length
   pub read_one : (kind n : ℕ) → place < length octets → get_or octets place 0 ≡ 1 → kind ≡ get_or (drop (place + 1) octets) 0 0 → n ≡ le16 (drop (place + 1) octets) 1 → n ≤ 600 → place + 4 + n < length octets
       → reading_from place (drop place octets) ≡ with_record (record_of kind (take n (drop (place + 4) octets))) (reading_from (place + 4 + n) (drop (place + 4 + n) octets))
-  read_one kind n there is_open is_kind is_number most long =
-      let rest = drop (place + 1) octets in
-      let size : length rest ≡ length octets - (place + 1) = length-drop (place + 1) octets in
-      let is_whole : starts_whole rest ≡ true = (whole_is rest).1 (omega (arith, is_number, most), omega (arith, is_number, long, size)) in
-      let at : place + 1 + record_len rest ≡ place + 4 + n = omega (arith, is_number) in
-      let content : drop 3 rest ≡ drop (place + 4) octets = drop-drop 3 (place + 1) octets ∙ ap (λ (i : ℕ). drop i octets) (let same : place + 1 + 3 ≡ place + 4 = omega arith in same) in
-      let next : drop (record_len rest) rest ≡ drop (place + 4 + n) octets = drop-drop (record_len rest) (place + 1) octets ∙ ap (λ (i : ℕ). drop i octets) at in
-      let entry : record_in rest ≡ record_of kind (take n (drop (place + 4) octets)) =
-      ap₂ record_of (sym is_kind) (ap₂ (λ (i : ℕ) (l : List ℕ). take i l) (sym is_number) content) in
-      ap (reading_from place) (at_gate there is_open) ∙ reading_whole place rest is_whole ∙ ap₂ with_record entry (ap₂ reading_from at next)
+  read_one kind n there is_open is_kind is_number most long = grind (arith, common_steps, length-drop, whole_is, drop-drop, at_gate, reading_whole)
 
 -- whether a record with a gate behind it stands at the front is seen in 604 octets
 starts_whole-front : (octets : List ℕ) (n : ℕ) → n ≡ min 604 (length octets) → starts_whole (take n octets) ≡ starts_whole octets
@@ -278,31 +259,14 @@ module _ (place count : ℕ) (octets front : List ℕ) (there : place < length o
   found-closed shut = read_closed place octets there (λ is_open. shut (front-gate ∙ is_open))
 
   pub found-damaged : get_or front 0 0 ≡ 1 → starts_whole (drop 1 front) ≡ false → reading_from place (drop place octets) ≡ broken [] place
-  found-damaged is_open cut =
-      let rest = drop (place + 1) octets in
-      let whole_front : drop 1 front ≡ take (count - 1) rest =
-      ap (drop 1) is_front ∙ ap (λ (m : ℕ). drop 1 (take m (drop place octets))) (let parts : count ≡ 1 + (count - 1) = omega (arith, is_count) in parts)
-      ∙ drop-take 1 (count - 1) (drop place octets) ∙ ap (take (count - 1)) (drop-drop 1 place octets) in
-      read_cut place octets there (sym front-gate ∙ is_open)
-      (sym (starts_whole-front rest (count - 1) (omega (arith, is_count, length-drop (place + 1) octets))) ∙ ap starts_whole (sym whole_front) ∙ cut)
+  found-damaged is_open cut = grind (arith, common_steps, drop-take, drop-drop, read_cut, front-gate, starts_whole-front, length-drop)
 
   -- an octet of what stands behind the gate
   front-rest : (i : ℕ) → i + 1 < count → get_or front (i + 1) 0 ≡ get_or (drop (place + 1) octets) i 0
   front-rest i lt = grind (arith, common_steps)
 
   pub found-record : (kind n : ℕ) → BeginsRecord front kind n → HasRecord place (record { kind = kind; content = take n (drop 4 front) }) octets
-  found-record kind n is =
-      let size = front-size in
-      let whole_is = is.whole in
-      let content : take n (drop 4 front) ≡ take n (drop (place + 4) octets) = front-drop 4 n (omega arith) in
-      let len : length (take n (drop 4 front)) ≡ n = length-take-le n (drop 4 front) (omega (arith, length-drop 4 front)) in
-      let number : n ≡ le16 (drop (place + 1) octets) 1 = omega (arith, is.len_is, front-rest 1 (omega arith), front-rest 2 (omega arith)) in
-      record {
-        there = omega (arith, len, is_count);
-        reading =
-            read_one place octets kind n there (sym front-gate ∙ is.gate) (is.kind_is ∙ front-rest 0 (omega arith)) number is.most (omega (arith, is_count))
-            ∙ ap₂ (λ (l : List ℕ) (i : ℕ). with_record (record { kind = kind; content = l }) (reading_from (place + 4 + i) (drop (place + 4 + i) octets))) (sym content) (sym len);
-      }
+  found-record kind n is = grind (arith, common_steps, front-size, front-drop, length-take-le, length-drop, front-rest, read_one, front-gate)
 
 -- a reading that begins with a record isn't one without, and begins with no other
 pub no_record : (entry : Record) (reading : Reading) → with_record entry reading ≡ whole [] → ⊥

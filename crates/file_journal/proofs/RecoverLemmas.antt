@@ -19,7 +19,7 @@ use Rattle.file_journal.specs.Recovery.{IsRecovered, IsRecovering, RefusesExactl
 use Rattle.file_journal.proofs.FormatLemmas.{finished_before}
 use Rattle.file_journal.proofs.JournalLemmas.{header_length, header_written, new_gates, of_17, of_empty, of_full, of_short, same_header}
 use Rattle.file_journal.proofs.ToldLemmas.{at_told, content_now, if_told, told_weaker}
-use Rattle.file_journal.proofs.MomentLemmas.{joined, reads, weaker}
+use Rattle.file_journal.proofs.MomentLemmas.{reads}
 
 -- Refusals.
 module _ (magic before : List ℕ) where
@@ -53,18 +53,11 @@ first_gate magic blocks = record { magic = magic; blocks = blocks; place = 16; e
 -- two closed gates behind a header of 16 octets
 two_gates : (magic : List ℕ) (blocks : ℕ) (front now : List ℕ) → length front ≡ 16 → HasHeader magic blocks front → now ≡ front ++ 0 ∷ 0 ∷ []
     → HasHeader magic blocks now × (18 ≤ length now) × (journal_of magic now ≡ store (Some blocks) (whole []))
-two_gates magic blocks front now size head is =
-    let now_head = same_header 16 magic blocks front now (omega arith) (ap (λ (l : List ℕ). take 16 l) is ∙ take-append-le 16 front (0 ∷ 0 ∷ []) (omega arith)) head in
-    let now_size : length now ≡ 18 = ap length is ∙ omega (arith, size, length-append front (0 ∷ 0 ∷ [])) in
-    let gate : get_or now 16 0 ≡ 0 = ap (λ (l : List ℕ). get_or l 16 0) is ∙ get_or_at front 0 (0 ∷ []) 0 16 size in
-    (now_head, omega arith, of_empty magic now blocks now_head (omega arith) (λ more is_open. absurd (omega arith)))
+two_gates magic blocks front now size head is = grind (arith, common_steps, same_header, take-append-le, length-append, get_or_at, of_empty)
 
 -- a store whose formatting is done to its end
 pub finishing : (magic : List ℕ) (blocks : ℕ) (before image : List ℕ) → HasHeader magic blocks before → IsFinishing before image → journal_of magic image ≡ journal_of magic before
-finishing magic blocks before image head making =
-    of_empty magic image blocks (same_header 15 magic blocks before image (omega arith) making.header head) making.no_shorter
-    (λ more is_open. absurd (omega (arith, making.closed more, is_open)))
-    ∙ sym (of_17 magic before blocks head making.interrupted)
+finishing magic blocks before image head making = grind (arith, common_steps, of_empty, same_header, of_17)
 
 finished_store : (magic : List ℕ) (blocks : ℕ) (before now : List ℕ) → 16 < length before → HasHeader magic blocks before → now ≡ after_finishing before
     → HasHeader magic blocks now × (18 ≤ length now) × (journal_of magic now ≡ journal_of magic before)
@@ -206,9 +199,4 @@ module _ {D : Type 0} (g : Ghosts D) (magic : List ℕ) (blocks : ℕ) where
         (now.0, now.1, record { head = is.0; long = is.1; octets = now.2 ∙ sym (known_after magic blocks before more); same = inl is.2 }))
 
     pub known_leaves : Leaves g mid new IsFinishing → Leaves g old new (IsRecovering magic blocks)
-    known_leaves leaves = if_told (g.content old) _ (λ before told.
-        joined g.moment g.images_since old mid new (IsRecovering magic blocks before)
-        (reads g.moment g.images_since old mid (IsRecovering magic blocks before) only.same_moment only.same_past)
-        (weaker g.moment g.images_since mid new (IsFinishing before) (IsRecovering magic blocks before)
-        (λ image making. recovering_finishing magic blocks before number image (at_told _ before told head) making)
-        (at_told _ before (only.same_content ∙ told) leaves)))
+    known_leaves leaves = grind (arith, common_steps, reads, recovering_finishing, head)

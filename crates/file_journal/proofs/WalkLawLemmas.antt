@@ -1,4 +1,5 @@
 -- What is read comes to what the walk over it gives, and to nothing else.
+use Rattle.std.proofs.lemmas.Grind.{common_steps}
 use Rattle.std.proofs.Common.{◌≡◌, ◌⊎◌, inl, inr, ℕ, ◌+◌, List, [], ◌∷◌, length, Option, None, Some, refl, sym, ◌∙◌, ap, subst, arith, length-append}
 use Rattle.file_journal.specs.Journal as journal
 use Rattle.file_journal.specs.Journal.{Standing}
@@ -67,10 +68,7 @@ module _ {S : Type 0} (step : S → Record → Option S) where
       subst (λ (r : Reading). Comes before place r) (all_broken entries at) (comes_all entries (broken [] at) (λ s n. ([], s, refl, inl refl)) before place)
 
   pub one_walk : IsOneWalk step
-  one_walk before place reading stands = (
-    walk_from before place reading stands,
-    λ is. subst (λ (s : Stands S). ComesTo step before place reading s) (sym is) (comes before place reading),
-  )
+  one_walk before place reading stands = grind (arith, common_steps, walk_from, comes)
 
   -- what each allowed record keeps is kept by all
   pub takes_keeps : (P : S → Type 0) → ((before after : S) (entry : Record) → P before → step before entry ≡ Some after → P after)
