@@ -6,11 +6,11 @@ use Rattle.file_journal.specs.AmongReads.{CountsSome, DoesAmongReads, PutsAmongR
 use Rattle.file_journal.specs.Calls.{ChangesReads, CountsFault, Puts, Reads, TellsAlike}
 use Rattle.file_journal.specs.Form.{Form}
 use Rattle.file_journal.specs.Kept.{Does, IsKept, KeptOn, alone, kept_on}
-use Rattle.file_journal.specs.Position.{Position, StandsOn}
-use Rattle.file_journal.proofs.CallLemmas.{changes_none, changes_on, counts_none, counts_on, still, counts_same, reads_now}
+use Rattle.file_journal.specs.Position.{Position}
+use Rattle.file_journal.proofs.CallLemmas.{changes_none, changes_on, counts_none, counts_on, still, counts_same}
 use Rattle.file_journal.proofs.DoesLemmas.{fours_course, fours_then}
 use Rattle.file_journal.proofs.MomentLemmas.{reads}
-use Rattle.file_journal.proofs.ToldLemmas.{alike_on, alike_same, at_told, if_told}
+use Rattle.file_journal.proofs.ToldLemmas.{alike_on, alike_same}
 
 -- ---- a count of failed reads
 
@@ -84,16 +84,6 @@ module _ {D : Type 0} (g : Ghosts D) where
   puts_among_then on P Q old mid new fine first second = among_on on Q old mid new first.lasts first.told first.reads (first.faults.same fine) second
 
   module _ {S C : Type 0} (form : Form S C) where
-    -- what is kept stays so through reads
-    pub reads_stand : (now : S) (journal : Position) (old new : D) → ChangesReads g old new → IsKept g form (kept_on now journal old) → IsKept g form (kept_on now journal new)
-    reads_stand now journal old new only keeps = grind (arith, common_steps)
-      where
-        among : StandsOn g journal old → StandsOn g journal new
-        among (inl failed) = inl failed
-        among (inr on) = inr (if_told (g.content new) _ (λ octets told.
-            let at = at_told (λ (octets : List ℕ). _) octets (sym only.same_content ∙ told) on in
-            (at.0, at.1, λ image here. at.2 image (reads_now g old new only image here))))
-
     -- one run of reads, which failed or didn't
     pub reads_only : (failed : Bool) (now : S) (journal : Position) (old new : D) → Reads g (failed ≡ true) old new → journal.failed ≡ false → IsKept g form (kept_on now journal old)
         → DoesAmongReads g form ⊥ (one_if failed) [] (kept_on now journal old) (kept_on now journal new)

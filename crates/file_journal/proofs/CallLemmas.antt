@@ -15,10 +15,6 @@ on_ok_both (Ok x) step p q = step p q
 on_ok_both (Err e) step p q = tt
 
 -- One count.
-pub counts_of : {T E : Type 0} (before now : ℕ) (result : Result T E) → HasCause before now result → CountsFault before now (IsErr result)
-counts_of before now (Ok x) cause = record { no_less = cause.no_less; rose = λ e. absurd (true≢false (sym e)); same = λ fine. cause.same }
-counts_of before now (Err e) cause = record { no_less = cause.no_less; rose = λ failed. cause.rose; same = λ fine. absurd (fine refl) }
-
 pub counts_none : (count : ℕ) (P : Type 0) → ¬ P → CountsFault count count P
 counts_none count P fine = record { no_less = omega arith; rose = λ failed. absurd (fine failed); same = λ still. refl }
 
@@ -43,11 +39,6 @@ module _ {D : Type 0} (g : Ghosts D) where
   -- no call
   pub stops_none : (disk : D) → g.lasts disk disk → StopsAtFault g disk disk
   stops_none disk same = record { last = disk; lasts = same; reads = refl; writes = refl; since = inl (refl, omega arith, still disk) }
-
-  -- one write or sync
-  pub stops_once : (old new : D) → g.lasts old old → g.read_faults new ≡ g.read_faults old → g.moment new ≤ g.moment old + 1
-      → TimePasses g.moment g.images g.images_since old new → StopsAtFault g old new
-  stops_once old new same same_reads one time = record { last = old; lasts = same; reads = refl; writes = refl; since = inl (same_reads, one, time) }
 
   -- reads alone
   pub stops_reads : (old new : D) → g.lasts old old → ChangesReads g old new → StopsAtFault g old new

@@ -8,9 +8,9 @@ use Rattle.file_journal.specs.Commands.{MakesFirst, StayDone}
 use Rattle.file_journal.specs.Form.{Form, StandsFor, standing_of}
 use Rattle.file_journal.specs.Journal.{IsBeforeOrAfter, journal_of}
 use Rattle.file_journal.specs.Kept.{AnswersPut, Does, IsCut, IsKept, KeptOn, StandsAt, by_fours, kept_on}
-use Rattle.file_journal.specs.Position.{IsAt, Position, StandsOn}
+use Rattle.file_journal.specs.Position.{Position, StandsOn}
 use Rattle.file_journal.specs.Records.{Record}
-use Rattle.file_journal.specs.Walk.{StandFor, state}
+use Rattle.file_journal.specs.Walk.{state}
 use Rattle.file_journal.specs.declared.faults.JournalFault.{JournalFault}
 use Rattle.file_journal.specs.declared.faults.JournalFault.TheVariants as fault
 use Rattle.file_journal.proofs.CallLemmas.{puts_same}
@@ -20,12 +20,6 @@ use Rattle.file_journal.proofs.ToldLemmas.{at_told, if_told, told_before, told_w
 use Rattle.file_journal.proofs.WalkLemmas.{append_keeps, failed_keeps, one_step}
 
 module _ {S C : Type 0} (form : Form S C) where
-  -- The store that a journal stands on has its block number: it stands for the same whatever other one octets without one
-  -- are read with.
-  any_number : (blocks : ℕ) (journal : Position) (now : S) (passed : List Record) (octets : List ℕ) → journal.magic ≡ form.magic → IsAt journal passed octets → StandFor form.fresh form.step journal now octets
-      → standing_of form blocks octets ≡ state now
-  any_number blocks journal now passed octets magic_is at stands = grind (arith, common_steps)
-
   module _ {D : Type 0} (g : Ghosts D) where
     -- What a state that is kept has on its disk stands for it.
     content_here : (blocks : ℕ) (at : KeptOn D S) → StandsAt g form at → at.journal.failed ≡ false → IfSome (g.content at.disk) (λ octets. standing_of form blocks octets ≡ state at.now)

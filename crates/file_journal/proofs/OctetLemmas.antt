@@ -29,9 +29,6 @@ torn_front at n old new le torn = take_front at (length old) old new le torn.bef
 pub torn_length : (at n : ℕ) (old new : List ℕ) → at + n ≤ length old → Torn at n old new → length new ≡ length old
 torn_length at n old new le torn = omega (arith, torn.no_shorter, torn.no_longer)
 
-pub torn_back : (at n : ℕ) (old new : List ℕ) → at + n ≤ length old → Torn at n old new → drop (at + n) new ≡ drop (at + n) old
-torn_back at n old new le torn = grind (arith, common_steps)
-
 -- a torn write of one octet inside leaves some octet there
 pub torn_octet : (at : ℕ) (old new : List ℕ) → at < length old → Torn at 1 old new → new ≡ take at old ++ get_or new at 0 ∷ drop (at + 1) old
 torn_octet at old new lt torn = grind (arith, common_steps)

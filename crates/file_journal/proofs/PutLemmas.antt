@@ -14,12 +14,6 @@ module _ (place : ℕ) (text before : List ℕ) (there : place < length before) 
   front_length : length (take (place + 1) before) ≡ place + 1
   front_length = length-take-le (place + 1) before (omega arith)
 
-  pub staged_front : take place (staged place text before) ≡ take place before
-  staged_front = grind (arith, common_steps)
-
-  pub staged_back : drop (place + 1) (staged place text before) ≡ text ++ drop (place + 1 + length text) before
-  staged_back = grind (arith, common_steps)
-
   pub staged_long : place < length (staged place text before)
   staged_long =
       omega (arith, front_length, length-append (take (place + 1) before) text, length-append (take (place + 1) before ++ text) (drop (place + 1 + length text) before))

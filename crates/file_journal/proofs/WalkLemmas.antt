@@ -9,7 +9,7 @@ use Rattle.file_journal.specs.Journal.{journal_of, store_of, with_last}
 use Rattle.file_journal.specs.Ledger.{Takes}
 use Rattle.file_journal.specs.Position.{Position, StandsOn}
 use Rattle.file_journal.specs.Records.{Reading, Record, broken, records_text, whole, with_end, with_record, with_records}
-use Rattle.file_journal.specs.Recovery.{IsRecovered, IsRecovering, Recovers}
+use Rattle.file_journal.specs.Recovery.{IsRecovered, IsRecovering}
 use Rattle.file_journal.specs.Walk.{IsOneStep, KeepsState, StandAsBefore, StandFor, Stands, StandsForSame, damaged_at, number_or, on_from, stands_for, stands_of, state, walk, walk_left, walk_over}
 use Rattle.file_journal.proofs.ToldLemmas.{at_told, content_now, if_told}
 
@@ -94,15 +94,6 @@ module _ {S : Type 0} (step : S → Record → Option S) where
     -- what a crash in it leaves
     pub for_recovering : (before image : List ℕ) → IsRecovering magic blocks before image → StandAsBefore fresh step magic blocks before image
     for_recovering before image left = for_same fresh blocks (journal_of magic before) (journal_of magic image) left.same
-
-    -- what it makes
-    pub for_recovered : (first : Position) (before now : List ℕ) → Recovers magic blocks first before now → StandAsBefore fresh step magic blocks before now
-    for_recovered first before now made = for_same fresh blocks (journal_of magic before) (journal_of magic now) made.same
-
-    -- all is left to read
-    pub recovered_walk : (first : Position) (before now : List ℕ) → Recovers magic blocks first before now → first.place ≡ 16
-        → stands_for fresh step magic blocks before ≡ walk_left step first (fresh first.blocks) now
-    recovered_walk first before now made at = grind (arith, common_steps)
 
 -- What a journal keeps.
 module _ {D S : Type 0} (g : Ghosts D) (fresh : ℕ → S) (step : S → Record → Option S) where
