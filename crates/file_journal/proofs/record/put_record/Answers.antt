@@ -1,4 +1,5 @@
-use Rattle.std.proofs.Common.{[], ◌∷◌, List, ℕ, inl, rules, subst}
+use Rattle.std.proofs.Common.{arith, [], ◌∷◌, List, ℕ, inl, subst}
+use Rattle.std.proofs.lemmas.Grind.{common_steps}
 use Rattle.disk_model.specs.Disk.{Torn, Writes}
 use Rattle.file_journal.specs.Appending.{IsPutting, OpensGate}
 use Rattle.file_journal.proofs.CallLemmas.{makes_failed, makes_on}
@@ -8,9 +9,7 @@ use Rattle.file_journal.proofs.ToldLemmas.{at_told}
 use Rattle.file_journal.proofs.record.put_record.Goals as goal
 
 pub returns-in_err-write_synced-clause-makes : goal.returns-in_err-write_synced-clause-makes
-returns-in_err-write_synced-clause-makes g c =
-    makes_failed g.D.Disk c.write_synced.result c.from_residual.result c.args.disk.now c.write_synced.new.disk _ _ _ _ (search rules) (λ before image told torn. inl torn)
-    c.write_synced.ensures.makes (search rules)
+returns-in_err-write_synced-clause-makes g c = grind (arith, common_steps, inl, makes_failed)
 
 pub returns-clause-makes : goal.returns-clause-makes
 returns-clause-makes g c =
