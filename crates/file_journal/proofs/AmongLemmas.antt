@@ -1,25 +1,18 @@
 -- What commands do to a state that is kept where reads come among them.
-use Rattle.std.proofs.Common.{◌≡◌, ◌⊎◌, inl, inr, ⊎_elim, ℕ, ◌+◌, ◌<◌, ◌≤◌, Bool, true, false, nat_le, List, [], ◌++◌, Option, IfSome, refl, sym, ◌∙◌, subst, arith}
-use Rattle.std.proofs.lemmas.Bool.Decides.{leb_tells}
-use Rattle.disk_model.specs.Moments.{TimePasses}
+use Rattle.std.proofs.lemmas.Grind.{common_steps}
+use Rattle.std.proofs.Common.{◌≡◌, ◌⊎◌, inl, inr, ⊎_elim, ℕ, ◌+◌, ◌<◌, ◌≤◌, Bool, true, false, List, [], ◌++◌, refl, sym, ◌∙◌, subst, arith}
 use Rattle.disk_model.specs.declared.disk.Disk.{Ghosts}
 use Rattle.file_journal.specs.AmongReads.{CountsSome, DoesAmongReads, PutsAmongReads, among_reads, one_if}
-use Rattle.file_journal.specs.Calls.{ChangesReads, CountsFault, Puts, Reads}
-use Rattle.file_journal.specs.Commands.{MakesFirst}
+use Rattle.file_journal.specs.Calls.{ChangesReads, CountsFault, Puts, Reads, TellsAlike}
 use Rattle.file_journal.specs.Form.{Form}
 use Rattle.file_journal.specs.Kept.{Does, IsKept, KeptOn, alone, kept_on}
-use Rattle.file_journal.specs.Position.{Position, StandsOn}
-use Rattle.file_journal.specs.Walk.{ImagesStandFor, StandFor}
-use Rattle.file_journal.proofs.CallLemmas.{counts_on, counts_same, reads_now}
-use Rattle.file_journal.proofs.DoesLemmas.{fours_course, fours_none, fours_then}
+use Rattle.file_journal.specs.Position.{Position}
+use Rattle.file_journal.proofs.CallLemmas.{changes_none, changes_on, counts_none, counts_on, still, counts_same}
+use Rattle.file_journal.proofs.DoesLemmas.{fours_course, fours_then}
 use Rattle.file_journal.proofs.MomentLemmas.{reads}
-use Rattle.file_journal.proofs.ToldLemmas.{alike_on, alike_same, at_told, if_told}
+use Rattle.file_journal.proofs.ToldLemmas.{alike_on, alike_same}
 
 -- ---- a count of failed reads
-
--- nothing counted, where nothing is said to have failed
-counts_still : (before now : ℕ) (P : Type 0) → ¬ P → now ≡ before → CountsFault before now P
-counts_still before now P fine same = record { no_less = omega (arith, same); rose = λ failed. absurd (fine failed); same = λ still. same }
 
 -- none failed
 pub some_still : (before now : ℕ) → now ≡ before → CountsSome before now 0
@@ -27,57 +20,20 @@ some_still before now same = record { no_less = omega (arith, same); rose = inl 
 
 -- one run, of which a call failed or none did
 pub some_one : (before now : ℕ) (failed : Bool) → CountsFault before now (failed ≡ true) → CountsSome before now (one_if failed)
-some_one before now true counts = record {
-  no_less = counts.no_less;
-  rose =
-      ⊎_elim (λ (last : (nat_le 18446744073709551615 before ≡ true) × (18446744073709551615 ≤ before)). inr (omega (arith, counts.no_less, last.1)))
-      (λ (small : (nat_le 18446744073709551615 before ≡ false) × (before < 18446744073709551615)).
-      let rose : before < now = counts.rose refl small.1 in inl (omega (arith, rose))) (leb_tells 18446744073709551615 before);
-  same = λ none. absurd (cc none);
-}
+some_one before now true counts =
+    let rose : before < 18446744073709551615 → before < now = counts.rose refl in
+    record { no_less = counts.no_less; rose = rises before now counts.no_less rose; same = λ none. absurd (cc none) }
+  where
+    rises : (before now : ℕ) → before ≤ now → (before < 18446744073709551615 → before < now) → (before + 1 ≤ now) ⊎ (18446744073709551615 ≤ now)
+    rises before now le rose = grind arith
 some_one before now false counts = some_still before now (counts.same (λ e. cc e))
 
 -- one run and then another
 pub some_then : (before mid now first second : ℕ) → CountsSome before mid first → CountsSome mid now second → CountsSome before now (first + second)
-some_then before mid now first second one other = record {
-  no_less = omega (arith, one.no_less, other.no_less);
-  rose = by one.rose other.rose;
-  same = λ none.
-      let same_mid : mid ≡ before = one.same (omega (arith, none)) in
-      let same_now : now ≡ mid = other.same (omega (arith, none)) in
-      omega (arith, same_mid, same_now);
-}
-  where
-    by : (before + first ≤ mid) ⊎ (18446744073709551615 ≤ mid) → (mid + second ≤ now) ⊎ (18446744073709551615 ≤ now) → (before + (first + second) ≤ now) ⊎ (18446744073709551615 ≤ now)
-    by (inl a) (inl b) = inl (omega (arith, a, b))
-    by (inl a) (inr last) = inr last
-    by (inr last) second_rose = inr (omega (arith, last, other.no_less))
+some_then before mid now first second one other = grind (arith, common_steps)
 
 module _ {D : Type 0} (g : Ghosts D) where
-  -- ---- one run of reads and another
-
-  pub changes_none : (disk : D) → ChangesReads g disk disk
-  changes_none disk = record {
-    same_content = refl;
-    same_images = λ image. (λ now. now, λ was. was);
-    same_moment = refl;
-    same_past = λ t image. (λ now. now, λ was. was);
-    same_write_faults = refl;
-  }
-
-  pub changes_on : (old mid new : D) → ChangesReads g old mid → ChangesReads g mid new → ChangesReads g old new
-  changes_on old mid new first second = record {
-    same_content = second.same_content ∙ first.same_content;
-    same_images = λ image. (λ now. (first.same_images image).0 ((second.same_images image).0 now), λ was. (second.same_images image).1 ((first.same_images image).1 was));
-    same_moment = second.same_moment ∙ first.same_moment;
-    same_past = λ t image. (λ now. (first.same_past t image).0 ((second.same_past t image).0 now), λ was. (second.same_past t image).1 ((first.same_past t image).1 was));
-    same_write_faults = second.same_write_faults ∙ first.same_write_faults;
-  }
-
   -- ---- writes and syncs, with reads among them
-
-  still : (disk : D) → TimePasses g.moment g.images g.images_since disk disk
-  still disk = record { later = omega arith; nothing_else = λ t image le since. inl since; keeps = λ t image le past. past }
 
   pub puts_among : (P : Type 0) (old new : D) → Puts g P old new → PutsAmongReads g P old new
   puts_among P old new puts = record {
@@ -98,8 +54,8 @@ module _ {D : Type 0} (g : Ghosts D) where
   puts_among_reads P Q old new fine run = record {
     told = alike_same _ _ run.only.same_content;
     reads = run.faults.no_less;
-    faults = counts_still _ _ Q fine run.only.same_write_faults;
-    stops = record { last = new; lasts = run.lasts; writes = run.only.same_write_faults; since = inl (omega arith, still new) };
+    faults = counts_on _ _ _ Q run.only.same_write_faults (counts_none _ Q fine);
+    stops = record { last = new; lasts = run.lasts; writes = run.only.same_write_faults; since = inl (omega arith, still g new) };
     lasts = run.lasts;
   }
 
@@ -112,50 +68,31 @@ module _ {D : Type 0} (g : Ghosts D) where
     lasts = puts.lasts;
   }
 
-  pub puts_among_then : ((first second third : D) → g.lasts first second → g.lasts second third → g.lasts first third) → (P Q : Type 0) (old mid new : D) → ¬ P
-      → PutsAmongReads g P old mid → PutsAmongReads g Q mid new → PutsAmongReads g Q old new
-  puts_among_then on P Q old mid new fine first second = record {
-    told = alike_on _ _ _ first.told second.told;
-    reads = omega (arith, first.reads, second.reads);
-    faults = counts_on _ _ _ Q (first.faults.same fine) second.faults;
-    stops = record {
-      last = second.stops.last;
-      lasts = on old mid second.stops.last first.lasts second.stops.lasts;
-      writes = second.stops.writes ∙ first.faults.same fine;
-      since = second.stops.since;
-    };
-    lasts = on old mid new first.lasts second.lasts;
+  -- behind calls of which no write and no sync failed
+  pub among_on : ((first second third : D) → g.lasts first second → g.lasts second third → g.lasts first third) → (Q : Type 0) (old mid new : D) → g.lasts old mid → TellsAlike (g.content old) (g.content mid)
+      → g.read_faults old ≤ g.read_faults mid → g.write_faults mid ≡ g.write_faults old → PutsAmongReads g Q mid new → PutsAmongReads g Q old new
+  among_on on Q old mid new lasts told reads writes second = record {
+    told = alike_on _ _ _ told second.told;
+    reads = omega (arith, reads, second.reads);
+    faults = counts_on _ _ _ Q writes second.faults;
+    stops = record { last = second.stops.last; lasts = on old mid second.stops.last lasts second.stops.lasts; writes = second.stops.writes ∙ writes; since = second.stops.since };
+    lasts = on old mid new lasts second.lasts;
   }
 
-  module _ {S C : Type 0} (form : Form S C) where
-    -- what is kept stays so through reads
-    pub reads_stand : (now : S) (journal : Position) (old new : D) → ChangesReads g old new → IsKept g form (kept_on now journal old) → IsKept g form (kept_on now journal new)
-    reads_stand now journal old new only keeps = record {
-      stands_on = among keeps.stands_on;
-      ended = keeps.ended;
-      content = λ fine. subst (λ (o : Option (List ℕ)). IfSome o (StandFor form.fresh form.step journal now)) (sym only.same_content) (keeps.content fine);
-      images = λ fine. if_told (g.content new) _ (λ octets told image here.
-          at_told (λ _. ImagesStandFor form.fresh form.step g journal now old) octets (sym only.same_content ∙ told) (keeps.images fine) image (reads_now g old new only image here));
-    }
-      where
-        among : StandsOn g journal old → StandsOn g journal new
-        among (inl failed) = inl failed
-        among (inr on) = inr (if_told (g.content new) _ (λ octets told.
-            let at = at_told (λ (octets : List ℕ). _) octets (sym only.same_content ∙ told) on in
-            (at.0, at.1, λ image here. at.2 image (reads_now g old new only image here))))
+  pub puts_among_then : ((first second third : D) → g.lasts first second → g.lasts second third → g.lasts first third) → (P Q : Type 0) (old mid new : D) → ¬ P
+      → PutsAmongReads g P old mid → PutsAmongReads g Q mid new → PutsAmongReads g Q old new
+  puts_among_then on P Q old mid new fine first second = among_on on Q old mid new first.lasts first.told first.reads (first.faults.same fine) second
 
+  module _ {S C : Type 0} (form : Form S C) where
     -- one run of reads, which failed or didn't
     pub reads_only : (failed : Bool) (now : S) (journal : Position) (old new : D) → Reads g (failed ≡ true) old new → journal.failed ≡ false → IsKept g form (kept_on now journal old)
         → DoesAmongReads g form ⊥ (one_if failed) [] (kept_on now journal old) (kept_on now journal new)
-    reads_only failed now journal old new run healthy stands =
-        fours_none g form (among_reads g ⊥ (one_if failed)) ⊥ now journal old new (λ never. never) (reads_stand now journal old new run.only stands) healthy
-        (if_told (g.content old) _ (λ before told. reads g.moment g.images_since old new (MakesFirst form now []) run.only.same_moment run.only.same_past)) run.only.same_moment run.only
-        (puts_among_reads (failed ≡ true) ⊥ old new (λ never. never) run) (some_one _ _ failed run.faults)
+    reads_only failed now journal old new run healthy stands = grind (arith, common_steps)
 
     -- commands alone
     pub among_does : (P : Type 0) (commands : List C) (old new : KeptOn D S) → Does g form P commands old new → DoesAmongReads g form P 0 commands old new
     among_does P commands old new does =
-        fours_course g form (alone g P) (among_reads g P 0) P P commands old new (λ p. p) (λ p. p) (λ same. subst (λ (d : D). ChangesReads g old.disk d) (sym same) (changes_none old.disk))
+        fours_course g form (alone g P) (among_reads g P 0) P P commands old new (λ p. p) (λ p. p) (λ same. subst (λ (d : D). ChangesReads g old.disk d) (sym same) (changes_none g old.disk))
         (puts_among P old.disk new.disk) (λ _. some_still _ _ does.puts.reads) does
 
     pub among_same : (P Q : Type 0) (missed other : ℕ) (commands : List C) (old new : KeptOn D S) → (P → Q) → (Q → P) → missed ≡ other → DoesAmongReads g form P missed commands old new
@@ -169,4 +106,4 @@ module _ {D : Type 0} (g : Ghosts D) where
         → DoesAmongReads g form P missed a old mid → DoesAmongReads g form Q other b mid new → DoesAmongReads g form Q (missed + other) (a ++ b) old new
     among_then on P Q missed other a b old mid new fine first second =
         fours_then g form (among_reads g P missed) (among_reads g Q other) (among_reads g Q (missed + other)) P Q a b old mid new fine first.puts.told first second
-        (changes_on old.disk mid.disk new.disk) (puts_among_then on P Q old.disk mid.disk new.disk fine first.puts second.puts) (some_then _ _ _ missed other first.reads second.reads)
+        (changes_on g old.disk mid.disk new.disk) (puts_among_then on P Q old.disk mid.disk new.disk fine first.puts second.puts) (some_then _ _ _ missed other first.reads second.reads)

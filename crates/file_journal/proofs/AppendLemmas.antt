@@ -1,7 +1,8 @@
 -- What a record put behind the last gate makes of a store, and what a crash leaves of it.
-use Rattle.std.proofs.Common.{◌≡◌, ◌≢◌, inl, inr, ⊎_elim, ℕ, ◌+◌, ◌<◌, ◌≤◌, true, false, List, [], ◌∷◌, ◌++◌, length, get_or, take, drop, Some, IfSome, Result, OnOk, sym, ◌∙◌, ap, ap₂, subst, arith, append_assoc, append-nil, length-append, length-drop, take-append-drop, take-take, get_or-take, true≢false}
+use Rattle.std.proofs.lemmas.Grind.{common_steps}
+use Rattle.std.proofs.Common.{◌≡◌, ◌≢◌, inl, inr, ℕ, ◌+◌, ◌<◌, ◌≤◌, true, false, List, [], ◌∷◌, ◌++◌, length, get_or, take, drop, Some, IfSome, Result, OnOk, sym, ◌∙◌, ap, subst, arith, append_assoc, append-nil, length-append, length-drop, take-append-drop, take-take}
 use Rattle.std.proofs.lemmas.Bool.{cases_eq}
-use Rattle.std.proofs.lemmas.List.{take_at, drop_at, drop_more, length-take-le, get_or_at}
+use Rattle.std.proofs.lemmas.List.{take-append-le, take_at, drop_at, length-take-le}
 use Rattle.std.proofs.lemmas.List.Elements.{All-drop, All-from_get_or}
 use Rattle.std.proofs.lemmas.Result.{on_ok_weaker}
 use Rattle.std.specs.List.{AllByRecursion}
@@ -19,153 +20,136 @@ use Rattle.file_journal.proofs.CallLemmas.{on_ok_both}
 use Rattle.file_journal.proofs.JournalLemmas.{same_header, of_full, store_parts}
 use Rattle.file_journal.proofs.MomentLemmas.{weaker}
 use Rattle.file_journal.proofs.OctetLemmas.{kept_back, torn_front, torn_wider}
-use Rattle.file_journal.proofs.PositionLemmas.{records_text-append, length-records_text-push, records-push}
-use Rattle.file_journal.proofs.ReadingLemmas.{stands_from_read, reading_records, reading_closed, read_closed, with_records-whole}
+use Rattle.file_journal.proofs.PositionLemmas.{among_records, records_text-append, length-records_text-push, records-push}
+use Rattle.file_journal.proofs.ReadingLemmas.{stands_from_read, reading_records, reading_closed, all_whole}
 use Rattle.file_journal.proofs.ToldLemmas.{at_told, content_now, if_told, told_weaker}
 
 -- the store's records end at a gate at this place, which isn't open
 pub record Ends (magic : List ℕ) (blocks : ℕ) (entries : List Record) (place : ℕ) (octets : List ℕ) : Type 0 where
-  pub head : HasHeader magic blocks octets
+  pub header : List ℕ
+  pub gate : ℕ
+  pub rest : List ℕ
+  pub head : HasHeader magic blocks header
+  pub size : length header ≡ 16
   pub long : 18 ≤ length octets
   pub are : AllByRecursion IsRecord entries
-  pub text : take place octets ≡ take 16 octets ++ records_text entries
   pub is_place : place ≡ 16 + length (records_text entries)
-  pub there : place < length octets
-  pub shut : get_or octets place 0 ≢ 1
-
-all_whole : (entries : List Record) → with_records entries (whole []) ≡ whole entries
-all_whole entries = with_records-whole entries [] ∙ ap whole (append-nil entries)
+  pub split : octets ≡ (header ++ records_text entries) ++ gate ∷ rest
+  pub shut : gate ≢ 1
 
 -- A journal that has read its end stands there.
-module _ (journal : Position) (passed : List Record) (octets : List ℕ) (end : journal.ended ≡ true) (at : IsAt journal passed octets) where
-  ends_behind : (rest : List ℕ) → HasHeader journal.magic journal.blocks octets → AllByRecursion IsRecord passed → drop 16 octets ≡ records_text passed ++ rest → StartsClosed rest
-      → Ends journal.magic journal.blocks passed journal.place octets
-  ends_behind [] head are_records is shut = absurd shut
-  ends_behind (gate ∷ later) head are_records is shut =
-      let split : octets ≡ (take 16 octets ++ records_text passed) ++ gate ∷ later =
-      sym (take-append-drop 16 octets) ∙ ap (λ (l : List ℕ). take 16 octets ++ l) is ∙ sym (append_assoc (take 16 octets) (records_text passed) (gate ∷ later)) in
-      let front : length (take 16 octets) ≡ 16 = length-take-le 16 octets (omega (arith, at.formatted)) in
-      let size : length (take 16 octets ++ records_text passed) ≡ journal.place = omega (arith, front, at.place, length-append (take 16 octets) (records_text passed)) in
-      record {
-        head = head;
-        long = at.formatted;
-        are = are_records;
-        text = ap (λ (l : List ℕ). take journal.place l) split ∙ take_at (take 16 octets ++ records_text passed) (gate ∷ later) journal.place size;
-        is_place = at.place;
-        there = omega (arith, size, ap length split, length-append (take 16 octets ++ records_text passed) (gate ∷ later));
-        shut = λ is_open. shut (sym (ap (λ (l : List ℕ). get_or l journal.place 0) split ∙ get_or_at (take 16 octets ++ records_text passed) gate later 0 journal.place size) ∙ is_open);
-      }
-
-  pub ends_from : Ends journal.magic journal.blocks passed journal.place octets
-  ends_from =
-      let is_store : journal_of journal.magic octets ≡ store (Some journal.blocks) (whole passed) =
-      at.records ∙ ap (λ (r : Reading). store_of journal.blocks (with_records passed r)) (at.ended end) ∙ ap (store_of journal.blocks) (all_whole passed) in
-      let parts = store_parts journal.magic octets journal.blocks passed at.formatted is_store in
-      let some : 0 < length (drop 16 octets) = omega (arith, at.formatted, length-drop 16 octets) in
-      let stands : StandsFrom 16 (drop 16 octets) (whole passed) =
-      subst (λ (r : Reading). StandsFrom 16 (drop 16 octets) r) parts.1
-      (stands_from_read (length (drop 16 octets)) 16 (drop 16 octets) (omega arith) (All-drop (λ octet. octet < 256) 16 octets at.are_octets) some) in
-      ends_behind stands.0 parts.0 stands.1 stands.2 stands.3
+ends_from : (journal : Position) (passed : List Record) (octets : List ℕ) → journal.ended ≡ true → IsAt journal passed octets → Ends journal.magic journal.blocks passed journal.place octets
+ends_from journal passed octets end at =
+    let is_store : journal_of journal.magic octets ≡ store (Some journal.blocks) (whole passed) =
+    at.records ∙ ap (λ (r : Reading). store_of journal.blocks (with_records passed r)) (at.ended end) ∙ ap (store_of journal.blocks) (all_whole passed) in
+    let parts = store_parts journal.magic octets journal.blocks passed at.formatted is_store in
+    let stands : StandsFrom 16 (drop 16 octets) (whole passed) =
+    subst (λ (r : Reading). StandsFrom 16 (drop 16 octets) r) parts.1
+    (stands_from_read (length (drop 16 octets)) 16 (drop 16 octets) (omega arith) (All-drop (λ octet. octet < 256) 16 octets at.are_octets) (omega (arith, at.formatted, length-drop 16 octets))) in
+    behind parts.0 stands.0 stands.1 stands.2 stands.3
+  where
+    behind : HasHeader journal.magic journal.blocks octets → (rest : List ℕ) → AllByRecursion IsRecord passed → drop 16 octets ≡ records_text passed ++ rest → StartsClosed rest
+        → Ends journal.magic journal.blocks passed journal.place octets
+    behind head [] are is shut = absurd shut
+    behind head (gate ∷ later) are is shut = record {
+      header = take 16 octets;
+      gate = gate;
+      rest = later;
+      head = same_header 16 journal.magic journal.blocks octets (take 16 octets) (omega arith) (take-take 16 16 octets (omega arith)) head;
+      size = length-take-le 16 octets (omega (arith, at.formatted));
+      long = at.formatted;
+      are = are;
+      is_place = at.place;
+      split = sym (take-append-drop 16 octets) ∙ ap (λ (l : List ℕ). take 16 octets ++ l) is ∙ sym (append_assoc (take 16 octets) (records_text passed) (gate ∷ later));
+      shut = shut;
+    }
 
 module _ (magic : List ℕ) (blocks : ℕ) (entries : List Record) (place : ℕ) (octets : List ℕ) (ends : Ends magic blocks entries place octets) where
-  front : length (take 16 octets) ≡ 16
-  front = length-take-le 16 octets (omega (arith, ends.long))
+  front_size : length (ends.header ++ records_text entries) ≡ place
+  front_size = omega (arith, ends.size, ends.is_place, length-append ends.header (records_text entries))
 
-  low : 16 ≤ place
-  low = omega (arith, ends.is_place)
+  pub ends_there : place < length octets
+  ends_there = omega (arith, ap length ends.split, front_size, length-append (ends.header ++ records_text entries) (ends.gate ∷ ends.rest))
 
-  behind_header : drop 16 octets ≡ records_text entries ++ get_or octets place 0 ∷ drop (place + 1) octets
-  behind_header =
-      ap (λ (l : List ℕ). drop 16 l)
-      (sym (take-append-drop place octets) ∙ ap₂ (λ (a b : List ℕ). a ++ b) ends.text (drop_more octets place 0 ends.there)
-      ∙ append_assoc (take 16 octets) (records_text entries) (get_or octets place 0 ∷ drop (place + 1) octets))
-      ∙ drop_at (take 16 octets) (records_text entries ++ get_or octets place 0 ∷ drop (place + 1) octets) 16 front
+  front : take place octets ≡ ends.header ++ records_text entries
+  front = ap (λ (l : List ℕ). take place l) ends.split ∙ take_at (ends.header ++ records_text entries) (ends.gate ∷ ends.rest) place front_size
 
   -- it stands for these records
   pub ends_store : journal_of magic octets ≡ store (Some blocks) (whole entries)
   ends_store =
-      of_full magic octets blocks ends.head ends.long
+      let split : octets ≡ ends.header ++ (records_text entries ++ ends.gate ∷ ends.rest) = ends.split ∙ append_assoc ends.header (records_text entries) (ends.gate ∷ ends.rest) in
+      let head = same_header 16 magic blocks ends.header octets (omega arith) (ap (λ (l : List ℕ). take 16 l) split ∙ take-append-le 16 ends.header (records_text entries ++ ends.gate ∷ ends.rest) (omega (arith, ends.size))) ends.head in
+      of_full magic octets blocks head ends.long
       ∙ ap (store_of blocks)
-      (ap (reading_from 16) behind_header
-      ∙ reading_records entries 16 (get_or octets place 0) (drop (place + 1) octets) ends.are
-      ∙ ap (with_records entries) (reading_closed (16 + length (records_text entries)) (get_or octets place 0) (drop (place + 1) octets) ends.shut)
+      (ap (reading_from 16) (ap (λ (l : List ℕ). drop 16 l) split ∙ drop_at ends.header (records_text entries ++ ends.gate ∷ ends.rest) 16 ends.size)
+      ∙ reading_records entries 16 ends.gate ends.rest ends.are
+      ∙ ap (with_records entries) (reading_closed (16 + length (records_text entries)) ends.gate ends.rest ends.shut)
       ∙ all_whole entries)
 
-  -- so do octets with the same front, the gate included
+  -- and nothing is read at that place
+  ends_closed : reading_from place (drop place octets) ≡ whole []
+  ends_closed = ap (reading_from place) (ap (λ (l : List ℕ). drop place l) ends.split ∙ drop_at (ends.header ++ records_text entries) (ends.gate ∷ ends.rest) place front_size) ∙ reading_closed place ends.gate ends.rest ends.shut
+
+  -- so do octets that begin so, with a gate that isn't open
+  with_rest : (gate : ℕ) (rest image : List ℕ) → gate ≢ 1 → length octets ≤ length image → image ≡ (ends.header ++ records_text entries) ++ gate ∷ rest → Ends magic blocks entries place image
+  with_rest gate rest image shut le split = grind (arith, common_steps)
+
   pub ends_kept : (image : List ℕ) → take (place + 1) image ≡ take (place + 1) octets → length octets ≤ length image → Ends magic blocks entries place image
-  ends_kept image same le =
-      let shorter : (n : ℕ) → n ≤ place + 1 → take n image ≡ take n octets =
-      λ n n_le. sym (take-take n (place + 1) image n_le) ∙ ap (λ (l : List ℕ). take n l) same ∙ take-take n (place + 1) octets n_le in
-      let gate : get_or image place 0 ≡ get_or octets place 0 =
-      sym (get_or-take (place + 1) image place 0 (omega arith)) ∙ ap (λ (l : List ℕ). get_or l place 0) same ∙ get_or-take (place + 1) octets place 0 (omega arith) in
-      record {
-        head = same_header 16 magic blocks octets image (omega arith) (shorter 16 (omega (arith, low))) ends.head;
-        long = omega (arith, ends.long, le);
-        are = ends.are;
-        text = shorter place (omega arith) ∙ ends.text ∙ ap (λ (l : List ℕ). l ++ records_text entries) (sym (shorter 16 (omega (arith, low))));
-        is_place = ends.is_place;
-        there = omega (arith, ends.there, le);
-        shut = λ is_open. ends.shut (sym gate ∙ is_open);
-      }
+  ends_kept image same le = with_rest ends.gate (drop (place + 1) image) image ends.shut le (sym (take-append-drop (place + 1) image)
+      ∙ ap (λ (l : List ℕ). l ++ drop (place + 1) image)
+      (same ∙ ap (λ (l : List ℕ). take (place + 1) l) (ends.split ∙ sym (append_assoc (ends.header ++ records_text entries) (ends.gate ∷ []) ends.rest))
+      ∙ take_at ((ends.header ++ records_text entries) ++ ends.gate ∷ []) ends.rest (place + 1) (omega (arith, front_size, length-append (ends.header ++ records_text entries) (ends.gate ∷ []))))
+      ∙ append_assoc (ends.header ++ records_text entries) (ends.gate ∷ []) (drop (place + 1) image))
 
   -- other octets from the gate on
   module _ (gate : ℕ) (text : List ℕ) where
-    shape : with_gate place gate text octets ≡ take place octets ++ gate ∷ (text ++ drop (place + 1 + length text) octets)
-    shape = append_assoc (take place octets) (gate ∷ text) (drop (place + 1 + length text) octets)
-
     place_front : length (take place octets) ≡ place
-    place_front = length-take-le place octets (omega (arith, ends.there))
+    place_front = length-take-le place octets (omega (arith, ends_there))
 
     gated_length : length octets ≤ length (with_gate place gate text octets)
-    gated_length =
-        omega (
-          arith,
-          ap length shape,
-          place_front,
-          length-append (take place octets) (gate ∷ (text ++ drop (place + 1 + length text) octets)),
-          length-append text (drop (place + 1 + length text) octets),
-          length-drop (place + 1 + length text) octets,
-        )
-
-    gated_front : take place (with_gate place gate text octets) ≡ take place octets
-    gated_front = ap (λ (l : List ℕ). take place l) shape ∙ take_at (take place octets) (gate ∷ (text ++ drop (place + 1 + length text) octets)) place place_front
+    gated_length = omega (arith, place_front, length-append {A = ℕ}, length-drop {A = ℕ})
 
     -- outside the gate and the text all is as it was
     pub gated_torn : (count : ℕ) → count ≡ 1 + length text → Torn place count octets (with_gate place gate text octets)
     gated_torn count is_count =
         let whole = with_gate place gate text octets in
-        let front : length (take place octets ++ gate ∷ text) ≡ place + count = omega (arith, place_front, is_count, length-append (take place octets) (gate ∷ text)) in
         let behind : drop (place + count) whole ≡ drop (place + count) octets =
-        drop_at (take place octets ++ gate ∷ text) (drop (place + 1 + length text) octets) (place + count) front
+        drop_at (take place octets ++ gate ∷ text) (drop (place + 1 + length text) octets) (place + count) (omega (arith, place_front, is_count, length-append (take place octets) (gate ∷ text)))
         ∙ ap (λ (i : ℕ). drop i octets) (let same : place + 1 + length text ≡ place + count = omega (arith, is_count) in same) in
         record {
-          before = take-take place (length octets) whole (omega (arith, ends.there)) ∙ gated_front;
+          before =
+              take-take place (length octets) whole (omega (arith, ends_there)) ∙ ap (λ (l : List ℕ). take place l) (append_assoc (take place octets) (gate ∷ text) (drop (place + 1 + length text) octets))
+              ∙ take_at (take place octets) (gate ∷ (text ++ drop (place + 1 + length text) octets)) place place_front;
           after = kept_back (place + count) octets whole behind;
           no_shorter = gated_length;
-          no_longer = omega (arith, front, length-append (take place octets ++ gate ∷ text) (drop (place + 1 + length text) octets), length-drop (place + 1 + length text) octets, is_count);
+          no_longer = omega (arith, place_front, is_count, length-append {A = ℕ}, length-drop {A = ℕ});
         }
-
-    gated_header : take 16 (with_gate place gate text octets) ≡ take 16 octets
-    gated_header =
-        sym (take-take 16 place (with_gate place gate text octets) low) ∙ ap (λ (l : List ℕ). take 16 l) gated_front ∙ take-take 16 place octets low
 
     pub gate_shut : gate ≢ 1 → Ends magic blocks entries place (with_gate place gate text octets)
-    gate_shut shut =
-        record {
-          head = same_header 16 magic blocks octets (with_gate place gate text octets) (omega arith) gated_header ends.head;
-          long = omega (arith, ends.long, gated_length);
-          are = ends.are;
-          text = gated_front ∙ ends.text ∙ ap (λ (l : List ℕ). l ++ records_text entries) (sym gated_header);
-          is_place = ends.is_place;
-          there = omega (arith, ends.there, gated_length);
-          shut = λ is_open.
-              shut (sym (ap (λ (l : List ℕ). get_or l place 0) shape ∙ get_or_at (take place octets) gate (text ++ drop (place + 1 + length text) octets) 0 place place_front) ∙ is_open);
-        }
+    gate_shut shut = with_rest gate (text ++ drop (place + 1 + length text) octets) _ shut gated_length
+        (append_assoc (take place octets) (gate ∷ text) (drop (place + 1 + length text) octets) ∙ ap (λ (l : List ℕ). l ++ gate ∷ (text ++ drop (place + 1 + length text) octets)) front)
+
+  -- A record behind an open gate is one more.
+  pub gate_open : (entry : Record) → IsRecord entry → Ends magic blocks (entries ++ entry ∷ []) (place + 4 + length entry.content) (with_gate place 1 (record_text entry ++ 0 ∷ []) octets)
+  gate_open entry is = record {
+    header = ends.header;
+    gate = 0;
+    rest = drop (place + 1 + length (record_text entry ++ 0 ∷ [])) octets;
+    head = ends.head;
+    size = ends.size;
+    long = omega (arith, ends.long, gated_length 1 (record_text entry ++ 0 ∷ []));
+    are = records-push entries entry ends.are is;
+    is_place = omega (arith, ends.is_place, length-records_text-push entries entry);
+    split =
+        ap (λ (l : List ℕ). (l ++ 1 ∷ (record_text entry ++ 0 ∷ [])) ++ drop (place + 1 + length (record_text entry ++ 0 ∷ [])) octets) front
+        ∙ simp (append_assoc, records_text-append, append-nil);
+    shut = λ is_open. cc;
+  }
 
 -- A journal whose place that is stands there, and has read its end.
 pub ends_at : (journal : Position) (passed : List Record) (octets : List ℕ) → IsOctets octets → Ends journal.magic journal.blocks passed journal.place octets → IsAt journal passed octets × (left_to_read journal octets ≡ whole [])
 ends_at journal passed octets are ends =
-    let end = read_closed journal.place octets ends.there ends.shut in (
+    let end = ends_closed _ _ passed _ octets ends in (
       record {
         are_octets = are;
         formatted = ends.long;
@@ -175,57 +159,6 @@ ends_at journal passed octets are ends =
       },
       end,
     )
-
--- A record behind an open gate is one more.
-module _ (magic : List ℕ) (blocks : ℕ) (entries : List Record) (place : ℕ) (octets : List ℕ) (ends : Ends magic blocks entries place octets) (entry : Record) (is : IsRecord entry) where
-  abbrev after : List ℕ
-  after = with_gate place 1 (record_text entry ++ 0 ∷ []) octets
-
-  text_length : length (record_text entry ++ 0 ∷ []) ≡ 4 + length entry.content
-  text_length = omega (arith, length-append entry.content (0 ∷ []))
-
-  pub opened_split : after ≡ take place octets ++ 1 ∷ record_text entry ++ 0 ∷ drop (place + 5 + length entry.content) octets
-  opened_split =
-      let rest = drop (place + 1 + length (record_text entry ++ 0 ∷ [])) octets in
-      let at : place + 1 + length (record_text entry ++ 0 ∷ []) ≡ place + 5 + length entry.content = omega (arith, text_length) in
-      append_assoc (take place octets) (1 ∷ (record_text entry ++ 0 ∷ [])) rest
-      ∙ ap (λ (l : List ℕ). take place octets ++ 1 ∷ l) (append_assoc (record_text entry) (0 ∷ []) rest)
-      ∙ sym (append_assoc (take place octets) (1 ∷ record_text entry) (0 ∷ rest))
-      ∙ ap (λ (i : ℕ). take place octets ++ 1 ∷ record_text entry ++ 0 ∷ drop i octets) at
-
-  passed_length : length (take place octets ++ 1 ∷ record_text entry) ≡ place + 4 + length entry.content
-  passed_length =
-      omega (arith, length-take-le place octets (omega (arith, ends.there)), length-append (take place octets) (1 ∷ record_text entry))
-
-  after_header : take 16 after ≡ take 16 octets
-  after_header =
-      sym (take-take 16 place after (omega (arith, ends.is_place)))
-      ∙ ap (λ (l : List ℕ). take 16 l)
-      (ap (λ (l : List ℕ). take place l) (append_assoc (take place octets) (1 ∷ (record_text entry ++ 0 ∷ [])) (drop (place + 1 + length (record_text entry ++ 0 ∷ [])) octets))
-      ∙ take_at (take place octets) _ place (length-take-le place octets (omega (arith, ends.there))))
-      ∙ take-take 16 place octets (omega (arith, ends.is_place))
-
-  pub gate_open : Ends magic blocks (entries ++ entry ∷ []) (place + 4 + length entry.content) after
-  gate_open =
-      let rest = drop (place + 5 + length entry.content) octets in
-      let front = take place octets ++ 1 ∷ record_text entry in
-      let size : length after ≡ place + 4 + length entry.content + 1 + length rest =
-      ap length opened_split ∙ omega (arith, passed_length, length-append front (0 ∷ rest)) in
-      let others : records_text (entry ∷ []) ≡ 1 ∷ record_text entry = append-nil (1 ∷ record_text entry) in
-      record {
-        head = same_header 16 magic blocks octets after (omega arith) after_header ends.head;
-        long = omega (arith, size, ends.long, length-drop (place + 5 + length entry.content) octets);
-        are = records-push entries entry ends.are is;
-        text =
-            ap (λ (l : List ℕ). take (place + 4 + length entry.content) l) opened_split
-            ∙ take_at front (0 ∷ rest) (place + 4 + length entry.content) passed_length
-            ∙ ap (λ (l : List ℕ). l ++ 1 ∷ record_text entry) ends.text
-            ∙ append_assoc (take 16 octets) (records_text entries) (1 ∷ record_text entry)
-            ∙ ap₂ (λ (a b : List ℕ). a ++ b) (sym after_header) (ap (λ (l : List ℕ). records_text entries ++ l) (sym others) ∙ sym (records_text-append entries (entry ∷ [])));
-        is_place = omega (arith, ends.is_place, length-records_text-push entries entry);
-        there = omega (arith, size);
-        shut = λ is_open. absurd (omega (arith, sym (ap (λ (l : List ℕ). get_or l (place + 4 + length entry.content) 0) opened_split ∙ get_or_at front 0 rest 0 (place + 4 + length entry.content) passed_length) ∙ is_open));
-      }
 
 -- octets are the content of a record
 pub is_record : (kind : ℕ) (content : List ℕ) → kind < 256 → ((i : ℕ) → get_or content i 0 < 256) → length content ≤ 600 → IsRecord (record_of kind content)
@@ -240,16 +173,12 @@ module _ {D : Type 0} (g : Ghosts D) (journal : Position) (old : D) (ok : journa
     pub images : (image : List ℕ) → images_now g old image → Ends journal.magic journal.blocks entries journal.place image
 
   pub all_end : (octets : List ℕ) → g.content old ≡ Some octets → AllEnd octets
-  all_end octets told = go stands
-    where
-      go : StandsOn g journal old → AllEnd octets
-      go (inl failed) = absurd (true≢false (sym failed ∙ ok))
-      go (inr holds) =
-          let at = at_told _ octets told holds in
-          record { entries = at.0; content = ends_from journal at.0 octets end at.1; images = λ image here. ends_from journal at.0 image end (at.2 image here).0 }
+  all_end octets told =
+      let at = at_told _ octets told (among_records journal (g.content old) (images_now g old) ok stands) in
+      record { entries = at.0; content = ends_from journal at.0 octets end at.1; images = λ image here. ends_from journal at.0 image end (at.2 image here).0 }
 
   pub gate_there : IfSome (g.content old) (λ octets. journal.place < length octets)
-  gate_there = if_told (g.content old) _ (λ octets told. (all_end octets told).content.there)
+  gate_there = if_told (g.content old) _ (λ octets told. ends_there _ _ _ _ octets (all_end octets told).content)
 
   module _ (entry : Record) (is : IsRecord entry) where
     put_store : (octets : List ℕ) → AllEnd octets → journal_of journal.magic (with_gate journal.place 1 (record_text entry ++ 0 ∷ []) octets) ≡ with_last (journal_of journal.magic octets) entry
@@ -268,7 +197,7 @@ module _ {D : Type 0} (g : Ghosts D) (journal : Position) (old : D) (ok : journa
         let before = all.images torn.0 (counts_now (g.moment old) torn.0 (omega arith) torn.1) in
         let count : length (record_text entry ++ 0 ∷ []) + 1 ≡ 5 + length entry.content = omega (arith, put_length) in
         let image_ends = ends_kept _ _ _ _ torn.0 before image
-        (torn_front (journal.place + 1) (length (record_text entry ++ 0 ∷ [])) torn.0 image (omega (arith, before.there)) torn.2) torn.2.no_shorter in
+        (torn_front (journal.place + 1) (length (record_text entry ++ 0 ∷ [])) torn.0 image (omega (arith, ends_there _ _ _ _ torn.0 before)) torn.2) torn.2.no_shorter in
         record {
           store = inl (ends_store _ _ _ _ image image_ends ∙ sym (ends_store _ _ _ _ octets all.content));
           beside = (torn.0, torn.1, subst (λ (n : ℕ). Torn journal.place n torn.0 image) count (torn_wider journal.place (length (record_text entry ++ 0 ∷ [])) torn.0 image torn.2));
@@ -285,65 +214,36 @@ module _ {D : Type 0} (g : Ghosts D) (journal : Position) (old : D) (ok : journa
           beside = (octets, is_image, subst (λ (l : List ℕ). Torn journal.place (5 + length entry.content) octets l) (sym put.1) torn);
         }
 
-    -- what it makes and leaves
-    module _ {U E : Type 0} (result : Result U E) (new : D) (text : List ℕ) (text_is : text ≡ record_text entry ++ 0 ∷ [])
-        (makes : Makes g result old new (OpensGate journal.place text) (IsPutting journal.place text (g.images old))) where
-      pub appends : OnOk result (HasContent (g.content old) (g.content new) (Appends journal entry))
-      appends = on_ok_weaker result (λ has. told_weaker (g.content old) _ _ (λ before told now.
-          let is_now : now.0 ≡ with_gate journal.place 1 (record_text entry ++ 0 ∷ []) before = now.2 ∙ ap (λ (l : List ℕ). with_gate journal.place 1 l before) text_is in
-          (now.0, now.1, record { octets = is_now; store = ap (journal_of journal.magic) is_now ∙ put_store before (all_end before told) })) has) makes.ok
+    -- what it makes and leaves, where the journal is seen so
+    module _ (seen : Position) (seen_is : seen ≡ journal) {U E : Type 0} (result : Result U E) (new : D) (text : List ℕ) (text_is : text ≡ record_text entry ++ 0 ∷ [])
+        (seen_makes : Makes g result old new (OpensGate seen.place text) (IsPutting seen.place text (g.images old))) where
+      makes : Makes g result old new (OpensGate journal.place (record_text entry ++ 0 ∷ [])) (IsPutting journal.place (record_text entry ++ 0 ∷ []) (g.images old))
+      makes = subst (λ (p : Position). Makes g result old new (OpensGate p.place (record_text entry ++ 0 ∷ [])) (IsPutting p.place (record_text entry ++ 0 ∷ []) (g.images old))) seen_is
+          (subst (λ (l : List ℕ). Makes g result old new (OpensGate seen.place l) (IsPutting seen.place l (g.images old))) text_is seen_makes)
 
-      pub stands_after : (place : ℕ) → place ≡ journal.place + 4 + length entry.content → IfSome (g.content new) IsOctets → OnOk result (StandsOn g (record journal { place = place }) new)
-      stands_after place is_place are = on_ok_both result (λ has rest. inr (if_told (g.content new) _ (λ now told_now.
-          let was = content_now _ _ (OpensGate journal.place text) now makes.puts.told has told_now in
+      pub appends : OnOk result (HasContent (g.content old) (g.content new) (Appends journal entry))
+      appends = on_ok_weaker result (λ has. told_weaker (g.content old) _ _ (λ before told now. (now.0, now.1, record { octets = now.2; store = ap (journal_of journal.magic) now.2 ∙ put_store before (all_end before told) })) has) makes.ok
+
+      pub stands_after : (place : ℕ) → place ≡ seen.place + 4 + length entry.content → IfSome (g.content new) IsOctets → OnOk result (StandsOn g (record seen { place = place }) new)
+      stands_after place is_place are = subst (λ (p : Position). OnOk result (StandsOn g (record p { place = place }) new)) (sym seen_is) (on_ok_both result (λ has rest. inr (if_told (g.content new) _ (λ now told_now.
+          let was = content_now _ _ (OpensGate journal.place (record_text entry ++ 0 ∷ [])) now makes.puts.told has told_now in
           let all = all_end was.0 was.1 in
           let entries = all.entries ++ entry ∷ [] in
-          let is_now : now ≡ with_gate journal.place 1 (record_text entry ++ 0 ∷ []) was.0 = was.2 ∙ ap (λ (l : List ℕ). with_gate journal.place 1 l was.0) text_is in
-          let ends = subst (λ (n : ℕ). Ends journal.magic journal.blocks entries n now) (sym is_place)
-          (subst (λ (l : List ℕ). Ends journal.magic journal.blocks entries (journal.place + 4 + length entry.content) l) (sym is_now) (gate_open _ _ _ _ was.0 all.content entry is)) in
+          let at_place : journal.place + 4 + length entry.content ≡ place = ap (λ (p : Position). p.place + 4 + length entry.content) (sym seen_is) ∙ sym is_place in
+          let ends = subst (λ (n : ℕ). Ends journal.magic journal.blocks entries n now) at_place
+          (subst (λ (l : List ℕ). Ends journal.magic journal.blocks entries (journal.place + 4 + length entry.content) l) (sym was.2) (gate_open _ _ _ _ was.0 all.content entry is)) in
           let at = ends_at (record journal { place = place }) entries now (at_told IsOctets now told_now are) ends in (
             entries,
             at.0,
             λ image here.
                 let same = at_told (Only (images_now g new)) now told_now rest image here in
                 (subst (λ (l : List ℕ). IsAt (record journal { place = place }) entries l) (sym same) at.0, ap (left_to_read (record journal { place = place })) same),
-          )))) makes.ok makes.quiet
+          )))) makes.ok makes.quiet)
 
       module _ (counts_now : (t : ℕ) (image : List ℕ) → t ≤ g.moment old → g.images old image → g.images_since old t image) (is_image : IfSome (g.content old) (g.images old)) where
         pub leaves : Leaves g old new (IsAppending journal entry (g.images old))
         leaves = told_weaker (g.content old) _ _ (λ before told left. weaker g.moment g.images_since old new _ _ (λ image put.
-            putting counts_now before told (at_told (g.images old) before told is_image) image (subst (λ (l : List ℕ). IsPutting journal.place l (g.images old) before image) text_is put)) left) makes.since
+            putting counts_now before told (at_told (g.images old) before told is_image) image put) left) makes.since
 
         pub any_moment : IfSome (g.content old) (λ before. LeavesSince (g.moment old) (g.images_since new) (λ image. IsBeforeOrAfter (journal_of journal.magic before) entry (journal_of journal.magic image)))
-        any_moment = told_weaker (g.content old) _ _ (λ before told left image since. ⊎_elim
-            (λ past.
-            let all = all_end before told in
-            inl (ends_store _ _ _ _ image (all.images image past) ∙ sym (ends_store _ _ _ _ before all.content)))
-            (λ here. here.store)
-            (left.each (g.moment old) image (omega arith) since)) leaves
-
--- The same of the journal as callers see it.
-module _ {D : Type 0} (g : Ghosts D) (old new : D) (journal self : Position) (view_is : journal ≡ self) (ok : journal.failed ≡ false) (ended : self.ended ≡ true) (stands : StandsOn g self old) where
-  end : journal.ended ≡ true
-  end = ap (λ (position : Position). position.ended) view_is ∙ ended
-
-  stands_inside : StandsOn g journal old
-  stands_inside = subst (λ (position : Position). StandsOn g position old) (sym view_is) stands
-
-  module _ (entry : Record) (is : IsRecord entry) {U E : Type 0} (result : Result U E) (text : List ℕ) (text_is : text ≡ record_text entry ++ 0 ∷ [])
-      (makes : Makes g result old new (OpensGate journal.place text) (IsPutting journal.place text (g.images old))) where
-    pub seen_appends : OnOk result (HasContent (g.content old) (g.content new) (Appends self entry))
-    seen_appends = subst (λ (position : Position). OnOk result (HasContent (g.content old) (g.content new) (Appends position entry))) view_is
-        (appends g journal old ok end stands_inside entry is result new text text_is makes)
-
-    pub seen_stands : (place : ℕ) → place ≡ journal.place + 4 + length entry.content → IfSome (g.content new) IsOctets → OnOk result (StandsOn g (record journal { place = place }) new)
-    seen_stands place is_place are = stands_after g journal old ok end stands_inside entry is result new text text_is makes place is_place are
-
-    module _ (counts_now : (t : ℕ) (image : List ℕ) → t ≤ g.moment old → g.images old image → g.images_since old t image) (is_image : IfSome (g.content old) (g.images old)) where
-      pub seen_leaves : Leaves g old new (IsAppending self entry (g.images old))
-      seen_leaves = subst (λ (position : Position). Leaves g old new (IsAppending position entry (g.images old))) view_is
-          (leaves g journal old ok end stands_inside entry is result new text text_is makes counts_now is_image)
-
-      pub seen_any_moment : IfSome (g.content old) (λ before. LeavesSince (g.moment old) (g.images_since new) (λ image. IsBeforeOrAfter (journal_of self.magic before) entry (journal_of self.magic image)))
-      seen_any_moment = subst (λ (position : Position). IfSome (g.content old) (λ before. LeavesSince (g.moment old) (g.images_since new) (λ image. IsBeforeOrAfter (journal_of position.magic before) entry (journal_of position.magic image)))) view_is
-          (any_moment g journal old ok end stands_inside entry is result new text text_is makes counts_now is_image)
+        any_moment = grind (arith, common_steps, all_end, ends_store, leaves)

@@ -1,13 +1,13 @@
 -- How a run of disk calls is put together of others.
+use Rattle.std.proofs.lemmas.Grind.{common_steps}
 use Rattle.std.proofs.Common.{◌≡◌, inl, inr, ℕ, ◌+◌, ◌≤◌, true≢false, List, Some, IfSome, Result, Ok, Err, IsErr, OnOk, refl, sym, ◌∙◌, subst, arith}
-use Rattle.std.proofs.lemmas.Result.{on_ok_weaker}
 use Rattle.px_base.specs.Outside.{HasCause}
 use Rattle.disk_model.specs.Disk.{Only}
 use Rattle.disk_model.specs.Moments.{SinceNow, TimePasses}
 use Rattle.disk_model.specs.declared.disk.Disk.{Ghosts}
 use Rattle.file_journal.specs.Calls.{ChangesReads, CountsFault, IsQuietNow, Makes, Puts, Reads, StopsAtFault, TellsAlike, images_now}
-use Rattle.file_journal.proofs.MomentLemmas.{joined, reads, weaker}
-use Rattle.file_journal.proofs.ToldLemmas.{alike_on, alike_same, at_told, if_told, told_weaker}
+use Rattle.file_journal.proofs.MomentLemmas.{reads, weaker}
+use Rattle.file_journal.proofs.ToldLemmas.{alike_on, alike_same, at_told, told_weaker}
 
 -- from two facts of an `Ok`
 pub on_ok_both : {T E P Q R : Type 0} (result : Result T E) → (P → Q → R) → OnOk result P → OnOk result Q → OnOk result R
@@ -15,10 +15,6 @@ on_ok_both (Ok x) step p q = step p q
 on_ok_both (Err e) step p q = tt
 
 -- One count.
-pub counts_of : {T E : Type 0} (before now : ℕ) (result : Result T E) → HasCause before now result → CountsFault before now (IsErr result)
-counts_of before now (Ok x) cause = record { no_less = cause.no_less; rose = λ e. absurd (true≢false (sym e)); same = λ fine. cause.same }
-counts_of before now (Err e) cause = record { no_less = cause.no_less; rose = λ failed. cause.rose; same = λ fine. absurd (fine refl) }
-
 pub counts_none : (count : ℕ) (P : Type 0) → ¬ P → CountsFault count count P
 counts_none count P fine = record { no_less = omega arith; rose = λ failed. absurd (fine failed); same = λ still. refl }
 
@@ -30,17 +26,19 @@ pub counts_on : (before mid now : ℕ) (P : Type 0) → mid ≡ before → Count
 counts_on before mid now P same counts = subst (λ (n : ℕ). CountsFault n now P) same counts
 
 module _ {D : Type 0} (g : Ghosts D) where
-  still : (disk : D) → TimePasses g.moment g.images g.images_since disk disk
+  pub still : (disk : D) → TimePasses g.moment g.images g.images_since disk disk
   still disk = record { later = omega arith; nothing_else = λ t image le since. inl since; keeps = λ t image le past. past }
+
+  -- reads change nothing, one run of them and another
+  pub changes_none : (disk : D) → ChangesReads g disk disk
+  changes_none disk = record { same_content = refl; same_images = λ image. (λ now. now, λ was. was); same_moment = refl; same_past = λ t image. (λ now. now, λ was. was); same_write_faults = refl }
+
+  pub changes_on : (old mid new : D) → ChangesReads g old mid → ChangesReads g mid new → ChangesReads g old new
+  changes_on old mid new first second = grind (arith, common_steps)
 
   -- no call
   pub stops_none : (disk : D) → g.lasts disk disk → StopsAtFault g disk disk
   stops_none disk same = record { last = disk; lasts = same; reads = refl; writes = refl; since = inl (refl, omega arith, still disk) }
-
-  -- one write or sync
-  pub stops_once : (old new : D) → g.lasts old old → g.read_faults new ≡ g.read_faults old → g.moment new ≤ g.moment old + 1
-      → TimePasses g.moment g.images g.images_since old new → StopsAtFault g old new
-  stops_once old new same same_reads one time = record { last = old; lasts = same; reads = refl; writes = refl; since = inl (same_reads, one, time) }
 
   -- reads alone
   pub stops_reads : (old new : D) → g.lasts old old → ChangesReads g old new → StopsAtFault g old new
@@ -50,13 +48,7 @@ module _ {D : Type 0} (g : Ghosts D) where
     -- behind calls that didn't fail
     pub stops_on : (old mid new : D) → g.lasts old mid → g.read_faults mid ≡ g.read_faults old → g.write_faults mid ≡ g.write_faults old
         → StopsAtFault g mid new → StopsAtFault g old new
-    stops_on old mid new lasts reads writes stops = record {
-      last = stops.last;
-      lasts = on old mid stops.last lasts stops.lasts;
-      reads = stops.reads ∙ reads;
-      writes = stops.writes ∙ writes;
-      since = stops.since;
-    }
+    stops_on old mid new lasts reads writes stops = grind (arith, common_steps)
 
     pub puts_on : (old mid new : D) (P Q : Type 0) → ¬ P → Puts g P old mid → Puts g Q mid new → Puts g Q old new
     puts_on old mid new P Q fine first second = record {
@@ -69,13 +61,7 @@ module _ {D : Type 0} (g : Ghosts D) where
 
     pub reads_on : (old mid new : D) (P Q : Type 0) → ¬ P → Reads g P old mid → Reads g Q mid new → Reads g Q old new
     reads_on old mid new P Q fine first second = record {
-      only = record {
-        same_content = second.only.same_content ∙ first.only.same_content;
-        same_images = λ image. (λ now. (first.only.same_images image).0 ((second.only.same_images image).0 now), λ was. (second.only.same_images image).1 ((first.only.same_images image).1 was));
-        same_moment = second.only.same_moment ∙ first.only.same_moment;
-        same_past = λ t image. (λ now. (first.only.same_past t image).0 ((second.only.same_past t image).0 now), λ was. (second.only.same_past t image).1 ((first.only.same_past t image).1 was));
-        same_write_faults = second.only.same_write_faults ∙ first.only.same_write_faults;
-      };
+      only = changes_on old mid new first.only second.only;
       faults = counts_on _ _ _ Q (first.faults.same fine) second.faults;
       lasts = on old mid new first.lasts second.lasts;
     }
@@ -84,13 +70,7 @@ module _ {D : Type 0} (g : Ghosts D) where
   pub puts_once : {T E : Type 0} (result : Result T E) (old new : D) → g.lasts old old → TellsAlike (g.content old) (g.content new) → g.read_faults new ≡ g.read_faults old
       → HasCause (g.write_faults old) (g.write_faults new) result → g.moment new ≤ g.moment old + 1
       → TimePasses g.moment g.images g.images_since old new → g.lasts old new → Puts g (IsErr result) old new
-  puts_once result old new same told reads cause one time lasts = record {
-    told = told;
-    reads = reads;
-    faults = counts_of _ _ result cause;
-    stops = stops_once old new same reads one time;
-    lasts = lasts;
-  }
+  puts_once result old new same told reads cause one time lasts = grind (arith, common_steps)
 
   pub puts_none : (disk : D) (P : Type 0) → ¬ P → g.lasts disk disk → Puts g P disk disk
   puts_none disk P fine same = record { told = alike_same _ _ refl; reads = refl; faults = counts_none _ P fine; stops = stops_none disk same; lasts = same }
@@ -107,11 +87,7 @@ module _ {D : Type 0} (g : Ghosts D) where
   -- after a sync that passed
   pub quiet_by_sync : (old new : D) → g.content new ≡ g.content old → IfSome (g.content old) (Only (g.images new)) → IfSome (g.content old) (λ octets. g.moment new ≡ g.moment old + 1)
       → SinceNow g.moment g.images g.images_since old new → IsQuietNow g new
-  quiet_by_sync old new same durable one since_now =
-      if_told (g.content new) _ (λ now told image since.
-      let was = sym same ∙ told in
-      let later : g.moment new ≡ g.moment old + 1 = at_told _ now was one in
-      at_told (Only (g.images new)) now was durable image (since_now (omega (arith, later)) image since))
+  quiet_by_sync old new same durable one since_now = grind (arith, common_steps)
 
   -- what a crash leaves of a quiet disk
   pub quiet_images : (disk : D) → ((t : ℕ) (image : List ℕ) → t ≤ g.moment disk → g.images disk image → g.images_since disk t image) → IsQuietNow g disk
@@ -123,12 +99,7 @@ module _ {D : Type 0} (g : Ghosts D) where
       → ((before now : List ℕ) → g.content old ≡ Some before → step before now → other_step before now)
       → ((before image : List ℕ) → g.content old ≡ Some before → leaves before image → other_leaves before image)
       → Makes g result old new step leaves → Makes g result old new other_step other_leaves
-  makes_weaker result old new step leaves other_step other_leaves steps more makes = record {
-    ok = on_ok_weaker result (λ has. told_weaker (g.content old) _ _ (λ before told now. (now.0, now.1, steps before now.0 told now.2)) has) makes.ok;
-    quiet = makes.quiet;
-    since = told_weaker (g.content old) _ _ (λ before told left. weaker g.moment g.images_since old new _ _ (λ image here. more before image told here) left) makes.since;
-    puts = makes.puts;
-  }
+  makes_weaker result old new step leaves other_step other_leaves steps more makes = grind (arith, common_steps)
 
   -- A run that failed, of which more may be left than is asked.
   pub makes_failed : {T U E F : Type 0} (result : Result T E) (other : Result U F) (old new : D) (step leaves other_step other_leaves : List ℕ → List ℕ → Type 0) → IsErr other
@@ -150,27 +121,11 @@ module _ {D : Type 0} (g : Ghosts D) where
         → ((before image : List ℕ) → g.content old ≡ Some before → first_leaves before image → leaves before image)
         → ((before middle image : List ℕ) → g.content old ≡ Some before → g.content mid ≡ Some middle → first_step before middle → second_leaves middle image → leaves before image)
         → Makes g result old new step leaves
-    makes_on first second steps early late = record {
-      ok = on_ok_weaker result (λ has. if_told (g.content old) _ (λ before told.
-          let m = at_told (λ before. (now : List ℕ) × (g.content mid ≡ Some now) × first_step before now) before told first.ok in
-          let n = at_told (λ before. (now : List ℕ) × (g.content new ≡ Some now) × second_step before now) m.0 m.1 has in
-          (n.0, n.1, steps before m.0 n.0 told m.2 n.2))) second.ok;
-      quiet = second.quiet;
-      since = if_told (g.content old) _ (λ before told.
-          let m = at_told (λ before. (now : List ℕ) × (g.content mid ≡ Some now) × first_step before now) before told first.ok in
-          joined g.moment g.images_since old mid new (leaves before)
-          (weaker g.moment g.images_since old mid (first_leaves before) (leaves before) (λ image here. early before image told here) (at_told _ before told first.since))
-          (weaker g.moment g.images_since mid new (second_leaves m.0) (leaves before) (λ image here. late before m.0 image told m.1 m.2 here) (at_told _ m.0 m.1 second.since)));
-      puts = puts_on on old mid new _ _ (λ e. true≢false (sym e)) first.puts second.puts;
-    }
+    makes_on first second steps early late = grind (arith, common_steps)
 
   -- no call, and reads that failed exactly where they are said to
   pub reads_none : (disk : D) (P : Type 0) → ¬ P → g.lasts disk disk → Reads g P disk disk
-  reads_none disk P fine same = record {
-    only = record { same_content = refl; same_images = λ image. (λ now. now, λ was. was); same_moment = refl; same_past = λ t image. (λ now. now, λ was. was); same_write_faults = refl };
-    faults = counts_none _ P fine;
-    lasts = same;
-  }
+  reads_none disk P fine same = record { only = changes_none disk; faults = counts_none _ P fine; lasts = same }
 
   pub reads_same : (old new : D) (P Q : Type 0) → (P → Q) → (Q → P) → Reads g P old new → Reads g Q old new
   reads_same old new P Q there back run = record { only = run.only; faults = counts_same _ _ P Q there back run.faults; lasts = run.lasts }

@@ -24,10 +24,6 @@ module _ {S C : Type 0} (after : S → C → S) where
     allowed_append [] b start first second = second
     allowed_append (command ∷ a) b start first second = (first.0, allowed_append a b (after start command) first.1 second)
 
-    pub allowed_front : (a b : List C) (start : S) → AreAllowed allowed after start (a ++ b) → AreAllowed allowed after start a
-    allowed_front [] b start all = tt
-    allowed_front (command ∷ a) b start all = (all.0, allowed_front a b (after start command) all.1)
-
 module _ {S C : Type 0} (form : Form S C) where
   -- the first of two lists of commands, within the first list
   pub first_append : (count : ℕ) (a b : List C) (start : S) → count ≤ length a → after_first form count start (a ++ b) ≡ after_first form count start a

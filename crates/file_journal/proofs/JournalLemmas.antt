@@ -1,11 +1,12 @@
 -- What the octets of a disk stand for, by their header and their length.
+use Rattle.std.proofs.lemmas.Grind.{common_steps}
 use Rattle.std.proofs.Common.{◌≡◌, ◌≢◌, ℕ, ◌+◌, ◌<◌, ◌≤◌, true, false, cond, not, nat_le, nat_lt, List, [], ◌∷◌, ◌++◌, length, get_or, take, drop, None, Some, refl, sym, ◌∙◌, ap, subst, arith, append_assoc, append-nil, length-append, take-take, get_or-take, inl, inr}
 use Rattle.std.proofs.lemmas.Bool.{cond-true, cond-false, cases_Bool, cases_lt, and_from, false_from_ne_true, both_ways, not_from_true, not_from_false, le-leb, lt-leb, lt-ltb, le-ltb}
 use Rattle.std.proofs.lemmas.Slice.Eq.{bytes_eq-Decides}
 use Rattle.std.proofs.lemmas.List.{take_at, drop_more, get_or-append-add}
 use Rattle.std.specs.Str.{bytes_eq}
 use Rattle.px_base.specs.Numbers.{le32, le32_octets}
-use Rattle.file_journal.specs.Records.{Record, Reading, whole, reading_from}
+use Rattle.file_journal.specs.Records.{Record, whole, reading_from}
 use Rattle.file_journal.specs.Journal.{Standing, store, bad_number, no_store, is_block_number, store_of, journal_of, header_text, IsSameStore, HasGoodHeader}
 use Rattle.file_journal.specs.Formatting.{IsMakingGates}
 use Rattle.file_journal.specs.Header.{HasHeader}
@@ -36,22 +37,16 @@ module _ (magic octets : List ℕ) where
   of_bad_number long is bad = longer _ long ∙ known _ _ is ∙ cond-true (not (is_block_number (le32 octets 8))) _ _ (not_from_false _ bad)
 
   module _ (blocks : ℕ) (head : HasHeader magic blocks octets) where
-    good : (bad rest : Standing) → cond (not (is_block_number (le32 octets 8))) bad rest ≡ rest
-    good bad rest = cond-false (not (is_block_number (le32 octets 8))) bad rest (not_from_true _ (ap is_block_number head.blocks_are ∙ head.is_number))
+    -- the right block number
+    good : 16 < length octets → journal_of magic octets ≡ cond (nat_lt (length octets) 18) (store (Some blocks) (whole [])) (store_of blocks (reading_from 16 (drop 16 octets)))
+    unfolding journal_of
+    good long = grind (arith, common_steps)
 
     pub of_17 : length octets ≡ 17 → journal_of magic octets ≡ store (Some blocks) (whole [])
-    unfolding journal_of
-    of_17 size =
-        longer _ (omega (arith, size)) ∙ known _ _ head.magic_is ∙ good _ _
-        ∙ cond-true (nat_lt (length octets) 18) _ _ (lt-ltb (length octets) 18 (omega (arith, size)))
-        ∙ ap (λ (n : ℕ). store (Some n) (whole [])) head.blocks_are
+    of_17 size = good (omega (arith, size)) ∙ cond-true (nat_lt (length octets) 18) _ _ (lt-ltb (length octets) 18 (omega (arith, size)))
 
     pub of_full : 18 ≤ length octets → journal_of magic octets ≡ store_of blocks (reading_from 16 (drop 16 octets))
-    unfolding journal_of
-    of_full size =
-        longer _ (omega (arith, size)) ∙ known _ _ head.magic_is ∙ good _ _
-        ∙ cond-false (nat_lt (length octets) 18) _ _ (le-ltb (length octets) 18 size)
-        ∙ ap (λ (n : ℕ). store_of n (reading_from 16 (drop 16 octets))) head.blocks_are
+    of_full size = good (omega (arith, size)) ∙ cond-false (nat_lt (length octets) 18) _ _ (le-ltb (length octets) 18 size)
 
     -- a store whose first gate isn't open, or isn't there yet
     pub of_empty : 17 ≤ length octets → (17 < length octets → get_or octets 16 0 ≢ 1) → journal_of magic octets ≡ store (Some blocks) (whole [])
@@ -67,8 +62,8 @@ module _ (magic octets : List ℕ) where
 -- such octets aren't refused
 pub is_store : (magic octets : List ℕ) (blocks : ℕ) → 16 < length octets → HasHeader magic blocks octets → HasGoodHeader (journal_of magic octets)
 is_store magic octets blocks long head = elim (cases_lt 17 (length octets)) [
-  | inr short ↦ (let is = of_17 magic octets blocks head (omega (arith, long, short)) in (λ found foreign. cc (sym is ∙ foreign), λ bad. cc (sym is ∙ bad)))
-  | inl more ↦ (let is = of_full magic octets blocks head (omega (arith, more)) in (λ found foreign. cc (sym is ∙ foreign), λ bad. cc (sym is ∙ bad)))
+  | inr short ↦ (let is = of_17 magic octets blocks head (omega (arith, long, short)) in (λ found foreign. cc, λ bad. cc))
+  | inl more ↦ (let is = of_full magic octets blocks head (omega (arith, more)) in (λ found foreign. cc, λ bad. cc))
 ]
 
 -- octets with the same front have the same header
@@ -126,11 +121,8 @@ store_parts magic octets blocks entries long is = elim (cases_Bool (bytes_eq (ta
   ]
 ]
   where
-    fits : (number : ℕ) (reading : Reading) → store_of number reading ≡ store (Some blocks) (whole entries) → (number ≡ blocks) × (reading ≡ whole entries)
-    fits number reading same = (cc same, cc same)
-
     parts : take 8 octets ≡ magic → is_block_number (le32 octets 8) ≡ true → HasHeader magic blocks octets × (reading_from 16 (drop 16 octets) ≡ whole entries)
     parts is_magic good =
-        let head : HasHeader magic (le32 octets 8) octets = record { magic_is = is_magic; blocks_are = refl; is_number = good } in
-        let same = fits (le32 octets 8) (reading_from 16 (drop 16 octets)) (sym (of_full magic octets (le32 octets 8) head long) ∙ is) in
-        (record { magic_is = is_magic; blocks_are = same.0; is_number = ap is_block_number (sym same.0) ∙ good }, same.1)
+        let here = of_full magic octets (le32 octets 8) (record { magic_is = is_magic; blocks_are = refl; is_number = good }) long in
+        let number : le32 octets 8 ≡ blocks = cc in
+        (record { magic_is = is_magic; blocks_are = number; is_number = ap is_block_number (sym number) ∙ good }, cc)

@@ -1,112 +1,32 @@
 -- What a state that a journal keeps stands for, and what putting one record does to it.
-use Rattle.std.proofs.Common.{◌≡◌, ◌⊎◌, inl, inr, ⊎_elim, ℕ, ◌+◌, ◌*◌, ◌≤◌, true, false, true≢false, List, [], ◌∷◌, Some, IfSome, Err, IsErrOf, refl, sym, ◌∙◌, ap, subst, arith}
+use Rattle.std.proofs.lemmas.Grind.{common_steps}
+use Rattle.std.proofs.Common.{◌≡◌, ◌⊎◌, ◌↔◌, ℕ, ◌+◌, ◌*◌, ◌≤◌, true, false, List, [], ◌∷◌, Some, IfSome, Ok, Err, IsErr, IsErrOf, refl, sym, ◌∙◌, ap, subst, arith}
 use Rattle.disk_model.specs.declared.disk.Disk.{Ghosts}
-use Rattle.file_journal.specs.Appending.{LeavesAppending, LeavesBeforeOrAfter}
-use Rattle.file_journal.specs.Calls.{EachImage, Leaves, Puts, TellsAlike, images_now}
-use Rattle.file_journal.specs.Commands.{MakesBetween, MakesFirst, StayDone}
+use Rattle.file_journal.specs.Appending.{Appends, LeavesAppending, LeavesBeforeOrAfter}
+use Rattle.file_journal.specs.Calls.{EachImage, Leaves, Puts, TakesStep, TellsAlike, images_now}
+use Rattle.file_journal.specs.Commands.{MakesFirst, StayDone}
 use Rattle.file_journal.specs.Form.{Form, StandsFor, standing_of}
-use Rattle.file_journal.specs.Journal.{IsBeforeOrAfter, Standing, journal_of, store_of}
-use Rattle.file_journal.specs.Kept.{Does, IsBeside, KeptOn, StandsAt, by_fours, kept_on}
-use Rattle.file_journal.specs.Position.{Position, StandsOn, left_to_read}
-use Rattle.file_journal.specs.Records.{Reading, Record, with_records}
-use Rattle.file_journal.specs.Walk.{StandFor, stands_of, state}
+use Rattle.file_journal.specs.Journal.{IsBeforeOrAfter, journal_of}
+use Rattle.file_journal.specs.Kept.{AnswersPut, Does, IsCut, IsKept, KeptOn, StandsAt, by_fours, kept_on}
+use Rattle.file_journal.specs.Position.{Position, StandsOn}
+use Rattle.file_journal.specs.Records.{Record}
+use Rattle.file_journal.specs.Walk.{state}
 use Rattle.file_journal.specs.declared.faults.JournalFault.{JournalFault}
 use Rattle.file_journal.specs.declared.faults.JournalFault.TheVariants as fault
-use Rattle.file_journal.proofs.AppendLemmas.{AllEnd, Ends, all_end, ends_at, ends_kept, ends_store}
+use Rattle.file_journal.proofs.CallLemmas.{puts_same}
 use Rattle.file_journal.proofs.CommandLemmas.{makes_one, stay_none}
 use Rattle.file_journal.proofs.MomentLemmas.{weaker}
 use Rattle.file_journal.proofs.ToldLemmas.{at_told, if_told, told_before, told_weaker}
-use Rattle.file_journal.proofs.WalkLemmas.{failed_keeps, one_step, stands_keeps}
-
--- a fault of an append that isn't an earlier one is one of the disk
-pub is_disk : {T : Type 0} (e : JournalFault) → (IsErrOf {T = T} (Err e) fault.Failed → ⊥) → IsErrOf {T = T} (Err e) fault.Disk
-is_disk fault.Disk none = refl
-is_disk fault.Failed none = absurd (none refl)
+use Rattle.file_journal.proofs.WalkLemmas.{append_keeps, failed_keeps, one_step}
 
 module _ {S C : Type 0} (form : Form S C) where
-  -- a store that has its block number stands for the same whatever other one octets without one are read with
-  any_number : (blocks other number : ℕ) (reading : Reading) (standing : Standing) → standing ≡ store_of number reading
-      → stands_of form.fresh form.step blocks standing ≡ stands_of form.fresh form.step other standing
-  any_number blocks other number reading standing is =
-      ap (stands_of form.fresh form.step blocks) is ∙ sym (ap (stands_of form.fresh form.step other) is)
-
   module _ {D : Type 0} (g : Ghosts D) where
-    -- the content's and each image's store has its number
-    numbered : (at : KeptOn D S) → StandsAt g form at → at.journal.failed ≡ false
-        → IfSome (g.content at.disk) (λ octets. ((reading : Reading) × (journal_of form.magic octets ≡ store_of at.journal.blocks reading))
-        × ((image : List ℕ) → images_now g at.disk image → (reading : Reading) × (journal_of form.magic image ≡ store_of at.journal.blocks reading)))
-    numbered at stands healthy = by stands.keeps.stands_on
-      where
-        by : StandsOn g at.journal at.disk
-            → IfSome (g.content at.disk) (λ octets. ((reading : Reading) × (journal_of form.magic octets ≡ store_of at.journal.blocks reading))
-            × ((image : List ℕ) → images_now g at.disk image → (reading : Reading) × (journal_of form.magic image ≡ store_of at.journal.blocks reading)))
-        by (inl failed) = absurd (true≢false (sym failed ∙ healthy))
-        by (inr on) = told_weaker (g.content at.disk) _ _ (λ octets told is. (
-          (with_records is.0 (left_to_read at.journal octets), ap (λ (l : List ℕ). journal_of l octets) (sym stands.magic_is) ∙ is.1.records),
-          λ image here.
-              let there = is.2 image here in
-              (with_records is.0 (left_to_read at.journal image), ap (λ (l : List ℕ). journal_of l image) (sym stands.magic_is) ∙ there.0.records),
-        )) on
-
-    -- What a state that is kept has on its disk stands for it, whatever number octets without one are read with.
+    -- What a state that is kept has on its disk stands for it.
     content_here : (blocks : ℕ) (at : KeptOn D S) → StandsAt g form at → at.journal.failed ≡ false → IfSome (g.content at.disk) (λ octets. standing_of form blocks octets ≡ state at.now)
-    content_here blocks at stands healthy = if_told (g.content at.disk) _ (λ octets told.
-        let has = at_told (λ (octets : List ℕ). _) octets told (numbered at stands healthy) in
-        any_number blocks at.journal.blocks at.journal.blocks has.0.0 (journal_of form.magic octets) has.0.1
-        ∙ ap (λ (l : List ℕ). stands_of form.fresh form.step at.journal.blocks (journal_of l octets)) (sym stands.magic_is)
-        ∙ at_told (StandFor form.fresh form.step at.journal at.now) octets told (stands.keeps.content healthy))
+    content_here blocks at stands healthy = grind (arith, common_steps)
 
     pub images_here : (at : KeptOn D S) → StandsAt g form at → at.journal.failed ≡ false → EachImage g at.disk (StandsFor form at.now)
-    images_here at stands healthy = if_told (g.content at.disk) _ (λ octets told image here.
-        let has = at_told (λ (octets : List ℕ). _) octets told (numbered at stands healthy) in
-        let there = has.1 image here in
-        any_number (form.number at.now) at.journal.blocks at.journal.blocks there.0 (journal_of form.magic image) there.1
-        ∙ ap (λ (l : List ℕ). stands_of form.fresh form.step at.journal.blocks (journal_of l image)) (sym stands.magic_is)
-        ∙ at_told (λ (_ : List ℕ). (image : List ℕ) → images_now g at.disk image → StandFor form.fresh form.step at.journal at.now image) octets told (stands.keeps.images healthy) image here)
-
-    -- ---- what lies beside the journal
-
-    -- What is written behind the next gate, or is torn there, leaves the state kept.
-    pub stands_beside : (now : S) (journal : Position) (old new : D) → StandsAt g form (kept_on now journal old) → journal.failed ≡ false → TellsAlike (g.content old) (g.content new)
-        → IfSome (g.content old) (λ before. IfSome (g.content new) (IsBeside journal.place before) × ((image : List ℕ) → images_now g new image → IsBeside journal.place before image))
-        → StandsAt g form (kept_on now journal new)
-    stands_beside now journal old new stands healthy alike beside = record {
-      magic_is = stands.magic_is;
-      keeps = stands_keeps g form.fresh form.step journal now new
-          (inr (if_told (g.content new) _ (λ octets told.
-          let was = told_before (g.content old) (g.content new) octets alike told in
-          let here = ends_there octets told in
-          let at = ends_at journal (all was.0 was.1).entries octets (there octets told).are_octets here in (
-            (all was.0 was.1).entries,
-            at.0,
-            λ image is.
-                let lies = (at_told (λ (before : List ℕ). _) was.0 was.1 beside).1 image is in
-                let now_at = ends_at journal (all was.0 was.1).entries image lies.are_octets (ends_kept journal.magic journal.blocks (all was.0 was.1).entries journal.place was.0 (all was.0 was.1).content image lies.front lies.no_shorter) in
-                (now_at.0, now_at.1 ∙ sym at.1),
-          ))))
-          stands.keeps.ended
-          (λ fine. if_told (g.content new) _ (λ octets told.
-          let was = told_before (g.content old) (g.content new) octets alike told in
-          let entries = (all was.0 was.1).entries in
-          ap (stands_of form.fresh form.step journal.blocks)
-          (ends_store journal.magic journal.blocks entries journal.place octets (ends_there octets told)
-          ∙ sym (ends_store journal.magic journal.blocks entries journal.place was.0 (all was.0 was.1).content))
-          ∙ at_told (StandFor form.fresh form.step journal now) was.0 was.1 (stands.keeps.content healthy)));
-    }
-      where
-        all : (before : List ℕ) → g.content old ≡ Some before → AllEnd g journal old healthy (stands.keeps.ended healthy) stands.keeps.stands_on before
-        all before told = all_end g journal old healthy (stands.keeps.ended healthy) stands.keeps.stands_on before told
-
-        there : (octets : List ℕ) (told : g.content new ≡ Some octets) → IsBeside journal.place (told_before (g.content old) (g.content new) octets alike told).0 octets
-        there octets told =
-            let was = told_before (g.content old) (g.content new) octets alike told in
-            at_told (IsBeside journal.place was.0) octets told (at_told (λ (before : List ℕ). _) was.0 was.1 beside).0
-
-        ends_there : (octets : List ℕ) (told : g.content new ≡ Some octets)
-            → Ends journal.magic journal.blocks (all (told_before (g.content old) (g.content new) octets alike told).0 (told_before (g.content old) (g.content new) octets alike told).1).entries journal.place octets
-        ends_there octets told =
-            let was = told_before (g.content old) (g.content new) octets alike told in
-            ends_kept journal.magic journal.blocks (all was.0 was.1).entries journal.place was.0 (all was.0 was.1).content octets (there octets told).front (there octets told).no_shorter
+    images_here at stands healthy = grind (arith, common_steps)
 
     -- ---- one record
 
@@ -119,85 +39,82 @@ module _ {S C : Type 0} (form : Form S C) where
 
       -- what stands for the records from before, with the new one or without
       either : (before image : List ℕ) → g.content old ≡ Some before → IsBeforeOrAfter (journal_of journal.magic before) entry (journal_of journal.magic image) → StandsFor form now image ⊎ StandsFor form next image
-      either before image told_old left =
-          let is : (blocks : ℕ) → stands_of form.fresh form.step blocks (journal_of journal.magic before) ≡ state now = λ blocks.
-          ap (λ (l : List ℕ). stands_of form.fresh form.step blocks (journal_of l before)) stands.magic_is
-          ∙ at_told (λ (octets : List ℕ). standing_of form blocks octets ≡ state now) before told_old (content_here blocks (kept_on now journal old) stands healthy) in
-          let of_magic : (blocks : ℕ) → stands_of form.fresh form.step blocks (journal_of form.magic image) ≡ stands_of form.fresh form.step blocks (journal_of journal.magic image) = λ blocks.
-          ap (λ (l : List ℕ). stands_of form.fresh form.step blocks (journal_of l image)) (sym stands.magic_is) in
-          ⊎_elim
-          (λ same. let blocks = form.number now in inl (of_magic blocks ∙ ap (stands_of form.fresh form.step blocks) same ∙ is blocks))
-          (λ made.
-          let blocks = form.number next in
-          inr (of_magic blocks ∙ ap (stands_of form.fresh form.step blocks) made ∙ one_step form.step form.fresh blocks (journal_of journal.magic before) now next entry (is blocks) steps))
-          left
+      either before image told_old left = grind (arith, common_steps, content_here, one_step)
 
       leaves : Leaves g old new (λ _. MakesFirst form now (command ∷ []))
       leaves = told_weaker (g.content old) _ _ (λ before told_old left.
           weaker g.moment g.images_since old new _ (MakesFirst form now (command ∷ [])) (λ image here. makes_one form now command image (either before image told_old here.store)) left) since
 
-      -- it is done
-      module _ (calls : IfSome (g.content old) (λ _. g.moment new ≡ g.moment old + 4)) (fine : after.failed ≡ false) (stands_now : StandsAt g form (kept_on next after new)) where
-        stay_one : IfSome (g.content old) (λ _. StayDone g form (by_fours (g.moment old)) 1 now (command ∷ []) new)
-        stay_one = if_told (g.content old) _ (λ before told_old count some most image left.
-            let there = told_before (g.content new) (g.content old) before (told.1, told.0) told_old in
-            let done : g.moment new ≡ g.moment old + 4 = at_told (λ (_ : List ℕ). g.moment new ≡ g.moment old + 4) before told_old calls in
-            let one : g.moment old + 4 * count ≡ g.moment new = omega (arith, done, some, most) in
-            let each = at_told (λ (_ : List ℕ). (image : List ℕ) → images_now g new image → StandsFor form next image) there.0 there.1 (images_here (kept_on next after new) stands_now fine) in
-            (1, omega (arith, most), omega arith, each image (subst (λ (t : ℕ). g.images_since new t image) one left)))
+      -- what is done, by what comes of it where the disk failed and where it didn't
+      does_put : (P : Type 0) (state_now : S) → IsKept g form (kept_on state_now after new) → Puts g P old new
+          → (¬ P → IfSome (g.content old) (λ _. g.moment new ≡ g.moment old + 4) × IfSome (g.content old) (λ _. StayDone g form (by_fours (g.moment old)) 1 now (command ∷ []) new) × (state_now ≡ next) × (after.failed ≡ false))
+          → (P → IsCut g form (by_fours (g.moment old)) (command ∷ []) (kept_on now journal old) (kept_on state_now after new)) → Does g form P (command ∷ []) (kept_on now journal old) (kept_on state_now after new)
+      does_put P state_now keeps puts done cut = record {
+        healthy = healthy;
+        stands_on = keeps;
+        allowed = (allowed, tt);
+        since = leaves;
+        stay = λ still. (done still).1;
+        calls = λ still. told_weaker (g.content old) _ _ (λ before told_old is. omega (arith, is)) (done still).0;
+        at_most = omega (arith, at_most);
+        none = λ empty. absurd (cc empty);
+        puts = puts;
+        reads = tt;
+        done = λ still. ((done still).2, (done still).3);
+        cut = cut;
+        journal = moved;
+      }
 
-        pub does_one : (P : Type 0) → ¬ P → Puts g P old new → Does g form P (command ∷ []) (kept_on now journal old) (kept_on next after new)
-        does_one P good puts = record {
-          healthy = healthy;
-          stands_on = stands_now.keeps;
-          allowed = (allowed, tt);
-          since = leaves;
-          stay = λ still. stay_one;
-          calls = λ still. told_weaker (g.content old) _ _ (λ before told_old is. omega (arith, is)) calls;
-          at_most = omega (arith, at_most);
-          none = λ empty. absurd (cc empty);
-          puts = puts;
-          reads = tt;
-          done = λ still. (refl, fine);
-          cut = λ failed. absurd (good failed);
-          journal = moved;
-        }
+      -- it is done
+      pub answers_done : {T : Type 0} (x : T) (P : Type 0) → ¬ P → Puts g P old new → IfSome (g.content old) (λ _. g.moment new ≡ g.moment old + 4) → after.failed ≡ false → StandsOn g after new
+          → TakesStep g old new (Appends journal entry) → AnswersPut g form command (kept_on now journal old) (kept_on next after new) (Ok x)
+      answers_done {T} x P good puts calls fine stands_on ok =
+          let stands_now : StandsAt g form (kept_on next after new) = record {
+            magic_is = ap (λ (p : Position). p.magic) moved ∙ stands.magic_is;
+            keeps = append_keeps g form.fresh form.step old new journal after now next entry stands.keeps steps healthy stands_on moved ok told;
+          } in
+          record {
+            failed = (λ was. absurd (cc was), λ before. absurd (cc (sym healthy ∙ before)));
+            untouched = λ was. absurd (cc was);
+            does = λ _. does_put (IsErr {E = JournalFault} (Ok x)) next stands_now.keeps (puts_same g old new _ _ (λ bad. absurd (good bad)) (λ bad. absurd (cc bad)) puts)
+                (λ still. (
+                  calls,
+                  if_told (g.content old) _ (λ before told_old count some most image left.
+                      let there = told_before (g.content new) (g.content old) before (told.1, told.0) told_old in
+                      let done : g.moment new ≡ g.moment old + 4 = at_told (λ (_ : List ℕ). g.moment new ≡ g.moment old + 4) before told_old calls in
+                      let one : g.moment old + 4 * count ≡ g.moment new = omega (arith, done, some, most) in
+                      let each = at_told (λ (_ : List ℕ). (image : List ℕ) → images_now g new image → StandsFor form next image) there.0 there.1 (images_here (kept_on next after new) stands_now fine) in
+                      (1, omega (arith, most), omega arith, each image (subst (λ (t : ℕ). g.images_since new t image) one left))),
+                  refl,
+                  fine,
+                ))
+                (λ bad. absurd (cc bad));
+            stands_at = stands_now;
+          }
 
       -- or the disk failed in it
-      module _ (earlier : (disk : D) (t u : ℕ) (image : List ℕ) → t ≤ u → g.images_since disk u image → g.images_since disk t image)
-          (any_moment : LeavesBeforeOrAfter g journal entry old new) (failed : after.failed ≡ true) (stands_on : StandsOn g after new) where
-        images_cut : EachImage g new (MakesBetween form 0 1 now (command ∷ []))
-        images_cut = if_told (g.content new) _ (λ octets told_new image here.
-            let was = told_before (g.content old) (g.content new) octets told told_new in
-            let later = at_told (λ (_ : List ℕ). _) was.0 was.1 since in
-            makes_one form now command image
-            (either was.0 image was.1 (at_told (λ (_ : List ℕ). _) was.0 was.1 (any_moment healthy) image (earlier new (g.moment old) (g.moment new) image later.later here))))
-
-        pub stands_cut : StandsAt g form (kept_on now after new)
-        stands_cut = record { magic_is = ap (λ (p : Position). p.magic) moved ∙ stands.magic_is; keeps = failed_keeps g form.fresh form.step after now new failed stands_on }
-
-        pub does_cut : (P : Type 0) → P → Puts g P old new → Does g form P (command ∷ []) (kept_on now journal old) (kept_on now after new)
-        does_cut P bad puts = record {
-          healthy = healthy;
-          stands_on = stands_cut.keeps;
-          allowed = (allowed, tt);
-          since = leaves;
-          stay = λ still. absurd (still bad);
-          calls = λ still. absurd (still bad);
-          at_most = omega (arith, at_most);
-          none = λ empty. absurd (cc empty);
-          puts = puts;
-          reads = tt;
-          done = λ still. absurd (still bad);
-          cut = λ again. record {
-            count = 0;
-            fewer = omega arith;
-            state = refl;
-            failed = failed;
-            images = images_cut;
-            stay = if_told (g.content old) _ (λ before told_old. stay_none form g (by_fours (g.moment old)) now (command ∷ []) new);
-            calls = told_weaker (g.content old) _ _ (λ before told_old left. omega (arith, left.later)) since;
-            at_most = if_told (g.content old) _ (λ before told_old. omega (arith, at_most));
-          };
-          journal = moved;
-        }
+      pub answers_cut : ((disk : D) (t u : ℕ) (image : List ℕ) → t ≤ u → g.images_since disk u image → g.images_since disk t image) → LeavesBeforeOrAfter g journal entry old new → after.failed ≡ true → StandsOn g after new
+          → {T : Type 0} (e : JournalFault) → IsErrOf {T = T} (Err e) fault.Failed ↔ (journal.failed ≡ true) → Puts g (IsErrOf {T = T} (Err e) fault.Disk) old new
+          → AnswersPut {T = T} g form command (kept_on now journal old) (kept_on now after new) (Err e)
+      answers_cut earlier any_moment failed stands_on fault.Failed is puts = absurd (cc (sym healthy ∙ is.0 refl))
+      answers_cut earlier any_moment failed stands_on {T} fault.Disk is puts =
+          let stands_cut : StandsAt g form (kept_on now after new) = record { magic_is = ap (λ (p : Position). p.magic) moved ∙ stands.magic_is; keeps = failed_keeps g form.fresh form.step after now new failed stands_on } in
+          record {
+            failed = (λ was. absurd (cc was), λ before. absurd (cc (sym healthy ∙ before)));
+            untouched = λ was. absurd (cc was);
+            does = λ _. does_put (IsErr {T = T} (Err fault.Disk)) now stands_cut.keeps (puts_same g old new _ _ (λ _. refl) (λ _. refl) puts) (λ still. absurd (still refl)) (λ again. record {
+              count = 0;
+              fewer = omega arith;
+              state = refl;
+              failed = failed;
+              images = if_told (g.content new) _ (λ octets told_new image here.
+                  let was = told_before (g.content old) (g.content new) octets told told_new in
+                  let later = at_told (λ (_ : List ℕ). _) was.0 was.1 since in
+                  makes_one form now command image
+                  (either was.0 image was.1 (at_told (λ (_ : List ℕ). _) was.0 was.1 (any_moment healthy) image (earlier new (g.moment old) (g.moment new) image later.later here))));
+              stay = if_told (g.content old) _ (λ before told_old. stay_none form g (by_fours (g.moment old)) now (command ∷ []) new);
+              calls = told_weaker (g.content old) _ _ (λ before told_old left. omega (arith, left.later)) since;
+              at_most = if_told (g.content old) _ (λ before told_old. omega (arith, at_most));
+            });
+            stands_at = stands_cut;
+          }

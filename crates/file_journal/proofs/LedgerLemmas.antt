@@ -1,4 +1,5 @@
 -- How far a journal's records are applied.
+use Rattle.std.proofs.lemmas.Grind.{common_steps}
 use Rattle.std.proofs.Common.{◌≡◌, ℕ, ◌+◌, List, [], ◌∷◌, ◌++◌, length, Option, Ok, Err, refl, sym, ◌∙◌, ap, arith}
 use Rattle.file_journal.specs.Ledger.{AppliesAll, AppliesOne, Takes}
 use Rattle.file_journal.specs.Position.{Position, left_to_read}
@@ -20,10 +21,7 @@ module _ {S : Type 0} (step : S → Record → Option S) where
   module _ (first now : Position) (before after : S) (octets : List ℕ) (on : IsOn first now before after octets) where
     -- what is left comes to what was left at first
     pub on_walk : walk_left step first before octets ≡ walk_left step now after octets
-    on_walk =
-        ap (walk step before first.place) on.left
-        ∙ walk_on_all step on.entries before after first.place (left_to_read now octets) on.takes
-        ∙ ap (λ (n : ℕ). walk step after n (left_to_read now octets)) (sym on.place)
+    on_walk = grind (arith, common_steps, walk_on_all)
 
     -- one record more
     pub on_more : (next : Position) (later : S) (entry : Record) → AppliesOne step now next after later octets entry → IsOn first next before later octets

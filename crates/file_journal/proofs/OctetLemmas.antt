@@ -1,7 +1,8 @@
 -- What writes, whole and torn, make of octets.
-use Rattle.std.proofs.Common.{◌≡◌, inl, inr, ℕ, ◌+◌, ◌-◌, ◌<◌, ◌≤◌, List, ◌∷◌, ◌++◌, length, get_or, take, drop, sym, ◌∙◌, ap, ap₂, subst, arith, length-take, append_assoc, take-append-drop, take-take, take_all, drop-drop, get_or-take}
+use Rattle.std.proofs.lemmas.Grind.{common_steps}
+use Rattle.std.proofs.Common.{◌≡◌, inl, inr, ℕ, ◌+◌, ◌-◌, ◌<◌, ◌≤◌, List, ◌∷◌, ◌++◌, length, get_or, take, drop, sym, ◌∙◌, ap, subst, arith, length-take, append_assoc, take-append-drop, take-take, drop-drop, get_or-take}
 use Rattle.std.proofs.lemmas.Bool.{cases_lt}
-use Rattle.std.proofs.lemmas.List.{drop-take, drop_all, drop_more, take_rest}
+use Rattle.std.proofs.lemmas.List.{drop-take, drop_all, take_rest}
 use Rattle.px_base.specs.Numbers.{le32}
 use Rattle.disk_model.specs.Disk.{Writes, Torn}
 
@@ -18,11 +19,7 @@ take_front at whole old new le same = sym (take-take at whole new le) ∙ same
 
 -- a write inside or at the end
 pub written : (at : ℕ) (text old new : List ℕ) → at ≤ length old → Writes at text old new → new ≡ take at old ++ text ++ drop (at + length text) old
-written at text old new le writes =
-    three_parts at (length text) new
-    ∙ ap (λ (l : List ℕ). l ++ take (length text) (drop at new) ++ drop (at + length text) new) (take_front at (length old) old new le writes.before)
-    ∙ ap (λ (l : List ℕ). take at old ++ l ++ drop (at + length text) new) writes.there
-    ∙ ap (λ (l : List ℕ). take at old ++ text ++ l) writes.after
+written at text old new le writes = grind (arith, common_steps, three_parts, take_front)
 
 -- the octets before a torn write stay
 pub torn_front : (at n : ℕ) (old new : List ℕ) → at ≤ length old → Torn at n old new → take at new ≡ take at old
@@ -32,18 +29,9 @@ torn_front at n old new le torn = take_front at (length old) old new le torn.bef
 pub torn_length : (at n : ℕ) (old new : List ℕ) → at + n ≤ length old → Torn at n old new → length new ≡ length old
 torn_length at n old new le torn = omega (arith, torn.no_shorter, torn.no_longer)
 
-pub torn_back : (at n : ℕ) (old new : List ℕ) → at + n ≤ length old → Torn at n old new → drop (at + n) new ≡ drop (at + n) old
-torn_back at n old new le torn =
-    let long = torn_length at n old new le torn in
-    ap (λ (l : List ℕ). drop (at + n) l) (sym (take_all (length old) new (omega (arith, long)))) ∙ torn.after
-
 -- a torn write of one octet inside leaves some octet there
 pub torn_octet : (at : ℕ) (old new : List ℕ) → at < length old → Torn at 1 old new → new ≡ take at old ++ get_or new at 0 ∷ drop (at + 1) old
-torn_octet at old new lt torn =
-    let long = torn_length at 1 old new (omega arith) torn in
-    sym (take-append-drop at new)
-    ∙ ap₂ (λ (a b : List ℕ). a ++ b) (torn_front at 1 old new (omega arith) torn)
-    (drop_more new at 0 (omega (arith, long)) ∙ ap (λ (l : List ℕ). get_or new at 0 ∷ l) (torn_back at 1 old new (omega arith) torn))
+torn_octet at old new lt torn = grind (arith, common_steps)
 
 -- the front of octets, in which the header is read
 pub front16 : (octets room : List ℕ) → room ≡ take 16 (drop 0 octets) → (le32 room 8 ≡ le32 octets 8) × (get_or room 15 0 ≡ get_or octets 15 0) × (take 8 room ≡ take 8 octets)

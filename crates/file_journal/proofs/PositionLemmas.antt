@@ -1,8 +1,8 @@
 -- The journal's place among the records.
-use Rattle.std.proofs.Common.{◌≡◌, inl, inr, ℕ, ◌+◌, List, [], ◌∷◌, ◌++◌, length, Option, IfSome, refl, sym, ◌∙◌, ap, arith, append_assoc, length-append}
+use Rattle.std.proofs.lemmas.Grind.{common_steps}
+use Rattle.std.proofs.Common.{◌≡◌, inl, inr, ℕ, ◌+◌, false, List, [], ◌∷◌, ◌++◌, length, Option, IfSome, refl, sym, ◌∙◌, ap, arith, append_assoc, length-append}
 use Rattle.std.specs.List.{AllByRecursion}
 use Rattle.file_journal.specs.Records.{Record, IsRecord, record_text, records_text, Reading, with_record, with_records, reading_at}
-use Rattle.file_journal.specs.Journal.{store_of}
 use Rattle.file_journal.specs.Position.{Position, left_to_read, IsAt, StandsAmong}
 use Rattle.file_journal.proofs.ToldLemmas.{at_told, if_told}
 use Rattle.file_journal.proofs.ReadingLemmas.{read_on, no_record}
@@ -14,9 +14,7 @@ records_text-append (entry ∷ entries) others =
     ∙ sym (append_assoc (1 ∷ record_text entry) (records_text entries) (records_text others))
 
 pub length-records_text-push : (entries : List Record) (entry : Record) → length (records_text (entries ++ entry ∷ [])) ≡ length (records_text entries) + 4 + length entry.content
-length-records_text-push entries entry =
-    ap length (records_text-append entries (entry ∷ []))
-    ∙ omega (arith, length-append (records_text entries) (records_text (entry ∷ [])), length-append entry.content [])
+length-records_text-push entries entry = grind (arith, common_steps, records_text-append, length-append)
 
 pub with_records-append : (entries others : List Record) (reading : Reading) → with_records (entries ++ others) reading ≡ with_records entries (with_records others reading)
 with_records-append [] others reading = refl
@@ -26,20 +24,7 @@ with_records-append (entry ∷ entries) others reading = ap (with_record entry) 
 module _ (journal : Position) (place : ℕ) (entry : Record) (is_place : place ≡ journal.place + 4 + length entry.content) where
   moved_at : (passed : List Record) (octets : List ℕ) (next : Reading) → IsAt journal passed octets → left_to_read journal octets ≡ with_record entry next
       → IsAt (record journal { place = place }) (passed ++ entry ∷ []) octets × (left_to_read (record journal { place = place }) octets ≡ next)
-  moved_at passed octets next is_at found =
-      let on = read_on journal.place octets entry next found in
-      let now : reading_at place octets ≡ next = ap (λ (i : ℕ). reading_at i octets) is_place ∙ on.1 in (
-        record {
-          are_octets = is_at.are_octets;
-          formatted = is_at.formatted;
-          place = is_place ∙ omega (arith, is_at.place, length-records_text-push passed entry);
-          records =
-              is_at.records ∙ ap (λ (r : Reading). store_of journal.blocks (with_records passed r)) (found ∙ ap (with_record entry) (sym now))
-              ∙ ap (store_of journal.blocks) (sym (with_records-append passed (entry ∷ []) (reading_at place octets)));
-          ended = λ end. absurd (no_record entry next (sym found ∙ is_at.ended end));
-        },
-        now,
-      )
+  moved_at passed octets next is_at found = grind (arith, common_steps, read_on, length-records_text-push, with_records-append, no_record)
 
   pub moved : (content now : Option (List ℕ)) (images later : List ℕ → Type 0) → now ≡ content → ((image : List ℕ) → later image → images image)
       → IfSome content (λ octets. left_to_read journal octets ≡ with_record entry (reading_at place octets))
@@ -58,6 +43,12 @@ module _ (journal : Position) (place : ℕ) (entry : Record) (is_place : place �
             let moved_there = moved_at at.0 image _ there.0 (there.1 ∙ here) in
             (moved_there.0, moved_there.1),
       )))
+
+-- a journal that hasn't failed stands among the records
+pub among_records : (journal : Position) (content : Option (List ℕ)) (images : List ℕ → Type 0) → journal.failed ≡ false → StandsAmong journal content images
+    → IfSome content (λ octets. (passed : List Record) × IsAt journal passed octets × ((image : List ℕ) → images image → IsAt journal passed image × (left_to_read journal image ≡ left_to_read journal octets)))
+among_records journal content images fine (inl failed) = absurd (cc (sym failed ∙ fine))
+among_records journal content images fine (inr stands) = stands
 
 -- each is a record, and so is one more
 pub records-push : (entries : List Record) (entry : Record) → AllByRecursion IsRecord entries → IsRecord entry → AllByRecursion IsRecord (entries ++ entry ∷ [])

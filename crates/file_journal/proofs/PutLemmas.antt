@@ -1,6 +1,7 @@
 -- What a crash leaves while a record is put behind a gate.
-use Rattle.std.proofs.Common.{◌≡◌, inr, ℕ, ◌+◌, ◌<◌, List, [], ◌∷◌, ◌++◌, length, get_or, take, drop, sym, ◌∙◌, ap, ap₂, arith, append_assoc, length-append, take-take}
-use Rattle.std.proofs.lemmas.List.{take-append-le, drop_at, length-take-le}
+use Rattle.std.proofs.lemmas.Grind.{common_steps}
+use Rattle.std.proofs.Common.{◌≡◌, inr, ℕ, ◌+◌, ◌<◌, List, [], ◌∷◌, ◌++◌, length, get_or, take, drop, ◌∙◌, arith, append_assoc, length-append}
+use Rattle.std.proofs.lemmas.List.{length-take-le}
 use Rattle.disk_model.specs.Disk.{Torn, Writes}
 use Rattle.file_journal.specs.Appending.{IsPutting, OpensGate, with_gate}
 use Rattle.file_journal.proofs.OctetLemmas.{written, torn_octet}
@@ -13,26 +14,13 @@ module _ (place : ℕ) (text before : List ℕ) (there : place < length before) 
   front_length : length (take (place + 1) before) ≡ place + 1
   front_length = length-take-le (place + 1) before (omega arith)
 
-  pub staged_front : take place (staged place text before) ≡ take place before
-  staged_front =
-      take-append-le place (take (place + 1) before ++ text) (drop (place + 1 + length text) before) (omega (arith, front_length, length-append (take (place + 1) before) text))
-      ∙ take-append-le place (take (place + 1) before) text (omega (arith, front_length))
-      ∙ take-take place (place + 1) before (omega arith)
-
-  pub staged_back : drop (place + 1) (staged place text before) ≡ text ++ drop (place + 1 + length text) before
-  staged_back =
-      ap (λ (l : List ℕ). drop (place + 1) l) (append_assoc (take (place + 1) before) text (drop (place + 1 + length text) before))
-      ∙ drop_at (take (place + 1) before) (text ++ drop (place + 1 + length text) before) (place + 1) front_length
-
   pub staged_long : place < length (staged place text before)
   staged_long =
       omega (arith, front_length, length-append (take (place + 1) before) text, length-append (take (place + 1) before ++ text) (drop (place + 1 + length text) before))
 
   -- an octet at the gate's place, and the record behind it
   pub gated : (gate : ℕ) → take place (staged place text before) ++ gate ∷ drop (place + 1) (staged place text before) ≡ with_gate place gate text before
-  gated gate =
-      ap₂ (λ (a b : List ℕ). a ++ gate ∷ b) staged_front staged_back
-      ∙ sym (append_assoc (take place before) (gate ∷ text) (drop (place + 1 + length text) before))
+  gated gate = grind (arith, common_steps)
 
   pub staged_by : (new : List ℕ) → Writes (place + 1) text before new → new ≡ staged place text before
   staged_by new writes = written (place + 1) text before new (omega arith) writes

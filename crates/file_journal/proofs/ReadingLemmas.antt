@@ -1,13 +1,14 @@
 -- What is read from a gate on.
-use Rattle.std.proofs.Common.{◌≡◌, ◌≢◌, ◌⊎◌, min, inl, inr, ⊎_elim, ℕ, zero, suc, ◌+◌, ◌-◌, ◌*◌, ◌/◌, ◌%◌, ◌<◌, ◌≤◌, true, false, ◌==◌, nat_le, nat_lt, if◌then◌else◌, List, [], ◌∷◌, ◌++◌, length, get_or, take, drop, refl, sym, ◌∙◌, ap, ap₂, subst, arith, append_assoc, append-nil, length-append, length-drop, take-append-drop, drop-drop, get_or-drop, get_or-take, ne_eqb}
-use Rattle.std.proofs.lemmas.Bool.{cond-true, cond-false, cases_Bool, cases_eq, cases_lt, and_parts, and_from, and_left, and_right, leb-true, ltb-true, le-leb, lt-leb, lt-ltb, le-ltb, both_ways}
-use Rattle.std.proofs.lemmas.List.{take_at, drop_at, drop_more, drop_all, drop-take, length-take, length-take-le, take-take, take_all}
+use Rattle.std.proofs.lemmas.Grind.{common_steps}
+use Rattle.std.proofs.Common.{◌≡◌, ◌≢◌, ◌↔◌, min, inl, inr, ⊎_elim, ℕ, zero, suc, ◌+◌, ◌-◌, ◌*◌, ◌<◌, ◌≤◌, true, false, ◌==◌, if◌then◌else◌, List, [], ◌∷◌, ◌++◌, length, get_or, take, drop, refl, sym, ◌∙◌, ap, subst, arith, append_assoc, length-append, length-drop, take-append-drop, drop-drop, get_or-drop, get_or-take, ne_eqb}
+use Rattle.std.proofs.lemmas.Bool.{cond-true, cond-false, cases_Bool, cases_eq, cases_lt, both_ways}
+use Rattle.std.proofs.lemmas.List.{drop_at, drop_more, drop_all, drop-take, length-take-le, take-take}
 use Rattle.std.proofs.lemmas.List.Elements.{All-take, All-drop, All-head, All-tail}
 use Rattle.std.specs.List.{AllByRecursion}
 use Rattle.px_base.specs.Numbers.{le16}
 use Rattle.px_base.specs.Octets.{IsOctets}
 use Rattle.file_journal.specs.Finding.{BeginsRecord}
-use Rattle.file_journal.specs.Records.{HasRecord, Record, IsRecord, record_text, records_text, StartsClosed, StartsCut, Reading, whole, broken, StandsFrom, record_len, starts_whole, record_in, with_record, with_records, reading_within, reading_from}
+use Rattle.file_journal.specs.Records.{HasRecord, Record, IsRecord, record_of, record_text, records_text, StartsClosed, StartsCut, Reading, whole, broken, StandsFrom, record_len, starts_whole, record_in, with_record, with_records, reading_within, reading_from}
 
 -- what is made of what follows a gate's record
 abbrev step_of : ℕ → ℕ → List ℕ → Reading → Reading
@@ -30,10 +31,7 @@ enough (suc n) (suc m) place (gate ∷ octets) hn hm =
 
 pub reading_step : (place gate : ℕ) (octets : List ℕ) → reading_from place (gate ∷ octets) ≡ step_of place gate octets (reading_from (place + 1 + record_len octets) (drop (record_len octets) octets))
 unfolding reading_from reading_within
-reading_step place gate octets =
-    ap (step_of place gate octets)
-    (enough (length octets) (length (drop (record_len octets) octets)) (place + 1 + record_len octets) (drop (record_len octets) octets)
-    (omega (arith, length-drop (record_len octets) octets)) (omega arith))
+reading_step place gate octets = grind (arith, common_steps, enough, length-drop)
 
 pub reading_none : (place : ℕ) → reading_from place [] ≡ broken [] place
 unfolding reading_from reading_within
@@ -48,59 +46,41 @@ reading_broken place octets cut = reading_step place 1 octets ∙ cond-false (st
 pub reading_whole : (place : ℕ) (octets : List ℕ) → starts_whole octets ≡ true → reading_from place (1 ∷ octets) ≡ with_record (record_in octets) (reading_from (place + 1 + record_len octets) (drop (record_len octets) octets))
 reading_whole place octets is_whole = reading_step place 1 octets ∙ cond-true (starts_whole octets) _ _ is_whole
 
+-- what the test says
+whole_is : (octets : List ℕ) → (starts_whole octets ≡ true) ↔ ((le16 octets 1 ≤ 600) × (record_len octets < length octets))
+whole_is octets = grind (arith, common_steps)
+
 -- A record's text, with a gate behind it, is read as that record.
 module _ (entry : Record) (is : IsRecord entry) (gate : ℕ) (later : List ℕ) where
   number : le16 (record_text entry ++ gate ∷ later) 1 ≡ length entry.content
   number = omega (arith, is.most)
 
-  text_length : length (record_text entry ++ gate ∷ later) ≡ 4 + length entry.content + length later
-  text_length = omega (arith, length-append entry.content (gate ∷ later))
-
   pub text_starts_whole : starts_whole (record_text entry ++ gate ∷ later) ≡ true
-  text_starts_whole =
-      and_from _ _ (le-leb (le16 (record_text entry ++ gate ∷ later) 1) 600 (omega (arith, number, is.most)))
-      (lt-ltb (record_len (record_text entry ++ gate ∷ later)) (length (record_text entry ++ gate ∷ later)) (omega (arith, number, text_length)))
+  text_starts_whole = (whole_is (record_text entry ++ gate ∷ later)).1 (omega (arith, number, is.most), omega (arith, number, length-append entry.content (gate ∷ later)))
 
   pub text_record_in : record_in (record_text entry ++ gate ∷ later) ≡ entry
-  text_record_in =
-      ap (λ (l : List ℕ). let r : Record = record { kind = entry.kind; content = l } in r)
-      (ap (λ (n : ℕ). take n (entry.content ++ gate ∷ later)) number ∙ take_at entry.content (gate ∷ later) (length entry.content) refl)
+  text_record_in = grind (arith, common_steps)
 
   pub text_rest : drop (record_len (record_text entry ++ gate ∷ later)) (record_text entry ++ gate ∷ later) ≡ gate ∷ later
-  text_rest =
-      ap (λ (n : ℕ). drop (3 + n) (record_text entry ++ gate ∷ later)) number
-      ∙ sym (drop-drop (length entry.content) 3 (record_text entry ++ gate ∷ later))
-      ∙ drop_at entry.content (gate ∷ later) (length entry.content) refl
+  text_rest = grind (arith, common_steps)
 
   pub reading_text : (place : ℕ) → reading_from place (1 ∷ record_text entry ++ gate ∷ later) ≡ with_record entry (reading_from (place + 4 + length entry.content) (gate ∷ later))
-  reading_text place =
-      reading_whole place (record_text entry ++ gate ∷ later) text_starts_whole
-      ∙ ap₂ with_record text_record_in
-      (ap₂ reading_from (let at : place + 1 + record_len (record_text entry ++ gate ∷ later) ≡ place + 4 + length entry.content = omega (arith, number) in at) text_rest)
-
--- what the test says
-pub whole_parts : (octets : List ℕ) → starts_whole octets ≡ true → (le16 octets 1 ≤ 600) × (record_len octets < length octets)
-whole_parts octets is_whole =
-    let parts = and_parts (nat_le (le16 octets 1) 600) (nat_lt (record_len octets) (length octets)) is_whole in
-    (leb-true (le16 octets 1) 600 parts.0, ltb-true (record_len octets) (length octets) parts.1)
+  reading_text place = grind (arith, common_steps, reading_whole, text_starts_whole, text_record_in, number, text_rest)
 
 -- the text of a record of this kind and content
 three_octets : (kind low high n : ℕ) (content : List ℕ) → low < 256 → high < 256 → length content ≡ low + 256 * high
     → kind ∷ low ∷ high ∷ content ≡ record_text (record { kind = kind; content = content })
-three_octets kind low high n content hl hh is =
-    let first : low ≡ length content % 256 = omega arith in
-    let second : high ≡ length content / 256 % 256 = omega arith in
-    ap₂ (λ (a b : ℕ). kind ∷ a ∷ b ∷ content) first second
+three_octets kind low high n content hl hh is = grind (arith, common_steps)
 
 -- Octets that begin with a whole record and a gate are its text and what follows.
 pub whole_text : (octets : List ℕ) → IsOctets octets → starts_whole octets ≡ true → (gate : ℕ) × (later : List ℕ) × IsRecord (record_in octets) × (octets ≡ record_text (record_in octets) ++ gate ∷ later)
-whole_text [] are is_whole = absurd (let parts = whole_parts [] is_whole in omega (arith, parts.1))
-whole_text (a ∷ []) are is_whole = absurd (let parts = whole_parts (a ∷ []) is_whole in omega (arith, parts.1))
-whole_text (a ∷ b ∷ []) are is_whole = absurd (let parts = whole_parts (a ∷ b ∷ []) is_whole in omega (arith, parts.1))
+whole_text [] are is_whole = absurd (let parts = (whole_is []).0 is_whole in omega (arith, parts.1))
+whole_text (a ∷ []) are is_whole = absurd (let parts = (whole_is (a ∷ [])).0 is_whole in omega (arith, parts.1))
+whole_text (a ∷ b ∷ []) are is_whole = absurd (let parts = (whole_is (a ∷ b ∷ [])).0 is_whole in omega (arith, parts.1))
 whole_text (kind ∷ low ∷ high ∷ rest) are is_whole =
     let P : ℕ → Type 0 = λ octet. octet < 256 in
     let n = low + 256 * high in
-    let parts = whole_parts (kind ∷ low ∷ high ∷ rest) is_whole in
+    let parts = (whole_is (kind ∷ low ∷ high ∷ rest)).0 is_whole in
     let most : n ≤ 600 = omega (arith, parts.0) in
     let long : n < length rest = omega (arith, parts.1) in
     let size : length (take n rest) ≡ n = length-take-le n rest (omega (arith, long)) in
@@ -127,13 +107,14 @@ pub text_cut : (octets : List ℕ) → starts_whole octets ≡ false → StartsC
 text_cut octets none entry gate later is same =
     both_ways (starts_whole octets) none (ap starts_whole same ∙ text_starts_whole entry is gate later)
 
-pub with_records-whole : (entries others : List Record) → with_records entries (whole others) ≡ whole (entries ++ others)
-with_records-whole [] others = refl
-with_records-whole (entry ∷ entries) others = ap (with_record entry) (with_records-whole entries others)
+-- records alone, and what ends them
+pub all_whole : (entries : List Record) → with_records entries (whole []) ≡ whole entries
+all_whole [] = refl
+all_whole (entry ∷ entries) = ap (with_record entry) (all_whole entries)
 
-pub with_records-broken : (entries others : List Record) (at : ℕ) → with_records entries (broken others at) ≡ broken (entries ++ others) at
-with_records-broken [] others at = refl
-with_records-broken (entry ∷ entries) others at = ap (with_record entry) (with_records-broken entries others at)
+pub all_broken : (entries : List Record) (at : ℕ) → with_records entries (broken [] at) ≡ broken entries at
+all_broken [] at = refl
+all_broken (entry ∷ entries) at = ap (with_record entry) (all_broken entries at)
 
 -- one record before octets that begin with a gate
 pub reading_more : (entry : Record) (place : ℕ) (next : List ℕ) → IsRecord entry → 0 < length next
@@ -169,14 +150,13 @@ read_from_stands place octets (whole entries) are stands = closed_end stands.0 s
     closed_end (gate ∷ later) is shut =
         sym (ap (reading_from place) is ∙ reading_records entries place gate later stands.1
         ∙ ap (with_records entries) (reading_closed (place + length (records_text entries)) gate later shut)
-        ∙ with_records-whole entries [] ∙ ap whole (append-nil entries))
+        ∙ all_whole entries)
 read_from_stands place octets (broken entries at) are stands =
     let rest = stands.0 in
     let cut = cut_text rest (are_behind (records_text entries ++ 1 ∷ []) rest octets (stands.2 ∙ sym (append_assoc (records_text entries) (1 ∷ []) rest)) are) stands.3 in
     sym (ap (reading_from place) stands.2 ∙ reading_records entries place 1 rest stands.1
     ∙ ap (with_records entries) (reading_broken (place + length (records_text entries)) rest cut)
-    ∙ with_records-broken entries [] (place + length (records_text entries))
-    ∙ ap₂ broken (append-nil entries) (sym stands.4))
+    ∙ all_broken entries (place + length (records_text entries)) ∙ ap (broken entries) (sym stands.4))
 
 -- one record more in front
 stands_more : (entry : Record) (place after : ℕ) (octets next : List ℕ) (reading : Reading) → IsRecord entry → octets ≡ record_text entry ++ next
@@ -217,14 +197,10 @@ module _ (most place : ℕ) (octets : List ℕ) (le : length octets ≤ most) (a
       (stands_more entry place after octets (drop (record_len octets) octets) _ text.2 (text.3 ∙ ap (λ (l : List ℕ). record_text entry ++ l) (sym next)) at stands)
 
   behind_cut : starts_whole octets ≡ false → StandsFrom place (1 ∷ octets) (reading_from place (1 ∷ octets))
-  behind_cut none =
-      subst (λ (r : Reading). StandsFrom place (1 ∷ octets) r) (sym (reading_broken place octets none))
-      (octets, tt, refl, text_cut octets none, omega arith)
+  behind_cut none = grind (arith, common_steps, reading_broken, text_cut)
 
   opened : (gate : ℕ) → gate ≡ 1 → StandsFrom place (gate ∷ octets) (reading_from place (gate ∷ octets))
-  opened gate is_open =
-      subst (λ (n : ℕ). StandsFrom place (n ∷ octets) (reading_from place (n ∷ octets))) (sym is_open)
-      (⊎_elim behind_whole behind_cut (cases_Bool (starts_whole octets)))
+  opened gate is_open = grind (arith, common_steps, behind_whole, behind_cut)
 
 -- What is read is what octets stand for.
 pub stands_from_read : (most : ℕ) → StandsBelow most
@@ -252,47 +228,12 @@ module _ (place : ℕ) (octets : List ℕ) where
 
   -- a record of this kind and length
   pub read_one : (kind n : ℕ) → place < length octets → get_or octets place 0 ≡ 1 → kind ≡ get_or (drop (place + 1) octets) 0 0 → n ≡ le16 (drop (place + 1) octets) 1 → n ≤ 600 → place + 4 + n < length octets
-      → reading_from place (drop place octets) ≡ with_record (record { kind = kind; content = take n (drop (place + 4) octets) }) (reading_from (place + 4 + n) (drop (place + 4 + n) octets))
-  read_one kind n there is_open is_kind is_number most long =
-      let rest = drop (place + 1) octets in
-      let size : length rest ≡ length octets - (place + 1) = length-drop (place + 1) octets in
-      let is_whole : starts_whole rest ≡ true =
-      and_from _ _ (le-leb (le16 rest 1) 600 (omega (arith, is_number, most))) (lt-ltb (record_len rest) (length rest) (omega (arith, is_number, long, size))) in
-      let at : place + 1 + record_len rest ≡ place + 4 + n = omega (arith, is_number) in
-      let content : drop 3 rest ≡ drop (place + 4) octets = drop-drop 3 (place + 1) octets ∙ ap (λ (i : ℕ). drop i octets) (let same : place + 1 + 3 ≡ place + 4 = omega arith in same) in
-      let next : drop (record_len rest) rest ≡ drop (place + 4 + n) octets = drop-drop (record_len rest) (place + 1) octets ∙ ap (λ (i : ℕ). drop i octets) at in
-      let entry : record_in rest ≡ record { kind = kind; content = take n (drop (place + 4) octets) } =
-      ap₂ (λ (k : ℕ) (l : List ℕ). let r : Record = record { kind = k; content = l } in r) (sym is_kind) (ap₂ (λ (i : ℕ) (l : List ℕ). take i l) (sym is_number) content) in
-      ap (reading_from place) (at_gate there is_open) ∙ reading_whole place rest is_whole ∙ ap₂ with_record entry (ap₂ reading_from at next)
-
--- no whole record where its content is too long, or it and a gate aren't there
-pub not_whole : (octets : List ℕ) → (600 < le16 octets 1) ⊎ (length octets ≤ record_len octets) → starts_whole octets ≡ false
-not_whole octets (inl long) = and_left (nat_le (le16 octets 1) 600) (nat_lt (record_len octets) (length octets)) (lt-leb (le16 octets 1) 600 long)
-not_whole octets (inr short) = and_right (nat_le (le16 octets 1) 600) (nat_lt (record_len octets) (length octets)) (le-ltb (record_len octets) (length octets) short)
+      → reading_from place (drop place octets) ≡ with_record (record_of kind (take n (drop (place + 4) octets))) (reading_from (place + 4 + n) (drop (place + 4 + n) octets))
+  read_one kind n there is_open is_kind is_number most long = grind (arith, common_steps, length-drop, whole_is, drop-drop, at_gate, reading_whole)
 
 -- whether a record with a gate behind it stands at the front is seen in 604 octets
 starts_whole-front : (octets : List ℕ) (n : ℕ) → n ≡ min 604 (length octets) → starts_whole (take n octets) ≡ starts_whole octets
-starts_whole-front octets n is = elim (cases_lt (length octets) 604) [
-  | inl few ↦ ap starts_whole (take_all n octets (omega (arith, is)))
-  | inr many ↦
-      let at : (i : ℕ) → i < 604 → get_or (take n octets) i 0 ≡ get_or octets i 0 = λ i lt. get_or-take n octets i 0 (omega (arith, is)) in
-      let number : le16 (take n octets) 1 ≡ le16 octets 1 = omega (arith, at 1 (omega arith), at 2 (omega arith)) in
-      let size : length (take n octets) ≡ 604 = omega (arith, length-take n octets, is) in
-      elim (cases_Bool (starts_whole octets)) [
-        | inl is_whole ↦
-            let parts = whole_parts octets is_whole in
-            and_from _ _ (le-leb (le16 (take n octets) 1) 600 (omega (arith, number, parts.0)))
-            (lt-ltb (record_len (take n octets)) (length (take n octets)) (omega (arith, number, parts.0, size)))
-            ∙ sym is_whole
-        | inr cut ↦ elim (cases_Bool (starts_whole (take n octets))) [
-          | inl is_whole ↦
-              let parts = whole_parts (take n octets) is_whole in
-              absurd (both_ways (starts_whole octets) cut
-              (and_from _ _ (le-leb (le16 octets 1) 600 (omega (arith, number, parts.0))) (lt-ltb (record_len octets) (length octets) (omega (arith, number, parts.0, many)))))
-          | inr none ↦ none ∙ sym cut
-        ]
-      ]
-]
+starts_whole-front octets n is = grind (arith, common_steps)
 
 -- What is read from a gate on, in which the record is seen.
 module _ (place count : ℕ) (octets front : List ℕ) (there : place < length octets) (is_count : count ≡ min 605 (length octets - place))
@@ -318,48 +259,29 @@ module _ (place count : ℕ) (octets front : List ℕ) (there : place < length o
   found-closed shut = read_closed place octets there (λ is_open. shut (front-gate ∙ is_open))
 
   pub found-damaged : get_or front 0 0 ≡ 1 → starts_whole (drop 1 front) ≡ false → reading_from place (drop place octets) ≡ broken [] place
-  found-damaged is_open cut =
-      let rest = drop (place + 1) octets in
-      let whole_front : drop 1 front ≡ take (count - 1) rest =
-      ap (drop 1) is_front ∙ ap (λ (m : ℕ). drop 1 (take m (drop place octets))) (let parts : count ≡ 1 + (count - 1) = omega (arith, is_count) in parts)
-      ∙ drop-take 1 (count - 1) (drop place octets) ∙ ap (take (count - 1)) (drop-drop 1 place octets) in
-      read_cut place octets there (sym front-gate ∙ is_open)
-      (sym (starts_whole-front rest (count - 1) (omega (arith, is_count, length-drop (place + 1) octets))) ∙ ap starts_whole (sym whole_front) ∙ cut)
+  found-damaged is_open cut = grind (arith, common_steps, drop-take, drop-drop, read_cut, front-gate, starts_whole-front, length-drop)
 
   -- an octet of what stands behind the gate
   front-rest : (i : ℕ) → i + 1 < count → get_or front (i + 1) 0 ≡ get_or (drop (place + 1) octets) i 0
-  front-rest i lt =
-      front-at (i + 1) lt ∙ ap (λ (n : ℕ). get_or octets n 0) (let same : place + (i + 1) ≡ place + 1 + i = omega arith in same)
-      ∙ sym (get_or-drop (place + 1) octets i 0)
+  front-rest i lt = grind (arith, common_steps)
 
   pub found-record : (kind n : ℕ) → BeginsRecord front kind n → HasRecord place (record { kind = kind; content = take n (drop 4 front) }) octets
-  found-record kind n is =
-      let size = front-size in
-      let whole_is = is.whole in
-      let content : take n (drop 4 front) ≡ take n (drop (place + 4) octets) = front-drop 4 n (omega arith) in
-      let len : length (take n (drop 4 front)) ≡ n = length-take-le n (drop 4 front) (omega (arith, length-drop 4 front)) in
-      let number : n ≡ le16 (drop (place + 1) octets) 1 = omega (arith, is.len_is, front-rest 1 (omega arith), front-rest 2 (omega arith)) in
-      record {
-        there = omega (arith, len, is_count);
-        reading =
-            read_one place octets kind n there (sym front-gate ∙ is.gate) (is.kind_is ∙ front-rest 0 (omega arith)) number is.most (omega (arith, is_count))
-            ∙ ap₂ (λ (l : List ℕ) (i : ℕ). with_record (record { kind = kind; content = l }) (reading_from (place + 4 + i) (drop (place + 4 + i) octets))) (sym content) (sym len);
-      }
+  found-record kind n is = grind (arith, common_steps, front-size, front-drop, length-take-le, length-drop, front-rest, read_one, front-gate)
 
 -- a reading that begins with a record isn't one without, and begins with no other
 pub no_record : (entry : Record) (reading : Reading) → with_record entry reading ≡ whole [] → ⊥
-no_record entry (whole entries) is = cc is
-no_record entry (broken entries at) is = cc is
+no_record entry (whole entries) is = cc
+no_record entry (broken entries at) is = cc
 
-pub no_record_broken : (entry : Record) (reading : Reading) (at : ℕ) → with_record entry reading ≡ broken [] at → ⊥
-no_record_broken entry (whole entries) at is = cc is
-no_record_broken entry (broken entries where_) at is = cc is
+no_record_broken : (entry : Record) (reading : Reading) (at : ℕ) → with_record entry reading ≡ broken [] at → ⊥
+no_record_broken entry (whole entries) at is = cc
+no_record_broken entry (broken entries where_) at is = cc
 
-pub same_record : (a b : Record) (x y : Reading) → with_record a x ≡ with_record b y → (a ≡ b) × (x ≡ y)
-same_record a b (whole x) (whole y) is = (cc is, cc is)
-same_record a b (whole x) (broken y at) is = absurd (cc is)
-same_record a b (broken x at) (whole y) is = absurd (cc is)
-same_record a b (broken x at) (broken y where_) is = (cc is, cc is)
+same_record : (a b : Record) (x y : Reading) → with_record a x ≡ with_record b y → (a ≡ b) × (x ≡ y)
+same_record a b (whole x) (whole y) is = (cc, cc)
+same_record a b (whole x) (broken y at) is = (cc, cc)
+same_record a b (broken x at) (whole y) is = (cc, cc)
+same_record a b (broken x at) (broken y where_) is = (cc, cc)
 
 -- Where a record is read, what is behind it is read there.
 pub read_on : (place : ℕ) (octets : List ℕ) (entry : Record) (next : Reading) → reading_from place (drop place octets) ≡ with_record entry next
@@ -370,23 +292,16 @@ read_on place octets entry next is = elim (cases_lt place (length octets)) [
     | inr shut ↦ absurd (no_record entry next (sym is ∙ read_closed place octets there shut))
     | inl is_open ↦ elim (cases_Bool (starts_whole (drop (place + 1) octets))) [
       | inr cut ↦ absurd (no_record_broken entry next place (sym is ∙ read_cut place octets there is_open cut))
-      | inl is_whole ↦ on place octets entry next there is_open is_whole is
+      | inl is_whole ↦
+          let rest = drop (place + 1) octets in
+          let n = le16 rest 1 in
+          let parts = (whole_is rest).0 is_whole in
+          let long : place + 4 + n < length octets = omega (arith, parts.1, length-drop (place + 1) octets) in
+          let same : (record_of (get_or rest 0 0) (take n (drop (place + 4) octets)) ≡ entry) × (reading_from (place + 4 + n) (drop (place + 4 + n) octets) ≡ next) =
+          same_record _ entry _ next (sym (read_one place octets (get_or rest 0 0) n there is_open refl refl parts.0 long) ∙ is) in
+          let number : n ≡ length entry.content =
+          sym (length-take-le n (drop (place + 4) octets) (omega (arith, long, length-drop (place + 4) octets))) ∙ ap (λ (e : Record). length e.content) same.0 in
+          (omega (arith, long, number), ap (λ (i : ℕ). reading_from (place + 4 + i) (drop (place + 4 + i) octets)) (sym number) ∙ same.1)
     ]
   ]
 ]
-  where
-    on : (place : ℕ) (octets : List ℕ) (entry : Record) (next : Reading) → place < length octets → get_or octets place 0 ≡ 1 → starts_whole (drop (place + 1) octets) ≡ true
-        → reading_from place (drop place octets) ≡ with_record entry next
-        → (place + 4 + length entry.content < length octets) × (reading_from (place + 4 + length entry.content) (drop (place + 4 + length entry.content) octets) ≡ next)
-    on place octets entry next there is_open is_whole is =
-        let rest = drop (place + 1) octets in
-        let n = le16 rest 1 in
-        let parts = whole_parts rest is_whole in
-        let size : length rest ≡ length octets - (place + 1) = length-drop (place + 1) octets in
-        let long : place + 4 + n < length octets = omega (arith, parts.1, size) in
-        let here : Record = record { kind = get_or rest 0 0; content = take n (drop (place + 4) octets) } in
-        let same : (here ≡ entry) × (reading_from (place + 4 + n) (drop (place + 4 + n) octets) ≡ next) =
-        same_record here entry _ next (sym (read_one place octets (get_or rest 0 0) n there is_open refl refl parts.0 long) ∙ is) in
-        let number : n ≡ length entry.content =
-        sym (length-take-le n (drop (place + 4) octets) (omega (arith, long, length-drop (place + 4) octets))) ∙ ap (λ (e : Record). length e.content) same.0 in
-        (omega (arith, long, number), ap (λ (i : ℕ). reading_from (place + 4 + i) (drop (place + 4 + i) octets)) (sym number) ∙ same.1)

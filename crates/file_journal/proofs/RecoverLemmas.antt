@@ -1,5 +1,6 @@
 -- What a recovery leaves of a content, what it answers, and where its journal stands.
-use Rattle.std.proofs.Common.{◌≡◌, inl, inr, ℕ, ◌+◌, ◌%◌, ◌<◌, ◌≤◌, nat_le, nat_lt, false, List, [], ◌∷◌, ◌++◌, length, get_or, take, Option, Some, IfSome, Result, Ok, Err, refl, sym, ◌∙◌, ap, subst, arith, append_assoc, length-append, get_or-take, take-take, true≢false}
+use Rattle.std.proofs.lemmas.Grind.{common_steps}
+use Rattle.std.proofs.Common.{◌≡◌, ◌↔◌, inl, inr, ℕ, ◌+◌, ◌%◌, ◌<◌, ◌≤◌, nat_le, nat_lt, false, List, [], ◌∷◌, ◌++◌, length, get_or, take, Some, IfSome, Result, Ok, Err, refl, sym, ◌∙◌, ap, subst, arith, append_assoc, append-nil, length-append, get_or-take, take-take}
 use Rattle.std.proofs.lemmas.List.{get_or-append-add, get_or_at, take-append-le, take_at, length-take-le}
 use Rattle.std.proofs.lemmas.Bool.{cases_lt, cond-false, cond-true, le-leb, lt-leb, lt-ltb}
 use Rattle.px_base.specs.Numbers.{le32_octets}
@@ -12,121 +13,66 @@ use Rattle.file_journal.specs.Calls.{ChangesReads, IsQuietNow, Leaves, TellsAlik
 use Rattle.file_journal.specs.Formatting.{IsFinishing, IsMakingGates}
 use Rattle.file_journal.specs.Header.{HasHeader}
 use Rattle.file_journal.specs.Journal.{Standing, store, no_store, bad_number, journal_of, header_text, even_selector, after_finishing, after_recovery, HasGoodHeader, IsSameStore, store_of}
-use Rattle.file_journal.specs.Position.{Position, left_to_read, IsAt, StandsAmong, StandsOn}
+use Rattle.file_journal.specs.Position.{Position, left_to_read, IsAt, StandsOn}
 use Rattle.file_journal.specs.Records.{whole}
 use Rattle.file_journal.specs.Recovery.{IsRecovered, IsRecovering, RefusesExactly}
 use Rattle.file_journal.proofs.FormatLemmas.{finished_before}
 use Rattle.file_journal.proofs.JournalLemmas.{header_length, header_written, new_gates, of_17, of_empty, of_full, of_short, same_header}
 use Rattle.file_journal.proofs.ToldLemmas.{at_told, content_now, if_told, told_weaker}
-use Rattle.file_journal.proofs.MomentLemmas.{joined, reads, weaker}
+use Rattle.file_journal.proofs.MomentLemmas.{reads}
 
 -- Refusals.
 module _ (magic before : List ℕ) where
   -- a store is refused nowhere
-  pub refuses_none : {T : Type 0} (x : T) → ((found : List ℕ) → journal_of magic before ≡ no_store found → ⊥) → (journal_of magic before ≡ bad_number → ⊥) → RefusesExactly magic before (Ok x)
-  refuses_none x foreign bad = record {
-    not_a_store = λ found. (λ same. absurd (cc same), λ is. absurd (foreign found is));
-    damaged = λ at. (λ same. absurd (cc same), λ is. absurd (bad is.1));
-  }
-
-  pub refuses_foreign : {T : Type 0} (result : Result T RecoverFault) (found : List ℕ) → result ≡ Err (fault.NotAStore found) → journal_of magic before ≡ no_store found → RefusesExactly magic before result
-  refuses_foreign result found answer is = record {
-    not_a_store = λ other. (λ same. is ∙ ap no_store (cc (sym answer ∙ same)), λ now. answer ∙ ap (λ (l : List ℕ). Err (fault.NotAStore l)) (cc (sym is ∙ now)));
-    damaged = λ at. (λ same. absurd (cc (sym answer ∙ same)), λ now. absurd (cc (sym is ∙ now.1)));
-  }
-
-  pub refuses_bad : {T : Type 0} (result : Result T RecoverFault) → result ≡ Err (fault.Damaged 8) → journal_of magic before ≡ bad_number → RefusesExactly magic before result
-  refuses_bad result answer is = record {
-    not_a_store = λ found. (λ same. absurd (cc (sym answer ∙ same)), λ now. absurd (cc (sym is ∙ now)));
-    damaged = λ at. (λ same. (let n : 8 ≡ at = cc (sym answer ∙ same) in sym n, is), λ now. answer ∙ ap (λ (i : ℕ). Err (fault.Damaged i)) (sym now.0));
-  }
+  pub refuses_none : {T : Type 0} (x : T) → HasGoodHeader (journal_of magic before) → RefusesExactly magic before (Ok x)
+  refuses_none x good = record { not_a_store = λ found. (λ same. cc, λ is. absurd (good.0 found is)); damaged = λ at. (λ same. cc, λ is. absurd (good.1 is.1)) }
 
   -- the refusal that was answered is handed on, and so is none
-  pub refuses_same : {T U : Type 0} (result : Result T RecoverFault) (other : Result U RecoverFault) (e : RecoverFault) → result ≡ Err e → other ≡ Err e → RefusesExactly magic before result → RefusesExactly magic before other
-  refuses_same result other e is other_is refuses = record {
-    not_a_store = λ found. (
-      λ same. (refuses.not_a_store found).0 (is ∙ ap Err (cc (sym other_is ∙ same))),
-      λ now. other_is ∙ ap Err (cc (sym is ∙ (refuses.not_a_store found).1 now)),
-    );
-    damaged = λ at. (
-      λ same. (refuses.damaged at).0 (is ∙ ap Err (cc (sym other_is ∙ same))),
-      λ now. other_is ∙ ap Err (cc (sym is ∙ (refuses.damaged at).1 now)),
-    );
-  }
-
-  pub refuses_still : {T U : Type 0} (x : T) (y : U) → RefusesExactly magic before (Ok x) → RefusesExactly magic before (Ok y)
-  refuses_still x y refuses = record {
-    not_a_store = λ found. (λ same. absurd (cc same), λ now. absurd (let bad = (refuses.not_a_store found).1 now in cc bad));
-    damaged = λ at. (λ same. absurd (cc same), λ now. absurd (let bad = (refuses.damaged at).1 now in cc bad));
+  pub refuses_alike : {T U : Type 0} (result : Result T RecoverFault) (other : Result U RecoverFault) → ((e : RecoverFault) → (result ≡ Err e) ↔ (other ≡ Err e)) → RefusesExactly magic before result
+      → RefusesExactly magic before other
+  refuses_alike result other same refuses = record {
+    not_a_store = λ found. (λ is. (refuses.not_a_store found).0 ((same (fault.NotAStore found)).1 is), λ is. (same (fault.NotAStore found)).0 ((refuses.not_a_store found).1 is));
+    damaged = λ at. (λ is. (refuses.damaged at).0 ((same (fault.Damaged at)).1 is), λ is. (same (fault.Damaged at)).0 ((refuses.damaged at).1 is));
   }
 
 -- the refusal of a content by its header
 pub refusal_of : {T : Type 0} (magic octets : List ℕ) (result : Result T RecoverFault) → ((x : T) → result ≡ Ok x → HasGoodHeader (journal_of magic octets))
     → ((found : List ℕ) → result ≡ Err (fault.NotAStore found) → journal_of magic octets ≡ no_store found)
     → ((at : ℕ) → result ≡ Err (fault.Damaged at) → (at ≡ 8) × (journal_of magic octets ≡ bad_number)) → ¬ (result ≡ Err fault.Disk) → RefusesExactly magic octets result
-refusal_of magic octets (Ok x) good foreign bad healthy = let is = good x refl in refuses_none magic octets x is.0 is.1
-refusal_of magic octets (Err (fault.NotAStore found)) good foreign bad healthy = refuses_foreign magic octets (Err (fault.NotAStore found)) found refl (foreign found refl)
+refusal_of magic octets (Ok x) good foreign bad healthy = refuses_none magic octets x (good x refl)
+refusal_of magic octets (Err (fault.NotAStore found)) good foreign bad healthy =
+    let is = foreign found refl in record { not_a_store = λ other. (λ same. cc, λ now. cc); damaged = λ at. (λ same. cc, λ now. cc (now.1)) }
 refusal_of magic octets (Err (fault.Damaged at)) good foreign bad healthy =
-    let is = bad at refl in refuses_bad magic octets (Err (fault.Damaged at)) (ap (λ (i : ℕ). Err (fault.Damaged i)) is.0) is.1
+    let is = bad at refl in record { not_a_store = λ found. (λ same. cc, λ now. cc (is.1)); damaged = λ other. (λ same. (cc (is.0), is.1), λ now. cc (is.0, now.0)) }
 refusal_of magic octets (Err fault.Disk) good foreign bad healthy = absurd (healthy refl)
 
 -- A journal at its first gate.
 abbrev pub first_gate : List ℕ → ℕ → Position
 first_gate magic blocks = record { magic = magic; blocks = blocks; place = 16; ended = false; failed = false }
 
-pub first_at : (magic : List ℕ) (blocks : ℕ) (now : List ℕ) → HasHeader magic blocks now → 18 ≤ length now → IsOctets now → IsAt (first_gate magic blocks) [] now
-first_at magic blocks now head long are = record { are_octets = are; formatted = long; place = refl; records = of_full magic now blocks head long; ended = λ end. absurd (true≢false (sym end)) }
-
-pub first_stands : (magic : List ℕ) (blocks : ℕ) (content : Option (List ℕ)) (images : List ℕ → Type 0)
-    → ((now : List ℕ) → content ≡ Some now → HasHeader magic blocks now × (18 ≤ length now) × IsOctets now × Only images now) → StandsAmong (first_gate magic blocks) content images
-first_stands magic blocks content images shows = inr (if_told content _ (λ now told.
-    let is = shows now told in
-    let at = first_at magic blocks now is.0 is.1 is.2 in (
-      [],
-      at,
-      λ image here.
-          let same = is.3 image here in
-          (subst (λ (l : List ℕ). IsAt (first_gate magic blocks) [] l) (sym same) at, ap (left_to_read (first_gate magic blocks)) same),
-    )))
-
--- a new store
-pub new_store : (magic : List ℕ) (blocks : ℕ) (now : List ℕ) → length magic ≡ 8 → 1 ≤ blocks → blocks ≤ 65536 → now ≡ header_text magic blocks ++ 0 ∷ 0 ∷ []
+-- two closed gates behind a header of 16 octets
+two_gates : (magic : List ℕ) (blocks : ℕ) (front now : List ℕ) → length front ≡ 16 → HasHeader magic blocks front → now ≡ front ++ 0 ∷ 0 ∷ []
     → HasHeader magic blocks now × (18 ≤ length now) × (journal_of magic now ≡ store (Some blocks) (whole []))
-new_store magic blocks now eight some most is =
-    let head = subst (λ (l : List ℕ). HasHeader magic blocks l) (sym is) (header_written magic blocks (0 ∷ 0 ∷ []) eight some most) in
-    let size : length now ≡ 18 = ap length is ∙ omega (arith, header_length magic blocks eight, length-append (header_text magic blocks) (0 ∷ 0 ∷ [])) in
-    let gate : get_or now 16 0 ≡ 0 = ap (λ (l : List ℕ). get_or l 16 0) is ∙ get_or_at (header_text magic blocks) 0 (0 ∷ []) 0 16 (header_length magic blocks eight) in
-    (head, omega (arith, size), of_empty magic now blocks head (omega (arith, size)) (λ more is_open. absurd (omega (arith, gate, is_open))))
+two_gates magic blocks front now size head is = grind (arith, common_steps, same_header, take-append-le, length-append, get_or_at, of_empty)
 
 -- a store whose formatting is done to its end
 pub finishing : (magic : List ℕ) (blocks : ℕ) (before image : List ℕ) → HasHeader magic blocks before → IsFinishing before image → journal_of magic image ≡ journal_of magic before
-finishing magic blocks before image head making =
-    of_empty magic image blocks (same_header 15 magic blocks before image (omega arith) making.header head) making.no_shorter
-    (λ more is_open. absurd (omega (arith, making.closed more, is_open)))
-    ∙ sym (of_17 magic before blocks head making.interrupted)
+finishing magic blocks before image head making = grind (arith, common_steps, of_empty, same_header, of_17)
 
-pub finished_store : (magic : List ℕ) (blocks : ℕ) (before now : List ℕ) → 16 < length before → HasHeader magic blocks before → now ≡ after_finishing before
+finished_store : (magic : List ℕ) (blocks : ℕ) (before now : List ℕ) → 16 < length before → HasHeader magic blocks before → now ≡ after_finishing before
     → HasHeader magic blocks now × (18 ≤ length now) × (journal_of magic now ≡ journal_of magic before)
 finished_store magic blocks before now long head is = elim (cases_lt (length before) 18) [
   | inr full ↦
       let same : now ≡ before = is ∙ sym (finished_before before full) in
       (subst (λ (l : List ℕ). HasHeader magic blocks l) (sym same) head, omega (arith, ap length same, full), ap (journal_of magic) same)
   | inl short ↦
-      let size : length before ≡ 17 = omega (arith, long, short) in
-      let front : length (take 15 before) ≡ 15 = length-take-le 15 before (omega (arith, size)) in
+      let front : length (take 15 before) ≡ 15 = length-take-le 15 before (omega arith) in
       let even : List ℕ = take 15 before ++ even_selector before ∷ [] in
-      let even_length : length even ≡ 16 = omega (arith, front, length-append (take 15 before) (even_selector before ∷ [])) in
-      let shape : now ≡ take 15 before ++ even_selector before ∷ 0 ∷ 0 ∷ [] =
-      is ∙ cond-true (nat_lt (length before) 18) _ before (lt-ltb (length before) 18 short) in
-      let gates : now ≡ even ++ 0 ∷ 0 ∷ [] = shape ∙ sym (append_assoc (take 15 before) (even_selector before ∷ []) (0 ∷ 0 ∷ [])) in
-      let now_length : length now ≡ 18 = ap length gates ∙ omega (arith, even_length, length-append even (0 ∷ 0 ∷ [])) in
-      let gate : get_or now 16 0 ≡ 0 = ap (λ (l : List ℕ). get_or l 16 0) gates ∙ get_or_at even 0 (0 ∷ []) 0 16 even_length in
-      let same : take 15 now ≡ take 15 before = ap (λ (l : List ℕ). take 15 l) shape ∙ take_at (take 15 before) (even_selector before ∷ 0 ∷ 0 ∷ []) 15 front in
-      let now_head = same_header 15 magic blocks before now (omega arith) same head in (
-        now_head,
-        omega (arith, now_length),
-        of_empty magic now blocks now_head (omega (arith, now_length)) (λ more is_open. absurd (omega (arith, gate, is_open))) ∙ sym (of_17 magic before blocks head size),
-      )
+      let even_head = same_header 15 magic blocks before even (omega arith) (take_at (take 15 before) (even_selector before ∷ []) 15 front) head in
+      let made =
+      two_gates magic blocks even now (omega (arith, length-append (take 15 before) (even_selector before ∷ []))) even_head
+      (is ∙ cond-true (nat_lt (length before) 18) _ before (lt-ltb (length before) 18 short) ∙ sym (append_assoc (take 15 before) (even_selector before ∷ []) (0 ∷ 0 ∷ []))) in
+      (made.0, made.1, made.2 ∙ sym (of_17 magic before blocks head (omega arith)))
 ]
 
 -- What a recovery leaves of a content.
@@ -137,25 +83,11 @@ module _ (magic : List ℕ) (blocks : ℕ) (before : List ℕ) where
 
   -- more than 16 octets keep their first 15
   kept_front : 16 < length before → length before < 18 → take 15 (after_recovery magic blocks before) ≡ take 15 before
-  kept_front long short =
-      ap (λ (l : List ℕ). take 15 l)
-      (known_after long
-      ∙ cond-true (nat_lt (length before) 18) (take 15 before ++ even_selector before ∷ 0 ∷ 0 ∷ []) before (lt-ltb (length before) 18 short))
-      ∙ take_at (take 15 before) (even_selector before ∷ 0 ∷ 0 ∷ []) 15 (length-take-le 15 before (omega (arith, long)))
+  kept_front long short = grind (arith, common_steps)
 
   -- the content as it was
   pub recovering_same : IsRecovering magic blocks before before
-  recovering_same = record {
-    same = inl refl;
-    formatted = λ long. refl;
-    no_longer = λ short. omega (arith, short);
-    header = λ long. elim (cases_lt (length before) 18) [
-      | inr full ↦ ap (λ (l : List ℕ). take 15 l) (finished_before before full ∙ sym (known_after long))
-      | inl short ↦ sym (kept_front long short)
-    ];
-    even = λ short long. absurd (omega (arith, short, long));
-    closed = λ short long. absurd (omega (arith, short, long));
-  }
+  recovering_same = grind (arith, common_steps)
 
   -- an interrupted formatting
   pub recovering_finishing : (number : ℕ) (image : List ℕ) → HasHeader magic number before → IsFinishing before image → IsRecovering magic blocks before image
@@ -235,9 +167,16 @@ module _ {D : Type 0} (g : Ghosts D) (magic : List ℕ) (blocks : ℕ) where
       },
     )) has;
     quiet = rest;
-    stands_on = subst (λ (journal : Position). StandsOn g journal new) (sym is) (first_stands magic number (g.content new) (images_now g new) (λ now told.
+    stands_on = subst (λ (journal : Position). StandsOn g journal new) (sym is) (inr (if_told (g.content new) _ (λ now told.
         let was = content_now _ _ (IsFormatted number) now alike has told in
-        (was.2.head, was.2.long, at_told _ now told are, at_told (Only (images_now g new)) now told rest)));
+        let at : IsAt (first_gate magic number) [] now =
+        record { are_octets = at_told _ now told are; formatted = was.2.long; place = refl; records = of_full magic now number was.2.head was.2.long; ended = λ end. cc } in (
+          [],
+          at,
+          λ image here.
+              let same = at_told (Only (images_now g new)) now told rest image here in
+              (subst (λ (l : List ℕ). IsAt (first_gate magic number) [] l) (sym same) at, ap (left_to_read (first_gate magic number)) same),
+        ))));
   }
 
   -- of at most 16 octets
@@ -245,7 +184,8 @@ module _ {D : Type 0} (g : Ghosts D) (magic : List ℕ) (blocks : ℕ) where
       → HasContent (g.content old) (g.content new) (λ before now. now ≡ after_recovery magic blocks before) → HasContent (g.content old) (g.content new) (IsFormatted blocks)
   new_formatted old new eight some most short has = told_weaker (g.content old) _ _ (λ before told now.
       let less = at_told _ before told short in
-      let is = new_store magic blocks now.0 eight some most (now.2 ∙ new_after magic blocks before less) in
+      let head = subst (λ (l : List ℕ). HasHeader magic blocks l) (append-nil (header_text magic blocks)) (header_written magic blocks [] eight some most) in
+      let is = two_gates magic blocks (header_text magic blocks) now.0 (header_length magic blocks eight) head (now.2 ∙ new_after magic blocks before less) in
       (now.0, now.1, record { head = is.0; long = is.1; octets = now.2; same = inr (of_short magic before less, is.2) })) has
 
   -- of more
@@ -259,9 +199,4 @@ module _ {D : Type 0} (g : Ghosts D) (magic : List ℕ) (blocks : ℕ) where
         (now.0, now.1, record { head = is.0; long = is.1; octets = now.2 ∙ sym (known_after magic blocks before more); same = inl is.2 }))
 
     pub known_leaves : Leaves g mid new IsFinishing → Leaves g old new (IsRecovering magic blocks)
-    known_leaves leaves = if_told (g.content old) _ (λ before told.
-        joined g.moment g.images_since old mid new (IsRecovering magic blocks before)
-        (reads g.moment g.images_since old mid (IsRecovering magic blocks before) only.same_moment only.same_past)
-        (weaker g.moment g.images_since mid new (IsFinishing before) (IsRecovering magic blocks before)
-        (λ image making. recovering_finishing magic blocks before number image (at_told _ before told head) making)
-        (at_told _ before (only.same_content ∙ told) leaves)))
+    known_leaves leaves = grind (arith, common_steps, reads, recovering_finishing, head)

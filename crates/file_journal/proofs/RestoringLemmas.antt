@@ -1,25 +1,25 @@
 -- The recovery of a state that is kept.
-use Rattle.std.proofs.Common.{◌≡◌, inl, inr, ⊎_elim, ℕ, ◌+◌, ◌<◌, ◌≤◌, Bool, true, false, not, nat_le, nat_lt, List, [], length, take, drop, Option, None, Some, IfSome, Result, Ok, Err, IsErrOf, refl, sym, ◌∙◌, ap, subst, arith}
+use Rattle.std.proofs.lemmas.Grind.{common_steps}
+use Rattle.std.proofs.Common.{◌≡◌, ◌↔◌, inl, inr, ⊎_elim, ℕ, ◌<◌, ◌≤◌, Bool, true, false, not, nat_le, nat_lt, List, [], length, take, drop, Option, None, Some, IfSome, Result, Ok, Err, IsErrOf, refl, sym, ◌∙◌, ap, subst, arith}
 use Rattle.std.specs.Prelude.{if◌then◌else◌}
 use Rattle.std.specs.Str.{bytes_eq}
 use Rattle.std.proofs.lemmas.Bool.{cases_lt, lt-ltb}
-use Rattle.std.proofs.lemmas.Bool.Decides.{nat_tests}
 use Rattle.px_base.specs.Numbers.{le32}
 use Rattle.px_base.specs.Outside.{Rose}
-use Rattle.disk_model.specs.Disk.{HasContent, Only}
+use Rattle.disk_model.specs.Disk.{Only}
 use Rattle.disk_model.specs.declared.disk.Disk.{Ghosts}
-use Rattle.file_journal.specs.Calls.{Becomes, ChangesReads, IsQuietNow, Leaves, Reads, Runs, TellsAlike, images_now}
+use Rattle.file_journal.specs.Calls.{ChangesReads, Leaves, Reads, Runs, TellsAlike, images_now}
 use Rattle.file_journal.specs.Form.{Form, standing_of}
 use Rattle.file_journal.specs.Journal as journal
 use Rattle.file_journal.specs.Journal.{after_recovery, is_block_number, journal_of}
-use Rattle.file_journal.specs.Kept.{StandsAt, kept_on}
-use Rattle.file_journal.specs.Ledger.{AppliesAll}
+use Rattle.file_journal.specs.Kept.{kept_on}
+use Rattle.file_journal.specs.Ledger.{AnswersAll, AppliesAll}
 use Rattle.file_journal.specs.Position.{Position, StandsOn}
 use Rattle.file_journal.specs.Records.{Reading, reading_from, whole}
 use Rattle.file_journal.specs.Recovery as recovering
 use Rattle.file_journal.specs.Recovery.{IsFailedSync, IsRecovering, IsSyncedFirst, Recovers}
 use Rattle.file_journal.specs.Refusals.{fault_of_read, fault_of_recovery}
-use Rattle.file_journal.specs.Restoring.{LeavesAlikeSinceSync, RefusesExactly, StandsAlike}
+use Rattle.file_journal.specs.Restoring.{AnswersRecovery, IsRestored, RefusesExactly, StandsAlike}
 use Rattle.file_journal.specs.Walk.{damaged_at, no_store, stands_of, state, walk_left}
 use Rattle.file_journal.specs.declared.faults.RecoverFault.{RecoverFault}
 use Rattle.file_journal.specs.declared.faults.RecoverFault.TheVariants as recovery
@@ -27,53 +27,43 @@ use Rattle.file_journal.specs.declared.faults.ReadFault.{ReadFault}
 use Rattle.file_journal.specs.declared.faults.ReadFault.TheVariants as read
 use Rattle.file_journal.specs.declared.faults.StoreFault.{StoreFault}
 use Rattle.file_journal.specs.declared.faults.StoreFault.TheVariants as fault
-use Rattle.file_journal.proofs.CallLemmas.{reads_now, stops_on, stops_reads}
+use Rattle.file_journal.proofs.CallLemmas.{changes_none, reads_now, stops_on, stops_reads}
 use Rattle.file_journal.proofs.MomentLemmas.{joined, reads, weaker}
 use Rattle.file_journal.proofs.ToldLemmas.{alike_on, alike_same, at_told, if_told, told_before, told_weaker}
-use Rattle.file_journal.proofs.WalkLemmas.{for_recovering, read_keeps, recovered_walk}
+use Rattle.file_journal.proofs.WalkLemmas.{for_recovering, read_keeps}
 
 -- ---- what is refused
 
+-- the answer of a recovery whose reading answers this
+abbrev pub IsAnswerOf : {U T : Type 0} → Result U ReadFault → Result T StoreFault → Type 0
+IsAnswerOf {U} {T} (Ok x) result = (y : T) × (result ≡ Ok y)
+IsAnswerOf (Err e) result = result ≡ Err (fault_of_read e)
+
 module _ {S C T : Type 0} (form : Form S C) (blocks : ℕ) (before : List ℕ) (result : Result T StoreFault) where
   exactly_no_store : (found : List ℕ) → standing_of form blocks before ≡ no_store found → result ≡ Err (fault.NotAStore found) → RefusesExactly form blocks before result
-  exactly_no_store found stands refused = record {
-    not_a_store = λ other. (
-      λ is. let same : found ≡ other = cc (sym refused ∙ is) in stands ∙ ap (λ (l : List ℕ). no_store l) same,
-      λ is. let same : found ≡ other = cc (sym stands ∙ is) in refused ∙ ap (λ (l : List ℕ). Err (fault.NotAStore l)) same,
-    );
-    damaged = λ at. (λ is. absurd (cc (sym refused ∙ is)), λ is. absurd (cc (sym stands ∙ is)));
-  }
+  exactly_no_store found stands answered = record { not_a_store = λ other. (λ is. cc, λ is. cc); damaged = λ at. (λ is. cc, λ is. cc) }
 
   exactly_damaged : (place : ℕ) → standing_of form blocks before ≡ damaged_at place → result ≡ Err (fault.Damaged place) → RefusesExactly form blocks before result
-  exactly_damaged place stands refused = record {
-    not_a_store = λ found. (λ is. absurd (cc (sym refused ∙ is)), λ is. absurd (cc (sym stands ∙ is)));
-    damaged = λ at. (
-      λ is. let same : place ≡ at = cc (sym refused ∙ is) in stands ∙ ap (λ (n : ℕ). damaged_at n) same,
-      λ is. let same : place ≡ at = cc (sym stands ∙ is) in refused ∙ ap (λ (n : ℕ). Err (fault.Damaged n)) same,
-    );
-  }
+  exactly_damaged place stands answered = record { not_a_store = λ other. (λ is. cc, λ is. cc); damaged = λ at. (λ is. cc, λ is. cc) }
 
-  pub exactly_state : (now : S) (x : T) → standing_of form blocks before ≡ state now → result ≡ Ok x → RefusesExactly form blocks before result
-  exactly_state now x stands answered = record {
-    not_a_store = λ found. (λ is. absurd (cc (sym answered ∙ is)), λ is. absurd (cc (sym stands ∙ is)));
-    damaged = λ at. (λ is. absurd (cc (sym answered ∙ is)), λ is. absurd (cc (sym stands ∙ is)));
-  }
+  exactly_state : (now : S) (x : T) → standing_of form blocks before ≡ state now → result ≡ Ok x → RefusesExactly form blocks before result
+  exactly_state now x stands answered = record { not_a_store = λ other. (λ is. cc, λ is. cc); damaged = λ at. (λ is. cc, λ is. cc) }
 
   -- a refusal of the journal
-  pub refused_recovery : {U : Type 0} (e : RecoverFault) → recovering.RefusesExactly {T = U} form.magic before (Err e) → result ≡ Err (fault_of_recovery e) → (result ≡ Err fault.Disk → ⊥)
-      → RefusesExactly form blocks before result
+  refused_recovery : {U : Type 0} (e : RecoverFault) → recovering.RefusesExactly {T = U} form.magic before (Err e) → result ≡ Err (fault_of_recovery e) → ¬ (result ≡ Err fault.Disk) → RefusesExactly form blocks before result
   refused_recovery (recovery.NotAStore found) refuses is healthy = exactly_no_store found (ap (stands_of form.fresh form.step blocks) ((refuses.not_a_store found).0 refl)) is
   refused_recovery (recovery.Damaged at) refuses is healthy =
       let bad = (refuses.damaged at).0 refl in
       exactly_damaged at (ap (stands_of form.fresh form.step blocks) bad.1 ∙ ap (λ (n : ℕ). damaged_at n) (sym bad.0)) is
   refused_recovery recovery.Disk refuses is healthy = absurd (healthy is)
 
-  -- a refusal of the reading
-  pub refused_read : {U : Type 0} (e : ReadFault) (first : Position) (start now : S) (octets : List ℕ) → standing_of form blocks before ≡ walk_left form.step first start octets
-      → AppliesAll {T = U} form.step first start now octets (Err e) → result ≡ Err (fault_of_read e) → (result ≡ Err fault.Disk → ⊥) → (result ≡ Err fault.OutOfMemory → ⊥) → RefusesExactly form blocks before result
-  refused_read (read.Damaged at) first start now octets left all is healthy room = exactly_damaged at (left ∙ (all.damaged at).0 refl) is
-  refused_read read.Disk first start now octets left all is healthy room = absurd (healthy is)
-  refused_read read.OutOfMemory first start now octets left all is healthy room = absurd (room is)
+  -- what is answered behind a reading
+  answered_read : {U : Type 0} (reading : Result U ReadFault) (first : Position) (start now : S) (octets : List ℕ) → standing_of form blocks before ≡ walk_left form.step first start octets
+      → AppliesAll form.step first start now octets reading → IsAnswerOf reading result → ¬ (result ≡ Err fault.Disk) → ¬ (result ≡ Err fault.OutOfMemory) → RefusesExactly form blocks before result
+  answered_read (Ok x) first start now octets left all is healthy room = exactly_state now is.0 (left ∙ all.ok) is.1
+  answered_read (Err (read.Damaged at)) first start now octets left all is healthy room = exactly_damaged at (left ∙ (all.damaged at).0 refl) is
+  answered_read (Err read.Disk) first start now octets left all is healthy room = absurd (healthy is)
+  answered_read (Err read.OutOfMemory) first start now octets left all is healthy room = absurd (room is)
 
 -- ---- damage is found behind a whole header alone
 
@@ -98,80 +88,21 @@ module _ {S C : Type 0} (form : Form S C) (blocks : ℕ) where
   formatted octets at good is = elim (cases_lt (length octets) 18) [ inl short ↦ absurd (short_damage octets at short good is) | inr long ↦ long ]
 
   stays : (octets : List ℕ) → 18 ≤ length octets → after_recovery form.magic blocks octets ≡ octets
-  stays octets long =
-      let a : nat_le (length octets) 16 ≡ false = grind (arith, nat_tests) in
-      let b : nat_lt (length octets) 18 ≡ false = grind (arith, nat_tests) in
-      rw (a, b) refl
+  stays octets long = grind (arith, common_steps)
 
   stands_alike : (before image : List ℕ) → IsRecovering form.magic blocks before image → StandsAlike form blocks before image
   stands_alike before image left = record { same = for_recovering form.step form.fresh form.magic blocks before image left; octets = left }
 
-  -- ---- a recovery of the journal, and a reading behind it
+  module _ {D : Type 0} (g : Ghosts D) (old mid new : D) where
+    leaves_alike : Leaves g old mid (IsRecovering form.magic blocks) → Leaves g old mid (StandsAlike form blocks)
+    leaves_alike leaves = told_weaker (g.content old) _ _ (λ before told left. weaker g.moment g.images_since old mid _ (StandsAlike form blocks before) (stands_alike before) left) leaves
 
-  module _ {D : Type 0} (g : Ghosts D) (old mid new : D) (only : ChangesReads g mid new) where
-    pub leaves_alike : Leaves g old mid (IsRecovering form.magic blocks) → Leaves g old new (StandsAlike form blocks)
-    leaves_alike leaves = told_weaker (g.content old) _ _ (λ before told left.
-        joined g.moment g.images_since old mid new (StandsAlike form blocks before)
-        (weaker g.moment g.images_since old mid (IsRecovering form.magic blocks before) (StandsAlike form blocks before) (stands_alike before) left)
-        (reads g.moment g.images_since mid new (StandsAlike form blocks before) only.same_moment only.same_past)) leaves
-
-    pub synced_alike : {T : Type 0} (result : Result T RecoverFault) → (IsErrOf result recovery.Disk → ⊥) → recovering.LeavesSinceSync g result old mid (IsRecovering form.magic blocks)
-        → IfSome (g.content old) (λ before. IsSyncedFirst g old new (StandsAlike form blocks before))
-    synced_alike result healthy leaves = told_weaker (g.content old) _ _ (λ before told left. ⊎_elim
-        (λ (synced : IsSyncedFirst g old mid (IsRecovering form.magic blocks before)). let now : IsSyncedFirst g old new (StandsAlike form blocks before) = record {
-          later = omega (arith, synced.later, only.same_moment);
-          each = λ image since. stands_alike before image (synced.each image ((only.same_past (g.moment old + 1) image).0 since));
-        } in now)
-        (λ (failed : IsErrOf result recovery.Disk × IsFailedSync g old mid). absurd (healthy failed.0))
-        left) leaves
+    synced_alike : (before : List ℕ) → ChangesReads g mid new → IsSyncedFirst g old mid (IsRecovering form.magic blocks before) → IsSyncedFirst g old new (StandsAlike form blocks before)
+    synced_alike before only synced = grind (arith, common_steps)
 
 untold : (before now : Option (List ℕ)) → TellsAlike before now → before ≡ None → now ≡ None
 untold before None alike none = refl
 untold before (Some x) alike none = let was = told_before before (Some x) x alike refl in absurd (cc (sym was.1 ∙ none))
-
-module _ {D S C : Type 0} (g : Ghosts D) (form : Form S C) (blocks : ℕ) (old mid new : D) (first position : Position) (start now : S) (recovered : recovering.IsRecovered g form.magic blocks old mid first)
-    (alike : TellsAlike (g.content old) (g.content mid)) (fresh : start ≡ form.fresh first.blocks) (only : ChangesReads g mid new) where
-  -- all is left to read
-  pub left_to_read : (before : List ℕ) → g.content old ≡ Some before
-      → (octets : List ℕ) × (g.content mid ≡ Some octets) × Recovers form.magic blocks first before octets × (standing_of form blocks before ≡ walk_left form.step first start octets)
-  left_to_read before told =
-      let has = at_told (λ (l : List ℕ). (octets : List ℕ) × (g.content mid ≡ Some octets) × Recovers form.magic blocks first l octets) before told recovered.content in
-      (has.0, has.1, has.2, recovered_walk form.step form.fresh form.magic blocks first before has.0 has.2 recovered.place ∙ ap (λ (s : S). walk_left form.step first s has.0) (sym fresh))
-
-  module _ (all : IfSome (g.content mid) (λ octets. walk_left form.step first start octets ≡ state now)) where
-    pub all_read : IfSome (g.content old) (λ before. standing_of form blocks before ≡ state now)
-    all_read = if_told (g.content old) _ (λ before told.
-        let left = left_to_read before told in
-        left.3 ∙ at_told (λ (octets : List ℕ). walk_left form.step first start octets ≡ state now) left.0 left.1 all)
-
-    pub state_kept : StandsOn g position new → position ≡ record first { place = position.place; ended = position.ended } → position.ended ≡ true → StandsAt g form (kept_on now position new)
-    state_kept stands same ended = record {
-      magic_is = ap (λ (p : Position). p.magic) same ∙ recovered.magic_is;
-      keeps = read_keeps g form.fresh form.step form.magic blocks old mid new first position now recovered alike stands same ended only
-          (told_weaker (g.content mid) _ _ (λ octets told is. ap (λ (s : S). walk_left form.step first s octets) (sym fresh) ∙ is) all);
-    }
-
-  -- the octets are those of the journal's recovery
-  pub octets_read : HasContent (g.content old) (g.content new) (Becomes (after_recovery form.magic blocks))
-  octets_read = if_told (g.content old) _ (λ before told.
-      let left = left_to_read before told in
-      (left.0, only.same_content ∙ left.1, left.2.octets))
-
-  pub quiet_read : IsQuietNow g new
-  quiet_read = if_told (g.content new) _ (λ octets told image here. at_told (Only (images_now g mid)) octets (sym only.same_content ∙ told) recovered.quiet image (reads_now g mid new only image here))
-
-  -- damage leaves the content as it was
-  pub damage_leaves : (at : ℕ) → IfSome (g.content old) (λ before. journal_of form.magic before ≡ journal.bad_number → ⊥) → IfSome (g.content mid) (λ octets. walk_left form.step first start octets ≡ damaged_at at)
-      → g.content new ≡ g.content old
-  damage_leaves at good damaged = by (g.content old) refl
-    where
-      by : (o : Option (List ℕ)) → g.content old ≡ o → g.content new ≡ g.content old
-      by None none = only.same_content ∙ untold (g.content old) (g.content mid) alike none ∙ sym none
-      by (Some before) told =
-          let left = left_to_read before told in
-          let is = left.3 ∙ at_told (λ (octets : List ℕ). walk_left form.step first start octets ≡ damaged_at at) left.0 left.1 damaged in
-          let long = formatted form blocks before at (at_told (λ (l : List ℕ). journal_of form.magic l ≡ journal.bad_number → ⊥) before told good) is in
-          only.same_content ∙ left.1 ∙ ap (λ (l : List ℕ). Some l) (left.2.octets ∙ stays form blocks before long) ∙ sym told
 
 -- ---- the calls of both
 
@@ -206,58 +137,96 @@ runs_same g P Q old new there back runs = record {
 
 -- ---- the faults of both
 
-pub recovery_disk : {T U : Type 0} (e : RecoverFault) → IsErrOf {T = T} (Err e) recovery.Disk → IsErrOf {T = U} (Err (fault_of_recovery e)) fault.Disk
-recovery_disk (recovery.NotAStore found) is = absurd (cc is)
-recovery_disk (recovery.Damaged at) is = absurd (cc is)
+recovery_disk : (e : RecoverFault) → fault_of_recovery e ≡ fault.Disk → e ≡ recovery.Disk
+recovery_disk (recovery.NotAStore found) is = cc
+recovery_disk (recovery.Damaged at) is = cc
 recovery_disk recovery.Disk is = refl
 
-pub recovery_disk_back : {T U : Type 0} (e : RecoverFault) → IsErrOf {T = U} (Err (fault_of_recovery e)) fault.Disk → IsErrOf {T = T} (Err e) recovery.Disk
-recovery_disk_back (recovery.NotAStore found) is = absurd (cc is)
-recovery_disk_back (recovery.Damaged at) is = absurd (cc is)
-recovery_disk_back recovery.Disk is = refl
+-- what the answer of a recovery tells of its reading's
+reads_fault : {U T : Type 0} (reading : Result U ReadFault) (result : Result T StoreFault) → IsAnswerOf reading result
+    → (IsErrOf reading read.Disk ↔ IsErrOf result fault.Disk) × (IsErrOf reading read.OutOfMemory → IsErrOf result fault.OutOfMemory)
+    × ((at : ℕ) → IsErrOf result (fault.Damaged at) → IsErrOf reading (read.Damaged at)) × ((found : List ℕ) → ¬ IsErrOf result (fault.NotAStore found))
+reads_fault (Ok x) result is = let answer = is.1 in ((λ was. cc, λ was. cc), λ was. cc, λ at was. cc, λ found was. cc)
+reads_fault (Err (read.Damaged place)) result is = ((λ was. cc, λ was. cc), λ was. cc, λ at was. cc, λ found was. cc)
+reads_fault (Err read.Disk) result is = ((λ was. cc, λ was. cc), λ was. cc, λ at was. cc, λ found was. cc)
+reads_fault (Err read.OutOfMemory) result is = ((λ was. cc, λ was. cc), λ was. cc, λ at was. cc, λ found was. cc)
 
-pub recovery_no_store : {T U : Type 0} (e : RecoverFault) (found : List ℕ) → IsErrOf {T = U} (Err (fault_of_recovery e)) (fault.NotAStore found) → IsErrOf {T = T} (Err e) recovery.Disk → ⊥
-recovery_no_store (recovery.NotAStore other) found is disk = cc disk
-recovery_no_store (recovery.Damaged at) found is disk = cc disk
-recovery_no_store recovery.Disk found is disk = cc is
+-- ---- what is answered
 
-pub recovery_damage : {T U : Type 0} (e : RecoverFault) (at : ℕ) → IsErrOf {T = U} (Err (fault_of_recovery e)) (fault.Damaged at) → IsErrOf {T = T} (Err e) recovery.Disk → ⊥
-recovery_damage (recovery.NotAStore found) at is disk = cc disk
-recovery_damage (recovery.Damaged place) at is disk = cc disk
-recovery_damage recovery.Disk at is disk = cc is
+module _ {D S C : Type 0} (g : Ghosts D) (form : Form S C) (blocks : ℕ) where
+  -- where the journal is refused
+  pub answers_refused : {U T : Type 0} (old new : D) (e : RecoverFault) (result : Result T StoreFault) → result ≡ Err (fault_of_recovery e) → recovering.Refuses {T = U} form.magic (g.content old) (Err e)
+      → (¬ IsErrOf {T = U} (Err e) recovery.Disk → g.content new ≡ g.content old) → Runs g (IsErrOf {T = U} (Err e) recovery.Disk) old new → Leaves g old new (IsRecovering form.magic blocks)
+      → recovering.LeavesSinceSync {T = U} g (Err e) old new (IsRecovering form.magic blocks) → AnswersRecovery g form blocks result old new
+  answers_refused {U} old new e result is refuses same runs since_start since_sync =
+      let there = λ (was : IsErrOf {T = U} (Err e) recovery.Disk). let is_disk : e ≡ recovery.Disk = cc in is ∙ ap (λ (e : RecoverFault). Err (fault_of_recovery e)) is_disk in
+      record {
+        refuses = λ healthy room. told_weaker (g.content old) _ _ (λ before told refuses. refused_recovery form blocks before result e refuses is healthy) (refuses (λ was. healthy (there was)));
+        untouched = λ found was. same (λ disk. cc (there disk, was));
+        untouched_damage = λ at was. same (λ disk. cc (there disk, was));
+        runs = runs_same g _ _ old new there (λ was. ap Err (recovery_disk e (cc (is, was)))) runs;
+        since_start = leaves_alike form blocks g old new new since_start;
+        since_sync = told_weaker (g.content old) _ _ (λ before told left. ⊎_elim (λ synced. inl (synced_alike form blocks g old new new before (changes_none g new) synced)) (λ failed. inr (there failed.0, failed.1)) left) since_sync;
+      }
 
-pub read_disk : {T U : Type 0} (e : ReadFault) → IsErrOf {T = T} (Err e) read.Disk → IsErrOf {T = U} (Err (fault_of_read e)) fault.Disk
-read_disk (read.Damaged at) is = absurd (cc is)
-read_disk read.Disk is = refl
-read_disk read.OutOfMemory is = absurd (cc is)
+  -- What was recovered, and read from then on.
+  module _ {P Q : Type 0} (old mid new : D) (first : Position) (start : S) (recovered : recovering.IsRecovered g form.magic blocks old mid first) (fine : ¬ P) (runs : Runs g P old mid)
+      (fresh : start ≡ form.fresh first.blocks) (run : Reads g Q mid new) where
+    -- all is left to read
+    left_to_read : (before : List ℕ) → g.content old ≡ Some before
+        → (octets : List ℕ) × (g.content mid ≡ Some octets) × Recovers form.magic blocks first before octets × (standing_of form blocks before ≡ walk_left form.step first start octets)
+    left_to_read before told = grind (arith, common_steps)
 
-pub read_disk_back : {T U : Type 0} (e : ReadFault) → IsErrOf {T = U} (Err (fault_of_read e)) fault.Disk → IsErrOf {T = T} (Err e) read.Disk
-read_disk_back (read.Damaged at) is = absurd (cc is)
-read_disk_back read.Disk is = refl
-read_disk_back read.OutOfMemory is = absurd (cc is)
+    -- a state was read
+    pub restored : (position : Position) (now : S) → IfSome (g.content mid) (λ octets. walk_left form.step first start octets ≡ state now) → StandsOn g position new → position ≡ record first { place = position.place; ended = position.ended }
+        → position.ended ≡ true → IsRestored g form blocks old (kept_on now position new)
+    restored position now all stands same ended = record {
+      content = if_told (g.content old) _ (λ before told. let left = left_to_read before told in left.3 ∙ at_told (λ (octets : List ℕ). walk_left form.step first start octets ≡ state now) left.0 left.1 all);
+      octets = if_told (g.content old) _ (λ before told. let left = left_to_read before told in (left.0, run.only.same_content ∙ left.1, left.2.octets));
+      healthy = ap (λ (p : Position). p.failed) same ∙ recovered.healthy;
+      ended = ended;
+      stands_at = record {
+        magic_is = ap (λ (p : Position). p.magic) same ∙ recovered.magic_is;
+        keeps = read_keeps g form.fresh form.step form.magic blocks old mid new first position now recovered runs.told stands same ended run.only
+            (told_weaker (g.content mid) _ _ (λ octets told is. ap (λ (s : S). walk_left form.step first s octets) (sym fresh) ∙ is) all);
+      };
+      quiet = if_told (g.content new) _ (λ octets told image here. at_told (Only (images_now g mid)) octets (sym run.only.same_content ∙ told) recovered.quiet image (reads_now g mid new run.only image here));
+    }
 
-pub read_memory : {T U : Type 0} (e : ReadFault) → IsErrOf {T = T} (Err e) read.OutOfMemory → IsErrOf {T = U} (Err (fault_of_read e)) fault.OutOfMemory
-read_memory (read.Damaged at) is = absurd (cc is)
-read_memory read.Disk is = absurd (cc is)
-read_memory read.OutOfMemory is = refl
+    -- damage leaves the content as it was
+    damage_leaves : (at : ℕ) → IfSome (g.content old) (λ before. journal_of form.magic before ≡ journal.bad_number → ⊥) → IfSome (g.content mid) (λ octets. walk_left form.step first start octets ≡ damaged_at at)
+        → g.content new ≡ g.content old
+    damage_leaves at good damaged = by (g.content old) refl
+      where
+        by : (o : Option (List ℕ)) → g.content old ≡ o → g.content new ≡ g.content old
+        by None none = run.only.same_content ∙ untold (g.content old) (g.content mid) runs.told none ∙ sym none
+        by (Some before) told =
+            let left = left_to_read before told in
+            let is = left.3 ∙ at_told (λ (octets : List ℕ). walk_left form.step first start octets ≡ damaged_at at) left.0 left.1 damaged in
+            let long = formatted form blocks before at (at_told (λ (l : List ℕ). journal_of form.magic l ≡ journal.bad_number → ⊥) before told good) is in
+            run.only.same_content ∙ left.1 ∙ ap (λ (l : List ℕ). Some l) (left.2.octets ∙ stays form blocks before long) ∙ sym told
 
-pub read_damage : {U : Type 0} (e : ReadFault) (at : ℕ) → IsErrOf {T = U} (Err (fault_of_read e)) (fault.Damaged at) → e ≡ read.Damaged at
-read_damage (read.Damaged place) at is = let same : place ≡ at = cc is in ap (λ (n : ℕ). read.Damaged n) same
-read_damage read.Disk at is = absurd (cc is)
-read_damage read.OutOfMemory at is = absurd (cc is)
-
-pub read_no_store : {U : Type 0} (e : ReadFault) (found : List ℕ) → IsErrOf {T = U} (Err (fault_of_read e)) (fault.NotAStore found) → ⊥
-read_no_store (read.Damaged place) found is = cc is
-read_no_store read.Disk found is = cc is
-read_no_store read.OutOfMemory found is = cc is
-
-pub sync_refused : {D S C U : Type 0} (T : Type 0) (g : Ghosts D) (form : Form S C) (blocks : ℕ) (old mid : D) (e : RecoverFault) (result : Result U StoreFault) → result ≡ Err (fault_of_recovery e)
-    → recovering.LeavesSinceSync {T = T} g (Err e) old mid (IsRecovering form.magic blocks) → LeavesAlikeSinceSync g form blocks result old mid
-sync_refused T g form blocks old mid e result is leaves =
-    told_weaker (g.content old) _ _ (λ before told left. ⊎_elim
-    (λ (synced : IsSyncedFirst g old mid (IsRecovering form.magic blocks before)). inl (record {
-      later = synced.later;
-      each = λ image since. stands_alike form blocks before image (synced.each image since);
-    }))
-    (λ (failed : IsErrOf {T = T} (Err e) recovery.Disk × IsFailedSync g old mid). inr (is ∙ recovery_disk e failed.0, failed.1))
-    left) leaves
+  pub answers_read : {U T : Type 0} (on : (a b c : D) → g.lasts a b → g.lasts b c → g.lasts a c) (same : (disk : D) → g.lasts disk disk) (old mid new : D) (first : Position) (start now : S)
+      (reading : Result U ReadFault) (result : Result T StoreFault) → IsAnswerOf reading result → start ≡ form.fresh first.blocks
+      → recovering.IsRecovered g form.magic blocks old mid first → recovering.Refuses form.magic (g.content old) (Ok first) → Runs g (IsErrOf (Ok first) recovery.Disk) old mid
+      → Leaves g old mid (IsRecovering form.magic blocks) → recovering.LeavesSinceSync g (Ok first) old mid (IsRecovering form.magic blocks)
+      → AnswersAll form.step first start now (g.content mid) reading → Reads g (IsErrOf reading read.Disk) mid new → AnswersRecovery g form blocks result old new
+  answers_read on same old mid new first start now reading result is fresh recovered refuses runs since_start since_sync all run =
+      let faults = reads_fault reading result is in
+      let fine : ¬ IsErrOf (Ok first) recovery.Disk = λ failed. cc in
+      record {
+        refuses = λ healthy room. if_told (g.content old) _ (λ before told.
+            let left = left_to_read old mid new first start recovered fine runs fresh run before told in
+            answered_read form blocks before result reading first start now left.0 left.3
+            (at_told _ left.0 left.1 (all (λ was. healthy (faults.0.0 was)) (λ was. room (faults.1 was)))) is healthy room);
+        untouched = λ found was. absurd (faults.3 found was);
+        untouched_damage = λ at was.
+            let damage = faults.2 at was in
+            damage_leaves old mid new first start recovered fine runs fresh run at (told_weaker (g.content old) _ _ (λ before told refuses bad. cc ((refuses.damaged 8).1 (refl, bad))) (refuses fine))
+            (told_weaker (g.content mid) _ _ (λ octets told applies. (applies.damaged at).0 damage) (all (λ disk. cc (disk, damage)) (λ memory. cc (memory, damage))));
+        runs = runs_read g on same _ _ _ old mid new fine faults.0.0 faults.0.1 runs run;
+        since_start = told_weaker (g.content old) _ _ (λ before told left.
+            joined g.moment g.images_since old mid new (StandsAlike form blocks before) left (reads g.moment g.images_since mid new (StandsAlike form blocks before) run.only.same_moment run.only.same_past))
+            (leaves_alike form blocks g old mid new since_start);
+        since_sync = told_weaker (g.content old) _ _ (λ before told left. ⊎_elim (λ synced. inl (synced_alike form blocks g old mid new before run.only synced)) (λ failed. absurd (fine failed.0)) left) since_sync;
+      }

@@ -1,23 +1,22 @@
 -- What stands on the disk from the recovery of a state on, through commands.
-use Rattle.std.proofs.Common.{◌≡◌, inr, ⊎_elim, ℕ, ◌+◌, List, ◌++◌, length, Some, IfSome, refl, ◌∙◌, ap, subst, arith}
-use Rattle.px_base.specs.Outside.{Rose}
+use Rattle.std.proofs.Common.{◌≡◌, ⊎_elim, ℕ, ◌+◌, List, ◌++◌, Some, IfSome, refl, ◌∙◌, ap, subst, arith}
 use Rattle.disk_model.specs.declared.disk.Disk.{Ghosts}
 use Rattle.file_journal.specs.AmongReads.{CountsSome, PutsAmongReads}
-use Rattle.file_journal.specs.Calls.{EachImage, Leaves, Puts, Runs, TellsAlike}
-use Rattle.file_journal.specs.Commands.{MakesFirst, after_all}
+use Rattle.file_journal.specs.Calls.{EachImage, Leaves, Runs, TellsAlike}
+use Rattle.file_journal.specs.Commands.{MakesFirst}
 use Rattle.file_journal.specs.Form.{Form, StandsFor, TellsItsNumber, standing_of}
 use Rattle.file_journal.specs.Kept.{Course, DoesByFours, KeptOn}
 use Rattle.file_journal.specs.Position.{Position}
 use Rattle.file_journal.specs.Recovery.{IsSyncedFirst}
 use Rattle.file_journal.specs.Restoring.{StandsAlike}
-use Rattle.file_journal.specs.Through.{CountsWrites, IsInterrupted, StandsThrough}
+use Rattle.file_journal.specs.Through.{StandsThrough}
 use Rattle.file_journal.specs.Walk.{state}
-use Rattle.file_journal.proofs.CallLemmas.{counts_on, stops_on}
+use Rattle.file_journal.proofs.AmongLemmas.{among_on}
 use Rattle.file_journal.proofs.CommandLemmas.{makes_none}
 use Rattle.file_journal.proofs.DoesLemmas.{cut_least}
 use Rattle.file_journal.proofs.KeptLemmas.{images_here}
 use Rattle.file_journal.proofs.MomentLemmas.{joined, weaker}
-use Rattle.file_journal.proofs.ToldLemmas.{alike_on, at_told, if_told, told_before, told_weaker}
+use Rattle.file_journal.proofs.ToldLemmas.{at_told, if_told, told_before, told_weaker}
 
 -- A recovery that gave a state, and then commands, of which the disk may have cut off the last: all of them together, and
 -- the two parts.
@@ -38,26 +37,6 @@ module _ {D S C : Type 0} (g : Ghosts D) (form : Form S C) (own : TellsItsNumber
   -- what is so where the recovered content is told
   since_told : (P : Type 0) → IfSome (g.content start.disk) (λ _. P) → IfSome (g.content disk) (λ _. P)
   since_told P is = if_told (g.content disk) _ (λ before told. let there = later_told before told in at_told (λ (_ : List ℕ). P) there.0 there.1 is)
-
-  interrupted_here : failed → IsInterrupted g form start.now (done ++ cut) (length done) (g.moment start.disk) disk new.disk
-  interrupted_here stopped =
-      let both = cut_least g form first_course second_course course ⊥ failed done cut start between new (λ never. never) between_alike first second (second.cut stopped) in
-      record {
-        count = both.0.count;
-        no_less = both.1;
-        fewer = both.0.fewer;
-        images = both.0.images;
-        stay = since_told _ both.0.stay;
-        calls = since_told _ both.0.calls;
-        at_most = since_told _ both.0.at_most;
-      }
-
-  -- where the disk didn't fail
-  done_here : ¬ failed → EachImage g new.disk (StandsFor form (after_all form.after start.now (done ++ cut)))
-  done_here fine =
-      let made = all.done fine in
-      subst (λ (s : S). EachImage g new.disk (StandsFor form s)) made.0
-      (images_here form g new (record { magic_is = ap (λ (p : Position). p.magic) all.journal ∙ magic_is; keeps = all.stands_on }) made.1)
 
   pub stands_through : (stands : StandsThrough g form failed start.now done cut disk new.disk) × (stands.ready ≡ g.moment start.disk)
   stands_through = (
@@ -84,8 +63,21 @@ module _ {D S C : Type 0} (g : Ghosts D) (form : Form S C) (own : TellsItsNumber
       after_sync = told_weaker (g.content disk) _ _ (λ before told synced. synced.later) since_sync;
       stay = λ fine. since_told _ (all.stay fine);
       calls = λ fine. since_told _ (all.calls fine);
-      all_done = done_here;
-      interrupted = interrupted_here;
+      all_done = λ fine.
+          let made = all.done fine in
+          subst (λ (s : S). EachImage g new.disk (StandsFor form s)) made.0
+          (images_here form g new (record { magic_is = ap (λ (p : Position). p.magic) all.journal ∙ magic_is; keeps = all.stands_on }) made.1);
+      interrupted = λ stopped.
+          let both = cut_least g form first_course second_course course ⊥ failed done cut start between new (λ never. never) between_alike first second (second.cut stopped) in
+          record {
+            count = both.0.count;
+            no_less = both.1;
+            fewer = both.0.fewer;
+            images = both.0.images;
+            stay = since_told _ both.0.stay;
+            calls = since_told _ both.0.calls;
+            at_most = since_told _ both.0.at_most;
+          };
     },
     refl,
   )
@@ -94,45 +86,10 @@ module _ {D S C : Type 0} (g : Ghosts D) (form : Form S C) (own : TellsItsNumber
 
 module _ {D : Type 0} (g : Ghosts D) (on : (first second third : D) → g.lasts first second → g.lasts second third → g.lasts first third) (P failed : Type 0) (old mid new : D) (fine : ¬ P)
     (first : Runs g P old mid) where
-  -- writes and syncs behind a recovery
-  pub runs_puts : Puts g failed mid new → Runs g failed old new
-  runs_puts second =
-      let same = first.faults.same fine in
-      record {
-        told = alike_on _ _ _ first.told second.told;
-        faults = record {
-          reads = omega (arith, same.0, second.reads);
-          writes = omega (arith, same.1, second.faults.no_less);
-          rose = λ stopped. inr (subst (λ (n : ℕ). Rose n (g.write_faults new)) same.1 (second.faults.rose stopped));
-          same = λ still. (second.reads ∙ same.0, second.faults.same still ∙ same.1);
-        };
-        stops = stops_on g on old mid new first.lasts same.0 same.1 second.stops;
-        lasts = on old mid new first.lasts second.lasts;
-      }
-
-  -- and with reads among them
+  -- writes and syncs behind a recovery, with reads among them
   pub runs_among : PutsAmongReads g failed mid new → PutsAmongReads g failed old new
-  runs_among second =
-      let same = first.faults.same fine in
-      record {
-        told = alike_on _ _ _ first.told second.told;
-        reads = omega (arith, same.0, second.reads);
-        faults = counts_on _ _ _ failed same.1 second.faults;
-        stops = record {
-          last = second.stops.last;
-          lasts = on old mid second.stops.last first.lasts second.stops.lasts;
-          writes = second.stops.writes ∙ same.1;
-          since = second.stops.since;
-        };
-        lasts = on old mid new first.lasts second.lasts;
-      }
+  runs_among second = let same = first.faults.same fine in among_on g on failed old mid new first.lasts first.told (omega (arith, same.0)) same.1 second
 
   -- no more reads that failed are told of than were counted
   pub runs_missed : (missed : ℕ) → CountsSome (g.read_faults mid) (g.read_faults new) missed → CountsSome (g.read_faults old) (g.read_faults new) missed
   runs_missed missed second = subst (λ (n : ℕ). CountsSome n (g.read_faults new) missed) (first.faults.same fine).0 second
-
-  -- writes and syncs alone leave the count of failed reads as it was
-  pub counts_writes : Puts g failed mid new → CountsWrites g failed old new
-  counts_writes second =
-      let same = first.faults.same fine in
-      record { reads = second.reads ∙ same.0; writes = counts_on _ _ _ failed same.1 second.faults }

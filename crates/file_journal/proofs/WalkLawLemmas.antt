@@ -1,20 +1,14 @@
 -- What is read comes to what the walk over it gives, and to nothing else.
-use Rattle.std.proofs.Common.{◌≡◌, ◌⊎◌, inl, inr, ℕ, ◌+◌, List, [], ◌∷◌, length, Option, None, Some, refl, sym, ◌∙◌, ap, subst, arith, append-nil, length-append}
+use Rattle.std.proofs.lemmas.Grind.{common_steps}
+use Rattle.std.proofs.Common.{◌≡◌, ◌⊎◌, inl, inr, ℕ, ◌+◌, List, [], ◌∷◌, length, Option, None, Some, refl, sym, ◌∙◌, ap, subst, arith, length-append}
 use Rattle.file_journal.specs.Journal as journal
 use Rattle.file_journal.specs.Journal.{Standing}
 use Rattle.file_journal.specs.Laws.{ComesTo, IsOneWalk, IsRefusedAt}
 use Rattle.file_journal.specs.Ledger.{Takes}
 use Rattle.file_journal.specs.Records.{Reading, Record, broken, records_text, whole, with_record, with_records}
 use Rattle.file_journal.specs.Walk.{Stands, damaged_at, no_store, stands_of, state, walk}
-use Rattle.file_journal.proofs.ReadingLemmas.{with_records-broken, with_records-whole}
+use Rattle.file_journal.proofs.ReadingLemmas.{all_broken, all_whole}
 use Rattle.file_journal.proofs.WalkLemmas.{walk_on, walk_on_all, walk_refused}
-
--- a reading is its records and what ends it
-all_whole : (entries : List Record) → with_records entries (whole []) ≡ whole entries
-all_whole entries = with_records-whole entries [] ∙ ap whole (append-nil entries)
-
-all_broken : (entries : List Record) (at : ℕ) → with_records entries (broken [] at) ≡ broken entries at
-all_broken entries at = with_records-broken entries [] at ∙ ap (λ (l : List Record). broken l at) (append-nil entries)
 
 module _ {S : Type 0} (step : S → Record → Option S) where
   -- what is read comes to nothing else
@@ -74,10 +68,7 @@ module _ {S : Type 0} (step : S → Record → Option S) where
       subst (λ (r : Reading). Comes before place r) (all_broken entries at) (comes_all entries (broken [] at) (λ s n. ([], s, refl, inl refl)) before place)
 
   pub one_walk : IsOneWalk step
-  one_walk before place reading stands = (
-    walk_from before place reading stands,
-    λ is. subst (λ (s : Stands S). ComesTo step before place reading s) (sym is) (comes before place reading),
-  )
+  one_walk before place reading stands = grind (arith, common_steps, walk_from, comes)
 
   -- what each allowed record keeps is kept by all
   pub takes_keeps : (P : S → Type 0) → ((before after : S) (entry : Record) → P before → step before entry ≡ Some after → P after)

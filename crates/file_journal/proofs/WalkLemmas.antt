@@ -1,17 +1,16 @@
 -- What a walk over records comes to, and how appends and recoveries keep what octets stand for.
-use Rattle.std.proofs.Common.{◌≡◌, ◌↔◌, inl, inr, ℕ, ◌+◌, true, false, true≢false, List, [], ◌∷◌, ◌++◌, length, Bool, Option, None, Some, IfSome, Result, Ok, Err, IsErrOf, OnOk, refl, sym, ◌∙◌, ap, ap₂, arith, length-append}
+use Rattle.std.proofs.lemmas.Grind.{common_steps}
+use Rattle.std.proofs.Common.{◌≡◌, inl, inr, ℕ, ◌+◌, true, false, List, [], ◌∷◌, ◌++◌, length, Option, None, Some, IfSome, refl, sym, ◌∙◌, ap, ap₂, arith, length-append}
 use Rattle.disk_model.specs.declared.disk.Disk.{Ghosts}
 use Rattle.file_journal.specs.Appending.{Appends}
-use Rattle.file_journal.specs.Calls.{ChangesReads, TakesStep, TellsAlike, images_now}
+use Rattle.file_journal.specs.Calls.{ChangesReads, TakesStep, TellsAlike}
 use Rattle.file_journal.specs.Journal as journal
 use Rattle.file_journal.specs.Journal.{journal_of, store_of, with_last}
 use Rattle.file_journal.specs.Ledger.{Takes}
-use Rattle.file_journal.specs.Position.{Position, StandsOn, left_to_read}
+use Rattle.file_journal.specs.Position.{Position, StandsOn}
 use Rattle.file_journal.specs.Records.{Reading, Record, broken, records_text, whole, with_end, with_record, with_records}
-use Rattle.file_journal.specs.Recovery.{IsRecovered, IsRecovering, Recovers}
+use Rattle.file_journal.specs.Recovery.{IsRecovered, IsRecovering}
 use Rattle.file_journal.specs.Walk.{IsOneStep, KeepsState, StandAsBefore, StandFor, Stands, StandsForSame, damaged_at, number_or, on_from, stands_for, stands_of, state, walk, walk_left, walk_over}
-use Rattle.file_journal.specs.declared.faults.JournalFault.{JournalFault}
-use Rattle.file_journal.specs.declared.faults.JournalFault.TheVariants as fault
 use Rattle.file_journal.proofs.ToldLemmas.{at_told, content_now, if_told}
 
 -- What comes of a gate is what comes of each state behind it.
@@ -25,20 +24,20 @@ on_none place None f now each is = cc is
 on_none place (Some t) f now each is = each t is
 
 module _ {S : Type 0} (step : S → Record → Option S) where
-  -- a record in front, which is allowed
+  -- a record in front
+  walk_front : (before : S) (place : ℕ) (entry : Record) (reading : Reading)
+      → walk step before place (with_record entry reading) ≡ on_from place (step before entry) (λ t. walk step t (place + 4 + length entry.content) reading)
+  walk_front before place entry (whole entries) = refl
+  walk_front before place entry (broken entries at) = refl
+
+  -- one which is allowed
   pub walk_on : (before after : S) (place : ℕ) (entry : Record) (reading : Reading) → step before entry ≡ Some after
       → walk step before place (with_record entry reading) ≡ walk step after (place + 4 + length entry.content) reading
-  walk_on before after place entry (whole entries) allowed =
-      ap (λ (o : Option S). on_from place o (λ t. walk_over step (λ s. state s) t (place + 4 + length entry.content) entries)) allowed
-  walk_on before after place entry (broken entries at) allowed =
-      ap (λ (o : Option S). on_from place o (λ t. walk_over step (λ s. damaged_at at) t (place + 4 + length entry.content) entries)) allowed
+  walk_on before after place entry reading allowed = walk_front before place entry reading ∙ ap (λ (o : Option S). on_from place o (λ t. walk step t (place + 4 + length entry.content) reading)) allowed
 
   -- and one that isn't
   pub walk_refused : (before : S) (place : ℕ) (entry : Record) (reading : Reading) → step before entry ≡ None → walk step before place (with_record entry reading) ≡ damaged_at place
-  walk_refused before place entry (whole entries) refused =
-      ap (λ (o : Option S). on_from place o (λ t. walk_over step (λ s. state s) t (place + 4 + length entry.content) entries)) refused
-  walk_refused before place entry (broken entries at) refused =
-      ap (λ (o : Option S). on_from place o (λ t. walk_over step (λ s. damaged_at at) t (place + 4 + length entry.content) entries)) refused
+  walk_refused before place entry reading refused = walk_front before place entry reading ∙ ap (λ (o : Option S). on_from place o (λ t. walk step t (place + 4 + length entry.content) reading)) refused
 
   -- records in front, each of which is allowed
   pub walk_on_all : (entries : List Record) (before after : S) (place : ℕ) (reading : Reading) → Takes step before entries after
@@ -96,49 +95,16 @@ module _ {S : Type 0} (step : S → Record → Option S) where
     pub for_recovering : (before image : List ℕ) → IsRecovering magic blocks before image → StandAsBefore fresh step magic blocks before image
     for_recovering before image left = for_same fresh blocks (journal_of magic before) (journal_of magic image) left.same
 
-    -- what it makes
-    pub for_recovered : (first : Position) (before now : List ℕ) → Recovers magic blocks first before now → StandAsBefore fresh step magic blocks before now
-    for_recovered first before now made = for_same fresh blocks (journal_of magic before) (journal_of magic now) made.same
-
-    -- all is left to read
-    pub recovered_walk : (first : Position) (before now : List ℕ) → Recovers magic blocks first before now → first.place ≡ 16
-        → stands_for fresh step magic blocks before ≡ walk_left step first (fresh first.blocks) now
-    recovered_walk first before now made at =
-        sym (for_recovered first before now made)
-        ∙ ap (stands_of fresh step blocks) made.whole
-        ∙ ap (λ (n : ℕ). walk step (fresh first.blocks) n (left_to_read first now)) (sym at)
-
 -- What a journal keeps.
 module _ {D S : Type 0} (g : Ghosts D) (fresh : ℕ → S) (step : S → Record → Option S) where
   -- one that has failed keeps any state
   pub failed_keeps : (position : Position) (now : S) (disk : D) → position.failed ≡ true → StandsOn g position disk → KeepsState fresh step g position now disk
-  failed_keeps position now disk failed stands = record {
-    stands_on = stands;
-    ended = λ fine. absurd (true≢false (sym failed ∙ fine));
-    content = λ fine. absurd (true≢false (sym failed ∙ fine));
-    images = λ fine. absurd (true≢false (sym failed ∙ fine));
-  }
-
-  -- each image is the content's store
-  same_images : (position : Position) (disk : D) → position.failed ≡ false → StandsOn g position disk
-      → IfSome (g.content disk) (λ octets. (image : List ℕ) → images_now g disk image → journal_of position.magic image ≡ journal_of position.magic octets)
-  same_images position disk fine (inl failed) = absurd (true≢false (sym failed ∙ fine))
-  same_images position disk fine (inr stands) = if_told (g.content disk) _ (λ octets told image here.
-      let at = at_told _ octets told stands in
-      let there = at.2 image here in
-      there.0.records ∙ ap (λ (r : Reading). store_of position.blocks (with_records at.0 r)) there.1 ∙ sym at.1.records)
+  failed_keeps position now disk failed stands = grind (arith, common_steps)
 
   -- one that stands on its disk and has read its end keeps what the content stands for
   pub stands_keeps : (position : Position) (now : S) (disk : D) → StandsOn g position disk → (position.failed ≡ false → position.ended ≡ true)
       → (position.failed ≡ false → IfSome (g.content disk) (StandFor fresh step position now)) → KeepsState fresh step g position now disk
-  stands_keeps position now disk stands ended content = record {
-    stands_on = stands;
-    ended = ended;
-    content = content;
-    images = λ fine. if_told (g.content disk) _ (λ octets told image here.
-        ap (stands_of fresh step position.blocks) (at_told _ octets told (same_images position disk fine stands) image here)
-        ∙ at_told (StandFor fresh step position now) octets told (content fine));
-  }
+  stands_keeps position now disk stands ended content = grind (arith, common_steps)
 
   -- One that was recovered and read to its end.
   pub read_keeps : (magic : List ℕ) (blocks : ℕ) (old mid new : D) (first position : Position) (now : S)
@@ -146,35 +112,15 @@ module _ {D S : Type 0} (g : Ghosts D) (fresh : ℕ → S) (step : S → Record 
       → StandsOn g position new → position ≡ record first { place = position.place; ended = position.ended } → position.ended ≡ true
       → ChangesReads g mid new → IfSome (g.content mid) (λ octets. walk_left step first (fresh first.blocks) octets ≡ state now)
       → KeepsState fresh step g position now new
-  read_keeps magic blocks old mid new first position now recovered alike stands same ended only comes =
-      stands_keeps position now new stands (λ fine. ended)
-      (λ fine. if_told (g.content new) _ (λ octets told.
-      let told_mid = sym only.same_content ∙ told in
-      let was = content_now _ _ (Recovers magic blocks first) octets alike recovered.content told_mid in
-      let is_magic : position.magic ≡ magic = ap (λ (p : Position). p.magic) same ∙ recovered.magic_is in
-      ap (λ (l : List ℕ). stands_of fresh step position.blocks (journal_of l octets)) is_magic
-      ∙ ap (stands_of fresh step position.blocks) was.2.whole
-      ∙ ap (λ (n : ℕ). walk step (fresh first.blocks) n (left_to_read first octets)) (sym recovered.place)
-      ∙ at_told _ octets told_mid comes))
+  read_keeps magic blocks old mid new first position now recovered alike stands same ended only comes = grind (arith, common_steps)
 
   -- An append of a record that the state allows.
   module _ (old new : D) (position after : Position) (s t : S) (entry : Record) (keeps : KeepsState fresh step g position s old) (allowed : step s entry ≡ Some t) where
-    for_next : (octets now : List ℕ) → StandFor fresh step position s octets → journal_of position.magic now ≡ with_last (journal_of position.magic octets) entry → StandFor fresh step position t now
-    for_next octets now is made =
-        ap (stands_of fresh step position.blocks) made ∙ one_step step fresh position.blocks (journal_of position.magic octets) s t entry is allowed
-
-    pub append_keeps : {T : Type 0} (result : Result T JournalFault) → StandsOn g after new → after ≡ record position { place = after.place; failed = after.failed }
-        → OnOk result (TakesStep g old new (Appends position entry)) → IsErrOf result fault.Failed ↔ (position.failed ≡ true) → TellsAlike (g.content old) (g.content new)
-        → OnOk result (KeepsState fresh step g after t new)
-    append_keeps (Err e) stands same ok failed alike = tt
-    append_keeps (Ok x) stands same ok failed alike =
-        let healthy : position.failed ≡ false = not_failed position.failed refl in
+    pub append_keeps : position.failed ≡ false → StandsOn g after new → after ≡ record position { place = after.place; failed = after.failed } → TakesStep g old new (Appends position entry)
+        → TellsAlike (g.content old) (g.content new) → KeepsState fresh step g after t new
+    append_keeps healthy stands same ok alike =
         stands_keeps after t new stands (λ fine. ap (λ (p : Position). p.ended) same ∙ keeps.ended healthy)
         (λ fine. if_told (g.content new) _ (λ octets told.
         let was = content_now _ _ (Appends position entry) octets alike ok told in
-        let is = at_told (StandFor fresh step position s) was.0 was.1 (keeps.content healthy) in
-        ap (λ (p : Position). stands_for fresh step p.magic p.blocks octets) same ∙ for_next was.0 octets is was.2.store))
-      where
-        not_failed : (b : Bool) → position.failed ≡ b → position.failed ≡ false
-        not_failed true is = absurd (cc (failed.1 is))
-        not_failed false is = is
+        ap (λ (p : Position). stands_for fresh step p.magic p.blocks octets) same ∙ ap (stands_of fresh step position.blocks) was.2.store
+        ∙ one_step step fresh position.blocks (journal_of position.magic was.0) s t entry (at_told (StandFor fresh step position s) was.0 was.1 (keeps.content healthy)) allowed))

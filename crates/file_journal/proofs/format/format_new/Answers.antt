@@ -1,11 +1,11 @@
-use Rattle.std.proofs.Common.{◌≡◌, ◌≤◌, ℕ, List, [], ◌∷◌, ◌++◌, length, take, IsErr, rules, sym, ◌∙◌, ap, subst, arith, take_all}
+use Rattle.std.proofs.Common.{◌≡◌, ◌≤◌, ℕ, List, [], ◌∷◌, ◌++◌, length, take, rules, sym, ◌∙◌, ap, subst, arith, take_all}
 use Rattle.disk_model.specs.Disk.{Writes}
 use Rattle.file_journal.specs.Calls.{Becomes}
 use Rattle.file_journal.specs.Formatting.{IsMakingGates}
 use Rattle.file_journal.specs.Journal.{after_recovery, header_text}
 use Rattle.file_journal.specs.Recovery.{IsRecovering}
-use Rattle.file_journal.proofs.CallLemmas.{makes_failed, makes_on, quiet_images}
-use Rattle.file_journal.proofs.FormatLemmas.{all_by, torn_only}
+use Rattle.file_journal.proofs.CallLemmas.{makes_failed, makes_on}
+use Rattle.file_journal.proofs.FormatLemmas.{all_by, torn_quiet}
 use Rattle.file_journal.proofs.JournalLemmas.{header_length}
 use Rattle.file_journal.proofs.RecoverLemmas.{new_after, recovering_gates, recovering_short}
 use Rattle.file_journal.proofs.ToldLemmas.{at_told}
@@ -15,17 +15,15 @@ pub returns-in_err-write_synced : goal.returns-in_err-write_synced
 returns-in_err-write_synced g c =
     let D = g.D.Disk in
     let old = c.args.disk.now in
-    let failed : IsErr c.from_residual.result = search rules in
-    let was : IsErr c.write_synced.result = search rules in
     let eight : length c.args.magic ≡ 8 = search rules in
     let text : c.as_slice.result.now ≡ header_text c.args.magic c.args.blocks = c.as_slice.ensures.value ∙ c.encode_header.ensures in
     let size : length c.as_slice.result.now ≡ 16 = ap length text ∙ header_length c.args.magic c.args.blocks eight in
-    makes_failed D c.write_synced.result c.from_residual.result old c.write_synced.new.disk _ _ _ _ failed
+    makes_failed D c.write_synced.result c.from_residual.result old c.write_synced.new.disk _ _ _ _ (search rules)
     (λ before image told torn.
     let short = at_told _ before told c.requires.short in
-    let left = torn_only 0 _ before _ (quiet_images D old (g.met.D.Disk.counts_now old) c.requires.quiet before told) image torn in
+    let left = torn_quiet D old (g.met.D.Disk.counts_now old) c.requires.quiet 0 _ before told image torn in
     recovering_short c.args.magic c.args.blocks before short image (omega (arith, left.no_longer, size, short)))
-    c.write_synced.ensures.makes was
+    c.write_synced.ensures.makes (search rules)
 
 pub returns : goal.returns
 returns g c =
@@ -45,7 +43,7 @@ returns g c =
     ∙ sym (new_after c.args.magic c.args.blocks before short))
     (λ before image told torn.
     let short = at_told _ before told c.requires.short in
-    let left = torn_only 0 _ before _ (quiet_images D old (g.met.D.Disk.counts_now old) c.requires.quiet before told) image torn in
+    let left = torn_quiet D old (g.met.D.Disk.counts_now old) c.requires.quiet 0 _ before told image torn in
     recovering_short c.args.magic c.args.blocks before short image (omega (arith, left.no_longer, size, short)))
     (λ before middle image told told_mid put making.
     let short = at_told _ before told c.requires.short in

@@ -1,7 +1,7 @@
 use Rattle.std.proofs.Common.{arith}
 use Rattle.file_journal.specs.Formatting.{IsMakingEven, MakesEven}
-use Rattle.file_journal.proofs.CallLemmas.{makes_weaker, quiet_images}
-use Rattle.file_journal.proofs.FormatLemmas.{even_by, even_crash, torn_only}
+use Rattle.file_journal.proofs.CallLemmas.{makes_weaker}
+use Rattle.file_journal.proofs.FormatLemmas.{even_by, even_crash, torn_quiet}
 use Rattle.file_journal.proofs.ToldLemmas.{at_told}
 use Rattle.file_journal.proofs.format.make_selector_even.Goals as goal
 
@@ -13,5 +13,5 @@ returns g c =
     (λ before now told writes.
     even_by before now (at_told _ before told c.requires.long) (omega (arith, at_told _ before told c.requires.selector)) writes)
     (λ before image told torn.
-    even_crash before image (at_told _ before told c.requires.long) (torn_only 15 1 before _ (quiet_images D old (g.met.D.Disk.counts_now old) c.requires.quiet before told) image torn))
+    even_crash before image (at_told _ before told c.requires.long) (torn_quiet D old (g.met.D.Disk.counts_now old) c.requires.quiet 15 1 before told image torn))
     c.write_synced.ensures.makes

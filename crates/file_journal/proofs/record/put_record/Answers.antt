@@ -1,21 +1,15 @@
-use Rattle.std.proofs.Common.{[], ◌∷◌, List, ℕ, inl, IsErr, rules, subst}
+use Rattle.std.proofs.Common.{arith, [], ◌∷◌, List, ℕ, inl, subst}
+use Rattle.std.proofs.lemmas.Grind.{common_steps}
 use Rattle.disk_model.specs.Disk.{Torn, Writes}
 use Rattle.file_journal.specs.Appending.{IsPutting, OpensGate}
-use Rattle.file_journal.proofs.CallLemmas.{makes_failed, makes_on, quiet_images}
-use Rattle.file_journal.proofs.FormatLemmas.{torn_only}
+use Rattle.file_journal.proofs.CallLemmas.{makes_failed, makes_on}
+use Rattle.file_journal.proofs.FormatLemmas.{torn_quiet}
 use Rattle.file_journal.proofs.PutLemmas.{gate_crash, opened_by, staged_by}
 use Rattle.file_journal.proofs.ToldLemmas.{at_told}
 use Rattle.file_journal.proofs.record.put_record.Goals as goal
 
 pub returns-in_err-write_synced-clause-makes : goal.returns-in_err-write_synced-clause-makes
-returns-in_err-write_synced-clause-makes g c =
-    let D = g.D.Disk in
-    let old = c.args.disk.now in
-    let failed : IsErr c.from_residual.result = search rules in
-    let was : IsErr c.write_synced.result = search rules in
-    makes_failed D c.write_synced.result c.from_residual.result old c.write_synced.new.disk _ _ _ _ failed
-    (λ before image told torn. inl torn)
-    c.write_synced.ensures.makes was
+returns-in_err-write_synced-clause-makes g c = grind (arith, common_steps, inl, makes_failed)
 
 pub returns-clause-makes : goal.returns-clause-makes
 returns-clause-makes g c =
@@ -35,4 +29,4 @@ returns-clause-makes g c =
     let there = at_told _ before told c.requires.gate in
     gate_crash place text before there (D.images old) image
     (subst (λ (l : List ℕ). Torn place 1 l image) (staged_by place text before there middle put)
-    (torn_only place 1 middle _ (quiet_images D mid (g.met.D.Disk.counts_now mid) first.quiet middle told_mid) image torn)))
+    (torn_quiet D mid (g.met.D.Disk.counts_now mid) first.quiet place 1 middle told_mid image torn)))

@@ -1,4 +1,5 @@
 use Rattle.std.proofs.Common.{rules, ◌≡◌, List, ℕ, take, ◌∙◌, arith, ap, drop, subst, sym}
+use Rattle.std.proofs.lemmas.Grind.{common_steps}
 use Rattle.file_journal.specs.Records.{HasRecord, record_of}
 use Rattle.std.proofs.lemmas.List.{length-take-le}
 use Rattle.file_journal.proofs.NextLemmas.{refuses_at}
@@ -7,26 +8,14 @@ use Rattle.file_journal.proofs.ToldLemmas.{at_told, if_told}
 use Rattle.file_journal.proofs.record.read_record.Goals as goal
 
 pub returns-then-place-end-clause-refuses : goal.returns-then-place-end-clause-refuses
-returns-then-place-end-clause-refuses g c =
-    refuses_at c.args.place _ (if_told (g.D.Disk.content c.args.disk.now) _ (λ octets told.
-    read_past c.args.place octets (omega (arith, at_told _ octets told c.in_ok-end.ensures.len, c.if-place-end.true))))
+returns-then-place-end-clause-refuses g c = grind (arith, common_steps, refuses_at, read_past)
 
 -- what was read is the front of what stands from the place on
 pub returns-in-Closed-clause-none : goal.returns-in-Closed-clause-none
-returns-in-Closed-clause-none g c is =
-    if_told (g.D.Disk.content c.args.disk.now) _ (λ octets told.
-    let end = at_told _ octets told c.in_ok-end.ensures.len in
-    let size = ap (λ (n : ℕ). take n (drop c.args.place octets)) (length-take-le c.min-count.result _ (omega (arith, c.min-count.ensures))) in
-    let front = at_told _ octets (c.in_ok-end.ensures.only_reads.same_content ∙ told) c.in_ok-read.ensures.room ∙ size in
-    found-closed c.args.place c.min-count.result octets c.read.new.room (omega (arith, end, c.if-place-end.false)) (omega (arith, c.min-count.ensures, end)) front c.in-Closed.ensures)
+returns-in-Closed-clause-none g c is = grind (arith, common_steps, length-take-le, found-closed)
 
 pub returns-in-Damaged-clause-refuses : goal.returns-in-Damaged-clause-refuses
-returns-in-Damaged-clause-refuses g c =
-    refuses_at c.args.place _ (if_told (g.D.Disk.content c.args.disk.now) _ (λ octets told.
-    let end = at_told _ octets told c.in_ok-end.ensures.len in
-    let size = ap (λ (n : ℕ). take n (drop c.args.place octets)) (length-take-le c.min-count.result _ (omega (arith, c.min-count.ensures))) in
-    let front = at_told _ octets (c.in_ok-end.ensures.only_reads.same_content ∙ told) c.in_ok-read.ensures.room ∙ size in
-    found-damaged c.args.place c.min-count.result octets c.read.new.room (omega (arith, end, c.if-place-end.false)) (omega (arith, c.min-count.ensures, end)) front c.in-Damaged.ensures.0 c.in-Damaged.ensures.1))
+returns-in-Damaged-clause-refuses g c = grind (arith, common_steps, length-take-le, refuses_at, found-damaged)
 
 pub returns-in-Record-clause-found : goal.returns-in-Record-clause-found
 returns-in-Record-clause-found g c =

@@ -1,9 +1,8 @@
-use Rattle.std.proofs.Common.{◌≡◌, [], length, None, Err, rules, refl, sym, ◌∙◌, ap, arith}
+use Rattle.std.proofs.Common.{◌≡◌, length, Ok, rules, arith}
+use Rattle.std.proofs.lemmas.Grind.{common_steps}
 use Rattle.std.proofs.lemmas.Result.{err_from_is_err_and}
-use Rattle.file_journal.specs.Journal.{journal_of, store}
-use Rattle.file_journal.specs.Records.{whole}
 use Rattle.file_journal.proofs.JournalLemmas.{of_short}
-use Rattle.file_journal.proofs.RecoverLemmas.{known_formatted, known_leaves, new_formatted, recovered, refuses_none, refuses_same, refuses_still}
+use Rattle.file_journal.proofs.RecoverLemmas.{known_formatted, known_leaves, new_formatted, recovered, refuses_alike, refuses_none}
 use Rattle.file_journal.proofs.ToldLemmas.{alike_on, alike_same, at_told, if_told, told_weaker}
 use Rattle.file_journal.proofs.journal.Journal.recover_synced.Goals as goal
 
@@ -19,27 +18,16 @@ returns-then-len-le-FIRST_GATE-clause-recovered g c =
     (if_told (D.content old) _ (λ before told. omega (arith, at_told _ before told c.requires.len, c.if-len-le-FIRST_GATE.true))) c.in_ok-format_new.ensures.ok)
 
 pub returns-then-len-le-FIRST_GATE-clause-refuses : goal.returns-then-len-le-FIRST_GATE-clause-refuses
-returns-then-len-le-FIRST_GATE-clause-refuses g c healthy =
-    if_told (g.D.Disk.content c.args.disk.now) _ (λ before told.
-    let short : journal_of c.args.magic before ≡ store None (whole []) = of_short c.args.magic before (omega (arith, at_told _ before told c.requires.len, c.if-len-le-FIRST_GATE.true)) in
-    refuses_none c.args.magic before c.at_first_gate.result (λ found foreign. cc (sym short ∙ foreign)) (λ bad. cc (sym short ∙ bad)))
+returns-then-len-le-FIRST_GATE-clause-refuses g c healthy = grind (arith, common_steps, of_short, refuses_none)
 
 pub returns-in_err-header-clause-refuses : goal.returns-in_err-header-clause-refuses
-returns-in_err-header-clause-refuses g c healthy =
-    let p = err_from_is_err_and c.from_residual-in_err-header.result c.from_residual-in_err-header.ensures.1 in
-    let e = c.in_err-header.field-0.0 in
-    told_weaker (g.D.Disk.content c.args.disk.now) _ _ (λ before told refuses. refuses_same c.args.magic before (Err e) c.from_residual-in_err-header.result e refl (p.1 ∙ ap Err p.2) refuses)
-    (c.in_err-header.ensures.refuses (λ is. healthy (p.1 ∙ ap Err p.2 ∙ ap Err (cc is))))
+returns-in_err-header-clause-refuses g c healthy = grind (arith, common_steps, err_from_is_err_and, refuses_alike)
 
 pub returns-in_err-finish_format-clause-since : goal.returns-in_err-finish_format-clause-since
-returns-in_err-finish_format-clause-since g c =
-    known_leaves g.D.Disk c.args.magic c.args.blocks c.args.disk.now c.read_header.new.disk c.finish_format.new.disk c.in_ok-header.header.blocks
-    c.read_header.ensures.reads.only c.in_ok-header.ensures.header c.finish_format.ensures.since
+returns-in_err-finish_format-clause-since g c = grind (arith, common_steps, known_leaves)
 
 pub returns-clause-since : goal.returns-clause-since
-returns-clause-since g c =
-    known_leaves g.D.Disk c.args.magic c.args.blocks c.args.disk.now c.read_header.new.disk c.finish_format.new.disk c.in_ok-header.header.blocks
-    c.read_header.ensures.reads.only c.in_ok-header.ensures.header c.finish_format.ensures.since
+returns-clause-since g c = grind (arith, common_steps, known_leaves)
 
 pub returns-clause-recovered : goal.returns-clause-recovered
 returns-clause-recovered g c =
@@ -56,5 +44,5 @@ returns-clause-recovered g c =
 
 pub returns-clause-refuses : goal.returns-clause-refuses
 returns-clause-refuses g c healthy =
-    told_weaker (g.D.Disk.content c.args.disk.now) _ _ (λ before told refuses. refuses_still c.args.magic before c.in_ok-header.header c.at_first_gate-2.result refuses)
+    told_weaker (g.D.Disk.content c.args.disk.now) _ _ (λ before told refuses. refuses_alike c.args.magic before (Ok c.in_ok-header.header) _ (λ e. (λ is. cc, λ is. cc)) refuses)
     (c.in_ok-header.ensures.refuses (λ is. cc is))
