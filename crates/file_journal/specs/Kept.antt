@@ -1,6 +1,5 @@
 -- What a call does to a state that is kept in a journal, and to its disk, at every moment of it.
-use Rattle.std.specs.Prelude.{◌≡◌, ◌↔◌, ℕ, ◌+◌, ◌*◌, ◌<◌, ◌≤◌, List, [], ◌∷◌, length, take, false, true, IfSome, Result, IsErr, IsErrOf, ⊤}
-use Rattle.px_base.specs.Octets.{IsOctets}
+use Rattle.std.specs.Prelude.{◌≡◌, ◌↔◌, ℕ, ◌+◌, ◌*◌, ◌<◌, ◌≤◌, List, [], ◌∷◌, length, false, true, IfSome, Result, IsErr, IsErrOf, ⊤}
 use Rattle.disk_model.specs.declared.disk.Disk.{Ghosts}
 use Rattle.file_journal.specs.Calls.{EachImage, Leaves, Puts}
 use Rattle.file_journal.specs.Commands.{AreAllowed, MakesBetween, MakesFirst, StayDone, after_all, after_first}
@@ -34,12 +33,6 @@ IsKept g form at = KeepsState form.fresh form.step g at.journal at.now at.disk
 pub record StandsAt {D S C : Type 0} (g : Ghosts D) (form : Form S C) (at : KeptOn D S) : Type 0 where
   pub magic_is : at.journal.magic ≡ form.magic
   pub keeps : IsKept g form at
-
--- The octets are those from before up to the gate at this place, and no fewer: what is other lies beside the journal.
-pub record IsBeside (place : ℕ) (before octets : List ℕ) : Type 0 where
-  pub are_octets : IsOctets octets
-  pub front : take (place + 1) octets ≡ take (place + 1) before
-  pub no_shorter : length before ≤ length octets
 
 -- The disk failed in one of the commands: the state is the one after those before it. Each image has these, and that
 -- one or not; and those before it stay. They were done in time, and the one in which it failed would have been: the
