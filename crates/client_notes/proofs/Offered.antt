@@ -5,5 +5,5 @@ pub use Rattle.client_notes.proofs.PutLemmas.{images-here, own-number}
 pub use Rattle.client_notes.proofs.SeveralLemmas.{after_all-append, after_first-then, AreAllowed-append, makes-first, makes-second, makes-within, Several-longer, Several-none, Several-one, Several-same, Several-then, stay-on}
 pub use Rattle.client_notes.proofs.StartLemmas.{acked-last, begun-fresh, begun-kept, IsOfTask, not-failed, of_task}
 pub use Rattle.client_notes.proofs.TaskLemmas.{acked-stays, both-left, task-after, task-at, task-more}
-pub use Rattle.client_notes.proofs.ThroughLemmas.{command_runs, none_moves, refused_leaves, runs_same, stands_through}
-pub use Rattle.file_journal.proofs.Offered.{alike_on, alike_same, at_told, counts_none, if_told, joined, puts_on, puts_same, stops_none, stops_on, told_before, told_weaker, weaker}
+pub use Rattle.client_notes.proofs.ThroughLemmas.{command_runs, counts_writes, none_moves, refused_leaves, stands_through}
+pub use Rattle.file_journal.proofs.Offered.{alike_on, alike_same, at_told, counts_none, if_told, joined, puts_on, puts_same, runs_same, stops_none, stops_on, told_before, told_weaker, weaker}

@@ -6,13 +6,13 @@ use Rattle.std.proofs.lemmas.List.{take-append-le, take_all}
 use Rattle.std.proofs.Math.Seq.{take-append-add}
 use Rattle.disk_model.specs.Moments.{LeavesOnly}
 use Rattle.disk_model.specs.declared.disk.Disk.{Ghosts}
-use Rattle.file_journal.specs.Calls.{images_now}
+use Rattle.file_journal.specs.Calls.{Leaves, images_now}
 use Rattle.file_journal.proofs.Offered.{at_told, if_told, joined, puts_none, puts_on, puts_same, started, told_before, told_weaker, weaker}
 use Rattle.client_notes.specs.Command.{NotesCommand, after}
 use Rattle.client_notes.specs.Laws.{AreAllowed, after_all}
 use Rattle.client_notes.specs.Notes.{Lists}
 use Rattle.client_notes.specs.OnDisk.{Does, IsBeforeOrAfter}
-use Rattle.client_notes.specs.Several.{DoesSeveral, MakesBetween, MakesFirst, StayDone, after_first}
+use Rattle.client_notes.specs.Several.{DoesSeveral, IsCutAmong, MakesBetween, MakesFirst, StayDone, after_first}
 use Rattle.client_notes.specs.State.{NotesState, StandsFor, StandsOn}
 
 -- a list of no length
@@ -201,6 +201,38 @@ module _ {D : Type 0} (g : Ghosts D) where
   -- ---- one list of commands, and then another
 
   module _ (on : (first second third : D) → g.lasts first second → g.lasts second third → g.lasts first third) where
+    -- no fewer of both are done than the first were, where the disk failed in one of the second
+    pub cut-least : (P : Type 0) (old mid new : NotesState) (disk disk_mid disk_now : D) (a b : List NotesCommand) → ¬ P → DoesSeveral g P old mid disk disk_mid a
+        → Leaves g disk_mid disk_now (λ _. MakesFirst mid.lists b) → IsCutAmong g mid new disk_mid disk_now b → (all : IsCutAmong g old new disk disk_now (a ++ b)) × (length a ≤ all.count)
+    cut-least P old mid new disk disk_mid disk_now a b fine first since some =
+        let sum : length (a ++ b) ≡ length a + length b = length-append a b in
+        let at = (first.done fine).0 in
+        let few = some.fewer in (
+          record {
+            count = length a + some.count;
+            fewer = omega arith;
+            lists = some.lists ∙ ap (λ (s : Lists). after_first some.count s b) at ∙ sym (after_first-then some.count a b old.lists);
+            failed = some.failed;
+            images = told_weaker (g.content disk_now) _ _ (λ now told each image here.
+                makes-second some.count (some.count + 1) (length a + some.count) (length a + some.count + 1) old.lists mid.lists a b image at (omega arith) (omega arith) (each image here)) some.images;
+            stay = if_told (g.content disk) _ (λ before told.
+                let middle = told_before (g.content disk_mid) (g.content disk) before (first.puts.told.1, first.puts.told.0) told in
+                stay-on (g.moment disk) some.count old.lists mid.lists a b disk_mid disk_now at (at_told _ before told (first.calls fine)) (at_told _ before told (first.stay fine))
+                (at_told _ middle.0 middle.1 since) (at_told _ middle.0 middle.1 some.stay));
+            calls = if_told (g.content disk) _ (λ before told.
+                let middle = told_before (g.content disk_mid) (g.content disk) before (first.puts.told.1, first.puts.told.0) told in
+                let then : g.moment disk_mid ≡ g.moment disk + 4 * length a = at_told _ before told (first.calls fine) in
+                let later : g.moment disk_mid + 4 * some.count ≤ g.moment disk_now = at_told _ middle.0 middle.1 some.calls in
+                omega (arith, then, later));
+            at_most = if_told (g.content disk) _ (λ before told.
+                let middle = told_before (g.content disk_mid) (g.content disk) before (first.puts.told.1, first.puts.told.0) told in
+                let then : g.moment disk_mid ≡ g.moment disk + 4 * length a = at_told _ before told (first.calls fine) in
+                let soon : g.moment disk_now ≤ g.moment disk_mid + 4 * (some.count + 1) = at_told _ middle.0 middle.1 some.at_most in
+                omega (arith, then, soon));
+          },
+          omega arith,
+        )
+
     pub Several-then : (P Q : Type 0) (old mid new : NotesState) (disk disk_mid disk_now : D) (a b : List NotesCommand) → ¬ P → DoesSeveral g P old mid disk disk_mid a → DoesSeveral g Q mid new disk_mid disk_now b
         → DoesSeveral g Q old new disk disk_now (a ++ b)
     Several-then P Q old mid new disk disk_mid disk_now a b fine first second =
@@ -237,31 +269,7 @@ module _ {D : Type 0} (g : Ghosts D) where
           done = λ still.
               let all = second.done still in
               (all.0 ∙ ap (λ (s : Lists). after_all s b) at ∙ sym (after_all-append a b old.lists), all.1);
-          cut = λ failed.
-              let some = second.cut failed in
-              let few = some.fewer in
-              record {
-                count = length a + some.count;
-                fewer = omega arith;
-                lists = some.lists ∙ ap (λ (s : Lists). after_first some.count s b) at ∙ sym (after_first-then some.count a b old.lists);
-                failed = some.failed;
-                images = told_weaker (g.content disk_now) _ _ (λ now told each image here.
-                    makes-second some.count (some.count + 1) (length a + some.count) (length a + some.count + 1) old.lists mid.lists a b image at (omega arith) (omega arith) (each image here)) some.images;
-                stay = if_told (g.content disk) _ (λ before told.
-                    let middle = told_before (g.content disk_mid) (g.content disk) before (first.puts.told.1, first.puts.told.0) told in
-                    stay-on (g.moment disk) some.count old.lists mid.lists a b disk_mid disk_now at (at_told _ before told (first.calls fine)) (at_told _ before told (first.stay fine))
-                    (at_told _ middle.0 middle.1 second.since) (at_told _ middle.0 middle.1 some.stay));
-                calls = if_told (g.content disk) _ (λ before told.
-                    let middle = told_before (g.content disk_mid) (g.content disk) before (first.puts.told.1, first.puts.told.0) told in
-                    let then : g.moment disk_mid ≡ g.moment disk + 4 * length a = at_told _ before told (first.calls fine) in
-                    let later : g.moment disk_mid + 4 * some.count ≤ g.moment disk_now = at_told _ middle.0 middle.1 some.calls in
-                    omega (arith, then, later));
-                at_most = if_told (g.content disk) _ (λ before told.
-                    let middle = told_before (g.content disk_mid) (g.content disk) before (first.puts.told.1, first.puts.told.0) told in
-                    let then : g.moment disk_mid ≡ g.moment disk + 4 * length a = at_told _ before told (first.calls fine) in
-                    let soon : g.moment disk_now ≤ g.moment disk_mid + 4 * (some.count + 1) = at_told _ middle.0 middle.1 some.at_most in
-                    omega (arith, then, soon));
-              };
+          cut = λ failed. (cut-least P old mid new disk disk_mid disk_now a b fine first second.since (second.cut failed)).0;
           same_magic = second.same_magic ∙ first.same_magic;
         }
     -- ---- what became of the lists

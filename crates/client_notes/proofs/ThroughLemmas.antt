@@ -1,23 +1,24 @@
 -- What stands on the disk through a command: from the recovery on, and at its end.
-use Rattle.std.proofs.Common.{◌≡◌, inl, inr, ⊎_elim, ℕ, ◌+◌, ◌*◌, ◌≤◌, List, [], ◌++◌, length, refl, ap, ◌∙◌, subst, arith, Some, IfSome, length-append}
+use Rattle.std.proofs.Common.{◌≡◌, inl, inr, ⊎_elim, ℕ, ◌+◌, List, [], ◌++◌, refl, ap, ◌∙◌, subst, arith, Some, IfSome}
 use Rattle.std.specs.Prelude.{Err, IsErrOf, Option}
 use Rattle.px_base.specs.Outside.{Rose}
 use Rattle.disk_model.specs.declared.disk.Disk.{Ghosts}
 use Rattle.file_journal.specs.Calls.{CountsFault, Leaves, Runs, TellsAlike}
 use Rattle.file_journal.specs.Recovery.{IsFailedSync, IsSyncedFirst}
+use Rattle.file_journal.specs.Through.{CountsWrites, StandsThrough}
 use Rattle.file_journal.specs.Walk.{state}
-use Rattle.file_journal.proofs.Offered.{alike_on, at_told, if_told, joined, stops_on, told_before, told_weaker, weaker}
+use Rattle.file_journal.proofs.Offered.{alike_on, at_told, if_told, joined, runs_same, stops_on, told_before, told_weaker, weaker}
 use Rattle.client_notes.proofs.PutLemmas.{images-here}
-use Rattle.client_notes.proofs.SeveralLemmas.{makes-second, Several-then, stay-on}
+use Rattle.client_notes.proofs.SeveralLemmas.{cut-least, Several-then}
 use Rattle.client_notes.specs.Command.{NotesCommand}
 use Rattle.client_notes.specs.Notes.{Lists}
-use Rattle.client_notes.specs.Records.{notes_magic}
+use Rattle.client_notes.specs.Records.{notes_form, notes_magic}
 use Rattle.client_notes.specs.Recovery.{LeavesAlikeSinceSync, RefusesRecovery, StandsAlike}
 use Rattle.client_notes.specs.declared.refusals.StoreFault.{StoreFault}
 use Rattle.client_notes.specs.declared.refusals.StoreFault.TheVariants as fault
 use Rattle.client_notes.specs.Several.{DoesSeveral, MakesFirst}
 use Rattle.client_notes.specs.State.{NotesState, StandsFor, standing_of}
-use Rattle.client_notes.specs.Through.{CutsOff, IsOfStanding, LeavesStanding, StandsThrough}
+use Rattle.client_notes.specs.Through.{CutsOff, IsOfStanding, LeavesStanding}
 
 module _ {D : Type 0} (g : Ghosts D) (on : (first second third : D) → g.lasts first second → g.lasts second third → g.lasts first third) (failed : Type 0) (old mid now : D) (start new : NotesState)
     (done cut : List NotesCommand) (alike : TellsAlike (g.content old) (g.content mid)) (stood : IfSome (g.content old) (λ before. standing_of before ≡ state start.lists))
@@ -35,13 +36,13 @@ module _ {D : Type 0} (g : Ghosts D) (on : (first second third : D) → g.lasts 
   later_told : (before : List ℕ) → g.content old ≡ Some before → (middle : List ℕ) × (g.content mid ≡ Some middle)
   later_told before told = told_before (g.content mid) (g.content old) before (alike.1, alike.0) told
 
-  -- and so is what the first commands left
-  last_told : (octets : List ℕ) → g.content mid ≡ Some octets → (last : List ℕ) × (g.content cuts.disk_then ≡ Some last)
-  last_told octets told = told_before (g.content cuts.disk_then) (g.content mid) octets (cuts.first.puts.told.1, cuts.first.puts.told.0) told
+  -- what is so where the recovered content is told
+  since_told : (P : Type 0) → IfSome (g.content mid) (λ _. P) → IfSome (g.content old) (λ _. P)
+  since_told P is = if_told (g.content old) _ (λ before told. let middle = later_told before told in at_told (λ (_ : List ℕ). P) middle.0 middle.1 is)
 
   -- what stands through the command, from the moment on at which the recovery was done
-  pub stands_through : start.journal.magic ≡ notes_magic → Runs g ⊥ old mid → (stands : StandsThrough g failed start.lists done cut old now) × (stands.ready ≡ g.moment mid)
-  stands_through magic first = (
+  pub stands_through : start.journal.magic ≡ notes_magic → (stands : StandsThrough g notes_form failed start.lists done cut old now) × (stands.ready ≡ g.moment mid)
+  stands_through magic = (
     record {
       allowed = all_does.allowed;
       since_sync = if_told (g.content old) _ (λ before told.
@@ -63,49 +64,36 @@ module _ {D : Type 0} (g : Ghosts D) (on : (first second third : D) → g.lasts 
           (at_told (λ (_ : List ℕ). _) middle.0 middle.1 all_does.since));
       ready = g.moment mid;
       after_sync = told_weaker (g.content old) _ _ (λ before told synced. synced.later) since_sync;
-      stay = λ fine. if_told (g.content old) _ (λ before told. let middle = later_told before told in at_told (λ (_ : List ℕ). _) middle.0 middle.1 (all_does.stay fine));
-      calls = λ fine. if_told (g.content old) _ (λ before told. let middle = later_told before told in at_told (λ (_ : List ℕ). _) middle.0 middle.1 (all_does.calls fine));
+      stay = λ fine. since_told _ (all_does.stay fine);
+      calls = λ fine. since_told _ (all_does.calls fine);
       all_done = λ fine.
           let end = all_does.done fine in
           told_weaker (g.content now) _ _ (λ octets told each image here.
           subst (λ (s : Lists). StandsFor image s) end.0 (each image here))
           (images-here g new.journal now new.lists (all_does.same_magic ∙ magic) end.1 all_does.stands_on);
       interrupted = λ stopped.
-          let end = cuts.second.cut stopped in
-          let is = (cuts.first.done (λ never. never)).0 in
+          let both = cut-least g on ⊥ start cuts.notes_then new mid cuts.disk_then now done cut (λ never. never) cuts.first cuts.second.since (cuts.second.cut stopped) in
           record {
-            count = length done + end.count;
-            no_less = omega arith;
-            fewer = omega (arith, end.fewer, length-append done cut);
-            images = told_weaker (g.content now) _ _ (λ octets told each image here.
-                makes-second end.count (end.count + 1) (length done + end.count) (length done + end.count + 1) start.lists cuts.notes_then.lists done cut image is (omega arith) (omega arith) (each image here)) end.images;
-            stay = if_told (g.content old) _ (λ before told.
-                let middle = later_told before told in
-                let last = last_told middle.0 middle.1 in
-                stay-on g (g.moment mid) end.count start.lists cuts.notes_then.lists done cut cuts.disk_then now is (at_told (λ (_ : List ℕ). _) middle.0 middle.1 (cuts.first.calls (λ never. never)))
-                (at_told (λ (_ : List ℕ). _) middle.0 middle.1 (cuts.first.stay (λ never. never))) (at_told (λ (_ : List ℕ). _) last.0 last.1 cuts.second.since) (at_told (λ (_ : List ℕ). _) last.0 last.1 end.stay));
-            calls = if_told (g.content old) _ (λ before told.
-                let middle = later_told before told in
-                let last = last_told middle.0 middle.1 in
-                let first : g.moment cuts.disk_then ≡ g.moment mid + 4 * length done = at_told (λ (_ : List ℕ). _) middle.0 middle.1 (cuts.first.calls (λ never. never)) in
-                let second : g.moment cuts.disk_then + 4 * end.count ≤ g.moment now = at_told (λ (_ : List ℕ). _) last.0 last.1 end.calls in
-                omega arith);
-            at_most = if_told (g.content old) _ (λ before told.
-                let middle = later_told before told in
-                let last = last_told middle.0 middle.1 in
-                let first : g.moment cuts.disk_then ≡ g.moment mid + 4 * length done = at_told (λ (_ : List ℕ). _) middle.0 middle.1 (cuts.first.calls (λ never. never)) in
-                let second : g.moment now ≤ g.moment cuts.disk_then + 4 * (end.count + 1) = at_told (λ (_ : List ℕ). _) last.0 last.1 end.at_most in
-                omega arith);
-          };
-      counts =
-          let same = first.faults.same (λ never. never) in
-          record {
-            reads = all_does.puts.reads ∙ same.0;
-            writes = subst (λ (n : ℕ). CountsFault n (g.write_faults now) failed) same.1 all_does.puts.faults;
+            count = both.0.count;
+            no_less = both.1;
+            fewer = both.0.fewer;
+            images = both.0.images;
+            stay = since_told _ both.0.stay;
+            calls = since_told _ both.0.calls;
+            at_most = since_told _ both.0.at_most;
           };
     },
     refl,
   )
+
+  -- and what it counts
+  pub counts_writes : Runs g ⊥ old mid → CountsWrites g failed old now
+  counts_writes first =
+      let same = first.faults.same (λ never. never) in
+      record {
+        reads = all_does.puts.reads ∙ same.0;
+        writes = subst (λ (n : ℕ). CountsFault n (g.write_faults now) failed) same.1 all_does.puts.faults;
+      }
 
   -- without commands the disk is as the recovery left it
   pub none_moves : done ++ cut ≡ [] → now ≡ mid
@@ -127,20 +115,6 @@ module _ {D : Type 0} (g : Ghosts D) (on : (first second third : D) → g.lasts 
         stops = stops_on g on old mid now first.lasts same.0 same.1 second.stops;
         lasts = on old mid now first.lasts second.lasts;
       }
-
--- how the failure is named makes no difference
-pub runs_same : {D : Type 0} (g : Ghosts D) (P Q : Type 0) → (P → Q) → (Q → P) → (old now : D) → Runs g P old now → Runs g Q old now
-runs_same g P Q there back old now runs = record {
-  told = runs.told;
-  faults = record {
-    reads = runs.faults.reads;
-    writes = runs.faults.writes;
-    rose = λ stopped. runs.faults.rose (back stopped);
-    same = λ fine. runs.faults.same (λ p. fine (there p));
-  };
-  stops = runs.stops;
-  lasts = runs.lasts;
-}
 
 -- ---- a recovery that is refused
 
@@ -172,5 +146,5 @@ module _ (T : Type 0) where
     since_start = since_start;
     not_a_store = λ found is. no_store found (ap Err is);
     damaged = λ at is. damaged at (ap Err is);
-    runs = runs_same g _ _ (fault_is why fault.Disk) (λ is. ap Err is) old now runs;
+    runs = runs_same g _ _ old now (fault_is why fault.Disk) (λ is. ap Err is) runs;
   }

@@ -279,7 +279,7 @@ FailedDisk see old new =
 module _ {A C D : Type 0} (see : Seen D A C) (old new : Lent D A C) where
   -- behind the recovery it is a write or a sync
   carries-disk : {asked : Asked} {came : Result Outcome SendStop} → Carries see old new asked came → came ≡ Err stop.Disk → FailedDisk see old new
-  carries-disk h e = inl (h.stands.counts.writes.rose (turned h.run.ended h.run.reached node.Disk (sym h.answer ∙ e)))
+  carries-disk h e = inl (h.counts.writes.rose (turned h.run.ended h.run.reached node.Disk (sym h.answer ∙ e)))
 
   -- in the recovery nothing was heard or said
   unrecovered-disk : {T : Type 0} (ended : Result T SendStop) → Runs see.disk (IsErrOf ended stop.Disk) old.disk new.disk → IsErrAnd ended (IsUnrecovered see.disk old new) → ended ≡ Err stop.Disk → FailedDisk see old new
@@ -295,7 +295,7 @@ module _ {A C D : Type 0} (see : Seen D A C) (old new : Lent D A C) where
     send-disk held name ended runs (inr h) e = elim h.ends [
       | inl unrecovered ↦ unrecovered-disk ended runs unrecovered e
       | inr begun ↦ elim begun [
-        | inl start ↦ inl (start.stands.counts.writes.rose e)
+        | inl start ↦ inl (start.counts.writes.rose e)
         | inr up ↦ carries-disk up.carries (match-err ended _ up.came up.answer stop.Disk e)
       ]
     ]

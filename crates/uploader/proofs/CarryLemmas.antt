@@ -1,13 +1,15 @@
 -- A job is carried out by a client whose notes were recovered.
 use Rattle.std.proofs.Common.{◌≡◌, ℕ, Bool, true, false, List, [], ◌++◌, refl, sym, ◌∙◌, ap, subst, append-nil, Option, None, Some, IfSome}
 use Rattle.std.specs.Prelude.{◌≢◌, Result, Ok, Err, IfErr, IsErrOf}
+use Rattle.file_journal.specs.Through.{StandsThrough}
 use Rattle.client_notes.specs.Calls.{Runs}
 use Rattle.client_notes.specs.Walk.{state}
-use Rattle.client_notes.proofs.Offered.{images-here, Several-none, Several-then, told_weaker, command_runs, none_moves, runs_same, stands_through}
+use Rattle.client_notes.proofs.Offered.{counts_writes, images-here, Several-none, Several-then, told_weaker, command_runs, none_moves, runs_same, stands_through}
 use Rattle.client_notes.specs.Command.{NotesCommand}
 use Rattle.client_notes.specs.Laws.{after_all}
 use Rattle.client_notes.specs.Notes.{Lists}
 use Rattle.client_notes.specs.OnDisk.{EachImage}
+use Rattle.client_notes.specs.Records.{notes_form}
 use Rattle.client_notes.specs.Several.{DoesSeveral}
 use Rattle.client_notes.specs.State.{StandsFor, standing_of}
 use Rattle.node.specs.Lent.{Lent, Seen}
@@ -22,7 +24,7 @@ use Rattle.ftl0_client.specs.ClientState.{ClientState, listing_in}
 use Rattle.ftl0_client.specs.Going.{Promises}
 use Rattle.ftl0_client.specs.declared.outcome.Outcome.{Outcome}
 use Rattle.ftl0_client.specs.declared.outcome.Outcome.TheVariants as outcome
-use Rattle.client_notes.specs.Through.{CutsOff, StandsThrough}
+use Rattle.client_notes.specs.Through.{CutsOff}
 use Rattle.uploader.specs.Turns.Carried.{CarriesOut, CountsWhere, EndsOver, Run, asked_first, before_last}
 use Rattle.uploader.specs.declared.stop.SendStop.{SendStop}
 use Rattle.uploader.specs.declared.stop.SendStop.TheVariants as stop
@@ -164,7 +166,7 @@ module _ {A C D : Type 0} (see : Seen D A C) (old new : Lent D A C) where
   -- of another answer with the same stop
   pub causes-err : (T U : Type 0) (why : SendStop) → HasCauses {T = T} see old new (Err why) → HasCauses {T = U} see old new (Err why)
   causes-err T U why causes = record {
-    runs = runs_same see.disk _ _ (same-stop T U why stop.Disk) (same-stop U T why stop.Disk) old.disk new.disk causes.runs;
+    runs = runs_same see.disk _ _ old.disk new.disk (same-stop T U why stop.Disk) (same-stop U T why stop.Disk) causes.runs;
     of_air = record { read = λ is. causes.of_air.read (same-stop U T why stop.AirRead is); write = λ is. causes.of_air.write (same-stop U T why stop.AirWrite is); same = causes.of_air.same };
   }
 
@@ -172,9 +174,9 @@ module _ {A C D : Type 0} (see : Seen D A C) (old new : Lent D A C) where
   causes-behind : (T U : Type 0) (value : T) (result : Result U SendStop) → IfErr result (λ why. (is_before_outcome why ≡ false) × (why ≢ stop.AirRead) × (why ≢ stop.AirWrite)) → ¬ (result ≡ Err stop.Disk)
       → HasCauses {T = T} see old new (Ok value) → HasCauses see old new result
   causes-behind T U value (Ok other) late fine causes =
-      record { runs = runs_same see.disk _ _ (λ e. absurd (cc e)) (λ e. absurd (cc e)) old.disk new.disk causes.runs; of_air = record { read = λ e. absurd (cc e); write = λ e. absurd (cc e); same = tt } }
+      record { runs = runs_same see.disk _ _ old.disk new.disk (λ e. absurd (cc e)) (λ e. absurd (cc e)) causes.runs; of_air = record { read = λ e. absurd (cc e); write = λ e. absurd (cc e); same = tt } }
   causes-behind T U value (Err why) late fine causes = record {
-    runs = runs_same see.disk _ _ (λ e. absurd (cc e)) (λ e. absurd (fine e)) old.disk new.disk causes.runs;
+    runs = runs_same see.disk _ _ old.disk new.disk (λ e. absurd (cc e)) (λ e. absurd (fine e)) causes.runs;
     of_air = record { read = λ e. absurd (late.1 (error-is U why stop.AirRead e)); write = λ e. absurd (late.2 (error-is U why stop.AirWrite e)); same = λ before. absurd (cc (sym late.0 ∙ before)) };
   }
 
@@ -264,10 +266,9 @@ module _ {A C D : Type 0} (see : Seen D A C) (on : (first second third : D) → 
   pub all : DoesSeveral see.disk Failed h.made.notes h.end.notes h.mid new.disk ((first ++ run.done) ++ run.cut)
   all = Several-then see.disk on ⊥ Failed h.made.notes cuts.notes_then h.end.notes h.mid cuts.disk_then new.disk (first ++ run.done) run.cut (λ never. never) cuts.first cuts.second
 
-  pub stands : (through : StandsThrough see.disk Failed start (first ++ run.done) run.cut old.disk new.disk) × (through.ready ≡ see.disk.moment h.mid)
+  pub stands : (through : StandsThrough see.disk notes_form Failed start (first ++ run.done) run.cut old.disk new.disk) × (through.ready ≡ see.disk.moment h.mid)
   stands =
       stands_through see.disk on Failed old.disk h.mid new.disk h.made.notes h.end.notes (first ++ run.done) run.cut h.ready.runs.told h.ready.recovers.stood h.ready.since_start h.ready.since_sync cuts h.ready.magic
-      h.ready.runs
 
   -- where the disk failed nothing had become of the job
   pub failed-working : Failed → run.reached ≡ outcome.Working
@@ -304,14 +305,15 @@ module _ {A C D : Type 0} (see : Seen D A C) (on : (first second third : D) → 
     };
     stands = stands.0;
     ready = stands.1;
+    counts = counts_writes see.disk on Failed old.disk h.mid new.disk h.made.notes h.end.notes (first ++ run.done) run.cut h.ready.runs.told h.ready.recovers.stood h.ready.since_start h.ready.since_sync cuts h.ready.runs;
     none = none_moves see.disk on Failed old.disk h.mid new.disk h.made.notes h.end.notes (first ++ run.done) run.cut h.ready.runs.told h.ready.recovers.stood h.ready.since_start h.ready.since_sync cuts;
   }
 
   pub causes : HasCauses see old new result
   causes = record {
     runs =
-        runs_same see.disk Failed (IsErrOf result stop.Disk) (λ e. h.out.answer ∙ ap (answer_of run.ended) (failed-working e) ∙ ap (λ (r : Result Finished NodeStop). Err (stop_of_turns r)) e)
-        (λ e. turned run.ended run.reached node.Disk (sym h.out.answer ∙ e)) old.disk new.disk
+        runs_same see.disk Failed (IsErrOf result stop.Disk) old.disk new.disk (λ e. h.out.answer ∙ ap (answer_of run.ended) (failed-working e) ∙ ap (λ (r : Result Finished NodeStop). Err (stop_of_turns r)) e)
+        (λ e. turned run.ended run.reached node.Disk (sym h.out.answer ∙ e))
         (command_runs see.disk on Failed old.disk h.mid new.disk h.made.notes h.end.notes (first ++ run.done) run.cut h.ready.runs.told h.ready.recovers.stood h.ready.since_start h.ready.since_sync cuts ⊥ (λ never. never)
         h.ready.runs);
     of_air = air-cause _ _ _ _ run.ended run.reached result h.out.answer h.out.air.reads h.out.air.writes;

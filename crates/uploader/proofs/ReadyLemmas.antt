@@ -16,5 +16,5 @@ unmade_leaves g terms old now client ready = record {
   since_start = ready.since_start;
   not_a_store = λ found is. absurd (cc is);
   damaged = λ at is. absurd (cc is);
-  runs = runs_same g _ _ (λ never. absurd never) (λ is. cc is) old now ready.runs;
+  runs = runs_same g _ _ old now (λ never. absurd never) (λ is. cc is) ready.runs;
 }

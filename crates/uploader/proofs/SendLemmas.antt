@@ -44,7 +44,7 @@ use Rattle.uploader.specs.Sending.{EndsAtStart, IsLastAcked, IsTaskFor, IsUnstar
 use Rattle.uploader.specs.Stops.{stop_of_start}
 use Rattle.uploader.proofs.CarryLemmas.{HasCarried, carries, causes, causes-err, causes-ok, causes-still, images-at-end, never, of_answer, of_turns, outcome-fine, recovered_exactly}
 use Rattle.uploader.proofs.OutcomeLemmas.{acked-in, never-bad, upload-reached}
-use Rattle.client_notes.proofs.Offered.{command_runs, none_moves, stands_through, acked-last, begun-fresh, begun-kept, not-failed, of_task}
+use Rattle.client_notes.proofs.Offered.{command_runs, counts_writes, none_moves, stands_through, acked-last, begun-fresh, begun-kept, not-failed, of_task}
 use Rattle.uploader.proofs.StartLemmas.{cut_of, refused-start}
 
 -- nothing is called
@@ -258,7 +258,7 @@ module _ {A C D : Type 0} (see : Seen D A C) (lasts : (disk : D) → see.disk.la
     unstarted result cut past start cuts ends acked =
         let r = s.ready in
         let through =
-        stands_through see.disk on (IsErrOf result stop.Disk) old.disk s.mid now s.made.notes s.asked.notes [] cut r.runs.told r.recovers.stood r.since_start r.since_sync cuts r.magic r.runs in
+        stands_through see.disk on (IsErrOf result stop.Disk) old.disk s.mid now s.made.notes s.asked.notes [] cut r.runs.told r.recovers.stood r.since_start r.since_sync cuts r.magic in
         sends-all see lasts on old terms name file held faults faults_n there sendable same still s.made.notes.lists result r.recovers.stood past
         (inl (record {
           start = s.made.notes.lists;
@@ -270,6 +270,7 @@ module _ {A C D : Type 0} (see : Seen D A C) (lasts : (disk : D) → see.disk.la
           ends = ends;
           stands = through.0;
           ready = through.1;
+          counts = counts_writes see.disk on (IsErrOf result stop.Disk) old.disk s.mid now s.made.notes s.asked.notes [] cut r.runs.told r.recovers.stood r.since_start r.since_sync cuts r.runs;
           none = none_moves see.disk on (IsErrOf result stop.Disk) old.disk s.mid now s.made.notes s.asked.notes [] cut r.runs.told r.recovers.stood r.since_start r.since_sync cuts;
           acked = acked;
         }))

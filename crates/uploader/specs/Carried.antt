@@ -3,9 +3,11 @@ use Rattle.std.specs.Prelude.{◌≡◌, ℕ, List, [], ◌++◌, Result, IsErrO
 use Rattle.disk_model.specs.declared.disk.Disk.{Ghosts}
 use Rattle.node.specs.Lent.{Lent, Seen}
 use Rattle.node.specs.declared.stop.NodeStop.TheVariants as node
+use Rattle.file_journal.specs.Through.{CountsWrites, StandsThrough}
 use Rattle.client_notes.specs.Command.{NotesCommand}
 use Rattle.client_notes.specs.Laws.{after_all}
 use Rattle.client_notes.specs.Notes.{Lists}
+use Rattle.client_notes.specs.Records.{notes_form}
 use Rattle.client_notes.specs.declared.refusals.StoreFault.{StoreFault}
 use Rattle.ftl0_client.specs.Window.{window_of}
 use Rattle.ftl0_client.specs.Table.{JobState}
@@ -13,7 +15,7 @@ use Rattle.ftl0_client.specs.Client.{Client, new_client}
 use Rattle.ftl0_client.specs.declared.outcome.Outcome.{Outcome}
 use Rattle.uploader.specs.declared.stop.SendStop.{SendStop}
 use Rattle.uploader.specs.declared.terms.ClientTerms.{ClientTerms}
-use Rattle.client_notes.specs.Through.{LeavesStanding, Recovers, StandsThrough}
+use Rattle.client_notes.specs.Through.{LeavesStanding, Recovers}
 use Rattle.uploader.specs.Stops.{answer_of, stop_of_fault}
 use Rattle.uploader.specs.Turns.Carried.{Became, ClientRan, Run, TakesAir}
 
@@ -46,7 +48,8 @@ client_of asked = client_from asked.terms (after_all asked.start asked.first)
 
 -- A client was made over the notes for which the disk's content stood, did its first commands, was asked for its job,
 -- and carried it out: what it said to what was heard, what came of it and what that promises, and what stands on the
--- disk at each moment. Without commands the disk is as the recovery left it.
+-- disk at each moment. No read of the disk failed, and a write or sync only where that ended the turns. Without
+-- commands the disk is as the recovery left it.
 pub record Carries {A C D : Type 0} (see : Seen D A C) (old new : Lent D A C) (asked : Asked)
     (result : Result Outcome SendStop) : Type 0 where
   pub recovered : D
@@ -59,7 +62,8 @@ pub record Carries {A C D : Type 0} (see : Seen D A C) (old new : Lent D A C) (a
   pub became :
       Became (client_of asked) asked.job ran.events listing (after_all asked.start (asked.first ++ run.done)) run
   pub stands :
-      StandsThrough see.disk (IsErrOf run.ended node.Disk) asked.start (asked.first ++ run.done) run.cut old.disk
-      new.disk
+      StandsThrough see.disk notes_form (IsErrOf run.ended node.Disk) asked.start (asked.first ++ run.done) run.cut
+      old.disk new.disk
   pub ready : stands.ready ≡ see.disk.moment recovered
+  pub counts : CountsWrites see.disk (IsErrOf run.ended node.Disk) old.disk new.disk
   pub none : (asked.first ++ run.done) ++ run.cut ≡ [] → new.disk ≡ recovered

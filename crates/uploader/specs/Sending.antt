@@ -4,10 +4,12 @@ use Rattle.std.specs.Prelude.{MatchResult, Result, Ok, Err}
 use Rattle.px_base.specs.Shelves.{Holding, content_of}
 use Rattle.disk_model.specs.declared.disk.Disk.{Ghosts}
 use Rattle.node.specs.Lent.{Lent, Seen}
+use Rattle.file_journal.specs.Through.{CountsWrites, StandsThrough}
 use Rattle.client_notes.specs.Answers.{IsFull, answer_of, fresh_task}
 use Rattle.client_notes.specs.Command.{NotesCommand}
 use Rattle.client_notes.specs.Notes.{Lists, last_task, task_count}
 use Rattle.client_notes.specs.OnDisk.{EachImage}
+use Rattle.client_notes.specs.Records.{notes_form}
 use Rattle.client_notes.specs.declared.answers.Begun.{Begun}
 use Rattle.client_notes.specs.declared.answers.Begun.TheVariants as begun
 use Rattle.client_notes.specs.declared.refusals.NotesRefusal.{NotesRefusal}
@@ -24,7 +26,7 @@ use Rattle.uploader.specs.declared.terms.ClientTerms.{ClientTerms}
 use Rattle.uploader.specs.declared.terms.Sent.{Sent}
 use Rattle.uploader.specs.Carried.{Carries, IsUnrecovered, asked_of}
 use Rattle.uploader.specs.Loading.{IsSendable, IsUnfit, sum_of}
-use Rattle.client_notes.specs.Through.{Recovers, StandsThrough}
+use Rattle.client_notes.specs.Through.{Recovers}
 use Rattle.uploader.specs.Stops.{stop_of_start}
 
 -- The file isn't sent, by what the shelf has under its name, by a fault of the shelf or for want of memory. Nothing
@@ -69,7 +71,7 @@ IsLastAcked g disk terms lists name number =
     (task : ℕ) × (last_task lists terms.server terms.me name ≡ Some task) × EachImage g disk (IsAckedIn task number)
 
 -- The notes were recovered, and no job was asked: nothing was heard or said, and the clock wasn't asked. But for a
--- fault of the disk in a fresh task's command the disk is as the recovery left it.
+-- fault of the disk in a fresh task's command the disk is as the recovery left it, and no count of its faults rose.
 pub record IsUnstarted {A C D : Type 0} (g : Ghosts D) (old new : Lent D A C) (terms : ClientTerms)
     (name file : List ℕ) (result : Result Sent SendStop) : Type 0 where
   pub start : Lists
@@ -81,8 +83,9 @@ pub record IsUnstarted {A C D : Type 0} (g : Ghosts D) (old new : Lent D A C) (t
   pub ends :
       EndsAtStart start (first_command terms start name (sum_of file)) (sum_of file)
       (last_answer terms start name (sum_of file)) result cut
-  pub stands : StandsThrough g (IsErrOf result stop.Disk) start [] cut old.disk new.disk
+  pub stands : StandsThrough g notes_form (IsErrOf result stop.Disk) start [] cut old.disk new.disk
   pub ready : stands.ready ≡ g.moment recovered
+  pub counts : CountsWrites g (IsErrOf result stop.Disk) old.disk new.disk
   pub none : cut ≡ [] → new.disk ≡ recovered
   pub acked : IfOk result (λ sent. IsLastAcked g new.disk terms start name sent.number)
 
